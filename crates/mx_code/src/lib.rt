@@ -1,0 +1,2 @@
+//! Code words, images, and the machine with delay slots.
+#![tactic(auto)]
