@@ -1,5 +1,6 @@
 -- What a program means: one statement after the other, with neither delay slots nor addresses of code.
 use Rattle.std.specs.Prelude.{◌≡◌, ℕ, zero, suc, ◌-◌, ◌<◌, Bool, true, false, cond, eqb, leb, ◌&&◌, ◌||◌, List, [], ◌++◌, slice_get, slice_index_or, Option, Some, None, is_some, option_to_list}
+use Rattle.mx_isa.specs.declared.inst.Op.{Op}
 use Rattle.mx_isa.specs.declared.inst.Op.TheVariants.{Add}
 use Rattle.mx_isa.specs.declared.inst.Inst.{Inst}
 use Rattle.mx_isa.specs.declared.inst.Inst.TheVariants.{Load, Store, Compute}
@@ -68,9 +69,14 @@ silent s = record { after = s; byte = None }
 abbrev pub stuck : Why → State → Step
 stuck why s = silent (record s { mark = Stuck why })
 
--- the registers that must hold words (0 for none): those that are read, but for what add with r0 copies and what is stored
+-- add with second source r0 copies its first source
+abbrev pub copies : Op → ℕ → Bool
+copies Add b = eqb b 0
+copies _ b = false
+
+-- the registers that must hold words (0 for none): those that are read, but for what is copied and what is stored
 abbrev pub operands : Inst → ℕ × ℕ
-operands (Compute a dest b Add) = cond (eqb b 0) (0, 0) (a, b)
+operands (Compute a dest b op) = cond (copies op b) (0, 0) (a, b)
 operands (Store base value offset) = (base, 0)
 operands i = sources i
 
@@ -97,9 +103,9 @@ why_access p (Some x) r v = cond x.stores (why_store p (address x r) v) (why_loa
 abbrev pub why_plain : Program → Inst → Values → Option Why
 why_plain p i r = cond (any_code r (operands i)) (Some CodeOperand) (why_access p (access i) (words_in r) (value_in r (sources i).1))
 
--- the value that an instruction passes on: that of add with r0, of a load from user data, of a store
+-- the value that an instruction passes on: that of a copy, of a load from user data, of a store
 abbrev pub passed : Place → Inst → Values → Values → Value
-passed place (Compute a dest b Add) r m = cond (eqb b 0) (value_in r a) (Int 0)
+passed place (Compute a dest b op) r m = cond (copies op b) (value_in r a) (Int 0)
 passed place (Load base dest offset) r m =
     let a = offset_by (words_in r) base offset in cond (is_user place a) (m a) (Int 0)
 passed place (Store base value offset) r m = value_in r value
