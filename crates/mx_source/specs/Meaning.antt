@@ -47,13 +47,17 @@ pub record State : Type 0 where
   pub taken : ℕ
   pub mark : Mark
 
--- at the start all is 0 but the data words of the source, which stand from the place's first word on
+-- these words from the first word of user data on, and 0 after them
+abbrev pub start_words : Place → List Value → Values
+start_words place words a = cond (leb place.user_data a) (slice_index_or words (a - place.user_data) (Int 0)) (Int 0)
+
+-- at the start all is 0 but the data words of the source
 abbrev pub start : SourceValue → Place → State
 start source place = record {
   index = 0;
   regs = λ n. Int 0;
   md = 0;
-  mem = λ a. cond (leb place.user_data a) (slice_index_or source.user_data (a - place.user_data) (Int 0)) (Int 0);
+  mem = start_words place source.user_data;
   taken = 0;
   mark = Going;
 }
