@@ -1,5 +1,6 @@
 //! What a `Seq` executes.
-ghost use Rattle.std.specs.Prelude.{◌≡◌, ◌≤◌, ◌<◌, ◌==◌, length, IfOk, OnSome, IfSome};
+ghost use Rattle.std.specs.Prelude.{◌≡◌, ◌≤◌, ◌<◌, ◌==◌, length, IfOk, OnSome, IfSome, false};
+ghost use Rattle.std.specs.Bool.{OnTrue};
 ghost use Rattle.std.specs.Option.{option_copied};
 ghost use Rattle.std.specs.List.{slice_get};
 ghost use Rattle.mx_isa.specs.UserBus.{is_user};
@@ -72,7 +73,8 @@ impl Program {
 
     /// Whether the address is that of the console.
     pub(crate) fn is_console(&self, address: u32) -> bool
-        ensures { result ≡ (address == self.now.place.console) }
+        ensures value { result ≡ (address == self.now.place.console) }
+        ensures outside { OnTrue result (is_user self.now.place address ≡ false) }
     {
         address == self.place.console
     }
