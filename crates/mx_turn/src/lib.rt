@@ -1,0 +1,10 @@
+//! The machine cycle by cycle: five overlapped words, the cache's stalls, and interrupts.
+#![tactic(auto)]
+
+mod counts;
+mod latches;
+mod machine;
+
+pub use counts::Counts;
+pub use latches::{Latches, Stage};
+pub use machine::Cycled;
