@@ -1,16 +1,15 @@
--- What the board's data words answer to user code and to the system.
-use Rattle.std.specs.Prelude.{ℕ, ◌%◌, Bool, cond, eqb, ltb, ◌||◌, Option, Some, None, List}
+-- What the data memory answers to user code and to the system, whoever keeps it.
+use Rattle.std.specs.Prelude.{ℕ, ◌%◌, Bool, cond, eqb, leb, ltb, not, ◌&&◌, Option, Some, None, List}
 use Rattle.mx_isa.specs.Words.{put}
 use Rattle.mx_isa.specs.Effect.{Bus}
 use Rattle.mx_isa.specs.UserBus.{plain_word, from_input}
 
--- words 0 to 254 are the system's, 255 is the console, 256 to 65535 are user data; user code takes the input at 254
+abbrev pub is_user_data : ℕ → Bool
+is_user_data a = leb 256 a && ltb a 65536
+
 abbrev pub board : Bool → Option (List ℕ) → Bus
 board user input = record {
-  load = λ m taken a.
-      cond (ltb a 256)
-      (cond user (cond (eqb a 254) (from_input input taken) (plain_word 0)) (cond (eqb a 255) (plain_word 0) (plain_word (m a))))
-      (cond (ltb a 65536) (plain_word (m a)) (plain_word 0));
-  store = λ m a v. cond (ltb a 256) (cond (user || eqb a 255) m (put m a v)) (cond (ltb a 65536) (put m a v) m);
+  load = λ m taken a. cond (is_user_data a) (plain_word (m a)) (cond user (cond (eqb a 254) (from_input input taken) (plain_word 0)) (plain_word (cond (ltb a 255) (m a) 0)));
+  store = λ m a v. cond (is_user_data a) (put m a v) (cond (not user && ltb a 255) (put m a v) m);
   byte = λ a v. cond (eqb a 255) (Some (v % 256)) None;
 }

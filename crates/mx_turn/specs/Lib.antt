@@ -6,3 +6,4 @@ pub mod Cycle
 pub mod Program
 pub mod Run
 pub mod Handler
+pub mod OneTurn

@@ -3,8 +3,10 @@
 
 mod counts;
 mod latches;
+mod laws;
 mod machine;
 
 pub use counts::Counts;
 pub use latches::{Latches, Stage};
+pub use laws::one_user_turn;
 pub use machine::Cycled;
