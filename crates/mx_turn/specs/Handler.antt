@@ -1,7 +1,7 @@
 -- The shipped handler.
 use Rattle.std.specs.Prelude.{ℕ, List, [], ◌∷◌}
 
--- counts the interrupt in system word 0 and returns to what it interrupted
+-- counts the interrupt in system word 0 and returns to the fetches that it interrupted
 abbrev pub shipped : List ℕ
 shipped =
     0x88020001 ∷ 0x88040002 ∷ 0x50001001 ∷ 0x50002002 ∷ 0x88020003 ∷ 0x88040004 ∷ 0x50001003 ∷ 0x88020005
