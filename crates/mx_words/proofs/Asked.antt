@@ -1,10 +1,10 @@
 -- What a parse answers is what the words ask.
-use Rattle.std.proofs.Common.{◌≡◌, ◌≢◌, ℕ, List, [], ◌∷◌, Bool, true, false, refl, ap, sym, ◌∙◌, Option, Some, None, cond, subst, map, length, IsTrue}
-use Rattle.std.specs.Prelude.{◌==◌, not, unwrap_or, option_and_then, if◌then◌else◌}
+use Rattle.std.proofs.Common.{◌≡◌, ◌≢◌, ℕ, List, [], ◌∷◌, Bool, true, false, refl, ap, sym, ◌∙◌, Option, Some, None, map, length, IsTrue}
+use Rattle.std.specs.Prelude.{◌==◌, not, unwrap_or, option_and_then}
 use Rattle.std.specs.Str.{bytes_eq}
 use Rattle.clap.specs.Words.{Text, Row, fault_of, matches_of, first_of, all_of}
 use Rattle.mx_words.specs.Command.{command_for, names_id}
-use Rattle.mx_words.specs.Reading.{Reading, reading, answer, is_known, value_of}
+use Rattle.mx_words.specs.Reading.{Reading, answer, is_known, value_of}
 use Rattle.mx_words.proofs.Rules.{IsApart, or_false}
 use Rattle.mx_words.proofs.Rows.{Holds}
 use Rattle.mx_words.proofs.Whole.{Agrees}

@@ -1,11 +1,11 @@
 -- The rows of a parse hold what was read.
-use Rattle.std.proofs.Common.{◌≡◌, ◌≢◌, ℕ, List, [], ◌∷◌, ◌++◌, Bool, true, false, refl, ap, sym, ◌∙◌, Option, Some, None, cond, subst, inl, inr, map}
-use Rattle.std.specs.Prelude.{◌==◌, ◌&&◌, ◌||◌, not, is_some, find, unwrap_or, option_map, option_and_then, slice_get}
+use Rattle.std.proofs.Common.{◌≡◌, List, [], ◌∷◌, ◌++◌, Bool, true, false, refl, ap, sym, ◌∙◌, Some, None, cond, subst, inl, inr}
+use Rattle.std.specs.Prelude.{◌||◌, find, unwrap_or, option_and_then, slice_get}
 use Rattle.std.specs.List.{list_any}
 use Rattle.std.specs.Str.{bytes_eq}
 use Rattle.std.proofs.lemmas.Bool.{cases_Bool}
-use Rattle.clap.specs.Words.{Text, Row, Rule, first_of, all_of}
-use Rattle.clap.specs.Walk.{with_values, without, has_row, used, reading_by, at_row, more_values}
+use Rattle.clap.specs.Words.{Text, Row, first_of, all_of}
+use Rattle.clap.specs.Walk.{with_values, without, has_row, used, reading_by}
 use Rattle.clap.specs.declared.parser.matches.ValueSource.TheVariants.{CommandLine}
 use Rattle.clap.specs.declared.builder.value_parser.Reading.{Reading as Manner}
 use Rattle.mx_words.specs.Reading.{Reading, nothing, with_name, with_value, is_given, value_of}

@@ -1,12 +1,12 @@
 -- What `clap` makes of the command with these options, and what a parse needs of its rules.
-use Rattle.std.proofs.Common.{◌≡◌, ◌≢◌, ℕ, List, [], ◌∷◌, ◌++◌, map, Bool, true, false, codes, refl, ap, sym, ◌∙◌, Option, Some, None, cond, subst, inl, inr}
-use Rattle.std.specs.Prelude.{◌==◌, ◌&&◌, ◌||◌, not, fold}
+use Rattle.std.proofs.Common.{◌≡◌, ℕ, List, [], ◌∷◌, map, Bool, true, false, refl, ap, sym, ◌∙◌, Some, None, cond, subst, inl, inr}
+use Rattle.std.specs.Prelude.{◌&&◌, ◌||◌, not, fold}
 use Rattle.std.specs.List.{list_any}
 use Rattle.std.specs.Str.{bytes_eq}
 use Rattle.std.proofs.lemmas.Bool.{cases_Bool}
 use Rattle.std.proofs.lemmas.Slice.Eq.{bytes_eq-Decides}
 use Rattle.clap.specs.Words.{Text, Row, Rule}
-use Rattle.clap.specs.Simple.{App, Shape, built, filled, filled_from, with_index, marked_built}
+use Rattle.clap.specs.Simple.{Shape, built, filled, filled_from, with_index, marked_built}
 use Rattle.clap.specs.Walk.{arg_by_id, arg_by_index, arg_by_long, arg_by_short, with_default, has_row}
 use Rattle.clap.specs.Takes.{is_given}
 use Rattle.clap.specs.Faults.{defaults_fault}

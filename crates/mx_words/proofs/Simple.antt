@@ -7,7 +7,7 @@ use Rattle.clap.specs.Simple.{is_ready, is_ready_leaf, is_buildable, is_in_order
 use Rattle.clap.specs.Faults.{is_free_app}
 use Rattle.clap.specs.Walk.{is_early_multiple}
 use Rattle.mx_words.specs.Command.{command_for, option_rule}
-use Rattle.mx_words.proofs.Rules.{shape_of, rules_of, option_built, names_built, built_is}
+use Rattle.mx_words.proofs.Rules.{shape_of, rules_of, option_built, built_is}
 
 simple_rules : (options : List Text) → list_all (λ a. a.is_simple) (map option_rule options) ≡ true
 simple_rules [] = refl

@@ -1,12 +1,12 @@
 -- What `clap` does at one word, over any rules that serve the options.
-use Rattle.std.proofs.Common.{◌≡◌, ◌≢◌, ℕ, List, [], ◌∷◌, ◌++◌, Bool, true, false, refl, ap, sym, ◌∙◌, Option, Some, None, cond, inl, inr, slice_get, suc, length}
-use Rattle.std.specs.Prelude.{◌==◌, ◌&&◌, ◌||◌, not}
+use Rattle.std.proofs.Common.{◌≡◌, ◌≢◌, ℕ, List, [], ◌∷◌, Bool, true, false, refl, Option, Some, None, inl, inr, slice_get, suc, length}
+use Rattle.std.specs.Prelude.{◌==◌, ◌&&◌}
 use Rattle.std.specs.Str.{bytes_eq, chars}
 use Rattle.std.proofs.lemmas.Bool.{cases_Bool}
 use Rattle.clap.specs.Words.{Text, Row, Rule}
-use Rattle.clap.specs.Walk.{Held, Walk, Waiting, idle, option, positional, walked, reacted, settled, settled_rows, used, arg_by_index, arg_by_long, arg_by_id, arg_by_short, has_row}
-use Rattle.clap.specs.Faults.{turn_fault, settle_fault, react_fault, flags_fault, repeat_fault}
-use Rattle.clap.specs.Kinds.{Kinds, or_else}
+use Rattle.clap.specs.Walk.{Held, Walk, Waiting, idle, option, positional, walked, settled_rows, used, arg_by_index, arg_by_long, arg_by_id, arg_by_short, has_row}
+use Rattle.clap.specs.Faults.{turn_fault, settle_fault, react_fault, flags_fault}
+use Rattle.clap.specs.Kinds.{or_else}
 use Rattle.clap.specs.Lexer.{long_of, short_of}
 use Rattle.clap.specs.declared.error.kind.ErrorKind.TheVariants as kind
 use Rattle.mx_words.specs.Reading.{is_option_word}

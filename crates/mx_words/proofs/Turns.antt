@@ -1,22 +1,22 @@
 -- The reading and the parse go side by side over the words.
-use Rattle.std.proofs.Common.{◌≡◌, ◌≢◌, ℕ, List, [], ◌∷◌, ◌++◌, Bool, true, false, refl, ap, sym, ◌∙◌, Option, Some, None, cond, subst, inl, inr, fold}
-use Rattle.std.specs.Prelude.{◌==◌, ◌&&◌, ◌||◌, not, encode_utf8_all}
+use Rattle.std.proofs.Common.{◌≡◌, ◌≢◌, ℕ, List, [], ◌∷◌, Bool, true, false, refl, ap, sym, ◌∙◌, Option, Some, None, cond, subst, inl, inr}
+use Rattle.std.specs.Prelude.{◌==◌, ◌&&◌, not, encode_utf8_all}
 use Rattle.std.specs.Str.{bytes_eq, chars, is_utf8, all_scalars}
 use Rattle.std.specs.Char.{encode_utf8}
 use Rattle.std.proofs.lemmas.Bool.{cases_Bool}
 use Rattle.std.proofs.lemmas.Bool.Decides.{nat_tests}
 use Rattle.std.proofs.Common.{arith}
 use Rattle.clap.specs.Words.{Text, Row, Rule}
-use Rattle.clap.specs.Walk.{Walk, walked, settled_rows, used, has_row, arg_by_long, arg_by_id}
-use Rattle.clap.specs.Faults.{turn_fault, settle_fault, react_fault}
+use Rattle.clap.specs.Walk.{Walk, walked, settled_rows, used, has_row}
+use Rattle.clap.specs.Faults.{turn_fault, settle_fault}
 use Rattle.clap.specs.Kinds.{Kinds, or_else}
 use Rattle.clap.specs.Lexer.{long_of, name_and_value}
 use Rattle.clap.specs.declared.error.kind.ErrorKind.{ErrorKind}
 use Rattle.clap.specs.declared.error.kind.ErrorKind.TheVariants as kind
 use Rattle.mx_words.specs.Reading.{Reading, State, ready, awaits, trailing, refused, is_option_word, is_known, is_given, with_name, with_value, after_word, after_option}
 use Rattle.mx_words.specs.Command.{names_id}
-use Rattle.mx_words.proofs.Rules.{shape_of, names_built, option_built, Serves, IsKnown}
-use Rattle.mx_words.proofs.Steps.{Pending, held_of, stands_at, waits_at, name_fault, name_walked, trailing_fault, trailing_walked, dashes_fault, dashes_walked, attached_fault, attached_walked, alone_fault, alone_walked, unknown_fault, short_fault, waits_short, value_fault, value_walked, waits_dashes_fault, waits_dashes, no_value, waits_unknown, waits_option, missing_fault, name_settles, value_settles, value_repeats, attached_settles, attached_repeats, settled_name, settled_value}
+use Rattle.mx_words.proofs.Rules.{shape_of, option_built, Serves, IsKnown}
+use Rattle.mx_words.proofs.Steps.{Pending, held_of, stands_at, waits_at, name_fault, name_walked, trailing_fault, trailing_walked, dashes_fault, dashes_walked, attached_fault, attached_walked, alone_fault, alone_walked, unknown_fault, short_fault, waits_short, value_fault, value_walked, waits_dashes_fault, waits_dashes, waits_unknown, waits_option, missing_fault, name_settles, value_settles, value_repeats, attached_settles, attached_repeats, settled_name, settled_value}
 use Rattle.mx_words.proofs.Rows.{Holds, holds_value, holds_name}
 
 -- the parse stands where q was read, and what is pending settles

@@ -1,23 +1,20 @@
 -- A parse of the command with these options fails exactly where the reading refuses the words, and else holds what was read.
-use Rattle.std.proofs.Common.{◌≡◌, ◌≢◌, ℕ, List, [], ◌∷◌, ◌++◌, Bool, true, false, codes, refl, ap, sym, ◌∙◌, Option, Some, None, cond, subst, inl, inr, fold, map, string_bytes, Global}
-use Rattle.std.specs.Prelude.{String, unwrap_or}
-use Rattle.std.specs.Str.{bytes_eq, is_utf8}
-use Rattle.std.specs.List.{list_all, list_any}
+use Rattle.std.proofs.Common.{◌≡◌, ◌≢◌, List, [], ◌∷◌, Bool, true, false, refl, ap, sym, ◌∙◌, Option, Some, None, subst, fold, map, string_bytes, Global}
+use Rattle.std.specs.Prelude.{String}
+use Rattle.std.specs.Str.{is_utf8}
 use Rattle.std.proofs.lemmas.Str.{IsUtf8-had, is_utf8-from_IsUtf8}
-use Rattle.clap.specs.Words.{App, Text, Row, Rule, first_of, all_of, Kinds, fault_of, matches_of, is_simple_and_free}
-use Rattle.clap.specs.Simple.{built, Shape, is_simple, is_in_order}
-use Rattle.clap.specs.Walk.{Held, Walk, walked, settled, settled_rows, finished, with_default, has_row, is_early_multiple}
-use Rattle.clap.specs.Faults.{turn_fault, walk_fault, settle_fault, defaults_fault, check_fault, has_free_rules, built_fault, level_fault}
+use Rattle.clap.specs.Words.{App, Text, Row, Rule, Kinds, fault_of, matches_of}
+use Rattle.clap.specs.Walk.{Held, Walk, walked, settled, settled_rows, finished}
+use Rattle.clap.specs.Faults.{turn_fault, walk_fault, settle_fault, defaults_fault, check_fault, built_fault}
 use Rattle.clap.specs.Kinds.{or_else}
 use Rattle.clap.proofs.FaultLemmas.{leaf_fault}
 use Rattle.clap.specs.declared.error.kind.ErrorKind.TheVariants as kind
 use Rattle.mx_words.specs.Command.{command_for}
-use Rattle.mx_words.specs.Reading.{Reading, State, ready, awaits, trailing, refused, nothing, after_word, ended, reading, value_of, is_known}
-use Rattle.mx_words.specs.Command.{names_id}
-use Rattle.mx_words.proofs.Rules.{shape_of, rules_of, option_built, names_built, Serves, serves, IsApart, built_is}
+use Rattle.mx_words.specs.Reading.{Reading, State, ready, awaits, trailing, refused, nothing, after_word, ended, reading, is_known}
+use Rattle.mx_words.proofs.Rules.{shape_of, rules_of, Serves, serves, IsApart, built_is}
 use Rattle.mx_words.proofs.Steps.{held_of, stands_at, waits_at, no_value}
 use Rattle.mx_words.proofs.Rows.{Holds, holds_nothing}
-use Rattle.mx_words.proofs.Turns.{Stands, Waits, Fails, unsettled, again, missing, Matches, Turn, goes, stops, turn, or_else_fails}
+use Rattle.mx_words.proofs.Turns.{Stands, unsettled, again, missing, Matches, goes, stops, turn, or_else_fails}
 
 -- what is held after all the words
 abbrev end_held : List Rule → Walk → List Text → Held

@@ -1,5 +1,5 @@
 //! A command's words, read by one `clap` command.
-ghost use Rattle.std.specs.Prelude.{◌≡◌, IfOk, map, string_bytes, option_map, unwrap_or, [], false, not, IsTrue};
+ghost use Rattle.std.specs.Prelude.{◌≡◌, IfOk, IfSome, IsTrue, false, not, [], map, length, vec_len, string_bytes, option_map, unwrap_or};
 ghost use Rattle.clap.specs.Words.{app_of, rule_of, all_of, first_of, rows_of, found_of};
 ghost use Rattle.mx_words.specs.Command.{command_for, option_rule, names_id, texts, IsParse};
 ghost use Rattle.mx_words.specs.Reading.{asked, is_known};
@@ -96,7 +96,9 @@ fn values_in<'a>(
     matches: &ArgMatches<'a>,
     options: &[&str],
 ) -> Result<Vec<Option<&'a str>>, Memory>
-    ensures { IfOk result (λ v. map (option_map (λ s. s.now)) v.items ≡ map (λ o. first_of o (rows_of (found_of matches.now))) (texts options.now)) }
+    ensures count { IfOk result (λ v. vec_len v ≡ length options.now) }
+    ensures values { IfOk result (λ v. map (option_map (λ s. s.now)) v.items
+        ≡ map (λ o. first_of o (rows_of (found_of matches.now))) (texts options.now)) }
 {
     let mut values = Vec::new(alloc);
     for option in options {
@@ -116,7 +118,10 @@ pub fn read_words<'a>(
     words: &'a [String],
 ) -> Result<Option<Read<'a>>, Memory>
     requires { IsTrue (not (is_known (texts shape.now.options.now) names_id)) }
-    ensures { IfOk result (λ r. option_map seen r ≡ asked (texts shape.now.options.now) shape.now.names (map string_bytes words.entry.now)) }
+    ensures asked { IfOk result (λ r. option_map seen r
+        ≡ asked (texts shape.now.options.now) shape.now.names (map string_bytes words.entry.now)) }
+    ensures names { IfOk result (λ r. IfSome r (λ read. vec_len read.names ≡ shape.now.names)) }
+    ensures values { IfOk result (λ r. IfSome r (λ read. vec_len read.values ≡ length shape.now.options.now)) }
 {
     let found = match parse(alloc, shape.options, words) {
         Ok(found) => found,

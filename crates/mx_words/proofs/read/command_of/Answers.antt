@@ -1,4 +1,4 @@
-use Rattle.std.proofs.Common.{◌≡◌, ◌+◌, ◌<◌, ◌∙◌, ap, sym, map, take, [], ◌∷◌, ◌++◌, List, ℕ, get_or, length, rules}
+use Rattle.std.proofs.Common.{◌≡◌, ◌+◌, ◌<◌, ◌∙◌, ap, sym, map, take, [], ◌∷◌, List, ℕ, get_or, length, rules}
 use Rattle.std.specs.Borrow.{Bor}
 use Rattle.std.proofs.lemmas.List.{map_more, map-append}
 use Rattle.clap.specs.Words.{rule_of, Text, with_rule}

@@ -1,4 +1,4 @@
-use Rattle.std.proofs.Common.{◌≡◌, [], List, ◌∙◌, ap, sym}
+use Rattle.std.proofs.Common.{◌≡◌, [], List, ◌∙◌, ap}
 use Rattle.std.specs.Prelude.{Option, Some, None, option_map, unwrap_or}
 use Rattle.clap.specs.Words.{Text, all_of, rows_of, found_of, raw_values, matched_of}
 use Rattle.clap.specs.declared.parser.matches.Found.{Found}

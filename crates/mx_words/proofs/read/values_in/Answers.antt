@@ -1,4 +1,4 @@
-use Rattle.std.proofs.Common.{◌≡◌, ◌+◌, ◌<◌, ◌∙◌, ap, sym, map, take, [], ◌∷◌, ◌++◌, List, ℕ, get_or, length, rules}
+use Rattle.std.proofs.Common.{◌≡◌, ◌+◌, ◌<◌, ◌∙◌, ap, sym, map, take, [], ◌∷◌, ◌++◌, List, ℕ, get_or, length, rules, arith}
 use Rattle.std.specs.Prelude.{Option, option_map}
 use Rattle.std.specs.Borrow.{Bor}
 use Rattle.std.proofs.lemmas.List.{map_more, map-append}
@@ -22,6 +22,9 @@ more_values f options values value i d h before next =
 
 pub loop-option-preserved : goal.loop-option-preserved
 loop-option-preserved c =
-    ap value_texts c.in-Ok.ensures.items
-    ∙ more_values (λ o. first_of o (rows_of (found_of c.args.matches.now))) c.args.options.now c.loop-option.values.items c.get_str.result c.loop-option.option-index _ (search rules)
-    c.loop-option.invariant (c.get_str.ensures ∙ first_value-rows (found_of c.args.matches.now) _)
+    record {
+      count = omega (arith, c.in-Ok.ensures.len);
+      values = ap value_texts c.in-Ok.ensures.items
+          ∙ more_values (λ o. first_of o (rows_of (found_of c.args.matches.now))) c.args.options.now c.loop-option.values.items c.get_str.result c.loop-option.option-index _ (search rules)
+          c.loop-option.invariant.values (c.get_str.ensures ∙ first_value-rows (found_of c.args.matches.now) _);
+    }
