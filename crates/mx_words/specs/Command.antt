@@ -21,6 +21,7 @@ names_id = codes "NAMES"
 abbrev pub names_rule : Rule
 names_rule = record (new_rule names_id) { action = Some Append }
 
+-- the command before it has any argument
 abbrev pub bare_command : App
 bare_command = on_top (λ s. record s { no_binary_name = true; disable_help_flag = true; disable_version_flag = true }) (new_app (codes "words"))
 

@@ -24,6 +24,7 @@ after_dashes [] = dashes
 after_dashes (x ∷ rest) = long (before_first (λ b. b == 61) (x ∷ rest))
     (if list_any (λ b. b == 61) (x ∷ rest) then Some (after_first (λ b. b == 61) (x ∷ rest)) else None)
 
+-- what an option word is, by the byte after its first `-`
 abbrev pub option_word : Text → OptionWord
 option_word [] = short
 option_word (x ∷ []) = short
@@ -34,19 +35,23 @@ pub record Reading : Type 0 where
   pub names : List Text
   pub given : List (Text × Text)
 
+-- before the first word
 abbrev pub nothing : Reading
 nothing = record { names = []; given = [] }
 
+-- one name more
 abbrev pub with_name : Reading → Text → Reading
 with_name q word = record q { names = q.names ++ word ∷ [] }
 
+-- one option more, with its value
 abbrev pub with_value : Reading → Text → Text → Reading
 with_value q name value = record q { given = (name, value) ∷ q.given }
 
--- whether the option was given, and the value that it was given
+-- whether the option was given
 abbrev pub is_given : Text → List (Text × Text) → Bool
 is_given name given = list_any (λ p. bytes_eq p.0 name) given
 
+-- the value that the option was given
 abbrev pub value_of : Text → List (Text × Text) → Option Text
 value_of name given = option_map (λ p. p.1) (find (λ p. bytes_eq p.0 name) given)
 
@@ -62,6 +67,7 @@ pub data State : Type 0 where
 abbrev pub is_known : List Text → Text → Bool
 is_known options name = list_any (λ o. bytes_eq o name) options
 
+-- `--NAME=VALUE` gives the value, `--NAME` awaits it
 abbrev pub after_option : Reading → Text → Option Text → State
 after_option q name (Some value) = ready (with_value q name value)
 after_option q name None = awaits name q
@@ -81,6 +87,7 @@ after_word options (awaits name q) word = if is_option_word word then refused el
 after_word options (trailing q) word = trailing (with_name q word)
 after_word options refused word = refused
 
+-- what was read once the words have ended: an option that awaits its value is refused
 abbrev pub ended : State → Option Reading
 ended (ready q) = Some q
 ended (awaits name q) = None

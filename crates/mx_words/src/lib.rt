@@ -1,7 +1,8 @@
 //! The words of a command line, from left to right.
 //!
-//! A command has options, each of which takes one value, and a number of names. Before the first `--`, a word of two or more
-//! bytes that begins with `-` is an option, written `--name=value` or `--name value`. All other words are names.
+//! A command has options, each of which takes one value, and a number of names. Before the first
+//! `--`, a word of two or more bytes that begins with `-` is an option, written `--name=value` or
+//! `--name value`, where the value is no such word. All other words are names.
 #![tactic(auto)]
 
 mod number;

@@ -109,7 +109,8 @@ fn values_in<'a>(
     Ok(values)
 }
 
-/// The names and the options' values that a command's words give, or none where the words are not of its shape.
+/// The names and the options' values that a command's words give, or none where the words are not
+/// of its shape. Its error is want of memory.
 ///
 /// No option may be called `NAMES`.
 pub fn read_words<'a>(
