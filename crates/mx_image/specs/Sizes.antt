@@ -1,0 +1,14 @@
+-- The sizes that a file gives.
+use Rattle.std.specs.Prelude.{◌≡◌, ℕ, ◌+◌, ◌*◌, ◌≤◌, List, length, None}
+use Rattle.mx_image.specs.declared.fields.Sizes.{Sizes}
+use Rattle.mx_image.specs.Bytes.{number_at}
+use Rattle.mx_image.specs.Files.{refusal_1, links_from}
+
+-- the sizes of bytes of version 1 that are not refused
+pub record SizesOf1 (bs : List ℕ) (s : Sizes) : Type 0 where
+  pub code : s.code ≡ number_at 8 bs
+  pub user_data : s.user_data ≡ number_at 12 bs
+  pub code_within : s.code ≤ 60000
+  pub data_within : s.user_data ≤ 65280
+  pub whole : length bs ≡ 16 + 4 * (s.code + s.user_data)
+  pub accepted : refusal_1 bs ≡ None
