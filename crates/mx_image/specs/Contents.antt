@@ -22,10 +22,18 @@ pub record LinksFit (words : ℕ) (links : List ℕ) : Type 0 where
   pub few : length links ≤ 20001
   pub within : All (IsLink words) links
 
--- words, within the limits of an image, with links that fit
-pub record IsWithinLimits (f : Contents) : Type 0 where
-  pub code : length f.code ≤ 60000
-  pub user_data : length f.user_data ≤ 65280
+-- words of 32 bits
+abbrev pub AreWords : List ℕ → Type 0
+AreWords ws = All (λ w. w < 2 ^ 32) ws
+
+-- an image's words, within its limits
+pub record IsImage (code user_data : List ℕ) : Type 0 where
+  pub code_few : length code ≤ 60000
+  pub data_few : length user_data ≤ 65280
+  pub code_words : AreWords code
+  pub data_words : AreWords user_data
+
+-- an image with links that fit
+pub record IsFile (f : Contents) : Type 0 where
+  pub image : IsImage f.code f.user_data
   pub links : LinksFit (length f.code) f.links
-  pub code_words : All (λ w. w < 2 ^ 32) f.code
-  pub data_words : All (λ w. w < 2 ^ 32) f.user_data

@@ -1,5 +1,5 @@
 -- The bytes of an image file, what bytes hold, and why bytes are no image file.
-use Rattle.std.specs.Prelude.{◌≡◌, ℕ, suc, ◌+◌, ◌*◌, Bool, true, false, not, ◌==◌, ◌||◌, nat_lt, nat_eq, if◌then◌else◌, List, [], ◌∷◌, ◌++◌, length, take, drop, Option, Some, None, position}
+use Rattle.std.specs.Prelude.{◌≡◌, ◌⊎◌, ℕ, ◌+◌, ◌*◌, Bool, true, false, not, ◌==◌, ◌||◌, nat_lt, nat_eq, if◌then◌else◌, List, [], ◌∷◌, ◌++◌, length, take, drop, Option, Some, None, position}
 use Rattle.std.specs.List.{starts_with}
 use Rattle.mx_image.specs.declared.error.ImageError.{ImageError}
 use Rattle.mx_image.specs.declared.error.ImageError.TheVariants.{BadMagic, Truncated, BadRange, Trailing}
@@ -116,3 +116,7 @@ file_refusal bs =
     (or_next (short_refusal 8 bs)
     (if number_at 4 bs == 1 then refusal_1 bs
     else (if number_at 4 bs == 2 then refusal_2 bs else Some (BadRange 4))))
+
+-- the bytes are a file's, in either version; version 1 has no input and no links
+abbrev pub Spells : List ℕ → Contents → Type 0
+Spells bs f = (bs ≡ file_bytes f) ⊎ ((bs ≡ image_bytes f.code f.user_data) × (f.input ≡ false) × (f.links ≡ []))
