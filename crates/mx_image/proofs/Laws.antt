@@ -1,8 +1,7 @@
 -- What is accepted is spelled as a file, and what is spelled as a file is accepted.
-use Rattle.std.proofs.Common.{◌≡◌, ℕ, zero, suc, ◌+◌, ◌-◌, ◌*◌, ◌/◌, ◌%◌, ◌^◌, ◌<◌, ◌≤◌, Bool, true, false, cond, not, nat_lt, nat_eq, ◌⊎◌, List, [], ◌∷◌, ◌++◌, length, take, drop, get_or, Option, Some, None, refl, sym, subst, ap, ◌∙◌, arith, append_assoc, length-append, All, inl, inr, position}
-use Rattle.std.specs.Prelude.{◌==◌, ◌||◌, ◌&&◌}
+use Rattle.std.proofs.Common.{◌≡◌, ℕ, zero, suc, ◌+◌, ◌*◌, ◌≤◌, Bool, true, false, cond, nat_lt, nat_eq, List, [], ◌∷◌, ◌++◌, length, take, drop, Option, Some, None, refl, sym, subst, ap, ◌∙◌, arith, append_assoc, length-append, All, inl, inr}
+use Rattle.std.specs.Prelude.{◌==◌, ◌&&◌}
 use Rattle.std.specs.List.{starts_with, position_from}
-use Rattle.std.proofs.lemmas.Bool.{cases_Bool}
 use Rattle.std.proofs.lemmas.Bool.Decides.{nat_tests}
 use Rattle.std.proofs.lemmas.List.{drop-drop, length-drop, append-nil}
 use Rattle.std.proofs.lemmas.Grind.{flat_map-append}
@@ -10,9 +9,9 @@ use Rattle.std.proofs.lemmas.Iterator.Adapters.{position_from-zero}
 use Rattle.mx_image.specs.declared.error.ImageError.{ImageError}
 use Rattle.mx_image.specs.declared.error.ImageError.TheVariants.{BadMagic, Truncated, BadRange, Trailing}
 use Rattle.mx_image.specs.Bytes.{word_bytes, words_bytes, number_in, number_at, numbers}
-use Rattle.mx_image.specs.Contents.{Contents, IsImage, IsFile, IsLink, LinksFit, AreWords}
+use Rattle.mx_image.specs.Contents.{Contents, plain, IsImage, IsFile, IsLink, LinksFit, AreWords}
 use Rattle.mx_image.specs.Files.{magic, image_bytes, file_bytes, flag_of, image_in, file_in, file_in_2, links_from, or_next, short_refusal, long_refusal, magic_refusal, field_refusal, is_outside, outside_refusal, links_refusal, refusal_1, refusal_2, image_refusal, file_refusal, Spells}
-use Rattle.mx_image.proofs.Numbers.{AreBytes, number-word, numbers-words, length-words, drop-words, words-numbers, numbers-plus, length-numbers, number-small}
+use Rattle.mx_image.proofs.Numbers.{AreBytes, number-word, numbers-words, length-words, drop-words, words-numbers, numbers-plus, length-numbers}
 
 or_none : (a b : Option ImageError) → or_next a b ≡ None → (a ≡ None) × (b ≡ None)
 or_none None b h = (refl, h)
@@ -273,6 +272,10 @@ field_none at most bs h k =
 alone : (ws : List ℕ) → AreWords ws → numbers (length ws) (words_bytes ws) ≡ ws
 alone ws h = ap (numbers (length ws)) (sym (append-nil (words_bytes ws))) ∙ numbers-words ws [] h
 
+same_contents : (c d : List ℕ) (i : Bool) (l c' d' : List ℕ) (i' : Bool) (l' : List ℕ) → c ≡ c' → d ≡ d' → i ≡ i' → l ≡ l'
+    → (let a : Contents = record { code = c; user_data = d; input = i; links = l } in let b : Contents = record { code = c'; user_data = d'; input = i'; links = l' } in a ≡ b)
+same_contents c d i l c' d' i' l' e f g h = λ k. record { code = e k; user_data = f k; input = g k; links = h k }
+
 module _ (code user_data : List ℕ) (h : IsImage code user_data) where
   abbrev bs : List ℕ
   bs = image_bytes code user_data
@@ -298,6 +301,9 @@ module _ (code user_data : List ℕ) (h : IsImage code user_data) where
       ∙ ap (λ n. numbers n (words_bytes user_data)) size_d
       ∙ alone user_data h.data_words
 
+  pub plain_again : file_in bs ≡ plain code user_data
+  plain_again = same_contents _ _ _ _ _ _ _ _ code_again data_again refl refl
+
   pub accepts_1 : refusal_1 bs ≡ None
   accepts_1 =
       let end : ℕ = 16 + 4 * (number_at 8 bs + number_at 12 bs) in
@@ -311,3 +317,87 @@ module _ (code user_data : List ℕ) (h : IsImage code user_data) where
 
   pub plain_accepted : file_refusal bs ≡ None
   plain_accepted = both_none (short_refusal 8 bs) _ (short_none 8 bs (omega (arith, whole))) accepts_1
+
+flag_small : (b : Bool) → flag_of b ≤ 1
+flag_small true = omega arith
+flag_small false = omega arith
+
+flag_is : (b : Bool) → (flag_of b == 1) ≡ b
+flag_is true = refl
+flag_is false = refl
+
+module _ (f : Contents) (h : IsFile f) where
+  abbrev ws : List ℕ
+  ws = (f.code ++ f.user_data) ++ f.links
+
+  abbrev cs : List ℕ
+  cs = file_bytes f
+
+  flag : number_at 8 cs ≡ flag_of f.input
+  flag = number-word (flag_of f.input) (words_bytes (length f.code ∷ length f.user_data ∷ length f.links ∷ ws)) (omega (arith, flag_small f.input))
+
+  count_c : number_at 12 cs ≡ length f.code
+  count_c = number-word (length f.code) (words_bytes (length f.user_data ∷ length f.links ∷ ws)) (omega (arith, h.image.code_few))
+
+  count_d : number_at 16 cs ≡ length f.user_data
+  count_d = number-word (length f.user_data) (words_bytes (length f.links ∷ ws)) (omega (arith, h.image.data_few))
+
+  count_m : number_at 20 cs ≡ length f.links
+  count_m = number-word (length f.links) (words_bytes ws) (omega (arith, h.links.few))
+
+  all : length cs ≡ 24 + 4 * ((length f.code + length f.user_data) + length f.links)
+  all = omega (arith, length-words ws, length-append (f.code ++ f.user_data) f.links, length-append f.code f.user_data)
+
+  link_words : AreWords f.links
+  link_words = λ k d lt. let p = h.links.within k d lt in let q = h.image.code_few in omega (arith, p.1)
+
+  code_back : (file_in_2 cs).code ≡ f.code
+  code_back =
+      ap (λ n. numbers n (words_bytes ws)) count_c
+      ∙ ap (λ xs. numbers (length f.code) (words_bytes xs)) (append_assoc f.code f.user_data f.links)
+      ∙ ap (numbers (length f.code)) (flat_map-append word_bytes f.code (f.user_data ++ f.links))
+      ∙ numbers-words f.code (words_bytes (f.user_data ++ f.links)) h.image.code_words
+
+  data_back : (file_in_2 cs).user_data ≡ f.user_data
+  data_back =
+      ap (numbers (number_at 16 cs)) (
+      sym (drop-drop (4 * number_at 12 cs) 24 cs)
+      ∙ ap (λ xs. drop (4 * number_at 12 cs) (words_bytes xs)) (append_assoc f.code f.user_data f.links)
+      ∙ drop-words f.code (f.user_data ++ f.links) (number_at 12 cs) count_c
+      )
+      ∙ ap (λ n. numbers n (words_bytes (f.user_data ++ f.links))) count_d
+      ∙ ap (numbers (length f.user_data)) (flat_map-append word_bytes f.user_data f.links)
+      ∙ numbers-words f.user_data (words_bytes f.links) h.image.data_words
+
+  links_back : (file_in_2 cs).links ≡ f.links
+  links_back =
+      ap (numbers (number_at 20 cs)) (
+      sym (drop-drop (4 * (number_at 12 cs + number_at 16 cs)) 24 cs)
+      ∙ drop-words (f.code ++ f.user_data) f.links (number_at 12 cs + number_at 16 cs) (omega (arith, count_c, count_d, length-append f.code f.user_data))
+      )
+      ∙ ap (λ n. numbers n (words_bytes f.links)) count_m
+      ∙ alone f.links link_words
+
+  pub file_again : file_in cs ≡ f
+  file_again = same_contents _ _ _ _ _ _ _ _ code_back data_back (ap (λ n. n == 1) flag ∙ flag_is f.input) links_back
+
+  no_outside : links_refusal cs ≡ None
+  no_outside =
+      ap (outside_refusal (links_from cs)) (
+      position_from-zero (is_outside (number_at 12 cs)) (file_in_2 cs).links
+      ∙ ap (λ ls. position_from (is_outside (number_at 12 cs)) 0 ls) links_back
+      ∙ ap (λ n. position_from (is_outside n) 0 f.links) count_c
+      ∙ none_from_links (length f.code) 0 f.links h.links.within
+      )
+
+  pub file_accepted : file_refusal cs ≡ None
+  file_accepted =
+      let end : ℕ = links_from cs + 4 * number_at 20 cs in
+      let e : length cs ≡ end = omega (arith, all, count_c, count_d, count_m) in
+      both_none (short_refusal 8 cs) _ (short_none 8 cs (omega (arith, all)))
+      (both_none (field_refusal 8 1 cs) _ (field_none 8 1 cs (omega (arith, all)) (omega (arith, flag, flag_small f.input)))
+      (both_none (field_refusal 12 60000 cs) _ (field_none 12 60000 cs (omega (arith, all)) (omega (arith, count_c, h.image.code_few)))
+      (both_none (field_refusal 16 65280 cs) _ (field_none 16 65280 cs (omega (arith, all)) (omega (arith, count_d, h.image.data_few)))
+      (both_none (field_refusal 20 20001 cs) _ (field_none 20 20001 cs (omega (arith, all)) (omega (arith, count_m, h.links.few)))
+      (both_none (short_refusal end cs) _ (short_none end cs (omega (arith, e)))
+      (both_none (links_refusal cs) _ no_outside (long_none end cs (omega (arith, e)))))))))

@@ -1,8 +1,8 @@
 -- Numbers of bytes, and the bytes of numbers.
-use Rattle.std.proofs.Common.{◌≡◌, ℕ, zero, suc, ◌+◌, ◌-◌, ◌*◌, ◌/◌, ◌%◌, ◌^◌, ◌<◌, ◌≤◌, List, [], ◌∷◌, ◌++◌, length, take, drop, get_or, refl, sym, ap, ◌∙◌, arith, append_assoc, length-append, All}
-use Rattle.std.proofs.lemmas.List.{take_more, drop-drop, drop_at, take_at, append-nil, length-drop}
-use Rattle.std.proofs.lemmas.Grind.{flat_map-append, common_steps}
-use Rattle.mx_image.specs.Bytes.{word_bytes, words_bytes, number_in, number_at, numbers}
+use Rattle.std.proofs.Common.{◌≡◌, ℕ, zero, suc, ◌+◌, ◌*◌, ◌/◌, ◌%◌, ◌^◌, ◌<◌, List, [], ◌∷◌, ◌++◌, length, take, drop, get_or, refl, sym, ap, ◌∙◌, arith, All}
+use Rattle.std.proofs.lemmas.List.{take_more, drop-drop, drop_at, append-nil}
+use Rattle.std.proofs.lemmas.Grind.{flat_map-append}
+use Rattle.mx_image.specs.Bytes.{word_bytes, words_bytes, number_in, numbers}
 
 -- one more word
 pub words_bytes-take : (ws : List ℕ) (i : ℕ) → i < length ws → words_bytes (take (i + 1) ws) ≡ words_bytes (take i ws) ++ word_bytes (get_or ws i 0)

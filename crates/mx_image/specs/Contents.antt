@@ -1,6 +1,5 @@
 -- What an image file keeps, as lists.
-use Rattle.std.specs.Prelude.{◌≡◌, ℕ, ◌+◌, ◌≤◌, ◌<◌, ◌^◌, Bool, List, length, All, Vec}
-use Rattle.mx_code.specs.declared.image.Image.{Image}
+use Rattle.std.specs.Prelude.{ℕ, ◌+◌, ◌≤◌, ◌<◌, ◌^◌, Bool, false, List, [], length, All}
 use Rattle.mx_image.specs.declared.file.ImageFile.{ImageFile}
 
 -- code words, data words, whether the program asks for an input, and the link map
@@ -12,6 +11,10 @@ pub record Contents : Type 0 where
 
 abbrev pub contents_of : ImageFile → Contents
 contents_of f = record { code = f.image.code.items; user_data = f.image.user_data.items; input = f.input; links = f.links.items }
+
+-- an image alone: no input, no links
+abbrev pub plain : List ℕ → List ℕ → Contents
+plain code user_data = record { code = code; user_data = user_data; input = false; links = [] }
 
 -- a link is the address of a code word, or the one after the last
 abbrev pub IsLink : ℕ → ℕ → Type 0

@@ -1,5 +1,5 @@
 -- The bytes of an image file, what bytes hold, and why bytes are no image file.
-use Rattle.std.specs.Prelude.{◌≡◌, ◌⊎◌, ℕ, ◌+◌, ◌*◌, Bool, true, false, not, ◌==◌, ◌||◌, nat_lt, nat_eq, if◌then◌else◌, List, [], ◌∷◌, ◌++◌, length, take, drop, Option, Some, None, position}
+use Rattle.std.specs.Prelude.{◌≡◌, ◌⊎◌, ℕ, ◌+◌, ◌*◌, Bool, true, false, ◌==◌, ◌||◌, nat_lt, nat_eq, if◌then◌else◌, List, [], ◌∷◌, ◌++◌, length, take, drop, Option, Some, None, position}
 use Rattle.std.specs.List.{starts_with}
 use Rattle.mx_image.specs.declared.error.ImageError.{ImageError}
 use Rattle.mx_image.specs.declared.error.ImageError.TheVariants.{BadMagic, Truncated, BadRange, Trailing}

@@ -1,7 +1,9 @@
 //! Version 1, an image alone: `MXIM`, then the version, the numbers of code and data words, and these words.
-ghost use Rattle.std.specs.Prelude.{◌≡◌, ◌≤◌, ◌+◌, ◌*◌, ◌⊎◌, length, drop, Some, None, IfOk, MatchResult};
+ghost use Rattle.std.specs.Prelude.{◌≡◌, ◌≤◌, ◌+◌, ◌*◌, ◌⊎◌, ℕ, List, length, drop, Some, None, IfOk, MatchResult};
 ghost use Rattle.mx_image.specs.Bytes.{number_at, numbers};
 ghost use Rattle.mx_image.specs.Sizes.{SizesOf1};
+ghost use Rattle.mx_image.specs.Contents.{IsImage};
+ghost use Rattle.mx_image.specs.Reads.{ReadsImage};
 ghost use Rattle.mx_image.specs.Files.{image_bytes, image_in, refusal_1, image_refusal};
 
 use crate::ImageError;
@@ -68,13 +70,24 @@ pub fn write_image(alloc: Global, image: &Image) -> Result<Vec<u8>, Memory>
     image_words(alloc, image).map_err(|_| Memory)
 }
 
-/// The image of bytes in version 1. The answer is the first refusal that holds of the bytes, or the image, or Memory.
-pub fn read_image(alloc: Global, bytes: &[u8]) -> Result<Image, ImageError>
-    ensures exact { MatchResult result (λ image. (image_refusal bytes.now ≡ None) × (image.code.items ≡ (image_in bytes.now).code) × (image.user_data.items ≡ (image_in bytes.now).user_data)) (λ e. (e ≡ ImageError.Memory) ⊎ (image_refusal bytes.now ≡ Some e)) }
+/// The image of bytes in version 1, or their first refusal, or Memory.
+fn image_of(alloc: Global, bytes: &[u8]) -> Result<Image, ImageError>
+    ensures { ReadsImage bytes.now result }
 {
     check_head(bytes)?;
     if number_at(bytes, 4) != 1 {
         return Err(ImageError::BadRange { at: 4 });
     }
     read_1(alloc, bytes)
+}
+
+/// The image of bytes in version 1. The answer is the first refusal that holds of the bytes, or the image, or Memory.
+pub fn read_image(alloc: Global, bytes: &[u8]) -> Result<Image, ImageError>
+    ensures answer { ReadsImage bytes.now result }
+
+    // What is read is spelled so, and what is spelled so is read back.
+    ensures spelled { IfOk result (λ image. bytes.now ≡ image_bytes image.code.items image.user_data.items) }
+    ensures read_back { (code user_data : List ℕ) → IsImage code user_data → bytes.now ≡ image_bytes code user_data → MatchResult result (λ image. (image.code.items ≡ code) × (image.user_data.items ≡ user_data)) (λ e. e ≡ ImageError.Memory) }
+{
+    image_of(alloc, bytes)
 }

@@ -1,10 +1,11 @@
 //! Version 2, an image with the flag of the input and the link map: `MXIM`, then the version, the flag, the numbers of code
 //! words, data words and links, and these.
-ghost use Rattle.std.specs.Prelude.{◌≡◌, ◌≤◌, ◌+◌, ◌*◌, ◌⊎◌, length, drop, Some, None, IfOk, MatchResult, position};
+ghost use Rattle.std.specs.Prelude.{◌≡◌, ◌≤◌, ◌+◌, ◌*◌, ◌⊎◌, ℕ, List, length, drop, Some, None, IfOk, MatchResult, position};
 ghost use Rattle.mx_image.specs.Bytes.{number_at, numbers};
 ghost use Rattle.mx_image.specs.Sizes.{SizesOf2};
-ghost use Rattle.mx_image.specs.Contents.{contents_of, LinksFit};
-ghost use Rattle.mx_image.specs.Files.{file_bytes, file_in, file_in_2, flag_of, is_outside, links_from, links_refusal, outside_refusal, refusal_1, refusal_2, image_in, file_refusal};
+ghost use Rattle.mx_image.specs.Contents.{Contents, contents_of, plain, LinksFit, IsImage, IsFile};
+ghost use Rattle.mx_image.specs.Reads.{ReadsFile};
+ghost use Rattle.mx_image.specs.Files.{file_bytes, file_in, file_in_2, flag_of, is_outside, links_from, links_refusal, outside_refusal, refusal_1, refusal_2, image_in, image_bytes, file_refusal, Spells};
 
 use crate::fields::{MAGIC, Sizes, check_head, check_long, check_short, field};
 use crate::version_1::{image_at, read_1};
@@ -107,14 +108,77 @@ fn read_plain(alloc: Global, bytes: &[u8]) -> Result<ImageFile, ImageError>
     })
 }
 
-/// The file of bytes in either version. The answer is the first refusal that holds of the bytes, or the file, or Memory.
-pub fn read_file(alloc: Global, bytes: &[u8]) -> Result<ImageFile, ImageError>
-    ensures exact { MatchResult result (λ file. (file_refusal bytes.now ≡ None) × (contents_of file ≡ file_in bytes.now)) (λ e. (e ≡ ImageError.Memory) ⊎ (file_refusal bytes.now ≡ Some e)) }
+/// The file of bytes in either version, or their first refusal, or Memory.
+fn file_of(alloc: Global, bytes: &[u8]) -> Result<ImageFile, ImageError>
+    ensures { ReadsFile bytes.now result }
 {
     check_head(bytes)?;
     match number_at(bytes, 4) {
         1 => read_plain(alloc, bytes),
         2 => read_2(alloc, bytes),
         _ => Err(ImageError::BadRange { at: 4 }),
+    }
+}
+
+/// The file of bytes in either version. The answer is the first refusal that holds of the bytes, or the file, or Memory.
+pub fn read_file(alloc: Global, bytes: &[u8]) -> Result<ImageFile, ImageError>
+    ensures answer { ReadsFile bytes.now result }
+    ensures links { IfOk result (λ file. LinksFit (length file.image.code.items) file.links.items) }
+
+    // What is read is spelled so, and what is spelled so in either version is read back.
+    ensures spelled { IfOk result (λ file. Spells bytes.now (contents_of file)) }
+    ensures read_back { (f : Contents) → IsFile f → bytes.now ≡ file_bytes f → MatchResult result (λ file. contents_of file ≡ f) (λ e. e ≡ ImageError.Memory) }
+    ensures plain_read_back { (code user_data : List ℕ) → IsImage code user_data → bytes.now ≡ image_bytes code user_data → MatchResult result (λ file. contents_of file ≡ plain code user_data) (λ e. e ≡ ImageError.Memory) }
+{
+    file_of(alloc, bytes)
+}
+
+#[cfg(test)]
+mod tests {
+    use super::*;
+    use crate::{read_image, write_image};
+    use std::test::Fail;
+
+    // An image of three words and no data, in version 1.
+    const HELLO: [u8; 28] = [
+        0x4d, 0x58, 0x49, 0x4d, 0, 0, 0, 1, 0, 0, 0, 3, 0, 0, 0, 0, 0xc0, 0x02, 0x00, 0x48, 0x88,
+        0x02, 0x00, 0xff, 0xe0, 0x00, 0x00, 0x00,
+    ];
+
+    #[test]
+    fn reads_and_writes_version_1(rt: HostRuntime) -> Result<(), Fail> {
+        let image = read_image(rt.alloc(), &HELLO)?;
+        let code = [0xc002_0048, 0x8802_00ff, 0xe000_0000];
+        assert_eq!(rt; image.code.as_slice(), code.as_slice());
+        assert!(rt; image.user_data.is_empty());
+        let bytes = write_image(rt.alloc(), &image)?;
+        assert_eq!(rt; bytes.as_slice(), HELLO.as_slice());
+        for n in 0..28 {
+            let cut = read_image(rt.alloc(), &HELLO[..n]);
+            assert!(rt;
+                cut == Err(ImageError::Truncated { at: n as u64 }),
+                "{n} bytes"
+            );
+        }
+        Ok(())
+    }
+
+    #[test]
+    fn reads_and_writes_version_2(rt: HostRuntime) -> Result<(), Fail> {
+        let alloc = rt.alloc();
+        let plain = read_file(alloc, &HELLO)?;
+        assert!(rt; !plain.input && plain.links.is_empty());
+        let bytes = write_file(alloc, &plain)?;
+        assert_eq!(rt; bytes.len(), 36);
+        let again = read_file(alloc, &bytes)?;
+        assert!(rt; again == plain);
+        let mut longer = bytes.clone()?;
+        longer.push(0)?;
+        let more = read_file(alloc, &longer);
+        assert!(rt;
+            more == Err(ImageError::Trailing { at: 36 }),
+            "one byte more"
+        );
+        Ok(())
     }
 }
