@@ -1,0 +1,6 @@
+pub mod Steps
+pub mod Lines
+pub mod Bits
+pub mod Ring
+pub mod SetSteps
+pub mod CacheSteps

@@ -1,1 +1,3 @@
 pub mod Residency
+pub mod Places
+pub mod LineSets

@@ -2,5 +2,10 @@
 #![tactic(auto)]
 
 mod fetch_cache;
+mod line_cache;
+mod line_set;
+mod mask;
 
 pub use fetch_cache::FetchCache;
+pub use line_cache::LineCache;
+pub use line_set::Set;
