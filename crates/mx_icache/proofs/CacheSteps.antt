@@ -1,11 +1,10 @@
 -- What a fetch makes of a cache of four sets.
-use Rattle.std.proofs.Common.{◌≡◌, ◌≢◌, ℕ, zero, suc, ◌+◌, ◌%◌, ◌<◌, Bool, true, false, eqb, List, [], ◌∷◌, get_or, set, Option, Some, None, refl, sym, ◌∙◌, ap, arith}
+use Rattle.std.proofs.Common.{◌≡◌, ◌≢◌, ℕ, zero, suc, true, false, eqb, List, [], ◌∷◌, set, Some, None, subst, refl, sym, ◌∙◌, ap, arith}
 use Rattle.std.specs.List.{slice_get}
 use Rattle.std.proofs.lemmas.Bool.Decides.{nat_tests}
 use Rattle.mx_icache.specs.declared.line_set.Set.{Set}
 use Rattle.mx_icache.specs.Residency.{line_of, set_of, allocated}
-use Rattle.mx_icache.specs.LineSets.{line_in, word_in, SetHolds}
-use Rattle.mx_icache.proofs.SetSteps.{set_other}
+use Rattle.mx_icache.specs.LineSets.{line_in, SetHolds}
 
 slice_get-set_same : {X : Type 0} (xs : List X) (i : ℕ) (x y : X) → slice_get (set xs i x) i ≡ Some y → y ≡ x
 slice_get-set_same [] i x y h = absurd (cc)
@@ -19,13 +18,13 @@ slice_get-set_other (z ∷ xs) zero (suc j) x ne = refl
 slice_get-set_other (z ∷ xs) (suc i) zero x ne = refl
 slice_get-set_other (z ∷ xs) (suc i) (suc j) x ne = slice_get-set_other xs i j x (λ e. ne (ap suc e))
 
--- one of four that are the same
-pub one_of_four : {X : Type 0} (x y : X) (s : ℕ) → slice_get (x ∷ x ∷ x ∷ x ∷ []) s ≡ Some y → y ≡ x
-one_of_four x y zero h = cc
-one_of_four x y (suc zero) h = cc
-one_of_four x y (suc (suc zero)) h = cc
-one_of_four x y (suc (suc (suc zero))) h = cc
-one_of_four x y (suc (suc (suc (suc s)))) h = absurd (cc)
+-- what holds of four sets holds of each
+pub each_of_four : {X : Type 0} (P : X → Type 0) (a b c d x : X) (s : ℕ) → P a → P b → P c → P d → slice_get (a ∷ b ∷ c ∷ d ∷ []) s ≡ Some x → P x
+each_of_four P a b c d x zero p q r t h = let same : a ≡ x = cc in subst P same p
+each_of_four P a b c d x (suc zero) p q r t h = let same : b ≡ x = cc in subst P same q
+each_of_four P a b c d x (suc (suc zero)) p q r t h = let same : c ≡ x = cc in subst P same r
+each_of_four P a b c d x (suc (suc (suc zero))) p q r t h = let same : d ≡ x = cc in subst P same t
+each_of_four P a b c d x (suc (suc (suc (suc s)))) p q r t h = absurd (cc)
 
 -- a set without a line, before the first fetch
 pub set_begins : (set : Set) (s : ℕ) → set.next ≡ 0 → ((w : ℕ) → line_in set w ≡ None) → SetHolds set [] s

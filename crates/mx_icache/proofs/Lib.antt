@@ -4,3 +4,4 @@ pub mod Bits
 pub mod Ring
 pub mod SetSteps
 pub mod CacheSteps
+pub mod PlainSteps

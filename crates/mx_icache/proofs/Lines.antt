@@ -1,10 +1,9 @@
 -- The lines of a set in their places, and the words of each, told from the addresses fetched so far. A cache keeps them as it likes.
-use Rattle.std.proofs.Common.{◌≡◌, ◌≢◌, ℕ, zero, suc, ◌+◌, ◌-◌, ◌*◌, ◌/◌, ◌%◌, ◌<◌, ◌≤◌, Bool, true, false, cond, eqb, not, ◌&&◌, ◌||◌, List, [], ◌∷◌, take, Option, Some, None, refl, sym, ◌∙◌, ap, arith}
-use Rattle.std.specs.List.{list_any}
+use Rattle.std.proofs.Common.{◌≡◌, ◌≢◌, ℕ, ◌+◌, ◌*◌, ◌/◌, ◌%◌, ◌<◌, Bool, true, false, eqb, ◌||◌, List, ◌∷◌, Option, Some, refl, sym, ◌∙◌, ap, arith}
 use Rattle.std.proofs.lemmas.Bool.Decides.{nat_tests}
-use Rattle.mx_icache.specs.Residency.{line_of, set_of, pair_of, is_among_last, allocated, is_held, missed_since, resident}
+use Rattle.mx_icache.specs.Residency.{line_of, set_of, is_among_last, allocated, is_held, missed_since, resident}
 use Rattle.mx_icache.specs.Places.{Apart, ValidWhereResident}
-use Rattle.mx_icache.proofs.Steps.{near, near_word, allocated-other, allocated-held, allocated-missed, missed_since-other, missed_since-resident, missed_since-filled, missed_since-allocated, allocated-set}
+use Rattle.mx_icache.proofs.Steps.{near, near_word, allocated-other, allocated-held, missed_since-other, missed_since-resident, missed_since-filled, missed_since-allocated, allocated-set}
 
 -- every line in a place is among the last allocated in the set
 abbrev pub Inside : (ℕ → Option ℕ) → List ℕ → ℕ → Type 0

@@ -1,5 +1,5 @@
 -- What a fetch makes of a set of a line cache.
-use Rattle.std.proofs.Common.{◌≡◌, ◌≢◌, ℕ, ◌+◌, ◌*◌, ◌/◌, ◌%◌, ◌<◌, Bool, true, false, eqb, ◌&&◌, ◌||◌, List, ◌∷◌, Option, Some, refl, sym, ◌∙◌, ap, arith}
+use Rattle.std.proofs.Common.{◌≡◌, ◌≢◌, ℕ, ◌+◌, ◌*◌, ◌/◌, ◌%◌, ◌<◌, Bool, true, false, eqb, ◌&&◌, ◌||◌, List, ◌∷◌, Option, Some, sym, ◌∙◌, ap, arith}
 use Rattle.mx_icache.specs.declared.line_set.Set.{Set}
 use Rattle.mx_icache.specs.Residency.{line_of, set_of, allocated, is_held, missed_since, resident}
 use Rattle.mx_icache.specs.LineSets.{line_in, word_in, GoesRound, SetHolds}

@@ -1,8 +1,8 @@
 -- What one more fetch changes of the lines that were allocated, and of the words that missed since then.
-use Rattle.std.proofs.Common.{◌≡◌, ◌≢◌, ℕ, zero, suc, ◌+◌, ◌-◌, ◌*◌, ◌/◌, ◌%◌, ◌<◌, ◌≤◌, Bool, true, false, cond, eqb, not, ◌&&◌, ◌||◌, List, [], ◌∷◌, take, refl, sym, ◌∙◌, ap, arith}
+use Rattle.std.proofs.Common.{◌≡◌, ◌≢◌, ℕ, zero, suc, ◌+◌, ◌*◌, ◌/◌, ◌<◌, Bool, true, false, cond, eqb, not, ◌&&◌, ◌||◌, List, [], ◌∷◌, take, refl, arith}
 use Rattle.std.specs.List.{list_any}
 use Rattle.std.proofs.lemmas.Bool.Decides.{nat_tests}
-use Rattle.mx_icache.specs.Residency.{line_of, set_of, pair_of, is_among_last, allocated, is_held, missed_since, resident}
+use Rattle.mx_icache.specs.Residency.{line_of, set_of, pair_of, is_among_last, allocated, is_held, missed_since}
 
 -- the address or its pair
 abbrev pub near : ℕ → ℕ → Bool

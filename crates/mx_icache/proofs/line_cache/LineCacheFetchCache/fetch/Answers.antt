@@ -1,4 +1,4 @@
-use Rattle.std.proofs.Common.{◌≡◌, ◌<◌, ◌/◌, ◌%◌, length, get_or, rules, arith}
+use Rattle.std.proofs.Common.{◌<◌, ◌/◌, ◌%◌, length, get_or, arith}
 use Rattle.std.proofs.lemmas.Option.{slice_get-get_or}
 use Rattle.mx_icache.specs.LineSets.{SetHolds}
 use Rattle.mx_icache.proofs.SetSteps.{set_other}

@@ -1,4 +1,4 @@
-use Rattle.std.proofs.Common.{◌≡◌, ◌∷◌, ◌%◌, true, false, Bool, ap, sym, ◌∙◌, refl, ◌&&◌}
+use Rattle.std.proofs.Common.{◌≡◌, ◌∷◌, true, false, ap, sym, ◌∙◌, refl, ◌&&◌}
 use Rattle.mx_icache.specs.LineSets.{SetHolds}
 use Rattle.mx_icache.specs.Residency.{line_of, set_of, missed_since}
 use Rattle.mx_icache.proofs.SetSteps.{line_absent, set_hit, set_filled, set_allocated}
