@@ -1,7 +1,7 @@
 //! Laws of the handler.
 ghost use Rattle.std.specs.Prelude.{◌≡◌};
 ghost use Rattle.mx_turn.specs.Handler.{shipped};
-ghost use Rattle.mx_handler.specs.Returns.{HandlerReturns};
+ghost use Rattle.mx_handler.specs.Returns.{HandlerReturns, HandlerIsQuiet};
 
 use crate::HANDLER;
 
@@ -14,3 +14,9 @@ pub fn handler_is_shipped()
 pub fn handler_returns()
     ensures { HandlerReturns }
 {}
+
+/// In these turns no interrupt is taken, the machine does not halt, and no byte goes out.
+pub fn handler_is_quiet()
+    ensures { HandlerIsQuiet }
+{
+}

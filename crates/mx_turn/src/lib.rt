@@ -11,10 +11,9 @@ mod mem_stage;
 mod registers;
 mod shown;
 mod stages;
-mod turns;
-
 #[cfg(test)]
 mod tests;
+mod turns;
 
 pub use counts::Counts;
 pub use latches::{Latches, Stage};
