@@ -5,3 +5,5 @@ pub mod SourceValue
 pub mod SourceView
 pub mod Values
 pub mod Meaning
+pub mod Printed
+pub mod Operands

@@ -4,6 +4,7 @@
 mod name;
 mod source;
 mod statement;
+mod text;
 
 pub use mx_io::Memory;
 pub use mx_isa::Place;
