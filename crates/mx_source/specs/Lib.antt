@@ -7,3 +7,5 @@ pub mod Values
 pub mod Meaning
 pub mod Printed
 pub mod Operands
+pub mod Sections
+pub mod Groups

@@ -1,5 +1,5 @@
 -- The canonical text of a source.
-use Rattle.std.specs.Prelude.{ℕ, suc, ℤ, Bool, true, false, cond, not, ◌||◌, List, [], ◌∷◌, ◌++◌, Option, Some, None, codes, decimal, find, unwrap_or, option_map}
+use Rattle.std.specs.Prelude.{ℕ, suc, ℤ, Bool, true, false, cond, ◌||◌, List, [], ◌∷◌, ◌++◌, Option, Some, None, codes, decimal, find, unwrap_or, option_map}
 use Rattle.std.specs.Fmt.{signed_decimal}
 use Rattle.std.specs.List.{list_any, flat_map, join_with_byte}
 use Rattle.mx_isa.specs.declared.inst.Op.{Op}

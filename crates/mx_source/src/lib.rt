@@ -1,7 +1,10 @@
 //! Sources: what an assembler text reads as.
 #![tactic(auto)]
 
+mod group;
+mod grouping;
 mod name;
+mod print;
 mod source;
 mod statement;
 mod text;

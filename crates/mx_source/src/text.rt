@@ -2,11 +2,12 @@
 ghost use Rattle.std.specs.Prelude.{◌≡◌, ◌++◌, ◌∷◌, [], OnOk, codes};
 
 use itoa::Buffer;
-use mx_isa::Reg;
+use mx_isa::{Inst, Op, Reg};
 use std::alloc::{AllocError, Global};
 use std::marker::Model;
 
 /// What stands between the commas of a statement.
+#[derive(Clone, Copy)]
 pub(crate) enum Operand<'a> {
     Register(Reg),
     Immediate(i32),
@@ -34,7 +35,8 @@ impl Model for Text {
 impl Text {
     ghost use Rattle.std.specs.Prelude.{decimal};
     ghost use Rattle.std.specs.Fmt.{signed_decimal};
-    ghost use Rattle.mx_source.specs.Printed.{register, memory, spelled};
+    ghost use Rattle.mx_source.specs.Printed.{register, memory, spelled, compute_text, instruction_text};
+    ghost use Rattle.mx_source.specs.Statements.{IsPlain};
     ghost use Rattle.mx_source.specs.Operands.{operand_text};
 
     /// The empty text.
@@ -166,5 +168,73 @@ impl Text {
         self.three(mnemonic, a, b, c)?;
         self.put(b",")?;
         self.operand(d)
+    }
+
+    /// Appends a compute instruction.
+    fn compute(&mut self, op: Op, a: Reg, b: Reg, dest: Reg) -> Result<(), AllocError>
+        ensures { OnOk result (self.new ≡ self.old ++ compute_text op a b dest) }
+    {
+        let (first, second, last) = (
+            &Operand::Register(a),
+            &Operand::Register(b),
+            &Operand::Register(dest),
+        );
+        match op {
+            Op::Add => self.three(b"add", first, second, last),
+            Op::Sub => self.three(b"sub", first, second, last),
+            Op::Subnc => self.three(b"subnc", first, second, last),
+            Op::And => self.three(b"and", first, second, last),
+            Op::Or => self.three(b"or", first, second, last),
+            Op::Xor => self.three(b"xor", first, second, last),
+            Op::Bic => self.three(b"bic", first, second, last),
+            Op::Rotlb => self.three(b"rotlb", first, second, last),
+            Op::Mstep => self.three(b"mstep", first, second, last),
+            Op::Dstep => self.three(b"dstep", first, second, last),
+            Op::Not => self.two(b"not", first, last),
+            Op::Mstart => self.two(b"mstart", second, last),
+            Op::Asr(n) => self.three(b"asr", first, &Operand::Count(n), last),
+            Op::Sh(n) => self.four(b"sh", first, second, &Operand::Count(n), last),
+        }
+    }
+
+    /// Appends an instruction that is a statement as it is.
+    pub(crate) fn instruction(&mut self, inst: &Inst) -> Result<(), AllocError>
+        requires { IsPlain inst.now }
+        ensures { OnOk result (self.new ≡ self.old ++ instruction_text inst.now) }
+    {
+        match inst {
+            Inst::Load { base, dest, offset } => self.two(
+                b"ld",
+                &Operand::Memory {
+                    offset: *offset,
+                    base: *base,
+                },
+                &Operand::Register(*dest),
+            ),
+            Inst::Store {
+                base,
+                value,
+                offset,
+            } => self.two(
+                b"st",
+                &Operand::Memory {
+                    offset: *offset,
+                    base: *base,
+                },
+                &Operand::Register(*value),
+            ),
+            Inst::Compute { a, dest, b, op } => self.compute(*op, *a, *b, *dest),
+            Inst::Addi { a, dest, imm } => self.three(
+                b"addi",
+                &Operand::Register(*a),
+                &Operand::Immediate(*imm),
+                &Operand::Register(*dest),
+            ),
+            Inst::MoveFrom { dest, .. } => {
+                self.two(b"movfrs", &Operand::Md, &Operand::Register(*dest))
+            }
+            Inst::MoveTo { a, .. } => self.two(b"movtos", &Operand::Register(*a), &Operand::Md),
+            _ => unreachable!(),
+        }
     }
 }
