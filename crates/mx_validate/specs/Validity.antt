@@ -1,5 +1,5 @@
 -- When a plan of a block is valid, as properties of places and pairs of places in the finished list.
-use Rattle.std.specs.Prelude.{◌≡◌, ℕ, ◌+◌, ◌-◌, ◌<◌, ◌≤◌, suc, Bool, true, false, cond, ltb, List, length}
+use Rattle.std.specs.Prelude.{◌≡◌, ℕ, ◌+◌, ◌-◌, ◌<◌, ◌≤◌, suc, Bool, false, cond, ltb, List, length}
 use Rattle.mx_isa.specs.declared.inst.Inst.{Inst}
 use Rattle.mx_isa.specs.Views.{is_load}
 use Rattle.mx_depend.specs.Independence.{Independent, feeds}

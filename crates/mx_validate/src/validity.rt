@@ -103,7 +103,7 @@ fn is_op(item: Item, k: usize) -> bool
 fn has_end(block: &Block, plan: &Plan) -> bool
     ensures { IsTrue result
         ↔ ((length (items_of plan.now) ≡ plan.now.place + end_count block.now.end)
-            × (falls block.now.end ≡ false → StandsAt (items_of plan.now) plan.now.place (length (insts_of block.now) - 1))) }
+        × (falls block.now.end ≡ false → StandsAt (items_of plan.now) plan.now.place (length (insts_of block.now) - 1))) }
 {
     let place = plan.place as usize;
     if plan.items.len() != place + end_count(block.end) {
@@ -136,7 +136,7 @@ fn may_stand_before_rest(insts: &[Inst], items: &[Item], p: usize, input: bool) 
     requires known { (p k : ℕ) → StandsAt items.now p k → k < length insts.now }
     ensures { IsTrue result
         ↔ ((q k j : ℕ) → StandsAt items.now p k → StandsAt items.now q j → p < q → j < k
-            → Independent (inst_at insts.now j) (inst_at insts.now k) input) }
+        → Independent (inst_at insts.now j) (inst_at insts.now k) input) }
 {
     for q in p + 1..items.len() {
         if !may_stand_before(insts, items[p], items[q], input) {
@@ -152,7 +152,7 @@ fn may_stand_before(insts: &[Inst], first: Item, second: Item, input: bool) -> b
     requires second { (k : ℕ) → second ≡ Item.Op k → k < length insts.now }
     ensures { IsTrue result
         ↔ ((k j : ℕ) → first ≡ Item.Op k → second ≡ Item.Op j → j < k
-            → Independent (inst_at insts.now j) (inst_at insts.now k) input) }
+        → Independent (inst_at insts.now j) (inst_at insts.now k) input) }
 {
     match (first, second) {
         (Item::Op(k), Item::Op(j)) => {

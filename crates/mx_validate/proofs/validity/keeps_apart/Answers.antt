@@ -1,4 +1,4 @@
-use Rattle.std.proofs.Common.{◌≡◌, ℕ, suc, ◌+◌, ◌-◌, ◌<◌, ◌≤◌, true, List, length, slice_index_or, refl, sym, ◌∙◌, subst, ⊎_elim, arith}
+use Rattle.std.proofs.Common.{◌≡◌, ℕ, suc, ◌-◌, ◌<◌, ◌≤◌, true, List, length, slice_index_or, refl, sym, ◌∙◌, subst, ⊎_elim, arith}
 use Rattle.std.proofs.lemmas.Bool.{false≢true, cases_lt}
 use Rattle.mx_isa.specs.declared.inst.Inst.{Inst}
 use Rattle.mx_depend.specs.Independence.{feeds}
@@ -21,21 +21,23 @@ pub returns-then-item_feeds : goal.returns-then-item_feeds
 returns-then-item_feeds c = (
   λ t. absurd (false≢true t),
   λ h. let f = c.item_feeds.ensures.feeding c.if-item_feeds.true in
-    absurd (fed c.args.insts.now c.args.items.now c.loop-p.p f.0 f.1 _ c.loop-p.auto.p c.loop-p-test.true h f.2 f.3 f.4))
+      absurd (fed c.args.insts.now c.args.items.now c.loop-p.p f.0 f.1 _ c.loop-p.auto.p c.loop-p-test.true h f.2 f.3 f.4),
+)
 
 pub loop-p-preserved : goal.loop-p-preserved
 loop-p-preserved c = λ r k j l s t. ⊎_elim
     (λ below. c.loop-p.invariant r k j below s t)
     (λ above.
-      let same : r ≡ c.loop-p.p - 1 = omega arith in
-      let next : suc r ≡ c.loop-p.p = omega arith in
-      let items = c.args.items.now in
-      c.item_feeds.ensures.apart c.if-item_feeds.false k j
-        (at_stands items _ k _ (subst (λ (n : ℕ). StandsAt items n k) same s))
-        (at_stands items _ j _ (subst (λ (n : ℕ). StandsAt items n j) next t)))
+    let same : r ≡ c.loop-p.p - 1 = omega arith in
+    let next : suc r ≡ c.loop-p.p = omega arith in
+    let items = c.args.items.now in
+    c.item_feeds.ensures.apart c.if-item_feeds.false k j
+    (at_stands items _ k _ (subst (λ (n : ℕ). StandsAt items n k) same s))
+    (at_stands items _ j _ (subst (λ (n : ℕ). StandsAt items n j) next t)))
     (cases_lt (suc r) c.loop-p.p)
 
 pub returns : goal.returns
 returns c = (
   λ t p k j s u. c.loop-p.invariant p k j (let within = stands_within c.args.items.now (suc p) j u in omega arith) s u,
-  λ h. refl)
+  λ h. refl,
+)
