@@ -1,2 +1,4 @@
+pub mod Codes
+pub mod Decoding
 pub mod Delay
 pub mod Clean

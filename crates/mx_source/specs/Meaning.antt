@@ -2,6 +2,7 @@
 use Rattle.std.specs.Prelude.{◌≡◌, ℕ, zero, suc, ◌-◌, ◌<◌, Bool, true, false, cond, eqb, leb, ◌&&◌, ◌||◌, List, [], ◌++◌, slice_get, slice_index_or, Option, Some, None, is_some, option_to_list}
 use Rattle.mx_isa.specs.declared.inst.Op.{Op}
 use Rattle.mx_isa.specs.declared.inst.Op.TheVariants.{Add}
+use Rattle.mx_isa.specs.declared.inst.Cond.{Cond}
 use Rattle.mx_isa.specs.declared.inst.Inst.{Inst}
 use Rattle.mx_isa.specs.declared.inst.Inst.TheVariants.{Load, Store, Compute}
 use Rattle.mx_isa.specs.declared.place.Place.{Place}
@@ -47,13 +48,17 @@ pub record State : Type 0 where
   pub taken : ℕ
   pub mark : Mark
 
--- at the start all is 0 but the data words of the source, which stand from the place's first word on
+-- these words from the first word of user data on, and 0 after them
+abbrev pub start_words : Place → List Value → Values
+start_words place words a = cond (leb place.user_data a) (slice_index_or words (a - place.user_data) (Int 0)) (Int 0)
+
+-- at the start all is 0 but the data words of the source
 abbrev pub start : SourceValue → Place → State
 start source place = record {
   index = 0;
   regs = λ n. Int 0;
   md = 0;
-  mem = λ a. cond (leb place.user_data a) (slice_index_or source.user_data (a - place.user_data) (Int 0)) (Int 0);
+  mem = start_words place source.user_data;
   taken = 0;
   mark = Going;
 }
@@ -136,6 +141,10 @@ abbrev pub unless_stuck : Option Why → Step → State → Step
 unless_stuck None step s = step
 unless_stuck (Some why) step s = stuck why s
 
+-- an instruction
+abbrev pub perform : Program → Inst → State → Step
+perform p i s = unless_stuck (why_plain p i s.regs) (done p i s) s
+
 -- to a place, with a value put into a register
 abbrev pub goes : ℕ → ℕ → Value → State → Step
 goes target dest v s = silent (record s { index = target; regs = write_value s.regs dest v })
@@ -145,14 +154,18 @@ abbrev pub jumps : Value → ℕ → State → Step
 jumps (Int word) dest s = stuck JumpNotCode s
 jumps (Code target) dest s = goes target dest (Code (suc s.index)) s
 
+-- to a place, where the condition holds
+abbrev pub branches : ℕ → ℕ → Cond → ℕ → State → Step
+branches a b condition target s =
+    cond (any_code s.regs (a, b)) (stuck CodeOperand s)
+    (goes (cond (condition_holds condition (word_in (value_in s.regs a)) (word_in (value_in s.regs b))) target (suc s.index)) 0 (Int 0) s)
+
 -- the statement at the index
 abbrev pub execute : Program → Option Statement → State → Step
 execute p None s = stuck PastEnd s
-execute p (Some (Plain i)) s = unless_stuck (why_plain p i s.regs) (done p i s) s
+execute p (Some (Plain i)) s = perform p i s
 execute p (Some (LaCode dest target)) s = goes (suc s.index) dest (Code target) s
-execute p (Some (Branch a b condition target)) s =
-    cond (any_code s.regs (a, b)) (stuck CodeOperand s)
-    (goes (cond (condition_holds condition (word_in (value_in s.regs a)) (word_in (value_in s.regs b))) target (suc s.index)) 0 (Int 0) s)
+execute p (Some (Branch a b condition target)) s = branches a b condition target s
 execute p (Some (Call dest target)) s = goes target dest (Code (suc s.index)) s
 execute p (Some (CallReg a dest)) s = jumps (value_in s.regs a) dest s
 execute p (Some (JumpReg a)) s = jumps (value_in s.regs a) 0 s
