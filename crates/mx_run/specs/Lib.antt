@@ -1,0 +1,4 @@
+pub mod Exit
+pub mod Report
+pub mod RunCommand
+pub mod Words
