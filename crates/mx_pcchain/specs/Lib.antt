@@ -1,0 +1,3 @@
+pub mod Fetch
+pub mod Chain
+pub mod Modes
