@@ -1,0 +1,14 @@
+use Rattle.std.specs.Prelude.{ℕ}
+use Rattle.mx_io.specs.declared.real.RealShelf.{RealShelf}
+
+abbrev pub reads_of : {R : Type 0} → RealShelf R → ℕ
+reads_of shelf = shelf.reads
+
+abbrev pub taken_of : {R : Type 0} → RealShelf R → ℕ
+taken_of shelf = shelf.taken
+
+abbrev pub read_faults_of : {R : Type 0} → RealShelf R → ℕ
+read_faults_of shelf = shelf.read_faults
+
+abbrev pub write_faults_of : {R : Type 0} → RealShelf R → ℕ
+write_faults_of shelf = shelf.write_faults
