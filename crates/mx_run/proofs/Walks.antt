@@ -8,7 +8,7 @@ use Rattle.std.proofs.lemmas.Bool.Decides.{nat_tests}
 use Rattle.std.proofs.lemmas.Str.{IsUtf8-had, is_utf8-from_IsUtf8}
 use Rattle.clap.specs.Words.{Text, Row, Rule, first_of, Kinds, fault_of, matches_of}
 use Rattle.clap.specs.Simple.{built, Shape, filled, with_index}
-use Rattle.clap.specs.Walk.{is_empty, nothing_held, idle, Held, Walk, walked, settled, finished, with_default, with_values, without, has_row, used, reading_by}
+use Rattle.clap.specs.Walk.{is_empty, nothing_held, idle, Held, Walk, walked, settled, finished, with_values, without, has_row, used, reading_by}
 use Rattle.clap.specs.Faults.{default_fault, turn_fault, walk_fault, settle_fault, defaults_fault, check_fault, flags_fault}
 use Rattle.clap.specs.Kinds.{or_else}
 use Rattle.clap.specs.Lexer.{long_of, short_of, name_and_value}
@@ -18,9 +18,7 @@ use Rattle.clap.specs.declared.parser.matches.ValueSource.TheVariants.{CommandLi
 use Rattle.clap.specs.declared.error.kind.ErrorKind.TheVariants as kind
 use Rattle.clap.proofs.FaultLemmas.{leaf_fault}
 use Rattle.mx_run.specs.Words.{is_option_word, names_of, one_name}
-use Rattle.mx_run.specs.RunCommand.{run_app, source_rule, IsParseOf}
-use Rattle.mx_run.specs.declared.words.Parsed.{Parsed}
-use Rattle.mx_run.specs.declared.words.Parsed.TheVariants.{Names, Refused}
+use Rattle.mx_run.specs.RunCommand.{run_app, source_rule}
 
 -- The walk of the parser over the words of `run`: at each word it has settled the rows of the
 -- words before, and may hold a last one.

@@ -1,3 +1,5 @@
+pub mod Answer
+pub mod Causes
 pub mod Exit
 pub mod Report
 pub mod RunCommand

@@ -1,4 +1,4 @@
-use Rattle.std.specs.Prelude.{ℕ, ◌+◌, ◌-◌, ◌/◌, ◌%◌, ◌^◌, ◌*◌, List, [], ◌∷◌, ◌++◌, length, codes, slice_index, if◌then◌else◌, nat_lt, zero, suc}
+use Rattle.std.specs.Prelude.{ℕ, ◌+◌, ◌/◌, ◌%◌, ◌^◌, List, [], ◌∷◌, ◌++◌, length, codes, slice_index, if◌then◌else◌, nat_lt, zero, suc}
 use Rattle.std.specs.Fmt.{decimal}
 use Rattle.mx_asm.specs.PlainStep.{State}
 

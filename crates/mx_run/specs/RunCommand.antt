@@ -1,4 +1,4 @@
-use Rattle.std.specs.Prelude.{◌≡◌, ◌≢◌, codes, Some, true, List, ℕ, [], Option, option_map}
+use Rattle.std.specs.Prelude.{◌≡◌, ◌≢◌, codes, Some, true, List, ℕ, [], option_map}
 use Rattle.clap.specs.Words.{App, Rule, new_app, new_rule, with_rule, fault_of, matches_of, first_of}
 use Rattle.clap.specs.Simple.{on_top}
 use Rattle.clap.specs.declared.builder.ArgAction.TheVariants.{Set}

@@ -1,4 +1,4 @@
-use Rattle.std.proofs.Common.{◌≡◌, option_map, map, string_bytes, subst, List, ℕ}
+use Rattle.std.proofs.Common.{option_map, map, string_bytes, subst}
 use Rattle.mx_run.specs.RunCommand.{IsParseOf}
 use Rattle.mx_run.specs.declared.words.Parsed.{Parsed}
 use Rattle.mx_run.specs.declared.words.Parsed.TheVariants.{Names, Refused}
