@@ -1,4 +1,5 @@
-use Rattle.std.specs.Prelude.{◌≡◌, ℕ, ◌+◌, ◌-◌, ◌*◌, ◌/◌, ◌%◌, ◌≤◌, ◌<◌, ◌^◌, ◌==◌, ◌&&◌, ℤ, pos, negsuc, Bool, true, false, suc, nat_lt, nat_le, if◌then◌else◌, Option, Some, None}
+-- The instruction that a word spells, by its fields.
+use Rattle.std.specs.Prelude.{ℕ, ◌-◌, ◌/◌, ◌%◌, ◌^◌, ◌==◌, ◌&&◌, ℤ, pos, negsuc, suc, nat_lt, nat_le, if◌then◌else◌, Option, Some, None}
 use Rattle.mx_isa.specs.declared.inst.Cond.{Cond}
 use Rattle.mx_isa.specs.declared.inst.Cond.TheVariants.{Eq, Ne, Lt, Ge, Lo, Hs}
 use Rattle.mx_isa.specs.declared.inst.Special.{Special}
@@ -8,7 +9,11 @@ use Rattle.mx_isa.specs.declared.inst.Op.TheVariants.{Add, Sub, Subnc, And, Or, 
 use Rattle.mx_isa.specs.declared.inst.Inst.{Inst}
 use Rattle.mx_isa.specs.declared.inst.Inst.TheVariants.{Load, Store, Branch, Compute, Addi, MoveFrom, MoveTo, Jspci, Jpc, Jpcrs, Halt}
 
--- the number that the low k bits stand for
+-- `width` bits of a word from bit `low` on
+abbrev pub field : ℕ → ℕ → ℕ → ℕ
+field low width word = word / 2 ^ low % 2 ^ width
+
+-- the signed number that k bits stand for
 abbrev pub signed_of : ℕ → ℕ → ℤ
 signed_of k n = if nat_lt n (2 ^ (k - 1)) then pos n else negsuc (2 ^ k - suc n)
 
@@ -27,6 +32,7 @@ immediate_row op first second rest =
     (if op == 2 then Some Jpc else (if op == 3 then Some Jpcrs else (if op == 4 then Some Halt else None)))
     else None))
 
+-- the condition of an opcode
 abbrev pub cond_row : ℕ → Option Cond
 cond_row op =
     if op == 0 then Some Eq
@@ -36,6 +42,7 @@ cond_row op =
     else (if op == 4 then Some Lo
     else (if op == 5 then Some Hs else None)))))
 
+-- the special word of a function
 abbrev pub special_row : ℕ → Option Special
 special_row n =
     if n == 0 then Some Md
@@ -67,7 +74,7 @@ shift_row function second =
 
 abbrev pub branch_with : ℕ → ℕ → ℕ → Option Cond → Option Inst
 branch_with first second rest None = None
-branch_with first second rest (Some cond) = Some (Branch first second cond (nat_le (2 ^ 16) rest) (signed_of 16 (rest % 2 ^ 16)))
+branch_with first second rest (Some condition) = Some (Branch first second condition (nat_le (2 ^ 16) rest) (signed_of 16 (rest % 2 ^ 16)))
 
 -- rows of type 0
 abbrev pub branch_row : ℕ → ℕ → ℕ → ℕ → Option Inst
@@ -94,9 +101,14 @@ compute_row op first second rest =
     else (if op == 2 then from_with first second rest (special_row (rest % 2 ^ 12))
     else (if op == 3 then to_with first second (special_row rest) else None)))
 
+-- the instruction of the fields, if a row has them
 abbrev pub row_of : ℕ → ℕ → ℕ → ℕ → ℕ → Option Inst
 row_of type op first second rest =
     if type == 0 then branch_row op first second rest
     else (if type == 1 then compute_row op first second rest
     else (if type == 2 then memory_row op first second rest
-    else immediate_row op first second rest))
+    else (if type == 3 then immediate_row op first second rest else None)))
+
+-- the instruction that a word spells, if it spells one; nothing from 2 ^ 32 on
+abbrev pub inst_of : ℕ → Option Inst
+inst_of word = row_of (word / 2 ^ 30) (field 27 3 word) (field 22 5 word) (field 17 5 word) (field 0 17 word)

@@ -3,3 +3,5 @@ pub mod Labels
 pub mod Statements
 pub mod SourceValue
 pub mod SourceView
+pub mod Values
+pub mod Meaning

@@ -1,0 +1,2 @@
+pub mod StartingWords
+pub mod BoardBus

@@ -1,0 +1,156 @@
+//! The data words, the console and the input.
+ghost use Rattle.std.specs.Prelude.{◌≡◌, ◌<◌, ◌≤◌, length, IfOk, option_map, slice_index, cond, suc};
+ghost use Rattle.std.specs.Option.{option_copied};
+ghost use Rattle.mx_board.specs.Contents.{bytes_in};
+ghost use Rattle.mx_board.specs.Data.{board, words_of, words_at_start};
+ghost use Rattle.mx_isa.specs.UserBus.{from_input};
+
+use mx_io::Memory;
+use std::alloc::{AllocError, Global};
+use std::marker::Model;
+
+/// Data words 0 to 65535, and the input, of which some bytes are taken. Words 0 to 254 are the
+/// system's, word 255 is the console and stays 0, and the others are user data.
+#[derive(Drop)]
+pub struct Board {
+    words: Vec<u32>,
+    input: Option<Vec<u8>>,
+    taken: u32,
+}
+
+impl Model for Board {
+    ghost use Rattle.std.specs.Prelude.{option_map};
+    ghost use Rattle.mx_board.specs.Contents.{Contents, IsBoard};
+
+    ghost Value = { Contents };
+
+    ghost view = { λ b. record { words = b.words.items; input = option_map (λ v. v.items) b.input; taken = b.taken } };
+
+    ghost invariant = { λ b. IsBoard (record { words = b.words.items; input = option_map (λ v. v.items) b.input; taken = b.taken }) };
+}
+
+// The words from 256 on, and 0 elsewhere.
+fn starting_words(alloc: Global, user_data: &[u32]) -> Result<Vec<u32>, AllocError>
+    requires { length user_data.now ≤ 65280 }
+    ensures count { IfOk result (λ v. length v.items ≡ 65536) }
+    ensures console { IfOk result (λ v. slice_index v.items 255 ≡ 0) }
+    ensures words { IfOk result (λ v. slice_index v.items ≡ words_at_start user_data.now) }
+{
+    let mut words = Vec::new(alloc);
+    words.resize(256, 0)?;
+    words.extend_from_slice(user_data)?;
+    words.resize(65_536, 0)?;
+    Ok(words)
+}
+
+// The input, in a buffer of its own.
+fn kept_input(alloc: Global, input: Option<&[u8]>) -> Result<Option<Vec<u8>>, AllocError>
+    ensures { IfOk result (λ kept. option_map (λ v. v.items) kept ≡ option_copied input.entry) }
+{
+    match input {
+        Some(bytes) => Ok(Some(Vec::from_slice(alloc, bytes)?)),
+        None => Ok(None),
+    }
+}
+
+impl Board {
+    /// A board with these words from 256 on, and 0 elsewhere, and with this input, of which no byte is
+    /// taken. At most 65,280 words, and 1,048,576 bytes of input.
+    pub fn new(alloc: Global, user_data: &[u32], input: Option<&[u8]>) -> Result<Board, Memory>
+        requires words { length user_data.now ≤ 65280 }
+        requires bytes { bytes_in (option_copied input) ≤ 1048576 }
+        ensures words { IfOk result (λ b. words_of b ≡ words_at_start user_data.now) }
+        ensures input { IfOk result (λ b. b.input ≡ option_copied input.entry) }
+        ensures taken { IfOk result (λ b. b.taken ≡ 0) }
+    {
+        let words = starting_words(alloc, user_data).map_err(|_| Memory)?;
+        let input = kept_input(alloc, input).map_err(|_| Memory)?;
+        Ok(Board {
+            words,
+            input,
+            taken: 0,
+        })
+    }
+
+    /// What a load finds. A user-mode load from 254 takes a byte of the input, if there is one.
+    pub fn load(&mut self, address: u32, user: bool) -> u32
+        ensures word { result ≡ ((board user self.old.input).load (words_of self.old) self.old.taken address).word }
+        ensures state { self.new ≡ record self.old { taken = cond ((board user self.old.input).load (words_of self.old) self.old.taken address).takes (suc self.old.taken) self.old.taken } }
+    {
+        if address >= 256 || !user {
+            return self.found(address);
+        }
+        if address == 254 {
+            return self.take();
+        }
+        0
+    }
+
+    // A word of the memory; the console reads 0, and so does what is beyond the memory.
+    fn found(&self, address: u32) -> u32
+        ensures word { result ≡ words_of self.now address }
+        ensures console { address ≡ 255 → result ≡ 0 }
+        ensures beyond { 65536 ≤ address → result ≡ 0 }
+    {
+        if address < 65536 {
+            self.words[address as usize]
+        } else {
+            0
+        }
+    }
+
+    // The next byte of the input.
+    fn take(&mut self) -> u32
+        ensures word { result ≡ (from_input self.old.input self.old.taken).word }
+        ensures state { self.new ≡ record self.old { taken = cond (from_input self.old.input self.old.taken).takes (suc self.old.taken) self.old.taken } }
+    {
+        match &self.input {
+            Some(bytes) => {
+                let at = self.taken as usize;
+                if at < bytes.len() {
+                    let byte = bytes[at];
+                    self.taken += 1;
+                    u32::from(byte)
+                } else {
+                    u32::MAX
+                }
+            }
+            None => 0,
+        }
+    }
+
+    /// Takes a store, and answers the byte that went to the console.
+    pub fn store(&mut self, address: u32, word: u32, user: bool) -> Option<u8>
+        ensures words { words_of self.new ≡ (board user self.old.input).store (words_of self.old) address word }
+        ensures input { self.new.input ≡ self.old.input }
+        ensures taken { self.new.taken ≡ self.old.taken }
+        ensures byte { result ≡ (board user self.old.input).byte address word }
+    {
+        if address == 255 {
+            return Some((word % 256) as u8);
+        }
+        if address < 65536 {
+            if address >= 256 {
+                self.words[address as usize] = word;
+            } else if !user {
+                self.words[address as usize] = word;
+            }
+        }
+        None
+    }
+
+    /// The word at an address below 65536, as it stands.
+    pub fn word(&self, address: u32) -> u32
+        requires { address < 65536 }
+        ensures { result ≡ words_of self.now address }
+    {
+        self.words[address as usize]
+    }
+
+    /// The number of input bytes that were taken.
+    pub fn inputs(&self) -> u32
+        ensures { result ≡ self.now.taken }
+    {
+        self.taken
+    }
+}

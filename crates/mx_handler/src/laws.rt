@@ -1,0 +1,18 @@
+//! Laws of the handler.
+ghost use Rattle.std.specs.Prelude.{◌≡◌};
+ghost use Rattle.mx_turn.specs.Handler.{shipped};
+ghost use Rattle.mx_handler.specs.Returns.{HandlerReturns};
+
+use crate::HANDLER;
+
+/// The words are those with which a machine begins that is given no other handler.
+pub fn handler_is_shipped()
+    ensures { HANDLER ≡ shipped }
+{
+}
+
+/// After 23 turns of the handler and three more, what an interrupt saved is back.
+pub fn handler_returns()
+    ensures { HandlerReturns }
+{
+}

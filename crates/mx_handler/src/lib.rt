@@ -1,0 +1,8 @@
+//! The shipped handler, which returns to the three fetches that an interrupt killed.
+#![tactic(auto)]
+
+mod handler;
+mod laws;
+
+pub use handler::{HANDLER, handler_source};
+pub use laws::{handler_is_shipped, handler_returns};

@@ -1,0 +1,64 @@
+-- A run within a budget of cycles, and the bound on a run of compiled code.
+use Rattle.std.specs.Prelude.{ℕ, zero, suc, ◌+◌, ◌*◌, Bool, false, eqb, leb, not, ◌==◌, ◌&&◌, List, [], ◌∷◌, ◌++◌, Option, Some, None, option_to_list}
+use Rattle.std.specs.List.{list_any}
+use Rattle.mx_pcchain.specs.Fetch.{Fetch}
+use Rattle.mx_icache.specs.Residency.{resident}
+use Rattle.mx_turn.specs.Counted.{Counted, one}
+use Rattle.mx_turn.specs.Cycle.{Machine, cycled, answer, start}
+use Rattle.mx_turn.specs.Program.{Program, state_after}
+
+-- a request comes in this cycle
+abbrev pub is_requested : List ℕ → ℕ → Bool
+is_requested requests cycle = list_any (λ r. r == cycle) requests
+
+-- the request bits of the first n cycles
+abbrev pub bits : List ℕ → ℕ → List Bool
+bits requests zero = []
+bits requests (suc n) = bits requests n ++ is_requested requests n ∷ []
+
+-- the bytes that a machine sends over these request bits
+abbrev pub bytes_on : Program → Machine → List Bool → List ℕ
+bytes_on p m [] = []
+bytes_on p m (request ∷ requests) =
+    option_to_list (answer p.code p.input m request).byte ++ bytes_on p (cycled resident p.code p.input m request) requests
+
+-- the console after these request bits
+abbrev pub console_after : Program → List Bool → List ℕ
+console_after p h = bytes_on p (start p.words) h
+
+-- a fetch of user code, squashed or not, which no interrupt killed
+abbrev pub is_users : Option Fetch → Bool
+is_users None = false
+is_users (Some f) = leb 4096 f.address
+
+-- the coming cycle acts, and a fetch of user code then reaches MEM
+abbrev pub passes : Machine → Bool
+passes m = not m.halted && (eqb m.stall 0 && is_users m.alu)
+
+-- how many fetches of user code reach MEM over these request bits
+abbrev pub passed_on : Program → Machine → List Bool → ℕ
+passed_on p m [] = 0
+passed_on p m (request ∷ requests) = one (passes m) + passed_on p (cycled resident p.code p.input m request) requests
+
+pub record Run : Type 0 where
+  pub halted : Bool
+  pub counts : Counted
+  pub console : List ℕ
+  pub passed : ℕ
+  pub last : Machine
+
+-- what a program does with requests at these cycles, until it halts or the budget of cycles is spent; a machine that has halted stays as it is
+abbrev pub run_of : Program → List ℕ → ℕ → Run
+run_of p requests budget =
+    let h = bits requests budget in
+    record {
+      halted = (state_after p h).halted;
+      counts = (state_after p h).counts;
+      console = console_after p h;
+      passed = passed_on p (start p.words) h;
+      last = state_after p h;
+    }
+
+-- cycles within which compiled code of n instructions halts under k requests
+abbrev pub bound : ℕ → ℕ → ℕ
+bound n k = 9 * n + 96 * k + 16
