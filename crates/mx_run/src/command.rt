@@ -1,8 +1,9 @@
 //! The top call.
-ghost use Rattle.std.specs.Prelude.{◌≡◌, ◌≢◌, ◌⊎◌, true, Some, None, map, string_bytes, List, ℕ};
+ghost use Rattle.std.specs.Prelude.{◌≡◌, ◌≢◌, ◌≤◌, ◌⊎◌, length, true, Some, None, map, string_bytes, List, ℕ};
 ghost use Rattle.mx_io.specs.Counts.{Rose, one_more};
+ghost use Rattle.mx_asm.specs.Plain.{plain_reading};
 ghost use Rattle.mx_run.specs.Words.{asked};
-ghost use Rattle.mx_run.specs.Answer.{answer_of, usage, source_failed, Answers, PutsPrefix};
+ghost use Rattle.mx_run.specs.Answer.{answer_of, usage, source_failed, source_limit, run_answer, Answers, PutsPrefix};
 ghost use Rattle.mx_run.specs.Causes.{FailsToRead, FindsTooLong};
 
 use crate::answer::reply_to;
@@ -29,6 +30,12 @@ pub fn command<S: Shelf, W: Sink>(
     ensures sound { S.tells shelf.old ≡ true
         → result ≢ Status.ReadFault → result ≢ Status.WriteFault → result ≢ Status.Memory
         → Answers (answer_of (asked (map string_bytes words.now)) (S.held shelf.old)) result (W.written out.old) (W.written out.new) }
+
+    // Where the shelf tells nothing, such a status is the answer for bytes within the limit.
+    ensures some_text { result ≢ Status.ReadFault → result ≢ Status.WriteFault → result ≢ Status.Memory
+        → (name : List ℕ) → asked (map string_bytes words.now) ≡ Some name
+        → (bytes : List ℕ) × (length bytes ≤ source_limit)
+        × Answers (run_answer (plain_reading bytes)) result (W.written out.old) (W.written out.new) }
 
     // Usage comes exactly where the words ask for nothing, whatever the shelf is.
     ensures usage { result ≡ Status.Usage → (asked (map string_bytes words.now) ≡ None) × Answers usage result (W.written out.old) (W.written out.new) }
@@ -64,3 +71,6 @@ pub fn command<S: Shelf, W: Sink>(
         Err(_) => Status::WriteFault,
     }
 }
+
+#[cfg(test)]
+mod tests;

@@ -1,5 +1,5 @@
 //! A machine that runs encoded words one by one.
-ghost use Rattle.std.specs.Prelude.{◌≡◌, All, not, IfOk};
+ghost use Rattle.std.specs.Prelude.{◌≡◌, All, not, IfOk, Some};
 ghost use Rattle.mx_isa.specs.Fields.{InstFits};
 ghost use Rattle.mx_asm.specs.Plain.{is_halt};
 ghost use Rattle.mx_asm.specs.PlainStep.{State, with_register, step, meaning_of};
@@ -26,8 +26,7 @@ pub fn run_plain(alloc: Global, insts: &[Inst]) -> Result<Machine, Memory>
         console: Vec::new(alloc),
     };
     for inst in insts {
-        let word = encode(inst);
-        let Some(decoded) = decode(word) else {
+        let Some(decoded) = coded_and_decoded(inst) else {
             return Ok(machine);
         };
         if !execute(&mut machine, &decoded)? {
@@ -35,6 +34,14 @@ pub fn run_plain(alloc: Global, insts: &[Inst]) -> Result<Machine, Memory>
         }
     }
     Ok(machine)
+}
+
+/// The instruction that the word of an instruction spells: the same.
+fn coded_and_decoded(inst: &Inst) -> Option<Inst>
+    requires { InstFits inst.now }
+    ensures { result ≡ Some inst.now }
+{
+    decode(encode(inst))
 }
 
 /// Executes one instruction, and says whether the run goes on.
