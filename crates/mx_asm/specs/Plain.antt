@@ -100,6 +100,7 @@ first_unbuilt n (line ∷ rest) =
 abbrev pub instructions_of : List (List ℕ) → List Inst
 instructions_of lines = filter_map line_instruction lines
 
+-- the reading, by the first line that is not built and the instructions of the lines that are
 abbrev pub reading_with : Option ℕ → List Inst → Result (List Inst) ℕ
 reading_with (Some line) insts = Err line
 reading_with None insts = if list_any is_halt insts then Ok insts else Err 0

@@ -32,12 +32,15 @@ abbrev pub reading_of : Option (List ℕ) → Reading
 reading_of None = failed
 reading_of (Some bytes) = if nat_lt source_limit (length bytes) then too_long else given bytes
 
+-- the words ask for nothing that is built
 abbrev pub usage : Answer
 usage = record { status = Usage; output = text_line (codes "usage: mx_run COMMAND WORDS") }
 
+-- the source is not there, or the shelf failed
 abbrev pub source_failed : Answer
 source_failed = record { status = ReadFault; output = text_line (codes "read fault: source failed") }
 
+-- the source has more bytes than its limit
 abbrev pub source_too_long : Answer
 source_too_long = record { status = ReadFault; output = text_line (codes "read fault: source too long") }
 
@@ -52,6 +55,7 @@ source_answer (given bytes) = run_answer (plain_reading bytes)
 source_answer failed = source_failed
 source_answer too_long = source_too_long
 
+-- the answer to what the words ask for, by what reading a name gives
 abbrev pub asked_answer : Option (List ℕ) → (List ℕ → Reading) → Answer
 asked_answer None reading = usage
 asked_answer (Some name) reading = source_answer (reading name)

@@ -2,10 +2,11 @@ use Rattle.std.specs.Prelude.{ℕ, ◌+◌, ◌/◌, ◌%◌, ◌^◌, List, [],
 use Rattle.std.specs.Fmt.{decimal}
 use Rattle.mx_asm.specs.PlainStep.{State}
 
+-- the byte of a hexadecimal digit: `0` to `9`, `a` to `f`
 abbrev pub hex_digit : ℕ → ℕ
 hex_digit d = if nat_lt d 10 then 48 + d else 87 + d
 
--- eight digits in lower case
+-- a word as eight hexadecimal digits
 abbrev pub word_text : ℕ → List ℕ
 word_text n =
     hex_digit (n / 2 ^ 28) ∷ hex_digit (n / 2 ^ 24 % 16) ∷ hex_digit (n / 2 ^ 20 % 16) ∷ hex_digit (n / 2 ^ 16 % 16)
@@ -20,6 +21,7 @@ unfoldable pub register_lines : ℕ → List ℕ → ℕ → List ℕ
 register_lines zero registers i = []
 register_lines (suc count) registers i = register_line registers i ++ register_lines count registers (i + 1)
 
+-- the report of a run that ended so
 abbrev pub report_text : State → List ℕ
 report_text s =
     (codes "halted" ++ 10 ∷ codes "console ") ++ decimal (length s.console) ++ 10 ∷ [] ++ s.console

@@ -7,6 +7,7 @@ ghost use Rattle.mx_asm.specs.PlainStep.{State};
 use crate::machine::Machine;
 use std::alloc::{AllocError, Global};
 
+/// The byte of a hexadecimal digit.
 fn hex_byte(d: u32) -> u8
     requires { d < 16 }
     ensures { result ≡ hex_digit d }
