@@ -1,1 +1,2 @@
 pub mod OneTurn
+mod Moves

@@ -1,7 +1,8 @@
-pub mod Board
 pub mod Counted
 pub mod Stages
+pub mod Decoded
 pub mod System
+pub mod Commits
 pub mod Cycle
 pub mod Program
 pub mod Run

@@ -1,10 +1,14 @@
 //! The machine cycle by cycle: five overlapped words, the cache's stalls, and interrupts.
 #![tactic(auto)]
 
+mod alu_stage;
 mod counts;
+mod decoded;
 mod latches;
 mod laws;
 mod machine;
+mod mem_stage;
+mod registers;
 
 pub use counts::Counts;
 pub use latches::{Latches, Stage};
