@@ -2,5 +2,7 @@
 #![tactic(auto)]
 
 mod board;
+mod requests;
 
 pub use board::Board;
+pub use requests::{EventError, Requests};
