@@ -1,7 +1,7 @@
 //! Numbers, words and lines, appended to a text.
 ghost use Rattle.std.specs.Prelude.{◌≡◌, ◌++◌, ◌∷◌, ◌<◌, OnOk, codes};
 ghost use Rattle.std.specs.Fmt.{decimal};
-ghost use Rattle.mx_text.specs.Text.{hex_digit, word_text, line, named_line, count_line, register_line, console_lines};
+ghost use Rattle.mx_text.specs.Text.{hex_digit, word_text, line, named_line, count_line, register_line, word_line, console_lines};
 
 use std::alloc::{AllocError, Global};
 
@@ -18,6 +18,7 @@ fn hex_byte(digit: u32) -> u8
 }
 
 /// Appends a word as eight hexadecimal digits in lower case.
+#[tactic(auto, unfolding(crate::specs::Text::word_text))]
 pub fn push_word(text: &mut Vec<u8>, word: u32) -> Result<(), AllocError>
     ensures { OnOk result (text.new.items ≡ text.old.items ++ word_text word) }
 {
@@ -89,6 +90,26 @@ pub fn push_console(alloc: Global, text: &mut Vec<u8>, bytes: &[u8]) -> Result<(
 {
     push_count(alloc, text, "console", bytes.len() as u64)?;
     text.extend_from_slice(bytes)?;
+    text.push(b'\n')?;
+    Ok(())
+}
+
+/// Appends the line `ADDRESS WORD`, both in hexadecimal.
+pub fn push_word_line(text: &mut Vec<u8>, address: u32, word: u32) -> Result<(), AllocError>
+    ensures { OnOk result (text.new.items ≡ text.old.items ++ word_line address word) }
+{
+    push_word(text, address)?;
+    text.push(b' ')?;
+    push_word(text, word)?;
+    text.push(b'\n')?;
+    Ok(())
+}
+
+/// Appends a line of text.
+pub fn push_line(text: &mut Vec<u8>, words: &str) -> Result<(), AllocError>
+    ensures { OnOk result (text.new.items ≡ text.old.items ++ line words.now) }
+{
+    text.extend_from_slice(words.as_bytes())?;
     text.push(b'\n')?;
     Ok(())
 }
