@@ -8,11 +8,9 @@ use crate::HANDLER;
 /// The words are those with which a machine begins that is given no other handler.
 pub fn handler_is_shipped()
     ensures { HANDLER ≡ shipped }
-{
-}
+{}
 
 /// After 23 turns of the handler and three more, what an interrupt saved is back.
 pub fn handler_returns()
     ensures { HandlerReturns }
-{
-}
+{}

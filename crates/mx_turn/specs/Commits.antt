@@ -1,11 +1,8 @@
 -- What the word in MEM changes, from how the machine keeps its parts.
-use Rattle.std.specs.Prelude.{ℕ, Bool, List, slice_index, cond, ◌||◌}
-use Rattle.mx_isa.specs.declared.inst.Special.{Special}
+use Rattle.std.specs.Prelude.{ℕ, Bool, List, slice_index}
 use Rattle.mx_isa.specs.declared.inst.Inst.{Inst}
-use Rattle.mx_isa.specs.Effect.{Change, gives, unchanged}
-use Rattle.mx_isa.specs.Views.{is_md}
+use Rattle.mx_isa.specs.Effect.{Change}
 use Rattle.mx_pcchain.specs.declared.chain.Chain.{Chain}
-use Rattle.mx_pcchain.specs.Chain.{special}
 use Rattle.mx_board.specs.Contents.{Contents}
 use Rattle.mx_board.specs.Data.{board, words_of}
 use Rattle.mx_turn.specs.declared.registers.Slot.{Slot}

@@ -1,5 +1,5 @@
 -- Code words, decoded once.
-use Rattle.std.specs.Prelude.{ℕ, ◌-◌, cond, leb, All, List, unwrap_or, slice_get}
+use Rattle.std.specs.Prelude.{ℕ, ◌-◌, cond, leb, List, unwrap_or, slice_get}
 use Rattle.mx_isa.specs.declared.inst.Inst.{Inst}
 use Rattle.mx_isa.specs.declared.inst.Inst.TheVariants.{Compute}
 use Rattle.mx_isa.specs.Arithmetic.{CountFits}

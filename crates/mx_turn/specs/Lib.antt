@@ -8,3 +8,4 @@ pub mod Program
 pub mod Run
 pub mod Handler
 pub mod OneTurn
+pub mod Kept

@@ -9,6 +9,7 @@ use mx_isa::{Inst, Reg, holds};
 
 /// Where a word leads, if not to the next one; whether it cancels the two words behind it; whether it pops the chain in
 /// system mode, and brings back the other mode too.
+#[derive(Clone, Copy)]
 pub struct Decided {
     pub target: Option<u32>,
     pub cancels: bool,

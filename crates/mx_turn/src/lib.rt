@@ -9,8 +9,12 @@ mod laws;
 mod machine;
 mod mem_stage;
 mod registers;
+mod shown;
+mod stages;
+mod turns;
 
 pub use counts::Counts;
 pub use latches::{Latches, Stage};
 pub use laws::one_user_turn;
-pub use machine::Cycled;
+pub use machine::{Cycled, Machine};
+pub use turns::{SHIPPED, Turns};

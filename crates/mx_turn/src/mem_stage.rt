@@ -17,6 +17,7 @@ use mx_pcchain::Chain;
 
 /// What the machine learns of a word that commits: the byte that it sends, the register that is seen late, and whether it
 /// is a halt.
+#[derive(Clone, Copy)]
 pub struct Committed {
     pub byte: Option<u8>,
     pub slot: Slot,
