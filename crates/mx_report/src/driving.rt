@@ -1,5 +1,5 @@
 //! Running a machine.
-ghost use Rattle.std.specs.Prelude.{◌≡◌, ◌≤◌, ◌<◌, ◌+◌, ◌-◌, ◌++◌, ◌^◌, [], List, ℕ, Bool, true, OnOk, IfOk, cond, suc, min};
+ghost use Rattle.std.specs.Prelude.{◌≡◌, ◌≤◌, ◌<◌, ◌+◌, ◌-◌, ◌++◌, ◌^◌, [], List, ℕ, Bool, true, OnOk, IfOk, cond, false, suc, min};
 ghost use Rattle.std.specs.Option.{option_to_list};
 ghost use Rattle.mx_board.specs.RequestFile.{is_wanted};
 ghost use Rattle.mx_turn.specs.Program.{Program, state_after, answer_after};
@@ -53,6 +53,31 @@ fn push_line_if(
     }
 }
 
+// One cycle, the first being 0: its byte, its line where it is one of the first `trace`, and whether the machine has halted.
+fn run_cycle<M: Machine>(
+    alloc: Global,
+    machine: &mut M,
+    requests: &Requests,
+    cycle: u32,
+    trace: u32,
+    console: &mut Vec<u8>,
+    text: &mut Vec<u8>,
+) -> Result<bool, AllocError>
+    requires { M.cycles machine.old < 2 ^ 63 }
+    ensures halted { IfOk result (λ halted. (p : Program) → M.stands machine.old p (bits requests.now cycle) → halted ≡ (state_after p (bits requests.now (suc cycle))).halted) }
+    ensures stands { OnOk result ((p : Program) → M.stands machine.old p (bits requests.now cycle) → M.stands machine.new p (bits requests.now (suc cycle))) }
+    ensures console { OnOk result ((p : Program) → M.stands machine.old p (bits requests.now cycle)
+        → console.old.items ≡ console_after p (bits requests.now cycle) → console.new.items ≡ console_after p (bits requests.now (suc cycle))) }
+    ensures trace { OnOk result ((p : Program) → M.stands machine.old p (bits requests.now cycle) → (state_after p (bits requests.now cycle)).halted ≡ false
+        → text.old.items ≡ trace_text p requests.now (min trace cycle) → text.new.items ≡ trace_text p requests.now (min trace (suc cycle))) }
+    ensures cycles { M.cycles machine.new ≤ M.cycles machine.old + 1 }
+{
+    let cycled = machine.cycle(requests.wants(cycle));
+    push_byte(console, cycled.byte)?;
+    push_line_if(alloc, text, cycle < trace, cycle, &cycled, &machine.latches())?;
+    Ok(cycled.halted)
+}
+
 // Runs the machine until it halts or the budget is spent, and answers whether it halted.
 fn run_cycles<M: Machine>(
     alloc: Global,
@@ -72,10 +97,7 @@ fn run_cycles<M: Machine>(
     ensures stands { OnOk result ((p : Program) → M.stands machine.old p [] → (h : List Bool) × M.stands machine.new p h × (state_after p h ≡ (run_of p requests.now budget).last)) }
 {
     for cycle in 0..budget {
-        let cycled = machine.cycle(requests.wants(cycle));
-        push_byte(console, cycled.byte)?;
-        push_line_if(alloc, text, cycle < trace, cycle, &cycled, &machine.latches())?;
-        if cycled.halted {
+        if run_cycle(alloc, machine, requests, cycle, trace, console, text)? {
             return Ok(true);
         }
     }
