@@ -31,13 +31,13 @@ pub answer_halted : (code : Code) (input : Option (List ℕ)) (m : Machine) (req
 answer_halted code input m request = ⊎_elim
     (λ h. ap (λ (r : Cycled). r.halted) (cond-true m.halted _ _ h) ∙ sym h ∙ sym (ap (λ (n : Machine). n.halted) (cond-true m.halted m _ h)))
     (λ h. ⊎_elim
-        (λ s. ap (λ (r : Cycled). r.halted) (cond-false m.halted _ _ h ∙ cond-true _ (acted_answer code input (latched request m)) _ s)
-            ∙ sym (ended_halted code (reached code input (latched request m)))
-            ∙ sym (ap (λ (n : Machine). n.halted) (cond-false m.halted m _ h ∙ cond-true _ (acted resident code input (latched request m)) _ s)))
-        (λ s. ap (λ (r : Cycled). r.halted) (cond-false m.halted _ _ h ∙ cond-false _ (acted_answer code input (latched request m)) _ s)
-            ∙ sym h
-            ∙ sym (ap (λ (n : Machine). n.halted) (cond-false m.halted m _ h ∙ cond-false _ (acted resident code input (latched request m)) _ s)))
-        (cases_Bool (eqb m.stall 0)))
+    (λ s. ap (λ (r : Cycled). r.halted) (cond-false m.halted _ _ h ∙ cond-true _ (acted_answer code input (latched request m)) _ s)
+    ∙ sym (ended_halted code (reached code input (latched request m)))
+    ∙ sym (ap (λ (n : Machine). n.halted) (cond-false m.halted m _ h ∙ cond-true _ (acted resident code input (latched request m)) _ s)))
+    (λ s. ap (λ (r : Cycled). r.halted) (cond-false m.halted _ _ h ∙ cond-false _ (acted_answer code input (latched request m)) _ s)
+    ∙ sym h
+    ∙ sym (ap (λ (n : Machine). n.halted) (cond-false m.halted m _ h ∙ cond-false _ (acted resident code input (latched request m)) _ s)))
+    (cases_Bool (eqb m.stall 0)))
     (cases_Bool m.halted)
 
 pub one_more_byte : (p : Program) (m : Machine) (h : List Bool) (request : Bool)
@@ -70,19 +70,19 @@ module _ (p : Program) (requests : List ℕ) where
   pub next_trace : (t n : ℕ) → (state_at n).halted ≡ false → trace_text p requests (min t (suc n)) ≡ trace_text p requests (min t n) ++ cond (nat_lt n t) (shown_line n) []
   next_trace t n going = ⊎_elim
       (λ lt.
-        let longer : min t (suc n) ≡ suc n = omega arith in
-        let now : min t n ≡ n = omega arith in
-        let test : nat_lt n t ≡ true = grind (arith, nat_tests) in
-        ap (trace_text p requests) longer
-        ∙ ap (λ l. trace_text p requests n ++ l) (cond-false (state_at n).halted [] (shown_line n) going)
-        ∙ ap (λ k. trace_text p requests k ++ shown_line n) (sym now)
-        ∙ ap (λ l. trace_text p requests (min t n) ++ l) (sym (cond-true (nat_lt n t) (shown_line n) [] test)))
+      let longer : min t (suc n) ≡ suc n = omega arith in
+      let now : min t n ≡ n = omega arith in
+      let test : nat_lt n t ≡ true = grind (arith, nat_tests) in
+      ap (trace_text p requests) longer
+      ∙ ap (λ l. trace_text p requests n ++ l) (cond-false (state_at n).halted [] (shown_line n) going)
+      ∙ ap (λ k. trace_text p requests k ++ shown_line n) (sym now)
+      ∙ ap (λ l. trace_text p requests (min t n) ++ l) (sym (cond-true (nat_lt n t) (shown_line n) [] test)))
       (λ le.
-        let same : min t (suc n) ≡ min t n = omega arith in
-        let test : nat_lt n t ≡ false = grind (arith, nat_tests) in
-        ap (trace_text p requests) same
-        ∙ sym (append-nil (trace_text p requests (min t n)))
-        ∙ ap (λ l. trace_text p requests (min t n) ++ l) (sym (cond-false (nat_lt n t) (shown_line n) [] test)))
+      let same : min t (suc n) ≡ min t n = omega arith in
+      let test : nat_lt n t ≡ false = grind (arith, nat_tests) in
+      ap (trace_text p requests) same
+      ∙ sym (append-nil (trace_text p requests (min t n)))
+      ∙ ap (λ l. trace_text p requests (min t n) ++ l) (sym (cond-false (nat_lt n t) (shown_line n) [] test)))
       (cases_lt n t)
 
   -- A machine that has halted stays as it is, sends nothing, and shows nothing.
@@ -91,8 +91,8 @@ module _ (p : Program) (requests : List ℕ) where
     state_still zero le = let e : zero ≡ n = omega arith in ap state_at e
     state_still (suc m) le = ⊎_elim
         (λ lt. next_state m
-            ∙ ap (λ (s : Machine). cycled resident p.code p.input s (is_requested requests m)) (state_still m (omega (arith, lt)))
-            ∙ cond-true (state_at n).halted (state_at n) _ halted)
+        ∙ ap (λ (s : Machine). cycled resident p.code p.input s (is_requested requests m)) (state_still m (omega (arith, lt)))
+        ∙ cond-true (state_at n).halted (state_at n) _ halted)
         (λ ge. let e : suc m ≡ n = omega (arith, ge, le) in ap state_at e)
         (cases_lt n (suc m))
 
@@ -106,10 +106,10 @@ module _ (p : Program) (requests : List ℕ) where
     console_still zero le = let e : zero ≡ n = omega arith in ap (λ k. console_after p (bits requests k)) e
     console_still (suc m) le = ⊎_elim
         (λ lt. let before : n ≤ m = omega (arith, lt) in
-            next_console m
-            ∙ ap (λ l. console_after p (bits requests m) ++ l) (no_byte m before)
-            ∙ append-nil (console_after p (bits requests m))
-            ∙ console_still m before)
+        next_console m
+        ∙ ap (λ l. console_after p (bits requests m) ++ l) (no_byte m before)
+        ∙ append-nil (console_after p (bits requests m))
+        ∙ console_still m before)
         (λ ge. let e : suc m ≡ n = omega (arith, ge, le) in ap (λ k. console_after p (bits requests k)) e)
         (cases_lt n (suc m))
 
@@ -117,9 +117,9 @@ module _ (p : Program) (requests : List ℕ) where
     trace_still zero le = let e : zero ≡ n = omega arith in ap (trace_text p requests) e
     trace_still (suc m) le = ⊎_elim
         (λ lt. let before : n ≤ m = omega (arith, lt) in
-            ap (λ l. trace_text p requests m ++ l) (cond-true (state_at m).halted [] (shown_line m) (halted_still m before))
-            ∙ append-nil (trace_text p requests m)
-            ∙ trace_still m before)
+        ap (λ l. trace_text p requests m ++ l) (cond-true (state_at m).halted [] (shown_line m) (halted_still m before))
+        ∙ append-nil (trace_text p requests m)
+        ∙ trace_still m before)
         (λ ge. let e : suc m ≡ n = omega (arith, ge, le) in ap (trace_text p requests) e)
         (cases_lt n (suc m))
 
@@ -127,5 +127,5 @@ module _ (p : Program) (requests : List ℕ) where
     trace_within t m le = ⊎_elim
         (λ lt. let e : min t m ≡ min t n = omega arith in ap (trace_text p requests) e)
         (λ ge. let later : n ≤ min t m = omega arith in let e : n ≡ min t n = omega arith in
-            trace_still (min t m) later ∙ ap (trace_text p requests) e)
+        trace_still (min t m) later ∙ ap (trace_text p requests) e)
         (cases_lt t n)

@@ -74,7 +74,14 @@ fn run_cycle<M: Machine>(
 {
     let cycled = machine.cycle(requests.wants(cycle));
     push_byte(console, cycled.byte)?;
-    push_line_if(alloc, text, cycle < trace, cycle, &cycled, &machine.latches())?;
+    push_line_if(
+        alloc,
+        text,
+        cycle < trace,
+        cycle,
+        &cycled,
+        &machine.latches(),
+    )?;
     Ok(cycled.halted)
 }
 
@@ -122,7 +129,15 @@ pub fn drive<M: Machine>(
 {
     let mut console = Vec::new(alloc);
     let mut text = Vec::new(alloc);
-    match run_cycles(alloc, machine, requests, budget, trace, &mut console, &mut text) {
+    match run_cycles(
+        alloc,
+        machine,
+        requests,
+        budget,
+        trace,
+        &mut console,
+        &mut text,
+    ) {
         Ok(halted) => Ok(Driven {
             halted,
             counts: machine.counts(),

@@ -10,7 +10,9 @@ use crate::Driven;
 use mx_code::Image;
 use mx_io::Memory;
 use mx_isa::Reg;
-use mx_text::{push_console, push_count, push_line, push_named, push_register, push_word, push_word_line};
+use mx_text::{
+    push_console, push_count, push_line, push_named, push_register, push_word, push_word_line,
+};
 use mx_turn::{Counts, Machine};
 use std::alloc::{AllocError, Global};
 
@@ -209,7 +211,14 @@ pub fn report<M: Machine>(
     let Ok(mut text) = Vec::from_slice(alloc, driven.trace.as_slice()) else {
         return Err(Memory);
     };
-    match push_report(alloc, &mut text, driven, machine, image.code.as_slice(), dump) {
+    match push_report(
+        alloc,
+        &mut text,
+        driven,
+        machine,
+        image.code.as_slice(),
+        dump,
+    ) {
         Ok(()) => Ok(text),
         Err(_) => Err(Memory),
     }

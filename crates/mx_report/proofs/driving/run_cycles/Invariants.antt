@@ -10,8 +10,8 @@ abbrev pub invariant-loop-cycle : goal.invariant-loop-cycle
 invariant-loop-cycle g l = record {
   counted : g.M.Machine.cycles l.machine ≤ l.cycle;
   run : (p : Program) → g.M.Machine.stands l.fn.machine p [] →
-    g.M.Machine.stands l.machine p (bits l.requests l.cycle)
-    × (l.console.items ≡ console_after p (bits l.requests l.cycle))
-    × (l.text.items ≡ trace_text p l.requests (min l.trace l.cycle))
-    × ((state_after p (bits l.requests l.cycle)).halted ≡ false);
+      g.M.Machine.stands l.machine p (bits l.requests l.cycle)
+      × (l.console.items ≡ console_after p (bits l.requests l.cycle))
+      × (l.text.items ≡ trace_text p l.requests (min l.trace l.cycle))
+      × ((state_after p (bits l.requests l.cycle)).halted ≡ false);
 }

@@ -7,4 +7,4 @@ abbrev pub invariant-loop-address : goal.invariant-loop-address
 invariant-loop-address g l =
     (p : Program) (h : List Bool) → g.M.Machine.stands l.machine p h →
     l.text.items ++ lines_from (λ a. word_line a ((state_after p h).core.mem a)) (l.to - l.address) l.address
-        ≡ l.fn.text.items ++ lines_from (λ a. word_line a ((state_after p h).core.mem a)) (l.to - l.from) l.from
+    ≡ l.fn.text.items ++ lines_from (λ a. word_line a ((state_after p h).core.mem a)) (l.to - l.from) l.from

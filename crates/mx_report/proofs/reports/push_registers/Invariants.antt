@@ -8,4 +8,4 @@ abbrev pub invariant-loop-n : goal.invariant-loop-n
 invariant-loop-n g l =
     (p : Program) (h : List Bool) → g.M.Machine.stands l.machine p h →
     l.text.items ++ lines_from (λ n. register_line n (word_text (reg (state_after p h).core.regs n))) (32 - l.n) l.n
-        ≡ l.fn.text.items ++ lines_from (λ n. register_line n (word_text (reg (state_after p h).core.regs n))) 31 1
+    ≡ l.fn.text.items ++ lines_from (λ n. register_line n (word_text (reg (state_after p h).core.regs n))) 31 1
