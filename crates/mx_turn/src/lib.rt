@@ -13,6 +13,9 @@ mod shown;
 mod stages;
 mod turns;
 
+#[cfg(test)]
+mod tests;
+
 pub use counts::Counts;
 pub use latches::{Latches, Stage};
 pub use laws::one_user_turn;

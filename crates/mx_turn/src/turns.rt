@@ -226,7 +226,8 @@ impl<C: FetchCache> Turns<C> {
     fn is_taken(&self) -> bool
         ensures { (past : List ℕ) (before : Words) (shown : Latches) → result ≡ is_taken (machine_of self.now past before shown) }
     {
-        self.psw.current.interrupts && self.latch && self.alu.is_some()
+        let held = self.alu.is_some();
+        self.psw.current.interrupts && self.latch && held
     }
 
     // The turn ends: where MEM holds a halt, nothing more happens.
@@ -240,7 +241,8 @@ impl<C: FetchCache> Turns<C> {
         ensures missed { self.new.missed ≡ self.old.missed }
         ensures counts { self.new.counts ≡ self.old.counts }
     {
-        if self.halted {
+        let over = self.halted;
+        if over {
             return Ended {
                 taken: false,
                 squashed: false,
