@@ -1,13 +1,7 @@
-// A library with one function.
+//! Slots of transfers that are filled with the first words of the target.
 #![tactic(auto)]
 
-ghost use Rattle.std.specs.Prelude.{◌≡◌};
-ghost use Rattle.mx_squash.specs.Echo.{echo_of};
+mod copying;
+mod search;
 
-// The `ensures` clause is the contract: what `echo` returns is `echo_of` of its argument, a definition
-// in `specs/Echo.antt`, which a caller's clause can cite too.
-pub fn echo(x: usize) -> usize
-    ensures { result ≡ echo_of x }
-{
-    x
-}
+pub use copying::{Copied, copies};
