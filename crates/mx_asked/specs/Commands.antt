@@ -1,0 +1,16 @@
+-- What a command line may ask for.
+use Rattle.std.specs.Prelude.{ℕ, List, Option}
+use Rattle.mx_simulate.specs.declared.Limits.{Limits}
+use Rattle.mx_simulate.specs.Machines.{Files}
+
+pub data Command : Type 0 where
+  -- runs a source
+  Run : (source : List ℕ) → Command
+  -- tells what a source means after some steps
+  Meaning : (source : List ℕ) → (steps : ℕ) → (input : Option (List ℕ)) → Command
+  -- prints a generated source
+  Gen : (seed : ℕ) → (count : ℕ) → Command
+  -- runs an image file
+  Exec : (image : List ℕ) → (files : Files) → (limits : Limits) → Command
+  -- writes an image file in the newest version
+  Migrate : (image : List ℕ) → (target : List ℕ) → Command
