@@ -1,0 +1,24 @@
+-- What labels name.
+use Rattle.std.specs.Prelude.{◌≡◌, ℕ, ◌≤◌, ◌<◌, ◌==◌, Bool, true, false, List}
+use Rattle.std.specs.List.{list_any}
+use Rattle.mx_source.specs.declared.statement.Label.{Label}
+use Rattle.mx_source.specs.declared.statement.Label.TheVariants.{Code, Data}
+
+-- a code label names a statement of so many or the end, a data label an address from 256 to 65535
+abbrev pub LabelFits : ℕ → Label → Type 0
+LabelFits count (Code i) = i ≤ count
+LabelFits count (Data a) = (256 ≤ a) × (a < 65536)
+
+-- the label is a code label of this index
+abbrev pub names_index : ℕ → Label → Bool
+names_index i (Code j) = j == i
+names_index i (Data a) = false
+
+-- some label is a code label of this index
+abbrev pub is_labelled : List (List ℕ × Label) → ℕ → Bool
+is_labelled labels i = list_any (λ p. names_index i p.1) labels
+
+-- an index that a source of so many statements may name: a statement's or the end, with a label
+pub record IsPlace (labels : List (List ℕ × Label)) (count : ℕ) (i : ℕ) : Type 0 where
+  pub within : i ≤ count
+  pub labelled : is_labelled labels i ≡ true
