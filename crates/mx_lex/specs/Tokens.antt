@@ -1,5 +1,5 @@
 -- The tokens of a line. A place is the number of bytes before it.
-use Rattle.std.specs.Prelude.{ℕ, ◌+◌, ◌^◌, ◌==◌, ◌||◌, ◌&&◌, nat_le, Bool, true, false, not, List, [], ◌∷◌, Option, Some, None, Result, Ok, Err, length, drop, slice_index, if◌then◌else◌, min}
+use Rattle.std.specs.Prelude.{ℕ, zero, suc, ◌+◌, ◌^◌, ◌==◌, ◌||◌, ◌&&◌, nat_le, Bool, true, false, not, List, [], ◌∷◌, Option, Some, None, Result, Ok, Err, length, drop, slice_index, if◌then◌else◌, min}
 use Rattle.std.specs.List.{prefix_len, take_while}
 use Rattle.std.specs.Char.{is_digit}
 use Rattle.std.specs.Str.Parse.{digits_value}
@@ -66,3 +66,27 @@ token_from line at =
 -- the next token from a place on, behind the blanks
 unfoldable pub next_token : List ℕ → ℕ → Result Token LexFault
 next_token line at = token_from line (at + prefix_len is_blank (drop at line))
+
+-- the line ends at such a token, or its comment begins there
+abbrev pub is_end : Kind → Bool
+is_end End = true
+is_end _ = false
+
+-- a token, and the tokens behind it, unless it ends the line
+abbrev pub before : Token → Result (List Token) LexFault → Result (List Token) LexFault
+before t (Ok ts) = Ok (t ∷ ts)
+before t (Err fault) = Err fault
+
+-- what stands behind a token, or the fault in its place
+abbrev pub and_then : Result Token LexFault → (Token → Result (List Token) LexFault) → Result (List Token) LexFault
+and_then (Ok t) f = f t
+and_then (Err fault) f = Err fault
+
+-- the first so many tokens from a place on, up to the end of the line, or the first fault
+abbrev pub tokens_within : ℕ → List ℕ → ℕ → Result (List Token) LexFault
+tokens_within zero line at = Ok []
+tokens_within (suc most) line at = and_then (next_token line at) (λ t. if is_end t.kind then Ok [] else before t (tokens_within most line t.end))
+
+-- the tokens of a line up to its end, or its first fault: each token takes at least a byte
+unfoldable pub tokens_of : List ℕ → Result (List Token) LexFault
+tokens_of line = tokens_within (length line + 1) line 0

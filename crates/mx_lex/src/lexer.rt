@@ -1,5 +1,6 @@
 //! The lexer.
 ghost use Rattle.std.specs.Prelude.{◌≡◌, ◌≤◌, length, IfOk};
+ghost use Rattle.mx_lex.specs.Reading.{IsSpan};
 ghost use Rattle.mx_lex.specs.Tokens.{next_token, token_from, mark_of};
 ghost use Rattle.mx_lex.specs.Tokens;
 
@@ -27,8 +28,8 @@ impl<'a> Model for Lexer<'a> {
 }
 
 impl<'a> Lexer<'a> {
-    ghost use Rattle.std.specs.Prelude.{◌≡◌, MatchResult};
-    ghost use Rattle.mx_lex.specs.Reading.{Reading};
+    ghost use Rattle.std.specs.Prelude.{◌≡◌, IfOk, MatchResult};
+    ghost use Rattle.mx_lex.specs.Reading.{Reading, IsSpan};
     ghost use Rattle.mx_lex.specs.Tokens.{next_token};
 
     /// A lexer over one line without its line end.
@@ -43,6 +44,7 @@ impl<'a> Lexer<'a> {
     pub fn next(&mut self) -> Result<Token, LexFault>
         ensures token { result ≡ next_token self.old.line self.old.at }
         ensures line { self.new.line ≡ self.old.line }
+        ensures span { IfOk result (IsSpan self.old.line self.old.at) }
         ensures place { MatchResult result (λ t. self.new.at ≡ t.end) (λ _. self.new.at ≡ self.old.at) }
     {
         let token = token_after(self.line, self.at)?;
@@ -56,7 +58,7 @@ impl<'a> Lexer<'a> {
 fn token_after(line: &[u8], at: usize) -> Result<Token, LexFault>
     requires { at ≤ length line.now }
     ensures token { result ≡ next_token line.now at }
-    ensures within { IfOk result (λ t. t.end ≤ length line.now) }
+    ensures within { IfOk result (IsSpan line.now at) }
 {
     token_at(line, blanks_end(line, at))
 }
@@ -66,7 +68,7 @@ fn token_after(line: &[u8], at: usize) -> Result<Token, LexFault>
 fn token_at(line: &[u8], at: usize) -> Result<Token, LexFault>
     requires { at ≤ length line.now }
     ensures token { result ≡ token_from line.now at }
-    ensures within { IfOk result (λ t. t.end ≤ length line.now) }
+    ensures within { IfOk result (IsSpan line.now at) }
 {
     if at == line.len() || line[at] == b';' {
         return Ok(token(Kind::End, at, at));

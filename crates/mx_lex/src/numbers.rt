@@ -3,6 +3,7 @@ ghost use Rattle.std.specs.Prelude.{◌≡◌, ◌+◌, ◌<◌, ◌≤◌, ◌^
 ghost use Rattle.std.specs.List.{prefix_len};
 ghost use Rattle.std.specs.Char.{digit_value, is_digit};
 ghost use Rattle.std.specs.Str.Parse.{digits_value};
+ghost use Rattle.mx_lex.specs.Reading.{IsSpan};
 ghost use Rattle.mx_lex.specs.Tokens.{digits_at, magnitude_at, number_at};
 
 use crate::bytes::continues_name;
@@ -55,7 +56,7 @@ fn digits(line: &[u8], base: u32, at: usize) -> Option<(usize, u64)>
     requires most { base ≤ 36 }
     requires within { at ≤ length line.now }
     ensures found { result ≡ digits_at line.now base at }
-    ensures within { IfSome result (λ found. found.0 ≤ length line.now) }
+    ensures within { IfSome result (λ found. (at < found.0) × (found.0 ≤ length line.now)) }
 {
     let end = digits_end(line, base, at);
     if end == at || (end < line.len() && continues_name(line[end])) {
@@ -69,7 +70,7 @@ fn digits(line: &[u8], base: u32, at: usize) -> Option<(usize, u64)>
 fn magnitude(line: &[u8], at: usize) -> Option<(usize, u64)>
     requires { at ≤ length line.now }
     ensures found { result ≡ magnitude_at line.now at }
-    ensures within { IfSome result (λ found. found.0 ≤ length line.now) }
+    ensures within { IfSome result (λ found. (at < found.0) × (found.0 ≤ length line.now)) }
 {
     if line.len() - at >= 2 && line[at] == b'0' && (line[at + 1] == b'x' || line[at + 1] == b'X') {
         digits(line, 16, at + 2)
@@ -83,7 +84,7 @@ fn magnitude(line: &[u8], at: usize) -> Option<(usize, u64)>
 pub fn number(line: &[u8], at: usize) -> Result<Token, LexFault>
     requires { at < length line.now }
     ensures token { result ≡ number_at line.now at }
-    ensures within { IfOk result (λ t. t.end ≤ length line.now) }
+    ensures span { IfOk result (IsSpan line.now at) }
 {
     let negative = line[at] == b'-';
     let first = if negative { at + 1 } else { at };
