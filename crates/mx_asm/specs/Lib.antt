@@ -1,3 +1,5 @@
-pub mod Words
 pub mod Reading
+pub mod Words
 pub mod Shapes
+pub mod Operands
+pub mod Mnemonics

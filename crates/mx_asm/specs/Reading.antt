@@ -18,3 +18,8 @@ Fails (errors.Fault fault) read = read ≡ Err fault
 abbrev pub Gives : {X Y : Type 0} → (X → Y) → Result X LineError → Result Y Fault → Type 0
 Gives view (Ok x) read = read ≡ Ok (view x)
 Gives view (Err e) read = Fails e read
+
+-- what a function answers, its value seen by view
+abbrev pub seen : {X Y E : Type 0} → (X → Y) → Result X E → Result Y E
+seen view (Ok x) = Ok (view x)
+seen view (Err e) = Err e
