@@ -1,5 +1,6 @@
 -- The mnemonics.
 use Rattle.std.specs.Prelude.{ℕ, Bool, true, false, List, [], ◌∷◌, Option, Some, None, codes, if◌then◌else◌}
+use Rattle.std.specs.Borrow.{Bor}
 use Rattle.std.specs.Str.{str_eq_ignore_ascii_case}
 use Rattle.mx_isa.specs.declared.inst.Op.{Op}
 use Rattle.mx_isa.specs.declared.inst.Op.TheVariants.{Add, Sub, Subnc, And, Or, Xor, Bic, Rotlb, Mstep, Dstep}
@@ -24,6 +25,10 @@ mnemonics =
     ∷ (codes "bhi", m.SwappedBranch Lo) ∷ (codes "blos", m.SwappedBranch Hs)
     ∷ (codes "b", m.Goto) ∷ (codes "call", m.Call) ∷ (codes "callr", m.CallReg) ∷ (codes "jr", m.JumpReg)
     ∷ (codes "halt", m.Halt) ∷ (codes "jpc", m.System) ∷ (codes "jpcrs", m.System) ∷ []
+
+-- a row of the program's table
+abbrev pub row : Bor (List ℕ) × Mnemonic → List ℕ × Mnemonic
+row r = (r.0.now, r.1)
 
 -- the mnemonic among these that a name spells, in either case
 abbrev pub spelled : List (List ℕ × Mnemonic) → List ℕ → Option Mnemonic

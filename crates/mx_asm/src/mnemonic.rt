@@ -1,7 +1,7 @@
 //! The mnemonics.
-ghost use Rattle.std.specs.Prelude.{◌≡◌};
+ghost use Rattle.std.specs.Prelude.{◌≡◌, map};
 ghost use Rattle.std.specs.Str.{str_eq_ignore_ascii_case};
-ghost use Rattle.mx_asm.specs.Mnemonics.{mnemonic_named};
+ghost use Rattle.mx_asm.specs.Mnemonics;
 
 use mx_isa::{Cond, Op};
 
@@ -77,10 +77,18 @@ const MNEMONICS: [(&str, Mnemonic); 39] = [
 ];
 
 /// The mnemonic that a name spells, in either case.
+#[tactic(auto, unfolding(crate::specs::Mnemonics::mnemonic_named, crate::specs::Mnemonics::mnemonics))]
 pub fn mnemonic_named(name: &[u8]) -> Option<Mnemonic>
-    ensures { result ≡ mnemonic_named name.now }
+    ensures { result ≡ Mnemonics.mnemonic_named name.now }
 {
-    for (spelling, mnemonic) in &MNEMONICS {
+    spelled(&MNEMONICS, name)
+}
+
+/// The mnemonic among these that a name spells, in either case.
+fn spelled(rows: &[(&str, Mnemonic)], name: &[u8]) -> Option<Mnemonic>
+    ensures { result ≡ Mnemonics.spelled (map Mnemonics.row rows.now) name.now }
+{
+    for (spelling, mnemonic) in rows {
         if spells(name, spelling) {
             return Some(*mnemonic);
         }
