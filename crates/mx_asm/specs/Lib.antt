@@ -3,3 +3,5 @@ pub mod Words
 pub mod Shapes
 pub mod Operands
 pub mod Mnemonics
+pub mod Instructions
+pub mod LabelTable

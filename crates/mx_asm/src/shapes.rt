@@ -7,6 +7,7 @@ use crate::fault::Fault;
 use crate::word::Word;
 
 /// What stands in `NAME,#NUMBER,NAME`.
+#[derive(Clone, Copy)]
 pub struct OneAndNumber<'a> {
     pub source: &'a [u8],
     pub negative: bool,
@@ -15,6 +16,7 @@ pub struct OneAndNumber<'a> {
 }
 
 /// What stands in `NAME,NAME,#NUMBER,NAME`.
+#[derive(Clone, Copy)]
 pub struct TwoAndNumber<'a> {
     pub first: &'a [u8],
     pub second: &'a [u8],
@@ -24,6 +26,7 @@ pub struct TwoAndNumber<'a> {
 }
 
 /// What stands in `OFFSET[NAME],NAME`. The offset is a number or a name.
+#[derive(Clone, Copy)]
 pub struct Access<'a> {
     pub offset: Word<'a>,
     pub base: &'a [u8],
