@@ -18,7 +18,7 @@ use Rattle.mx_asm.specs.declared.mnemonic.Mnemonic.{Mnemonic}
 use Rattle.mx_asm.specs.declared.mnemonic.Mnemonic.TheVariants as m
 use Rattle.mx_asm.specs.Reading.{◌>>=◌}
 use Rattle.mx_asm.specs.Words.{Word}
-use Rattle.mx_asm.specs.Shapes.{nothing, one_name, two_names, three_names, name_number_name, names_number_name, access}
+use Rattle.mx_asm.specs.Shapes.{nothing, one_name, two_names, three_names, name_number_name, names_number_name, memory}
 use Rattle.mx_asm.specs.Operands.{register, special, immediate, count, any_label, code_label, offset}
 use Rattle.mx_asm.specs.Mnemonics.{mnemonic_named}
 
@@ -79,9 +79,13 @@ addi words = do
   imm ← immediate operands.negative operands.value
   Ok (Plain (inst.Addi a dest imm))
 
--- a statement without operands
-unfoldable pub alone : Statement → List Word → Result Statement Fault
-alone statement words = nothing words >>= λ _. Ok statement
+-- `nop` is `add r0,r0,r0`
+unfoldable pub nop : List Word → Result Statement Fault
+nop words = nothing words >>= λ _. Ok (Plain (inst.Compute 0 0 0 op.Add))
+
+-- `halt`
+unfoldable pub halt : List Word → Result Statement Fault
+halt words = nothing words >>= λ _. Ok Halt
 
 -- only MD may be moved
 abbrev pub if_md : Special → Statement → Result Statement Fault
@@ -109,7 +113,7 @@ move_to words = do
 -- `ld O[R],R`
 unfoldable pub load : Labels → List Word → Result Statement Fault
 load labels words = do
-  operands ← access words
+  operands ← memory words
   base ← register operands.base
   dest ← register operands.register
   o ← offset labels operands.offset
@@ -118,7 +122,7 @@ load labels words = do
 -- `st O[R],R`
 unfoldable pub store : Labels → List Word → Result Statement Fault
 store labels words = do
-  operands ← access words
+  operands ← memory words
   base ← register operands.base
   value ← register operands.register
   o ← offset labels operands.offset
@@ -198,7 +202,7 @@ spelled_by labels m.Asr words = asr words
 spelled_by labels m.Sh words = sh words
 spelled_by labels m.Addi words = addi words
 spelled_by labels m.Mov words = of_one op.Add words
-spelled_by labels m.Nop words = alone (Plain (inst.Compute 0 0 0 op.Add)) words
+spelled_by labels m.Nop words = nop words
 spelled_by labels m.MoveFrom words = move_from words
 spelled_by labels m.MoveTo words = move_to words
 spelled_by labels m.Load words = load labels words
@@ -210,7 +214,7 @@ spelled_by labels m.Goto words = goto labels words
 spelled_by labels m.Call words = call labels words
 spelled_by labels m.CallReg words = call_register words
 spelled_by labels m.JumpReg words = jump words
-spelled_by labels m.Halt words = alone Halt words
+spelled_by labels m.Halt words = halt words
 spelled_by labels m.System words = system words
 
 abbrev pub with_mnemonic : Labels → Option Mnemonic → List Word → Result Statement Fault

@@ -1,0 +1,24 @@
+-- What may stand in a source with these labels and so many statements.
+use Rattle.std.specs.Prelude.{ℕ, ◌<◌, List, All, Result, IfOk}
+use Rattle.mx_source.specs.declared.statement.Label.{Label}
+use Rattle.mx_source.specs.declared.statement.Label.TheVariants.{Code, Data}
+use Rattle.mx_source.specs.declared.statement.Statement.{Statement}
+use Rattle.mx_source.specs.Labels.{LabelFits, IsPlace}
+use Rattle.mx_source.specs.Statements.{StatementFits}
+use Rattle.mx_asm.specs.declared.fault.Fault.{Fault}
+
+abbrev pub LabelsFit : ℕ → List (List ℕ × Label) → Type 0
+LabelsFit count labels = All (λ (p : List ℕ × Label). LabelFits count p.1) labels
+
+-- what a label names there is a place of the source, or an address below 65536
+abbrev pub NamedFits : List (List ℕ × Label) → ℕ → Label → Type 0
+NamedFits labels count (Code i) = IsPlace labels count i
+NamedFits labels count (Data a) = a < 65536
+
+-- a statement that was read fits in whatever source
+abbrev pub FitsAlone : Result Statement Fault → Type 0
+FitsAlone result = (labels : List (List ℕ × Label)) (count : ℕ) → IfOk result (StatementFits (IsPlace labels count))
+
+-- a statement that was read by these labels fits in a source that has them
+abbrev pub FitsBy : List (List ℕ × Label) → Result Statement Fault → Type 0
+FitsBy labels result = (count : ℕ) → LabelsFit count labels → IfOk result (StatementFits (IsPlace labels count))
