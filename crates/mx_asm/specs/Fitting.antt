@@ -1,10 +1,14 @@
 -- What may stand in a source with these labels and so many statements.
-use Rattle.std.specs.Prelude.{ℕ, ◌<◌, List, All, Result, IfOk}
+use Rattle.std.specs.Prelude.{ℕ, ◌<◌, Bool, true, false, List, All, Result, IfOk}
 use Rattle.mx_source.specs.declared.statement.Label.{Label}
 use Rattle.mx_source.specs.declared.statement.Label.TheVariants.{Code, Data}
 use Rattle.mx_source.specs.declared.statement.Statement.{Statement}
 use Rattle.mx_source.specs.Labels.{LabelFits, IsPlace}
 use Rattle.mx_source.specs.Statements.{StatementFits}
+use Rattle.mx_isa.specs.declared.inst.Op.{Op}
+use Rattle.mx_isa.specs.declared.inst.Op.TheVariants.{Not, Mstart, Asr, Sh}
+use Rattle.mx_asm.specs.declared.mnemonic.Mnemonic.{Mnemonic}
+use Rattle.mx_asm.specs.declared.mnemonic.Mnemonic.TheVariants.{Compute}
 use Rattle.mx_asm.specs.declared.fault.Fault.{Fault}
 
 abbrev pub LabelsFit : ℕ → List (List ℕ × Label) → Type 0
@@ -22,3 +26,16 @@ FitsAlone result = (labels : List (List ℕ × Label)) (count : ℕ) → IfOk re
 -- a statement that was read by these labels fits in a source that has them
 abbrev pub FitsBy : List (List ℕ × Label) → Result Statement Fault → Type 0
 FitsBy labels result = (count : ℕ) → LabelsFit count labels → IfOk result (StatementFits (IsPlace labels count))
+
+-- the operation has two sources and no count
+abbrev pub uses_both : Op → Bool
+uses_both Not = false
+uses_both Mstart = false
+uses_both (Asr n) = false
+uses_both (Sh n) = false
+uses_both _ = true
+
+-- a mnemonic of three registers has such an operation
+abbrev pub is_regular : Mnemonic → Bool
+is_regular (Compute op) = uses_both op
+is_regular _ = true

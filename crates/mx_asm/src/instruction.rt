@@ -1,6 +1,7 @@
 //! The statements that instructions spell.
-ghost use Rattle.std.specs.Prelude.{◌≡◌, map};
-ghost use Rattle.mx_asm.specs.Fitting.{FitsAlone, FitsBy};
+ghost use Rattle.std.specs.Prelude.{◌≡◌, ℕ, true, map};
+ghost use Rattle.mx_isa.specs.Fields.{OpFits};
+ghost use Rattle.mx_asm.specs.Fitting.{FitsAlone, FitsBy, is_regular, uses_both};
 ghost use Rattle.mx_asm.specs.Shapes.{word};
 ghost use Rattle.mx_asm.specs.Instructions;
 
@@ -17,8 +18,9 @@ use mx_isa::{Cond, Inst, Op, Reg, Special};
 use mx_source::{Label, Statement};
 
 /// `add R,R,R` and its like, of two sources that are both used.
-#[tactic(auto, unfolding(crate::specs::Instructions::compute))]
+#[tactic(auto, unfolding(crate::specs::Instructions::compute), using(crate::proofs::Fits::fits_both))]
 fn compute(op: Op, words: &[Word]) -> Result<Statement, Fault>
+    requires { uses_both op ≡ true }
     ensures statement { result ≡ Instructions.compute op (map word words.now) }
     ensures fits { FitsAlone result }
 {
@@ -32,6 +34,7 @@ fn compute(op: Op, words: &[Word]) -> Result<Statement, Fault>
 /// `not R,R` and `mov R,R`.
 #[tactic(auto, unfolding(crate::specs::Instructions::of_one))]
 fn of_one(op: Op, words: &[Word]) -> Result<Statement, Fault>
+    requires { (a : ℕ) → OpFits op a 0 }
     ensures statement { result ≡ Instructions.of_one op (map word words.now) }
     ensures fits { FitsAlone result }
 {
@@ -311,6 +314,7 @@ fn system(words: &[Word]) -> Result<Statement, Fault>
 /// The statement of a mnemonic and the words behind it.
 #[tactic(auto, unfolding(crate::specs::Instructions::spelled_by))]
 fn spelled_by(labels: &Labels, mnemonic: &Mnemonic, words: &[Word]) -> Result<Statement, Fault>
+    requires { is_regular mnemonic.now ≡ true }
     ensures statement { result ≡ Instructions.spelled_by labels.now mnemonic.now (map word words.now) }
     ensures fits { FitsBy labels.now result }
 {

@@ -1,5 +1,7 @@
 //! The mnemonics.
-ghost use Rattle.std.specs.Prelude.{◌≡◌, map};
+ghost use Rattle.std.specs.Prelude.{◌≡◌, true, map, IfSome};
+ghost use Rattle.std.specs.List.{list_all};
+ghost use Rattle.mx_asm.specs.Fitting.{is_regular};
 ghost use Rattle.std.specs.Str.{str_eq_ignore_ascii_case};
 ghost use Rattle.mx_asm.specs.Mnemonics;
 
@@ -79,14 +81,17 @@ const MNEMONICS: [(&str, Mnemonic); 39] = [
 /// The mnemonic that a name spells, in either case.
 #[tactic(auto, unfolding(crate::specs::Mnemonics::mnemonic_named, crate::specs::Mnemonics::mnemonics))]
 pub fn mnemonic_named(name: &[u8]) -> Option<Mnemonic>
-    ensures { result ≡ Mnemonics.mnemonic_named name.now }
+    ensures mnemonic { result ≡ Mnemonics.mnemonic_named name.now }
+    ensures regular { IfSome result (λ m. is_regular m ≡ true) }
 {
     spelled(&MNEMONICS, name)
 }
 
 /// The mnemonic among these that a name spells, in either case.
 fn spelled(rows: &[(&str, Mnemonic)], name: &[u8]) -> Option<Mnemonic>
-    ensures { result ≡ Mnemonics.spelled (map Mnemonics.row rows.now) name.now }
+    requires { list_all (λ r. is_regular r.1) rows.now ≡ true }
+    ensures mnemonic { result ≡ Mnemonics.spelled (map Mnemonics.row rows.now) name.now }
+    ensures regular { IfSome result (λ m. is_regular m ≡ true) }
 {
     for (spelling, mnemonic) in rows {
         if spells(name, spelling) {

@@ -1,0 +1,10 @@
+use Rattle.std.proofs.Common.{◌≡◌, ◌-◌, length, map}
+use Rattle.mx_asm.specs.Shapes.{word}
+use Rattle.mx_asm.proofs.Front.{Reads}
+use Rattle.mx_asm.proofs.word.words_of.Given as goal
+
+abbrev pub invariant-tokens : goal.invariant-tokens
+invariant-tokens l = ?
+
+abbrev pub decreases-tokens : goal.decreases-tokens
+decreases-tokens l = length l.line - l.lexer.at
