@@ -6,3 +6,8 @@ pub mod Mnemonics
 pub mod Instructions
 pub mod LabelTable
 pub mod Fitting
+pub mod Directives
+pub mod Positions
+pub mod Faults
+pub mod Texts
+pub mod Effects

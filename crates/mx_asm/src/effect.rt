@@ -1,0 +1,125 @@
+//! What the statement of a line does.
+ghost use Rattle.std.specs.Prelude.{◌≡◌, ◌≤◌, ℕ, map, IfOk, All, replicate};
+ghost use Rattle.mx_source.specs.Labels.{IsPlace};
+ghost use Rattle.mx_source.specs.Statements.{ValueFits};
+ghost use Rattle.mx_source.specs.declared.statement.Value.TheVariants.{Int};
+ghost use Rattle.mx_asm.specs.Reading.{Gives, seen};
+ghost use Rattle.mx_asm.specs.Directives;
+ghost use Rattle.mx_asm.specs.Effects.{effect, EffectFits};
+ghost use Rattle.mx_asm.specs.Fitting.{LabelsFit};
+ghost use Rattle.mx_asm.specs.Shapes.{word};
+
+use crate::directive::{Directive, directive_named, is_dotted, space_count};
+use crate::fault::{Fault, LineError};
+use crate::instruction::instruction;
+use crate::labels::Labels;
+use crate::operands::data_word;
+use crate::position::Section;
+use crate::resolve::any_label;
+use crate::word::Word;
+use mx_source::{Label, Statement, Value};
+use std::alloc::Global;
+
+/// What a statement adds to the source.
+#[derive(Drop)]
+pub enum Effect {
+    Nothing,
+    Instruction(Statement),
+    Data(Vec<Value>),
+    Input,
+}
+
+/// A number or a name.
+fn is_value(value: &Word) -> bool
+    ensures { result ≡ Directives.is_value (word value.now) }
+{
+    match value {
+        Word::Name(_) | Word::Number { .. } => true,
+        _ => false,
+    }
+}
+
+/// The values in `V`, or `V,V` and so on.
+fn value_words<'a>(alloc: Global, words: &[Word<'a>]) -> Result<Vec<Word<'a>>, LineError>
+    ensures { Gives (λ v. map word v.items) result (Directives.value_words (map word words.now)) }
+{
+    let mut values = Vec::new(alloc);
+    let mut rest = words;
+    'values: loop {
+        match rest {
+            [value] => {
+                if !is_value(value) {
+                    return Err(LineError::Fault(Fault::BadDirective));
+                }
+                values.push(*value)?;
+                return Ok(values);
+            }
+            [value, Word::Comma, tail @ ..] => {
+                if !is_value(value) {
+                    return Err(LineError::Fault(Fault::BadDirective));
+                }
+                values.push(*value)?;
+                rest = tail;
+            }
+            _ => return Err(LineError::Fault(Fault::BadDirective)),
+        }
+    }
+}
+
+/// Each number among the values is a data word.
+fn numbers_fit(values: &[Word]) -> Result<(), Fault>
+    ensures { result ≡ Directives.numbers_fit (map word values.now) }
+{
+    for value in values {
+        if let Word::Number { negative, value } = value {
+            data_word(*negative, *value)?;
+        }
+    }
+    Ok(())
+}
+
+/// The data word of a value.
+fn value_of(labels: &Labels, value: &Word) -> Result<Value, Fault>
+    ensures value { result ≡ Directives.value_of labels.now (word value.now) }
+    ensures fits { (count : ℕ) → LabelsFit count labels.now → IfOk result (ValueFits (IsPlace labels.now count)) }
+{
+    match value {
+        Word::Number { negative, value } => Ok(Value::Int(data_word(*negative, *value)?)),
+        Word::Name(name) => match any_label(labels, name)? {
+            Label::Code(index) => Ok(Value::Code(index)),
+            Label::Data(address) => Ok(Value::Int(address)),
+        },
+        _ => Err(Fault::BadDirective),
+    }
+}
+
+/// The data words of values.
+fn values_of(alloc: Global, labels: &Labels, words: &[Word]) -> Result<Vec<Value>, LineError>
+    ensures values { Gives (λ v. v.items) result (Directives.values_of labels.now (map word words.now)) }
+    ensures fits { (count : ℕ) → LabelsFit count labels.now → IfOk result (λ v. All (ValueFits (IsPlace labels.now count)) v.items) }
+{
+    let mut values = Vec::new(alloc);
+    for word in words {
+        let value = value_of(labels, word)?;
+        values.push(value)?;
+    }
+    Ok(values)
+}
+
+/// The data words behind `.word`.
+#[tactic(auto, unfolding(crate::specs::Directives::word_values))]
+fn word_values(alloc: Global, labels: &Labels, words: &[Word]) -> Result<Vec<Value>, LineError>
+    ensures values { Gives (λ v. v.items) result (Directives.word_values labels.now (map word words.now)) }
+    ensures fits { (count : ℕ) → LabelsFit count labels.now → IfOk result (λ v. All (ValueFits (IsPlace labels.now count)) v.items) }
+{
+    let values = value_words(alloc, words)?;
+    numbers_fit(&values)?;
+    values_of(alloc, labels, &values)
+}
+
+/// So many words of 0.
+fn zeros(alloc: Global, count: u32) -> Result<Vec<Value>, LineError>
+    ensures { Gives (λ v. v.items) result (Ok (replicate count (Int 0))) }
+{
+    Ok(vec![in alloc; Value::Int(0); count as usize]?)
+}
