@@ -1,3 +1,4 @@
 pub mod Fits
 pub mod Front
+pub mod Fronts
 pub mod Tables

@@ -44,6 +44,10 @@ is_value (Name bytes) = true
 is_value (Number negative value) = true
 is_value _ = false
 
+abbrev pub is_comma : Word → Bool
+is_comma Comma = true
+is_comma _ = false
+
 abbrev pub cons : {A : Type 0} → A → Result (List A) Fault → Result (List A) Fault
 cons x (Ok xs) = Ok (x ∷ xs)
 cons x (Err fault) = Err fault
@@ -53,15 +57,19 @@ before_values v vs = if is_value v then cons v vs else Err BadDirective
 
 -- `V`, or `V,V` and so on
 abbrev pub value_words : List Word → Result (List Word) Fault
+value_words [] = Err BadDirective
 value_words (v ∷ []) = before_values v (Ok [])
-value_words (v ∷ Comma ∷ words) = before_values v (value_words words)
-value_words _ = Err BadDirective
+value_words (v ∷ separator ∷ words) = if is_comma separator then before_values v (value_words words) else Err BadDirective
 
--- each number among the values is a data word
+-- a number is a data word
+abbrev pub number_fits : Word → Result (Unit {0}) Fault
+number_fits (Number negative value) = data_word negative value >>= λ _. Ok tt
+number_fits _ = Ok tt
+
+-- each number among the values is one
 abbrev pub numbers_fit : List Word → Result (Unit {0}) Fault
 numbers_fit [] = Ok tt
-numbers_fit (Number negative value ∷ words) = data_word negative value >>= λ _. numbers_fit words
-numbers_fit (_ ∷ words) = numbers_fit words
+numbers_fit (word ∷ words) = number_fits word >>= λ _. numbers_fit words
 
 -- a label's value: the place of code, or the address
 abbrev pub value_at : Label → Value
