@@ -1,4 +1,4 @@
 pub mod Fits
-pub mod Front
+pub mod LineWords
 pub mod Fronts
 pub mod Tables

@@ -12,7 +12,7 @@ named entry = (entry.0.now, entry.1)
 abbrev pub labels_view : Inside → List (List ℕ × Label)
 labels_view inside = map named inside.table.entries
 
--- an address of at most 65536
+-- an address of at most 65537
 abbrev pub IsNear : Label → Type 0
 IsNear (Code i) = Unit {0}
-IsNear (Data a) = a ≤ 65536
+IsNear (Data a) = a ≤ 65537

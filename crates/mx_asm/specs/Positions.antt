@@ -1,6 +1,6 @@
 -- Where a line stands, and what its labels name.
-use Rattle.std.specs.Prelude.{ℕ, ◌+◌, ◌/◌, min, Bool, true, false, not, ◌||◌, List, [], ◌∷◌, ◌++◌, length, filter, Option, Some, None, Result, Ok, Err, is_some, if◌then◌else◌}
-use Rattle.std.specs.List.{list_any}
+use Rattle.std.specs.Prelude.{ℕ, ◌+◌, ◌/◌, min, Bool, true, false, not, ◌||◌, List, [], ◌∷◌, ◌++◌, length, Option, Some, None, Result, Ok, Err, is_some, if◌then◌else◌}
+use Rattle.std.specs.List.{list_any, flat_map}
 use Rattle.mx_source.specs.declared.statement.Label.{Label}
 use Rattle.mx_source.specs.declared.statement.Label.TheVariants as label
 use Rattle.mx_asm.specs.declared.fault.Fault.{Fault}
@@ -24,10 +24,15 @@ abbrev pub statement_words : List Word → List Word
 statement_words (Name name ∷ Colon ∷ words) = statement_words words
 statement_words words = words
 
--- the labels that a line defines: a name that begins with `.` is none
-abbrev pub own_labels : List Word → List (List ℕ)
-own_labels words = filter (λ name. not (is_dotted name)) (front_names words)
+-- a name as a label: one that begins with `.` is none
+abbrev pub own_of : List ℕ → List (List ℕ)
+own_of name = if is_dotted name then [] else name ∷ []
 
+-- the labels that a line defines
+abbrev pub own_labels : List Word → List (List ℕ)
+own_labels words = flat_map own_of (front_names words)
+
+-- a name that begins with `.` stands in the place of a label
 abbrev pub has_dotted_label : List Word → Bool
 has_dotted_label words = list_any is_dotted (front_names words)
 

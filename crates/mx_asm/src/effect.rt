@@ -201,7 +201,8 @@ fn in_code(section: Section, statement: Statement) -> Result<Effect, LineError>
 
 /// Data stand in the data section.
 fn in_data(section: Section, values: Vec<Value>) -> Result<Effect, LineError>
-    ensures { Gives effect result (Directives.in_data section values.items) }
+    ensures effect { Gives effect result (Directives.in_data section values.items) }
+    ensures values { IfOk result (λ e. effect e ≡ Directives.Data values.items) }
 {
     match section {
         Section::Data => Ok(Effect::Data(values)),

@@ -6,7 +6,7 @@ use mx_source::Label;
 use std::alloc::{AllocError, Global};
 use std::marker::Model;
 
-/// Each label of a text once, in the order of first definitions. Addresses are at most 65536.
+/// Each label of a text once, in the order of first definitions. Addresses are at most 65537.
 #[derive(Drop)]
 pub struct Labels<'a> {
     table: IndexMap<&'a [u8], Label>,

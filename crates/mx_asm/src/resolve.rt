@@ -39,7 +39,7 @@ pub fn code_label(labels: &Labels, name: &[u8]) -> Result<u32, Fault>
 #[tactic(auto, unfolding(crate::specs::Operands::data_label))]
 pub fn data_label(labels: &Labels, name: &[u8]) -> Result<u32, Fault>
     ensures address { result ≡ Operands.data_label labels.now name.now }
-    ensures near { IfOk result (λ a. a ≤ 65536) }
+    ensures near { IfOk result (λ a. a ≤ 65537) }
     ensures fits { (count : ℕ) → LabelsFit count labels.now → IfOk result (λ a. a < 65536) }
 {
     match any_label(labels, name)? {

@@ -1,6 +1,6 @@
 use Rattle.std.proofs.Common.{◌≡◌, ◌-◌, length, map}
 use Rattle.mx_asm.specs.Shapes.{word}
-use Rattle.mx_asm.proofs.Front.{Reads}
+use Rattle.mx_asm.proofs.LineWords.{Reads}
 use Rattle.mx_asm.proofs.word.words_of.Given as goal
 
 abbrev pub invariant-tokens : goal.invariant-tokens
