@@ -1,4 +1,5 @@
 pub mod Fits
 pub mod LineWords
 pub mod Fronts
+pub mod Labelled
 pub mod Tables

@@ -8,7 +8,7 @@ use Rattle.mx_asm.specs.declared.position.Position.{Position}
 use Rattle.mx_asm.specs.Words.{Word, words_of}
 use Rattle.mx_asm.specs.Instructions.{Labels}
 use Rattle.mx_asm.specs.Directives.{Effect, effect_of}
-use Rattle.mx_asm.specs.Positions.{statement_words, own_labels, has_dotted_label, after, label_here, is_repeated, with_labels, line_words}
+use Rattle.mx_asm.specs.Positions.{statement_words, has_label, has_dotted_label, after, label_here, is_repeated, with_labels, line_words}
 
 -- the faults that come before DuplicateLabel
 abbrev pub is_early : Fault → Bool
@@ -22,13 +22,9 @@ abbrev pub is_data : Section → Bool
 is_data section.Data = true
 is_data section.Code = false
 
-abbrev pub some_of : List (List ℕ) → Bool
-some_of [] = false
-some_of (_ ∷ _) = true
-
 -- the line's data words end past the end of memory, or it has a data label that would stand there
 abbrev pub is_full : ℕ → Position → List Word → Bool
-is_full end p words = nat_lt end (after p words).address || (is_data p.section && some_of (own_labels words) && nat_le end p.address)
+is_full end p words = nat_lt end (after p words).address || (is_data p.section && has_label words && nat_le end p.address)
 
 -- the first of the faults that its statement does not decide
 abbrev pub layout_fault : ℕ → Position → ℕ → List Word → Option Fault
@@ -49,7 +45,7 @@ words_fault labels end p repeated long (Ok words) = least_fault repeated (effect
 
 -- a label of the line is defined earlier
 abbrev pub repeats : Position → Labels → List Word → Bool
-repeats p earlier words = is_repeated earlier (label_here p) (own_labels words)
+repeats p earlier words = is_repeated earlier (label_here p) words
 
 -- the fault of a line that stands here, where the text has these labels and the lines before it those
 abbrev pub line_fault : Labels → ℕ → Position → Labels → List ℕ → Option Fault

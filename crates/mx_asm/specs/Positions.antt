@@ -1,6 +1,6 @@
 -- Where a line stands, and what its labels name.
-use Rattle.std.specs.Prelude.{ℕ, ◌+◌, ◌/◌, min, Bool, true, false, not, ◌||◌, List, [], ◌∷◌, ◌++◌, length, Option, Some, None, Result, Ok, Err, is_some, if◌then◌else◌}
-use Rattle.std.specs.List.{list_any, flat_map}
+use Rattle.std.specs.Prelude.{ℕ, ◌+◌, ◌/◌, min, Bool, true, false, not, ◌||◌, ◌&&◌, List, [], ◌∷◌, ◌++◌, length, Option, Some, None, Result, Ok, Err, is_some, if◌then◌else◌}
+use Rattle.std.specs.List.{list_any}
 use Rattle.mx_source.specs.declared.statement.Label.{Label}
 use Rattle.mx_source.specs.declared.statement.Label.TheVariants as label
 use Rattle.mx_asm.specs.declared.fault.Fault.{Fault}
@@ -19,22 +19,28 @@ abbrev pub front_names : List Word → List (List ℕ)
 front_names (Name name ∷ Colon ∷ words) = name ∷ front_names words
 front_names _ = []
 
+-- a name and a `:` stand at the front
+abbrev pub begins_label : List Word → Bool
+begins_label (Name name ∷ Colon ∷ words) = true
+begins_label _ = false
+
+-- the name at the front
+abbrev pub first_name : List Word → List ℕ
+first_name (Name name ∷ words) = name
+first_name _ = []
+
 -- what stands behind them
 abbrev pub statement_words : List Word → List Word
 statement_words (Name name ∷ Colon ∷ words) = statement_words words
 statement_words words = words
 
--- a name as a label: one that begins with `.` is none
-abbrev pub own_of : List ℕ → List (List ℕ)
-own_of name = if is_dotted name then [] else name ∷ []
-
--- the labels that a line defines
-abbrev pub own_labels : List Word → List (List ℕ)
-own_labels words = flat_map own_of (front_names words)
-
 -- a name that begins with `.` stands in the place of a label
 abbrev pub has_dotted_label : List Word → Bool
 has_dotted_label words = list_any is_dotted (front_names words)
+
+-- a label stands at the front
+abbrev pub has_label : List Word → Bool
+has_label words = list_any (λ name. not (is_dotted name)) (front_names words)
 
 -- the section behind a statement: `.code` and `.data` alone change it
 abbrev pub directs : Section → Option Directive → Section
@@ -82,18 +88,23 @@ label_at section.Data index address = label.Data address
 abbrev pub label_here : Position → Label
 label_here p = label_at p.section p.index p.address
 
--- the labels with one more; of a name that is defined more than once the first definition holds
+-- a label of this name is defined; a name that begins with `.` is no label
+abbrev pub is_defined : Labels → List ℕ → Bool
+is_defined labels name = not (is_dotted name) && is_some (label_named labels name)
+
+-- the labels with one more: of a name that is defined more than once the first definition holds
 unfoldable pub define : Labels → Label → List ℕ → Labels
-define labels l name = if is_some (label_named labels name) then labels else labels ++ (name, l) ∷ []
+define labels l name = if is_dotted name || is_some (label_named labels name) then labels else labels ++ (name, l) ∷ []
 
-abbrev pub define_all : Labels → Label → List (List ℕ) → Labels
-define_all labels l [] = labels
-define_all labels l (name ∷ names) = define_all (define labels l name) l names
+-- the labels with those at the front of a line
+abbrev pub define_front : Labels → Label → List Word → Labels
+define_front labels l (Name name ∷ Colon ∷ words) = define_front (define labels l name) l words
+define_front labels l _ = labels
 
--- one of the names is defined before, or twice among them
-abbrev pub is_repeated : Labels → Label → List (List ℕ) → Bool
-is_repeated labels l [] = false
-is_repeated labels l (name ∷ names) = is_some (label_named labels name) || is_repeated (define labels l name) l names
+-- a label at the front of a line is defined before, or earlier on this line
+abbrev pub is_repeated : Labels → Label → List Word → Bool
+is_repeated labels l (Name name ∷ Colon ∷ words) = is_defined labels name || is_repeated (define labels l name) l words
+is_repeated labels l _ = false
 
 -- the words of a line, none where the line does not split into tokens
 abbrev pub words_or_none : Result (List Word) Fault → List Word
@@ -105,7 +116,7 @@ line_words line = words_or_none (words_of line)
 
 -- the labels with those of a line that stands here
 abbrev pub with_labels : Position → Labels → List Word → Labels
-with_labels p labels words = define_all labels (label_here p) (own_labels words)
+with_labels p labels words = define_front labels (label_here p) words
 
 -- the labels with those of all lines from a position on
 abbrev pub labels_from : Position → Labels → List (List ℕ) → Labels

@@ -1,6 +1,5 @@
 //! The labels at the front of a line.
-ghost use Rattle.std.specs.Prelude.{◌≡◌, map, OnOk, IfOk};
-ghost use Rattle.mx_asm.specs.Faults;
+ghost use Rattle.std.specs.Prelude.{◌≡◌, ◌≤◌, true, length, map, OnOk, IfOk};
 ghost use Rattle.mx_asm.specs.LabelTable.{IsNear};
 ghost use Rattle.mx_asm.specs.Positions;
 ghost use Rattle.mx_asm.specs.Shapes.{word};
@@ -10,6 +9,27 @@ use crate::labels::Labels;
 use crate::word::Word;
 use mx_source::Label;
 use std::alloc::AllocError;
+
+/// A name and a `:` stand at the front.
+fn begins_label(words: &[Word]) -> bool
+    ensures front { result ≡ Positions.begins_label (map word words.now) }
+    ensures two { result ≡ true → 2 ≤ length words.now }
+{
+    match words {
+        [Word::Name(_), Word::Colon, ..] => true,
+        _ => false,
+    }
+}
+
+/// The name at the front.
+fn first_name<'a>(words: &[Word<'a>]) -> &'a [u8]
+    ensures { result.now ≡ Positions.first_name (map word words.now) }
+{
+    match words {
+        [Word::Name(name), ..] => name,
+        _ => &[],
+    }
+}
 
 /// The statement behind the labels at the front.
 pub fn statement_words<'a, 'w>(words: &'w [Word<'a>]) -> &'w [Word<'a>]
@@ -29,16 +49,14 @@ pub fn define_front<'a>(
     words: &[Word<'a>],
 ) -> Result<bool, AllocError>
     requires { IsNear label }
-    ensures labels { OnOk result (labels.new ≡ Positions.define_all labels.old label (Positions.own_labels (map word words.now))) }
-    ensures repeated { IfOk result (λ b. b ≡ Positions.is_repeated labels.old label (Positions.own_labels (map word words.now))) }
+    ensures labels { OnOk result (labels.new ≡ Positions.define_front labels.old label (map word words.now)) }
+    ensures repeated { IfOk result (λ b. b ≡ Positions.is_repeated labels.old label (map word words.now)) }
 {
     let mut repeated = false;
     let mut rest = words;
-    while let [Word::Name(name), Word::Colon, tail @ ..] = rest {
-        if define_own(labels, label, name)? {
-            repeated = true;
-        }
-        rest = tail;
+    while begins_label(rest) {
+        repeated |= define_own(labels, label, first_name(rest))?;
+        rest = &rest[2..];
     }
     Ok(repeated)
 }
@@ -47,8 +65,8 @@ pub fn define_front<'a>(
 #[tactic(auto, unfolding(crate::specs::Positions::define))]
 fn define_own<'a>(labels: &mut Labels<'a>, label: Label, name: &'a [u8]) -> Result<bool, AllocError>
     requires { IsNear label }
-    ensures labels { OnOk result (labels.new ≡ Positions.define_all labels.old label (Positions.own_of name.entry.now)) }
-    ensures repeated { IfOk result (λ b. b ≡ Positions.is_repeated labels.old label (Positions.own_of name.entry.now)) }
+    ensures labels { OnOk result (labels.new ≡ Positions.define labels.old label name.entry.now) }
+    ensures repeated { IfOk result (λ b. b ≡ Positions.is_defined labels.old name.entry.now) }
 {
     if is_dotted(name) {
         return Ok(false);
@@ -76,14 +94,14 @@ pub fn has_dotted_label(words: &[Word]) -> bool
 
 /// The line defines a label.
 pub fn has_label(words: &[Word]) -> bool
-    ensures { result ≡ Faults.some_of (Positions.own_labels (map word words.now)) }
+    ensures { result ≡ Positions.has_label (map word words.now) }
 {
     let mut rest = words;
-    while let [Word::Name(name), Word::Colon, tail @ ..] = rest {
-        if !is_dotted(name) {
+    while begins_label(rest) {
+        if !is_dotted(first_name(rest)) {
             return true;
         }
-        rest = tail;
+        rest = &rest[2..];
     }
     false
 }
