@@ -61,3 +61,15 @@ first_fault labels end p earlier number [] = None
 first_fault labels end p earlier number (line ∷ lines) =
     found_or number (line_fault labels end p earlier line)
       (first_fault labels end (after p (line_words line)) (with_labels p earlier (line_words line)) (number + 1) lines)
+
+-- the number of the first line that defines a label again
+abbrev pub first_repeat : Position → Labels → ℕ → List (List ℕ) → Option ℕ
+first_repeat p earlier number [] = None
+first_repeat p earlier number (line ∷ lines) =
+    if repeats p earlier (line_words line) then Some number
+    else first_repeat (after p (line_words line)) (with_labels p earlier (line_words line)) (number + 1) lines
+
+-- the line that was found, or else this one if it defines a label again
+abbrev pub earlier_line : Option ℕ → Bool → ℕ → Option ℕ
+earlier_line (Some line) again number = Some line
+earlier_line None again number = if again then Some number else None

@@ -1,5 +1,6 @@
 -- The words of a line: its tokens, with what they say.
 use Rattle.std.specs.Prelude.{ℕ, Bool, List, [], ◌∷◌, map, slice_range, Result, Ok, Err, if◌then◌else◌, ◌==◌, ◌||◌, not, false}
+use Rattle.std.specs.Borrow.{Bor}
 use Rattle.mx_lex.specs.Bytes.{is_allowed}
 use Rattle.mx_lex.specs.Tokens.{tokens_of}
 use Rattle.mx_lex.specs.declared.token.Token.{Token}
@@ -47,3 +48,7 @@ words_at line (Err fault) = Err BadToken
 -- the words of a line, or why there are none
 unfoldable pub words_of : List ℕ → Result (List Word) Fault
 words_of line = if has_bad_byte line then Err BadByte else words_at line (tokens_of line)
+
+-- the lines that the program keeps
+abbrev pub texts : List (Bor (List ℕ)) → List (List ℕ)
+texts lines = map (λ line. line.now) lines

@@ -1,6 +1,7 @@
 //! Where a line stands.
-ghost use Rattle.std.specs.Prelude.{◌≡◌, ◌-◌, ◌^◌, ◌≤◌, ◌<◌, map};
+ghost use Rattle.std.specs.Prelude.{◌≡◌, ◌+◌, ◌-◌, ◌^◌, ◌≤◌, ◌<◌, map};
 ghost use Rattle.mx_asm.specs.Directives.{directive_named};
+ghost use Rattle.mx_asm.specs.LabelTable.{IsNear};
 ghost use Rattle.mx_asm.specs.Positions;
 ghost use Rattle.mx_asm.specs.Shapes.{word};
 
@@ -37,7 +38,8 @@ impl Position {
 
     /// What a label that stands here names.
     pub fn label(&self) -> Label
-        ensures { result ≡ Positions.label_here self.now }
+        ensures label { result ≡ Positions.label_here self.now }
+        ensures near { self.now.address ≤ 65537 → IsNear result }
     {
         match self.section {
             Section::Code => Label::Code(self.index),
@@ -50,7 +52,9 @@ impl Position {
     pub fn after(&self, statement: &[Word]) -> Position
         requires room { self.now.index < 2 ^ 32 - 1 }
         requires near { self.now.address ≤ 65537 }
-        ensures { result ≡ Positions.behind self.now (map word statement.now) }
+        ensures position { result ≡ Positions.behind self.now (map word statement.now) }
+        ensures index { result.index ≤ self.now.index + 1 }
+        ensures near { result.address ≤ 65537 }
     {
         let words = u64::from(self.address) + word_count(statement);
         Position {

@@ -1,5 +1,5 @@
 -- The lines of a text.
-use Rattle.std.specs.Prelude.{ℕ, ◌-◌, ◌==◌, List, [], ◌∷◌, length, take, map, slice_index, if◌then◌else◌}
+use Rattle.std.specs.Prelude.{ℕ, suc, ◌-◌, ◌==◌, List, [], ◌∷◌, length, take, map, slice_index, if◌then◌else◌}
 
 -- a byte at the front of the first line
 abbrev pub onto_first : ℕ → List (List ℕ) → List (List ℕ)
@@ -10,6 +10,11 @@ onto_first b (line ∷ lines) = (b ∷ line) ∷ lines
 abbrev pub pieces : List ℕ → List (List ℕ)
 pieces [] = []
 pieces (b ∷ bytes) = if b == 10 then [] ∷ pieces bytes else onto_first b (pieces bytes)
+
+-- how many bytes stand before the first LF
+abbrev pub line_len : List ℕ → ℕ
+line_len [] = 0
+line_len (b ∷ bytes) = if b == 10 then 0 else suc (line_len bytes)
 
 -- a CR at the end is dropped
 abbrev pub without_return : List ℕ → List ℕ
