@@ -22,9 +22,13 @@ abbrev pub is_data : Section → Bool
 is_data section.Data = true
 is_data section.Code = false
 
--- the line's data words end past the end of memory, or it has a data label that would stand there
+-- a data label of the line would stand past the end of memory
+abbrev pub stands_past : ℕ → Position → List Word → Bool
+stands_past end p words = is_data p.section && has_label words && nat_le end p.address
+
+-- the line's data words end past the end of memory, or a data label would stand there
 abbrev pub is_full : ℕ → Position → List Word → Bool
-is_full end p words = nat_lt end (after p words).address || (is_data p.section && has_label words && nat_le end p.address)
+is_full end p words = nat_lt end (after p words).address || stands_past end p words
 
 -- the first of the faults that its statement does not decide
 abbrev pub layout_fault : ℕ → Position → ℕ → List Word → Option Fault
@@ -35,8 +39,11 @@ layout_fault end p long words =
     else (if nat_lt 255 long then Some LineTooLong else None)))
 
 -- the least fault of a line: a label that is defined again comes behind the early faults and before all others
+abbrev pub with_repeat : Bool → Fault → Fault
+with_repeat repeated fault = if is_early fault then fault else (if repeated then DuplicateLabel else fault)
+
 abbrev pub least_fault : Bool → Result Effect Fault → Option Fault → Option Fault
-least_fault repeated (Err fault) rest = if is_early fault then Some fault else (if repeated then Some DuplicateLabel else Some fault)
+least_fault repeated (Err fault) rest = Some (with_repeat repeated fault)
 least_fault repeated (Ok effect) rest = if repeated then Some DuplicateLabel else rest
 
 abbrev pub words_fault : Labels → ℕ → Position → Bool → ℕ → Result (List Word) Fault → Option Fault
