@@ -1,7 +1,10 @@
+pub mod Counts
 pub mod Fits
 pub mod LineWords
 pub mod Fronts
+pub mod LabelBounds
 pub mod Labelled
+pub mod Listed
 pub mod Pieces
 pub mod Repeats
 pub mod Tables

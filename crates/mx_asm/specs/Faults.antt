@@ -1,5 +1,5 @@
 -- The fault of a line within its text, and the first faulty line.
-use Rattle.std.specs.Prelude.{◌≡◌, ℕ, ◌+◌, Bool, true, false, ◌&&◌, ◌||◌, nat_le, nat_lt, List, [], ◌∷◌, length, Option, Some, None, Result, Ok, Err, if◌then◌else◌}
+use Rattle.std.specs.Prelude.{◌≡◌, ℕ, ◌+◌, Bool, true, false, ◌&&◌, ◌||◌, nat_le, nat_lt, ◌==◌, List, [], ◌∷◌, length, Option, Some, None, Result, Ok, Err, if◌then◌else◌}
 use Rattle.mx_asm.specs.declared.fault.Fault.{Fault}
 use Rattle.mx_asm.specs.declared.fault.Fault.TheVariants.{UnknownMnemonic, BadOperands, BadRegister, NumberOutOfRange, DuplicateLabel, BadDirective, TooManyInstructions, DataFull, LineTooLong}
 use Rattle.mx_asm.specs.declared.position.Section.{Section}
@@ -80,3 +80,8 @@ first_repeat p earlier number (line ∷ lines) =
 abbrev pub earlier_line : Option ℕ → Bool → ℕ → Option ℕ
 earlier_line (Some line) again number = Some line
 earlier_line None again number = if again then Some number else None
+
+-- the line that was found is this one
+abbrev pub is_line : Option ℕ → ℕ → Bool
+is_line (Some line) number = line == number
+is_line None number = false

@@ -11,3 +11,4 @@ pub mod Positions
 pub mod Faults
 pub mod Texts
 pub mod Effects
+pub mod Listings

@@ -126,3 +126,8 @@ labels_from p labels (line ∷ lines) = labels_from (after p (line_words line)) 
 -- where a text begins
 abbrev pub start : ℕ → Position
 start address = record { section = section.Code; index = 0; address = address }
+
+-- where the lines from a position on end
+abbrev pub position_at_end : Position → List (List ℕ) → Position
+position_at_end p [] = p
+position_at_end p (line ∷ lines) = position_at_end (after p (line_words line)) lines

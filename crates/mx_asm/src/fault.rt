@@ -111,3 +111,25 @@ impl From<Memory> for LineError {
         LineError::Memory
     }
 }
+
+impl From<AllocError> for AsmError {
+    ghost use Rattle.std.specs.Prelude.{◌≡◌};
+    ghost use Rattle.mx_asm.specs.declared.fault.AsmError.TheVariants as errors;
+
+    ghost from_gives = { λ _ e. e ≡ errors.Memory };
+
+    fn from(_: AllocError) -> AsmError {
+        AsmError::Memory
+    }
+}
+
+impl From<Memory> for AsmError {
+    ghost use Rattle.std.specs.Prelude.{◌≡◌};
+    ghost use Rattle.mx_asm.specs.declared.fault.AsmError.TheVariants as errors;
+
+    ghost from_gives = { λ _ e. e ≡ errors.Memory };
+
+    fn from(_: Memory) -> AsmError {
+        AsmError::Memory
+    }
+}
