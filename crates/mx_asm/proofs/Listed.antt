@@ -1,8 +1,8 @@
 -- The loop over the lines of a text that makes its listing.
-use Rattle.std.proofs.Common.{◌≡◌, ℕ, ◌+◌, ◌≤◌, ◌<◌, List, [], ◌∷◌, ◌++◌, length, cond, eqb, Bool, true, false, Option, Some, None, Result, Ok, Err, refl, ap, sym, ◌∙◌, subst, append_assoc, length-append, arith}
+use Rattle.std.proofs.Common.{◌≡◌, ℕ, ◌+◌, ◌≤◌, ◌<◌, List, [], ◌∷◌, ◌++◌, length, drop, get_or, Bor, cond, eqb, Bool, true, false, Option, Some, None, Result, Ok, Err, refl, ap, sym, ◌∙◌, subst, append_assoc, length-append, arith}
 use Rattle.std.specs.Prelude.{All, min}
 use Rattle.std.proofs.lemmas.Bool.Decides.{nat_tests}
-use Rattle.std.proofs.lemmas.List.{append-nil}
+use Rattle.std.proofs.lemmas.List.{append-nil, at_drop_more}
 use Rattle.std.proofs.lemmas.List.Elements.{All-append, All-nil, All-cons}
 use Rattle.mx_source.specs.declared.statement.Statement.{Statement}
 use Rattle.mx_source.specs.declared.statement.Value.{Value}
@@ -10,11 +10,14 @@ use Rattle.mx_source.specs.Labels.{IsPlace}
 use Rattle.mx_source.specs.Statements.{StatementFits, ValueFits}
 use Rattle.mx_asm.specs.declared.fault.Fault.{Fault}
 use Rattle.mx_asm.specs.declared.position.Position.{Position}
-use Rattle.mx_asm.specs.Words.{Word, words_of}
+use Rattle.mx_asm.specs.Words.{Word, words_of, texts}
 use Rattle.mx_asm.specs.Instructions.{Labels}
 use Rattle.mx_asm.specs.Fitting.{LabelsFit}
 use Rattle.mx_asm.specs.Directives.{Effect, Nothing, Instruction, Data, Input, effect_of}
-use Rattle.mx_asm.specs.Effects.{EffectFits, first_input}
+use Rattle.mx_asm.specs.Effects.{EffectFits, first_input, IsFaultOf}
+use Rattle.mx_asm.specs.Listings.{IsRefusal, refusal}
+use Rattle.mx_asm.specs.declared.fault.LineError.{LineError}
+use Rattle.mx_asm.specs.declared.fault.LineError.TheVariants as errors
 use Rattle.mx_asm.specs.Positions.{line_words, statement_words, after, behind, with_labels, start, position_at_end, instruction_count, word_count}
 use Rattle.mx_asm.specs.Faults.{first_fault, found_or, line_fault, words_fault, first_repeat, repeats, is_line}
 use Rattle.mx_asm.specs.Texts.{effects_from, statements_in, lines_in, values_in, input_in, onto_statements, onto_lines, onto_values, onto_input, or_nothing}
@@ -173,3 +176,30 @@ module _ (labels : Labels) (end address : ℕ) (all : List (List ℕ)) (repeated
       let h4 = subst (λ x. Listed labels end address all repeated ss' ns' x (first_input input (onto_input number e None)) p' (number + 1) rest) (sym ev) h3 in
       let h5 = subst (λ x. Listed labels end address all repeated ss' ns' vs' x p' (number + 1) rest) (sym ei) h4 in
       subst (λ x. Listed labels end address all repeated ss' ns' vs' input' p' x rest) (sym em) h5
+
+pub texts_step : (lines : List (Bor (List ℕ))) (i : ℕ) (d : Bor (List ℕ)) → i < length lines → texts (drop i lines) ≡ (get_or lines i d).now ∷ texts (drop (i + 1) lines)
+texts_step lines i d lt = at_drop_more texts lines i d lt
+
+pub refusal_is : (found : Option (ℕ × Fault)) (here : Option Fault) (number : ℕ) (e : LineError) → ((fault : Fault) → here ≡ Some fault → found ≡ Some (number, fault)) → IsFaultOf here e → IsRefusal found (refusal number e)
+refusal_is found here number errors.Memory h k = tt
+refusal_is found here number (errors.Fault fault) h k = h fault k
+
+pub listed_none : (labels : Labels) (end address : ℕ) (all : List (List ℕ)) (repeated : Option ℕ) → first_repeat (start address) [] 1 all ≡ repeated → address ≤ end
+    → Listed labels end address all repeated [] [] [] None (start address) 1 all
+listed_none labels end address all repeated h le = record {
+  earlier = [];
+  fault = refl;
+  repeat = h;
+  statements = refl;
+  lines = refl;
+  values = refl;
+  inputs = refl;
+  last = refl;
+  count = refl;
+  each = refl;
+  words = omega arith;
+  few = omega arith;
+  within = le;
+  statements_fit = λ count fit. All-nil (StatementFits (IsPlace labels count));
+  values_fit = λ count fit. All-nil (ValueFits (IsPlace labels count));
+}

@@ -5,6 +5,8 @@ use Rattle.mx_source.specs.Statements.{StatementFits, ValueFits}
 use Rattle.mx_asm.specs.declared.fault.Fault.{Fault}
 use Rattle.mx_asm.specs.declared.fault.AsmError.{AsmError}
 use Rattle.mx_asm.specs.declared.fault.AsmError.TheVariants.{Refused, Memory}
+use Rattle.mx_asm.specs.declared.fault.LineError.{LineError}
+use Rattle.mx_asm.specs.declared.fault.LineError.TheVariants as errors
 use Rattle.mx_asm.specs.declared.listing.Listing.{Listing}
 use Rattle.mx_asm.specs.Instructions.{Labels}
 use Rattle.mx_asm.specs.Fitting.{LabelsFit}
@@ -30,3 +32,8 @@ pub record IsListingOf (labels : Labels) (address end : ℕ) (all : List (List �
 abbrev pub IsRefusal : Option (ℕ × Fault) → AsmError → Type 0
 IsRefusal found (Refused line fault) = found ≡ Some (line, fault)
 IsRefusal found Memory = Unit {0}
+
+-- the refusal of a text by the fault of a line
+abbrev pub refusal : ℕ → LineError → AsmError
+refusal line (errors.Fault fault) = Refused line fault
+refusal line errors.Memory = Memory

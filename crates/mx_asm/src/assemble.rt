@@ -2,6 +2,7 @@
 ghost use Rattle.std.specs.Prelude.{◌≡◌, ◌≤◌, [], length, IfOk, IfErr};
 ghost use Rattle.mx_asm.specs.Faults.{first_fault, first_repeat};
 ghost use Rattle.mx_asm.specs.Faults;
+ghost use Rattle.mx_asm.specs.Listings;
 ghost use Rattle.mx_asm.specs.Listings.{IsListingOf, IsRefusal};
 ghost use Rattle.mx_asm.specs.Positions.{start};
 ghost use Rattle.mx_asm.specs.Words.{texts};
@@ -36,19 +37,23 @@ fn read_lines(
         let again = is_line(repeated, number);
         let read = match read_line(alloc, labels, end, &position, again, line) {
             Ok(read) => read,
-            Err(LineError::Fault(fault)) => {
-                return Err(AsmError::Refused {
-                    line: number,
-                    fault,
-                });
-            }
-            Err(LineError::Memory) => return Err(AsmError::Memory),
+            Err(error) => return Err(refusal(number, error)),
         };
         position = read.next;
         add(&mut listing, number, read.effect)?;
         number += 1;
     }
     Ok(listing)
+}
+
+/// The refusal of a text by the fault of this line.
+fn refusal(line: u32, error: LineError) -> AsmError
+    ensures { result ≡ Listings.refusal line error }
+{
+    match error {
+        LineError::Fault(fault) => AsmError::Refused { line, fault },
+        LineError::Memory => AsmError::Memory,
+    }
 }
 
 /// The line that was found is this one.

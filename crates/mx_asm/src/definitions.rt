@@ -1,5 +1,6 @@
 //! The labels of a text.
 ghost use Rattle.std.specs.Prelude.{◌≡◌, ◌≤◌, [], map, length, IfOk};
+ghost use Rattle.mx_source.specs.Names.{named_labels};
 ghost use Rattle.mx_asm.specs.Faults.{first_repeat};
 ghost use Rattle.mx_asm.specs.Faults;
 ghost use Rattle.mx_asm.specs.Positions.{labels_from, start};
@@ -12,12 +13,16 @@ use crate::front::{define_front, statement_words};
 use crate::labels::Labels;
 use crate::position::Position;
 use crate::word::{Word, words_of};
+use indexmap::IndexMap;
+use mx_source::{Label, Name};
 use std::alloc::{AllocError, Global};
 
 /// The labels of a text, and the first line that defines one again.
 #[derive(Drop)]
 pub struct Definitions<'a> {
     pub labels: Labels<'a>,
+    /// The same labels, for the source.
+    pub named: IndexMap<Name, Label>,
     pub repeated: Option<u32>,
 }
 
@@ -30,20 +35,27 @@ pub fn define_all<'a>(
     requires few { length lines.now ≤ 4194304 }
     requires near { address ≤ 65536 }
     ensures labels { IfOk result (λ d. d.labels ≡ labels_from (start address) [] (texts lines.now)) }
+    ensures named { IfOk result (λ d. named_labels d.named.entries ≡ d.labels) }
     ensures repeated { IfOk result (λ d. d.repeated ≡ first_repeat (start address) [] 1 (texts lines.now)) }
 {
     let mut labels = Labels::new(alloc);
+    let mut named = IndexMap::new(alloc);
     let mut repeated = None;
     let mut position = Position::start(address);
     let mut number = 1u32;
     for line in lines {
         let words = line_words(alloc, line)?;
-        let again = define_front(&mut labels, position.label(), &words)?;
+        let label = position.label();
+        let again = define_front(alloc, &mut labels, &mut named, label, &words)?;
         repeated = first_line(repeated, again, number);
         position = position.after(statement_words(&words));
         number += 1;
     }
-    Ok(Definitions { labels, repeated })
+    Ok(Definitions {
+        labels,
+        named,
+        repeated,
+    })
 }
 
 /// The words of a line, none where it does not split into tokens.

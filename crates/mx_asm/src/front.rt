@@ -1,5 +1,7 @@
 //! The labels at the front of a line.
-ghost use Rattle.std.specs.Prelude.{◌≡◌, ◌≤◌, true, length, map, OnOk, IfOk};
+ghost use Rattle.std.specs.Prelude.{◌≡◌, ◌≤◌, [], ◌∷◌, ◌++◌, true, length, map, None, OnOk, IfOk};
+ghost use Rattle.mx_source.specs.Names.{named_labels};
+ghost use Rattle.mx_asm.specs.Operands.{label_named};
 ghost use Rattle.mx_asm.specs.LabelTable.{IsNear};
 ghost use Rattle.mx_asm.specs.Positions;
 ghost use Rattle.mx_asm.specs.Shapes.{word};
@@ -7,8 +9,9 @@ ghost use Rattle.mx_asm.specs.Shapes.{word};
 use crate::directive::is_dotted;
 use crate::labels::Labels;
 use crate::word::Word;
-use mx_source::Label;
-use std::alloc::AllocError;
+use indexmap::IndexMap;
+use mx_source::{Label, Name};
+use std::alloc::{AllocError, Global};
 
 /// A name and a `:` stand at the front.
 fn begins_label(words: &[Word]) -> bool
@@ -44,18 +47,22 @@ pub fn statement_words<'a, 'w>(words: &'w [Word<'a>]) -> &'w [Word<'a>]
 
 /// Defines the labels at the front, and tells whether one of them is defined before.
 pub fn define_front<'a>(
+    alloc: Global,
     labels: &mut Labels<'a>,
+    named: &mut IndexMap<Name, Label>,
     label: Label,
     words: &[Word<'a>],
 ) -> Result<bool, AllocError>
-    requires { IsNear label }
+    requires near { IsNear label }
+    requires same { named_labels named.old.entries ≡ labels.old }
+    ensures same { OnOk result (named_labels named.new.entries ≡ labels.new) }
     ensures labels { OnOk result (labels.new ≡ Positions.define_front labels.old label (map word words.now)) }
     ensures repeated { IfOk result (λ b. b ≡ Positions.is_repeated labels.old label (map word words.now)) }
 {
     let mut repeated = false;
     let mut rest = words;
     while begins_label(rest) {
-        repeated |= define_own(labels, label, first_name(rest))?;
+        repeated |= define_own(alloc, labels, named, label, first_name(rest))?;
         rest = &rest[2..];
     }
     Ok(repeated)
@@ -63,8 +70,16 @@ pub fn define_front<'a>(
 
 /// Defines a label unless it is defined or none, and tells whether it is defined before.
 #[tactic(auto, unfolding(crate::specs::Positions::define))]
-fn define_own<'a>(labels: &mut Labels<'a>, label: Label, name: &'a [u8]) -> Result<bool, AllocError>
-    requires { IsNear label }
+fn define_own<'a>(
+    alloc: Global,
+    labels: &mut Labels<'a>,
+    named: &mut IndexMap<Name, Label>,
+    label: Label,
+    name: &'a [u8],
+) -> Result<bool, AllocError>
+    requires near { IsNear label }
+    requires same { named_labels named.old.entries ≡ labels.old }
+    ensures same { OnOk result (named_labels named.new.entries ≡ labels.new) }
     ensures labels { OnOk result (labels.new ≡ Positions.define labels.old label name.entry.now) }
     ensures repeated { IfOk result (λ b. b ≡ Positions.is_defined labels.old name.entry.now) }
 {
@@ -74,8 +89,26 @@ fn define_own<'a>(labels: &mut Labels<'a>, label: Label, name: &'a [u8]) -> Resu
     if labels.find(name).is_some() {
         return Ok(true);
     }
+    add_named(alloc, named, name, label)?;
     labels.define(name, label)?;
     Ok(false)
+}
+
+/// Adds a label under a name of its own.
+fn add_named(
+    alloc: Global,
+    named: &mut IndexMap<Name, Label>,
+    name: &[u8],
+    label: Label,
+) -> Result<(), AllocError>
+    requires { label_named (named_labels named.old.entries) name.now ≡ None }
+    ensures { OnOk result (named_labels named.new.entries ≡ named_labels named.old.entries ++ (name.now, label) ∷ []) }
+{
+    let Ok(key) = Name::new(alloc, name) else {
+        return Err(AllocError);
+    };
+    named.insert(key, label)?;
+    Ok(())
 }
 
 /// A name that begins with `.` stands in the place of a label.
