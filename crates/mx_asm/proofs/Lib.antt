@@ -5,6 +5,8 @@ pub mod Fronts
 pub mod LabelBounds
 pub mod Labelled
 pub mod Listed
+pub mod Named
 pub mod Pieces
 pub mod Repeats
 pub mod Tables
+pub mod Whole

@@ -5,7 +5,7 @@ use Rattle.mx_asm.specs.Faults.{words_fault, is_line, first_fault}
 use Rattle.mx_asm.specs.Positions.{start}
 use Rattle.mx_asm.specs.Listings.{IsRefusal}
 use Rattle.mx_asm.proofs.Listed.{Listed, listed_step, refused, refusal_is, texts_step}
-use Rattle.mx_asm.proofs.assemble.read_lines.Goals as goal
+use Rattle.mx_asm.proofs.assembler.read_lines.Goals as goal
 
 -- what stands past the end of the lines
 past : Bor (List ℕ)

@@ -1,7 +1,7 @@
 use Rattle.std.proofs.Common.{◌≡◌, ◌≤◌, ◌+◌, [], drop}
 use Rattle.mx_asm.specs.Words.{texts}
 use Rattle.mx_asm.proofs.Listed.{Listed}
-use Rattle.mx_asm.proofs.assemble.read_lines.Given as goal
+use Rattle.mx_asm.proofs.assembler.read_lines.Given as goal
 
 abbrev pub invariant-loop-line : goal.invariant-loop-line
 invariant-loop-line l = record {
