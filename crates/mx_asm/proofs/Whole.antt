@@ -18,7 +18,8 @@ use Rattle.mx_asm.specs.Listings.{IsListingOf}
 use Rattle.mx_asm.specs.Texts.{text_labels, text_effects, text_fault, source_of, effects_from, statements_in, lines_in, values_in, input_in, ReadsAs}
 use Rattle.mx_asm.proofs.LabelBounds.{labels_fit}
 
-made : List Statement → List ℕ → List Value → Labels → Option ℕ → SourceValue
+-- a source of these lists
+abbrev pub made : List Statement → List ℕ → List Value → Labels → Option ℕ → SourceValue
 made ss ns vs labels input = record { statements = ss; lines = ns; user_data = vs; labels = labels; input = input }
 
 module _ (low end : ℕ) (text : List ℕ) (lines : List (Bor (List ℕ))) (labels named : Labels) (split : texts lines ≡ lines_of text) (defined : labels ≡ labels_from (start low) [] (texts lines)) (same : named ≡ labels) where
@@ -35,7 +36,7 @@ module _ (low end : ℕ) (text : List ℕ) (lines : List (Bor (List ℕ))) (labe
   all_effects = ap (λ k. effects_from k (start low) 1 (texts lines)) all_labels ∙ ap (effects_from (text_labels low text) (start low) 1) split
 
   pub whole_source : (l : Listing) → IsListingOf labels low end (texts lines) l → made l.statements.items l.lines.items l.user_data.items named l.input ≡ source_of low text
-  unfolding source_of made
+  unfolding source_of
   whole_source l h =
       ap (λ x. made x l.lines.items l.user_data.items named l.input) (h.statements ∙ ap statements_in all_effects)
       ∙ ap (λ x. made (statements_in (text_effects low text)) x l.user_data.items named l.input) (h.lines ∙ ap lines_in all_effects)
