@@ -1,3 +1,12 @@
-pub mod Cuts
-pub mod Numbers
-pub mod Readings
+pub mod Counts
+pub mod Fits
+pub mod LineWords
+pub mod Fronts
+pub mod LabelBounds
+pub mod Labelled
+pub mod Listed
+pub mod Named
+pub mod Pieces
+pub mod Repeats
+pub mod Tables
+pub mod Whole

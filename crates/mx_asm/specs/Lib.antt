@@ -1,3 +1,14 @@
-pub mod Lines
-pub mod Plain
-pub mod PlainStep
+pub mod Reading
+pub mod Words
+pub mod Shapes
+pub mod Operands
+pub mod Mnemonics
+pub mod Instructions
+pub mod LabelTable
+pub mod Fitting
+pub mod Directives
+pub mod Positions
+pub mod Faults
+pub mod Texts
+pub mod Effects
+pub mod Listings

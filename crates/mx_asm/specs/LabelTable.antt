@@ -1,0 +1,18 @@
+-- The labels of a text as the assembler keeps them.
+use Rattle.std.specs.Prelude.{ℕ, ◌≤◌, List, map, All}
+use Rattle.std.specs.Borrow.{Bor}
+use Rattle.mx_source.specs.declared.statement.Label.{Label}
+use Rattle.mx_source.specs.declared.statement.Label.TheVariants.{Code, Data}
+use Rattle.mx_asm.specs.declared.labels.Labels.TheInside.{Inside}
+
+-- a label with the bytes of its name
+abbrev pub named : Bor (List ℕ) × Label → List ℕ × Label
+named entry = (entry.0.now, entry.1)
+
+abbrev pub labels_view : Inside → List (List ℕ × Label)
+labels_view inside = map named inside.table.entries
+
+-- an address of at most 65537
+abbrev pub IsNear : Label → Type 0
+IsNear (Code i) = Unit {0}
+IsNear (Data a) = a ≤ 65537

@@ -1,0 +1,136 @@
+//! The assembler.
+ghost use Rattle.std.specs.Prelude.{◌≡◌, ◌≤◌, [], length, IfOk, IfErr};
+ghost use Rattle.mx_asm.specs.Faults.{first_fault, first_repeat};
+ghost use Rattle.mx_asm.specs.Faults;
+ghost use Rattle.mx_asm.specs.Listings;
+ghost use Rattle.mx_asm.specs.Listings.{IsListingOf, IsRefusal};
+ghost use Rattle.mx_asm.specs.Positions.{start};
+ghost use Rattle.mx_asm.specs.Texts.{ReadsAs, text_fault};
+ghost use Rattle.mx_asm.specs.Words.{texts};
+ghost use Rattle.mx_source.specs.Names.{named_labels};
+ghost use Rattle.mx_source.specs.SourceValue.{IsSource, source_of};
+
+use crate::definitions::{Definitions, define_all};
+use crate::fault::{AsmError, LineError};
+use crate::labels::Labels;
+use crate::line::read_line;
+use crate::lines::lines_of;
+use crate::listing::{Listing, add};
+use crate::position::Position;
+use indexmap::IndexMap;
+use mx_source::{Label, Name, Source};
+use std::alloc::Global;
+
+/// What all lines do, or the first faulty line.
+fn read_lines(
+    alloc: Global,
+    labels: &Labels,
+    repeated: Option<u32>,
+    lines: &[&[u8]],
+    address: u32,
+    end: u32,
+) -> Result<Listing, AsmError>
+    requires few { length lines.now ≤ 4194304 }
+    requires order { address ≤ end }
+    requires within { end ≤ 65536 }
+    requires repeated { first_repeat (start address) [] 1 (texts lines.now) ≡ repeated }
+    ensures read { IfOk result (IsListingOf labels.now address end (texts lines.now)) }
+    ensures refused { IfErr result (IsRefusal (first_fault labels.now end (start address) [] 1 (texts lines.now))) }
+{
+    let mut listing = Listing::new(alloc);
+    let mut position = Position::start(address);
+    let mut number = 1u32;
+    for line in lines {
+        let again = is_line(repeated, number);
+        let read = match read_line(alloc, labels, end, &position, again, line) {
+            Ok(read) => read,
+            Err(error) => return Err(refusal(number, error)),
+        };
+        position = read.next;
+        add(&mut listing, number, read.effect)?;
+        number += 1;
+    }
+    Ok(listing)
+}
+
+/// The refusal of a text by the fault of this line.
+fn refusal(line: u32, error: LineError) -> AsmError
+    ensures { result ≡ Listings.refusal line error }
+{
+    match error {
+        LineError::Fault(fault) => AsmError::Refused { line, fault },
+        LineError::Memory => AsmError::Memory,
+    }
+}
+
+/// The line that was found is this one.
+fn is_line(found: Option<u32>, number: u32) -> bool
+    ensures { result ≡ Faults.is_line found number }
+{
+    match found {
+        Some(line) => line == number,
+        None => false,
+    }
+}
+
+/// The source that a text reads as, its data from address 256 to 65535.
+///
+/// # Errors
+///
+/// `Refused` with the first faulty line and its least fault, exactly where some line has a fault.
+/// `Memory` where there is no room for the source.
+pub fn assemble(alloc: Global, text: &[u8]) -> Result<Source, AsmError>
+    requires { length text.now ≤ 4194304 }
+    ensures source { IfOk result (ReadsAs 256 65536 text.now) }
+    ensures refused { IfErr result (IsRefusal (text_fault 256 65536 text.now)) }
+{
+    assemble_at(alloc, text, 256, 65536)
+}
+
+/// The source that a text reads as, its data words and data labels from one address to before another.
+///
+/// # Errors
+///
+/// Those of `assemble`.
+pub fn assemble_at(
+    alloc: Global,
+    text: &[u8],
+    user_data: u32,
+    end: u32,
+) -> Result<Source, AsmError>
+    requires low { 256 ≤ user_data }
+    requires order { user_data ≤ end }
+    requires within { end ≤ 65536 }
+    requires short { length text.now ≤ 4194304 }
+    ensures source { IfOk result (ReadsAs user_data end text.now) }
+    ensures refused { IfErr result (IsRefusal (text_fault user_data end text.now)) }
+{
+    let lines = lines_of(alloc, text)?;
+    let Definitions {
+        labels,
+        named,
+        repeated,
+    } = define_all(alloc, &lines, user_data)?;
+    match read_lines(alloc, &labels, repeated, &lines, user_data, end) {
+        Ok(listing) => Ok(source(listing, named)),
+        Err(error) => Err(error),
+    }
+}
+
+/// The source of a listing and its labels.
+fn source(listing: Listing, labels: IndexMap<Name, Label>) -> Source
+    requires { IsSource (source_of listing.statements.items listing.lines.items listing.user_data.items (named_labels labels.entries)) }
+    ensures { result ≡ record { statements = listing.statements.items; lines = listing.lines.items; user_data = listing.user_data.items; labels = named_labels labels.entries; input = listing.input } }
+{
+    let Listing {
+        statements,
+        lines,
+        user_data,
+        input,
+    } = listing;
+    let source = Source::make(statements, lines, user_data, labels);
+    match input {
+        Some(line) => source.with_input(line),
+        None => source,
+    }
+}

@@ -1,0 +1,80 @@
+//! The labels of a text.
+ghost use Rattle.std.specs.Prelude.{◌≡◌, ◌≤◌, [], map, length, IfOk};
+ghost use Rattle.mx_source.specs.Names.{named_labels};
+ghost use Rattle.mx_asm.specs.Faults.{first_repeat};
+ghost use Rattle.mx_asm.specs.Faults;
+ghost use Rattle.mx_asm.specs.Positions.{labels_from, start};
+ghost use Rattle.mx_asm.specs.Positions;
+ghost use Rattle.mx_asm.specs.Shapes.{word};
+ghost use Rattle.mx_asm.specs.Words.{texts};
+
+use crate::fault::LineError;
+use crate::front::{define_front, statement_words};
+use crate::labels::Labels;
+use crate::position::Position;
+use crate::word::{Word, words_of};
+use indexmap::IndexMap;
+use mx_source::{Label, Name};
+use std::alloc::{AllocError, Global};
+
+/// The labels of a text, and the first line that defines one again.
+#[derive(Drop)]
+pub struct Definitions<'a> {
+    pub labels: Labels<'a>,
+    /// The same labels, for the source.
+    pub named: IndexMap<Name, Label>,
+    pub repeated: Option<u32>,
+}
+
+/// The definitions of all lines, whatever is wrong with them.
+pub fn define_all<'a>(
+    alloc: Global,
+    lines: &[&'a [u8]],
+    address: u32,
+) -> Result<Definitions<'a>, AllocError>
+    requires few { length lines.now ≤ 4194304 }
+    requires near { address ≤ 65536 }
+    ensures labels { IfOk result (λ d. d.labels ≡ labels_from (start address) [] (texts lines.now)) }
+    ensures named { IfOk result (λ d. named_labels d.named.entries ≡ d.labels) }
+    ensures repeated { IfOk result (λ d. d.repeated ≡ first_repeat (start address) [] 1 (texts lines.now)) }
+{
+    let mut labels = Labels::new(alloc);
+    let mut named = IndexMap::new(alloc);
+    let mut repeated = None;
+    let mut position = Position::start(address);
+    let mut number = 1u32;
+    for line in lines {
+        let words = line_words(alloc, line)?;
+        let label = position.label();
+        let again = define_front(alloc, &mut labels, &mut named, label, &words)?;
+        repeated = first_line(repeated, again, number);
+        position = position.after(statement_words(&words));
+        number += 1;
+    }
+    Ok(Definitions {
+        labels,
+        named,
+        repeated,
+    })
+}
+
+/// The words of a line, none where it does not split into tokens.
+fn line_words(alloc: Global, line: &[u8]) -> Result<Vec<Word<'_>>, AllocError>
+    ensures { IfOk result (λ v. map word v.items ≡ Positions.line_words line.now) }
+{
+    match words_of(alloc, line) {
+        Ok(words) => Ok(words),
+        Err(LineError::Fault(_)) => Ok(Vec::new(alloc)),
+        Err(LineError::Memory) => Err(AllocError),
+    }
+}
+
+/// The line that was found, or else this one where it defines a label again.
+fn first_line(found: Option<u32>, again: bool, number: u32) -> Option<u32>
+    ensures { result ≡ Faults.earlier_line found again number }
+{
+    match found {
+        Some(line) => Some(line),
+        None => again.then_some(number),
+    }
+}

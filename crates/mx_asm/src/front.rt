@@ -1,0 +1,140 @@
+//! The labels at the front of a line.
+ghost use Rattle.std.specs.Prelude.{◌≡◌, ◌≤◌, [], ◌∷◌, ◌++◌, true, length, map, None, OnOk, IfOk};
+ghost use Rattle.mx_source.specs.Names.{named_labels};
+ghost use Rattle.mx_asm.specs.Operands.{label_named};
+ghost use Rattle.mx_asm.specs.LabelTable.{IsNear};
+ghost use Rattle.mx_asm.specs.Positions;
+ghost use Rattle.mx_asm.specs.Shapes.{word};
+
+use crate::directive::is_dotted;
+use crate::labels::Labels;
+use crate::word::Word;
+use indexmap::IndexMap;
+use mx_source::{Label, Name};
+use std::alloc::{AllocError, Global};
+
+/// A name and a `:` stand at the front.
+fn begins_label(words: &[Word]) -> bool
+    ensures front { result ≡ Positions.begins_label (map word words.now) }
+    ensures two { result ≡ true → 2 ≤ length words.now }
+{
+    match words {
+        [Word::Name(_), Word::Colon, ..] => true,
+        _ => false,
+    }
+}
+
+/// The name at the front.
+fn first_name<'a>(words: &[Word<'a>]) -> &'a [u8]
+    ensures { result.now ≡ Positions.first_name (map word words.now) }
+{
+    match words {
+        [Word::Name(name), ..] => name,
+        _ => &[],
+    }
+}
+
+/// The statement behind the labels at the front.
+pub fn statement_words<'a, 'w>(words: &'w [Word<'a>]) -> &'w [Word<'a>]
+    ensures { map word result.now ≡ Positions.statement_words (map word words.entry.now) }
+{
+    let mut rest = words;
+    while let [Word::Name(_), Word::Colon, tail @ ..] = rest {
+        rest = tail;
+    }
+    rest
+}
+
+/// Defines the labels at the front, and tells whether one of them is defined before.
+pub fn define_front<'a>(
+    alloc: Global,
+    labels: &mut Labels<'a>,
+    named: &mut IndexMap<Name, Label>,
+    label: Label,
+    words: &[Word<'a>],
+) -> Result<bool, AllocError>
+    requires near { IsNear label }
+    requires same { named_labels named.old.entries ≡ labels.old }
+    ensures same { OnOk result (named_labels named.new.entries ≡ labels.new) }
+    ensures labels { OnOk result (labels.new ≡ Positions.define_front labels.old label (map word words.now)) }
+    ensures repeated { IfOk result (λ b. b ≡ Positions.is_repeated labels.old label (map word words.now)) }
+{
+    let mut repeated = false;
+    let mut rest = words;
+    while begins_label(rest) {
+        repeated |= define_own(alloc, labels, named, label, first_name(rest))?;
+        rest = &rest[2..];
+    }
+    Ok(repeated)
+}
+
+/// Defines a label unless it is defined or none, and tells whether it is defined before.
+#[tactic(auto, unfolding(crate::specs::Positions::define))]
+fn define_own<'a>(
+    alloc: Global,
+    labels: &mut Labels<'a>,
+    named: &mut IndexMap<Name, Label>,
+    label: Label,
+    name: &'a [u8],
+) -> Result<bool, AllocError>
+    requires near { IsNear label }
+    requires same { named_labels named.old.entries ≡ labels.old }
+    ensures same { OnOk result (named_labels named.new.entries ≡ labels.new) }
+    ensures labels { OnOk result (labels.new ≡ Positions.define labels.old label name.entry.now) }
+    ensures repeated { IfOk result (λ b. b ≡ Positions.is_defined labels.old name.entry.now) }
+{
+    if is_dotted(name) {
+        return Ok(false);
+    }
+    if labels.find(name).is_some() {
+        return Ok(true);
+    }
+    add_named(alloc, named, name, label)?;
+    labels.define(name, label)?;
+    Ok(false)
+}
+
+/// Adds a label under a name of its own.
+fn add_named(
+    alloc: Global,
+    named: &mut IndexMap<Name, Label>,
+    name: &[u8],
+    label: Label,
+) -> Result<(), AllocError>
+    requires { label_named (named_labels named.old.entries) name.now ≡ None }
+    ensures { OnOk result (named_labels named.new.entries ≡ named_labels named.old.entries ++ (name.now, label) ∷ []) }
+{
+    let Ok(key) = Name::new(alloc, name) else {
+        return Err(AllocError);
+    };
+    named.insert(key, label)?;
+    Ok(())
+}
+
+/// A name that begins with `.` stands in the place of a label.
+pub fn has_dotted_label(words: &[Word]) -> bool
+    ensures { result ≡ Positions.has_dotted_label (map word words.now) }
+{
+    let mut rest = words;
+    while let [Word::Name(name), Word::Colon, tail @ ..] = rest {
+        if is_dotted(name) {
+            return true;
+        }
+        rest = tail;
+    }
+    false
+}
+
+/// The line defines a label.
+pub fn has_label(words: &[Word]) -> bool
+    ensures { result ≡ Positions.has_label (map word words.now) }
+{
+    let mut rest = words;
+    while begins_label(rest) {
+        if !is_dotted(first_name(rest)) {
+            return true;
+        }
+        rest = &rest[2..];
+    }
+    false
+}

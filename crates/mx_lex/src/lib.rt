@@ -1,0 +1,10 @@
+//! The tokens of a line of source text.
+#![tactic(auto)]
+
+mod bytes;
+mod lexer;
+mod numbers;
+mod token;
+
+pub use lexer::Lexer;
+pub use token::{Kind, LexFault, Token};
