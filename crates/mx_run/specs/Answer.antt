@@ -2,8 +2,8 @@ use Rattle.std.specs.Prelude.{◌≡◌, ℕ, ◌<◌, List, [], ◌∷◌, ◌+
 use Rattle.std.specs.Fmt.{decimal}
 use Rattle.mx_isa.specs.declared.inst.Inst.{Inst}
 use Rattle.mx_io.specs.Counts.{with_more}
-use Rattle.mx_asm.specs.Plain.{plain_reading}
-use Rattle.mx_asm.specs.PlainStep.{meaning_of}
+use Rattle.mx_plain.specs.Plain.{plain_reading}
+use Rattle.mx_plain.specs.PlainStep.{meaning_of}
 use Rattle.mx_run.specs.Report.{report_text}
 use Rattle.mx_run.specs.declared.status.Status.{Status}
 use Rattle.mx_run.specs.declared.status.Status.TheVariants.{Halted, Refused, Usage, ReadFault}

@@ -1,6 +1,6 @@
 use Rattle.std.specs.Prelude.{ℕ, ◌+◌, ◌/◌, ◌%◌, ◌^◌, List, [], ◌∷◌, ◌++◌, length, codes, slice_index, if◌then◌else◌, nat_lt, zero, suc}
 use Rattle.std.specs.Fmt.{decimal}
-use Rattle.mx_asm.specs.PlainStep.{State}
+use Rattle.mx_plain.specs.PlainStep.{State}
 
 -- the byte of a hexadecimal digit: `0` to `9`, `a` to `f`
 abbrev pub hex_digit : ℕ → ℕ

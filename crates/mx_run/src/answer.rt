@@ -2,7 +2,7 @@
 ghost use Rattle.std.specs.Prelude.{◌≡◌, ◌≢◌, ◌≤◌, ◌⊎◌, ◌++◌, true, Some, None, Ok, Err, IfOk, codes, length, map, string_bytes, List, ℕ};
 ghost use Rattle.std.specs.Fmt.{decimal};
 ghost use Rattle.mx_io.specs.Counts.{Rose, RoseAbove, one_more};
-ghost use Rattle.mx_asm.specs.Plain.{plain_reading};
+ghost use Rattle.mx_plain.specs.Plain.{plain_reading};
 ghost use Rattle.mx_run.specs.Words.{asked};
 ghost use Rattle.mx_run.specs.Answer.{Answer, Reading, asked_answer, run_answer, source_answer, text_line, usage, source_failed, source_too_long};
 ghost use Rattle.mx_run.specs.Causes.{Supports, reply_answer};
@@ -11,7 +11,7 @@ use crate::machine::run_plain;
 use crate::report::report_of;
 use crate::status::Status;
 use crate::words::source_asked;
-use mx_asm::{PlainError, read_plain};
+use mx_plain::{PlainError, read_plain};
 use mx_io::{Memory, Shelf, ShelfFault};
 use std::alloc::{AllocError, Global};
 

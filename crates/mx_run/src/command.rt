@@ -1,7 +1,7 @@
 //! The top call.
 ghost use Rattle.std.specs.Prelude.{◌≡◌, ◌≢◌, ◌≤◌, ◌⊎◌, length, true, Some, None, map, string_bytes, List, ℕ};
 ghost use Rattle.mx_io.specs.Counts.{Rose, one_more};
-ghost use Rattle.mx_asm.specs.Plain.{plain_reading};
+ghost use Rattle.mx_plain.specs.Plain.{plain_reading};
 ghost use Rattle.mx_run.specs.Words.{asked};
 ghost use Rattle.mx_run.specs.Answer.{answer_of, usage, source_failed, source_limit, run_answer, Answers, PutsPrefix};
 ghost use Rattle.mx_run.specs.Causes.{FailsToRead, FindsTooLong};

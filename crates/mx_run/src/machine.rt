@@ -1,8 +1,8 @@
 //! A machine that runs encoded words one by one.
 ghost use Rattle.std.specs.Prelude.{◌≡◌, All, not, IfOk, Some};
 ghost use Rattle.mx_isa.specs.Fields.{InstFits};
-ghost use Rattle.mx_asm.specs.Plain.{is_halt};
-ghost use Rattle.mx_asm.specs.PlainStep.{State, with_register, step, meaning_of};
+ghost use Rattle.mx_plain.specs.Plain.{is_halt};
+ghost use Rattle.mx_plain.specs.PlainStep.{State, with_register, step, meaning_of};
 
 use mx_code::{decode, encode};
 use mx_io::Memory;

@@ -2,7 +2,7 @@
 ghost use Rattle.std.specs.Prelude.{◌≡◌, ◌<◌, ◌≤◌, ◌++◌, ◌∷◌, [], OnOk, IfOk, length, slice_index};
 ghost use Rattle.std.specs.Fmt.{decimal};
 ghost use Rattle.mx_run.specs.Report.{hex_digit, word_text, register_line, register_lines, report_text};
-ghost use Rattle.mx_asm.specs.PlainStep.{State};
+ghost use Rattle.mx_plain.specs.PlainStep.{State};
 
 use crate::machine::Machine;
 use std::alloc::{AllocError, Global};

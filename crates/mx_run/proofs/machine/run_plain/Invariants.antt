@@ -1,5 +1,5 @@
 use Rattle.std.proofs.Common.{◌≡◌, drop}
-use Rattle.mx_asm.specs.PlainStep.{run_from, meaning_of, State}
+use Rattle.mx_plain.specs.PlainStep.{run_from, meaning_of, State}
 use Rattle.mx_run.proofs.machine.run_plain.Given as goal
 
 -- the run of what is left from now on is the whole run
