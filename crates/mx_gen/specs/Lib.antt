@@ -1,0 +1,4 @@
+pub mod Drafts
+pub mod Generated
+pub mod DraftView
+pub mod Sound
