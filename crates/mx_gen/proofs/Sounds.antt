@@ -82,7 +82,7 @@ labelled_last (l ∷ labels) n k i e = ap (λ b. names_index i l.1 || b) (labell
 older_more : (j : ℕ) (p : List ℕ × Label) → IsOlder j p → IsOlder (suc j) p
 older_more j p (i, lt, s) = (i, omega arith, s)
 
-length-push : {A : Type 0} (xs : List A) (x : A) → length (xs ++ x ∷ []) ≡ suc (length xs)
+pub length-push : {A : Type 0} (xs : List A) (x : A) → length (xs ++ x ∷ []) ≡ suc (length xs)
 length-push xs x = simp length-append (omega arith)
 
 -- what was kept, with more labels and statements
