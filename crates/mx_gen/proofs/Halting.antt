@@ -59,7 +59,7 @@ module _ (p : Program) (board : IsBoard p.place) where
   plain_soon : (i : Inst) (b : ℕ) (d : Draft) → ((s : State) → Ints s → why_plain p i s.regs ≡ None) → Front (put (Plain i) d) → Soon b (put (Plain i) d) → Soon (suc b) d
   plain_soon i b d runs front next s h at =
       runs_on i b s h (ap (slice_get p.statements) at ∙ front_last (Plain i) d front) (runs s h)
-        (next (done p i s).after (done_ints p i s h) (ap suc at ∙ sym (length-push d.statements (Plain i))))
+      (next (done p i s).after (done_ints p i s h) (ap suc at ∙ sym (length-push d.statements (Plain i))))
 
   -- once around: the addition, the count, and the branch back
   turn : (n a b c w bound : ℕ) (s : State) → 9 ≢ c →
@@ -79,11 +79,11 @@ module _ (p : Program) (board : IsBoard p.place) where
       let target = cond (condition_holds Ne (word_in (value_in s3.regs 9)) (word_in (value_in s3.regs 0))) (suc n) (suc s3.index) in
       let is = branch_is p s3 9 0 Ne (suc n) h3 (ap (slice_get p.statements) at3 ∙ e3) in
       let goes_there : target ≡ cond (not (w' == 0)) (suc n) (suc (suc (suc (suc n)))) =
-          ap (λ v. cond (not (word_in v == 0)) (suc n) (suc s3.index)) nine3 ∙ ap (λ k. cond (not (w' == 0)) (suc n) (suc k)) at3 in
+      ap (λ v. cond (not (word_in v == 0)) (suc n) (suc s3.index)) nine3 ∙ ap (λ k. cond (not (w' == 0)) (suc n) (suc k)) at3 in
       runs_on i1 (suc (suc bound)) s h (ap (slice_get p.statements) at ∙ e1) (compute_runs p s a c b Add h)
-        (runs_on i2 (suc bound) s2 h2 (ap (λ k. slice_get p.statements (suc k)) at ∙ e2) (addi_runs p s2 9 9 (negsuc 0) h2)
-          (one_before p bound s3 h3 (subst (λ (x : Step). HaltsSoon p bound x.after) (sym is)
-            (next (goes target 0 (Int 0) s3).after (goes_ints s3 target h3) goes_there nine3))))
+      (runs_on i2 (suc bound) s2 h2 (ap (λ k. slice_get p.statements (suc k)) at ∙ e2) (addi_runs p s2 9 9 (negsuc 0) h2)
+      (one_before p bound s3 h3 (subst (λ (x : Step). HaltsSoon p bound x.after) (sym is)
+      (next (goes target 0 (Int 0) s3).after (goes_ints s3 target h3) goes_there nine3))))
 
   round_soon : (j a b c bound : ℕ) (d : Draft) → 9 ≢ c → Front (round j a b c d) → Soon bound (round j a b c d) → Soon (10 + bound) d
   round_soon j a b c bound d apart front next s h at =
@@ -102,10 +102,10 @@ module _ (p : Program) (board : IsBoard p.place) where
       let turns = turn n a b c in
       sooner p _ (10 + bound) s (omega arith)
       (runs_on (Addi 0 9 (pos 3)) (suc (suc (suc (suc (suc (suc (suc (suc (suc bound))))))))) s h (ap (slice_get p.statements) at ∙ e0) (addi_runs p s 0 9 (pos 3) h)
-        (turns 3 (suc (suc (suc (suc (suc (suc bound)))))) t1 apart e1 e2 e3 (done_ints p (Addi 0 9 (pos 3)) s h) (ap suc at) refl
-          (λ u hu au nu. turns 2 (suc (suc (suc bound))) u apart e1 e2 e3 hu au nu
-            (λ v hv av nv. turns 1 bound v apart e1 e2 e3 hv av nv
-              (λ w hw aw nw. next w hw (aw ∙ sym m4))))))
+      (turns 3 (suc (suc (suc (suc (suc (suc bound)))))) t1 apart e1 e2 e3 (done_ints p (Addi 0 9 (pos 3)) s h) (ap suc at) refl
+      (λ u hu au nu. turns 2 (suc (suc (suc bound))) u apart e1 e2 e3 hu au nu
+      (λ v hv av nv. turns 1 bound v apart e1 e2 e3 hv av nv
+      (λ w hw aw nw. next w hw (aw ∙ sym m4))))))
 
   skip_soon : (j a b c bound : ℕ) (d : Draft) → Front (skip j a b c d) → Soon bound (skip j a b c d) → Soon (suc (suc bound)) d
   skip_soon j a b c bound d front next s h at =
@@ -121,8 +121,8 @@ module _ (p : Program) (board : IsBoard p.place) where
       let is = branch_is p s a b Lt (suc (suc n)) h (ap (slice_get p.statements) at ∙ e0) in
       let taken : holds ≡ true → HaltsSoon p (suc bound) t = λ e. sooner p bound (suc bound) t (omega arith) (next t ht (cond-true holds (suc (suc n)) (suc s.index) e ∙ sym m2)) in
       let falls : holds ≡ false → HaltsSoon p (suc bound) t = λ e.
-          let there : t.index ≡ length d1.statements = cond-false holds (suc (suc n)) (suc s.index) e ∙ (ap suc at ∙ sym l1) in
-          plain_soon (Compute b c a Add) bound d1 (λ u hu. compute_runs p u b c a Add hu) front next t ht there in
+      let there : t.index ≡ length d1.statements = cond-false holds (suc (suc n)) (suc s.index) e ∙ (ap suc at ∙ sym l1) in
+      plain_soon (Compute b c a Add) bound d1 (λ u hu. compute_runs p u b c a Add hu) front next t ht there in
       one_before p (suc bound) s h (subst (λ (x : Step). HaltsSoon p (suc bound) x.after) (sym is) (⊎_elim taken falls (cases_Bool holds)))
 
   -- what holds of both holds of the one that is chosen
@@ -155,7 +155,7 @@ module _ (p : Program) (board : IsBoard p.place) where
       (one_soon bound d (kind x == 4) _ _ (single (Load 0 (third x) (pos o)) bound d (λ s h. load_runs p s (third x) o short (user_word o low high) h))
       (one_soon bound d (kind x == 5) _ _ (round_soon j (first x) (second x) (third x) bound d apart)
       (one_soon bound d (kind x == 6) _ _ (single (Store 0 (first x) (pos 255)) bound d (λ s h. store_runs p s (first x) 255 (lit< tt) (inl console_word) h))
-        (λ front next s h at. sooner p (suc (suc bound)) (10 + bound) s (omega arith) (skip_soon j (first x) (second x) (third x) bound d front next s h at))))))))
+      (λ front next s h at. sooner p (suc (suc bound)) (10 + bound) s (omega arith) (skip_soon j (first x) (second x) (third x) bound d front next s h at))))))))
     where
       nine : (q : ℕ) → q < 8 → 9 ≡ 1 + q → ⊥
       nine q lt e = omega arith
@@ -173,13 +173,14 @@ module _ (p : Program) (board : IsBoard p.place) where
       (one_front d (kind x == 4) _ _ (front_put (Plain (Load 0 (third x) (pos (address x)))) d)
       (one_front d (kind x == 5) _ _ (front_round (first x) (second x) (third x))
       (one_front d (kind x == 6) _ _ (front_put (Plain (Store 0 (first x) (pos 255))) d)
-        (front_skip (first x) (second x) (third x))))))))
+      (front_skip (first x) (second x) (third x))))))))
     where
       front_round : (a b c : ℕ) → Front (round j a b c d) → Front d
       front_round a b c f =
           let s0 = Plain (Addi 0 9 (pos 3)) in let s1 = Plain (Compute a c b Add) in let s2 = Plain (Addi 9 9 (negsuc 0)) in let s3 = Branch 9 0 Ne (suc (length d.statements)) in
           let d1 = name (76 ∷ decimal j) (put s0 d) in let d2 = put s1 d1 in let d3 = put s2 d2 in
           front_put s0 d (front_put s1 d1 (front_put s2 d2 (front_put s3 d3 f)))
+
       front_skip : (a b c : ℕ) → Front (skip j a b c d) → Front d
       front_skip a b c f = let s0 = Branch a b Lt (suc (suc (length d.statements))) in front_put s0 d (front_put (Plain (Compute b c a Add)) (put s0 d) f)
 
@@ -232,8 +233,11 @@ generated_halts seed count few place bytes board =
     let behind = items_soon p board count 0 seed (opening empty) front in
     let opened = front_items p board count 0 seed (opening empty) (front_put p board Halt (items count 0 seed (opening empty)) front) in
     let soon : HaltsSoon p (8 + (10 * count + 1)) s = opening_soon p board (10 * count + 1) opened behind s (start_ints place source refl) refl in
-    let all = sooner p (8 + (10 * count + 1)) 40009 s (omega arith) soon in
-    (all.0, all.1, record {
-      halted = ap (λ t. t.mark) (run_state p all.0 (record { state = s; console = [] })) ∙ all.2.halted;
-      first = λ m lt. ap (λ t. t.mark) (run_state p m (record { state = s; console = [] })) ∙ all.2.first m lt;
-    })
+    let all = sooner p (8 + (10 * count + 1)) 40009 s (omega arith) soon in (
+      all.0,
+      all.1,
+      record {
+        halted = ap (λ t. t.mark) (run_state p all.0 (record { state = s; console = [] })) ∙ all.2.halted;
+        first = λ m lt. ap (λ t. t.mark) (run_state p m (record { state = s; console = [] })) ∙ all.2.first m lt;
+      },
+    )

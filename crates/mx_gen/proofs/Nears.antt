@@ -54,7 +54,7 @@ near_item x j d all =
     (one_near (kind x == 4) _ _ (near_put (Plain (Load 0 (third x) (pos (address x)))) d tt all)
     (one_near (kind x == 5) _ _ (near_round j (first x) (second x) (third x) d all)
     (one_near (kind x == 6) _ _ (near_put (Plain (Store 0 (first x) (pos 255))) d tt all)
-      (near_skip j (first x) (second x) (third x) d all)))))))
+    (near_skip j (first x) (second x) (third x) d all)))))))
 
 near_items : (k j x : ℕ) (d : Draft) → AllNear d.statements → AllNear (items k j x d).statements
 near_items zero j x d all = all

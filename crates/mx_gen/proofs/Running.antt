@@ -81,6 +81,7 @@ stored_ints place (Some x) v m hv hm a =
     one : (c : Bool) (y z : Value) → is_code y ≡ false → is_code z ≡ false → is_code (cond c y z) ≡ false
     one true y z hy hz = hy
     one false y z hy hz = hz
+
     two : (b : Bool) (f g : Values) (k : ℕ) → is_code (f k) ≡ false → is_code (g k) ≡ false → is_code (cond b f g k) ≡ false
     two true f g k hf hg = hf
     two false f g k hf hg = hg
@@ -88,11 +89,11 @@ stored_ints place (Some x) v m hv hm a =
 -- an instruction that is not stuck leaves words
 pub done_ints : (p : Program) (i : Inst) (s : State) → Ints s → Ints (done p i s).after
 done_ints p i s h = let bus = user_bus p.place p.input in
-  let c = change i 0 (words_in s.regs) s.md (bus.load (words_in s.mem) s.taken) in let v = passed p.place i s.regs s.mem in record {
-    going = h.going;
-    regs = written_ints s.regs c.dest (passed_on v c.value) h.regs (passed_word v c.value (passed_ints p.place i s h));
-    mem = stored_ints p.place c.stores v s.mem (passed_ints p.place i s h) h.mem;
-  }
+    let c = change i 0 (words_in s.regs) s.md (bus.load (words_in s.mem) s.taken) in let v = passed p.place i s.regs s.mem in record {
+      going = h.going;
+      regs = written_ints s.regs c.dest (passed_on v c.value) h.regs (passed_word v c.value (passed_ints p.place i s h));
+      mem = stored_ints p.place c.stores v s.mem (passed_ints p.place i s h) h.mem;
+    }
 
 pub step_is : (p : Program) (s : State) (st : Statement) → Ints s → slice_get p.statements s.index ≡ Some st → step p s ≡ execute p (Some st) s
 step_is p s st h e = ap (λ m. if_going m (execute p (slice_get p.statements s.index) s) s) h.going ∙ ap (λ o. execute p o s) e
@@ -154,7 +155,7 @@ addi_runs p s a d n h = cond-false (any_code s.regs (operands (Addi a d n))) _ _
 pub load_runs : (p : Program) (s : State) (d o : ℕ) → o < 2 ^ 32 → is_user p.place o ≡ true → Ints s → why_plain p (Load 0 d (pos o)) s.regs ≡ None
 load_runs p s d o short user h =
     cond-false (any_code s.regs (operands (Load 0 d (pos o)))) (Some CodeOperand) (why_load p (offset_by (words_in s.regs) 0 (pos o))) (no_code s (operands (Load 0 d (pos o))) h)
-      ∙ (ap (why_load p) (from_zero s.regs o short) ∙ ap (λ b. cond (b || (is_some p.input && eqb o p.place.input)) None (Some LoadOutside)) user)
+    ∙ (ap (why_load p) (from_zero s.regs o short) ∙ ap (λ b. cond (b || (is_some p.input && eqb o p.place.input)) None (Some LoadOutside)) user)
 
 store_bools : (b c u : Bool) (x y : Why) → c ≡ false → (b ≡ true) ⊎ (u ≡ true) → cond b (cond c (Some x) None) (cond u None (Some y)) ≡ None
 store_bools true c u x y e f = ap (λ k. cond k (Some x) None) e
@@ -167,5 +168,5 @@ store_bools false c false x y e f = absurd (⊎_elim (λ t. no t) (λ t. no t) f
 pub store_runs : (p : Program) (s : State) (v o : ℕ) → o < 2 ^ 32 → (eqb o p.place.console ≡ true) ⊎ (is_user p.place o ≡ true) → Ints s → why_plain p (Store 0 v (pos o)) s.regs ≡ None
 store_runs p s v o short there h =
     cond-false (any_code s.regs (operands (Store 0 v (pos o)))) (Some CodeOperand) (why_store p (offset_by (words_in s.regs) 0 (pos o)) (value_in s.regs v)) (no_code s (operands (Store 0 v (pos o))) h)
-      ∙ (ap (λ a. why_store p a (value_in s.regs v)) (from_zero s.regs o short)
-      ∙ store_bools (eqb o p.place.console) (is_code (value_in s.regs v)) (is_user p.place o) CodeToConsole StoreOutside (h.regs v) there)
+    ∙ (ap (λ a. why_store p a (value_in s.regs v)) (from_zero s.regs o short)
+    ∙ store_bools (eqb o p.place.console) (is_code (value_in s.regs v)) (is_user p.place o) CodeToConsole StoreOutside (h.regs v) there)

@@ -1,7 +1,10 @@
 //! The generated source.
-ghost use Rattle.std.specs.Prelude.{◌≡◌, ◌<◌, ◌≤◌, ◌^◌, ◌∷◌, pos, decimal, length, OnOk, IfOk};
+ghost use Rattle.std.specs.Prelude.{◌≡◌, ◌<◌, ◌≤◌, ◌^◌, ◌∷◌, ℕ, List, pos, decimal, length, OnOk, IfOk};
 ghost use Rattle.mx_gen.specs.Drafts.{put};
 ghost use Rattle.mx_gen.specs.Generated.{kind, first, second, third, address, opening, compute, round, skip, item, generated};
+ghost use Rattle.mx_isa.specs.declared.place.Place.{Place as AnyPlace};
+ghost use Rattle.mx_gen.specs.Board.{IsBoard, HaltsWithin};
+ghost use Rattle.mx_gen.specs.Near.{AllNear};
 ghost use Rattle.mx_gen.specs.Sound.{IsSound, IsNew};
 
 use crate::draft::Draft;
@@ -16,6 +19,16 @@ use std::alloc::Global;
 ///
 /// `Memory` where there is no room for it.
 pub fn generate(alloc: Global, seed: u32, count: u32) -> Result<Source, Memory>
+    requires { count ≤ 4000 }
+    ensures source { IfOk result (λ source. source ≡ generated seed count) }
+    ensures halts { IfOk result (λ source. (place : AnyPlace) (input : List ℕ) → IsBoard place → HaltsWithin 40009 source place input) }
+    ensures near { IfOk result (λ source. AllNear source.statements) }
+{
+    drafted(alloc, seed, count)
+}
+
+/// The same, with no more said of it than what it is.
+fn drafted(alloc: Global, seed: u32, count: u32) -> Result<Source, Memory>
     requires { count ≤ 4000 }
     ensures { IfOk result (λ source. source ≡ generated seed count) }
 {
@@ -178,4 +191,19 @@ fn set(draft: &mut Draft, r: u32, n: i32) -> Result<(), Memory>
         dest: register(r),
         imm: n,
     }))
+}
+
+#[cfg(test)]
+mod tests {
+    use super::*;
+    use std::test::Fail;
+
+    #[test]
+    fn the_first_draw_of_seed_1(rt: HostRuntime) -> Result<(), Fail> {
+        let text = generate(rt.alloc(), 1, 1)?.print(rt.alloc())?;
+        let wanted =
+            b"addi r0,#1,r1\naddi r0,#4,r2\naddi r0,#9,r3\naddi r0,#16,r4\naddi r0,#25,r5\naddi r0,#36,r6\naddi r0,#49,r7\naddi r0,#64,r8\nsub r2,r4,r2\nhalt\n";
+        assert_eq!(rt; text.as_slice(), wanted.as_slice());
+        Ok(())
+    }
 }
