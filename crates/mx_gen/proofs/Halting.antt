@@ -1,29 +1,27 @@
 -- A generated source halts.
-use Rattle.std.proofs.Common.{◌≡◌, ◌≢◌, ℕ, zero, suc, ◌+◌, ◌-◌, ◌*◌, ◌/◌, ◌%◌, ◌^◌, ◌≤◌, ◌<◌, Bool, true, false, cond, ◌||◌, ◌&&◌, not, eqb, leb, ltb, ◌==◌, nat_eq, List, [], ◌∷◌, ◌++◌, length, Option, Some, None, ◌⊎◌, inl, inr, ⊎_elim, refl, sym, ap, ◌∙◌, arith, subst, pos, negsuc, get_or, ℤ, decimal, lit<}
+use Rattle.std.proofs.Common.{◌≡◌, ◌≢◌, ℕ, zero, suc, ◌+◌, ◌*◌, ◌/◌, ◌%◌, ◌^◌, ◌≤◌, ◌<◌, Bool, true, false, cond, ◌&&◌, not, eqb, leb, ltb, ◌==◌, List, [], ◌∷◌, ◌++◌, length, Some, None, inl, inr, ⊎_elim, refl, sym, ap, ◌∙◌, arith, subst, pos, negsuc, decimal, lit<}
 use Rattle.std.specs.Prelude.{if◌then◌else◌}
 use Rattle.std.specs.List.{slice_get}
 use Rattle.std.proofs.lemmas.Bool.{cases_Bool, cond-true, cond-false, le-leb}
 use Rattle.std.proofs.lemmas.Bool.Decides.{nat_tests}
 use Rattle.mx_isa.specs.declared.inst.Inst.{Inst}
 use Rattle.mx_isa.specs.declared.inst.Inst.TheVariants.{Load, Store, Compute, Addi}
-use Rattle.mx_isa.specs.declared.inst.Op.{Op}
 use Rattle.mx_isa.specs.declared.inst.Op.TheVariants.{Add, Sub, Xor}
 use Rattle.mx_isa.specs.declared.inst.Cond.TheVariants.{Ne, Lt}
 use Rattle.mx_isa.specs.declared.place.Place.{Place}
 use Rattle.mx_isa.specs.Arithmetic.{condition_holds}
 use Rattle.mx_isa.specs.UserBus.{is_user}
-use Rattle.mx_source.specs.declared.statement.Value.{Value}
-use Rattle.mx_source.specs.declared.statement.Value.TheVariants.{Int, Code}
+use Rattle.mx_source.specs.declared.statement.Value.TheVariants.{Int}
 use Rattle.mx_source.specs.declared.statement.Statement.{Statement}
 use Rattle.mx_source.specs.declared.statement.Statement.TheVariants.{Plain, Branch, Halt}
 use Rattle.mx_source.specs.Values.{value_in, is_code, word_in}
-use Rattle.mx_source.specs.Meaning.{Program, program, State, Step, done, goes, step, start, why_plain, Run, run_for, meaning, HaltsIn, Halted, Going, start_words}
+use Rattle.mx_source.specs.Meaning.{Program, program, State, Step, done, goes, start, why_plain, Run, run_for, start_words}
 use Rattle.mx_source.specs.SourceValue.{SourceValue}
-use Rattle.mx_gen.specs.Drafts.{Draft, empty, put, name, finished}
-use Rattle.mx_gen.specs.Generated.{draw, kind, first, second, third, address, set, opening, compute, round, skip, item, items, generated}
+use Rattle.mx_gen.specs.Drafts.{Draft, empty, put, name}
+use Rattle.mx_gen.specs.Generated.{draw, kind, first, second, third, address, set, opening, round, skip, item, items, generated}
 use Rattle.mx_gen.specs.Board.{IsBoard, HaltsWithin}
 use Rattle.mx_gen.proofs.Sounds.{length-push}
-use Rattle.mx_gen.proofs.Running.{Ints, done_ints, goes_ints, written_other, plain_is, branch_is, steps, HaltsAt, HaltsSoon, one_before, sooner, halt_here, compute_runs, addi_runs, load_runs, store_runs}
+use Rattle.mx_gen.proofs.Running.{Ints, done_ints, goes_ints, written_other, plain_is, branch_is, steps, HaltsSoon, one_before, sooner, halt_here, compute_runs, addi_runs, load_runs, store_runs}
 
 get-push_front : {A : Type 0} (xs : List A) (y : A) (i : ℕ) (x : A) → slice_get xs i ≡ Some x → slice_get (xs ++ y ∷ []) i ≡ Some x
 get-push_front [] y i x e = absurd (none_some e)

@@ -1,16 +1,15 @@
 -- The branches of a generated source are near.
-use Rattle.std.proofs.Common.{◌≡◌, ℕ, zero, suc, ◌+◌, ◌*◌, ◌≤◌, ◌<◌, Bool, true, false, List, [], ◌∷◌, ◌++◌, length, Option, Some, None, ◌⊎◌, inl, inr, ⊎_elim, refl, sym, ap, ◌∙◌, arith, subst, pos, negsuc, decimal, ◌==◌, nat_eq}
+use Rattle.std.proofs.Common.{◌≡◌, ℕ, zero, suc, Bool, true, false, List, [], ◌∷◌, ◌++◌, length, Some, ◌⊎◌, inl, inr, ⊎_elim, refl, sym, ap, ◌∙◌, arith, subst, pos, negsuc, decimal, ◌==◌}
 use Rattle.std.specs.Prelude.{if◌then◌else◌}
 use Rattle.std.specs.List.{slice_get}
 use Rattle.std.proofs.lemmas.Option.{none-some}
-use Rattle.mx_isa.specs.declared.inst.Inst.{Inst}
 use Rattle.mx_isa.specs.declared.inst.Inst.TheVariants.{Load, Store, Compute, Addi}
 use Rattle.mx_isa.specs.declared.inst.Op.TheVariants.{Add, Sub, Xor}
 use Rattle.mx_isa.specs.declared.inst.Cond.TheVariants.{Ne, Lt}
 use Rattle.mx_source.specs.declared.statement.Statement.{Statement}
 use Rattle.mx_source.specs.declared.statement.Statement.TheVariants.{Plain, Branch, Halt}
 use Rattle.mx_gen.specs.Drafts.{Draft, empty, put, name}
-use Rattle.mx_gen.specs.Generated.{draw, kind, first, second, third, address, set, opening, compute, round, skip, item, items, generated}
+use Rattle.mx_gen.specs.Generated.{draw, kind, first, second, third, address, set, opening, round, skip, item, items, generated}
 use Rattle.mx_gen.specs.Near.{IsNear, AllNear}
 use Rattle.mx_gen.proofs.Sounds.{length-push}
 

@@ -1,19 +1,17 @@
 -- Runs of programs in which every value is a word.
-use Rattle.std.proofs.Common.{◌≡◌, ◌≢◌, ℕ, zero, suc, ◌+◌, ◌-◌, ◌*◌, ◌%◌, ◌^◌, ◌≤◌, ◌<◌, Bool, true, false, cond, ◌||◌, ◌&&◌, not, eqb, leb, ltb, ◌==◌, nat_eq, List, [], ◌∷◌, ◌++◌, length, Option, Some, None, ◌⊎◌, inl, inr, ⊎_elim, refl, sym, ap, ◌∙◌, arith, subst, pos, negsuc, get_or, ℤ}
+use Rattle.std.proofs.Common.{◌≡◌, ◌≢◌, ℕ, zero, suc, ◌^◌, ◌≤◌, ◌<◌, Bool, true, false, cond, ◌||◌, ◌&&◌, eqb, Option, Some, None, ◌⊎◌, ⊎_elim, refl, ap, ◌∙◌, arith, pos, ℤ}
 use Rattle.std.specs.List.{slice_get}
 use Rattle.std.specs.Option.{is_some}
-use Rattle.std.proofs.lemmas.Bool.{cases_Bool, cond-true, cond-false}
+use Rattle.std.proofs.lemmas.Bool.{cond-false}
 use Rattle.std.proofs.lemmas.Bool.Decides.{nat_tests}
 use Rattle.mx_isa.specs.declared.inst.Inst.{Inst}
 use Rattle.mx_isa.specs.declared.inst.Inst.TheVariants.{Load, Store, Compute, Addi}
 use Rattle.mx_isa.specs.declared.inst.Op.{Op}
 use Rattle.mx_isa.specs.declared.inst.Cond.{Cond}
 use Rattle.mx_isa.specs.declared.place.Place.{Place}
-use Rattle.mx_isa.specs.Words.{Words}
 use Rattle.mx_isa.specs.Arithmetic.{condition_holds}
-use Rattle.mx_isa.specs.Effect.{Sent, Change, change, offset_by}
+use Rattle.mx_isa.specs.Effect.{Sent, change, offset_by}
 use Rattle.mx_isa.specs.UserBus.{is_user, user_bus}
-use Rattle.mx_isa.specs.Views.{sources, access, address}
 use Rattle.mx_source.specs.declared.statement.Value.{Value}
 use Rattle.mx_source.specs.declared.statement.Value.TheVariants.{Int, Code}
 use Rattle.mx_source.specs.declared.statement.Statement.{Statement}
@@ -21,7 +19,7 @@ use Rattle.mx_source.specs.declared.statement.Statement.TheVariants.{Plain, Bran
 use Rattle.mx_source.specs.declared.statement.Why.{Why}
 use Rattle.mx_source.specs.declared.statement.Why.TheVariants.{CodeOperand, LoadOutside, StoreOutside, CodeToConsole}
 use Rattle.mx_source.specs.Values.{Values, value_in, put_value, write_value, is_code, word_in, words_in, passed_on}
-use Rattle.mx_source.specs.Meaning.{Program, Mark, Going, Halted, Stuck, State, Step, stuck, operands, any_code, copies, can_load, why_load, why_store, why_access, why_plain, passed, store_value, done, unless_stuck, perform, goes, branches, execute, if_going, step}
+use Rattle.mx_source.specs.Meaning.{Program, Going, Halted, State, operands, any_code, copies, why_load, why_store, why_plain, passed, store_value, done, unless_stuck, goes, execute, if_going, step}
 
 -- a state that goes on, in which every value is a word
 pub record Ints (s : State) : Type 0 where

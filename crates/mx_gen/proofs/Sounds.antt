@@ -1,27 +1,24 @@
 -- Drafts keep to what they keep to.
-use Rattle.std.proofs.Common.{◌≡◌, ◌≢◌, ℕ, zero, suc, ◌+◌, ◌-◌, ◌*◌, ◌/◌, ◌%◌, ◌^◌, ◌≤◌, ◌<◌, Bool, true, false, cond, ◌||◌, ◌==◌, nat_eq, List, [], ◌∷◌, ◌++◌, length, ◌⊎◌, inl, inr, ⊎_elim, refl, sym, ap, ◌∙◌, arith, subst, decimal, pos, negsuc, lit<, lit≤}
+use Rattle.std.proofs.Common.{◌≡◌, ◌≢◌, ℕ, suc, ◌+◌, ◌-◌, ◌*◌, ◌/◌, ◌%◌, ◌^◌, ◌≤◌, ◌<◌, Bool, true, false, ◌||◌, ◌==◌, List, [], ◌∷◌, ◌++◌, length, inl, inr, ⊎_elim, refl, sym, ap, ◌∙◌, arith, decimal, pos, negsuc, lit<, lit≤}
 use Rattle.std.specs.Prelude.{if◌then◌else◌}
-use Rattle.std.specs.List.{All, list_any}
+use Rattle.std.specs.List.{All}
 use Rattle.std.proofs.lemmas.Bool.Decides.{nat_tests}
 use Rattle.std.proofs.lemmas.Fmt.{decimal_injective}
 use Rattle.std.proofs.Math.Nat.{add-mul-mod_self_left, mod-add-div}
 use Rattle.std.proofs.lemmas.List.{length-append}
-use Rattle.std.proofs.lemmas.List.Elements.{All-nil, All-cons, All-push, All-weaker}
-use Rattle.mx_isa.specs.declared.inst.Inst.{Inst}
+use Rattle.std.proofs.lemmas.List.Elements.{All-nil, All-push, All-weaker}
 use Rattle.mx_isa.specs.declared.inst.Inst.TheVariants.{Load, Store, Compute, Addi}
-use Rattle.mx_isa.specs.declared.inst.Op.{Op}
 use Rattle.mx_isa.specs.declared.inst.Op.TheVariants.{Add, Sub, Xor}
 use Rattle.mx_isa.specs.declared.inst.Cond.TheVariants.{Ne, Lt}
-use Rattle.mx_isa.specs.Fields.{InstFits}
 use Rattle.mx_source.specs.declared.statement.Label.{Label}
 use Rattle.mx_source.specs.declared.statement.Label.TheVariants.{Code, Data}
 use Rattle.mx_source.specs.declared.statement.Statement.{Statement}
 use Rattle.mx_source.specs.declared.statement.Statement.TheVariants.{Plain, LaCode, Branch, Call, CallReg, JumpReg, Halt}
 use Rattle.mx_source.specs.Labels.{LabelFits, IsPlace, is_labelled, names_index}
-use Rattle.mx_source.specs.Statements.{StatementFits, IsPlain}
+use Rattle.mx_source.specs.Statements.{StatementFits}
 use Rattle.mx_source.specs.SourceValue.{IsSource}
-use Rattle.mx_gen.specs.Drafts.{Draft, empty, put, name, finished}
-use Rattle.mx_gen.specs.Generated.{draw, kind, first, second, third, address, set, opening, compute, round, skip, item, items}
+use Rattle.mx_gen.specs.Drafts.{Draft, put, finished}
+use Rattle.mx_gen.specs.Generated.{draw, kind, first, second, third, address, round, skip, item, items}
 use Rattle.mx_gen.specs.Sound.{IsOlder, IsNew, IsSound}
 
 abbrev Labels : Type 0

@@ -1,10 +1,9 @@
 -- The generated source.
-use Rattle.std.specs.Prelude.{ℕ, zero, suc, ◌+◌, ◌*◌, ◌/◌, ◌%◌, ◌^◌, ◌==◌, ℤ, pos, negsuc, if◌then◌else◌, ◌∷◌, decimal, length}
+use Rattle.std.specs.Prelude.{ℕ, zero, suc, ◌+◌, ◌*◌, ◌/◌, ◌%◌, ◌^◌, ◌==◌, pos, negsuc, if◌then◌else◌, ◌∷◌, decimal, length}
 use Rattle.mx_isa.specs.declared.inst.Cond.TheVariants.{Ne, Lt}
 use Rattle.mx_isa.specs.declared.inst.Op.{Op}
 use Rattle.mx_isa.specs.declared.inst.Op.TheVariants.{Add, Sub, Xor}
 use Rattle.mx_isa.specs.declared.inst.Inst.TheVariants.{Load, Store, Compute, Addi}
-use Rattle.mx_source.specs.declared.statement.Statement.{Statement}
 use Rattle.mx_source.specs.declared.statement.Statement.TheVariants.{Plain, Branch, Halt}
 use Rattle.mx_source.specs.SourceValue.{SourceValue}
 use Rattle.mx_gen.specs.Drafts.{Draft, empty, put, name, finished}

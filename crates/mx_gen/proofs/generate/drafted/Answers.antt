@@ -1,6 +1,6 @@
 use Rattle.std.proofs.Common.{◌≡◌, ◌+◌, ◌-◌, ◌*◌, ◌%◌, ◌≤◌, sym, ap, ◌∙◌, subst, arith, suc}
-use Rattle.mx_gen.specs.Drafts.{put, finished}
-use Rattle.mx_gen.specs.Generated.{draw, item, items}
+use Rattle.mx_gen.specs.Drafts.{finished}
+use Rattle.mx_gen.specs.Generated.{draw, items}
 use Rattle.mx_gen.specs.Sound.{IsSound}
 use Rattle.mx_source.specs.SourceValue.{IsSource}
 use Rattle.mx_gen.proofs.Sounds.{sound_item, sound_source, items_step, reduced}

@@ -1,4 +1,4 @@
-use Rattle.std.proofs.Common.{◌≡◌, sym, ap, ◌∙◌, refl, subst, ◌∷◌, length, decimal}
+use Rattle.std.proofs.Common.{sym, ap, ◌∙◌, refl, subst, ◌∷◌, length, decimal}
 use Rattle.mx_source.specs.declared.statement.Label.TheVariants.{Code}
 use Rattle.mx_source.specs.Names.{name_bytes, named_labels}
 use Rattle.mx_gen.specs.Sound.{IsNew}
