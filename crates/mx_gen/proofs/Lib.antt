@@ -1,0 +1,5 @@
+pub mod Fresh
+pub mod Sounds
+pub mod Running
+pub mod Halting
+pub mod Nears
