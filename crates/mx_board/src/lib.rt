@@ -2,5 +2,8 @@
 #![tactic(auto)]
 
 mod board;
+mod requests;
 
 pub use board::Board;
+pub use mx_io::Memory;
+pub use requests::{EventError, Requests};

@@ -11,9 +11,9 @@ use Rattle.mx_pcchain.specs.declared.psw.Mode.{Mode}
 use Rattle.mx_turn.specs.declared.latches.Latches.{Latches}
 use Rattle.mx_turn.specs.Counted.{Counted}
 use Rattle.mx_turn.specs.Stages.{fetch_of, saved}
-use Rattle.mx_turn.specs.System.{Slot}
+use Rattle.mx_turn.specs.declared.registers.Slot.{Slot}
 use Rattle.mx_turn.specs.Cycle.{Machine, entered, reached}
-use Rattle.mx_handler.specs.Returns.{with_shipped, turns, IsBack, HoldsFetch, HandlerReturns}
+use Rattle.mx_handler.specs.Returns.{with_shipped, turns, IsBack, HoldsFetch}
 
 module _ (user : Code) (input : Option (List ℕ)) (latch : ℕ → Bool) (mem wb : Option Fetch) (past : List ℕ) (stall : ℕ) (r before m : Words) (md taken : ℕ) (slot : Slot) (p1 p2 p3 : ℕ) (other : Mode) (halted : Bool) (shown : Latches) (counts : Counted) where
   abbrev pub entry : Machine

@@ -1,9 +1,9 @@
 -- What the shipped handler gives back.
-use Rattle.std.specs.Prelude.{◌≡◌, ℕ, zero, suc, ◌+◌, ◌%◌, ◌^◌, ◌<◌, ◌≤◌, Bool, true, false, List, Option, Some}
+use Rattle.std.specs.Prelude.{◌≡◌, ℕ, zero, suc, ◌+◌, ◌%◌, ◌^◌, ◌<◌, ◌≤◌, Bool, false, List, Option, Some, is_some}
 use Rattle.mx_code.specs.Decoding.{inst_of}
 use Rattle.mx_code.specs.Delay.{Code, code_from}
 use Rattle.mx_pcchain.specs.Fetch.{Fetch}
-use Rattle.mx_turn.specs.Cycle.{Machine, entered, reached, ended}
+use Rattle.mx_turn.specs.Cycle.{Machine, shifted, commit_byte, entered, reached, ended}
 use Rattle.mx_turn.specs.Program.{code_with}
 use Rattle.mx_turn.specs.Handler.{shipped}
 
@@ -50,3 +50,15 @@ HandlerReturns =
     → HoldsFetch m.fetch fetch
     → let after = turns (with_shipped user) input latch 25 (entered m) in
     IsBack m (reached (with_shipped user) input (record after { latch = latch 25 }))
+
+-- a turn in which no interrupt can be taken, no halt commits and no byte goes out
+pub record IsQuiet (code : Code) (input : Option (List ℕ)) (m : Machine) : Type 0 where
+  pub off : (reached code input m).psw.current.interrupts ≡ false
+  pub goes : (reached code input m).halted ≡ false
+  pub silent : is_some (commit_byte code input (shifted m)) ≡ false
+
+-- So is each of the 25 turns after an interrupt.
+abbrev pub HandlerIsQuiet : Type 0
+HandlerIsQuiet =
+    (user : Code) (input : Option (List ℕ)) (latch : ℕ → Bool) (m : Machine) (k : ℕ) → k < 25
+    → IsQuiet (with_shipped user) input (turns (with_shipped user) input latch k (entered m))

@@ -1,5 +1,6 @@
 //! The handler's words and their source.
-ghost use Rattle.std.specs.Prelude.{◌≡◌};
+ghost use Rattle.std.specs.Prelude.{◌≡◌, map};
+ghost use Rattle.mx_handler.specs.Source.{handler_text};
 
 /// The 23 words of the shipped handler, from code address 0 on (this project's profile). It saves registers 1 and 2 and the
 /// chain in system words 1 to 5, counts the interrupt in system word 0, and goes back to the three fetches of the chain.
@@ -30,7 +31,9 @@ pub const HANDLER: [u32; 23] = [
 ];
 
 /// The handler's instructions in assembly language, one for each word.
-pub fn handler_source() -> [&'static str; 23] {
+pub fn handler_source() -> [&'static str; 23]
+    ensures { map (λ s. s.now) result ≡ handler_text }
+{
     [
         "st 1[r0],r1",
         "st 2[r0],r2",

@@ -5,4 +5,4 @@ mod handler;
 mod laws;
 
 pub use handler::{HANDLER, handler_source};
-pub use laws::{handler_is_shipped, handler_returns};
+pub use laws::{handler_is_quiet, handler_is_shipped, handler_returns};

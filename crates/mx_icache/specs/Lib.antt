@@ -1,1 +1,4 @@
 pub mod Residency
+pub mod Places
+pub mod LineSets
+pub mod PlainSets

@@ -2,5 +2,15 @@
 #![tactic(auto)]
 
 mod fetch_cache;
+mod line_cache;
+mod line_set;
+mod mask;
+mod plain_cache;
+mod plain_set;
+#[cfg(test)]
+mod tests;
 
 pub use fetch_cache::FetchCache;
+pub use line_cache::LineCache;
+pub use line_set::Set;
+pub use plain_cache::PlainCache;

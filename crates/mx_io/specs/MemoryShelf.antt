@@ -22,15 +22,19 @@ fails_at shelf call = list_any (λ n. n == call) shelf.failing.items
 abbrev pub fails_next : MemoryShelf → Bool
 fails_next shelf = nat_lt (calls_of shelf) last_count && fails_at shelf (calls_of shelf + 1)
 
+-- how many reads were made
 abbrev pub reads_of : MemoryShelf → ℕ
 reads_of shelf = shelf.reads
 
+-- how many bytes the reads took
 abbrev pub taken_of : MemoryShelf → ℕ
 taken_of shelf = shelf.taken
 
+-- how many faults there were in reads
 abbrev pub read_faults_of : MemoryShelf → ℕ
 read_faults_of shelf = shelf.read_faults
 
+-- how many faults there were in writes
 abbrev pub write_faults_of : MemoryShelf → ℕ
 write_faults_of shelf = shelf.write_faults
 

@@ -1,6 +1,6 @@
 -- Lists that begin or end with many of one element.
-use Rattle.std.proofs.Common.{◌≡◌, ℕ, zero, suc, ◌+◌, ◌-◌, ◌≤◌, ◌<◌, Bool, true, false, cond, leb, ltb, List, [], ◌∷◌, ◌++◌, length, refl, sym, ap, ◌∙◌, arith, ◌⊎◌, ⊎_elim}
-use Rattle.std.proofs.lemmas.Bool.{cond-true, cond-false, le-leb, lt-leb}
+use Rattle.std.proofs.Common.{◌≡◌, ℕ, zero, suc, ◌-◌, ◌<◌, cond, leb, List, [], ◌∷◌, ◌++◌, length, refl, sym, ◌∙◌, arith, ⊎_elim}
+use Rattle.std.proofs.lemmas.Bool.{cond-true, cond-false}
 use Rattle.std.proofs.lemmas.Bool.Decides.{leb_tells}
 use Rattle.std.proofs.lemmas.List.{length-replicate, get_or_append_left, get_or-append_right}
 use Rattle.std.proofs.Math.ListN.{get_or, replicate}
@@ -21,9 +21,9 @@ get_or-padded (x ∷ xs) n (suc i) a = get_or-padded xs n i a
 pub get_or-between : {A : Type 0} (m n : ℕ) (xs : List A) (i : ℕ) (a : A) → get_or ((replicate m a ++ xs) ++ replicate n a) i a ≡ cond (leb m i) (get_or xs (i - m) a) a
 get_or-between m n xs i a = get_or-padded (replicate m a ++ xs) n i a ∙
     ⊎_elim (λ h. get_or-append_right (replicate m a) xs m i a (length-replicate m a) h.1 ∙ sym (cond-true (leb m i) (get_or xs (i - m) a) a h.0))
-        (λ h. let short : i < length (replicate m a) = before m i a h.1 in
-            get_or_append_left (replicate m a) xs a i short ∙ (get_or-replicate_same m i a ∙ sym (cond-false (leb m i) (get_or xs (i - m) a) a h.0)))
-        (leb_tells m i)
+    (λ h. let short : i < length (replicate m a) = before m i a h.1 in
+    get_or_append_left (replicate m a) xs a i short ∙ (get_or-replicate_same m i a ∙ sym (cond-false (leb m i) (get_or xs (i - m) a) a h.0)))
+    (leb_tells m i)
   where
     before : {A : Type 0} (m i : ℕ) (a : A) → i < m → i < length (replicate m a)
     before m i a h = let e = length-replicate m a in omega arith

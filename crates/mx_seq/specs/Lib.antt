@@ -4,3 +4,4 @@ pub mod ProgramView
 pub mod Marks
 pub mod Answers
 pub mod Machines
+pub mod Seqs

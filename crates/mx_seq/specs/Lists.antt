@@ -1,5 +1,5 @@
 -- Values that stand in a list.
-use Rattle.std.specs.Prelude.{◌≡◌, ℕ, List, length, slice_index_or}
+use Rattle.std.specs.Prelude.{◌≡◌, List, length, slice_index_or}
 use Rattle.mx_source.specs.declared.statement.Value.{Value}
 use Rattle.mx_source.specs.declared.statement.Value.TheVariants.{Int}
 use Rattle.mx_source.specs.Values.{Values}

@@ -1,9 +1,7 @@
-use Rattle.std.specs.Prelude.{◌≡◌, ℕ, suc, ◌%◌, cond, length, Some}
+use Rattle.std.specs.Prelude.{◌≡◌, ℕ, suc, cond, length}
 use Rattle.mx_isa.specs.Effect.{Found}
-use Rattle.mx_source.specs.declared.statement.Value.{Value}
-use Rattle.mx_source.specs.declared.statement.Value.TheVariants.{Int, Code}
-use Rattle.mx_source.specs.declared.statement.Why.TheVariants.{CodeToConsole}
-use Rattle.mx_source.specs.Meaning.{State, Step, goes, stuck}
+use Rattle.mx_source.specs.declared.statement.Value.TheVariants.{Int}
+use Rattle.mx_source.specs.Meaning.{State, Step, goes}
 use Rattle.mx_seq.specs.Lists.{values_of}
 use Rattle.mx_seq.specs.Marks.{mark_of}
 use Rattle.mx_seq.specs.Answers.{answer_of}

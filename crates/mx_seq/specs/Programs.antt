@@ -1,5 +1,5 @@
 -- What runs, as the code keeps it.
-use Rattle.std.specs.Prelude.{◌≡◌, ℕ, ◌≤◌, eqb, ◌&&◌, Bool, List, length, All, Option, Some, None, is_some, slice_get}
+use Rattle.std.specs.Prelude.{ℕ, ◌≤◌, eqb, ◌&&◌, Bool, List, length, All, Option, Some, None, is_some, slice_get}
 use Rattle.std.specs.Prelude.{Vec}
 use Rattle.std.specs.Global.{Global}
 use Rattle.mx_source.specs.declared.statement.Statement.{Statement}

@@ -40,14 +40,17 @@ pub(crate) struct Machine {
 
 impl Machine {
     ghost use Rattle.mx_isa.specs.UserBus.{from_input};
-    ghost use Rattle.mx_source.specs.Meaning.{Program as Meant, goes, stuck, perform, jumps, branches};
+    ghost use Rattle.mx_source.specs.Meaning.{goes, stuck, perform, jumps, branches, execute, silent, Halted};
+    ghost use Rattle.mx_isa.specs.Fields.{InstFits};
+    ghost use Rattle.mx_source.specs.Statements.{IsPlain};
+    ghost use Rattle.mx_seq.specs.Programs.{Fits};
     ghost use Rattle.mx_source.specs.Values.{value_in};
     ghost use Rattle.mx_seq.specs.Lists.{values_of};
     ghost use Rattle.mx_seq.specs.Machines.{Does, machine_state, takes};
     ghost use Rattle.mx_seq.specs.Programs.{Fits};
 
     /// The run is stuck.
-    fn stick(&mut self, why: Why) -> Stepped
+    pub(crate) fn stick(&mut self, why: Why) -> Stepped
         ensures { Does (stuck why (machine_state self.old)) self.old self.new result }
     {
         self.mark = Mark::Stuck(why);
@@ -169,11 +172,11 @@ impl Machine {
     }
 
     /// A compute instruction.
-    fn compute(&mut self, a: Reg, dest: Reg, b: Reg, op: Op) -> Stepped
+    fn compute(&mut self, program: &Program, a: Reg, dest: Reg, b: Reg, op: Op) -> Stepped
         requires going { self.old.mark ≡ Mark.Going }
         requires inside { self.old.index < 20000 }
         requires fits { CountFits op }
-        ensures { (p : Meant) → Does (perform p (Inst.Compute a dest b op) (machine_state self.old)) self.old self.new result }
+        ensures { Does (perform program.now (Inst.Compute a dest b op) (machine_state self.old)) self.old self.new result }
     {
         let first = self.registers.get(a);
         let (Value::Int(x), Value::Int(y)) = (first, self.registers.get(b)) else {
@@ -189,10 +192,10 @@ impl Machine {
     }
 
     /// An addition of a number.
-    fn add(&mut self, a: Reg, dest: Reg, imm: i32) -> Stepped
+    fn add(&mut self, program: &Program, a: Reg, dest: Reg, imm: i32) -> Stepped
         requires going { self.old.mark ≡ Mark.Going }
         requires inside { self.old.index < 20000 }
-        ensures { (p : Meant) → Does (perform p (Inst.Addi a dest imm) (machine_state self.old)) self.old self.new result }
+        ensures { Does (perform program.now (Inst.Addi a dest imm) (machine_state self.old)) self.old self.new result }
     {
         let Value::Int(x) = self.registers.get(a) else {
             return self.stick(Why::CodeOperand);
@@ -201,10 +204,10 @@ impl Machine {
     }
 
     /// A move to MD.
-    fn move_to(&mut self, a: Reg) -> Stepped
+    fn move_to(&mut self, program: &Program, a: Reg) -> Stepped
         requires going { self.old.mark ≡ Mark.Going }
         requires inside { self.old.index < 20000 }
-        ensures { (p : Meant) → Does (perform p (Inst.MoveTo a Special.Md) (machine_state self.old)) self.old self.new result }
+        ensures { Does (perform program.now (Inst.MoveTo a Special.Md) (machine_state self.old)) self.old self.new result }
     {
         let Value::Int(x) = self.registers.get(a) else {
             return self.stick(Why::CodeOperand);
@@ -215,11 +218,70 @@ impl Machine {
     }
 
     /// A move from MD.
-    fn move_from(&mut self, dest: Reg) -> Stepped
+    fn move_from(&mut self, program: &Program, dest: Reg) -> Stepped
         requires going { self.old.mark ≡ Mark.Going }
         requires inside { self.old.index < 20000 }
-        ensures { (p : Meant) → Does (perform p (Inst.MoveFrom dest Special.Md) (machine_state self.old)) self.old self.new result }
+        ensures { Does (perform program.now (Inst.MoveFrom dest Special.Md) (machine_state self.old)) self.old self.new result }
     {
         self.put(dest, Value::Int(self.md))
+    }
+
+    /// An instruction that is a statement as it is.
+    fn perform(&mut self, program: &Program, inst: &Inst) -> Stepped
+        requires going { self.old.mark ≡ Mark.Going }
+        requires inside { self.old.index < 20000 }
+        requires room { length self.old.user_data ≡ program.now.place.end }
+        requires plain { IsPlain inst.now }
+        requires fits { InstFits inst.now }
+        ensures { Does (perform program.now inst.now (machine_state self.old)) self.old self.new result }
+    {
+        match inst {
+            Inst::Load { base, dest, offset } => self.load(program, *base, *dest, *offset),
+            Inst::Store {
+                base,
+                value,
+                offset,
+            } => self.store(program, *base, *value, *offset),
+            Inst::Compute { a, dest, b, op } => self.compute(program, *a, *dest, *b, *op),
+            Inst::Addi { a, dest, imm } => self.add(program, *a, *dest, *imm),
+            Inst::MoveFrom {
+                dest,
+                special: Special::Md,
+            } => self.move_from(program, *dest),
+            Inst::MoveTo {
+                a,
+                special: Special::Md,
+            } => self.move_to(program, *a),
+            _ => unreachable!(),
+        }
+    }
+
+    /// A statement.
+    pub(crate) fn execute(&mut self, program: &Program, statement: &Statement) -> Stepped
+        requires going { self.old.mark ≡ Mark.Going }
+        requires inside { self.old.index < 20000 }
+        requires room { length self.old.user_data ≡ program.now.place.end }
+        requires fits { Fits statement.now }
+        ensures { Does (execute program.now (Some statement.now) (machine_state self.old)) self.old self.new result }
+    {
+        match statement {
+            Statement::Plain(inst) => self.perform(program, inst),
+            Statement::LaCode { dest, target } => self.put(*dest, Value::Code(*target)),
+            Statement::Branch { a, b, cond, target } => self.branch(*a, *b, *cond, *target),
+            Statement::Call { dest, target } => {
+                self.go(*target, *dest, Value::Code(self.index + 1))
+            }
+            Statement::CallReg { a, dest } => self.jump(*a, *dest),
+            Statement::JumpReg { a } => self.jump(*a, Reg::ZERO),
+            Statement::Halt => self.halt(),
+        }
+    }
+
+    /// The run halts.
+    fn halt(&mut self) -> Stepped
+        ensures { Does (silent (record (machine_state self.old) { mark = Halted })) self.old self.new result }
+    {
+        self.mark = Mark::Halted;
+        Stepped::Halted
     }
 }

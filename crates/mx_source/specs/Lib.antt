@@ -5,3 +5,7 @@ pub mod SourceValue
 pub mod SourceView
 pub mod Values
 pub mod Meaning
+pub mod Printed
+pub mod Operands
+pub mod Sections
+pub mod Groups

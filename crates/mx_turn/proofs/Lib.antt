@@ -1,1 +1,4 @@
 pub mod OneTurn
+mod Moves
+pub mod Steps
+pub mod Stands

@@ -17,7 +17,7 @@ use Rattle.mx_pcchain.specs.Fetch.{Fetch}
 use Rattle.mx_pcchain.specs.declared.chain.Chain.{Chain}
 use Rattle.mx_pcchain.specs.Chain.{special}
 use Rattle.mx_pcchain.specs.Modes.{psw_restored}
-use Rattle.mx_turn.specs.Board.{board, is_user_data}
+use Rattle.mx_board.specs.Data.{board, is_user_data}
 use Rattle.mx_turn.specs.Counted.{Counted}
 use Rattle.mx_turn.specs.Stages.{fetch_of, live, address_of}
 use Rattle.mx_turn.specs.Stages.{squash as squash_stage}

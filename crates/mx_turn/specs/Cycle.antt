@@ -10,13 +10,14 @@ use Rattle.mx_pcchain.specs.declared.psw.Psw.{Psw}
 use Rattle.mx_pcchain.specs.Fetch.{Fetch}
 use Rattle.mx_pcchain.specs.Chain.{empty_chain, chain_of, fetch_from, pop}
 use Rattle.mx_pcchain.specs.Modes.{psw_at_start, psw_entered, psw_restored}
+use Rattle.mx_turn.specs.declared.registers.Slot.{Slot}
 use Rattle.mx_turn.specs.declared.latches.Stage.TheVariants.{Empty}
 use Rattle.mx_turn.specs.declared.latches.Latches.{Latches}
 use Rattle.mx_turn.specs.declared.machine.Cycled.{Cycled}
-use Rattle.mx_turn.specs.Board.{board}
+use Rattle.mx_board.specs.Data.{board}
 use Rattle.mx_turn.specs.Counted.{Counted, no_counts, after_stall, after_turn}
 use Rattle.mx_turn.specs.Stages.{fetch_of, live, address_of, squash, saved, stage_of}
-use Rattle.mx_turn.specs.System.{system_change, moved, pops, restores, Slot, slot_of, seen, number_of}
+use Rattle.mx_turn.specs.System.{system_change, moved, pops, restores, slot_of, seen, number_of}
 
 pub record Machine : Type 0 where
   -- what the coming turn fetches

@@ -1,9 +1,11 @@
-pub mod Board
 pub mod Counted
 pub mod Stages
+pub mod Decoded
 pub mod System
+pub mod Commits
 pub mod Cycle
 pub mod Program
 pub mod Run
 pub mod Handler
 pub mod OneTurn
+pub mod Kept

@@ -8,6 +8,7 @@ use Rattle.mx_isa.specs.Arithmetic.{word_of, result_of, condition_holds}
 use Rattle.mx_isa.specs.Words.{Words, reg, write}
 use Rattle.mx_isa.specs.Effect.{Found, Change, change, gives}
 use Rattle.mx_isa.specs.Views.{dest, is_load, is_md}
+use Rattle.mx_turn.specs.declared.registers.Slot.{Slot}
 use Rattle.mx_pcchain.specs.declared.chain.Chain.{Chain}
 use Rattle.mx_pcchain.specs.Chain.{special, with_special}
 
@@ -31,12 +32,7 @@ abbrev pub restores : Inst → Bool
 restores Jpcrs = true
 restores _ = false
 
--- a register that the next word still sees with an old value; register 0 for none
-pub record Slot : Type 0 where
-  pub register : ℕ
-  pub value : ℕ
-
--- a load is not seen by the word directly behind it
+-- a load is not seen by the word directly behind it, which sees the old value of the register; register 0 for none
 abbrev pub slot_of : Inst → Words → Slot
 slot_of i r = cond (is_load i) (record { register = dest i; value = reg r (dest i) }) (record { register = 0; value = 0 })
 

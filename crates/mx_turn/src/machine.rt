@@ -1,11 +1,60 @@
-//! What a machine answers.
+//! What a machine is, however it is kept.
+ghost use Rattle.std.specs.Prelude.{◌≡◌, ◌<◌, ◌≤◌, ◌+◌, ◌^◌, ℕ, Bool, List, [], ◌∷◌, ◌++◌};
+ghost use Rattle.mx_isa.specs.Words.{reg};
+
+use crate::{Counts, Latches};
+use mx_isa::Reg;
 
 /// What a cycle gives: the byte that went to the console, whether an interrupt was taken, whether the machine has
-/// halted, and whether the cycle was stalled.
+/// halted, and whether the cycle was stalled. After a halt the answer is no byte, not taken, halted, not stalled.
 #[derive(Clone, Copy, Debug, PartialEq, Eq)]
 pub struct Cycled {
     pub byte: Option<u8>,
     pub taken: bool,
     pub halted: bool,
     pub stalled: bool,
+}
+
+/// A machine that runs cycle by cycle. None of its methods takes memory.
+pub trait Machine {
+    ghost use Rattle.mx_turn.specs.Program.{Program, state_after, answer_after};
+
+    /// It stands for this program after these request bits.
+    ghost stands: { Self → Program → List Bool → Type 0 };
+
+    /// The cycles that it has counted.
+    ghost cycles: { Self → ℕ };
+
+    /// One cycle, in which an interrupt request arrives or not. At most 2^63 cycles, as `counts` tells.
+    fn cycle(&mut self, request: bool) -> Cycled
+        requires { cycles self.old < 2 ^ 63 }
+        ensures answer { (p : Program) (h : List Bool) → stands self.old p h → result ≡ answer_after p h request }
+        ensures next { (p : Program) (h : List Bool) → stands self.old p h → stands self.new p (h ++ request ∷ []) }
+        ensures cycles { cycles self.new ≤ cycles self.old + 1 };
+
+    /// What it has counted.
+    fn counts(&self) -> Counts
+        ensures counts { (p : Program) (h : List Bool) → stands self.now p h → result ≡ (state_after p h).counts }
+        ensures cycles { result.cycles ≡ cycles self.now };
+
+    /// A register's value; r0 is 0.
+    fn register(&self, r: Reg) -> u32
+        ensures { (p : Program) (h : List Bool) → stands self.now p h → result ≡ reg (state_after p h).core.regs r };
+
+    /// The MD register.
+    fn md(&self) -> u32
+        ensures { (p : Program) (h : List Bool) → stands self.now p h → result ≡ (state_after p h).core.md };
+
+    /// The data word at an address below 65536.
+    fn user_data(&self, address: u32) -> u32
+        requires { address < 65536 }
+        ensures { (p : Program) (h : List Bool) → stands self.now p h → result ≡ (state_after p h).core.mem address };
+
+    /// The number of input bytes taken.
+    fn inputs(&self) -> u32
+        ensures { (p : Program) (h : List Bool) → stands self.now p h → result ≡ (state_after p h).core.taken };
+
+    /// What the last completed turn shows.
+    fn latches(&self) -> Latches
+        ensures { (p : Program) (h : List Bool) → stands self.now p h → result ≡ (state_after p h).shown };
 }

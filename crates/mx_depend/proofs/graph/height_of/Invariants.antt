@@ -1,4 +1,3 @@
-use Rattle.std.proofs.Common.{◌≡◌, ◌<◌, ℕ}
 use Rattle.mx_depend.proofs.Paths.{IsHeightBelow}
 use Rattle.mx_depend.proofs.graph.height_of.Given as goal
 

@@ -1,4 +1,4 @@
-use Rattle.std.proofs.Common.{◌≡◌, ◌<◌, ℕ, true}
+use Rattle.std.proofs.Common.{◌<◌, ℕ}
 use Rattle.std.specs.Prelude.{◌↔◌, IsTrue}
 use Rattle.mx_depend.specs.Graphs.{has_bit, IsEdge}
 use Rattle.mx_depend.proofs.graph.mask_of.Given as goal

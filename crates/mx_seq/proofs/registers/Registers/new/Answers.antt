@@ -1,5 +1,3 @@
-use Rattle.std.proofs.Common.{◌≡◌, ℕ}
-use Rattle.std.proofs.Math.ListN.{replicate}
 use Rattle.mx_source.specs.declared.statement.Value.TheVariants.{Int}
 use Rattle.mx_seq.proofs.Zeros.{get_or-replicate_same}
 use Rattle.mx_seq.proofs.registers.Registers.new.Goals as goal

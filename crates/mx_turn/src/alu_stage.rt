@@ -1,0 +1,106 @@
+//! What the word in ALU decides.
+ghost use Rattle.std.specs.Prelude.{◌≡◌, ◌<◌, ◌+◌, ◌%◌, ◌^◌, slice_index, IfSome, false, if◌then◌else◌, Some, None, not, ◌&&◌};
+ghost use Rattle.std.specs.Int.{w32, cast_unsigned};
+ghost use Rattle.mx_isa.specs.Effect.{decides, offset_by};
+ghost use Rattle.mx_turn.specs.System.{pops, restores, seen};
+
+use crate::registers::{Slot, sees};
+use mx_isa::{Inst, Reg, holds};
+
+/// Where a word leads, if not to the next one; whether it cancels the two words behind it; whether it pops the chain in
+/// system mode, and brings back the other mode too.
+#[derive(Clone, Copy)]
+pub struct Decided {
+    pub target: Option<u32>,
+    pub cancels: bool,
+    pub pops: bool,
+    pub restores: bool,
+}
+
+// It leads to the next word.
+fn goes_on() -> Decided
+    ensures { result ≡ record { target = None; cancels = false; pops = false; restores = false } }
+{
+    Decided {
+        target: None,
+        cancels: false,
+        pops: false,
+        restores: false,
+    }
+}
+
+// It leads to an address.
+fn goes_to(target: u32) -> Decided
+    ensures { result ≡ record { target = Some target; cancels = false; pops = false; restores = false } }
+{
+    Decided {
+        target: Some(target),
+        cancels: false,
+        pops: false,
+        restores: false,
+    }
+}
+
+// A code address and a displacement.
+fn displaced(at: u32, by: i32) -> u32
+    ensures { result ≡ (at + cast_unsigned w32 by) % 2 ^ 31 }
+{
+    at.wrapping_add(by.cast_unsigned()) % (1 << 31)
+}
+
+// A branch, by whether it holds.
+fn branches(holds: bool, at: u32, squash: bool, by: i32) -> Decided
+    ensures target { result.target ≡ (if holds then Some ((at + cast_unsigned w32 by) % 2 ^ 31) else None) }
+    ensures cancels { result.cancels ≡ (if holds then false else squash) }
+    ensures pops { result.pops ≡ false }
+    ensures restores { result.restores ≡ false }
+{
+    if holds {
+        goes_to(displaced(at, by))
+    } else {
+        Decided {
+            target: None,
+            cancels: squash,
+            pops: false,
+            restores: false,
+        }
+    }
+}
+
+/// What the word in ALU, at an address, decides by the registers that it sees.
+pub fn decide(inst: &Inst, at: u32, slot: &Slot, file: &[u32; 32]) -> Decided
+    ensures target { result.target ≡ (decides inst.now at (seen slot.now (slice_index file.now))).target }
+    ensures cancels { result.cancels ≡ (decides inst.now at (seen slot.now (slice_index file.now))).cancels }
+    ensures code_address { IfSome result.target (λ a. a < 2 ^ 31) }
+    ensures pops { result.pops ≡ pops inst.now }
+    ensures restores { result.restores ≡ restores inst.now }
+{
+    match inst {
+        Inst::Branch {
+            a,
+            b,
+            cond,
+            squash,
+            by,
+        } => {
+            let goes = holds(*cond, sees(file, slot, *a), sees(file, slot, *b));
+            branches(goes, at, *squash, *by)
+        }
+        Inst::Jspci { a, dest: _, imm } => {
+            goes_to(sees(file, slot, *a).wrapping_add(imm.cast_unsigned()) % (1 << 31))
+        }
+        Inst::Jpc => Decided {
+            target: None,
+            cancels: false,
+            pops: true,
+            restores: false,
+        },
+        Inst::Jpcrs => Decided {
+            target: None,
+            cancels: false,
+            pops: true,
+            restores: true,
+        },
+        _ => goes_on(),
+    }
+}

@@ -1,0 +1,63 @@
+//! The register file, and what a word sees of it.
+ghost use Rattle.std.specs.Prelude.{◌≡◌, ◌==◌, slice_index, if◌then◌else◌};
+ghost use Rattle.mx_isa.specs.Words.{reg, write};
+ghost use Rattle.mx_turn.specs.System.{seen};
+
+use mx_isa::Reg;
+
+/// A register that the next word still sees with an old value, since a load has just written it; r0 for none.
+#[derive(Clone, Copy, Debug, PartialEq, Eq)]
+pub struct Slot {
+    pub register: Reg,
+    pub value: u32,
+}
+
+/// No register was loaded.
+pub fn no_slot() -> Slot
+    ensures { result ≡ record { register = 0; value = 0 } }
+{
+    Slot {
+        register: Reg::ZERO,
+        value: 0,
+    }
+}
+
+/// A register's value; r0 reads 0.
+pub fn read(file: &[u32; 32], r: Reg) -> u32
+    ensures { result ≡ reg (slice_index file.now) r }
+{
+    let n = r.number();
+    if n == 0 { 0 } else { file[n as usize] }
+}
+
+/// Writes a register; r0 is not written.
+pub fn set(file: &mut [u32; 32], r: Reg, value: u32)
+    ensures { slice_index file.new ≡ write (slice_index file.old) r value }
+{
+    let n = r.number();
+    if n != 0 {
+        file[n as usize] = value;
+    }
+}
+
+/// A register as the next word sees it.
+pub fn sees(file: &[u32; 32], slot: &Slot, r: Reg) -> u32
+    ensures { result ≡ reg (seen slot.now (slice_index file.now)) r }
+{
+    if r.number() == slot.register.number() {
+        seen_slot(slot)
+    } else {
+        read(file, r)
+    }
+}
+
+// The old value of the register in the slot.
+fn seen_slot(slot: &Slot) -> u32
+    ensures { result ≡ (if slot.now.register == 0 then 0 else slot.now.value) }
+{
+    if slot.register.number() == 0 {
+        0
+    } else {
+        slot.value
+    }
+}

@@ -1,0 +1,457 @@
+//! The machine that commits each word as a whole.
+ghost use Rattle.std.specs.Prelude.{◌≡◌, ◌<◌, ◌≤◌, ◌+◌, ◌^◌, ℕ, Bool, not, ◌||◌, length, slice_index, IfOk, Some, List, if◌then◌else◌, [], ◌∷◌};
+ghost use Rattle.std.specs.Option.{option_copied};
+ghost use Rattle.mx_isa.specs.Words.{Words};
+ghost use Rattle.mx_board.specs.Contents.{bytes_in};
+ghost use Rattle.mx_icache.specs.Residency.{resident};
+ghost use Rattle.mx_turn.specs.declared.latches.Latches.{Latches};
+ghost use Rattle.mx_turn.specs.Decoded.{ShiftFits};
+ghost use Rattle.mx_turn.specs.Stages.{live};
+ghost use Rattle.mx_turn.specs.Handler.{shipped};
+ghost use Rattle.mx_turn.specs.Cycle.{shifted, committed, commit_byte, showing, is_taken, entered, decision, decided, ended, takes, squashes, waited, acted, acted_answer};
+ghost use Rattle.mx_turn.specs.Program.{Program, program_of};
+ghost use Rattle.mx_turn.specs.Kept.{code_of_turns, machine_of, shown_of, KeepsProgram, StandsFor};
+
+use crate::alu_stage::decide;
+use crate::decoded::{Decoded, IDLE};
+use crate::mem_stage::commit;
+use crate::registers::{Slot, no_slot, read, sees};
+use crate::shown::{number_of, sources};
+use crate::stages::{address_of, fetch_of, led, popped, restored, saved, squash, stage_of};
+use crate::{Counts, Cycled, Latches, Machine};
+use mx_board::Board;
+use mx_code::Image;
+use mx_icache::FetchCache;
+use mx_io::Memory;
+use mx_isa::{Inst, Reg};
+use mx_pcchain::{Chain, Fetched, Psw};
+use std::alloc::Global;
+
+/// The words of the shipped handler, with which a machine begins that is given no other (this project's profile).
+pub const SHIPPED: [u32; 23] = [
+    0x8802_0001,
+    0x8804_0002,
+    0x5000_1001,
+    0x5000_2002,
+    0x8802_0003,
+    0x8804_0004,
+    0x5000_1003,
+    0x8802_0005,
+    0x8004_0000,
+    0x8002_0003,
+    0xc084_0001,
+    0x8804_0000,
+    0x5840_0001,
+    0x8004_0004,
+    0x8002_0005,
+    0x5880_0002,
+    0x5840_0003,
+    0x8004_0002,
+    0x8002_0001,
+    0x4000_0000,
+    0xd000_0000,
+    0xd000_0000,
+    0xd800_0000,
+];
+
+/// What the last completed turn showed before anything was squashed or killed in it: its stages, the mode and the chain.
+#[derive(Clone, Copy)]
+pub struct Looked {
+    fetch: Option<Fetched>,
+    rf: Option<Fetched>,
+    alu: Option<Fetched>,
+    user: bool,
+    chain: Chain,
+}
+
+/// What the word in ALU brought about.
+#[derive(Clone, Copy)]
+struct Ended {
+    taken: bool,
+    squashed: bool,
+}
+
+/// The machine that commits one word as a whole, with any cache.
+#[derive(Drop)]
+pub struct Turns<C> {
+    user: Decoded,
+    handler: Decoded,
+    file: [u32; 32],
+    md: u32,
+    board: Board,
+    next: Fetched,
+    fetch: Option<Fetched>,
+    rf: Option<Fetched>,
+    alu: Option<Fetched>,
+    mem: Option<Fetched>,
+    wb: Option<Fetched>,
+    missed: bool,
+    stall: u8,
+    latch: bool,
+    slot: Slot,
+    chain: Chain,
+    psw: Psw,
+    halted: bool,
+    looked: Looked,
+    counts: Counts,
+    cache: C,
+}
+
+impl<C: FetchCache> Turns<C> {
+    // What an address of code does.
+    fn at(&self, address: usize) -> Inst
+        ensures what { result ≡ code_of_turns self.now address }
+        ensures fits { ShiftFits result }
+    {
+        if address >= 4096 {
+            self.user.at(address - 4096)
+        } else {
+            self.handler.at(address)
+        }
+    }
+
+    // What a fetch does; a squashed one does nothing.
+    fn word(&self, fetched: &Fetched) -> Inst
+        ensures what { result ≡ live (code_of_turns self.now) (Some fetched.now) }
+        ensures fits { ShiftFits result }
+    {
+        if fetched.squashed {
+            IDLE
+        } else {
+            self.at(fetched.address as usize)
+        }
+    }
+
+    // What a stage does; an empty one does nothing.
+    fn live(&self, stage: Option<Fetched>) -> Inst
+        ensures what { result ≡ live (code_of_turns self.now) stage }
+        ensures fits { ShiftFits result }
+    {
+        match stage {
+            Some(fetched) => self.word(&fetched),
+            None => IDLE,
+        }
+    }
+
+    // The stages move on, and the word that comes into MEM commits.
+    fn commit(&mut self) -> Option<u8>
+        ensures state { (past : List ℕ) (before : Words) (shown : Latches) → machine_of self.new (self.old.next.address ∷ past) (slice_index self.old.file) shown ≡ committed (code_of_turns self.old) self.old.board.input (shifted (machine_of self.old past before shown)) }
+        ensures byte { (past : List ℕ) (before : Words) (shown : Latches) → result ≡ commit_byte (code_of_turns self.old) self.old.board.input (shifted (machine_of self.old past before shown)) }
+        ensures program { KeepsProgram self.old self.new }
+        ensures cache { self.new.cache ≡ self.old.cache }
+        ensures missed { self.new.missed ≡ self.old.missed }
+        ensures counts { self.new.counts ≡ self.old.counts }
+    {
+        let inst = self.live(self.alu);
+        let at = address_of(self.alu);
+        let user = self.psw.current.user;
+        self.wb = self.mem;
+        self.mem = self.alu;
+        self.alu = self.rf;
+        self.rf = self.fetch;
+        self.fetch = Some(self.next);
+        let committed = commit(
+            &inst,
+            at,
+            &self.slot,
+            user,
+            &mut self.file,
+            &mut self.md,
+            &mut self.chain,
+            &mut self.board,
+        );
+        self.slot = committed.slot;
+        self.halted = committed.halted;
+        committed.byte
+    }
+
+    // The stages of the turn are kept to be shown.
+    fn show(&mut self)
+        ensures state { (past : List ℕ) (before : Words) (shown : Latches) → machine_of self.new past before (shown_of self.new) ≡ showing (code_of_turns self.old) (machine_of self.old past before shown) }
+        ensures program { KeepsProgram self.old self.new }
+        ensures cache { self.new.cache ≡ self.old.cache }
+        ensures missed { self.new.missed ≡ self.old.missed }
+        ensures counts { self.new.counts ≡ self.old.counts }
+    {
+        self.looked = Looked {
+            fetch: self.fetch,
+            rf: self.rf,
+            alu: self.alu,
+            user: self.psw.current.user,
+            chain: self.chain,
+        };
+    }
+
+    // The word in ALU decides. Answers whether it cancels the two words behind it.
+    fn decide(&mut self) -> bool
+        ensures state { (past : List ℕ) (before : Words) (shown : Latches) → machine_of self.new past before shown ≡ decided (code_of_turns self.old) (machine_of self.old past before shown) }
+        ensures cancels { (past : List ℕ) (before : Words) (shown : Latches) → result ≡ (decision (code_of_turns self.old) (machine_of self.old past before shown)).cancels }
+        ensures shown { shown_of self.new ≡ shown_of self.old }
+        ensures program { KeepsProgram self.old self.new }
+        ensures cache { self.new.cache ≡ self.old.cache }
+        ensures missed { self.new.missed ≡ self.old.missed }
+        ensures counts { self.new.counts ≡ self.old.counts }
+    {
+        let inst = self.live(self.alu);
+        let decided = decide(&inst, address_of(self.alu), &self.slot, &self.file);
+        let back = decided.pops && !self.psw.current.user;
+        self.next = led(back, &self.chain, decided.target, self.next);
+        self.fetch = squash(decided.cancels, self.fetch);
+        self.rf = squash(decided.cancels, self.rf);
+        self.chain = popped(back, self.chain);
+        self.psw = restored(decided.restores && back, self.psw);
+        decided.cancels
+    }
+
+    // The interrupt is taken.
+    fn enter(&mut self)
+        ensures state { (past : List ℕ) (before : Words) (shown : Latches) → machine_of self.new past before shown ≡ entered (machine_of self.old past before shown) }
+        ensures shown { shown_of self.new ≡ shown_of self.old }
+        ensures program { KeepsProgram self.old self.new }
+        ensures cache { self.new.cache ≡ self.old.cache }
+        ensures missed { self.new.missed ≡ self.old.missed }
+        ensures counts { self.new.counts ≡ self.old.counts }
+    {
+        self.chain
+            .enter(saved(self.alu), saved(self.rf), saved(self.fetch));
+        self.psw.enter();
+        self.latch = false;
+        self.next = fetch_of(0);
+        self.fetch = None;
+        self.rf = None;
+        self.alu = None;
+    }
+
+    // Whether an interrupt is taken in this turn.
+    fn is_taken(&self) -> bool
+        ensures { (past : List ℕ) (before : Words) (shown : Latches) → result ≡ is_taken (machine_of self.now past before shown) }
+    {
+        let held = self.alu.is_some();
+        self.psw.current.interrupts && self.latch && held
+    }
+
+    // The turn ends: where MEM holds a halt, nothing more happens.
+    fn end(&mut self) -> Ended
+        ensures state { (past : List ℕ) (before : Words) (shown : Latches) → machine_of self.new past before shown ≡ ended (code_of_turns self.old) (machine_of self.old past before shown) }
+        ensures taken { (past : List ℕ) (before : Words) (shown : Latches) → result.taken ≡ takes (machine_of self.old past before shown) }
+        ensures squashed { (past : List ℕ) (before : Words) (shown : Latches) → result.squashed ≡ squashes (code_of_turns self.old) (machine_of self.old past before shown) }
+        ensures shown { shown_of self.new ≡ shown_of self.old }
+        ensures program { KeepsProgram self.old self.new }
+        ensures cache { self.new.cache ≡ self.old.cache }
+        ensures missed { self.new.missed ≡ self.old.missed }
+        ensures counts { self.new.counts ≡ self.old.counts }
+    {
+        let over = self.halted;
+        if over {
+            return Ended {
+                taken: false,
+                squashed: false,
+            };
+        }
+        if self.is_taken() {
+            self.enter();
+            return Ended {
+                taken: true,
+                squashed: false,
+            };
+        }
+        let squashed = self.decide();
+        Ended {
+            taken: false,
+            squashed,
+        }
+    }
+
+    // The next fetch is looked up in the cache.
+    fn wait(&mut self)
+        ensures state { (past : List ℕ) (before : Words) (shown : Latches) → C.holds self.old.cache past → machine_of self.new past before shown ≡ waited resident (machine_of self.old past before shown) }
+        ensures cache { (past : List ℕ) → C.holds self.old.cache past → C.holds self.new.cache (self.new.next.address ∷ past) }
+        ensures missed { (past : List ℕ) → C.holds self.old.cache past → self.new.missed ≡ not (resident past self.new.next.address) }
+        ensures shown { shown_of self.new ≡ shown_of self.old }
+        ensures program { KeepsProgram self.old self.new }
+        ensures counts { self.new.counts ≡ self.old.counts }
+    {
+        let hit = self.cache.fetch(self.next.address);
+        self.missed = !hit;
+        self.stall = stall_of(hit);
+    }
+
+    // A turn acts.
+    fn act(&mut self) -> Cycled
+        requires { self.old.counts.cycles < 2 ^ 63 }
+        ensures state { (past : List ℕ) (before : Words) (shown : Latches) → C.holds self.old.cache (self.old.next.address ∷ past) → self.old.missed ≡ not (resident past self.old.next.address) → machine_of self.new (self.old.next.address ∷ past) (slice_index self.old.file) (shown_of self.new) ≡ acted resident (code_of_turns self.old) self.old.board.input (machine_of self.old past before shown) }
+        ensures answer { (past : List ℕ) (before : Words) (shown : Latches) → result ≡ acted_answer (code_of_turns self.old) self.old.board.input (machine_of self.old past before shown) }
+        ensures cache { (past : List ℕ) → C.holds self.old.cache past → C.holds self.new.cache (self.new.next.address ∷ past) }
+        ensures missed { (past : List ℕ) → C.holds self.old.cache past → self.new.missed ≡ not (resident past self.new.next.address) }
+        ensures program { KeepsProgram self.old self.new }
+        ensures cycles { self.new.counts.cycles ≡ self.old.counts.cycles + 1 }
+    {
+        let byte = self.commit();
+        let halted = self.halted;
+        self.show();
+        let ended = self.end();
+        self.counts.turned(self.missed, ended.squashed, ended.taken);
+        self.wait();
+        Cycled {
+            byte,
+            taken: ended.taken,
+            halted,
+            stalled: false,
+        }
+    }
+
+    /// The machine before its first cycle, with the shipped handler, an empty cache, and an input or none. At most
+    /// 1,048,576 bytes of input.
+    pub fn new(
+        alloc: Global,
+        image: &Image,
+        input: Option<&[u8]>,
+        cache: C,
+    ) -> Result<Turns<C>, Memory>
+        requires bytes { bytes_in (option_copied input) ≤ 1048576 }
+        requires empty { C.holds cache [] }
+        ensures { IfOk result (λ t. StandsFor C.holds t (program_of shipped image.now.code.items image.now.user_data.items (option_copied input.entry)) []) }
+    {
+        Turns::with(alloc, image, &SHIPPED, input, cache)
+    }
+
+    /// The machine before its first cycle, with another handler of at most 4,096 words, which stand from code address 0
+    /// on; the rest as for `new`.
+    pub fn with(
+        alloc: Global,
+        image: &Image,
+        handler: &[u32],
+        input: Option<&[u8]>,
+        cache: C,
+    ) -> Result<Turns<C>, Memory>
+        requires words { length handler.now ≤ 4096 }
+        requires bytes { bytes_in (option_copied input) ≤ 1048576 }
+        requires empty { C.holds cache [] }
+        ensures { IfOk result (λ t. StandsFor C.holds t (program_of handler.now image.now.code.items image.now.user_data.items (option_copied input.entry)) []) }
+    {
+        let user = Decoded::new(alloc, &image.code)?;
+        let handler = Decoded::new(alloc, handler)?;
+        let board = Board::new(alloc, &image.user_data, input)?;
+        let next = fetch_of(4096);
+        let mut cache = cache;
+        let hit = cache.fetch(4096);
+        Ok(Turns {
+            user,
+            handler,
+            file: [0; 32],
+            md: 0,
+            board,
+            next,
+            fetch: None,
+            rf: None,
+            alu: None,
+            mem: None,
+            wb: None,
+            missed: !hit,
+            stall: stall_of(hit),
+            latch: false,
+            slot: no_slot(),
+            chain: Chain::new(),
+            psw: Psw::start(),
+            halted: false,
+            looked: Looked {
+                fetch: None,
+                rf: None,
+                alu: None,
+                user: true,
+                chain: Chain::new(),
+            },
+            counts: Counts::none(),
+            cache,
+        })
+    }
+}
+
+impl<C: FetchCache> Machine for Turns<C> {
+    ghost stands = { λ t p h. StandsFor C.holds t p h };
+
+    ghost cycles = { λ t. t.counts.cycles };
+
+    fn cycle(&mut self, request: bool) -> Cycled {
+        if self.halted {
+            return Cycled {
+                byte: None,
+                taken: false,
+                halted: true,
+                stalled: false,
+            };
+        }
+        self.latch = either(self.latch, request);
+        if self.stall > 0 {
+            self.stall -= 1;
+            self.counts.stalled();
+            return Cycled {
+                byte: None,
+                taken: false,
+                halted: false,
+                stalled: true,
+            };
+        }
+        self.act()
+    }
+
+    fn counts(&self) -> Counts {
+        self.counts
+    }
+
+    fn register(&self, r: Reg) -> u32 {
+        read(&self.file, r)
+    }
+
+    fn md(&self) -> u32 {
+        self.md
+    }
+
+    fn user_data(&self, address: u32) -> u32 {
+        self.board.word(address)
+    }
+
+    fn inputs(&self) -> u32 {
+        self.board.inputs()
+    }
+
+    fn latches(&self) -> Latches {
+        let inst = self.live(self.looked.alu);
+        let operands = sources(&inst);
+        let a = sees(&self.file, &self.slot, operands.0);
+        let b = sees(&self.file, &self.slot, operands.1);
+        let at = address_of(self.looked.alu);
+        Latches {
+            fetch: stage_of(self.looked.fetch),
+            rf: stage_of(self.looked.rf),
+            alu: stage_of(self.looked.alu),
+            mem: stage_of(self.mem),
+            wb: stage_of(self.wb),
+            a,
+            b,
+            result: number_of(
+                &inst,
+                at,
+                a,
+                b,
+                self.md,
+                self.looked.user,
+                &self.looked.chain,
+            ),
+        }
+    }
+}
+
+// Either of two.
+fn either(a: bool, b: bool) -> bool
+    ensures { result ≡ (a || b) }
+{
+    a || b
+}
+
+// The stalled cycles before a fetch acts.
+fn stall_of(resident: bool) -> u8
+    ensures { result ≡ (if resident then 0 else 2) }
+{
+    if resident { 0 } else { 2 }
+}
