@@ -172,13 +172,12 @@ impl<C: FetchCache> Turns<C> {
         ensures missed { self.new.missed ≡ self.old.missed }
         ensures counts { self.new.counts ≡ self.old.counts }
     {
-        self.looked = Looked {
-            fetch: self.fetch,
-            rf: self.rf,
-            alu: self.alu,
-            user: self.psw.current.user,
-            chain: self.chain,
-        };
+        // One by one, which copies no temporary.
+        self.looked.fetch = self.fetch;
+        self.looked.rf = self.rf;
+        self.looked.alu = self.alu;
+        self.looked.user = self.psw.current.user;
+        self.looked.chain = self.chain;
     }
 
     // The word in ALU decides. Answers whether it cancels the two words behind it.
