@@ -18,5 +18,4 @@ pub fn handler_returns()
 /// In these turns no interrupt is taken, the machine does not halt, and no byte goes out.
 pub fn handler_is_quiet()
     ensures { HandlerIsQuiet }
-{
-}
+{}

@@ -10,7 +10,7 @@ use Rattle.mx_turn.specs.declared.turns.Turns.{Turns}
 use Rattle.mx_turn.specs.Decoded.{code_at}
 use Rattle.mx_turn.specs.Stages.{live, address_of, stage_of}
 use Rattle.mx_turn.specs.System.{seen, number_of}
-use Rattle.mx_turn.specs.Cycle.{Machine}
+use Rattle.mx_turn.specs.Cycle.{Machine, shifted, committed, showing, waited, acted}
 use Rattle.mx_turn.specs.Program.{Program, code_with, state_after}
 
 abbrev pub code_of_turns : {C : Type 0} → Turns C → Code
@@ -71,3 +71,47 @@ pub record KeepsProgram {C : Type 0} (t t' : Turns C) : Type 0 where
   pub user : t'.user ≡ t.user
   pub handler : t'.handler ≡ t.handler
   pub input : t'.board.input ≡ t.board.input
+
+-- what a step of `Turns` does to the state that it keeps, whatever it does not keep
+abbrev pub Does : {C : Type 0} → (Machine → Machine) → Turns C → Turns C → Type 0
+Does step t t' =
+    (past : List ℕ) (before : Words) (shown : Latches) → machine_of t' past before shown ≡ step (machine_of t past before shown)
+
+-- what a method of `Turns` tells of that state
+abbrev pub Tells : {C T : Type 0} → (Machine → T) → Turns C → T → Type 0
+Tells answers t result = (past : List ℕ) (before : Words) (shown : Latches) → result ≡ answers (machine_of t past before shown)
+
+-- the stages move on and the word in MEM commits; the fetch has joined the others, and the file is the registers as the turn began
+abbrev pub Commits : {C : Type 0} → Turns C → Turns C → Type 0
+Commits t t' =
+    (past : List ℕ) (before : Words) (shown : Latches)
+    → machine_of t' (t.next.address ∷ past) (slice_index t.file) shown
+    ≡ committed (code_of_turns t) t.board.input (shifted (machine_of t past before shown))
+
+-- what the turn shows is kept
+abbrev pub Shows : {C : Type 0} → Turns C → Turns C → Type 0
+Shows t t' =
+    (past : List ℕ) (before : Words) (shown : Latches)
+    → machine_of t' past before (shown_of t') ≡ showing (code_of_turns t) (machine_of t past before shown)
+
+-- the next fetch waits where the cache does not hold it
+abbrev pub Waits : {C : Type 0} → (C → List ℕ → Type 0) → Turns C → Turns C → Type 0
+Waits holds t t' =
+    (past : List ℕ) (before : Words) (shown : Latches) → holds t.cache past
+    → machine_of t' past before shown ≡ waited resident (machine_of t past before shown)
+
+-- the cache was asked for the next fetch
+abbrev pub FetchesNext : {C : Type 0} → (C → List ℕ → Type 0) → Turns C → Turns C → Type 0
+FetchesNext holds t t' = (past : List ℕ) → holds t.cache past → holds t'.cache (t'.next.address ∷ past)
+
+abbrev pub KnowsMiss : {C : Type 0} → (C → List ℕ → Type 0) → Turns C → Turns C → Type 0
+KnowsMiss holds t t' = (past : List ℕ) → holds t.cache past → t'.missed ≡ not (resident past t'.next.address)
+
+-- a turn acts
+abbrev pub Acts : {C : Type 0} → (C → List ℕ → Type 0) → Turns C → Turns C → Type 0
+Acts holds t t' =
+    (past : List ℕ) (before : Words) (shown : Latches)
+    → holds t.cache (t.next.address ∷ past)
+    → t.missed ≡ not (resident past t.next.address)
+    → machine_of t' (t.next.address ∷ past) (slice_index t.file) (shown_of t')
+    ≡ acted resident (code_of_turns t) t.board.input (machine_of t past before shown)

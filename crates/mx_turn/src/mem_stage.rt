@@ -15,12 +15,10 @@ use mx_board::Board;
 use mx_isa::{Inst, Op, Reg, Special, compute};
 use mx_pcchain::Chain;
 
-/// What the machine learns of a word that commits: the byte that it sends, the register that is seen late, and whether it
-/// is a halt.
+/// What the machine learns of a word that commits: the byte that it sends, and whether it is a halt.
 #[derive(Clone, Copy)]
 pub struct Committed {
     pub byte: Option<u8>,
-    pub slot: Slot,
     pub halted: bool,
 }
 
@@ -31,13 +29,14 @@ fn address_of(file: &[u32; 32], slot: &Slot, base: Reg, offset: i32) -> u32
     sees(file, slot, base).wrapping_add(offset.cast_unsigned())
 }
 
-// Nothing but its change is learned of the word.
-fn plain() -> Committed
-    ensures { result ≡ record { byte = None; slot = record { register = 0; value = 0 }; halted = false } }
+// The word is no load, and nothing but its change is learned of it.
+fn plain(slot: &mut Slot) -> Committed
+    ensures answer { result ≡ record { byte = None; halted = false } }
+    ensures slot { slot.new ≡ record { register = 0; value = 0 } }
 {
+    *slot = no_slot();
     Committed {
         byte: None,
-        slot: no_slot(),
         halted: false,
     }
 }
@@ -46,8 +45,8 @@ fn plain() -> Committed
 pub fn commit(
     inst: &Inst,
     at: u32,
-    slot: &Slot,
     user: bool,
+    slot: &mut Slot,
     file: &mut [u32; 32],
     md: &mut u32,
     chain: &mut Chain,
@@ -55,14 +54,19 @@ pub fn commit(
 ) -> Committed
     requires fits { ShiftFits inst.now }
     requires code_address { at < 2 ^ 31 }
-    ensures regs { let c = change_of user chain.old inst.now at slot.now file.old md.old memory.old in slice_index file.new ≡ write (slice_index file.old) c.dest c.value }
-    ensures md { let c = change_of user chain.old inst.now at slot.now file.old md.old memory.old in md.new ≡ or_kept c.new_md md.old }
-    ensures words { let c = change_of user chain.old inst.now at slot.now file.old md.old memory.old in words_of memory.new ≡ stored (board user memory.old.input) c.stores (words_of memory.old) }
+    ensures regs { let c = change_of user chain.old inst.now at slot.old file.old md.old memory.old in
+        slice_index file.new ≡ write (slice_index file.old) c.dest c.value }
+    ensures md { let c = change_of user chain.old inst.now at slot.old file.old md.old memory.old in
+        md.new ≡ or_kept c.new_md md.old }
+    ensures words { let c = change_of user chain.old inst.now at slot.old file.old md.old memory.old in
+        words_of memory.new ≡ stored (board user memory.old.input) c.stores (words_of memory.old) }
     ensures input { memory.new.input ≡ memory.old.input }
-    ensures taken { let c = change_of user chain.old inst.now at slot.now file.old md.old memory.old in memory.new.taken ≡ cond c.takes (suc memory.old.taken) memory.old.taken }
-    ensures byte { let c = change_of user chain.old inst.now at slot.now file.old md.old memory.old in result.byte ≡ sent (board user memory.old.input) c.stores }
-    ensures slot { result.slot ≡ slot_of inst.now (slice_index file.old) }
-    ensures chain { chain.new ≡ moved user inst.now (seen slot.now (slice_index file.old)) chain.old }
+    ensures taken { let c = change_of user chain.old inst.now at slot.old file.old md.old memory.old in
+        memory.new.taken ≡ cond c.takes (suc memory.old.taken) memory.old.taken }
+    ensures byte { let c = change_of user chain.old inst.now at slot.old file.old md.old memory.old in
+        result.byte ≡ sent (board user memory.old.input) c.stores }
+    ensures slot { slot.new ≡ slot_of inst.now (slice_index file.old) }
+    ensures chain { chain.new ≡ moved user inst.now (seen slot.old (slice_index file.old)) chain.old }
     ensures halted { result.halted ≡ is_halt inst.now }
 {
     match inst {
@@ -71,12 +75,12 @@ pub fn commit(
             let value = read(file, *dest);
             let word = memory.load(address, user);
             set(file, *dest, word);
+            *slot = Slot {
+                register: *dest,
+                value,
+            };
             Committed {
                 byte: None,
-                slot: Slot {
-                    register: *dest,
-                    value,
-                },
                 halted: false,
             }
         }
@@ -87,44 +91,46 @@ pub fn commit(
         } => {
             let address = address_of(file, slot, *base, *offset);
             let byte = memory.store(address, sees(file, slot, *value), user);
+            *slot = no_slot();
             Committed {
                 byte,
-                slot: no_slot(),
                 halted: false,
             }
         }
-        Inst::Branch { .. } => plain(),
+        Inst::Branch { .. } => plain(slot),
         Inst::Compute { a, dest, b, op } => {
             let (value, new_md) = compute(*op, sees(file, slot, *a), sees(file, slot, *b), *md);
             set(file, *dest, value);
             *md = new_md;
-            plain()
+            plain(slot)
         }
         Inst::Addi { a, dest, imm } => {
             let value = address_of(file, slot, *a, *imm);
             set(file, *dest, value);
-            plain()
+            plain(slot)
         }
         Inst::MoveFrom { dest, special } => {
             move_from(*dest, *special, user, file, *md, chain);
-            plain()
+            plain(slot)
         }
         Inst::MoveTo { a, special } => {
             let word = sees(file, slot, *a);
             move_to(word, *special, user, md, chain);
-            plain()
+            plain(slot)
         }
         Inst::Jspci { a: _, dest, imm: _ } => {
             set(file, *dest, at + 3);
-            plain()
+            plain(slot)
         }
-        Inst::Jpc => plain(),
-        Inst::Jpcrs => plain(),
-        Inst::Halt => Committed {
-            byte: None,
-            slot: no_slot(),
-            halted: true,
-        },
+        Inst::Jpc => plain(slot),
+        Inst::Jpcrs => plain(slot),
+        Inst::Halt => {
+            *slot = no_slot();
+            Committed {
+                byte: None,
+                halted: true,
+            }
+        }
     }
 }
 

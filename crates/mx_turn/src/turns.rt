@@ -10,7 +10,7 @@ ghost use Rattle.mx_turn.specs.Stages.{live};
 ghost use Rattle.mx_turn.specs.Handler.{shipped};
 ghost use Rattle.mx_turn.specs.Cycle.{shifted, committed, commit_byte, showing, is_taken, entered, decision, decided, ended, takes, squashes, waited, acted, acted_answer};
 ghost use Rattle.mx_turn.specs.Program.{Program, program_of};
-ghost use Rattle.mx_turn.specs.Kept.{code_of_turns, machine_of, shown_of, KeepsProgram, StandsFor};
+ghost use Rattle.mx_turn.specs.Kept.{code_of_turns, machine_of, shown_of, KeepsProgram, StandsFor, Does, Tells, Commits, Shows, Waits, FetchesNext, KnowsMiss, Acts};
 
 use crate::alu_stage::decide;
 use crate::decoded::{Decoded, IDLE};
@@ -135,8 +135,8 @@ impl<C: FetchCache> Turns<C> {
 
     // The stages move on, and the word that comes into MEM commits.
     fn commit(&mut self) -> Option<u8>
-        ensures state { (past : List ℕ) (before : Words) (shown : Latches) → machine_of self.new (self.old.next.address ∷ past) (slice_index self.old.file) shown ≡ committed (code_of_turns self.old) self.old.board.input (shifted (machine_of self.old past before shown)) }
-        ensures byte { (past : List ℕ) (before : Words) (shown : Latches) → result ≡ commit_byte (code_of_turns self.old) self.old.board.input (shifted (machine_of self.old past before shown)) }
+        ensures state { Commits self.old self.new }
+        ensures byte { Tells (λ m. commit_byte (code_of_turns self.old) self.old.board.input (shifted m)) self.old result }
         ensures program { KeepsProgram self.old self.new }
         ensures cache { self.new.cache ≡ self.old.cache }
         ensures missed { self.new.missed ≡ self.old.missed }
@@ -153,39 +153,37 @@ impl<C: FetchCache> Turns<C> {
         let committed = commit(
             &inst,
             at,
-            &self.slot,
             user,
+            &mut self.slot,
             &mut self.file,
             &mut self.md,
             &mut self.chain,
             &mut self.board,
         );
-        self.slot = committed.slot;
         self.halted = committed.halted;
         committed.byte
     }
 
     // The stages of the turn are kept to be shown.
     fn show(&mut self)
-        ensures state { (past : List ℕ) (before : Words) (shown : Latches) → machine_of self.new past before (shown_of self.new) ≡ showing (code_of_turns self.old) (machine_of self.old past before shown) }
+        ensures state { Shows self.old self.new }
         ensures program { KeepsProgram self.old self.new }
         ensures cache { self.new.cache ≡ self.old.cache }
         ensures missed { self.new.missed ≡ self.old.missed }
         ensures counts { self.new.counts ≡ self.old.counts }
     {
-        self.looked = Looked {
-            fetch: self.fetch,
-            rf: self.rf,
-            alu: self.alu,
-            user: self.psw.current.user,
-            chain: self.chain,
-        };
+        // One by one, which copies no temporary.
+        self.looked.fetch = self.fetch;
+        self.looked.rf = self.rf;
+        self.looked.alu = self.alu;
+        self.looked.user = self.psw.current.user;
+        self.looked.chain = self.chain;
     }
 
     // The word in ALU decides. Answers whether it cancels the two words behind it.
     fn decide(&mut self) -> bool
-        ensures state { (past : List ℕ) (before : Words) (shown : Latches) → machine_of self.new past before shown ≡ decided (code_of_turns self.old) (machine_of self.old past before shown) }
-        ensures cancels { (past : List ℕ) (before : Words) (shown : Latches) → result ≡ (decision (code_of_turns self.old) (machine_of self.old past before shown)).cancels }
+        ensures state { Does (decided (code_of_turns self.old)) self.old self.new }
+        ensures cancels { Tells (λ m. (decision (code_of_turns self.old) m).cancels) self.old result }
         ensures shown { shown_of self.new ≡ shown_of self.old }
         ensures program { KeepsProgram self.old self.new }
         ensures cache { self.new.cache ≡ self.old.cache }
@@ -205,7 +203,7 @@ impl<C: FetchCache> Turns<C> {
 
     // The interrupt is taken.
     fn enter(&mut self)
-        ensures state { (past : List ℕ) (before : Words) (shown : Latches) → machine_of self.new past before shown ≡ entered (machine_of self.old past before shown) }
+        ensures state { Does entered self.old self.new }
         ensures shown { shown_of self.new ≡ shown_of self.old }
         ensures program { KeepsProgram self.old self.new }
         ensures cache { self.new.cache ≡ self.old.cache }
@@ -224,7 +222,7 @@ impl<C: FetchCache> Turns<C> {
 
     // Whether an interrupt is taken in this turn.
     fn is_taken(&self) -> bool
-        ensures { (past : List ℕ) (before : Words) (shown : Latches) → result ≡ is_taken (machine_of self.now past before shown) }
+        ensures { Tells is_taken self.now result }
     {
         let held = self.alu.is_some();
         self.psw.current.interrupts && self.latch && held
@@ -232,9 +230,9 @@ impl<C: FetchCache> Turns<C> {
 
     // The turn ends: where MEM holds a halt, nothing more happens.
     fn end(&mut self) -> Ended
-        ensures state { (past : List ℕ) (before : Words) (shown : Latches) → machine_of self.new past before shown ≡ ended (code_of_turns self.old) (machine_of self.old past before shown) }
-        ensures taken { (past : List ℕ) (before : Words) (shown : Latches) → result.taken ≡ takes (machine_of self.old past before shown) }
-        ensures squashed { (past : List ℕ) (before : Words) (shown : Latches) → result.squashed ≡ squashes (code_of_turns self.old) (machine_of self.old past before shown) }
+        ensures state { Does (ended (code_of_turns self.old)) self.old self.new }
+        ensures taken { Tells takes self.old result.taken }
+        ensures squashed { Tells (squashes (code_of_turns self.old)) self.old result.squashed }
         ensures shown { shown_of self.new ≡ shown_of self.old }
         ensures program { KeepsProgram self.old self.new }
         ensures cache { self.new.cache ≡ self.old.cache }
@@ -264,9 +262,9 @@ impl<C: FetchCache> Turns<C> {
 
     // The next fetch is looked up in the cache.
     fn wait(&mut self)
-        ensures state { (past : List ℕ) (before : Words) (shown : Latches) → C.holds self.old.cache past → machine_of self.new past before shown ≡ waited resident (machine_of self.old past before shown) }
-        ensures cache { (past : List ℕ) → C.holds self.old.cache past → C.holds self.new.cache (self.new.next.address ∷ past) }
-        ensures missed { (past : List ℕ) → C.holds self.old.cache past → self.new.missed ≡ not (resident past self.new.next.address) }
+        ensures state { Waits C.holds self.old self.new }
+        ensures cache { FetchesNext C.holds self.old self.new }
+        ensures missed { KnowsMiss C.holds self.old self.new }
         ensures shown { shown_of self.new ≡ shown_of self.old }
         ensures program { KeepsProgram self.old self.new }
         ensures counts { self.new.counts ≡ self.old.counts }
@@ -279,10 +277,10 @@ impl<C: FetchCache> Turns<C> {
     // A turn acts.
     fn act(&mut self) -> Cycled
         requires { self.old.counts.cycles < 2 ^ 63 }
-        ensures state { (past : List ℕ) (before : Words) (shown : Latches) → C.holds self.old.cache (self.old.next.address ∷ past) → self.old.missed ≡ not (resident past self.old.next.address) → machine_of self.new (self.old.next.address ∷ past) (slice_index self.old.file) (shown_of self.new) ≡ acted resident (code_of_turns self.old) self.old.board.input (machine_of self.old past before shown) }
-        ensures answer { (past : List ℕ) (before : Words) (shown : Latches) → result ≡ acted_answer (code_of_turns self.old) self.old.board.input (machine_of self.old past before shown) }
-        ensures cache { (past : List ℕ) → C.holds self.old.cache past → C.holds self.new.cache (self.new.next.address ∷ past) }
-        ensures missed { (past : List ℕ) → C.holds self.old.cache past → self.new.missed ≡ not (resident past self.new.next.address) }
+        ensures state { Acts C.holds self.old self.new }
+        ensures answer { Tells (acted_answer (code_of_turns self.old) self.old.board.input) self.old result }
+        ensures cache { FetchesNext C.holds self.old self.new }
+        ensures missed { KnowsMiss C.holds self.old self.new }
         ensures program { KeepsProgram self.old self.new }
         ensures cycles { self.new.counts.cycles ≡ self.old.counts.cycles + 1 }
     {
@@ -310,7 +308,8 @@ impl<C: FetchCache> Turns<C> {
     ) -> Result<Turns<C>, Memory>
         requires bytes { bytes_in (option_copied input) ≤ 1048576 }
         requires empty { C.holds cache [] }
-        ensures { IfOk result (λ t. StandsFor C.holds t (program_of shipped image.now.code.items image.now.user_data.items (option_copied input.entry)) []) }
+        ensures { IfOk result (λ t. StandsFor C.holds t
+            (program_of shipped image.now.code.items image.now.user_data.items (option_copied input.entry)) []) }
     {
         Turns::with(alloc, image, &SHIPPED, input, cache)
     }
@@ -327,7 +326,8 @@ impl<C: FetchCache> Turns<C> {
         requires words { length handler.now ≤ 4096 }
         requires bytes { bytes_in (option_copied input) ≤ 1048576 }
         requires empty { C.holds cache [] }
-        ensures { IfOk result (λ t. StandsFor C.holds t (program_of handler.now image.now.code.items image.now.user_data.items (option_copied input.entry)) []) }
+        ensures { IfOk result (λ t. StandsFor C.holds t
+            (program_of handler.now image.now.code.items image.now.user_data.items (option_copied input.entry)) []) }
     {
         let user = Decoded::new(alloc, &image.code)?;
         let handler = Decoded::new(alloc, handler)?;
