@@ -2,6 +2,7 @@
 #![tactic(auto)]
 
 mod draft;
-mod generate;
+mod generator;
 
+pub use generator::generate;
 pub use mx_source::{Memory, Source};

@@ -2,7 +2,7 @@ use Rattle.std.proofs.Common.{◌≡◌, ◌-◌}
 use Rattle.mx_gen.specs.Drafts.{empty}
 use Rattle.mx_gen.specs.Generated.{opening, items}
 use Rattle.mx_gen.specs.Sound.{IsSound}
-use Rattle.mx_gen.proofs.generate.drafted.Given as goal
+use Rattle.mx_gen.proofs.generator.drafted.Given as goal
 
 abbrev pub invariant-loop-j : goal.invariant-loop-j
 invariant-loop-j l = record {

@@ -4,7 +4,7 @@ use Rattle.mx_gen.specs.Generated.{draw, items}
 use Rattle.mx_gen.specs.Sound.{IsSound}
 use Rattle.mx_source.specs.SourceValue.{IsSource}
 use Rattle.mx_gen.proofs.Sounds.{sound_item, sound_source, items_step, reduced}
-use Rattle.mx_gen.proofs.generate.drafted.Goals as goal
+use Rattle.mx_gen.proofs.generator.drafted.Goals as goal
 
 pub loop-j-preserved : goal.loop-j-preserved
 loop-j-preserved c =

@@ -7,7 +7,7 @@ use Rattle.mx_gen.specs.Board.{IsBoard, HaltsWithin}
 use Rattle.mx_gen.specs.Near.{AllNear}
 use Rattle.mx_gen.proofs.Halting.{generated_halts}
 use Rattle.mx_gen.proofs.Nears.{generated_near}
-use Rattle.mx_gen.proofs.generate.generate.Goals as goal
+use Rattle.mx_gen.proofs.generator.generate.Goals as goal
 
 pub returns-clause-halts : goal.returns-clause-halts
 returns-clause-halts c = IfOk-weaker c.drafted.result (λ s. s ≡ generated c.args.seed c.args.count) (λ s. (place : Place) (input : List ℕ) → IsBoard place → HaltsWithin 40009 s place input)
