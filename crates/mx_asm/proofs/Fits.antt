@@ -64,8 +64,8 @@ pub found_fits : (labels : List (List ℕ × Label)) (name : List ℕ) (count : 
 found_fits [] name count h = tt
 found_fits (e ∷ es) name count h =
     if_some_cond (NamedFits (e ∷ es) count) (bytes_eq name e.0) e.1 (label_named es name)
-      (first_fits e es count e.1 refl (All-head (λ p. LabelFits count p.1) e es h))
-      (if_some_weaker (NamedFits es count) (NamedFits (e ∷ es) count) (label_named es name) (rest_fits e es count) (found_fits es name count (All-tail (λ p. LabelFits count p.1) e es h)))
+    (first_fits e es count e.1 refl (All-head (λ p. LabelFits count p.1) e es h))
+    (if_some_weaker (NamedFits es count) (NamedFits (e ∷ es) count) (label_named es name) (rest_fits e es count) (found_fits es name count (All-tail (λ p. LabelFits count p.1) e es h)))
 
 if_ok_or : {A : Type 0} (P : A → Type 0) (o : Option A) (fault : Fault) → IfSome o P → IfOk (ok_or o fault) P
 if_ok_or P None fault h = tt

@@ -106,5 +106,5 @@ labels_fit labels end (line ∷ lines) p earlier number le low none fits =
     let two = found_none number (line_fault labels end p earlier line) (first_fault labels end (after p ws) (with_labels p earlier ws) (number + 1) lines) none in
     let past = not_past labels end p (repeats p earlier ws) (length line) (words_of line) two.0 in
     labels_fit labels end lines (after p ws) (with_labels p earlier ws) (number + 1) le (address_grows p ws low) two.1
-      (front_fits (LabelFits (position_at_end p (line ∷ lines)).index) earlier (label_here p) ws fits
-        (here_fits end (position_at_end p (line ∷ lines)).index p.section p.index p.address (has_label ws) le low (index_grows (line ∷ lines) p) past))
+    (front_fits (LabelFits (position_at_end p (line ∷ lines)).index) earlier (label_here p) ws fits
+    (here_fits end (position_at_end p (line ∷ lines)).index p.section p.index p.address (has_label ws) le low (index_grows (line ∷ lines) p) past))

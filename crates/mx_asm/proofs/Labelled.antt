@@ -34,15 +34,16 @@ front_step' : (labels labels' all : Labels) (l : Label) (ws : List Lent) (name :
 front_step' labels labels' all l ws name repeated found any begins first ls fs whole answer =
     let named = ls ∙ ap (define labels l) first in
     let known = fs ∙ ap (is_defined labels) first in
-    let rest = drop-map word 2 ws in
-    ( ap (λ k. define_front k l (map word (drop 2 ws))) named
-      ∙ ap (define_front (define labels l (first_name (map word ws))) l) (sym rest)
-      ∙ sym (define_next labels l (map word ws) begins) ∙ whole
-    , or_assoc repeated found (is_repeated labels' l (map word (drop 2 ws)))
-      ∙ ap (λ b. repeated || (b || is_repeated labels' l (map word (drop 2 ws)))) known
-      ∙ ap (λ k. repeated || (is_defined labels (first_name (map word ws)) || is_repeated k l (map word (drop 2 ws)))) named
-      ∙ ap (λ r. repeated || (is_defined labels (first_name (map word ws)) || is_repeated (define labels l (first_name (map word ws))) l r)) (sym rest)
-      ∙ ap (λ b. repeated || b) (sym (repeat_next labels l (map word ws) begins)) ∙ answer )
+    let rest = drop-map word 2 ws in (
+      ap (λ k. define_front k l (map word (drop 2 ws))) named
+          ∙ ap (define_front (define labels l (first_name (map word ws))) l) (sym rest)
+          ∙ sym (define_next labels l (map word ws) begins) ∙ whole,
+      or_assoc repeated found (is_repeated labels' l (map word (drop 2 ws)))
+          ∙ ap (λ b. repeated || (b || is_repeated labels' l (map word (drop 2 ws)))) known
+          ∙ ap (λ k. repeated || (is_defined labels (first_name (map word ws)) || is_repeated k l (map word (drop 2 ws)))) named
+          ∙ ap (λ r. repeated || (is_defined labels (first_name (map word ws)) || is_repeated (define labels l (first_name (map word ws))) l r)) (sym rest)
+          ∙ ap (λ b. repeated || b) (sym (repeat_next labels l (map word ws) begins)) ∙ answer,
+    )
 
 -- the same, as the loop has what is left
 pub front_step : (labels labels' all : Labels) (l : Label) (ws : List Lent) (name : List ℕ) (repeated found any : Bool) → begins_label (map word ws) ≡ true

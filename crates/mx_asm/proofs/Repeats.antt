@@ -24,9 +24,9 @@ labels_step lines i d p labels lt = at_drop_more (λ ls. labels_from p labels (t
 
 pub repeat_step : (lines : List (Bor (List ℕ))) (i : ℕ) (d : Bor (List ℕ)) (p : Position) (labels : Labels) (found : Option ℕ) (number : ℕ) → i < length lines
     → or_later found (first_repeat p labels number (texts (drop i lines)))
-      ≡ or_later (earlier_line found (repeats p labels (line_words (get_or lines i d).now)) number)
-          (first_repeat (after p (line_words (get_or lines i d).now)) (with_labels p labels (line_words (get_or lines i d).now)) (number + 1) (texts (drop (i + 1) lines)))
+    ≡ or_later (earlier_line found (repeats p labels (line_words (get_or lines i d).now)) number)
+    (first_repeat (after p (line_words (get_or lines i d).now)) (with_labels p labels (line_words (get_or lines i d).now)) (number + 1) (texts (drop (i + 1) lines)))
 repeat_step lines i d p labels found number lt =
     ap (or_later found) (at_drop_more (λ ls. first_repeat p labels number (texts ls)) lines i d lt)
     ∙ sym (earlier_or_later found (repeats p labels (line_words (get_or lines i d).now)) number
-        (first_repeat (after p (line_words (get_or lines i d).now)) (with_labels p labels (line_words (get_or lines i d).now)) (number + 1) (texts (drop (i + 1) lines))))
+    (first_repeat (after p (line_words (get_or lines i d).now)) (with_labels p labels (line_words (get_or lines i d).now)) (number + 1) (texts (drop (i + 1) lines))))

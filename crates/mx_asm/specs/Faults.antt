@@ -67,7 +67,7 @@ abbrev pub first_fault : Labels → ℕ → Position → Labels → ℕ → List
 first_fault labels end p earlier number [] = None
 first_fault labels end p earlier number (line ∷ lines) =
     found_or number (line_fault labels end p earlier line)
-      (first_fault labels end (after p (line_words line)) (with_labels p earlier (line_words line)) (number + 1) lines)
+    (first_fault labels end (after p (line_words line)) (with_labels p earlier (line_words line)) (number + 1) lines)
 
 -- the number of the first line that defines a label again
 abbrev pub first_repeat : Position → Labels → ℕ → List (List ℕ) → Option ℕ

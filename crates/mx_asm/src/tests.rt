@@ -2,7 +2,8 @@ use super::*;
 use mx_source::Value;
 use std::test::Fail;
 
-const TEXT: &[u8] = b"next: ld 254[r0],r1 ; takes a byte\n.input\nla next,r2\nb next\n.data\nw: .word next,-1\n";
+const TEXT: &[u8] =
+    b"next: ld 254[r0],r1 ; takes a byte\n.input\nla next,r2\nb next\n.data\nw: .word next,-1\n";
 
 #[test]
 fn assembles_a_text(rt: HostRuntime) -> Result<(), Fail> {
@@ -17,7 +18,12 @@ fn assembles_a_text(rt: HostRuntime) -> Result<(), Fail> {
 
 #[test]
 fn assembles_at_an_address(rt: HostRuntime) -> Result<(), Fail> {
-    let source = assemble_at(rt.alloc(), b".data\n.space 2\nhere: .word here\n", 1000, 1003)?;
+    let source = assemble_at(
+        rt.alloc(),
+        b".data\n.space 2\nhere: .word here\n",
+        1000,
+        1003,
+    )?;
     assert_eq!(rt; source.user_data().len(), 3);
     Ok(())
 }
@@ -25,5 +31,13 @@ fn assembles_at_an_address(rt: HostRuntime) -> Result<(), Fail> {
 #[test]
 fn names_the_first_fault(rt: HostRuntime) {
     let refused = assemble(rt.alloc(), b"nop\njpc\nfrob\n");
-    assert!(rt; matches!(refused, Err(AsmError::Refused { line: 2, fault: Fault::SystemInstruction })));
+    assert!(rt;
+        matches!(
+            refused,
+            Err(AsmError::Refused {
+                line: 2,
+                fault: Fault::SystemInstruction
+            })
+        )
+    );
 }

@@ -31,14 +31,14 @@ loop-line-preserved c =
       index = omega (arith, c.after-position.ensures.index, c.loop-line.invariant.index);
       named = c.in_ok-again.ensures.same;
       labels =
-        ap (λ q. labels_from q c.define_front.new.labels rest) next
-        ∙ ap (λ k. labels_from (after p words) k rest) defined
-        ∙ sym (labels_step lines i past p labels (omega arith))
-        ∙ c.loop-line.invariant.labels;
+          ap (λ q. labels_from q c.define_front.new.labels rest) next
+          ∙ ap (λ k. labels_from (after p words) k rest) defined
+          ∙ sym (labels_step lines i past p labels (omega arith))
+          ∙ c.loop-line.invariant.labels;
       repeated =
-        ap (λ f. or_later f (first_repeat c.after-position.result c.define_front.new.labels (c.loop-line.number + 1) rest)) found
-        ∙ ap (λ q. or_later (earlier_line c.loop-line.repeated (repeats p labels words) c.loop-line.number) (first_repeat q c.define_front.new.labels (c.loop-line.number + 1) rest)) next
-        ∙ ap (λ k. or_later (earlier_line c.loop-line.repeated (repeats p labels words) c.loop-line.number) (first_repeat (after p words) k (c.loop-line.number + 1) rest)) defined
-        ∙ sym (repeat_step lines i past p labels c.loop-line.repeated c.loop-line.number (omega arith))
-        ∙ c.loop-line.invariant.repeated;
+          ap (λ f. or_later f (first_repeat c.after-position.result c.define_front.new.labels (c.loop-line.number + 1) rest)) found
+          ∙ ap (λ q. or_later (earlier_line c.loop-line.repeated (repeats p labels words) c.loop-line.number) (first_repeat q c.define_front.new.labels (c.loop-line.number + 1) rest)) next
+          ∙ ap (λ k. or_later (earlier_line c.loop-line.repeated (repeats p labels words) c.loop-line.number) (first_repeat (after p words) k (c.loop-line.number + 1) rest)) defined
+          ∙ sym (repeat_step lines i past p labels c.loop-line.repeated c.loop-line.number (omega arith))
+          ∙ c.loop-line.invariant.repeated;
     }
