@@ -1,6 +1,6 @@
 -- A loop that reads the words of a line.
-use Rattle.std.proofs.Common.{◌≡◌, ℕ, suc, ◌+◌, ◌-◌, ◌≤◌, ◌<◌, List, [], ◌∷◌, ◌++◌, length, map, Result, Ok, Err, Bool, false, refl, ap, sym, ◌∙◌, append_assoc, length-append, arith, true, ◌≢◌, subst, true≢false}
-use Rattle.mx_lex.specs.Tokens.{next_token, tokens_within, tokens_of, before, and_then, is_end}
+use Rattle.std.proofs.Common.{◌≡◌, ℕ, suc, ◌+◌, ◌-◌, ◌≤◌, ◌<◌, List, [], ◌∷◌, ◌++◌, length, map, Result, Ok, Err, false, refl, ap, sym, ◌∙◌, append_assoc, length-append, arith, true, ◌≢◌, subst, true≢false}
+use Rattle.mx_lex.specs.Tokens.{next_token, tokens_within, tokens_of, before, is_end}
 use Rattle.mx_lex.specs.Reading.{IsSpan}
 use Rattle.mx_lex.specs.declared.token.Kind.{Kind}
 use Rattle.mx_lex.specs.declared.token.Kind.TheVariants.{End}

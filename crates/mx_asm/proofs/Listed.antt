@@ -1,6 +1,6 @@
 -- The loop over the lines of a text that makes its listing.
-use Rattle.std.proofs.Common.{◌≡◌, ℕ, ◌+◌, ◌≤◌, ◌<◌, List, [], ◌∷◌, ◌++◌, length, drop, get_or, Bor, cond, eqb, Bool, true, false, Option, Some, None, Result, Ok, Err, refl, ap, sym, ◌∙◌, subst, append_assoc, length-append, arith}
-use Rattle.std.specs.Prelude.{All, min}
+use Rattle.std.proofs.Common.{◌≡◌, ℕ, ◌+◌, ◌≤◌, ◌<◌, List, [], ◌∷◌, ◌++◌, length, drop, get_or, Bor, cond, eqb, Bool, true, false, Option, Some, None, Ok, refl, ap, sym, ◌∙◌, subst, append_assoc, length-append, arith}
+use Rattle.std.specs.Prelude.{All}
 use Rattle.std.proofs.lemmas.Bool.Decides.{nat_tests}
 use Rattle.std.proofs.lemmas.List.{append-nil, at_drop_more}
 use Rattle.std.proofs.lemmas.List.Elements.{All-append, All-nil, All-cons}
@@ -21,7 +21,7 @@ use Rattle.mx_asm.specs.declared.fault.LineError.TheVariants as errors
 use Rattle.mx_asm.specs.Positions.{line_words, statement_words, after, behind, with_labels, start, position_at_end, instruction_count, word_count}
 use Rattle.mx_asm.specs.Faults.{first_fault, found_or, line_fault, words_fault, first_repeat, repeats, is_line}
 use Rattle.mx_asm.specs.Texts.{effects_from, statements_in, lines_in, values_in, input_in, onto_statements, onto_lines, onto_values, onto_input, or_nothing}
-use Rattle.mx_asm.proofs.Counts.{Counts, effect_counts}
+use Rattle.mx_asm.proofs.Counts.{effect_counts}
 use Rattle.mx_asm.proofs.LabelBounds.{not_repeated}
 
 -- what was listed so far, and what the rest of the lines adds to it, is what all lines add

@@ -1,5 +1,5 @@
 -- The listing of all lines is the source that the text reads as.
-use Rattle.std.proofs.Common.{◌≡◌, ℕ, ◌+◌, ◌≤◌, List, [], length, Option, None, Bor, refl, ap, sym, ◌∙◌, subst, arith}
+use Rattle.std.proofs.Common.{◌≡◌, ℕ, ◌≤◌, List, [], length, Option, Bor, ap, sym, ◌∙◌, subst, arith}
 use Rattle.std.proofs.lemmas.List.Elements.{All-nil}
 use Rattle.mx_lex.specs.Lines.{lines_of}
 use Rattle.mx_source.specs.declared.statement.Statement.{Statement}

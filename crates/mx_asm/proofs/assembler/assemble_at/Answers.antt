@@ -1,4 +1,4 @@
-use Rattle.std.proofs.Common.{◌≡◌, [], sym, ap, ◌∙◌, subst}
+use Rattle.std.proofs.Common.{[], ap, ◌∙◌, subst}
 use Rattle.mx_asm.specs.Words.{texts}
 use Rattle.mx_asm.specs.Positions.{labels_from, start}
 use Rattle.mx_asm.specs.Listings.{IsListingOf, IsRefusal}

@@ -1,7 +1,7 @@
-use Rattle.std.proofs.Common.{◌≡◌, ◌+◌, [], ◌∷◌, List, ℕ, Bor, length, drop, get_or, map, refl, sym, ap, ◌∙◌, subst, arith}
+use Rattle.std.proofs.Common.{◌+◌, [], List, ℕ, Bor, drop, get_or, map, sym, ap, ◌∙◌, arith}
 use Rattle.mx_asm.specs.Words.{texts}
 use Rattle.mx_asm.specs.Shapes.{word}
-use Rattle.mx_asm.specs.Positions.{line_words, after, behind, statement_words, label_here, define_front, is_repeated, labels_from, with_labels}
+use Rattle.mx_asm.specs.Positions.{line_words, after, behind, statement_words, label_here, define_front, is_repeated, labels_from}
 use Rattle.mx_asm.specs.Faults.{first_repeat, repeats, earlier_line}
 use Rattle.mx_asm.proofs.Repeats.{or_later, labels_step, repeat_step}
 use Rattle.mx_asm.proofs.definitions.define_all.Goals as goal

@@ -1,5 +1,4 @@
-use Rattle.std.proofs.Common.{◌≡◌, ◌||◌, drop, map, sym, ◌∙◌}
-use Rattle.mx_asm.specs.Shapes.{word}
+use Rattle.std.proofs.Common.{sym, ◌∙◌}
 use Rattle.mx_asm.proofs.Labelled.{front_step}
 use Rattle.mx_asm.proofs.front.define_front.Goals as goal
 

@@ -1,7 +1,7 @@
-use Rattle.std.proofs.Common.{◌≡◌, ◌+◌, ◌<◌, length, drop, take, ap, sym, ◌∙◌, arith}
+use Rattle.std.proofs.Common.{◌≡◌, ◌+◌, ◌<◌, length, drop, take, ap, ◌∙◌, arith}
 use Rattle.std.proofs.lemmas.Bool.Decides.{nat_tests}
 use Rattle.std.proofs.lemmas.List.{length-drop}
-use Rattle.mx_lex.specs.Lines.{without_return, line_len}
+use Rattle.mx_lex.specs.Lines.{without_return}
 use Rattle.mx_asm.proofs.Pieces.{lines_step, lines_end}
 use Rattle.mx_asm.proofs.lines.lines_of.Goals as goal
 

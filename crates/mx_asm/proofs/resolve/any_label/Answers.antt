@@ -1,4 +1,4 @@
-use Rattle.std.proofs.Common.{◌≡◌, IfOk, sym, ap, ◌∙◌, subst}
+use Rattle.std.proofs.Common.{IfOk, sym, ap, ◌∙◌, subst}
 use Rattle.std.specs.Prelude.{ok_or}
 use Rattle.mx_asm.specs.declared.fault.Fault.TheVariants.{UndefinedLabel}
 use Rattle.mx_asm.specs.Fitting.{NamedFits}

@@ -1,9 +1,8 @@
-use Rattle.std.proofs.Common.{◌≡◌, ◌-◌, ◌++◌, [], ◌∷◌, length, map, Ok, Err, refl, ap, sym, ◌∙◌, subst, arith, rules}
+use Rattle.std.proofs.Common.{[], ◌∷◌, length, map, ap, sym, ◌∙◌, subst, arith}
 use Rattle.std.proofs.lemmas.List.{map-append}
 use Rattle.mx_lex.specs.Tokens.{next_token}
 use Rattle.mx_lex.specs.Reading.{IsSpan}
 use Rattle.mx_asm.specs.Shapes.{word}
-use Rattle.mx_asm.specs.Words.{words_of, words_at}
 use Rattle.mx_asm.proofs.LineWords.{Reads, reads_none, reads_push, reads_end, reads_fault, no_bad_byte, not_end}
 use Rattle.mx_asm.proofs.word.words_of.Goals as goal
 
