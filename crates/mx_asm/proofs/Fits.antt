@@ -1,9 +1,7 @@
 -- What is read fits in a source.
-use Rattle.std.proofs.Common.{◌≡◌, ℕ, ◌+◌, ◌≤◌, ◌<◌, List, [], ◌∷◌, cond, eqb, Option, Some, None, Result, Ok, Err, Bool, true, false, ◌||◌, refl, ap, sym, ◌∙◌, subst, arith}
-use Rattle.std.specs.Prelude.{All, IfSome, IfOk, ok_or}
-use Rattle.std.specs.List.{list_any}
+use Rattle.std.proofs.Common.{◌≡◌, ℕ, List, [], ◌∷◌, cond, Option, Some, None, Result, Bool, true, false, ◌||◌, refl, ap, ◌∙◌, arith}
+use Rattle.std.specs.Prelude.{IfSome, IfOk, ok_or}
 use Rattle.std.specs.Str.{bytes_eq}
-use Rattle.std.specs.Map.{lookup}
 use Rattle.std.proofs.lemmas.List.Elements.{All-head, All-tail}
 use Rattle.std.proofs.lemmas.Bool.Decides.{nat_tests}
 use Rattle.mx_isa.specs.Fields.{OpFits}
@@ -12,7 +10,7 @@ use Rattle.mx_isa.specs.declared.inst.Op.TheVariants.{Add, Sub, Subnc, And, Or, 
 use Rattle.mx_source.specs.declared.statement.Label.{Label}
 use Rattle.mx_source.specs.declared.statement.Label.TheVariants.{Code, Data}
 use Rattle.mx_source.specs.declared.statement.Statement.{Statement}
-use Rattle.mx_source.specs.Labels.{LabelFits, IsPlace, names_index, is_labelled}
+use Rattle.mx_source.specs.Labels.{LabelFits, names_index, is_labelled}
 use Rattle.mx_asm.specs.declared.fault.Fault.{Fault}
 use Rattle.mx_asm.specs.Operands.{label_named}
 use Rattle.mx_asm.specs.Fitting.{LabelsFit, NamedFits, FitsAlone, FitsBy, uses_both}
@@ -64,8 +62,8 @@ pub found_fits : (labels : List (List ℕ × Label)) (name : List ℕ) (count : 
 found_fits [] name count h = tt
 found_fits (e ∷ es) name count h =
     if_some_cond (NamedFits (e ∷ es) count) (bytes_eq name e.0) e.1 (label_named es name)
-      (first_fits e es count e.1 refl (All-head (λ p. LabelFits count p.1) e es h))
-      (if_some_weaker (NamedFits es count) (NamedFits (e ∷ es) count) (label_named es name) (rest_fits e es count) (found_fits es name count (All-tail (λ p. LabelFits count p.1) e es h)))
+    (first_fits e es count e.1 refl (All-head (λ p. LabelFits count p.1) e es h))
+    (if_some_weaker (NamedFits es count) (NamedFits (e ∷ es) count) (label_named es name) (rest_fits e es count) (found_fits es name count (All-tail (λ p. LabelFits count p.1) e es h)))
 
 if_ok_or : {A : Type 0} (P : A → Type 0) (o : Option A) (fault : Fault) → IfSome o P → IfOk (ok_or o fault) P
 if_ok_or P None fault h = tt

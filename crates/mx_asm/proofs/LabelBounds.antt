@@ -1,8 +1,7 @@
 -- The labels of a text without faults name statements of it, and addresses of user data.
-use Rattle.std.proofs.Common.{◌≡◌, ℕ, ◌+◌, ◌≤◌, ◌<◌, ◌&&◌, ◌||◌, List, [], ◌∷◌, ◌++◌, length, cond, Bool, true, false, Option, Some, None, Result, Ok, Err, refl, ap, sym, ◌∙◌, subst, arith}
-use Rattle.std.specs.Prelude.{All, not, nat_le, nat_lt, is_some, min}
-use Rattle.std.specs.List.{list_any}
-use Rattle.std.proofs.lemmas.Bool.{false≢true, cases_lt}
+use Rattle.std.proofs.Common.{◌≡◌, ℕ, ◌+◌, ◌≤◌, ◌<◌, ◌&&◌, ◌||◌, List, [], ◌∷◌, ◌++◌, length, cond, Bool, true, false, Option, Some, None, Result, Ok, Err, refl, sym, arith}
+use Rattle.std.specs.Prelude.{All, not, nat_le, nat_lt, is_some}
+use Rattle.std.proofs.lemmas.Bool.{false≢true}
 use Rattle.std.proofs.lemmas.Bool.Decides.{nat_tests}
 use Rattle.std.proofs.lemmas.List.Elements.{All-push}
 use Rattle.mx_source.specs.declared.statement.Label.{Label}
@@ -12,12 +11,12 @@ use Rattle.mx_asm.specs.declared.fault.Fault.TheVariants.{BadDirective, TooManyI
 use Rattle.mx_asm.specs.declared.position.Section.{Section}
 use Rattle.mx_asm.specs.declared.position.Section.TheVariants as section
 use Rattle.mx_asm.specs.declared.position.Position.{Position}
-use Rattle.mx_asm.specs.Words.{Word, Name, Number, Comma, Open, Close, Hash, Colon, End, words_of}
+use Rattle.mx_asm.specs.Words.{Word, Name, Colon, words_of}
 use Rattle.mx_asm.specs.Operands.{label_named}
 use Rattle.mx_asm.specs.Instructions.{Labels}
 use Rattle.mx_asm.specs.Fitting.{LabelsFit}
 use Rattle.mx_asm.specs.Directives.{Effect, effect_of, is_dotted}
-use Rattle.mx_asm.specs.Positions.{front_names, has_label, has_dotted_label, define, define_front, label_here, label_at, with_labels, labels_from, line_words, words_or_none, statement_words, after, behind, instruction_count, word_count, position_at_end}
+use Rattle.mx_asm.specs.Positions.{has_label, has_dotted_label, define, define_front, label_here, label_at, with_labels, labels_from, line_words, words_or_none, statement_words, after, behind, position_at_end}
 use Rattle.mx_asm.specs.Faults.{first_fault, found_or, line_fault, words_fault, least_fault, layout_fault, stands_past, is_full, is_data, repeats}
 
 cond_none : {A : Type 0} (b : Bool) (x : A) (o : Option A) → cond b (Some x) o ≡ None → (b ≡ false) × (o ≡ None)
@@ -106,5 +105,5 @@ labels_fit labels end (line ∷ lines) p earlier number le low none fits =
     let two = found_none number (line_fault labels end p earlier line) (first_fault labels end (after p ws) (with_labels p earlier ws) (number + 1) lines) none in
     let past = not_past labels end p (repeats p earlier ws) (length line) (words_of line) two.0 in
     labels_fit labels end lines (after p ws) (with_labels p earlier ws) (number + 1) le (address_grows p ws low) two.1
-      (front_fits (LabelFits (position_at_end p (line ∷ lines)).index) earlier (label_here p) ws fits
-        (here_fits end (position_at_end p (line ∷ lines)).index p.section p.index p.address (has_label ws) le low (index_grows (line ∷ lines) p) past))
+    (front_fits (LabelFits (position_at_end p (line ∷ lines)).index) earlier (label_here p) ws fits
+    (here_fits end (position_at_end p (line ∷ lines)).index p.section p.index p.address (has_label ws) le low (index_grows (line ∷ lines) p) past))

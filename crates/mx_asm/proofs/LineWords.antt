@@ -1,6 +1,6 @@
 -- A loop that reads the words of a line.
-use Rattle.std.proofs.Common.{◌≡◌, ℕ, suc, ◌+◌, ◌-◌, ◌≤◌, ◌<◌, List, [], ◌∷◌, ◌++◌, length, map, Result, Ok, Err, Bool, false, refl, ap, sym, ◌∙◌, append_assoc, length-append, arith, true, ◌≢◌, subst, true≢false}
-use Rattle.mx_lex.specs.Tokens.{next_token, tokens_within, tokens_of, before, and_then, is_end}
+use Rattle.std.proofs.Common.{◌≡◌, ℕ, suc, ◌+◌, ◌-◌, ◌≤◌, ◌<◌, List, [], ◌∷◌, ◌++◌, length, map, Result, Ok, Err, false, refl, ap, sym, ◌∙◌, append_assoc, length-append, arith, true, ◌≢◌, subst, true≢false}
+use Rattle.mx_lex.specs.Tokens.{next_token, tokens_within, tokens_of, before, is_end}
 use Rattle.mx_lex.specs.Reading.{IsSpan}
 use Rattle.mx_lex.specs.declared.token.Kind.{Kind}
 use Rattle.mx_lex.specs.declared.token.Kind.TheVariants.{End}
@@ -46,11 +46,11 @@ reads_more line front at t h e goes grows within =
       within = within;
       few = omega (arith, length-append front (word_at line t ∷ []), h.few);
       same =
-        ap (λ k. with_front (front ++ word_at line t ∷ []) (words_at line (tokens_within k line t.end))) after
-        ∙ sym (one_more line front t (tokens_within m line t.end))
-        ∙ ap (λ r. with_front front (words_at line r)) (sym (step_tokens m line at t e goes))
-        ∙ ap (λ k. with_front front (words_at line (tokens_within k line at))) (sym now)
-        ∙ h.same;
+          ap (λ k. with_front (front ++ word_at line t ∷ []) (words_at line (tokens_within k line t.end))) after
+          ∙ sym (one_more line front t (tokens_within m line t.end))
+          ∙ ap (λ r. with_front front (words_at line r)) (sym (step_tokens m line at t e goes))
+          ∙ ap (λ k. with_front front (words_at line (tokens_within k line at))) (sym now)
+          ∙ h.same;
     }
 
 pub reads_end : (line : List ℕ) (front : List Word) (at : ℕ) (t : Token) → Reads line front at → next_token line at ≡ Ok t → is_end t.kind ≡ true
@@ -82,8 +82,8 @@ reads_none line = record {
   within = omega arith;
   few = omega arith;
   same =
-    let all : suc (length line) - 0 ≡ length line + 1 = omega arith in
-    ap (λ k. with_front [] (words_at line (tokens_within k line 0))) all ∙ same_result (tokens_within (length line + 1) line 0) line;
+      let all : suc (length line) - 0 ≡ length line + 1 = omega arith in
+      ap (λ k. with_front [] (words_at line (tokens_within k line 0))) all ∙ same_result (tokens_within (length line + 1) line 0) line;
 }
 
 pub not_end : (kind : Kind) → is_end kind ≡ false → kind ≢ End
@@ -98,5 +98,5 @@ pub reads_push : (line : List ℕ) (front front' : List Word) (at at' : ℕ) (t 
     → IsSpan line at t → front' ≡ front ++ w ∷ [] → w ≡ word_at line t → at' ≡ t.end → Reads line front' at'
 reads_push line front front' at at' t w h e goes span fs ws ends =
     subst (λ a. Reads line front' a) (sym ends)
-      (subst (λ ws. Reads line ws t.end) (sym (fs ∙ ap (λ w. front ++ w ∷ []) ws))
-        (let taken = span.taken (not_end t.kind goes) in reads_more line front at t h e goes (omega (arith, span.after)) span.within))
+    (subst (λ ws. Reads line ws t.end) (sym (fs ∙ ap (λ w. front ++ w ∷ []) ws))
+    (let taken = span.taken (not_end t.kind goes) in reads_more line front at t h e goes (omega (arith, span.after)) span.within))

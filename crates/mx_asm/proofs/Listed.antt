@@ -1,6 +1,6 @@
 -- The loop over the lines of a text that makes its listing.
-use Rattle.std.proofs.Common.{◌≡◌, ℕ, ◌+◌, ◌≤◌, ◌<◌, List, [], ◌∷◌, ◌++◌, length, drop, get_or, Bor, cond, eqb, Bool, true, false, Option, Some, None, Result, Ok, Err, refl, ap, sym, ◌∙◌, subst, append_assoc, length-append, arith}
-use Rattle.std.specs.Prelude.{All, min}
+use Rattle.std.proofs.Common.{◌≡◌, ℕ, ◌+◌, ◌≤◌, ◌<◌, List, [], ◌∷◌, ◌++◌, length, drop, get_or, Bor, cond, eqb, Bool, true, false, Option, Some, None, Ok, refl, ap, sym, ◌∙◌, subst, append_assoc, length-append, arith}
+use Rattle.std.specs.Prelude.{All}
 use Rattle.std.proofs.lemmas.Bool.Decides.{nat_tests}
 use Rattle.std.proofs.lemmas.List.{append-nil, at_drop_more}
 use Rattle.std.proofs.lemmas.List.Elements.{All-append, All-nil, All-cons}
@@ -21,7 +21,7 @@ use Rattle.mx_asm.specs.declared.fault.LineError.TheVariants as errors
 use Rattle.mx_asm.specs.Positions.{line_words, statement_words, after, behind, with_labels, start, position_at_end, instruction_count, word_count}
 use Rattle.mx_asm.specs.Faults.{first_fault, found_or, line_fault, words_fault, first_repeat, repeats, is_line}
 use Rattle.mx_asm.specs.Texts.{effects_from, statements_in, lines_in, values_in, input_in, onto_statements, onto_lines, onto_values, onto_input, or_nothing}
-use Rattle.mx_asm.proofs.Counts.{Counts, effect_counts}
+use Rattle.mx_asm.proofs.Counts.{effect_counts}
 use Rattle.mx_asm.proofs.LabelBounds.{not_repeated}
 
 -- what was listed so far, and what the rest of the lines adds to it, is what all lines add
@@ -51,7 +51,7 @@ later_line : (lines : List (List ℕ)) (p : Position) (earlier : Labels) (number
 later_line [] p earlier number n lt = refl
 later_line (line ∷ lines) p earlier number n lt =
     later_cond (repeats p earlier (line_words line)) number n (first_repeat (after p (line_words line)) (with_labels p earlier (line_words line)) (number + 1) lines) lt
-      (later_line lines (after p (line_words line)) (with_labels p earlier (line_words line)) (number + 1) n (omega arith))
+    (later_line lines (after p (line_words line)) (with_labels p earlier (line_words line)) (number + 1) n (omega arith))
 
 same_line : (n : ℕ) → eqb n n ≡ true
 same_line n = grind (arith, nat_tests)
@@ -64,7 +64,7 @@ flag_cond false number later h = h
 flag : (line : List ℕ) (lines : List (List ℕ)) (p : Position) (earlier : Labels) (number : ℕ) → is_line (first_repeat p earlier number (line ∷ lines)) number ≡ repeats p earlier (line_words line)
 flag line lines p earlier number =
     flag_cond (repeats p earlier (line_words line)) number (first_repeat (after p (line_words line)) (with_labels p earlier (line_words line)) (number + 1) lines)
-      (later_line lines (after p (line_words line)) (with_labels p earlier (line_words line)) (number + 1) number (omega arith))
+    (later_line lines (after p (line_words line)) (with_labels p earlier (line_words line)) (number + 1) number (omega arith))
 
 -- what a line does goes behind what was listed
 put_statements : (ss : List Statement) (e : Effect) (rest : List Statement) → (ss ++ onto_statements e []) ++ rest ≡ ss ++ onto_statements e rest
@@ -120,7 +120,6 @@ address_after p ws h = omega (arith, h)
 
 module _ (labels : Labels) (end address : ℕ) (all : List (List ℕ)) (repeated : Option ℕ) (ss : List Statement) (ns : List ℕ) (vs : List Value) (input : Option ℕ) (p : Position) (number : ℕ) (line : List ℕ) (rest : List (List ℕ))
     (h : Listed labels end address all repeated ss ns vs input p number (line ∷ rest)) where
-
   -- the fault of this line, as the program finds it
   pub this_fault : line_fault labels end p h.earlier line ≡ words_fault labels end p (is_line repeated number) (length line) (words_of line)
   this_fault = ap (λ b. words_fault labels end p b (length line) (words_of line)) (sym (flag line rest p h.earlier number) ∙ ap (λ r. is_line r number) h.repeat)
@@ -145,8 +144,8 @@ module _ (labels : Labels) (end address : ℕ) (all : List (List ℕ)) (repeated
         earlier = with_labels p h.earlier ws;
         fault = ap (λ f. found_or number f (first_fault labels end (after p ws) (with_labels p h.earlier ws) (number + 1) rest)) (sym (this_fault ∙ none)) ∙ h.fault;
         repeat =
-          let fresh = again ∙ ap (λ r. is_line r number) h.repeat ∙ not_repeated labels end p (is_line repeated number) (length line) (words_of line) none in
-          ap (λ b. cond b (Some number) (first_repeat (after p ws) (with_labels p h.earlier ws) (number + 1) rest)) (sym fresh) ∙ h.repeat;
+            let fresh = again ∙ ap (λ r. is_line r number) h.repeat ∙ not_repeated labels end p (is_line repeated number) (length line) (words_of line) none in
+            ap (λ b. cond b (Some number) (first_repeat (after p ws) (with_labels p h.earlier ws) (number + 1) rest)) (sym fresh) ∙ h.repeat;
         statements = put_statements ss e (statements_in later) ∙ ap (λ x. ss ++ onto_statements x (statements_in later)) (sym does) ∙ h.statements;
         lines = put_lines ns number e (lines_in later) ∙ ap (λ x. ns ++ onto_lines number x (lines_in later)) (sym does) ∙ h.lines;
         values = put_values vs e (values_in later) ∙ ap (λ x. vs ++ onto_values x (values_in later)) (sym does) ∙ h.values;

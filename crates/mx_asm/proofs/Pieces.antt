@@ -1,5 +1,5 @@
 -- The lines of a text, one after another.
-use Rattle.std.proofs.Common.{◌≡◌, ℕ, suc, ◌+◌, ◌≤◌, ◌<◌, List, [], ◌∷◌, ◌++◌, length, take, drop, map, get_or, Bool, true, false, cond, eqb, refl, ap, sym, ◌∙◌, arith, add-one, append_assoc, Bor}
+use Rattle.std.proofs.Common.{◌≡◌, ℕ, suc, ◌+◌, ◌<◌, List, [], ◌∷◌, ◌++◌, length, take, drop, map, Bool, true, false, cond, eqb, refl, ap, sym, ◌∙◌, arith, add-one, append_assoc, Bor}
 use Rattle.std.proofs.lemmas.List.{map-append, append-nil}
 use Rattle.mx_lex.specs.Lines.{pieces, onto_first, line_len, without_return, lines_of}
 use Rattle.mx_asm.specs.Words.{texts}

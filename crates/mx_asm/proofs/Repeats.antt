@@ -1,6 +1,6 @@
 -- The first line that defines a label again.
-use Rattle.std.proofs.Common.{◌≡◌, ℕ, ◌+◌, ◌≤◌, ◌<◌, List, [], ◌∷◌, length, map, drop, get_or, Bool, true, false, cond, Option, Some, None, Bor, refl, ap, sym, ◌∙◌, subst, arith}
-use Rattle.std.proofs.lemmas.List.{at_drop_more, at_drop_all}
+use Rattle.std.proofs.Common.{◌≡◌, ℕ, ◌+◌, ◌<◌, List, length, drop, get_or, Bool, true, false, cond, Option, Some, None, Bor, refl, ap, sym, ◌∙◌}
+use Rattle.std.proofs.lemmas.List.{at_drop_more}
 use Rattle.mx_asm.specs.declared.position.Position.{Position}
 use Rattle.mx_asm.specs.Words.{texts}
 use Rattle.mx_asm.specs.Instructions.{Labels}
@@ -24,9 +24,9 @@ labels_step lines i d p labels lt = at_drop_more (λ ls. labels_from p labels (t
 
 pub repeat_step : (lines : List (Bor (List ℕ))) (i : ℕ) (d : Bor (List ℕ)) (p : Position) (labels : Labels) (found : Option ℕ) (number : ℕ) → i < length lines
     → or_later found (first_repeat p labels number (texts (drop i lines)))
-      ≡ or_later (earlier_line found (repeats p labels (line_words (get_or lines i d).now)) number)
-          (first_repeat (after p (line_words (get_or lines i d).now)) (with_labels p labels (line_words (get_or lines i d).now)) (number + 1) (texts (drop (i + 1) lines)))
+    ≡ or_later (earlier_line found (repeats p labels (line_words (get_or lines i d).now)) number)
+    (first_repeat (after p (line_words (get_or lines i d).now)) (with_labels p labels (line_words (get_or lines i d).now)) (number + 1) (texts (drop (i + 1) lines)))
 repeat_step lines i d p labels found number lt =
     ap (or_later found) (at_drop_more (λ ls. first_repeat p labels number (texts ls)) lines i d lt)
     ∙ sym (earlier_or_later found (repeats p labels (line_words (get_or lines i d).now)) number
-        (first_repeat (after p (line_words (get_or lines i d).now)) (with_labels p labels (line_words (get_or lines i d).now)) (number + 1) (texts (drop (i + 1) lines))))
+    (first_repeat (after p (line_words (get_or lines i d).now)) (with_labels p labels (line_words (get_or lines i d).now)) (number + 1) (texts (drop (i + 1) lines))))

@@ -1,12 +1,12 @@
 -- The table of labels.
-use Rattle.std.proofs.Common.{◌≡◌, ℕ, ◌≤◌, List, [], ◌∷◌, ◌++◌, map, cond, Option, Some, None, Bor, MatchOption, Bool, true, false, refl, ap, sym, ◌∙◌, subst}
+use Rattle.std.proofs.Common.{◌≡◌, ℕ, List, [], ◌∷◌, ◌++◌, map, cond, Option, Some, Bor, Bool, true, false, refl, ap, ◌∙◌}
 use Rattle.std.specs.Prelude.{All, IfSome}
 use Rattle.std.specs.Str.{bytes_eq}
 use Rattle.std.specs.Map.{lookup}
 use Rattle.std.proofs.lemmas.List.{map-append}
 use Rattle.std.proofs.lemmas.List.Elements.{All-head, All-tail}
 use Rattle.mx_source.specs.declared.statement.Label.{Label}
-use Rattle.mx_asm.specs.LabelTable.{IsNear, named}
+use Rattle.mx_asm.specs.LabelTable.{named}
 
 -- a look-up by the bytes of the keys
 pub lookup_by_bytes : (es : List (Bor (List ℕ) × Label)) (name : List ℕ) → lookup (λ k. bytes_eq name k.now) es ≡ lookup (bytes_eq name) (map named es)

@@ -1,5 +1,5 @@
 -- The listing of all lines is the source that the text reads as.
-use Rattle.std.proofs.Common.{◌≡◌, ℕ, ◌+◌, ◌≤◌, List, [], length, Option, None, Bor, refl, ap, sym, ◌∙◌, subst, arith}
+use Rattle.std.proofs.Common.{◌≡◌, ℕ, ◌≤◌, List, [], length, Option, Bor, ap, sym, ◌∙◌, subst, arith}
 use Rattle.std.proofs.lemmas.List.Elements.{All-nil}
 use Rattle.mx_lex.specs.Lines.{lines_of}
 use Rattle.mx_source.specs.declared.statement.Statement.{Statement}
@@ -52,11 +52,11 @@ module _ (low end : ℕ) (text : List ℕ) (lines : List (Bor (List ℕ))) (labe
       let ended = labels_fit labels end (texts lines) (start low) [] 1 most least h.faultless (All-nil (λ (p : List ℕ × Label). LabelFits (position_at_end (start low) (texts lines)).index p.1)) in
       let fit : LabelsFit (length l.statements.items) labels = subst (λ n. LabelsFit n labels) (sym h.count) (subst (LabelsFit (position_at_end (start low) (texts lines)).index) (sym defined) ended) in
       subst (λ k. IsSource (listed l.statements.items l.lines.items l.user_data.items k)) (sym same)
-        (record {
-          few_statements = h.few;
-          few_words = omega (arith, h.within);
-          a_line_each = h.each;
-          labels_fit = fit;
-          statements_fit = h.statements_fit (length l.statements.items) fit;
-          words_fit = h.values_fit (length l.statements.items) fit;
-        })
+      (record {
+        few_statements = h.few;
+        few_words = omega (arith, h.within);
+        a_line_each = h.each;
+        labels_fit = fit;
+        statements_fit = h.statements_fit (length l.statements.items) fit;
+        words_fit = h.values_fit (length l.statements.items) fit;
+      })

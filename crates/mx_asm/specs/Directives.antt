@@ -1,5 +1,5 @@
 -- What the statement of a line does: its instruction or its data words.
-use Rattle.std.specs.Prelude.{ℕ, Bool, true, false, ◌==◌, ◌||◌, List, [], ◌∷◌, replicate, Option, Some, None, Result, Ok, Err, codes, if◌then◌else◌}
+use Rattle.std.specs.Prelude.{ℕ, Bool, true, false, ◌==◌, List, [], ◌∷◌, replicate, Option, Some, None, Result, Ok, Err, codes, if◌then◌else◌}
 use Rattle.std.specs.Str.{str_eq_ignore_ascii_case}
 use Rattle.mx_source.specs.declared.statement.Label.{Label}
 use Rattle.mx_source.specs.declared.statement.Label.TheVariants as label
@@ -44,14 +44,17 @@ is_value (Name bytes) = true
 is_value (Number negative value) = true
 is_value _ = false
 
+-- a `,`
 abbrev pub is_comma : Word → Bool
 is_comma Comma = true
 is_comma _ = false
 
+-- a value before others
 abbrev pub cons : {A : Type 0} → A → Result (List A) Fault → Result (List A) Fault
 cons x (Ok xs) = Ok (x ∷ xs)
 cons x (Err fault) = Err fault
 
+-- a value before others, which has to be one
 abbrev pub before_values : Word → Result (List Word) Fault → Result (List Word) Fault
 before_values v vs = if is_value v then cons v vs else Err BadDirective
 
@@ -76,11 +79,13 @@ abbrev pub value_at : Label → Value
 value_at (label.Code i) = values.Code i
 value_at (label.Data a) = values.Int a
 
+-- the data word of a value
 abbrev pub value_of : Labels → Word → Result Value Fault
 value_of labels (Number negative value) = data_word negative value >>= λ word. Ok (values.Int word)
 value_of labels (Name name) = any_label labels name >>= λ l. Ok (value_at l)
 value_of labels _ = Err BadDirective
 
+-- the data words of values
 abbrev pub values_of : Labels → List Word → Result (List Value) Fault
 values_of labels [] = Ok []
 values_of labels (word ∷ words) = value_of labels word >>= λ v. cons v (values_of labels words)
@@ -97,11 +102,12 @@ unfoldable pub space_count : List Word → Result ℕ Fault
 space_count (Number negative value ∷ []) = if in_range 0 65280 negative value then Ok value else Err NumberOutOfRange
 space_count _ = Err BadDirective
 
--- data stand in the data section, instructions in the code section
+-- data stand in the data section
 abbrev pub in_data : Section → List Value → Result Effect Fault
 in_data section.Data values = Ok (Data values)
 in_data section.Code values = Err BadDirective
 
+-- an instruction stands in the code section
 abbrev pub in_code : Section → Statement → Result Effect Fault
 in_code section.Code statement = Ok (Instruction statement)
 in_code section.Data statement = Err BadDirective

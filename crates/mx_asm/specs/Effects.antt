@@ -1,5 +1,5 @@
 -- What the program keeps of a statement's effect.
-use Rattle.std.specs.Prelude.{◌≡◌, ℕ, List, [], ◌++◌, All, Option, Some, None}
+use Rattle.std.specs.Prelude.{◌≡◌, ℕ, [], ◌++◌, All, Option, Some, None}
 use Rattle.mx_source.specs.Labels.{IsPlace}
 use Rattle.mx_source.specs.Statements.{StatementFits, ValueFits}
 use Rattle.mx_asm.specs.declared.effect.Effect.{Effect as Kept}
@@ -12,6 +12,7 @@ use Rattle.mx_asm.specs.declared.listing.Listing.{Listing}
 use Rattle.mx_asm.specs.Directives.{Effect, Nothing, Instruction, Data, Input}
 use Rattle.mx_asm.specs.Texts.{onto_statements, onto_lines, onto_values, onto_input}
 
+-- what an effect of the program is
 abbrev pub effect : Kept → Effect
 effect kept.Nothing = Nothing
 effect (kept.Instruction statement) = Instruction statement
@@ -29,6 +30,7 @@ abbrev pub IsFaultOf : Option Fault → LineError → Type 0
 IsFaultOf found errors.Memory = Unit {0}
 IsFaultOf found (errors.Fault fault) = found ≡ Some fault
 
+-- the line that was found, or a later one
 abbrev pub first_input : Option ℕ → Option ℕ → Option ℕ
 first_input (Some line) later = Some line
 first_input None later = later

@@ -1,5 +1,5 @@
 -- The fault of a line within its text, and the first faulty line.
-use Rattle.std.specs.Prelude.{◌≡◌, ℕ, ◌+◌, Bool, true, false, ◌&&◌, ◌||◌, nat_le, nat_lt, ◌==◌, List, [], ◌∷◌, length, Option, Some, None, Result, Ok, Err, if◌then◌else◌}
+use Rattle.std.specs.Prelude.{ℕ, ◌+◌, Bool, true, false, ◌&&◌, ◌||◌, nat_le, nat_lt, ◌==◌, List, [], ◌∷◌, length, Option, Some, None, Result, Ok, Err, if◌then◌else◌}
 use Rattle.mx_asm.specs.declared.fault.Fault.{Fault}
 use Rattle.mx_asm.specs.declared.fault.Fault.TheVariants.{UnknownMnemonic, BadOperands, BadRegister, NumberOutOfRange, DuplicateLabel, BadDirective, TooManyInstructions, DataFull, LineTooLong}
 use Rattle.mx_asm.specs.declared.position.Section.{Section}
@@ -18,6 +18,7 @@ is_early BadRegister = true
 is_early NumberOutOfRange = true
 is_early _ = false
 
+-- the data section
 abbrev pub is_data : Section → Bool
 is_data section.Data = true
 is_data section.Code = false
@@ -38,14 +39,16 @@ layout_fault end p long words =
     else (if is_full end p words then Some DataFull
     else (if nat_lt 255 long then Some LineTooLong else None)))
 
--- the least fault of a line: a label that is defined again comes behind the early faults and before all others
+-- the lesser of the fault of a statement and of a label that is defined again, which comes behind the early faults and before all others
 abbrev pub with_repeat : Bool → Fault → Fault
 with_repeat repeated fault = if is_early fault then fault else (if repeated then DuplicateLabel else fault)
 
+-- the least fault of a line that splits into words
 abbrev pub least_fault : Bool → Result Effect Fault → Option Fault → Option Fault
 least_fault repeated (Err fault) rest = Some (with_repeat repeated fault)
 least_fault repeated (Ok effect) rest = if repeated then Some DuplicateLabel else rest
 
+-- the least fault of a line that has so many bytes
 abbrev pub words_fault : Labels → ℕ → Position → Bool → ℕ → Result (List Word) Fault → Option Fault
 words_fault labels end p repeated long (Err fault) = Some fault
 words_fault labels end p repeated long (Ok words) = least_fault repeated (effect_of labels p.section (statement_words words)) (layout_fault end p long words)
@@ -58,6 +61,7 @@ repeats p earlier words = is_repeated earlier (label_here p) words
 abbrev pub line_fault : Labels → ℕ → Position → Labels → List ℕ → Option Fault
 line_fault labels end p earlier line = words_fault labels end p (repeats p earlier (line_words line)) (length line) (words_of line)
 
+-- the fault of a line with its number, or what a later line has
 abbrev pub found_or : ℕ → Option Fault → Option (ℕ × Fault) → Option (ℕ × Fault)
 found_or number (Some fault) later = Some (number, fault)
 found_or number None later = later
@@ -67,7 +71,7 @@ abbrev pub first_fault : Labels → ℕ → Position → Labels → ℕ → List
 first_fault labels end p earlier number [] = None
 first_fault labels end p earlier number (line ∷ lines) =
     found_or number (line_fault labels end p earlier line)
-      (first_fault labels end (after p (line_words line)) (with_labels p earlier (line_words line)) (number + 1) lines)
+    (first_fault labels end (after p (line_words line)) (with_labels p earlier (line_words line)) (number + 1) lines)
 
 -- the number of the first line that defines a label again
 abbrev pub first_repeat : Position → Labels → ℕ → List (List ℕ) → Option ℕ

@@ -11,6 +11,7 @@ use Rattle.mx_asm.specs.declared.mnemonic.Mnemonic.{Mnemonic}
 use Rattle.mx_asm.specs.declared.mnemonic.Mnemonic.TheVariants.{Compute}
 use Rattle.mx_asm.specs.declared.fault.Fault.{Fault}
 
+-- each label fits in a source of so many statements
 abbrev pub LabelsFit : ℕ → List (List ℕ × Label) → Type 0
 LabelsFit count labels = All (λ (p : List ℕ × Label). LabelFits count p.1) labels
 

@@ -1,6 +1,6 @@
 -- The statement that an instruction spells: its operands have the shape of its mnemonic, its registers and special
 -- words are ones, its numbers are in range and its labels are defined and of the right kind, in this order.
-use Rattle.std.specs.Prelude.{ℕ, ◌+◌, Bool, List, [], ◌∷◌, Option, Some, None, Result, Ok, Err, ℤ, pos}
+use Rattle.std.specs.Prelude.{ℕ, List, Option, Some, None, Result, Ok, Err, pos}
 use Rattle.mx_isa.specs.declared.inst.Op.{Op}
 use Rattle.mx_isa.specs.declared.inst.Op.TheVariants as op
 use Rattle.mx_isa.specs.declared.inst.Cond.{Cond}
@@ -217,6 +217,7 @@ spelled_by labels m.JumpReg words = jump words
 spelled_by labels m.Halt words = halt words
 spelled_by labels m.System words = system words
 
+-- the statement of a mnemonic, if the name spells one
 abbrev pub with_mnemonic : Labels → Option Mnemonic → List Word → Result Statement Fault
 with_mnemonic labels (Some mnemonic) words = spelled_by labels mnemonic words
 with_mnemonic labels None words = Err UnknownMnemonic

@@ -1,5 +1,5 @@
 -- The labels of a text as the assembler keeps them.
-use Rattle.std.specs.Prelude.{ℕ, ◌≤◌, List, map, All}
+use Rattle.std.specs.Prelude.{ℕ, ◌≤◌, List, map}
 use Rattle.std.specs.Borrow.{Bor}
 use Rattle.mx_source.specs.declared.statement.Label.{Label}
 use Rattle.mx_source.specs.declared.statement.Label.TheVariants.{Code, Data}
@@ -9,6 +9,7 @@ use Rattle.mx_asm.specs.declared.labels.Labels.TheInside.{Inside}
 abbrev pub named : Bor (List ℕ) × Label → List ℕ × Label
 named entry = (entry.0.now, entry.1)
 
+-- the labels that a table keeps, in order
 abbrev pub labels_view : Inside → List (List ℕ × Label)
 labels_view inside = map named inside.table.entries
 

@@ -1,5 +1,5 @@
 -- What an operand stands for.
-use Rattle.std.specs.Prelude.{ℕ, ◌+◌, ◌-◌, ◌*◌, ◌^◌, ◌%◌, Bool, true, false, ◌&&◌, ◌||◌, ◌==◌, nat_le, List, [], ◌∷◌, map, Option, Some, None, Result, Ok, Err, ok_or, codes, if◌then◌else◌, ℤ, pos, neg_ℤ}
+use Rattle.std.specs.Prelude.{ℕ, ◌+◌, ◌-◌, ◌*◌, ◌^◌, ◌%◌, Bool, ◌&&◌, ◌||◌, ◌==◌, nat_le, List, [], ◌∷◌, Option, Some, None, Result, Ok, Err, ok_or, codes, if◌then◌else◌, ℤ, pos, neg_ℤ}
 use Rattle.std.specs.Char.{is_digit}
 use Rattle.std.specs.Str.{bytes_eq, str_eq_ignore_ascii_case}
 use Rattle.std.specs.Map.{lookup}
@@ -22,6 +22,7 @@ register_named (r ∷ d ∷ []) = if is_r r && is_digit d 10 then Some (d - 48) 
 register_named (r ∷ t ∷ d ∷ []) = if is_r r && (nat_le 49 t && nat_le t 51) && is_digit d 10 && nat_le (10 * (t - 48) + (d - 48)) 31 then Some (10 * (t - 48) + (d - 48)) else None
 register_named _ = None
 
+-- the register of a name in its place
 unfoldable pub register : List ℕ → Result ℕ Fault
 register name = ok_or (register_named name) BadRegister
 
@@ -33,6 +34,7 @@ special_named name =
     else (if str_eq_ignore_ascii_case name (codes "pc2") then Some Pc2
     else (if str_eq_ignore_ascii_case name (codes "pc3") then Some Pc3 else None)))
 
+-- the special word of a name in its place
 unfoldable pub special : List ℕ → Result Special Fault
 special name = ok_or (special_named name) BadRegister
 
@@ -40,6 +42,7 @@ special name = ok_or (special_named name) BadRegister
 abbrev pub in_range : ℕ → ℕ → Bool → ℕ → Bool
 in_range low high negative value = if negative then nat_le value low else nat_le value high
 
+-- a number with its sign
 abbrev pub integer : Bool → ℕ → ℤ
 integer negative value = if negative then neg_ℤ (pos value) else pos value
 
@@ -59,9 +62,11 @@ data_word negative value = if in_range 2147483648 4294967295 negative value then
 abbrev pub label_named : List (List ℕ × Label) → List ℕ → Option Label
 label_named labels name = lookup (bytes_eq name) labels
 
+-- what a label in an operand names
 unfoldable pub any_label : List (List ℕ × Label) → List ℕ → Result Label Fault
 any_label labels name = ok_or (label_named labels name) UndefinedLabel
 
+-- the index of a code label
 abbrev pub code_index : Label → Result ℕ Fault
 code_index (Code i) = Ok i
 code_index (Data a) = Err WrongLabelKind
@@ -70,6 +75,7 @@ code_index (Data a) = Err WrongLabelKind
 unfoldable pub code_label : List (List ℕ × Label) → List ℕ → Result ℕ Fault
 code_label labels name = any_label labels name >>= code_index
 
+-- the address of a data label
 abbrev pub data_address : Label → Result ℕ Fault
 data_address (Data a) = Ok a
 data_address (Code i) = Err WrongLabelKind

@@ -1,5 +1,5 @@
 -- Where a line stands, and what its labels name.
-use Rattle.std.specs.Prelude.{ℕ, ◌+◌, ◌/◌, min, Bool, true, false, not, ◌||◌, ◌&&◌, List, [], ◌∷◌, ◌++◌, length, Option, Some, None, Result, Ok, Err, is_some, if◌then◌else◌}
+use Rattle.std.specs.Prelude.{ℕ, ◌+◌, ◌/◌, min, Bool, true, false, not, ◌||◌, ◌&&◌, List, [], ◌∷◌, ◌++◌, length, Option, Some, Result, Ok, Err, is_some, if◌then◌else◌}
 use Rattle.std.specs.List.{list_any}
 use Rattle.mx_source.specs.declared.statement.Label.{Label}
 use Rattle.mx_source.specs.declared.statement.Label.TheVariants as label
@@ -9,7 +9,7 @@ use Rattle.mx_asm.specs.declared.position.Section.TheVariants as section
 use Rattle.mx_asm.specs.declared.position.Position.{Position}
 use Rattle.mx_asm.specs.declared.directive.Directive.{Directive}
 use Rattle.mx_asm.specs.declared.directive.Directive.TheVariants as d
-use Rattle.mx_asm.specs.Words.{Word, Name, Number, Colon, words_of}
+use Rattle.mx_asm.specs.Words.{Word, Name, Colon, words_of}
 use Rattle.mx_asm.specs.Operands.{label_named}
 use Rattle.mx_asm.specs.Instructions.{Labels}
 use Rattle.mx_asm.specs.Directives.{is_dotted, directive_named, space_count}
@@ -29,7 +29,7 @@ abbrev pub first_name : List Word → List ℕ
 first_name (Name name ∷ words) = name
 first_name _ = []
 
--- what stands behind them
+-- what stands behind the labels at the front
 abbrev pub statement_words : List Word → List Word
 statement_words (Name name ∷ Colon ∷ words) = statement_words words
 statement_words words = words
@@ -48,6 +48,7 @@ directs s (Some d.Code) = section.Code
 directs s (Some d.Data) = section.Data
 directs s _ = s
 
+-- the section behind a line with this statement
 abbrev pub section_after : Section → List Word → Section
 section_after s (Name name ∷ []) = directs s (directive_named name)
 section_after s _ = s
@@ -57,6 +58,7 @@ abbrev pub instruction_count : List Word → ℕ
 instruction_count (Name name ∷ words) = if is_dotted name then 0 else 1
 instruction_count _ = 0
 
+-- a number that was read, or 0
 abbrev pub ok_or_zero : Result ℕ Fault → ℕ
 ok_or_zero (Ok n) = n
 ok_or_zero (Err fault) = 0
@@ -67,6 +69,7 @@ asked (Some d.Word) words = (length words + 1) / 2
 asked (Some d.Space) words = ok_or_zero (space_count words)
 asked _ words = 0
 
+-- how many data words a statement is
 abbrev pub word_count : List Word → ℕ
 word_count (Name name ∷ words) = if is_dotted name then asked (directive_named name) words else 0
 word_count _ = 0
@@ -77,6 +80,7 @@ unfoldable pub behind : Position → List Word → Position
 behind p statement =
     record { section = section_after p.section statement; index = p.index + instruction_count statement; address = min (p.address + word_count statement) 65537 }
 
+-- where the line behind a line of these words stands
 abbrev pub after : Position → List Word → Position
 after p words = behind p (statement_words words)
 
@@ -85,6 +89,7 @@ abbrev pub label_at : Section → ℕ → ℕ → Label
 label_at section.Code index address = label.Code index
 label_at section.Data index address = label.Data address
 
+-- what a label names at this position
 abbrev pub label_here : Position → Label
 label_here p = label_at p.section p.index p.address
 
@@ -111,6 +116,7 @@ abbrev pub words_or_none : Result (List Word) Fault → List Word
 words_or_none (Ok words) = words
 words_or_none (Err fault) = []
 
+-- the words of a line
 abbrev pub line_words : List ℕ → List Word
 line_words line = words_or_none (words_of line)
 

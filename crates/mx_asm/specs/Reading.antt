@@ -10,6 +10,7 @@ abbrev pub ◌>>=◌ : {A B : Type 0} → Result A Fault → (A → Result B Fau
 (Ok x) >>= f = f x
 (Err fault) >>= f = Err fault
 
+-- the error is the fault of reading, unless memory ran out
 abbrev pub Fails : {Y : Type 0} → LineError → Result Y Fault → Type 0
 Fails errors.Memory read = Unit {0}
 Fails (errors.Fault fault) read = read ≡ Err fault

@@ -11,6 +11,7 @@ use Rattle.mx_asm.specs.Directives.{Effect, Nothing, Instruction, Data, Input, e
 use Rattle.mx_asm.specs.Positions.{statement_words, after, line_words, labels_from, start}
 use Rattle.mx_asm.specs.Faults.{first_fault}
 
+-- what a line does, nothing where it has a fault
 abbrev pub or_nothing : Result Effect Fault → Effect
 or_nothing (Ok effect) = effect
 or_nothing (Err fault) = Nothing
@@ -21,6 +22,7 @@ effects_from labels p number [] = []
 effects_from labels p number (line ∷ lines) =
     (number, or_nothing (effect_of labels p.section (statement_words (line_words line)))) ∷ effects_from labels (after p (line_words line)) (number + 1) lines
 
+-- the statement of an effect before others
 abbrev pub onto_statements : Effect → List Statement → List Statement
 onto_statements (Instruction s) rest = s ∷ rest
 onto_statements _ rest = rest
@@ -30,6 +32,7 @@ abbrev pub statements_in : List (ℕ × Effect) → List Statement
 statements_in [] = []
 statements_in (e ∷ es) = onto_statements e.1 (statements_in es)
 
+-- the line number of a statement before others
 abbrev pub onto_lines : ℕ → Effect → List ℕ → List ℕ
 onto_lines number (Instruction s) rest = number ∷ rest
 onto_lines number _ rest = rest
@@ -39,6 +42,7 @@ abbrev pub lines_in : List (ℕ × Effect) → List ℕ
 lines_in [] = []
 lines_in (e ∷ es) = onto_lines e.0 e.1 (lines_in es)
 
+-- the data words of an effect before others
 abbrev pub onto_values : Effect → List Value → List Value
 onto_values (Data values) rest = values ++ rest
 onto_values _ rest = rest
@@ -48,6 +52,7 @@ abbrev pub values_in : List (ℕ × Effect) → List Value
 values_in [] = []
 values_in (e ∷ es) = onto_values e.1 (values_in es)
 
+-- the line of an `.input`, or a later one
 abbrev pub onto_input : ℕ → Effect → Option ℕ → Option ℕ
 onto_input number Input rest = Some number
 onto_input number _ rest = rest

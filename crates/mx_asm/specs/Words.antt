@@ -41,6 +41,7 @@ abbrev pub has_bad_byte : List ℕ → Bool
 has_bad_byte [] = false
 has_bad_byte (b ∷ line) = if b == 59 then false else (not (is_allowed b) || has_bad_byte line)
 
+-- the words of the tokens of a line
 abbrev pub words_at : List ℕ → Result (List Token) LexFault → Result (List Word) Fault
 words_at line (Ok tokens) = Ok (map (word_at line) tokens)
 words_at line (Err fault) = Err BadToken

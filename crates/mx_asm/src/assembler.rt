@@ -92,12 +92,7 @@ pub fn assemble(alloc: Global, text: &[u8]) -> Result<Source, AsmError>
 /// # Errors
 ///
 /// Those of `assemble`.
-pub fn assemble_at(
-    alloc: Global,
-    text: &[u8],
-    user_data: u32,
-    end: u32,
-) -> Result<Source, AsmError>
+pub fn assemble_at(alloc: Global, text: &[u8], user_data: u32, end: u32) -> Result<Source, AsmError>
     requires low { 256 ≤ user_data }
     requires order { user_data ≤ end }
     requires within { end ≤ 65536 }

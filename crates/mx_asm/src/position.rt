@@ -85,13 +85,7 @@ fn instruction_count(statement: &[Word]) -> u32
     ensures few { result ≤ 1 }
 {
     match statement {
-        [Word::Name(name), ..] => {
-            if is_dotted(name) {
-                0
-            } else {
-                1
-            }
-        }
+        [Word::Name(name), ..] => { if is_dotted(name) { 0 } else { 1 } }
         _ => 0,
     }
 }

@@ -1,4 +1,4 @@
-use Rattle.std.proofs.Common.{◌≡◌, [], sym, ap, ◌∙◌, subst}
+use Rattle.std.proofs.Common.{[], ap, ◌∙◌, subst}
 use Rattle.mx_asm.specs.Words.{texts}
 use Rattle.mx_asm.specs.Positions.{labels_from, start}
 use Rattle.mx_asm.specs.Listings.{IsListingOf, IsRefusal}
@@ -14,7 +14,7 @@ source-requires c =
     let defined = c.in_ok-labels.ensures.labels ∙ ap (λ ls. labels_from (start c.args.user_data) [] (texts ls)) c.deref.ensures.value in
     let listing = subst (λ ls. IsListingOf labels c.args.user_data c.args.end (texts ls) c.in-Ok.listing) c.deref-2.ensures.value c.in-Ok.ensures.read in
     whole_fits c.args.user_data c.args.end c.args.text.now lines labels (named_labels c.in_ok-labels.field-0.named.entries) c.in_ok-lines.ensures.lines defined c.in_ok-labels.ensures.named
-      c.in-Ok.listing c.requires.low c.requires.within listing
+    c.in-Ok.listing c.requires.low c.requires.within listing
 
 pub returns-in-Ok-clause-source : goal.returns-in-Ok-clause-source
 returns-in-Ok-clause-source c =
@@ -23,7 +23,7 @@ returns-in-Ok-clause-source c =
     let defined = c.in_ok-labels.ensures.labels ∙ ap (λ ls. labels_from (start c.args.user_data) [] (texts ls)) c.deref.ensures.value in
     let listing = subst (λ ls. IsListingOf labels c.args.user_data c.args.end (texts ls) c.in-Ok.listing) c.deref-2.ensures.value c.in-Ok.ensures.read in
     whole_reads c.args.user_data c.args.end c.args.text.now lines labels (named_labels c.in_ok-labels.field-0.named.entries) c.in_ok-lines.ensures.lines defined c.in_ok-labels.ensures.named
-      c.in-Ok.listing c.source.result listing c.source.ensures
+    c.in-Ok.listing c.source.result listing c.source.ensures
 
 pub returns-clause-refused : goal.returns-clause-refused
 returns-clause-refused c =
@@ -31,5 +31,5 @@ returns-clause-refused c =
     let lines = c.in_ok-lines.lines.items in
     let defined = c.in_ok-labels.ensures.labels ∙ ap (λ ls. labels_from (start c.args.user_data) [] (texts ls)) c.deref.ensures.value in
     let fault = ap (λ ls. first_fault labels c.args.end (start c.args.user_data) [] 1 (texts ls)) c.deref-2.ensures.value
-          ∙ whole_fault c.args.user_data c.args.end c.args.text.now lines labels (named_labels c.in_ok-labels.field-0.named.entries) c.in_ok-lines.ensures.lines defined c.in_ok-labels.ensures.named in
+    ∙ whole_fault c.args.user_data c.args.end c.args.text.now lines labels (named_labels c.in_ok-labels.field-0.named.entries) c.in_ok-lines.ensures.lines defined c.in_ok-labels.ensures.named in
     subst (λ f. IsRefusal f c.in-Err.error) fault c.in-Err.ensures.refused

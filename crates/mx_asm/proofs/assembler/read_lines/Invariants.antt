@@ -1,4 +1,4 @@
-use Rattle.std.proofs.Common.{◌≡◌, ◌≤◌, ◌+◌, [], drop}
+use Rattle.std.proofs.Common.{◌≡◌, ◌+◌, drop}
 use Rattle.mx_asm.specs.Words.{texts}
 use Rattle.mx_asm.proofs.Listed.{Listed}
 use Rattle.mx_asm.proofs.assembler.read_lines.Given as goal

@@ -1,7 +1,7 @@
-use Rattle.std.proofs.Common.{◌≡◌, ◌+◌, [], ◌∷◌, List, ℕ, Bor, length, drop, get_or, map, refl, sym, ap, ◌∙◌, subst, arith}
+use Rattle.std.proofs.Common.{◌+◌, [], List, ℕ, Bor, drop, get_or, map, sym, ap, ◌∙◌, arith}
 use Rattle.mx_asm.specs.Words.{texts}
 use Rattle.mx_asm.specs.Shapes.{word}
-use Rattle.mx_asm.specs.Positions.{line_words, after, behind, statement_words, label_here, define_front, is_repeated, labels_from, with_labels}
+use Rattle.mx_asm.specs.Positions.{line_words, after, behind, statement_words, label_here, define_front, is_repeated, labels_from}
 use Rattle.mx_asm.specs.Faults.{first_repeat, repeats, earlier_line}
 use Rattle.mx_asm.proofs.Repeats.{or_later, labels_step, repeat_step}
 use Rattle.mx_asm.proofs.definitions.define_all.Goals as goal
@@ -31,14 +31,14 @@ loop-line-preserved c =
       index = omega (arith, c.after-position.ensures.index, c.loop-line.invariant.index);
       named = c.in_ok-again.ensures.same;
       labels =
-        ap (λ q. labels_from q c.define_front.new.labels rest) next
-        ∙ ap (λ k. labels_from (after p words) k rest) defined
-        ∙ sym (labels_step lines i past p labels (omega arith))
-        ∙ c.loop-line.invariant.labels;
+          ap (λ q. labels_from q c.define_front.new.labels rest) next
+          ∙ ap (λ k. labels_from (after p words) k rest) defined
+          ∙ sym (labels_step lines i past p labels (omega arith))
+          ∙ c.loop-line.invariant.labels;
       repeated =
-        ap (λ f. or_later f (first_repeat c.after-position.result c.define_front.new.labels (c.loop-line.number + 1) rest)) found
-        ∙ ap (λ q. or_later (earlier_line c.loop-line.repeated (repeats p labels words) c.loop-line.number) (first_repeat q c.define_front.new.labels (c.loop-line.number + 1) rest)) next
-        ∙ ap (λ k. or_later (earlier_line c.loop-line.repeated (repeats p labels words) c.loop-line.number) (first_repeat (after p words) k (c.loop-line.number + 1) rest)) defined
-        ∙ sym (repeat_step lines i past p labels c.loop-line.repeated c.loop-line.number (omega arith))
-        ∙ c.loop-line.invariant.repeated;
+          ap (λ f. or_later f (first_repeat c.after-position.result c.define_front.new.labels (c.loop-line.number + 1) rest)) found
+          ∙ ap (λ q. or_later (earlier_line c.loop-line.repeated (repeats p labels words) c.loop-line.number) (first_repeat q c.define_front.new.labels (c.loop-line.number + 1) rest)) next
+          ∙ ap (λ k. or_later (earlier_line c.loop-line.repeated (repeats p labels words) c.loop-line.number) (first_repeat (after p words) k (c.loop-line.number + 1) rest)) defined
+          ∙ sym (repeat_step lines i past p labels c.loop-line.repeated c.loop-line.number (omega arith))
+          ∙ c.loop-line.invariant.repeated;
     }

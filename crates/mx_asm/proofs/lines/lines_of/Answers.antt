@@ -1,7 +1,7 @@
-use Rattle.std.proofs.Common.{◌≡◌, ◌+◌, ◌<◌, length, drop, take, ap, sym, ◌∙◌, arith}
+use Rattle.std.proofs.Common.{◌≡◌, ◌+◌, ◌<◌, length, drop, take, ap, ◌∙◌, arith}
 use Rattle.std.proofs.lemmas.Bool.Decides.{nat_tests}
 use Rattle.std.proofs.lemmas.List.{length-drop}
-use Rattle.mx_lex.specs.Lines.{without_return, line_len}
+use Rattle.mx_lex.specs.Lines.{without_return}
 use Rattle.mx_asm.proofs.Pieces.{lines_step, lines_end}
 use Rattle.mx_asm.proofs.lines.lines_of.Goals as goal
 
@@ -12,7 +12,7 @@ loop-rest-preserved c =
     let left = c.behind-rest.ensures ∙ ap (λ e. drop (e + 1) c.loop-rest.rest.now) end in
     record {
       same = lines_step c.loop-rest.lines.items c.push.new.self.items c.without_return.result c.loop-rest.rest.now c.behind-rest.result.now _ some c.loop-rest.invariant.same
-        c.in_ok-push.ensures.items (c.without_return.ensures ∙ ap (λ e. without_return (take e c.loop-rest.rest.now)) end) left;
+          c.in_ok-push.ensures.items (c.without_return.ensures ∙ ap (λ e. without_return (take e c.loop-rest.rest.now)) end) left;
       few = omega (arith, c.in_ok-push.ensures.len, c.loop-rest.invariant.few, ap length c.behind-rest.ensures, length-drop (c.line_end-end.result + 1) c.loop-rest.rest.now);
     }
 

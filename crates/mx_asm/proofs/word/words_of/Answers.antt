@@ -1,9 +1,8 @@
-use Rattle.std.proofs.Common.{◌≡◌, ◌-◌, ◌++◌, [], ◌∷◌, length, map, Ok, Err, refl, ap, sym, ◌∙◌, subst, arith, rules}
+use Rattle.std.proofs.Common.{[], ◌∷◌, length, map, ap, sym, ◌∙◌, subst, arith}
 use Rattle.std.proofs.lemmas.List.{map-append}
 use Rattle.mx_lex.specs.Tokens.{next_token}
 use Rattle.mx_lex.specs.Reading.{IsSpan}
 use Rattle.mx_asm.specs.Shapes.{word}
-use Rattle.mx_asm.specs.Words.{words_of, words_at}
 use Rattle.mx_asm.proofs.LineWords.{Reads, reads_none, reads_push, reads_end, reads_fault, no_bad_byte, not_end}
 use Rattle.mx_asm.proofs.word.words_of.Goals as goal
 
@@ -11,7 +10,7 @@ pub tokens-init : goal.tokens-init
 tokens-init c = record {
   line = ap (λ r. r.line) c.new-lexer.ensures;
   reads =
-    subst (λ ws. Reads c.args.line.now ws c.new-lexer.result.at) (ap (map word) (sym c.new-words.ensures.items))
+      subst (λ ws. Reads c.args.line.now ws c.new-lexer.result.at) (ap (map word) (sym c.new-words.ensures.items))
       (subst (Reads c.args.line.now []) (ap (λ r. r.at) (sym c.new-lexer.ensures)) (reads_none c.args.line.now));
 }
 
@@ -46,8 +45,8 @@ tokens-preserved c =
     record {
       line = c.next.ensures.line ∙ c.tokens.invariant.line;
       reads = reads_push c.args.line.now (map word c.tokens.words.items) _ c.tokens.lexer.at _ c.in-Ok.token (word c.word_at.result) c.tokens.invariant.reads e (sym c.is_end.ensures ∙ c.if-is_end.false)
-        (subst (λ l. IsSpan l c.tokens.lexer.at c.in-Ok.token) c.tokens.invariant.line c.in-Ok.ensures.span)
-        (ap (map word) c.in_ok-push.ensures.items ∙ map-append word c.tokens.words.items (c.word_at.result ∷ []))
-        c.word_at.ensures
-        c.in-Ok.ensures.place;
+          (subst (λ l. IsSpan l c.tokens.lexer.at c.in-Ok.token) c.tokens.invariant.line c.in-Ok.ensures.span)
+          (ap (map word) c.in_ok-push.ensures.items ∙ map-append word c.tokens.words.items (c.word_at.result ∷ []))
+          c.word_at.ensures
+          c.in-Ok.ensures.place;
     }
