@@ -2,5 +2,8 @@
 #![tactic(auto)]
 
 mod block;
+mod forms;
+mod splitting;
 
 pub use block::{Block, End, Item, Plan};
+pub use splitting::blocks;

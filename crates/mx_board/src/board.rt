@@ -10,7 +10,7 @@ use std::alloc::{AllocError, Global};
 use std::marker::Model;
 
 /// Data words 0 to 65535, and the input, of which some bytes are taken. Words 0 to 254 are the
-/// system's, word 255 is the console and stays 0, and the others are user data.
+/// system's, word 255 is the console and stays 0, and the others are user data (this project's profile).
 #[derive(Drop)]
 pub struct Board {
     words: Vec<u32>,

@@ -5,4 +5,5 @@ mod board;
 mod requests;
 
 pub use board::Board;
+pub use mx_io::Memory;
 pub use requests::{EventError, Requests};

@@ -169,6 +169,14 @@ fn add_line(cycles: &mut Vec<u32>, line: u32, text: &[u8]) -> Result<(), EventEr
     }
 }
 
+// Whether the number is one of these, which rise.
+fn is_among(cycles: &[u32], cycle: u32) -> bool
+    requires { IsStrictlyIncreasing cycles.now }
+    ensures { result ≡ is_wanted cycles.now cycle }
+{
+    cycles.binary_search(&cycle).is_ok()
+}
+
 impl Requests {
     /// The requests that an interrupt file of at most 1,048,576 bytes names, or its first faulty line.
     pub fn parse(alloc: Global, bytes: &[u8]) -> Result<Requests, EventError>
@@ -222,7 +230,7 @@ impl Requests {
     pub fn wants(&self, cycle: u32) -> bool
         ensures { result ≡ is_wanted self.now cycle }
     {
-        self.cycles.binary_search(&cycle).is_ok()
+        is_among(&self.cycles, cycle)
     }
 }
 

@@ -2,7 +2,8 @@
 ghost use Rattle.std.specs.Prelude.{◌≡◌, ◌<◌, ◌^◌, ℕ, List, ◌∷◌};
 ghost use Rattle.mx_icache.specs.Residency.{resident};
 
-/// A cache of code words.
+/// A cache of code words: 4 sets of 8 lines of 16 words, of which the word that is missed and its pair
+/// become valid, and the line that was allocated first is replaced (this project's profile).
 pub trait FetchCache: Drop {
     /// It stands for the addresses fetched so far, the newest first.
     ghost holds: { Self → List ℕ → Type 0 };

@@ -144,6 +144,18 @@ fn fits_16(z: i32) -> bool
     (-0x8000..0x8000).contains(&z)
 }
 
+/// The no-op, `add r0,r0,r0`, which stands in the unused places of a fixed vector.
+impl Default for Inst {
+    fn default() -> Inst {
+        Inst::Compute {
+            a: Reg::ZERO,
+            dest: Reg::ZERO,
+            b: Reg::ZERO,
+            op: Op::Add,
+        }
+    }
+}
+
 impl Op {
     /// Whether a count is at most 31, and a register that the operation does not read is r0.
     fn fits(self, a: Reg, b: Reg) -> bool

@@ -6,7 +6,7 @@ use crate::Fetched;
 use mx_isa::Special;
 
 /// The three saved fetches, oldest first, each an address in bits 0 to 30 and the squashed flag in
-/// bit 31.
+/// bit 31 (this project's profile).
 #[derive(Clone, Copy, Debug, PartialEq, Eq)]
 pub struct Chain {
     pub pc1: u32,

@@ -14,6 +14,15 @@ abbrev pub names_index : ℕ → Label → Bool
 names_index i (Code j) = j == i
 names_index i (Data a) = false
 
+-- the label is a data label of this address
+abbrev pub names_address : ℕ → Label → Bool
+names_address a (Code i) = false
+names_address a (Data b) = b == a
+
+abbrev pub is_data_label : Label → Bool
+is_data_label (Code i) = false
+is_data_label (Data a) = true
+
 -- some label is a code label of this index
 abbrev pub is_labelled : List (List ℕ × Label) → ℕ → Bool
 is_labelled labels i = list_any (λ p. names_index i p.1) labels

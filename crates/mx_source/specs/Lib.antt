@@ -3,3 +3,9 @@ pub mod Labels
 pub mod Statements
 pub mod SourceValue
 pub mod SourceView
+pub mod Values
+pub mod Meaning
+pub mod Printed
+pub mod Operands
+pub mod Sections
+pub mod Groups

@@ -1,9 +1,13 @@
 //! Sources: what an assembler text reads as.
 #![tactic(auto)]
 
+mod group;
+mod grouping;
 mod name;
+mod print;
 mod source;
 mod statement;
+mod text;
 
 pub use mx_io::Memory;
 pub use mx_isa::Place;

@@ -1,8 +1,10 @@
 //! Sources.
-ghost use Rattle.std.specs.Prelude.{◌≡◌, Some, None, map};
+ghost use Rattle.std.specs.Prelude.{◌≡◌, Some, None, IfOk};
 
-use crate::{Label, Name, Statement, Value};
+use crate::{Label, Name, Statement, Value, print};
 use indexmap::IndexMap;
+use mx_io::Memory;
+use std::alloc::Global;
 use std::marker::Model;
 
 /// A source: its statements with their lines, its data words and its labels, and the line of its
@@ -33,6 +35,7 @@ impl Model for Source {
 impl Source {
     ghost use Rattle.mx_source.specs.Names.{named_labels};
     ghost use Rattle.mx_source.specs.SourceValue.{SourceValue, IsSource, source_of};
+    ghost use Rattle.mx_source.specs.Printed.{printed};
 
     /// The source of exactly these lists, without input. `lines` has the line of each statement,
     /// counted from 1.
@@ -111,5 +114,19 @@ impl Source {
         ensures { result ≡ self.now.input }
     {
         self.input
+    }
+
+    /// The canonical text (this project's profile): one label, statement or data word a line.
+    ///
+    /// # Errors
+    ///
+    /// `Memory` where there is no room for it.
+    pub fn print(&self, alloc: Global) -> Result<Vec<u8>, Memory>
+        ensures { IfOk result (λ text. text.items ≡ printed self.now) }
+    {
+        match print::printed(alloc, self) {
+            Ok(text) => Ok(text),
+            Err(_) => Err(Memory),
+        }
     }
 }

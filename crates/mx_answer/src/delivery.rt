@@ -1,0 +1,36 @@
+//! Putting out what a command answers.
+ghost use Rattle.std.specs.Prelude.{◌≡◌, ◌≢◌, ◌⊎◌, ◌≤◌, true, None, List, ℕ};
+ghost use Rattle.mx_io.specs.Counts.{Rose};
+ghost use Rattle.mx_answer.specs.Delivery.{Delivered, PutsPrefix, FailsToWrite, HasStatus};
+ghost use Rattle.mx_answer.specs.Replies.{reply_answer};
+
+use crate::{Reply, Status};
+use mx_io::{Shelf, ShelfFault, Sink, put_all};
+
+/// Puts out the output of a reply, or writes its file, and answers how the command ended.
+pub fn finish<S: Shelf, W: Sink>(reply: Reply, shelf: &mut S, out: &mut W) -> Status
+    requires { HasStatus (reply_answer reply) }
+    ensures delivered { result ≢ Status.WriteFault → result ≢ Status.Memory
+        → Delivered (reply_answer reply) result (S.tells shelf.old) (W.written out.old) (W.written out.new) (S.held shelf.old) (S.held shelf.new) }
+    ensures write_fault { result ≡ Status.WriteFault
+        → FailsToWrite (reply_answer reply) (W.faults out.old) (W.faults out.new) (S.write_faults shelf.old) (S.write_faults shelf.new) }
+    ensures prefix { result ≡ Status.WriteFault → PutsPrefix (reply_answer reply) (W.written out.old) (W.written out.new) }
+    ensures memory { result ≡ Status.Memory → W.written out.new ≡ W.written out.old }
+    ensures kept { (result ≡ Status.WriteFault) ⊎ (result ≡ Status.Memory) → S.tells shelf.old ≡ true → (n : List ℕ) → S.held shelf.new n ≡ S.held shelf.old n }
+    ensures unread { (S.reads shelf.new ≡ S.reads shelf.old) × (S.taken shelf.new ≡ S.taken shelf.old) × (S.read_faults shelf.new ≡ S.read_faults shelf.old) }
+    ensures unwritten { (reply_answer reply).file ≡ None → S.write_faults shelf.new ≡ S.write_faults shelf.old }
+    ensures faults_grow { W.faults out.old ≤ W.faults out.new }
+    ensures writes_grow { S.write_faults shelf.old ≤ S.write_faults shelf.new }
+{
+    match reply {
+        Reply::Prints { status, output } => match put_all(out, output.as_slice()) {
+            Ok(()) => status,
+            Err(_) => Status::WriteFault,
+        },
+        Reply::Writes { name, bytes } => match shelf.write(name.as_str(), bytes.as_slice()) {
+            Ok(()) => Status::Done,
+            Err(ShelfFault::Memory) => Status::Memory,
+            Err(_) => Status::WriteFault,
+        },
+    }
+}

@@ -1,0 +1,47 @@
+//! How commands answer: the files that they read one after the other, how they end, what they put out and what they write.
+#![tactic(auto)]
+
+mod delivery;
+mod file;
+mod reading;
+mod reply;
+mod status;
+
+pub use delivery::finish;
+pub use file::FileKind;
+pub use reading::read_file;
+pub use reply::{Reply, line_reply};
+pub use status::Status;
+
+#[cfg(test)]
+mod tests {
+    use super::*;
+    use mx_io::{MemoryShelf, MemorySink};
+    use std::test::Fail;
+
+    #[test]
+    fn reads_prints_and_writes(rt: HostRuntime) -> Result<(), Fail> {
+        let alloc = rt.alloc();
+        let mut shelf = MemoryShelf::new(alloc);
+        let mut out = MemorySink::new(alloc, 16, 100)?;
+        shelf.add("a", b"halt")?;
+        let Ok(bytes) = read_file(alloc, &mut shelf, FileKind::Source, "a")? else {
+            return Err("a is there".into());
+        };
+        let name = String::from_str(alloc, "b")?;
+        let status = finish(Reply::Writes { name, bytes }, &mut shelf, &mut out);
+        assert_eq!(rt; status, Status::Done);
+        let Ok(bytes) = read_file(alloc, &mut shelf, FileKind::Image, "b")? else {
+            return Err("b is there".into());
+        };
+        assert_eq!(rt; bytes.as_slice(), b"halt".as_slice());
+        let Err(reply) = read_file(alloc, &mut shelf, FileKind::Input, "c")? else {
+            return Err("c is not there".into());
+        };
+        let status = finish(reply, &mut shelf, &mut out);
+        assert_eq!(rt; status, Status::ReadFault);
+        assert_eq!(rt; out.written(), b"read fault: input failed\n".as_slice());
+        assert_eq!(rt; Status::BadEvents.number(), 8);
+        Ok(())
+    }
+}

@@ -1,0 +1,39 @@
+//! Compares the instruction table, the arithmetic and the coder with cases from files, whose answers come
+//! from another implementation. Prints a line for each kind of case, and one for each case that differs.
+#![tactic(auto)]
+
+mod kind;
+mod spelling;
+
+use anyhow::{Context, Result};
+use kind::Kind;
+use std::fs;
+use std::rt::Files;
+
+/// Compares each case of a kind with what the crates answer.
+fn compare<R: Files + Print + AllocGlobal>(rt: &R, kind: Kind) -> Result<()> {
+    let file = kind.file();
+    let text = fs::read_to_string(rt, file).context(format_args!("reading {file}"))?;
+    let mut cases = 0u64;
+    let mut agree = 0u64;
+    for line in text.lines() {
+        let ours = kind
+            .answered(rt.alloc(), line)
+            .context(format_args!("{file}: no case: {line}"))?;
+        cases = cases.saturating_add(1);
+        if ours.as_str() == line {
+            agree = agree.saturating_add(1);
+        } else {
+            println!(rt; "{file}: given {line}, here {ours}")?;
+        }
+    }
+    println!(rt; "{file}: {agree} of {cases} agree")?;
+    Ok(())
+}
+
+fn main(rt: HostRuntime) -> Result<()> {
+    compare(&rt, Kind::Words)?;
+    compare(&rt, Kind::Compute)?;
+    compare(&rt, Kind::Conditions)?;
+    Ok(())
+}

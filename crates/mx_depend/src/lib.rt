@@ -1,0 +1,8 @@
+//! Dependences among the instructions of a block.
+#![tactic(auto)]
+
+mod graph;
+mod independence;
+
+pub use graph::Graph;
+pub use independence::{feeds, independent};

@@ -1,0 +1,5 @@
+pub mod Bytes
+pub mod Contents
+pub mod Files
+pub mod Sizes
+pub mod Reads

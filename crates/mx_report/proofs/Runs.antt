@@ -1,0 +1,131 @@
+-- Runs that grow by a cycle, and runs that have halted.
+use Rattle.std.proofs.Common.{◌≡◌, ◌≤◌, ◌<◌, ℕ, zero, suc, Bool, true, false, cond, List, [], ◌∷◌, ◌++◌, option_to_list, append_assoc, append-nil, arith, refl, sym, ap, ◌∙◌, ⊎_elim, inl, inr, ◌⊎◌}
+use Rattle.std.specs.Prelude.{min, eqb, nat_lt, Option}
+use Rattle.std.proofs.lemmas.Bool.Decides.{nat_tests}
+use Rattle.std.proofs.lemmas.Grind.{common_steps}
+use Rattle.std.proofs.lemmas.Bool.{cases_Bool, cases_lt, cond-true, cond-false}
+use Rattle.mx_code.specs.Delay.{Code}
+use Rattle.mx_icache.specs.Residency.{resident}
+use Rattle.mx_turn.specs.declared.Cycled.{Cycled}
+use Rattle.mx_turn.specs.Cycle.{Machine, start, is_taken, entered, decided, turned, ended, reached, latched, acted, cycled, answer, acted_answer, after_bits}
+use Rattle.mx_turn.specs.Program.{Program, state_after, answer_after}
+use Rattle.mx_turn.specs.Run.{is_requested, bits, bytes_on, console_after}
+use Rattle.mx_turn.proofs.Steps.{after_one_more}
+use Rattle.mx_report.specs.Trace.{trace_line}
+use Rattle.mx_report.specs.Driving.{cycle_line, trace_text}
+
+turned_halted : (code : Code) (c : Machine) → (turned code c).halted ≡ c.halted
+turned_halted code c = ⊎_elim
+    (λ t. ap (λ (m : Machine). m.halted) (cond-true (is_taken c) (entered c) (decided code c) t))
+    (λ t. ap (λ (m : Machine). m.halted) (cond-false (is_taken c) (entered c) (decided code c) t))
+    (cases_Bool (is_taken c))
+
+ended_halted : (code : Code) (c : Machine) → (ended code c).halted ≡ c.halted
+ended_halted code c = ⊎_elim
+    (λ h. ap (λ (m : Machine). m.halted) (cond-true c.halted c (turned code c) h))
+    (λ h. ap (λ (m : Machine). m.halted) (cond-false c.halted c (turned code c) h) ∙ turned_halted code c)
+    (cases_Bool c.halted)
+
+-- a cycle answers whether the machine has halted after it
+pub answer_halted : (code : Code) (input : Option (List ℕ)) (m : Machine) (request : Bool) → (answer code input m request).halted ≡ (cycled resident code input m request).halted
+answer_halted code input m request = ⊎_elim
+    (λ h. ap (λ (r : Cycled). r.halted) (cond-true m.halted _ _ h) ∙ sym h ∙ sym (ap (λ (n : Machine). n.halted) (cond-true m.halted m _ h)))
+    (λ h. ⊎_elim
+    (λ s. ap (λ (r : Cycled). r.halted) (cond-false m.halted _ _ h ∙ cond-true _ (acted_answer code input (latched request m)) _ s)
+    ∙ sym (ended_halted code (reached code input (latched request m)))
+    ∙ sym (ap (λ (n : Machine). n.halted) (cond-false m.halted m _ h ∙ cond-true _ (acted resident code input (latched request m)) _ s)))
+    (λ s. ap (λ (r : Cycled). r.halted) (cond-false m.halted _ _ h ∙ cond-false _ (acted_answer code input (latched request m)) _ s)
+    ∙ sym h
+    ∙ sym (ap (λ (n : Machine). n.halted) (cond-false m.halted m _ h ∙ cond-false _ (acted resident code input (latched request m)) _ s)))
+    (cases_Bool (eqb m.stall 0)))
+    (cases_Bool m.halted)
+
+pub one_more_byte : (p : Program) (m : Machine) (h : List Bool) (request : Bool)
+    → bytes_on p m (h ++ request ∷ []) ≡ bytes_on p m h ++ option_to_list (answer p.code p.input (after_bits resident p.code p.input m h) request).byte
+one_more_byte p m [] request = grind (arith, common_steps)
+one_more_byte p m (b ∷ h) request =
+    ap (λ l. option_to_list (answer p.code p.input m b).byte ++ l) (one_more_byte p (cycled resident p.code p.input m b) h request)
+    ∙ sym (append_assoc (option_to_list (answer p.code p.input m b).byte) _ _)
+
+module _ (p : Program) (requests : List ℕ) where
+  -- the machine after the first n cycles
+  abbrev pub state_at : ℕ → Machine
+  state_at n = state_after p (bits requests n)
+
+  abbrev pub cycled_at : ℕ → Cycled
+  cycled_at n = answer_after p (bits requests n) (is_requested requests n)
+
+  pub next_state : (n : ℕ) → state_at (suc n) ≡ cycled resident p.code p.input (state_at n) (is_requested requests n)
+  next_state n = after_one_more resident p.code p.input (start p.words) (bits requests n) (is_requested requests n)
+
+  pub next_console : (n : ℕ) → console_after p (bits requests (suc n)) ≡ console_after p (bits requests n) ++ option_to_list (cycled_at n).byte
+  next_console n = one_more_byte p (start p.words) (bits requests n) (is_requested requests n)
+
+  pub next_halted : (n : ℕ) → (cycled_at n).halted ≡ (state_at (suc n)).halted
+  next_halted n = answer_halted p.code p.input (state_at n) (is_requested requests n) ∙ ap (λ (m : Machine). m.halted) (sym (next_state n))
+
+  abbrev pub shown_line : ℕ → List ℕ
+  shown_line n = trace_line n (cycled_at n) (state_at (suc n)).shown
+
+  pub next_trace : (t n : ℕ) → (state_at n).halted ≡ false → trace_text p requests (min t (suc n)) ≡ trace_text p requests (min t n) ++ cond (nat_lt n t) (shown_line n) []
+  next_trace t n going = ⊎_elim
+      (λ lt.
+      let longer : min t (suc n) ≡ suc n = omega arith in
+      let now : min t n ≡ n = omega arith in
+      let test : nat_lt n t ≡ true = grind (arith, nat_tests) in
+      ap (trace_text p requests) longer
+      ∙ ap (λ l. trace_text p requests n ++ l) (cond-false (state_at n).halted [] (shown_line n) going)
+      ∙ ap (λ k. trace_text p requests k ++ shown_line n) (sym now)
+      ∙ ap (λ l. trace_text p requests (min t n) ++ l) (sym (cond-true (nat_lt n t) (shown_line n) [] test)))
+      (λ le.
+      let same : min t (suc n) ≡ min t n = omega arith in
+      let test : nat_lt n t ≡ false = grind (arith, nat_tests) in
+      ap (trace_text p requests) same
+      ∙ sym (append-nil (trace_text p requests (min t n)))
+      ∙ ap (λ l. trace_text p requests (min t n) ++ l) (sym (cond-false (nat_lt n t) (shown_line n) [] test)))
+      (cases_lt n t)
+
+  -- A machine that has halted stays as it is, sends nothing, and shows nothing.
+  module _ (n : ℕ) (halted : (state_at n).halted ≡ true) where
+    pub state_still : (m : ℕ) → n ≤ m → state_at m ≡ state_at n
+    state_still zero le = let e : zero ≡ n = omega arith in ap state_at e
+    state_still (suc m) le = ⊎_elim
+        (λ lt. next_state m
+        ∙ ap (λ (s : Machine). cycled resident p.code p.input s (is_requested requests m)) (state_still m (omega (arith, lt)))
+        ∙ cond-true (state_at n).halted (state_at n) _ halted)
+        (λ ge. let e : suc m ≡ n = omega (arith, ge, le) in ap state_at e)
+        (cases_lt n (suc m))
+
+    halted_still : (m : ℕ) → n ≤ m → (state_at m).halted ≡ true
+    halted_still m le = ap (λ (s : Machine). s.halted) (state_still m le) ∙ halted
+
+    no_byte : (m : ℕ) → n ≤ m → option_to_list (cycled_at m).byte ≡ []
+    no_byte m le = ap (λ (r : Cycled). option_to_list r.byte) (cond-true (state_at m).halted _ _ (halted_still m le))
+
+    pub console_still : (m : ℕ) → n ≤ m → console_after p (bits requests m) ≡ console_after p (bits requests n)
+    console_still zero le = let e : zero ≡ n = omega arith in ap (λ k. console_after p (bits requests k)) e
+    console_still (suc m) le = ⊎_elim
+        (λ lt. let before : n ≤ m = omega (arith, lt) in
+        next_console m
+        ∙ ap (λ l. console_after p (bits requests m) ++ l) (no_byte m before)
+        ∙ append-nil (console_after p (bits requests m))
+        ∙ console_still m before)
+        (λ ge. let e : suc m ≡ n = omega (arith, ge, le) in ap (λ k. console_after p (bits requests k)) e)
+        (cases_lt n (suc m))
+
+    pub trace_still : (m : ℕ) → n ≤ m → trace_text p requests m ≡ trace_text p requests n
+    trace_still zero le = let e : zero ≡ n = omega arith in ap (trace_text p requests) e
+    trace_still (suc m) le = ⊎_elim
+        (λ lt. let before : n ≤ m = omega (arith, lt) in
+        ap (λ l. trace_text p requests m ++ l) (cond-true (state_at m).halted [] (shown_line m) (halted_still m before))
+        ∙ append-nil (trace_text p requests m)
+        ∙ trace_still m before)
+        (λ ge. let e : suc m ≡ n = omega (arith, ge, le) in ap (trace_text p requests) e)
+        (cases_lt n (suc m))
+
+    pub trace_within : (t m : ℕ) → n ≤ m → trace_text p requests (min t m) ≡ trace_text p requests (min t n)
+    trace_within t m le = ⊎_elim
+        (λ lt. let e : min t m ≡ min t n = omega arith in ap (trace_text p requests) e)
+        (λ ge. let later : n ≤ min t m = omega arith in let e : n ≡ min t n = omega arith in
+        trace_still (min t m) later ∙ ap (trace_text p requests) e)
+        (cases_lt t n)

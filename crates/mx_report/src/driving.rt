@@ -1,0 +1,149 @@
+//! Running a machine.
+ghost use Rattle.std.specs.Prelude.{◌≡◌, ◌≤◌, ◌<◌, ◌+◌, ◌-◌, ◌++◌, ◌^◌, [], List, ℕ, Bool, true, OnOk, IfOk, cond, false, suc, min};
+ghost use Rattle.std.specs.Option.{option_to_list};
+ghost use Rattle.mx_board.specs.RequestFile.{is_wanted};
+ghost use Rattle.mx_turn.specs.Program.{Program, state_after, answer_after};
+ghost use Rattle.mx_turn.specs.Run.{bits, console_after, run_of};
+ghost use Rattle.mx_report.specs.Driving.{trace_text};
+ghost use Rattle.mx_report.specs.Trace.{trace_line};
+
+use crate::traces::push_trace_line;
+use mx_board::Requests;
+use mx_io::Memory;
+use mx_turn::{Counts, Cycled, Latches, Machine};
+use std::alloc::{AllocError, Global};
+
+/// What a run gave: whether it halted, its counts, its console, and the lines of its trace.
+#[derive(Drop)]
+pub struct Driven {
+    pub halted: bool,
+    pub counts: Counts,
+    pub console: Vec<u8>,
+    pub trace: Vec<u8>,
+}
+
+// Appends a byte, if there is one.
+fn push_byte(console: &mut Vec<u8>, byte: Option<u8>) -> Result<(), AllocError>
+    ensures { OnOk result (console.new.items ≡ console.old.items ++ option_to_list byte) }
+{
+    match byte {
+        Some(byte) => {
+            console.push(byte)?;
+            Ok(())
+        }
+        None => Ok(()),
+    }
+}
+
+// Appends the line of a cycle, where it is one of those asked for.
+fn push_line_if(
+    alloc: Global,
+    text: &mut Vec<u8>,
+    asked: bool,
+    cycle: u32,
+    cycled: &Cycled,
+    latches: &Latches,
+) -> Result<(), AllocError>
+    ensures { OnOk result (text.new.items ≡ text.old.items ++ cond asked (trace_line cycle cycled.now latches.now) []) }
+{
+    if asked {
+        push_trace_line(alloc, text, cycle, cycled, latches)
+    } else {
+        Ok(())
+    }
+}
+
+// One cycle, the first being 0: its byte, its line where it is one of the first `trace`, and whether the machine has halted.
+fn run_cycle<M: Machine>(
+    alloc: Global,
+    machine: &mut M,
+    requests: &Requests,
+    cycle: u32,
+    trace: u32,
+    console: &mut Vec<u8>,
+    text: &mut Vec<u8>,
+) -> Result<bool, AllocError>
+    requires { M.cycles machine.old < 2 ^ 63 }
+    ensures halted { IfOk result (λ halted. (p : Program) → M.stands machine.old p (bits requests.now cycle) → halted ≡ (state_after p (bits requests.now (suc cycle))).halted) }
+    ensures stands { OnOk result ((p : Program) → M.stands machine.old p (bits requests.now cycle) → M.stands machine.new p (bits requests.now (suc cycle))) }
+    ensures console { OnOk result ((p : Program) → M.stands machine.old p (bits requests.now cycle)
+        → console.old.items ≡ console_after p (bits requests.now cycle) → console.new.items ≡ console_after p (bits requests.now (suc cycle))) }
+    ensures trace { OnOk result ((p : Program) → M.stands machine.old p (bits requests.now cycle) → (state_after p (bits requests.now cycle)).halted ≡ false
+        → text.old.items ≡ trace_text p requests.now (min trace cycle) → text.new.items ≡ trace_text p requests.now (min trace (suc cycle))) }
+    ensures cycles { M.cycles machine.new ≤ M.cycles machine.old + 1 }
+{
+    let cycled = machine.cycle(requests.wants(cycle));
+    push_byte(console, cycled.byte)?;
+    push_line_if(
+        alloc,
+        text,
+        cycle < trace,
+        cycle,
+        &cycled,
+        &machine.latches(),
+    )?;
+    Ok(cycled.halted)
+}
+
+// Runs the machine until it halts or the budget is spent, and answers whether it halted.
+fn run_cycles<M: Machine>(
+    alloc: Global,
+    machine: &mut M,
+    requests: &Requests,
+    budget: u32,
+    trace: u32,
+    console: &mut Vec<u8>,
+    text: &mut Vec<u8>,
+) -> Result<bool, AllocError>
+    requires start { M.cycles machine.old ≡ 0 }
+    requires console { console.old.items ≡ [] }
+    requires text { text.old.items ≡ [] }
+    ensures halted { IfOk result (λ halted. (p : Program) → M.stands machine.old p [] → halted ≡ (run_of p requests.now budget).halted) }
+    ensures console { OnOk result ((p : Program) → M.stands machine.old p [] → console.new.items ≡ (run_of p requests.now budget).console) }
+    ensures trace { OnOk result ((p : Program) → M.stands machine.old p [] → text.new.items ≡ trace_text p requests.now (min trace budget)) }
+    ensures stands { OnOk result ((p : Program) → M.stands machine.old p [] → (h : List Bool) × M.stands machine.new p h × (state_after p h ≡ (run_of p requests.now budget).last)) }
+{
+    for cycle in 0..budget {
+        if run_cycle(alloc, machine, requests, cycle, trace, console, text)? {
+            return Ok(true);
+        }
+    }
+    Ok(false)
+}
+
+/// Runs a machine from its start: the cycles 0, 1 and so on, each with its request, until the machine halts or `budget`
+/// cycles are done. The trace has the lines of the first `trace` cycles.
+pub fn drive<M: Machine>(
+    alloc: Global,
+    machine: &mut M,
+    requests: &Requests,
+    budget: u32,
+    trace: u32,
+) -> Result<Driven, Memory>
+    requires start { M.cycles machine.old ≡ 0 }
+    ensures halted { IfOk result (λ d. (p : Program) → M.stands machine.old p [] → d.halted ≡ (run_of p requests.now budget).halted) }
+    ensures counts { IfOk result (λ d. (p : Program) → M.stands machine.old p [] → d.counts ≡ (run_of p requests.now budget).counts) }
+    ensures console { IfOk result (λ d. (p : Program) → M.stands machine.old p [] → d.console.items ≡ (run_of p requests.now budget).console) }
+    ensures trace { IfOk result (λ d. (p : Program) → M.stands machine.old p [] → d.trace.items ≡ trace_text p requests.now (min trace budget)) }
+    ensures stands { OnOk result ((p : Program) → M.stands machine.old p [] → (h : List Bool) × M.stands machine.new p h × (state_after p h ≡ (run_of p requests.now budget).last)) }
+{
+    let mut console = Vec::new(alloc);
+    let mut text = Vec::new(alloc);
+    match run_cycles(
+        alloc,
+        machine,
+        requests,
+        budget,
+        trace,
+        &mut console,
+        &mut text,
+    ) {
+        Ok(halted) => Ok(Driven {
+            halted,
+            counts: machine.counts(),
+            console,
+            trace: text,
+        }),
+        Err(_) => Err(Memory),
+    }
+}

@@ -1,0 +1,10 @@
+//! Runs of a machine, and what is printed of them.
+#![tactic(auto)]
+
+mod driving;
+mod reports;
+mod traces;
+
+pub use driving::{Driven, drive};
+pub use reports::{Dump, report};
+pub use traces::trace_line;

@@ -1,0 +1,40 @@
+//! Runs assembler texts.
+#![tactic(auto)]
+
+mod answer;
+mod command;
+mod machine;
+mod report;
+mod status;
+mod words;
+
+use command::command;
+use mx_io::{RealShelf, RealSink};
+use std::env;
+use std::io::ErrorKind;
+use std::process::ExitCode;
+
+fn main(rt: HostRuntime) -> ExitCode {
+    let alloc = rt.alloc();
+    let args = match env::args(&rt) {
+        Ok(args) => args,
+        Err(error) => {
+            let code = if error.kind() == ErrorKind::OutOfMemory {
+                6
+            } else {
+                10
+            };
+            return ExitCode::from(code);
+        }
+    };
+    let mut words = Vec::new(alloc);
+    for word in args.skip(1) {
+        if words.push(word).is_err() {
+            return ExitCode::from(6);
+        }
+    }
+    let mut shelf = RealShelf::new(&rt);
+    let mut out = RealSink::new(&rt);
+    let status = command(alloc, words.as_slice(), &mut shelf, &mut out);
+    ExitCode::from(status.number())
+}

@@ -1,0 +1,7 @@
+pub mod Lists
+pub mod Programs
+pub mod ProgramView
+pub mod Marks
+pub mod Answers
+pub mod Machines
+pub mod Seqs

@@ -1,0 +1,30 @@
+use Rattle.std.specs.Prelude.{◌≡◌, ℕ, suc, cond, length}
+use Rattle.mx_isa.specs.Effect.{Found}
+use Rattle.mx_source.specs.declared.statement.Value.TheVariants.{Int}
+use Rattle.mx_source.specs.Meaning.{State, Step, goes}
+use Rattle.mx_seq.specs.Lists.{values_of}
+use Rattle.mx_seq.specs.Marks.{mark_of}
+use Rattle.mx_seq.specs.Answers.{answer_of}
+use Rattle.mx_seq.specs.declared.machine.Machine.{Machine}
+use Rattle.mx_seq.specs.declared.machine.Stepped.{Stepped}
+
+-- the state that the code keeps
+abbrev pub machine_state : Machine → State
+machine_state m = record {
+  index = m.index;
+  regs = values_of m.registers;
+  md = m.md;
+  mem = values_of m.user_data;
+  taken = m.taken;
+  mark = mark_of m.mark;
+}
+
+-- a call did this step, and answered it
+pub record Does (step : Step) (old new : Machine) (result : Stepped) : Type 0 where
+  pub after : machine_state new ≡ step.after
+  pub answer : result ≡ answer_of step
+  pub room : length new.user_data ≡ length old.user_data
+
+-- a load of input: what was found is put into a register, and counted where it was a byte
+abbrev pub takes : Found → ℕ → State → Step
+takes found dest s = goes (suc s.index) dest (Int found.word) (record s { taken = cond found.takes (suc s.taken) s.taken })

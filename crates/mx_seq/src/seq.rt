@@ -1,0 +1,151 @@
+//! A program that is executed one statement at a time.
+ghost use Rattle.std.specs.Prelude.{◌≡◌, ◌+◌, ◌≤◌, length, IfOk, IsTrue, true};
+ghost use Rattle.mx_isa.specs.UserBus.{is_user};
+
+use crate::machine::{Machine, Mark, Stepped};
+use crate::program::Program;
+use crate::registers::Registers;
+use crate::user_data::UserData;
+use mx_isa::Reg;
+use mx_source::{Memory, Place, Source, Value, Why};
+use std::alloc::Global;
+
+/// A program and the state in which it is: what the source means after the steps so far.
+#[derive(Drop)]
+pub struct Seq {
+    program: Program,
+    machine: Machine,
+    ghost room: { length machine.user_data ≡ program.place.end },
+}
+
+impl Seq {
+    ghost use Rattle.mx_source.specs.Values.{value_in};
+    ghost use Rattle.mx_source.specs.Meaning.{program, start, step};
+    ghost use Rattle.mx_seq.specs.Answers.{answer_of};
+    ghost use Rattle.mx_seq.specs.Seqs.{program_of, state_of};
+
+    /// A source at its start at this place, with the bytes of its input, which matter only where
+    /// the source has input.
+    ///
+    /// # Errors
+    ///
+    /// `Memory` where there is no room for its statements, data words and input.
+    pub fn new(alloc: Global, source: &Source, place: Place, input: &[u8]) -> Result<Seq, Memory>
+        requires room { place.user_data + length source.now.user_data ≤ place.end }
+        requires few { length input.now ≤ 1048576 }
+        ensures program { IfOk result (λ seq. program_of seq ≡ program source.now place input.now) }
+        ensures state { IfOk result (λ seq. state_of seq ≡ start source.now place) }
+    {
+        let program = Program::new(alloc, source, place, input)?;
+        let user_data = UserData::new(alloc, place, source.user_data())?;
+        let machine = Machine {
+            index: 0,
+            registers: Registers::new(),
+            md: 0,
+            user_data,
+            taken: 0,
+            mark: Mark::Going,
+        };
+        Ok(Seq { program, machine })
+    }
+
+    /// Executes one statement. After `Halted` or `Stuck` nothing changes, and the same answer
+    /// comes again.
+    pub fn step(&mut self) -> Stepped
+        ensures state { state_of self.new ≡ (step (program_of self.old) (state_of self.old)).after }
+        ensures answer { result ≡ answer_of (step (program_of self.old) (state_of self.old)) }
+        ensures program { program_of self.new ≡ program_of self.old }
+    {
+        match self.machine.mark {
+            Mark::Going => {}
+            Mark::Halted => return Stepped::Halted,
+            Mark::Stuck(why) => return Stepped::Stuck(why),
+        }
+        match self.program.statement(self.machine.index) {
+            Some(statement) => self.machine.execute(&self.program, statement),
+            None => self.machine.stick(Why::PastEnd),
+        }
+    }
+
+    /// The index of the next statement.
+    pub fn index(&self) -> u32
+        ensures { result ≡ (state_of self.now).index }
+    {
+        self.machine.index
+    }
+
+    /// What a register holds.
+    pub fn register(&self, r: Reg) -> Value
+        ensures { result ≡ value_in (state_of self.now).regs r }
+    {
+        self.machine.registers.get(r)
+    }
+
+    /// What MD holds.
+    pub fn md(&self) -> u32
+        ensures { result ≡ (state_of self.now).md }
+    {
+        self.machine.md
+    }
+
+    /// What an address of user data holds.
+    pub fn user_data(&self, address: u32) -> Value
+        requires { is_user (program_of self.now).place address ≡ true }
+        ensures { result ≡ (state_of self.now).mem address }
+    {
+        self.machine.user_data.get(address)
+    }
+
+    /// The number of input bytes taken.
+    pub fn taken(&self) -> u32
+        ensures { result ≡ (state_of self.now).taken }
+    {
+        self.machine.taken
+    }
+}
+
+#[cfg(test)]
+mod tests {
+    use super::*;
+    use indexmap::IndexMap;
+    use mx_isa::Inst;
+    use mx_source::Statement;
+    use std::test::Fail;
+
+    /// Sends each byte of its input: `ld 254[r0],r1`, `st 255[r0],r1`, `halt`.
+    fn sends_one(alloc: Global) -> Result<Source, Fail> {
+        let zero = Reg::ZERO;
+        let one = Reg::new(1).ok_or("r1")?;
+        let statements = vec![in alloc;
+            Statement::Plain(Inst::Load {
+                base: zero,
+                dest: one,
+                offset: 254
+            }),
+            Statement::Plain(Inst::Store {
+                base: zero,
+                value: one,
+                offset: 255
+            }),
+            Statement::Halt,
+        ]?;
+        let lines = vec![in alloc; 2, 3, 4]?;
+        let user_data = vec![in alloc; Value::Int(7)]?;
+        Ok(Source::make(statements, lines, user_data, IndexMap::new(alloc)).with_input(1))
+    }
+
+    #[test]
+    fn a_byte_goes_through(rt: HostRuntime) -> Result<(), Fail> {
+        let source = sends_one(rt.alloc())?;
+        let mut seq = Seq::new(rt.alloc(), &source, Place::board(), b"H")?;
+        assert_eq!(rt; seq.step(), Stepped::Went(None));
+        assert_eq!(rt; seq.taken(), 1);
+        assert_eq!(rt; seq.step(), Stepped::Went(Some(72)));
+        assert_eq!(rt; seq.step(), Stepped::Halted);
+        assert_eq!(rt; seq.step(), Stepped::Halted);
+        assert_eq!(rt; seq.index(), 2);
+        assert_eq!(rt; seq.register(Reg::new(1).ok_or("r1")?), Value::Int(72));
+        assert_eq!(rt; seq.md(), 0);
+        Ok(())
+    }
+}

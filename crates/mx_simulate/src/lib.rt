@@ -1,0 +1,10 @@
+//! Runs of an image on the machine, with the files that their options name.
+#![tactic(auto)]
+
+mod files;
+mod runs;
+mod simulated;
+
+pub use files::{read_input, read_requests};
+pub use runs::{RunFiles, run_image};
+pub use simulated::{Limits, simulate};

@@ -1,0 +1,65 @@
+//! A run of an image, with the files that its options name.
+ghost use Rattle.std.specs.Prelude.{◌≡◌, IfOk, option_map, List, ℕ};
+ghost use Rattle.std.specs.Option.{option_copied};
+ghost use Rattle.mx_answer.specs.Protocol.{Performed};
+ghost use Rattle.mx_answer.specs.Replies.{reply_answer};
+ghost use Rattle.mx_simulate.specs.Machines.{machine_protocol, given};
+
+use crate::files::{read_input, read_requests};
+use crate::{Limits, simulate};
+use mx_answer::Reply;
+use mx_code::Image;
+use mx_io::{Memory, Shelf};
+use std::alloc::Global;
+
+/// The names of the files that a run reads besides its program.
+#[derive(Clone, Copy, Debug)]
+pub struct RunFiles<'a> {
+    /// The cycles in which interrupts are requested; none where no file is named.
+    pub interrupts: Option<&'a str>,
+    /// The bytes of the input; none where no file is named.
+    pub input: Option<&'a str>,
+}
+
+// The input that a program is given, if it asks for one.
+fn given(asks: bool, bytes: &[u8]) -> Option<&[u8]>
+    ensures { option_copied result ≡ given asks bytes.entry.now }
+{
+    if asks { Some(bytes) } else { None }
+}
+
+/// Reads the interrupt file and the input file, runs the image and reports the run. The image is given the input where it
+/// `asks` for one. A file that is named is read also where it is of no use.
+pub fn run_image<S: Shelf>(
+    alloc: Global,
+    shelf: &mut S,
+    image: &Image,
+    asks: bool,
+    files: &RunFiles,
+    limits: &Limits,
+) -> Result<Reply, Memory>
+    ensures performed { IfOk result (λ r. Performed (record { tells = S.tells shelf.old; held = S.held shelf.old })
+        (machine_protocol (record { interrupts = option_map (λ s. s.now) files.now.interrupts; input = option_map (λ s. s.now) files.now.input }) limits.now image.now.code.items image.now.user_data.items asks)
+        (record { reads = S.reads shelf.old; taken = S.taken shelf.old; faults = S.read_faults shelf.old })
+        (record { reads = S.reads shelf.new; taken = S.taken shelf.new; faults = S.read_faults shelf.new }) (reply_answer r)) }
+    ensures tells_stay { S.tells shelf.new ≡ S.tells shelf.old }
+    ensures held_stays { (n : List ℕ) → S.held shelf.new n ≡ S.held shelf.old n }
+    ensures writes_stay { S.write_faults shelf.new ≡ S.write_faults shelf.old }
+{
+    let requests = match read_requests(alloc, shelf, files.interrupts)? {
+        Ok(requests) => requests,
+        Err(reply) => return Ok(reply),
+    };
+    let input = match read_input(alloc, shelf, files.input)? {
+        Ok(input) => input,
+        Err(reply) => return Ok(reply),
+    };
+    let reply = simulate(
+        alloc,
+        image,
+        given(asks, input.as_slice()),
+        &requests,
+        limits,
+    )?;
+    Ok(reply)
+}
