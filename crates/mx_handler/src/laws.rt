@@ -4,10 +4,12 @@ ghost use Rattle.mx_turn.specs.Handler.{shipped};
 ghost use Rattle.mx_handler.specs.Returns.{HandlerReturns, HandlerIsQuiet};
 
 use crate::HANDLER;
+use mx_turn::SHIPPED;
 
 /// The words are those with which a machine begins that is given no other handler.
 pub fn handler_is_shipped()
-    ensures { HANDLER ≡ shipped }
+    ensures words { HANDLER ≡ shipped }
+    ensures constant { HANDLER ≡ SHIPPED }
 {}
 
 /// After 23 turns of the handler and three more, what an interrupt saved is back.

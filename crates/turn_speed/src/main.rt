@@ -11,8 +11,15 @@ use std::env;
 /// An outer loop round an inner one of 1,000 times, for ever:
 /// `addi r0,#1000,r1 / addi r1,#-1,r1 / bne r1,r0,-1 / add r2,r3,r2 / nop / addi r4,#1,r4 / beq r0,r0,-6 / nop / nop`
 const LOOPS: [u32; 9] = [
-    0xc002_03e8, 0xc043_ffff, 0x0840_ffff, 0x4086_2000, 0x4000_0000, 0xc108_0001, 0x0000_fffa,
-    0x4000_0000, 0x4000_0000,
+    0xc002_03e8,
+    0xc043_ffff,
+    0x0840_ffff,
+    0x4086_2000,
+    0x4000_0000,
+    0xc108_0001,
+    0x0000_fffa,
+    0x4000_0000,
+    0x4000_0000,
 ];
 
 fn image(alloc: Global) -> Result<Image> {
