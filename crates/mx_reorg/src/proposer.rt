@@ -1,7 +1,7 @@
 //! The list scheduler.
-ghost use Rattle.std.specs.Prelude.{◌≡◌, ◌≤◌, ◌<◌, ◌+◌, ◌⊎◌, ℕ, IfSome, length};
+ghost use Rattle.std.specs.Prelude.{◌≤◌, length};
 ghost use Rattle.mx_depend.specs.Graphs.{IsGraph};
-ghost use Rattle.mx_validate.specs.Padded.{insts_of, IsPadded};
+ghost use Rattle.mx_validate.specs.Padded.{insts_of};
 ghost use Rattle.mx_reorg.specs.Greedy.{IsFront, IsGreedy};
 
 use crate::choosing::next_item;
@@ -9,7 +9,7 @@ use crate::ending::{may_end, push_slots, push_terminator};
 use arrayvec::ArrayVec;
 use mx_blocks::{Block, End, Item, Plan};
 use mx_depend::Graph;
-use mx_validate::{Proposer, padded};
+use mx_validate::Proposer;
 
 /// A list scheduler (Hennessy and Gross): at each place stands the candidate of greatest height in the
 /// dependence graph, and the terminator at the first place where what is left fits its slots.
@@ -17,40 +17,32 @@ use mx_validate::{Proposer, padded};
 pub struct ListProposer;
 
 impl Proposer for ListProposer {
-    ghost use Rattle.std.specs.Prelude.{◌⊎◌};
-    ghost use Rattle.mx_validate.specs.Padded.{IsPadded};
     ghost use Rattle.mx_reorg.specs.Greedy.{IsGreedy};
 
-    ghost proposes = { λ block plan. IsGreedy block plan ⊎ IsPadded block plan };
+    ghost proposes = { λ block plan. IsGreedy block plan };
 
     fn propose(&mut self, block: &Block) -> Plan
-        ensures proposes { IsGreedy block.now result ⊎ IsPadded block.now result }
+        ensures proposes { IsGreedy block.now result }
     {
-        let graph = Graph::of(block.insts.as_slice(), block.input);
-        match front_of(block, &graph) {
-            Some(items) => finished(block, &graph, items),
-            None => padded(block),
-        }
+        let insts = block.insts.as_slice();
+        let graph = Graph::of(insts, block.input);
+        let front = front_of(block, &graph);
+        finished(block, &graph, front)
     }
 }
 
 /// What stands before the terminator.
-fn front_of(block: &Block, graph: &Graph) -> Option<ArrayVec<Item, 131>>
-    requires { IsGraph (insts_of block.now) block.now.input graph.now }
-    ensures { IfSome result (λ front. IsFront block.now front.items) }
+fn front_of(block: &Block, graph: &Graph) -> ArrayVec<Item, 131>
+    requires graph { IsGraph (insts_of block.now) block.now.input graph.now }
+    requires few { length (insts_of block.now) ≤ 64 }
+    ensures { IsFront block.now result.items }
 {
     let mut items = ArrayVec::new();
-    for _step in 0..129u8 {
-        if may_end(block, graph, items.as_slice()) {
-            return Some(items);
-        }
-        if items.len() == 128 {
-            return None;
-        }
+    'front: while !may_end(block, graph, items.as_slice()) {
         let next = next_item(block, graph, items.as_slice());
         items.push(next);
     }
-    None
+    items
 }
 
 /// The plan with this front.
