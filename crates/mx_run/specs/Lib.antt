@@ -1,2 +1,6 @@
+pub mod Answer
+pub mod Causes
+pub mod Exit
 pub mod Report
-pub mod Protocols
+pub mod RunCommand
+pub mod Words
