@@ -1,3 +1,5 @@
 pub mod Choices
 pub mod Fronts
 pub mod Spent
+pub mod Unique
+pub mod Lawful
