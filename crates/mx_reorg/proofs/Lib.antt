@@ -3,3 +3,4 @@ pub mod Fronts
 pub mod Spent
 pub mod Unique
 pub mod Lawful
+pub mod ValidPlans

@@ -3,6 +3,7 @@ ghost use Rattle.std.specs.Prelude.{◌≡◌, ◌≤◌, length};
 ghost use Rattle.mx_blocks.specs.declared.block.Plan.{Plan};
 ghost use Rattle.mx_depend.specs.Graphs.{IsGraph};
 ghost use Rattle.mx_validate.specs.Padded.{insts_of};
+ghost use Rattle.mx_validate.specs.Validity.{Valid};
 ghost use Rattle.mx_reorg.specs.Greedy.{IsFront, IsGreedy};
 
 use crate::choosing::next_item;
@@ -24,10 +25,11 @@ impl Proposer for ListProposer {
 
     ghost proposes = { λ block plan. IsGreedy block plan };
 
-    /// Exactly one plan of a block is greedy, and this is it.
+    /// Exactly one plan of a block is greedy: this one, which is valid.
     fn propose(&mut self, block: &Block) -> Plan
         ensures proposes { IsGreedy block.now result }
         ensures only { (plan : Plan) → IsGreedy block.now plan → plan ≡ result }
+        ensures valid { Valid block.now result }
     {
         let insts = block.insts.as_slice();
         let graph = Graph::of(insts, block.input);
@@ -41,6 +43,7 @@ fn greedy_plan(block: &Block, graph: &Graph) -> Plan
     requires few { length (insts_of block.now) ≤ 64 }
     ensures greedy { IsGreedy block.now result }
     ensures only { (plan : Plan) → IsGreedy block.now plan → plan ≡ result }
+    ensures valid { Valid block.now result }
 {
     let front = front_of(block, graph);
     finished(block, graph, front)
