@@ -1,3 +1,6 @@
 pub mod Choices
 pub mod Fronts
 pub mod Spent
+pub mod Unique
+pub mod Lawful
+pub mod ValidPlans

@@ -136,7 +136,7 @@ cost_none block items e = record {
   loaded = λ p k s l m. (let n = ap length e in absurd (omega arith));
 }
 
-last_item : (items : List Item) (item : Item) (p k : ℕ) → StandsAt (items ++ item ∷ []) p k → suc p ≡ length (items ++ item ∷ []) → item ≡ Op k
+pub last_item : (items : List Item) (item : Item) (p k : ℕ) → StandsAt (items ++ item ∷ []) p k → suc p ≡ length (items ++ item ∷ []) → item ≡ Op k
 last_item [] item zero k s e = same_Some item (Op k) s
 last_item [] item (suc p) k s e = absurd (none-some (Op k) s)
 last_item (x ∷ items) item zero k s e = absurd (let n = length-append items (item ∷ []) in omega arith)
@@ -150,7 +150,7 @@ stands_more (x ∷ items) rest (suc p) k s = stands_more items rest p k s
 more : (items rest : List Item) (k : ℕ) → Stands items k → Stands (items ++ rest) k
 more items rest k s = record { at = s.at; stands = stands_more items rest s.at k s.stands }
 
-fresh_zero : (items : List Item) (k : ℕ) → (¬ Stands items k) → times k (ops items) ≡ 0
+pub fresh_zero : (items : List Item) (k : ℕ) → (¬ Stands items k) → times k (ops items) ≡ 0
 fresh_zero items k none = ⊎_elim
     (λ l. let s = counted_stands k items l in absurd (none (record { at = s.at; stands = s.stands })))
     (λ z. omega arith)
@@ -274,7 +274,7 @@ short block items c =
     let most = spent_small (insts_of block) items (body_count block) in
     omega arith
 
-body_low : (b : Bool) (n : ℕ) → cond b n (n - 1) ≤ n
+pub body_low : (b : Bool) (n : ℕ) → cond b n (n - 1) ≤ n
 body_low true n = omega arith
 body_low false n = omega arith
 

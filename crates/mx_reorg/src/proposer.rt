@@ -1,7 +1,9 @@
 //! The list scheduler.
-ghost use Rattle.std.specs.Prelude.{◌≤◌, length};
+ghost use Rattle.std.specs.Prelude.{◌≡◌, ◌≤◌, length};
+ghost use Rattle.mx_blocks.specs.declared.block.Plan.{Plan};
 ghost use Rattle.mx_depend.specs.Graphs.{IsGraph};
 ghost use Rattle.mx_validate.specs.Padded.{insts_of};
+ghost use Rattle.mx_validate.specs.Validity.{Valid};
 ghost use Rattle.mx_reorg.specs.Greedy.{IsFront, IsGreedy};
 
 use crate::choosing::next_item;
@@ -17,18 +19,34 @@ use mx_validate::Proposer;
 pub struct ListProposer;
 
 impl Proposer for ListProposer {
+    ghost use Rattle.std.specs.Prelude.{◌≡◌};
+    ghost use Rattle.mx_blocks.specs.declared.block.Plan.{Plan};
     ghost use Rattle.mx_reorg.specs.Greedy.{IsGreedy};
 
     ghost proposes = { λ block plan. IsGreedy block plan };
 
+    /// Exactly one plan of a block is greedy: this one, which is valid.
     fn propose(&mut self, block: &Block) -> Plan
         ensures proposes { IsGreedy block.now result }
+        ensures only { (plan : Plan) → IsGreedy block.now plan → plan ≡ result }
+        ensures valid { Valid block.now result }
     {
         let insts = block.insts.as_slice();
         let graph = Graph::of(insts, block.input);
-        let front = front_of(block, &graph);
-        finished(block, &graph, front)
+        greedy_plan(block, &graph)
     }
+}
+
+/// The greedy plan.
+fn greedy_plan(block: &Block, graph: &Graph) -> Plan
+    requires graph { IsGraph (insts_of block.now) block.now.input graph.now }
+    requires few { length (insts_of block.now) ≤ 64 }
+    ensures greedy { IsGreedy block.now result }
+    ensures only { (plan : Plan) → IsGreedy block.now plan → plan ≡ result }
+    ensures valid { Valid block.now result }
+{
+    let front = front_of(block, graph);
+    finished(block, graph, front)
 }
 
 /// What stands before the terminator.
