@@ -3,7 +3,7 @@ use Rattle.std.proofs.Common.{◌≡◌, ◌≢◌, ℕ, zero, suc, ◌+◌, ◌
 use Rattle.std.specs.Prelude.{if◌then◌else◌}
 use Rattle.std.specs.List.{slice_get}
 use Rattle.std.proofs.lemmas.Bool.{cases_Bool, cond-true, cond-false, le-leb}
-use Rattle.std.proofs.lemmas.Bool.Decides.{nat_tests}
+use Rattle.std.proofs.lemmas.Bool.Decides.{nat_tests, leb_tells}
 use Rattle.mx_isa.specs.declared.inst.Inst.{Inst}
 use Rattle.mx_isa.specs.declared.inst.Inst.TheVariants.{Load, Store, Compute, Addi}
 use Rattle.mx_isa.specs.declared.inst.Op.TheVariants.{Add, Sub, Xor}
@@ -15,13 +15,13 @@ use Rattle.mx_source.specs.declared.statement.Value.TheVariants.{Int}
 use Rattle.mx_source.specs.declared.statement.Statement.{Statement}
 use Rattle.mx_source.specs.declared.statement.Statement.TheVariants.{Plain, Branch, Halt}
 use Rattle.mx_source.specs.Values.{value_in, is_code, word_in}
-use Rattle.mx_source.specs.Meaning.{Program, program, State, Step, done, goes, start, why_plain, Run, run_for, start_words}
+use Rattle.mx_source.specs.Meaning.{Program, program, State, Step, done, goes, start, why_plain, Run, run_for, start_words, is_stuck}
 use Rattle.mx_source.specs.SourceValue.{SourceValue}
 use Rattle.mx_gen.specs.Drafts.{Draft, empty, put, name}
 use Rattle.mx_gen.specs.Generated.{draw, kind, first, second, third, address, set, opening, round, skip, item, items, generated}
-use Rattle.mx_gen.specs.Board.{IsBoard, HaltsWithin}
+use Rattle.mx_gen.specs.Board.{IsBoard, HaltsWithin, IsNeverStuck}
 use Rattle.mx_gen.proofs.Sounds.{length-push}
-use Rattle.mx_gen.proofs.Running.{Ints, done_ints, goes_ints, written_other, plain_is, branch_is, steps, HaltsSoon, one_before, sooner, halt_here, compute_runs, addi_runs, load_runs, store_runs}
+use Rattle.mx_gen.proofs.Running.{Ints, done_ints, goes_ints, written_other, plain_is, branch_is, steps, HaltsSoon, stays_halted, one_before, sooner, halt_here, compute_runs, addi_runs, load_runs, store_runs}
 
 get-push_front : {A : Type 0} (xs : List A) (y : A) (i : ℕ) (x : A) → slice_get xs i ≡ Some x → slice_get (xs ++ y ∷ []) i ≡ Some x
 get-push_front [] y i x e = absurd (none_some e)
@@ -239,3 +239,13 @@ generated_halts seed count few place bytes board =
         first = λ m lt. ap (λ t. t.mark) (run_state p m (record { state = s; console = [] })) ∙ all.2.first m lt;
       },
     )
+
+-- it is never stuck
+pub generated_runs : (seed count : ℕ) → count ≤ 4000 → (place : Place) (bytes : List ℕ) → IsBoard place → IsNeverStuck (generated seed count) place bytes
+generated_runs seed count few place bytes board m =
+    let source = generated seed count in let p = program source place bytes in let s = start source place in
+    let h = generated_halts seed count few place bytes board in
+    let n = h.0 in let at = h.2 in
+    let is = run_state p m (record { state = s; console = [] }) in
+    ⊎_elim (λ le. ap is_stuck (ap (λ t. t.mark) is ∙ stays_halted p n m s le.1 (sym (ap (λ t. t.mark) (run_state p n (record { state = s; console = [] }))) ∙ at.halted)))
+    (λ lt. ap is_stuck (at.first m lt.1)) (leb_tells n m)

@@ -168,3 +168,13 @@ store_runs p s v o short there h =
     cond-false (any_code s.regs (operands (Store 0 v (pos o)))) (Some CodeOperand) (why_store p (offset_by (words_in s.regs) 0 (pos o)) (value_in s.regs v)) (no_code s (operands (Store 0 v (pos o))) h)
     ∙ (ap (λ a. why_store p a (value_in s.regs v)) (from_zero s.regs o short)
     ∙ store_bools (eqb o p.place.console) (is_code (value_in s.regs v)) (is_user p.place o) CodeToConsole StoreOutside (h.regs v) there)
+
+-- a run that has halted stays so
+halted_stays : (p : Program) (m : ℕ) (s : State) → s.mark ≡ Halted → (steps p m s).mark ≡ Halted
+halted_stays p zero s h = h
+halted_stays p (suc m) s h = halted_stays p m (step p s).after (ap (λ k. (if_going k (execute p (slice_get p.statements s.index) s) s).after.mark) h ∙ h)
+
+pub stays_halted : (p : Program) (n m : ℕ) (s : State) → n ≤ m → (steps p n s).mark ≡ Halted → (steps p m s).mark ≡ Halted
+stays_halted p zero m s le h = halted_stays p m s h
+stays_halted p (suc n) zero s le h = absurd (omega arith)
+stays_halted p (suc n) (suc m) s le h = stays_halted p n m (step p s).after (omega arith) h

@@ -1,5 +1,5 @@
 -- Drafts keep to what they keep to.
-use Rattle.std.proofs.Common.{◌≡◌, ◌≢◌, ℕ, suc, ◌+◌, ◌-◌, ◌*◌, ◌/◌, ◌%◌, ◌^◌, ◌≤◌, ◌<◌, Bool, true, false, ◌||◌, ◌==◌, List, [], ◌∷◌, ◌++◌, length, inl, inr, ⊎_elim, refl, sym, ap, ◌∙◌, arith, decimal, pos, negsuc, lit<, lit≤}
+use Rattle.std.proofs.Common.{◌≡◌, ◌≢◌, ℕ, zero, suc, ◌+◌, ◌-◌, ◌*◌, ◌/◌, ◌%◌, ◌^◌, ◌≤◌, ◌<◌, Bool, true, false, ◌||◌, ◌==◌, List, [], ◌∷◌, ◌++◌, length, inl, inr, ⊎_elim, refl, sym, ap, ◌∙◌, arith, subst, decimal, pos, negsuc, lit<, lit≤}
 use Rattle.std.specs.Prelude.{if◌then◌else◌}
 use Rattle.std.specs.List.{All}
 use Rattle.std.proofs.lemmas.Bool.Decides.{nat_tests}
@@ -17,8 +17,8 @@ use Rattle.mx_source.specs.declared.statement.Statement.TheVariants.{Plain, LaCo
 use Rattle.mx_source.specs.Labels.{LabelFits, IsPlace, is_labelled, names_index}
 use Rattle.mx_source.specs.Statements.{StatementFits}
 use Rattle.mx_source.specs.SourceValue.{IsSource}
-use Rattle.mx_gen.specs.Drafts.{Draft, put, finished}
-use Rattle.mx_gen.specs.Generated.{draw, kind, first, second, third, address, round, skip, item, items}
+use Rattle.mx_gen.specs.Drafts.{Draft, empty, put, finished}
+use Rattle.mx_gen.specs.Generated.{draw, kind, first, second, third, address, set, opening, round, skip, item, items, generated}
 use Rattle.mx_gen.specs.Sound.{IsOlder, IsNew, IsSound}
 
 abbrev Labels : Type 0
@@ -206,3 +206,29 @@ reduced y b m = sym (add-mul-mod_self_left (y % m + b) m (y / m)) ∙ ap (λ n. 
   where
     whole : (y % m + b) + m * (y / m) ≡ y + b
     whole = swap (y % m) (m * (y / m)) y b (mod-add-div y m)
+
+-- so do the items
+sound_items : (k j x : ℕ) (d : Draft) → IsSound j d → IsSound (k + j) (items k j x d)
+sound_items zero j x d h = let e : j ≡ zero + j = omega arith in subst (λ n. IsSound n d) e h
+sound_items (suc k) j x d h = let e : k + suc j ≡ suc k + j = omega arith in
+    subst (λ n. IsSound n (items k (suc j) (draw x) (item (draw x) j d))) e (sound_items k (suc j) (draw x) (item (draw x) j d) (sound_item (draw x) j d h))
+
+set_fits : (r n : ℕ) (d : Draft) → n < 2 ^ 16 → All (StatementFits (IsPlace [] 8)) d.statements → All (StatementFits (IsPlace [] 8)) (set r n d).statements
+set_fits r n d lt h = All-push (StatementFits (IsPlace [] 8)) d.statements (Plain (Addi 0 r (pos n))) h (tt, lt)
+
+opening_sound : IsSound 0 (opening empty)
+opening_sound = let d1 = set 1 1 empty in let d2 = set 2 4 d1 in let d3 = set 3 9 d2 in let d4 = set 4 16 d3 in let d5 = set 5 25 d4 in let d6 = set 6 36 d5 in let d7 = set 7 49 d6 in record {
+  few = lit≤ tt;
+  a_line_each = refl;
+  next_line = lit≤ tt;
+  older = All-nil (IsOlder 0);
+  labels_fit = All-nil (λ (p : List ℕ × Label). LabelFits 8 p.1);
+  statements_fit = set_fits 8 64 d7 (lit< tt) (set_fits 7 49 d6 (lit< tt) (set_fits 6 36 d5 (lit< tt) (set_fits 5 25 d4 (lit< tt) (set_fits 4 16 d3 (lit< tt)
+      (set_fits 3 9 d2 (lit< tt) (set_fits 2 4 d1 (lit< tt) (set_fits 1 1 empty (lit< tt) (All-nil (StatementFits (IsPlace [] 8))))))))));
+}
+
+-- there are few statements
+pub generated_few : (seed count : ℕ) → count ≤ 4000 → length (generated seed count).statements ≤ 16009
+generated_few seed count few = let d = items count 0 seed (opening empty) in
+    let h : length d.statements ≤ 8 + 4 * (count + 0) = (sound_items count 0 seed (opening empty) opening_sound).few in
+    let e = length-push d.statements Halt in omega arith

@@ -1,8 +1,8 @@
 -- The place for which sources are generated.
-use Rattle.std.specs.Prelude.{◌≡◌, ℕ, ◌≤◌, List}
+use Rattle.std.specs.Prelude.{◌≡◌, ℕ, ◌≤◌, List, false}
 use Rattle.mx_isa.specs.declared.place.Place.{Place}
 use Rattle.mx_source.specs.SourceValue.{SourceValue}
-use Rattle.mx_source.specs.Meaning.{HaltsIn}
+use Rattle.mx_source.specs.Meaning.{HaltsIn, meaning, is_stuck}
 
 -- user data are the words 256 to 65535, and the console is 255
 pub record IsBoard (place : Place) : Type 0 where
@@ -13,3 +13,7 @@ pub record IsBoard (place : Place) : Type 0 where
 -- the meaning halts in so many instructions at most
 abbrev pub HaltsWithin : ℕ → SourceValue → Place → List ℕ → Type 0
 HaltsWithin most source place input = (n : ℕ) × (n ≤ most) × HaltsIn source place input n
+
+-- the meaning is not stuck after any number of steps
+abbrev pub IsNeverStuck : SourceValue → Place → List ℕ → Type 0
+IsNeverStuck source place input = (m : ℕ) → is_stuck (meaning source place input m).state.mark ≡ false

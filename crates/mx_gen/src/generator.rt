@@ -3,7 +3,7 @@ ghost use Rattle.std.specs.Prelude.{◌≡◌, ◌<◌, ◌≤◌, ◌^◌, ◌�
 ghost use Rattle.mx_gen.specs.Drafts.{put};
 ghost use Rattle.mx_gen.specs.Generated.{kind, first, second, third, address, opening, compute, round, skip, item, generated};
 ghost use Rattle.mx_isa.specs.declared.place.Place.{Place as AnyPlace};
-ghost use Rattle.mx_gen.specs.Board.{IsBoard, HaltsWithin};
+ghost use Rattle.mx_gen.specs.Board.{IsBoard, HaltsWithin, IsNeverStuck};
 ghost use Rattle.mx_gen.specs.Near.{AllNear};
 ghost use Rattle.mx_gen.specs.Sound.{IsSound, IsNew};
 
@@ -22,6 +22,8 @@ pub fn generate(alloc: Global, seed: u32, count: u32) -> Result<Source, Memory>
     requires { count ≤ 4000 }
     ensures source { IfOk result (λ source. source ≡ generated seed count) }
     ensures halts { IfOk result (λ source. (place : AnyPlace) (input : List ℕ) → IsBoard place → HaltsWithin 40009 source place input) }
+    ensures never_stuck { IfOk result (λ source. (place : AnyPlace) (input : List ℕ) → IsBoard place → IsNeverStuck source place input) }
+    ensures few { IfOk result (λ source. length source.statements ≤ 16009) }
     ensures near { IfOk result (λ source. AllNear source.statements) }
 {
     drafted(alloc, seed, count)

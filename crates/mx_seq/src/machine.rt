@@ -47,7 +47,6 @@ impl Machine {
     ghost use Rattle.mx_source.specs.Values.{value_in};
     ghost use Rattle.mx_seq.specs.Lists.{values_of};
     ghost use Rattle.mx_seq.specs.Machines.{Does, machine_state, takes};
-    ghost use Rattle.mx_seq.specs.Programs.{Fits};
 
     /// The run is stuck.
     pub(crate) fn stick(&mut self, why: Why) -> Stepped
