@@ -1,4 +1,4 @@
-use Rattle.std.specs.Prelude.{option_map}
+use Rattle.std.specs.Prelude.{◌≤◌, option_map}
 use Rattle.mx_asked.specs.declared.command.Command.{Command}
 use Rattle.mx_asked.specs.declared.command.Command.TheVariants as given
 use Rattle.mx_asked.specs.Commands as asked
@@ -10,3 +10,8 @@ seen_command (given.Gen seed count) = asked.Gen seed count
 seen_command (given.Exec image files limits) =
     asked.Exec image.now (record { interrupts = option_map (λ s. s.now) files.interrupts; input = option_map (λ s. s.now) files.input }) limits
 seen_command (given.Migrate image target) = asked.Migrate image.now target.now
+
+-- at most 4,000 items are generated
+abbrev pub IsAllowed : Command → Type 0
+IsAllowed (given.Gen seed count) = count ≤ 4000
+IsAllowed _ = Unit {0}

@@ -1,9 +1,9 @@
 //! The command that words ask for.
-ghost use Rattle.std.specs.Prelude.{◌≡◌, IfOk, map, option_map, string_bytes, Some, None, [], option_and_then};
+ghost use Rattle.std.specs.Prelude.{◌≡◌, ◌≤◌, IfOk, IfSome, map, option_map, string_bytes, Some, None, [], option_and_then};
 ghost use Rattle.mx_words.specs.Reading.{asked};
 ghost use Rattle.mx_words.specs.Read.{seen};
 ghost use Rattle.mx_asked.specs.Asked.{run_options, gen_of, dump_of, limits_of, run_of, exec_of, migrate_of, command_of};
-ghost use Rattle.mx_asked.specs.Seen.{seen_command};
+ghost use Rattle.mx_asked.specs.Seen.{seen_command, IsAllowed};
 
 use crate::numbers::{number, number_or, optional};
 use mx_io::Memory;
@@ -67,7 +67,8 @@ const RUN_OPTIONS: [&str; 6] = ["budget", "trace", "dump", "count", "interrupts"
 
 // What was read of `run`.
 fn run_read<'a>(read: &Read<'a>) -> Option<Command<'a>>
-    ensures { option_map seen_command result ≡ run_of (seen read.entry.now) }
+    ensures command { option_map seen_command result ≡ run_of (seen read.entry.now) }
+    ensures allowed { IfSome result IsAllowed }
 {
     match (read.names.as_slice(), read.values.as_slice()) {
         ([source], []) => Some(Command::Run { source: *source }),
@@ -77,7 +78,8 @@ fn run_read<'a>(read: &Read<'a>) -> Option<Command<'a>>
 
 // What was read of `gen`.
 fn gen_read<'a>(read: &Read<'a>) -> Option<Command<'a>>
-    ensures { option_map seen_command result ≡ gen_of (seen read.entry.now) }
+    ensures command { option_map seen_command result ≡ gen_of (seen read.entry.now) }
+    ensures allowed { IfSome result IsAllowed }
 {
     match (read.names.as_slice(), read.values.as_slice()) {
         ([seed, count], []) => {
@@ -91,7 +93,8 @@ fn gen_read<'a>(read: &Read<'a>) -> Option<Command<'a>>
 
 // What was read of `migrate`.
 fn migrate_read<'a>(read: &Read<'a>) -> Option<Command<'a>>
-    ensures { option_map seen_command result ≡ migrate_of (seen read.entry.now) }
+    ensures command { option_map seen_command result ≡ migrate_of (seen read.entry.now) }
+    ensures allowed { IfSome result IsAllowed }
 {
     match (read.names.as_slice(), read.values.as_slice()) {
         ([image, target], []) => Some(Command::Migrate {
@@ -104,7 +107,8 @@ fn migrate_read<'a>(read: &Read<'a>) -> Option<Command<'a>>
 
 // What was read of `exec`.
 fn exec_read<'a>(read: &Read<'a>) -> Option<Command<'a>>
-    ensures { option_map seen_command result ≡ exec_of (seen read.entry.now) }
+    ensures command { option_map seen_command result ≡ exec_of (seen read.entry.now) }
+    ensures allowed { IfSome result IsAllowed }
 {
     match (read.names.as_slice(), read.values.as_slice()) {
         ([image], [budget, trace, dump, count, interrupts, input]) => {
@@ -125,7 +129,8 @@ fn exec_read<'a>(read: &Read<'a>) -> Option<Command<'a>>
 
 // The command `run`.
 fn run_words<'a>(alloc: Global, words: &'a [String]) -> Result<Option<Command<'a>>, Memory>
-    ensures { IfOk result (λ r. option_map seen_command r ≡ option_and_then run_of (asked [] 1 (map string_bytes words.entry.now))) }
+    ensures command { IfOk result (λ r. option_map seen_command r ≡ option_and_then run_of (asked [] 1 (map string_bytes words.entry.now))) }
+    ensures allowed { IfOk result (λ r. IfSome r IsAllowed) }
 {
     let shape = Shape {
         options: &[],
@@ -139,7 +144,8 @@ fn run_words<'a>(alloc: Global, words: &'a [String]) -> Result<Option<Command<'a
 
 // The command `gen`.
 fn gen_words<'a>(alloc: Global, words: &'a [String]) -> Result<Option<Command<'a>>, Memory>
-    ensures { IfOk result (λ r. option_map seen_command r ≡ option_and_then gen_of (asked [] 2 (map string_bytes words.entry.now))) }
+    ensures command { IfOk result (λ r. option_map seen_command r ≡ option_and_then gen_of (asked [] 2 (map string_bytes words.entry.now))) }
+    ensures allowed { IfOk result (λ r. IfSome r IsAllowed) }
 {
     let shape = Shape {
         options: &[],
@@ -153,7 +159,8 @@ fn gen_words<'a>(alloc: Global, words: &'a [String]) -> Result<Option<Command<'a
 
 // The command `exec`.
 fn exec_words<'a>(alloc: Global, words: &'a [String]) -> Result<Option<Command<'a>>, Memory>
-    ensures { IfOk result (λ r. option_map seen_command r ≡ option_and_then exec_of (asked run_options 1 (map string_bytes words.entry.now))) }
+    ensures command { IfOk result (λ r. option_map seen_command r ≡ option_and_then exec_of (asked run_options 1 (map string_bytes words.entry.now))) }
+    ensures allowed { IfOk result (λ r. IfSome r IsAllowed) }
 {
     let shape = Shape {
         options: &RUN_OPTIONS,
@@ -167,7 +174,8 @@ fn exec_words<'a>(alloc: Global, words: &'a [String]) -> Result<Option<Command<'
 
 // The command `migrate`.
 fn migrate_words<'a>(alloc: Global, words: &'a [String]) -> Result<Option<Command<'a>>, Memory>
-    ensures { IfOk result (λ r. option_map seen_command r ≡ option_and_then migrate_of (asked [] 2 (map string_bytes words.entry.now))) }
+    ensures command { IfOk result (λ r. option_map seen_command r ≡ option_and_then migrate_of (asked [] 2 (map string_bytes words.entry.now))) }
+    ensures allowed { IfOk result (λ r. IfSome r IsAllowed) }
 {
     let shape = Shape {
         options: &[],
@@ -183,7 +191,8 @@ fn migrate_words<'a>(alloc: Global, words: &'a [String]) -> Result<Option<Comman
 /// command, spelled exactly. Options may stand before or after names, as `--name value` or `--name=value`, each at most
 /// once; after the first `--` all words are names.
 pub fn read_command<'a>(alloc: Global, words: &'a [String]) -> Result<Option<Command<'a>>, Memory>
-    ensures { IfOk result (λ r. option_map seen_command r ≡ command_of (map string_bytes words.entry.now)) }
+    ensures command { IfOk result (λ r. option_map seen_command r ≡ command_of (map string_bytes words.entry.now)) }
+    ensures allowed { IfOk result (λ r. IfSome r IsAllowed) }
 {
     let [first, rest @ ..] = words else {
         return Ok(None);

@@ -1,6 +1,2 @@
-pub mod Answer
-pub mod Causes
-pub mod Exit
 pub mod Report
-pub mod RunCommand
-pub mod Words
+pub mod Protocols

@@ -1,12 +1,10 @@
 //! Runs assembler texts.
 #![tactic(auto)]
 
-mod answer;
 mod command;
 mod machine;
+mod reply;
 mod report;
-mod status;
-mod words;
 
 use command::command;
 use mx_io::{RealShelf, RealSink};

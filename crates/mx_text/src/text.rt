@@ -55,12 +55,7 @@ pub fn push_named(text: &mut Vec<u8>, name: &[u8], value: &[u8]) -> Result<(), A
 }
 
 /// Appends the line `NAME N`, in decimal.
-pub fn push_count(
-    alloc: Global,
-    text: &mut Vec<u8>,
-    name: &str,
-    n: u64,
-) -> Result<(), AllocError>
+pub fn push_count(alloc: Global, text: &mut Vec<u8>, name: &str, n: u64) -> Result<(), AllocError>
     ensures { OnOk result (text.new.items ≡ text.old.items ++ count_line name.now n) }
 {
     let digits = format!(in alloc; "{n}")?;

@@ -190,3 +190,105 @@ fn a_shelf_fails(rt: HostRuntime) -> Result<(), Fail> {
     }
     Ok(())
 }
+
+// `addi r0,#72,r1`, `st 255[r0],r1`, `halt` as an image file of version 1.
+const HELLO_IMAGE: [u8; 28] = [
+    0x4d, 0x58, 0x49, 0x4d, 0, 0, 0, 1, 0, 0, 0, 3, 0, 0, 0, 0, 0xc0, 0x02, 0x00, 0x48, 0x88, 0x02,
+    0x00, 0xff, 0xe0, 0, 0, 0,
+];
+
+const GENERATED: &[u8] = b"addi r0,#1,r1
+addi r0,#4,r2
+addi r0,#9,r3
+addi r0,#16,r4
+addi r0,#25,r5
+addi r0,#36,r6
+addi r0,#49,r7
+addi r0,#64,r8
+sub r2,r4,r2
+halt
+";
+
+const EXECUTED: &[u8] = b"halted
+cycles 12
+fetches 6
+misses 3
+squashes 0
+interrupts 0
+words 3
+noops 0
+console 1
+H
+registers
+r1 00000048
+";
+
+#[test]
+fn generates_executes_and_migrates(rt: HostRuntime) -> Result<(), Fail> {
+    let alloc = rt.alloc();
+    let mut shelf = MemoryShelf::new(alloc);
+    shelf.add("a", HELLO_IMAGE.as_slice())?;
+    let mut text = MemorySink::new(alloc, 64, 1000)?;
+    let words = words_of(alloc, &["gen", "1", "--", "+1"])?;
+    assert_eq!(rt;
+        command(alloc, words.as_slice(), &mut shelf, &mut text),
+        Status::Done
+    );
+    assert_eq!(rt; text.written(), GENERATED);
+    let mut nothing = MemorySink::new(alloc, 64, 1000)?;
+    let words = words_of(alloc, &["migrate", "a", "b"])?;
+    assert_eq!(rt;
+        command(alloc, words.as_slice(), &mut shelf, &mut nothing),
+        Status::Done
+    );
+    assert!(rt; nothing.written().is_empty());
+    let mut report = MemorySink::new(alloc, 64, 1000)?;
+    let words = words_of(alloc, &["exec", "b", "--budget=12"])?;
+    assert_eq!(rt;
+        command(alloc, words.as_slice(), &mut shelf, &mut report),
+        Status::Halted
+    );
+    assert!(rt; report.written().starts_with(EXECUTED));
+    Ok(())
+}
+
+#[test]
+fn refuses_an_image(rt: HostRuntime) -> Result<(), Fail> {
+    let alloc = rt.alloc();
+    let cases: [(&[&str], Status, &[u8]); 4] = [
+        (
+            &["exec", "cut"],
+            Status::BadImage,
+            b"image: Truncated at 27\n",
+        ),
+        (
+            &["exec", "a", "--interrupts", "twice"],
+            Status::BadEvents,
+            b"interrupts line 2: NotAscending\n",
+        ),
+        (
+            &["exec", "a", "--input", "c"],
+            Status::ReadFault,
+            b"read fault: input failed\n",
+        ),
+        (
+            &["exec", "a", "--budget", "100000001"],
+            Status::Usage,
+            b"usage: mx_run COMMAND WORDS\n",
+        ),
+    ];
+    for (texts, status, want) in cases {
+        let mut shelf = MemoryShelf::new(alloc);
+        shelf.add("a", HELLO_IMAGE.as_slice())?;
+        shelf.add("cut", &HELLO_IMAGE[..27])?;
+        shelf.add("twice", b"5\n5\n".as_slice())?;
+        let mut out = MemorySink::new(alloc, 64, 1000)?;
+        let words = words_of(alloc, texts)?;
+        assert_eq!(rt;
+            command(alloc, words.as_slice(), &mut shelf, &mut out),
+            status
+        );
+        assert_eq!(rt; out.written(), want);
+    }
+    Ok(())
+}

@@ -1,0 +1,98 @@
+use Rattle.std.proofs.Common.{◌≡◌, ℕ, List, Bool, Option, map, string_bytes, sym, ap, ◌∙◌}
+use Rattle.mx_answer.specs.Protocol.{Protocol, Told, Counts}
+use Rattle.mx_answer.specs.Replies.{reply_answer}
+use Rattle.mx_answer.proofs.Protocols.{status_is}
+use Rattle.mx_asked.specs.Commands.{Command}
+use Rattle.mx_asked.specs.Asked.{command_of}
+use Rattle.mx_run.specs.Protocols.{protocol_of}
+use Rattle.mx_run.proofs.Own.{own_answers}
+use Rattle.mx_run.proofs.Ended.{ended}
+use Rattle.mx_run.proofs.command.command.Goals as goal
+
+pub finish-requires : goal.finish-requires
+finish-requires g c =
+    let asked : Option Command = command_of (map string_bytes c.args.words.now) in
+    let told : Told = record { tells = g.S.Shelf.tells c.args.shelf.now; held = g.S.Shelf.held c.args.shelf.now } in
+    let before : Counts = record { reads = g.S.Shelf.reads c.args.shelf.now; taken = g.S.Shelf.taken c.args.shelf.now; faults = g.S.Shelf.read_faults c.args.shelf.now } in
+    let between : Counts = record { reads = g.S.Shelf.reads c.reply_to.new.shelf; taken = g.S.Shelf.taken c.reply_to.new.shelf; faults = g.S.Shelf.read_faults c.reply_to.new.shelf } in
+    status_is told (protocol_of asked) before between (reply_answer c.in-Ok.reply) (own_answers asked) c.in-Ok.ensures.performed
+
+pub returns-clause-complete : goal.returns-clause-complete
+returns-clause-complete g c =
+    let asked : Option Command = command_of (map string_bytes c.args.words.now) in
+    let first = c.args.shelf.now in
+    let second = c.reply_to.new.shelf in
+    let third = c.finish.new.shelf in
+    let before : Counts = record { reads = g.S.Shelf.reads first; taken = g.S.Shelf.taken first; faults = g.S.Shelf.read_faults first } in
+    let between : Counts = record { reads = g.S.Shelf.reads second; taken = g.S.Shelf.taken second; faults = g.S.Shelf.read_faults second } in
+    let after : Counts = record { reads = g.S.Shelf.reads third; taken = g.S.Shelf.taken third; faults = g.S.Shelf.read_faults third } in
+    let unread = c.finish.ensures.unread in
+    let same : after ≡ between = λ k. record { reads = unread.0 k; taken = unread.1 k; faults = unread.2 k } in
+    let whole = ended (protocol_of asked) (reply_answer c.in-Ok.reply) c.finish.result
+    (g.S.Shelf.tells first) (g.S.Shelf.tells second) (g.S.Shelf.held first) (g.S.Shelf.held second) (g.S.Shelf.held third)
+    before between after
+    (g.S.Shelf.write_faults first) (g.S.Shelf.write_faults second) (g.S.Shelf.write_faults third)
+    (g.W.Sink.faults c.args.out.now) (g.W.Sink.faults c.finish.new.out) (g.W.Sink.written c.args.out.now) (g.W.Sink.written c.finish.new.out)
+    (own_answers asked) c.in-Ok.ensures.performed c.in-Ok.ensures.tells_stay c.in-Ok.ensures.held_stays c.in-Ok.ensures.writes_stay same
+    c.finish.ensures.delivered c.finish.ensures.write_fault c.finish.ensures.prefix c.finish.ensures.memory c.finish.ensures.kept in
+    whole.complete
+
+pub returns-clause-sound : goal.returns-clause-sound
+returns-clause-sound g c =
+    let asked : Option Command = command_of (map string_bytes c.args.words.now) in
+    let first = c.args.shelf.now in
+    let second = c.reply_to.new.shelf in
+    let third = c.finish.new.shelf in
+    let before : Counts = record { reads = g.S.Shelf.reads first; taken = g.S.Shelf.taken first; faults = g.S.Shelf.read_faults first } in
+    let between : Counts = record { reads = g.S.Shelf.reads second; taken = g.S.Shelf.taken second; faults = g.S.Shelf.read_faults second } in
+    let after : Counts = record { reads = g.S.Shelf.reads third; taken = g.S.Shelf.taken third; faults = g.S.Shelf.read_faults third } in
+    let unread = c.finish.ensures.unread in
+    let same : after ≡ between = λ k. record { reads = unread.0 k; taken = unread.1 k; faults = unread.2 k } in
+    let whole = ended (protocol_of asked) (reply_answer c.in-Ok.reply) c.finish.result
+    (g.S.Shelf.tells first) (g.S.Shelf.tells second) (g.S.Shelf.held first) (g.S.Shelf.held second) (g.S.Shelf.held third)
+    before between after
+    (g.S.Shelf.write_faults first) (g.S.Shelf.write_faults second) (g.S.Shelf.write_faults third)
+    (g.W.Sink.faults c.args.out.now) (g.W.Sink.faults c.finish.new.out) (g.W.Sink.written c.args.out.now) (g.W.Sink.written c.finish.new.out)
+    (own_answers asked) c.in-Ok.ensures.performed c.in-Ok.ensures.tells_stay c.in-Ok.ensures.held_stays c.in-Ok.ensures.writes_stay same
+    c.finish.ensures.delivered c.finish.ensures.write_fault c.finish.ensures.prefix c.finish.ensures.memory c.finish.ensures.kept in
+    whole.sound
+
+pub returns-clause-read_fault : goal.returns-clause-read_fault
+returns-clause-read_fault g c =
+    let asked : Option Command = command_of (map string_bytes c.args.words.now) in
+    let first = c.args.shelf.now in
+    let second = c.reply_to.new.shelf in
+    let third = c.finish.new.shelf in
+    let before : Counts = record { reads = g.S.Shelf.reads first; taken = g.S.Shelf.taken first; faults = g.S.Shelf.read_faults first } in
+    let between : Counts = record { reads = g.S.Shelf.reads second; taken = g.S.Shelf.taken second; faults = g.S.Shelf.read_faults second } in
+    let after : Counts = record { reads = g.S.Shelf.reads third; taken = g.S.Shelf.taken third; faults = g.S.Shelf.read_faults third } in
+    let unread = c.finish.ensures.unread in
+    let same : after ≡ between = λ k. record { reads = unread.0 k; taken = unread.1 k; faults = unread.2 k } in
+    let whole = ended (protocol_of asked) (reply_answer c.in-Ok.reply) c.finish.result
+    (g.S.Shelf.tells first) (g.S.Shelf.tells second) (g.S.Shelf.held first) (g.S.Shelf.held second) (g.S.Shelf.held third)
+    before between after
+    (g.S.Shelf.write_faults first) (g.S.Shelf.write_faults second) (g.S.Shelf.write_faults third)
+    (g.W.Sink.faults c.args.out.now) (g.W.Sink.faults c.finish.new.out) (g.W.Sink.written c.args.out.now) (g.W.Sink.written c.finish.new.out)
+    (own_answers asked) c.in-Ok.ensures.performed c.in-Ok.ensures.tells_stay c.in-Ok.ensures.held_stays c.in-Ok.ensures.writes_stay same
+    c.finish.ensures.delivered c.finish.ensures.write_fault c.finish.ensures.prefix c.finish.ensures.memory c.finish.ensures.kept in
+    whole.read_fault
+
+pub returns-clause-prefix : goal.returns-clause-prefix
+returns-clause-prefix g c =
+    let asked : Option Command = command_of (map string_bytes c.args.words.now) in
+    let first = c.args.shelf.now in
+    let second = c.reply_to.new.shelf in
+    let third = c.finish.new.shelf in
+    let before : Counts = record { reads = g.S.Shelf.reads first; taken = g.S.Shelf.taken first; faults = g.S.Shelf.read_faults first } in
+    let between : Counts = record { reads = g.S.Shelf.reads second; taken = g.S.Shelf.taken second; faults = g.S.Shelf.read_faults second } in
+    let after : Counts = record { reads = g.S.Shelf.reads third; taken = g.S.Shelf.taken third; faults = g.S.Shelf.read_faults third } in
+    let unread = c.finish.ensures.unread in
+    let same : after ≡ between = λ k. record { reads = unread.0 k; taken = unread.1 k; faults = unread.2 k } in
+    let whole = ended (protocol_of asked) (reply_answer c.in-Ok.reply) c.finish.result
+    (g.S.Shelf.tells first) (g.S.Shelf.tells second) (g.S.Shelf.held first) (g.S.Shelf.held second) (g.S.Shelf.held third)
+    before between after
+    (g.S.Shelf.write_faults first) (g.S.Shelf.write_faults second) (g.S.Shelf.write_faults third)
+    (g.W.Sink.faults c.args.out.now) (g.W.Sink.faults c.finish.new.out) (g.W.Sink.written c.args.out.now) (g.W.Sink.written c.finish.new.out)
+    (own_answers asked) c.in-Ok.ensures.performed c.in-Ok.ensures.tells_stay c.in-Ok.ensures.held_stays c.in-Ok.ensures.writes_stay same
+    c.finish.ensures.delivered c.finish.ensures.write_fault c.finish.ensures.prefix c.finish.ensures.memory c.finish.ensures.kept in
+    whole.put_out
