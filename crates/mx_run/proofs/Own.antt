@@ -1,5 +1,5 @@
 -- No command answers a fault outside or want of memory by itself, and only one that is done writes a file.
-use Rattle.std.proofs.Common.{◌≡◌, ℕ, List, Bool, true, false, cond, Option, Some, None, Result, Ok, Err, refl}
+use Rattle.std.proofs.Common.{◌≡◌, ℕ, List, Bool, true, false, cond, Option, Some, None, Result, Ok, Err, inl, inr, refl, sym, ap, ◌∙◌, subst}
 use Rattle.mx_isa.specs.declared.Inst.{Inst}
 use Rattle.mx_board.specs.declared.EventError.{EventError}
 use Rattle.mx_board.specs.RequestFile.{requests_of}
@@ -9,9 +9,9 @@ use Rattle.mx_image.specs.Files.{file_refusal, file_in}
 use Rattle.mx_turn.specs.Handler.{shipped}
 use Rattle.mx_turn.specs.Program.{Program, program_of}
 use Rattle.mx_answer.specs.declared.Status.{Status}
-use Rattle.mx_answer.specs.declared.Status.TheVariants.{Halted, OutOfBudget}
-use Rattle.mx_answer.specs.Answer.{Answer, prints, is_own}
-use Rattle.mx_answer.specs.Protocol.{Protocol, IsOwnAnswer, HasOwnAnswers}
+use Rattle.mx_answer.specs.declared.Status.TheVariants.{Halted, OutOfBudget, Usage}
+use Rattle.mx_answer.specs.Answer.{Answer, prints, usage, is_own}
+use Rattle.mx_answer.specs.Protocol.{Protocol, Answers, Reads, Told, Counts, IsFault, Performed, IsOwnAnswer, HasOwnAnswers}
 use Rattle.mx_simulate.specs.declared.Limits.{Limits}
 use Rattle.mx_simulate.specs.Simulated.{program_answer}
 use Rattle.mx_simulate.specs.Machines.{Files, given, by_requests, requests_protocol, input_protocol, machine_protocol}
@@ -63,3 +63,81 @@ own_answers (Some (Run source)) = λ text. own_plain (plain_reading text)
 own_answers (Some (Gen seed count)) = own_print _ _ refl
 own_answers (Some (Exec image files limits)) = λ bytes. own_refused (file_refusal bytes) _ (own_machine files limits (file_in bytes).code (file_in bytes).user_data (file_in bytes).input)
 own_answers (Some (Migrate image target)) = λ bytes. own_migrated target bytes (file_refusal bytes)
+
+-- no answer of its own is Usage
+is_usage : Status → Bool
+is_usage Usage = true
+is_usage _ = false
+
+HasNoUsage : Protocol → Type 0
+HasNoUsage (Answers answer) = is_usage answer.status ≡ false
+HasNoUsage (Reads kind name next) = (bytes : List ℕ) → HasNoUsage (next bytes)
+
+no_usage_plain : (reading : Result (List Inst) ℕ) → is_usage (plain_answer reading).status ≡ false
+unfolding is_usage
+no_usage_plain (Ok insts) = refl
+no_usage_plain (Err line) = refl
+
+no_usage_ending : (halted : Bool) → is_usage (cond halted Halted OutOfBudget) ≡ false
+unfolding is_usage
+no_usage_ending true = refl
+no_usage_ending false = refl
+
+no_usage_program : (p : Program) (code requests : List ℕ) (limits : Limits) → is_usage (program_answer p code requests limits).status ≡ false
+unfolding program_answer
+no_usage_program p code requests limits = no_usage_ending _
+
+no_usage_by_requests : (read : Result (List ℕ) EventError) (next : List ℕ → Protocol) → ((requests : List ℕ) → HasNoUsage (next requests)) → HasNoUsage (by_requests read next)
+unfolding is_usage HasNoUsage
+no_usage_by_requests (Ok requests) next own = own requests
+no_usage_by_requests (Err fault) next own = refl
+
+no_usage_requests : (name : Option (List ℕ)) (next : List ℕ → Protocol) → ((requests : List ℕ) → HasNoUsage (next requests)) → HasNoUsage (requests_protocol name next)
+unfolding HasNoUsage
+no_usage_requests None next own = own _
+no_usage_requests (Some name) next own = λ bytes. no_usage_by_requests (requests_of bytes) next own
+
+no_usage_input : (name : Option (List ℕ)) (next : List ℕ → Protocol) → ((bytes : List ℕ) → HasNoUsage (next bytes)) → HasNoUsage (input_protocol name next)
+unfolding HasNoUsage
+no_usage_input None next own = own _
+no_usage_input (Some name) next own = own
+
+no_usage_machine : (files : Files) (limits : Limits) (code user_data : List ℕ) (asks : Bool) → HasNoUsage (machine_protocol files limits code user_data asks)
+unfolding HasNoUsage
+no_usage_machine files limits code user_data asks =
+    no_usage_requests files.interrupts _ (λ requests. no_usage_input files.input _ (λ bytes. no_usage_program (program_of shipped code user_data (given asks bytes)) code requests limits))
+
+no_usage_refused : (refusal : Option ImageError) (next : Protocol) → HasNoUsage next → HasNoUsage (unless_refused refusal next)
+unfolding is_usage HasNoUsage
+no_usage_refused (Some error) next own = refl
+no_usage_refused None next own = own
+
+no_usage_migrated : (target bytes : List ℕ) (refusal : Option ImageError) → is_usage (migrated target bytes refusal).status ≡ false
+unfolding is_usage
+no_usage_migrated target bytes (Some error) = refl
+no_usage_migrated target bytes None = refl
+
+no_usage : (asked : Command) → HasNoUsage (protocol_of (Some asked))
+unfolding is_usage HasNoUsage
+no_usage (Run source) = λ text. no_usage_plain (plain_reading text)
+no_usage (Gen seed count) = refl
+no_usage (Exec image files limits) = λ bytes. no_usage_refused (file_refusal bytes) _ (no_usage_machine files limits (file_in bytes).code (file_in bytes).user_data (file_in bytes).input)
+no_usage (Migrate image target) = λ bytes. no_usage_migrated target bytes (file_refusal bytes)
+
+no_usage_given : (shelf : Told) (p : Protocol) (before after : Counts) (answer : Answer) → HasNoUsage p → Performed shelf p before after answer → is_usage answer.status ≡ false
+unfolding is_usage HasNoUsage
+no_usage_given shelf (Answers answer) before after given_answer own (same, is) = ap (λ a. is_usage a.status) is ∙ own
+no_usage_given shelf (Reads kind name next) before after answer own (between, read, inl (same, inl (is, why))) = ap (λ a. is_usage a.status) is
+no_usage_given shelf (Reads kind name next) before after answer own (between, read, inl (same, inr (is, why))) = ap (λ a. is_usage a.status) is
+no_usage_given shelf (Reads kind name next) before after answer own (between, read, inr (bytes, found, rest)) = no_usage_given shelf (next bytes) between after answer (own bytes) rest
+
+-- an answer that is Usage is that of words that ask for nothing
+pub usage_only : (shelf : Told) (asked : Option Command) (before after : Counts) (answer : Answer) → Performed shelf (protocol_of asked) before after answer → answer.status ≡ Usage → asked ≡ None
+unfolding is_usage
+usage_only shelf None before after answer performed is = refl
+usage_only shelf (Some asked) before after answer performed is =
+    let bad : false ≡ true = sym (no_usage_given shelf (protocol_of (Some asked)) before after answer (no_usage asked) performed) ∙ ap is_usage is in absurd (cc)
+
+pub asks_nothing : (shelf : Told) (asked : Option Command) (before after : Counts) (answer : Answer) → asked ≡ None → Performed shelf (protocol_of asked) before after answer → answer ≡ usage
+asks_nothing shelf asked before after answer nothing performed =
+    (subst (λ (a : Option Command). Performed shelf (protocol_of a) before after answer) nothing performed).1

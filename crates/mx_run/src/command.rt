@@ -3,7 +3,7 @@ ghost use Rattle.std.specs.Prelude.{◌≡◌, ◌≢◌, ◌⊎◌, true, map, 
 ghost use Rattle.mx_io.specs.Counts.{Rose, with_more};
 ghost use Rattle.mx_answer.specs.declared.FileKind.{FileKind};
 ghost use Rattle.mx_answer.specs.Answer.{Answer, failed_answer};
-ghost use Rattle.mx_answer.specs.Protocol.{resolved, Faulted};
+ghost use Rattle.mx_answer.specs.Protocol.{resolved, Performed, Faulted};
 ghost use Rattle.mx_answer.specs.Delivery.{Delivered, PutsPrefix};
 ghost use Rattle.mx_asked.specs.Asked.{command_of};
 ghost use Rattle.mx_run.specs.Protocols.{protocol_of};
@@ -30,6 +30,19 @@ pub fn command<S: Shelf, W: Sink>(
     // Whatever the counts do, every other status than these three is that of the same answer.
     ensures sound { S.tells shelf.old ≡ true → result ≢ Status.ReadFault → result ≢ Status.WriteFault → result ≢ Status.Memory
         → Delivered (resolved (protocol_of (command_of (map string_bytes words.now))) (S.held shelf.old)) result (S.tells shelf.old) (W.written out.old) (W.written out.new) (S.held shelf.old) (S.held shelf.new) }
+
+    // Whatever the shelf tells, such a status is that of an answer which the words ask for, by files that
+    // were read.
+    ensures performed { result ≢ Status.ReadFault → result ≢ Status.WriteFault → result ≢ Status.Memory
+        → (answer : Answer) × Performed (record { tells = S.tells shelf.old; held = S.held shelf.old }) (protocol_of (command_of (map string_bytes words.now)))
+        (record { reads = S.reads shelf.old; taken = S.taken shelf.old; faults = S.read_faults shelf.old })
+        (record { reads = S.reads shelf.new; taken = S.taken shelf.new; faults = S.read_faults shelf.new }) answer
+        × (result ≡ answer.status) × (W.written out.new ≡ with_more (W.written out.old) answer.output) }
+
+    // Usage comes exactly where the words ask for nothing.
+    ensures usage { result ≡ Status.Usage → command_of (map string_bytes words.now) ≡ None }
+    ensures asks_nothing { command_of (map string_bytes words.now) ≡ None
+        → (result ≡ Status.Usage) ⊎ (result ≡ Status.WriteFault) ⊎ (result ≡ Status.Memory) }
 
     // A read fault is that of one of the files, after one read of each file up to it. Exactly its
     // line is put out.

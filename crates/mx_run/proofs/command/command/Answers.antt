@@ -1,13 +1,22 @@
-use Rattle.std.proofs.Common.{◌≡◌, ℕ, List, Bool, Option, map, string_bytes, sym, ap, ◌∙◌}
-use Rattle.mx_answer.specs.Protocol.{Protocol, Told, Counts}
+use Rattle.std.proofs.Common.{◌≡◌, ◌≢◌, ℕ, List, Bool, true, false, Option, map, string_bytes, sym, ap, ◌∙◌, subst, ⊎_elim, inl, inr}
+use Rattle.mx_answer.specs.declared.Status.{Status}
+use Rattle.mx_answer.specs.declared.Status.TheVariants.{Usage, WriteFault, Memory}
+use Rattle.mx_answer.specs.Protocol.{Protocol, Told, Counts, Performed}
 use Rattle.mx_answer.specs.Replies.{reply_answer}
 use Rattle.mx_answer.proofs.Protocols.{status_is}
 use Rattle.mx_asked.specs.Commands.{Command}
 use Rattle.mx_asked.specs.Asked.{command_of}
 use Rattle.mx_run.specs.Protocols.{protocol_of}
-use Rattle.mx_run.proofs.Own.{own_answers}
+use Rattle.mx_answer.proofs.Commands.{status_cases}
+use Rattle.mx_run.proofs.Own.{own_answers, usage_only, asks_nothing}
 use Rattle.mx_run.proofs.Ended.{ended}
 use Rattle.mx_run.proofs.command.command.Goals as goal
+
+usage_is_no_write_fault : (s : Status) → s ≡ Usage → s ≢ WriteFault
+usage_is_no_write_fault s is e = let bad : WriteFault ≡ Usage = sym e ∙ is in absurd (cc)
+
+usage_is_no_memory : (s : Status) → s ≡ Usage → s ≢ Memory
+usage_is_no_memory s is e = let bad : Memory ≡ Usage = sym e ∙ is in absurd (cc)
 
 pub finish-requires : goal.finish-requires
 finish-requires g c =
@@ -96,3 +105,36 @@ returns-clause-prefix g c =
     (own_answers asked) c.in-Ok.ensures.performed c.in-Ok.ensures.tells_stay c.in-Ok.ensures.held_stays c.in-Ok.ensures.writes_stay same
     c.finish.ensures.delivered c.finish.ensures.write_fault c.finish.ensures.prefix c.finish.ensures.memory c.finish.ensures.kept in
     whole.put_out
+
+pub returns-clause-performed : goal.returns-clause-performed
+returns-clause-performed g c = λ r w m.
+    let asked : Option Command = command_of (map string_bytes c.args.words.now) in
+    let told : Told = record { tells = g.S.Shelf.tells c.args.shelf.now; held = g.S.Shelf.held c.args.shelf.now } in
+    let before : Counts = record { reads = g.S.Shelf.reads c.args.shelf.now; taken = g.S.Shelf.taken c.args.shelf.now; faults = g.S.Shelf.read_faults c.args.shelf.now } in
+    let between : Counts = record { reads = g.S.Shelf.reads c.reply_to.new.shelf; taken = g.S.Shelf.taken c.reply_to.new.shelf; faults = g.S.Shelf.read_faults c.reply_to.new.shelf } in
+    let after : Counts = record { reads = g.S.Shelf.reads c.finish.new.shelf; taken = g.S.Shelf.taken c.finish.new.shelf; faults = g.S.Shelf.read_faults c.finish.new.shelf } in
+    let unread = c.finish.ensures.unread in
+    let same : after ≡ between = λ k. record { reads = unread.0 k; taken = unread.1 k; faults = unread.2 k } in
+    let delivered = c.finish.ensures.delivered w m in
+    (reply_answer c.in-Ok.reply, subst (λ (n : Counts). Performed told (protocol_of asked) before n (reply_answer c.in-Ok.reply)) (sym same) c.in-Ok.ensures.performed, delivered.status, delivered.output)
+
+pub returns-clause-usage : goal.returns-clause-usage
+returns-clause-usage g c = λ is.
+    let asked : Option Command = command_of (map string_bytes c.args.words.now) in
+    let told : Told = record { tells = g.S.Shelf.tells c.args.shelf.now; held = g.S.Shelf.held c.args.shelf.now } in
+    let before : Counts = record { reads = g.S.Shelf.reads c.args.shelf.now; taken = g.S.Shelf.taken c.args.shelf.now; faults = g.S.Shelf.read_faults c.args.shelf.now } in
+    let between : Counts = record { reads = g.S.Shelf.reads c.reply_to.new.shelf; taken = g.S.Shelf.taken c.reply_to.new.shelf; faults = g.S.Shelf.read_faults c.reply_to.new.shelf } in
+    let delivered = c.finish.ensures.delivered (usage_is_no_write_fault c.finish.result is) (usage_is_no_memory c.finish.result is) in
+    usage_only told asked before between (reply_answer c.in-Ok.reply) c.in-Ok.ensures.performed (sym delivered.status ∙ is)
+
+pub returns-clause-asks_nothing : goal.returns-clause-asks_nothing
+returns-clause-asks_nothing g c = λ nothing.
+    let asked : Option Command = command_of (map string_bytes c.args.words.now) in
+    let told : Told = record { tells = g.S.Shelf.tells c.args.shelf.now; held = g.S.Shelf.held c.args.shelf.now } in
+    let before : Counts = record { reads = g.S.Shelf.reads c.args.shelf.now; taken = g.S.Shelf.taken c.args.shelf.now; faults = g.S.Shelf.read_faults c.args.shelf.now } in
+    let between : Counts = record { reads = g.S.Shelf.reads c.reply_to.new.shelf; taken = g.S.Shelf.taken c.reply_to.new.shelf; faults = g.S.Shelf.read_faults c.reply_to.new.shelf } in
+    let answer = asks_nothing told asked before between (reply_answer c.in-Ok.reply) nothing c.in-Ok.ensures.performed in
+    ⊎_elim
+    (λ fault. inr fault)
+    (λ other. inl ((c.finish.ensures.delivered other.0 other.1).status ∙ ap (λ a. a.status) answer))
+    (status_cases c.finish.result)
