@@ -5,7 +5,7 @@ use Rattle.mx_words.specs.Reading.{asked}
 use Rattle.mx_report.specs.declared.Dump.{Dump}
 use Rattle.mx_simulate.specs.declared.Limits.{Limits}
 use Rattle.mx_asked.specs.Numbers.{number, number_or, optional}
-use Rattle.mx_asked.specs.Commands.{Command, Run, Gen, Exec, Migrate}
+use Rattle.mx_asked.specs.Commands.{Command, Run, Meaning, Gen, Exec, Migrate}
 
 -- the options of a run of an image
 abbrev pub run_options : List (List ℕ)
@@ -34,6 +34,13 @@ abbrev pub run_of : Words → Option Command
 run_of (source ∷ [], []) = Some (Run source)
 run_of _ = None
 
+abbrev pub meaning_options : List (List ℕ)
+meaning_options = codes "steps" ∷ codes "input" ∷ []
+
+abbrev pub meaning_of : Words → Option Command
+meaning_of (source ∷ [], steps ∷ input ∷ []) = option_map (λ n. Meaning source n input) (number_or 1000000 0 100000064 steps)
+meaning_of _ = None
+
 abbrev pub gen_of : Words → Option Command
 gen_of (seed ∷ count ∷ [], []) = option_and_then (λ s. option_map (Gen s) (number 0 4000 count)) (number 0 4294967295 seed)
 gen_of _ = None
@@ -52,6 +59,7 @@ abbrev pub command_of : List (List ℕ) → Option Command
 command_of [] = None
 command_of (first ∷ words) =
     if bytes_eq first (codes "run") then option_and_then run_of (asked [] 1 words)
+    else (if bytes_eq first (codes "meaning") then option_and_then meaning_of (asked meaning_options 1 words)
     else (if bytes_eq first (codes "gen") then option_and_then gen_of (asked [] 2 words)
     else (if bytes_eq first (codes "exec") then option_and_then exec_of (asked run_options 1 words)
-    else (if bytes_eq first (codes "migrate") then option_and_then migrate_of (asked [] 2 words) else None)))
+    else (if bytes_eq first (codes "migrate") then option_and_then migrate_of (asked [] 2 words) else None))))

@@ -6,6 +6,8 @@ use Rattle.mx_simulate.specs.Machines.{Files}
 pub data Command : Type 0 where
   -- runs a source
   Run : (source : List ℕ) → Command
+  -- tells what a source means after some steps
+  Meaning : (source : List ℕ) → (steps : ℕ) → (input : Option (List ℕ)) → Command
   -- prints a generated source
   Gen : (seed : ℕ) → (count : ℕ) → Command
   -- runs an image file

@@ -6,6 +6,7 @@ use Rattle.mx_asked.specs.Commands as asked
 -- what contracts see of a command
 abbrev pub seen_command : Command → asked.Command
 seen_command (given.Run source) = asked.Run source.now
+seen_command (given.Meaning source steps input) = asked.Meaning source.now steps (option_map (λ s. s.now) input)
 seen_command (given.Gen seed count) = asked.Gen seed count
 seen_command (given.Exec image files limits) =
     asked.Exec image.now (record { interrupts = option_map (λ s. s.now) files.interrupts; input = option_map (λ s. s.now) files.input }) limits

@@ -2,7 +2,7 @@
 ghost use Rattle.std.specs.Prelude.{◌≡◌, ◌≤◌, IfOk, IfSome, map, option_map, string_bytes, Some, None, [], option_and_then};
 ghost use Rattle.mx_words.specs.Reading.{asked};
 ghost use Rattle.mx_words.specs.Read.{seen};
-ghost use Rattle.mx_asked.specs.Asked.{run_options, gen_of, dump_of, limits_of, run_of, exec_of, migrate_of, command_of};
+ghost use Rattle.mx_asked.specs.Asked.{run_options, meaning_options, meaning_of, gen_of, dump_of, limits_of, run_of, exec_of, migrate_of, command_of};
 ghost use Rattle.mx_asked.specs.Seen.{seen_command, IsAllowed};
 
 use crate::numbers::{number, number_or, optional};
@@ -17,6 +17,11 @@ use std::alloc::Global;
 pub enum Command<'a> {
     Run {
         source: &'a str,
+    },
+    Meaning {
+        source: &'a str,
+        steps: u32,
+        input: Option<&'a str>,
     },
     Gen {
         seed: u32,
@@ -63,6 +68,8 @@ fn limits_of(
     })
 }
 
+const MEANING_OPTIONS: [&str; 2] = ["steps", "input"];
+
 const RUN_OPTIONS: [&str; 6] = ["budget", "trace", "dump", "count", "interrupts", "input"];
 
 // What was read of `run`.
@@ -72,6 +79,24 @@ fn run_read<'a>(read: &Read<'a>) -> Option<Command<'a>>
 {
     match (read.names.as_slice(), read.values.as_slice()) {
         ([source], []) => Some(Command::Run { source: *source }),
+        _ => None,
+    }
+}
+
+// What was read of `meaning`.
+fn meaning_read<'a>(read: &Read<'a>) -> Option<Command<'a>>
+    ensures command { option_map seen_command result ≡ meaning_of (seen read.entry.now) }
+    ensures allowed { IfSome result IsAllowed }
+{
+    match (read.names.as_slice(), read.values.as_slice()) {
+        ([source], [steps, input]) => {
+            let steps = number_or(*steps, 1_000_000, 0, 100_000_064)?;
+            Some(Command::Meaning {
+                source: *source,
+                steps,
+                input: *input,
+            })
+        }
         _ => None,
     }
 }
@@ -142,6 +167,21 @@ fn run_words<'a>(alloc: Global, words: &'a [String]) -> Result<Option<Command<'a
     }
 }
 
+// The command `meaning`.
+fn meaning_words<'a>(alloc: Global, words: &'a [String]) -> Result<Option<Command<'a>>, Memory>
+    ensures command { IfOk result (λ r. option_map seen_command r ≡ option_and_then meaning_of (asked meaning_options 1 (map string_bytes words.entry.now))) }
+    ensures allowed { IfOk result (λ r. IfSome r IsAllowed) }
+{
+    let shape = Shape {
+        options: &MEANING_OPTIONS,
+        names: 1,
+    };
+    match read_words(alloc, &shape, words)? {
+        Some(read) => Ok(meaning_read(&read)),
+        None => Ok(None),
+    }
+}
+
 // The command `gen`.
 fn gen_words<'a>(alloc: Global, words: &'a [String]) -> Result<Option<Command<'a>>, Memory>
     ensures command { IfOk result (λ r. option_map seen_command r ≡ option_and_then gen_of (asked [] 2 (map string_bytes words.entry.now))) }
@@ -199,6 +239,7 @@ pub fn read_command<'a>(alloc: Global, words: &'a [String]) -> Result<Option<Com
     };
     match first.as_str() {
         "run" => run_words(alloc, rest),
+        "meaning" => meaning_words(alloc, rest),
         "gen" => gen_words(alloc, rest),
         "exec" => exec_words(alloc, rest),
         "migrate" => migrate_words(alloc, rest),

@@ -12,11 +12,19 @@ use Rattle.mx_answer.specs.declared.Status.{Status}
 use Rattle.mx_answer.specs.declared.Status.TheVariants.{Halted, OutOfBudget, Usage}
 use Rattle.mx_answer.specs.Answer.{Answer, prints, usage, is_own}
 use Rattle.mx_answer.specs.Protocol.{Protocol, Answers, Reads, Told, Counts, IsFault, Performed, IsOwnAnswer, HasOwnAnswers}
+use Rattle.mx_asm.specs.declared.Fault.{Fault}
+use Rattle.mx_asm.specs.Texts.{source_of, text_fault}
+use Rattle.mx_isa.specs.declared.Place.{Place}
+use Rattle.mx_source.specs.SourceValue.{SourceValue}
+use Rattle.mx_source.specs.Meaning.{Mark}
+use Rattle.mx_source.specs.Meaning as meant
+use Rattle.mx_meaning.specs.Boards.{board}
+use Rattle.mx_meaning.specs.Told.{status_of, meaning_answer}
 use Rattle.mx_simulate.specs.declared.Limits.{Limits}
 use Rattle.mx_simulate.specs.Simulated.{program_answer}
 use Rattle.mx_simulate.specs.Machines.{Files, given, by_requests, requests_protocol, input_protocol, machine_protocol}
-use Rattle.mx_asked.specs.Commands.{Command, Run, Gen, Exec, Migrate}
-use Rattle.mx_run.specs.Protocols.{plain_answer, unless_refused, migrated, protocol_of}
+use Rattle.mx_asked.specs.Commands.{Command, Run, Meaning, Gen, Exec, Migrate}
+use Rattle.mx_run.specs.Protocols.{plain_answer, unless_faulty, unless_refused, migrated, protocol_of}
 
 own_print : (status : Status) (output : List ℕ) → is_own status ≡ true → IsOwnAnswer (prints status output)
 own_print status output own = record { status = own; done = λ h. absurd (cc) }
@@ -49,6 +57,19 @@ own_machine : (files : Files) (limits : Limits) (code user_data : List ℕ) (ask
 own_machine files limits code user_data asks =
     own_requests files.interrupts _ (λ requests. own_input files.input _ (λ bytes. own_program (program_of shipped code user_data (given asks bytes)) code requests limits))
 
+own_mark : (m : Mark) → is_own (status_of m) ≡ true
+own_mark meant.Going = refl
+own_mark meant.Halted = refl
+own_mark (meant.Stuck why) = refl
+
+own_meaning : (source : SourceValue) (place : Place) (input : List ℕ) (n : ℕ) → IsOwnAnswer (meaning_answer source place input n)
+unfolding meaning_answer
+own_meaning source place input n = own_print _ _ (own_mark _)
+
+own_faulty : (found : Option (ℕ × Fault)) (next : Protocol) → HasOwnAnswers next → HasOwnAnswers (unless_faulty found next)
+own_faulty (Some found) next own = own_print _ _ refl
+own_faulty None next own = own
+
 own_refused : (refusal : Option ImageError) (next : Protocol) → HasOwnAnswers next → HasOwnAnswers (unless_refused refusal next)
 own_refused (Some error) next own = own_print _ _ refl
 own_refused None next own = own
@@ -60,6 +81,7 @@ own_migrated target bytes None = record { status = refl; done = λ h. refl }
 pub own_answers : (asked : Option Command) → HasOwnAnswers (protocol_of asked)
 own_answers None = own_print _ _ refl
 own_answers (Some (Run source)) = λ text. own_plain (plain_reading text)
+own_answers (Some (Meaning source steps input)) = λ text. own_faulty (text_fault 256 65536 text) _ (own_input input _ (λ bytes. own_meaning (source_of 256 text) board bytes steps))
 own_answers (Some (Gen seed count)) = own_print _ _ refl
 own_answers (Some (Exec image files limits)) = λ bytes. own_refused (file_refusal bytes) _ (own_machine files limits (file_in bytes).code (file_in bytes).user_data (file_in bytes).input)
 own_answers (Some (Migrate image target)) = λ bytes. own_migrated target bytes (file_refusal bytes)
@@ -107,6 +129,21 @@ unfolding HasNoUsage
 no_usage_machine files limits code user_data asks =
     no_usage_requests files.interrupts _ (λ requests. no_usage_input files.input _ (λ bytes. no_usage_program (program_of shipped code user_data (given asks bytes)) code requests limits))
 
+no_usage_mark : (m : Mark) → is_usage (status_of m) ≡ false
+unfolding is_usage
+no_usage_mark meant.Going = refl
+no_usage_mark meant.Halted = refl
+no_usage_mark (meant.Stuck why) = refl
+
+no_usage_meaning : (source : SourceValue) (place : Place) (input : List ℕ) (n : ℕ) → is_usage (meaning_answer source place input n).status ≡ false
+unfolding meaning_answer
+no_usage_meaning source place input n = no_usage_mark _
+
+no_usage_faulty : (found : Option (ℕ × Fault)) (next : Protocol) → HasNoUsage next → HasNoUsage (unless_faulty found next)
+unfolding is_usage HasNoUsage
+no_usage_faulty (Some found) next own = refl
+no_usage_faulty None next own = own
+
 no_usage_refused : (refusal : Option ImageError) (next : Protocol) → HasNoUsage next → HasNoUsage (unless_refused refusal next)
 unfolding is_usage HasNoUsage
 no_usage_refused (Some error) next own = refl
@@ -120,6 +157,7 @@ no_usage_migrated target bytes None = refl
 no_usage : (asked : Command) → HasNoUsage (protocol_of (Some asked))
 unfolding is_usage HasNoUsage
 no_usage (Run source) = λ text. no_usage_plain (plain_reading text)
+no_usage (Meaning source steps input) = λ text. no_usage_faulty (text_fault 256 65536 text) _ (no_usage_input input _ (λ bytes. no_usage_meaning (source_of 256 text) board bytes steps))
 no_usage (Gen seed count) = refl
 no_usage (Exec image files limits) = λ bytes. no_usage_refused (file_refusal bytes) _ (no_usage_machine files limits (file_in bytes).code (file_in bytes).user_data (file_in bytes).input)
 no_usage (Migrate image target) = λ bytes. no_usage_migrated target bytes (file_refusal bytes)

@@ -4,6 +4,8 @@ ghost use Rattle.std.specs.Fmt.{decimal};
 ghost use Rattle.mx_plain.specs.Plain.{plain_reading};
 ghost use Rattle.mx_source.specs.Printed.{printed};
 ghost use Rattle.mx_gen.specs.Generated.{generated};
+ghost use Rattle.mx_asm.specs.declared.Fault.{Fault as SourceFault};
+ghost use Rattle.mx_asm.specs.Texts.{source_of, text_fault};
 ghost use Rattle.mx_image.specs.Contents.{contents_of};
 ghost use Rattle.mx_image.specs.Files.{file_refusal, file_in, file_bytes};
 ghost use Rattle.mx_answer.specs.Files.{limit_of};
@@ -12,17 +14,20 @@ ghost use Rattle.mx_answer.specs.Protocol.{Protocol, Answers, Reads, Counts, Per
 ghost use Rattle.mx_answer.specs.Replies.{reply_answer};
 ghost use Rattle.mx_asked.specs.Seen.{seen_command, IsAllowed};
 ghost use Rattle.mx_asked.specs.Asked.{command_of};
-ghost use Rattle.mx_run.specs.Protocols.{plain_answer, image_text, image_line, unless_refused, exec_protocol, migrate_answer, protocol_of};
+ghost use Rattle.mx_run.specs.Protocols.{plain_answer, fault_text, fault_line, unless_faulty, meaning_protocol, image_text, image_line, unless_refused, exec_protocol, migrate_answer, protocol_of};
 
 use crate::machine::run_plain;
 use crate::report::report_of;
 use mx_answer::{FileKind, Reply, Status, line_reply, read_file};
 use mx_asked::{Command, read_command};
+use mx_asm::{AsmError, Fault, assemble};
 use mx_gen::generate;
 use mx_image::{ImageError, ImageFile, read_file as read_image_file, write_file};
 use mx_io::{Memory, Shelf};
+use mx_meaning::meaning_reply;
 use mx_plain::{PlainError, read_plain};
-use mx_simulate::{Limits, RunFiles, run_image};
+use mx_simulate::{Limits, RunFiles, read_input, run_image};
+use mx_source::Source as AssembledSource;
 use std::alloc::Global;
 
 // The bytes of a file, or the reply to its fault.
@@ -182,6 +187,106 @@ fn run_reply<S: Shelf>(alloc: Global, shelf: &mut S, source: &str) -> Result<Rep
     Ok(reply)
 }
 
+// The text of a fault.
+fn fault_text(fault: Fault) -> &'static str
+    ensures { result.now ≡ fault_text fault }
+{
+    match fault {
+        Fault::BadByte => "F1 BadByte",
+        Fault::BadToken => "F2 BadToken",
+        Fault::UnknownMnemonic => "F3 UnknownMnemonic",
+        Fault::BadOperands => "F4 BadOperands",
+        Fault::BadRegister => "F5 BadRegister",
+        Fault::NumberOutOfRange => "F6 NumberOutOfRange",
+        Fault::DuplicateLabel => "F7 DuplicateLabel",
+        Fault::UndefinedLabel => "F8 UndefinedLabel",
+        Fault::WrongLabelKind => "F9 WrongLabelKind",
+        Fault::SystemInstruction => "F10 SystemInstruction",
+        Fault::BadDirective => "F11 BadDirective",
+        Fault::TooManyInstructions => "F12 TooManyInstructions",
+        Fault::DataFull => "F13 DataFull",
+        Fault::LineTooLong => "F14 LineTooLong",
+    }
+}
+
+// The reply to a faulty source.
+fn fault_reply(alloc: Global, line: u32, fault: Fault) -> Result<Reply, Memory>
+    ensures { IfOk result (λ r. reply_answer r ≡ prints Status.Refused (fault_line line fault)) }
+{
+    let fault = fault_text(fault);
+    let Ok(text) = format!(in alloc; "line {line}: {fault}") else {
+        return Err(Memory);
+    };
+    let reply = line_reply(alloc, Status::Refused, text.as_str())?;
+    Ok(reply)
+}
+
+// The source of a text, or the reply to its first fault.
+fn assembled(alloc: Global, text: &[u8]) -> Result<Result<AssembledSource, Reply>, Memory>
+    requires { length text.now ≤ 4194304 }
+    ensures source { IfOk result (λ r. IfOk r (λ source. (text_fault 256 65536 text.now ≡ None) × (source ≡ source_of 256 text.now))) }
+    ensures refused { IfOk result (λ r. IfErr r (λ reply. (line : ℕ) × (fault : SourceFault) × (text_fault 256 65536 text.now ≡ Some (line, fault)) × (reply_answer reply ≡ prints Status.Refused (fault_line line fault)))) }
+{
+    match assemble(alloc, text) {
+        Ok(source) => Ok(Ok(source)),
+        Err(AsmError::Refused { line, fault }) => Ok(Err(fault_reply(alloc, line, fault)?)),
+        Err(AsmError::Memory) => Err(Memory),
+    }
+}
+
+// The reply of `meaning` to the text of its source.
+fn meaning_text<S: Shelf>(
+    alloc: Global,
+    shelf: &mut S,
+    text: &[u8],
+    steps: u32,
+    input: Option<&str>,
+) -> Result<Reply, Memory>
+    requires { length text.now ≤ 4194304 }
+    ensures performed { IfOk result (λ r. Performed (record { tells = S.tells shelf.old; held = S.held shelf.old })
+        (meaning_protocol steps (option_map (λ s. s.now) input.entry) text.now)
+        (record { reads = S.reads shelf.old; taken = S.taken shelf.old; faults = S.read_faults shelf.old })
+        (record { reads = S.reads shelf.new; taken = S.taken shelf.new; faults = S.read_faults shelf.new }) (reply_answer r)) }
+    ensures tells_stay { S.tells shelf.new ≡ S.tells shelf.old }
+    ensures held_stays { (n : List ℕ) → S.held shelf.new n ≡ S.held shelf.old n }
+    ensures writes_stay { S.write_faults shelf.new ≡ S.write_faults shelf.old }
+{
+    let source = match assembled(alloc, text)? {
+        Ok(source) => source,
+        Err(reply) => return Ok(reply),
+    };
+    let bytes = match read_input(alloc, shelf, input)? {
+        Ok(bytes) => bytes,
+        Err(reply) => return Ok(reply),
+    };
+    let reply = meaning_reply(alloc, &source, bytes.as_slice(), steps)?;
+    Ok(reply)
+}
+
+// The reply to `meaning SOURCE`.
+fn source_reply<S: Shelf>(
+    alloc: Global,
+    shelf: &mut S,
+    source: &str,
+    steps: u32,
+    input: Option<&str>,
+) -> Result<Reply, Memory>
+    ensures performed { IfOk result (λ r. Performed (record { tells = S.tells shelf.old; held = S.held shelf.old })
+        (Reads FileKind.Source source.now (meaning_protocol steps (option_map (λ s. s.now) input.entry)))
+        (record { reads = S.reads shelf.old; taken = S.taken shelf.old; faults = S.read_faults shelf.old })
+        (record { reads = S.reads shelf.new; taken = S.taken shelf.new; faults = S.read_faults shelf.new }) (reply_answer r)) }
+    ensures tells_stay { S.tells shelf.new ≡ S.tells shelf.old }
+    ensures held_stays { (n : List ℕ) → S.held shelf.new n ≡ S.held shelf.old n }
+    ensures writes_stay { S.write_faults shelf.new ≡ S.write_faults shelf.old }
+{
+    let text = match read_named(alloc, shelf, FileKind::Source, source)? {
+        Ok(text) => text,
+        Err(reply) => return Ok(reply),
+    };
+    let reply = meaning_text(alloc, shelf, text.as_slice(), steps, input)?;
+    Ok(reply)
+}
+
 // The reply to `exec IMAGE`.
 fn exec_reply<S: Shelf>(
     alloc: Global,
@@ -242,6 +347,11 @@ fn command_reply<S: Shelf>(alloc: Global, shelf: &mut S, asked: &Command) -> Res
 {
     match *asked {
         Command::Run { source } => run_reply(alloc, shelf, source),
+        Command::Meaning {
+            source,
+            steps,
+            input,
+        } => source_reply(alloc, shelf, source, steps, input),
         Command::Gen { seed, count } => {
             let reply = gen_reply(alloc, seed, count)?;
             Ok(reply)

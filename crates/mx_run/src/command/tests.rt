@@ -292,3 +292,79 @@ fn refuses_an_image(rt: HostRuntime) -> Result<(), Fail> {
     }
     Ok(())
 }
+
+// A load's word is there for the next statement, and a loop sends three bytes.
+const LOOP: &[u8] = b"addi r0,#51,r1
+addi r0,#48,r2
+L: st 255[r0],r1
+addi r1,#-1,r1
+bne r1,r2,L
+halt
+";
+
+const LOOP_MEANING: &[u8] = b"halted
+steps 12
+console 3
+321
+registers
+r1 00000030
+r2 00000030
+";
+
+#[test]
+fn tells_a_meaning(rt: HostRuntime) -> Result<(), Fail> {
+    let alloc = rt.alloc();
+    let mut shelf = MemoryShelf::new(alloc);
+    shelf.add("loop", LOOP)?;
+    let mut out = MemorySink::new(alloc, 64, 1000)?;
+    let words = words_of(alloc, &["meaning", "loop"])?;
+    assert_eq!(rt;
+        command(alloc, words.as_slice(), &mut shelf, &mut out),
+        Status::Halted
+    );
+    assert!(rt; out.written().starts_with(LOOP_MEANING));
+    let cases: [(&[&str], &[u8], Status, &[u8]); 5] = [
+        (
+            &["meaning", "a"],
+            b"",
+            Status::Stuck,
+            b"stuck line 0 PastEnd\nsteps 0\nconsole 0\n\n",
+        ),
+        (
+            &["meaning", "a"],
+            b"call f,r31\nhalt\nf: addi r31,#1,r1\njr r31\n",
+            Status::Stuck,
+            b"stuck line 3 CodeOperand\nsteps 1\nconsole 0\n\n",
+        ),
+        (
+            &["meaning", "a"],
+            b"nop\nb away\nnop\nnop\nadd r1,r2,r32\n",
+            Status::Refused,
+            b"line 2: F8 UndefinedLabel\n",
+        ),
+        (
+            &["meaning", "a", "--steps", "2"],
+            b"L: b L\n",
+            Status::OutOfBudget,
+            b"running\nsteps 2\nconsole 0\n\n",
+        ),
+        (
+            &["meaning", "a", "--input", "b"],
+            b"halt",
+            Status::ReadFault,
+            b"read fault: input failed\n",
+        ),
+    ];
+    for (texts, text, status, want) in cases {
+        let mut shelf = MemoryShelf::new(alloc);
+        shelf.add("a", text)?;
+        let mut out = MemorySink::new(alloc, 64, 1000)?;
+        let words = words_of(alloc, texts)?;
+        assert_eq!(rt;
+            command(alloc, words.as_slice(), &mut shelf, &mut out),
+            status
+        );
+        assert_eq!(rt; out.written(), want);
+    }
+    Ok(())
+}

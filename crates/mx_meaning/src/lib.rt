@@ -1,0 +1,10 @@
+//! What is told of a source's meaning.
+#![tactic(auto)]
+
+mod board;
+mod steps;
+mod told;
+
+pub use board::BOARD;
+pub use steps::{Ending, Progress, run_steps};
+pub use told::meaning_reply;
