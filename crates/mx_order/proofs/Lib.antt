@@ -1,0 +1,3 @@
+pub mod Reorder
+pub mod Swap
+pub mod Order
