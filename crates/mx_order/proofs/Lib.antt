@@ -1,3 +1,4 @@
 pub mod Reorder
 pub mod Swap
 pub mod Order
+pub mod Split

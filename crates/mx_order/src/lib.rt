@@ -3,4 +3,7 @@
 
 mod laws;
 
-pub use laws::{valid_order_keeps_effect, valid_order_stays_clean};
+pub use laws::{
+    terminator_decides_alike, valid_order_keeps_effect, valid_order_stays_clean,
+    valid_plan_has_parts,
+};
