@@ -9,7 +9,7 @@ use Rattle.mx_isa.specs.declared.inst.Inst.{Inst}
 use Rattle.mx_isa.specs.declared.inst.Inst.TheVariants.{Branch, Addi, Jspci, Halt}
 use Rattle.mx_isa.specs.declared.place.Place.{Place}
 use Rattle.mx_isa.specs.Fields.{InstFits}
-use Rattle.mx_isa.specs.Views.{reads, writes, access, is_load, is_transfer, is_halt}
+use Rattle.mx_isa.specs.Views.{reads, writes, access, dest, is_load, is_transfer, is_halt}
 use Rattle.mx_depend.specs.Independence.{OtherWord, Independent}
 use Rattle.mx_depend.specs.Graphs.{inst_at}
 use Rattle.mx_blocks.specs.declared.block.Block.{Block}
@@ -56,6 +56,12 @@ access_unplaced (Addi a dest imm) = refl
 access_unplaced (Jspci a dest imm) = refl
 access_unplaced _ = refl
 
+pub dest_unplaced : (i : Inst) → dest (unplaced i) ≡ dest i
+dest_unplaced (Branch a b condition squash by) = refl
+dest_unplaced (Addi a d imm) = refl
+dest_unplaced (Jspci a d imm) = refl
+dest_unplaced _ = refl
+
 pub load_unplaced : (i : Inst) → is_load (unplaced i) ≡ is_load i
 load_unplaced (Branch a b condition squash by) = refl
 load_unplaced (Addi a dest imm) = refl
@@ -79,6 +85,7 @@ pub record SameViews (i i' : Inst) : Type 0 where
   pub reads : reads i ≡ reads i'
   pub writes : writes i ≡ writes i'
   pub access : access i ≡ access i'
+  pub dest : dest i ≡ dest i'
   pub load : is_load i ≡ is_load i'
   pub transfer : is_transfer i ≡ is_transfer i'
   pub halt : is_halt i ≡ is_halt i'
@@ -88,6 +95,7 @@ same_views i i' e = record {
   reads = sym (reads_unplaced i) ∙ ap reads e ∙ reads_unplaced i';
   writes = sym (writes_unplaced i) ∙ ap writes e ∙ writes_unplaced i';
   access = sym (access_unplaced i) ∙ ap access e ∙ access_unplaced i';
+  dest = sym (dest_unplaced i) ∙ ap dest e ∙ dest_unplaced i';
   load = sym (load_unplaced i) ∙ ap is_load e ∙ load_unplaced i';
   transfer = sym (transfer_unplaced i) ∙ ap is_transfer e ∙ transfer_unplaced i';
   halt = sym (halt_unplaced i) ∙ ap is_halt e ∙ halt_unplaced i';

@@ -203,7 +203,7 @@ leads_swap true true a b d h = ⊎_elim (λ e. absurd (cc)) (λ e. absurd (cc)) 
 leads_swap true false a b d h = refl
 leads_swap false y a b d h = refl
 
-ran_same : (c c' : Core) (b b' : List ℕ) (x x' : Bool) (d d' : Decision) → c ≡ c' → b ≡ b' → x ≡ x' → d ≡ d'
+pub ran_same : (c c' : Core) (b b' : List ℕ) (x x' : Bool) (d d' : Decision) → c ≡ c' → b ≡ b' → x ≡ x' → d ≡ d'
     → (let s : Ran = record { core = c; bytes = b; clean = x; leads = d } in let t : Ran = record { core = c'; bytes = b'; clean = x'; leads = d' } in s ≡ t)
 ran_same c c' b b' x x' d d' e f g h = λ k. record { core = e k; bytes = f k; clean = g k; leads = h k }
 
