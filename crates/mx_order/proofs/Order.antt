@@ -1,10 +1,11 @@
 -- The items of a valid plan do what the block does in source order.
-use Rattle.std.proofs.Common.{◌≡◌, ℕ, suc, ◌+◌, ◌<◌, Bool, true, false, List, [], ◌∷◌, ◌++◌, length, map, take, drop, Option, refl, sym, ap, ◌∙◌, subst, arith, inl}
+use Rattle.std.proofs.Common.{◌≡◌, ℕ, ℤ, pos, suc, ◌+◌, ◌<◌, Bool, true, false, List, [], ◌∷◌, ◌++◌, length, map, take, drop, Option, refl, sym, ap, ◌∙◌, subst, arith, inl}
 use Rattle.std.proofs.Math.ListN.{get_or-map}
 use Rattle.std.proofs.lemmas.Bool.{and_parts, or_parts}
 use Rattle.std.proofs.lemmas.Bool.Decides.{nat_tests}
 use Rattle.std.proofs.lemmas.List.{append-nil, append_assoc, length-map, take-append-drop}
 use Rattle.std.proofs.lemmas.Option.{slice_get-get_or}
+use Rattle.mx_isa.specs.declared.inst.Cond.{Cond}
 use Rattle.mx_isa.specs.declared.inst.Inst.{Inst}
 use Rattle.mx_isa.specs.declared.inst.Inst.TheVariants.{Branch, Addi, Jspci, Halt}
 use Rattle.mx_isa.specs.declared.place.Place.{Place}
@@ -37,48 +38,20 @@ free_inversions Free (Op k ∷ items) h =
     (free_of Free k items (λ q j s l. h 0 (suc q) k j refl s (omega arith) l), free_inversions Free items (λ p q i j s t l m. h (suc p) (suc q) i j s t (omega arith) m))
 free_inversions Free (Nop ∷ items) h = free_inversions Free items (λ p q i j s t l m. h (suc p) (suc q) i j s t (omega arith) m)
 
--- the views do not see what may depend on where code stands
-pub reads_unplaced : (i : Inst) → reads (unplaced i) ≡ reads i
-reads_unplaced (Branch a b condition squash by) = refl
-reads_unplaced (Addi a dest imm) = refl
-reads_unplaced (Jspci a dest imm) = refl
-reads_unplaced _ = refl
+-- a view that sees neither displacements nor squash bits nor immediates
+record IsBlind {A : Type 0} (view : Inst → A) : Type 0 where
+  branch : (a b : ℕ) (condition : Cond) (squash : Bool) (by : ℤ) → view (Branch a b condition false (pos 0)) ≡ view (Branch a b condition squash by)
+  addi : (a d : ℕ) (imm : ℤ) → view (Addi a d (pos 0)) ≡ view (Addi a d imm)
+  jspci : (a d : ℕ) (imm : ℤ) → view (Jspci a d (pos 0)) ≡ view (Jspci a d imm)
 
-pub writes_unplaced : (i : Inst) → writes (unplaced i) ≡ writes i
-writes_unplaced (Branch a b condition squash by) = refl
-writes_unplaced (Addi a dest imm) = refl
-writes_unplaced (Jspci a dest imm) = refl
-writes_unplaced _ = refl
+view_unplaced : {A : Type 0} (view : Inst → A) → IsBlind view → (i : Inst) → view (unplaced i) ≡ view i
+view_unplaced view blind (Branch a b condition squash by) = blind.branch a b condition squash by
+view_unplaced view blind (Addi a d imm) = blind.addi a d imm
+view_unplaced view blind (Jspci a d imm) = blind.jspci a d imm
+view_unplaced view blind _ = refl
 
-pub access_unplaced : (i : Inst) → access (unplaced i) ≡ access i
-access_unplaced (Branch a b condition squash by) = refl
-access_unplaced (Addi a dest imm) = refl
-access_unplaced (Jspci a dest imm) = refl
-access_unplaced _ = refl
-
-pub dest_unplaced : (i : Inst) → dest (unplaced i) ≡ dest i
-dest_unplaced (Branch a b condition squash by) = refl
-dest_unplaced (Addi a d imm) = refl
-dest_unplaced (Jspci a d imm) = refl
-dest_unplaced _ = refl
-
-pub load_unplaced : (i : Inst) → is_load (unplaced i) ≡ is_load i
-load_unplaced (Branch a b condition squash by) = refl
-load_unplaced (Addi a dest imm) = refl
-load_unplaced (Jspci a dest imm) = refl
-load_unplaced _ = refl
-
-pub transfer_unplaced : (i : Inst) → is_transfer (unplaced i) ≡ is_transfer i
-transfer_unplaced (Branch a b condition squash by) = refl
-transfer_unplaced (Addi a dest imm) = refl
-transfer_unplaced (Jspci a dest imm) = refl
-transfer_unplaced _ = refl
-
-pub halt_unplaced : (i : Inst) → is_halt (unplaced i) ≡ is_halt i
-halt_unplaced (Branch a b condition squash by) = refl
-halt_unplaced (Addi a dest imm) = refl
-halt_unplaced (Jspci a dest imm) = refl
-halt_unplaced _ = refl
+same_view : {A : Type 0} (view : Inst → A) → IsBlind view → (i i' : Inst) → unplaced i ≡ unplaced i' → view i ≡ view i'
+same_view view blind i i' e = sym (view_unplaced view blind i) ∙ ap view e ∙ view_unplaced view blind i'
 
 -- two instructions with the same views
 pub record SameViews (i i' : Inst) : Type 0 where
@@ -92,13 +65,13 @@ pub record SameViews (i i' : Inst) : Type 0 where
 
 pub same_views : (i i' : Inst) → unplaced i ≡ unplaced i' → SameViews i i'
 same_views i i' e = record {
-  reads = sym (reads_unplaced i) ∙ ap reads e ∙ reads_unplaced i';
-  writes = sym (writes_unplaced i) ∙ ap writes e ∙ writes_unplaced i';
-  access = sym (access_unplaced i) ∙ ap access e ∙ access_unplaced i';
-  dest = sym (dest_unplaced i) ∙ ap dest e ∙ dest_unplaced i';
-  load = sym (load_unplaced i) ∙ ap is_load e ∙ load_unplaced i';
-  transfer = sym (transfer_unplaced i) ∙ ap is_transfer e ∙ transfer_unplaced i';
-  halt = sym (halt_unplaced i) ∙ ap is_halt e ∙ halt_unplaced i';
+  reads = same_view reads (record { branch = λ a b c s n. refl; addi = λ a d n. refl; jspci = λ a d n. refl }) i i' e;
+  writes = same_view writes (record { branch = λ a b c s n. refl; addi = λ a d n. refl; jspci = λ a d n. refl }) i i' e;
+  access = same_view access (record { branch = λ a b c s n. refl; addi = λ a d n. refl; jspci = λ a d n. refl }) i i' e;
+  dest = same_view dest (record { branch = λ a b c s n. refl; addi = λ a d n. refl; jspci = λ a d n. refl }) i i' e;
+  load = same_view is_load (record { branch = λ a b c s n. refl; addi = λ a d n. refl; jspci = λ a d n. refl }) i i' e;
+  transfer = same_view is_transfer (record { branch = λ a b c s n. refl; addi = λ a d n. refl; jspci = λ a d n. refl }) i i' e;
+  halt = same_view is_halt (record { branch = λ a b c s n. refl; addi = λ a d n. refl; jspci = λ a d n. refl }) i i' e;
 }
 
 -- independence is a matter of the views
