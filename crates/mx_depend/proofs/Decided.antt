@@ -39,7 +39,7 @@ all_below P (suc n) each = ⊎_elim
     (λ none. inr (λ h. none (λ k l. h k (omega arith))))
     (all_below P n each)
 
-bool_decided : (b c : Bool) → Decided (b ≡ c)
+pub bool_decided : (b c : Bool) → Decided (b ≡ c)
 bool_decided true true = inl refl
 bool_decided true false = inr true≢false
 bool_decided false true = inr false≢true

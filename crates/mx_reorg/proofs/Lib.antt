@@ -4,3 +4,5 @@ pub mod Spent
 pub mod Unique
 pub mod Lawful
 pub mod ValidPlans
+pub mod ExistsItems
+pub mod ExistsPlans

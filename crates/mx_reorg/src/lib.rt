@@ -3,6 +3,8 @@
 
 mod choosing;
 mod ending;
+mod laws;
 mod proposer;
 
+pub use laws::greedy_plan_exists;
 pub use proposer::ListProposer;
