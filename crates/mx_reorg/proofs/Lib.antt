@@ -6,3 +6,4 @@ pub mod Lawful
 pub mod ValidPlans
 pub mod ExistsItems
 pub mod ExistsPlans
+pub mod ExistsLayouts

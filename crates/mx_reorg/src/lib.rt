@@ -6,5 +6,5 @@ mod ending;
 mod laws;
 mod proposer;
 
-pub use laws::greedy_plan_exists;
+pub use laws::{greedy_plan_exists, greedy_plans_exist};
 pub use proposer::ListProposer;
