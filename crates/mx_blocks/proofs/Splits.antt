@@ -87,7 +87,7 @@ inst_in statements insts first end k e l m =
     ∙ slice_get-map inst_of (slice_range statements first end) k
     ∙ ap (option_map inst_of) (get_range statements first end k l m)
 
-count_in : (statements : List Statement) (insts : List Inst) (first end : ℕ) → insts ≡ map inst_of (slice_range statements first end) → first ≤ end → end ≤ length statements → length insts ≡ end - first
+pub count_in : (statements : List Statement) (insts : List Inst) (first end : ℕ) → insts ≡ map inst_of (slice_range statements first end) → first ≤ end → end ≤ length statements → length insts ≡ end - first
 count_in statements insts first end e l m = ap length e ∙ length-map (slice_range statements first end) inst_of ∙ range_length statements first end l m
 
 pub block_ends : (source : SourceValue) (first end : ℕ) (insts : List Inst) (s : Statement) → IsSource source → first < end → end ≤ length source.statements → insts ≡ map inst_of (slice_range source.statements first end) → slice_get source.statements (end - 1) ≡ Some s → ends_as (end_of s) insts ≡ true

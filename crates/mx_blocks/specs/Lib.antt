@@ -1,3 +1,4 @@
 pub mod Ends
 pub mod Items
 pub mod Leaders
+pub mod Splitting

@@ -3,7 +3,9 @@
 
 mod block;
 mod forms;
+mod laws;
 mod splitting;
 
 pub use block::{Block, End, Item, Plan};
+pub use laws::blocks_exist;
 pub use splitting::blocks;

@@ -74,7 +74,7 @@ no_candidate block before x best h none = record {
 pub op_same : (a b : ℕ) (item : Item) → item ≡ Op a → item ≡ Op b → a ≡ b
 op_same a b item e f = let g : Op a ≡ Op b = sym e ∙ f in cc
 
-op_not_nop : (a : ℕ) (item : Item) → item ≡ Op a → item ≡ Nop → ⊥
+pub op_not_nop : (a : ℕ) (item : Item) → item ≡ Op a → item ≡ Nop → ⊥
 op_not_nop a item e f = let g : Op a ≡ Nop = sym e ∙ f in absurd (cc)
 
 -- each instruction has a height

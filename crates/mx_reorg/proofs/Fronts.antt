@@ -12,7 +12,7 @@ use Rattle.mx_blocks.specs.declared.block.Item.TheVariants.{Op, Nop}
 use Rattle.mx_blocks.specs.Items.{StandsAt}
 use Rattle.mx_validate.specs.Padded.{insts_of, items_of, falls}
 use Rattle.mx_validate.specs.Validity.{end_count}
-use Rattle.mx_reorg.specs.Greedy.{Fills, AllStand, RestFits, HasSlots, MayEnd, Grows, IsFront, IsGreedy, terminator, loads}
+use Rattle.mx_reorg.specs.Greedy.{Fills, AllStand, RestFits, HasSlots, MayEnd, Grows, IsGreedy, terminator, loads}
 use Rattle.mx_reorg.proofs.Choices.{HasHeight, fills_low, rest_same}
 
 take_behind : (front rest : List Item) (p q : ℕ) → p ≡ length front + q → take p (front ++ rest) ≡ front ++ take q rest
@@ -92,14 +92,14 @@ slots_of_rest block before items second known h r =
     (subst (λ (l : List Item). AllStand block l) (sym h.is) s.0, s.1)
 
 -- a front and what follows it
-pub greedy_from : (block : Block) (plan : Plan) (front rest : List Item) → IsFront block front → items_of plan ≡ front ++ rest → plan.place ≡ length front → length rest ≡ end_count block.end → (falls block.end ≡ false → slice_get rest 0 ≡ Some (Op (terminator block))) → ((q : ℕ) → 1 ≤ q → q < length rest → Fills block (front ++ take q rest) (slice_index_or rest q Nop)) → IsGreedy block plan
-greedy_from block plan front rest f e place count t slots =
+pub greedy_from : (block : Block) (plan : Plan) (front rest : List Item) → Grows block front → MayEnd block.end block front → items_of plan ≡ front ++ rest → plan.place ≡ length front → length rest ≡ end_count block.end → (falls block.end ≡ false → slice_get rest 0 ≡ Some (Op (terminator block))) → ((q : ℕ) → 1 ≤ q → q < length rest → Fills block (front ++ take q rest) (slice_index_or rest q Nop)) → IsGreedy block plan
+greedy_from block plan front rest grows ends e place count t slots =
     let size = ap length e ∙ length-append front rest in
     record {
-      ends = subst (λ (l : List Item). MayEnd block.end block l) (sym (taken (length front) place ∙ take_before front rest (length front) (omega arith) ∙ take_all front)) f.ends;
-      least = λ p l m. f.grows.going p (omega arith) (subst (λ (l : List Item). MayEnd block.end block l) (taken_at p ∙ take_before front rest p (omega arith)) m);
+      ends = subst (λ (l : List Item). MayEnd block.end block l) (sym (taken (length front) place ∙ take_before front rest (length front) (omega arith) ∙ take_all front)) ends;
+      least = λ p l m. grows.going p (omega arith) (subst (λ (l : List Item). MayEnd block.end block l) (taken_at p ∙ take_before front rest p (omega arith)) m);
       filled = λ p l apart. ⊎_elim
-          (λ below. fills_moved block _ _ _ _ (sym (taken_at p ∙ take_before front rest p (omega arith))) (sym (item_at p ∙ item_before front rest p below)) (f.grows.filled p below))
+          (λ below. fills_moved block _ _ _ _ (sym (taken_at p ∙ take_before front rest p (omega arith))) (sym (item_at p ∙ item_before front rest p below)) (grows.filled p below))
           (λ above.
           let q : ℕ = p - length front in
           let at : p ≡ length front + q = omega arith in

@@ -4,3 +4,6 @@ pub mod Spent
 pub mod Unique
 pub mod Lawful
 pub mod ValidPlans
+pub mod ExistsItems
+pub mod ExistsPlans
+pub mod ExistsLayouts

@@ -3,6 +3,8 @@
 
 mod choosing;
 mod ending;
+mod laws;
 mod proposer;
 
+pub use laws::{greedy_plan_exists, greedy_plans_exist};
 pub use proposer::ListProposer;

@@ -15,7 +15,7 @@ push_slots-second-requires c = record {
 pub returns-in-Halts : goal.returns-in-Halts
 returns-in-Halts c =
     let block = c.args.block.now in
-    greedy_from block _ c.args.front.items (Op (terminator block) ∷ []) c.requires.front c.push_terminator.ensures.items c.len-place.ensures.value
+    greedy_from block _ c.args.front.items (Op (terminator block) ∷ []) c.requires.front.grows c.requires.front.ends c.push_terminator.ensures.items c.len-place.ensures.value
     (ap end_count (sym c.in-Halts.is)) (λ f. refl) (λ q l m. absurd (omega arith))
 
 pub returns-in_default : goal.returns-in_default
@@ -25,7 +25,7 @@ returns-in_default c =
     let s = c.push_slots-second.ensures.slots in
     let second = c.push_slots-second.result in
     let t = terminator block in
-    greedy_from block _ front (Op t ∷ s.first ∷ second ∷ []) c.requires.front
+    greedy_from block _ front (Op t ∷ s.first ∷ second ∷ []) c.requires.front.grows c.requires.front.ends
     (s.is ∙ three_items front (Op t) s.first second)
     c.len-place.ensures.value
     (sym (three_behind block.end c.in_default.not-Falls c.in_default.not-Halts))
