@@ -1,3 +1,4 @@
+pub mod Going
 pub mod OneTurn
 mod Moves
 pub mod Steps

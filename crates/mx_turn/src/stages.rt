@@ -75,8 +75,8 @@ fn shown(fetched: &Fetched) -> Stage
     }
 }
 
-// The target of a transfer that goes, else the address after the last one.
-fn next_of(target: Option<u32>, last: u32) -> u32
+/// The target of a transfer that goes, else the address after the last one.
+pub fn next_of(target: Option<u32>, last: u32) -> u32
     requires target { IfSome target (λ a. a < 2 ^ 31) }
     requires last { last < 2 ^ 31 }
     ensures value { result ≡ next_of target last }

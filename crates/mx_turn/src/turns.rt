@@ -1,12 +1,13 @@
 //! The machine that commits each word as a whole.
-ghost use Rattle.std.specs.Prelude.{◌≡◌, ◌<◌, ◌≤◌, ◌+◌, ◌^◌, ℕ, Bool, not, ◌||◌, length, slice_index, IfOk, Some, List, if◌then◌else◌, [], ◌∷◌};
+ghost use Rattle.std.specs.Prelude.{◌≡◌, ◌<◌, ◌≤◌, ◌+◌, ◌^◌, ℕ, Bool, not, ◌||◌, length, slice_index, IfOk, Some, None, List, if◌then◌else◌, [], ◌∷◌};
 ghost use Rattle.std.specs.Option.{option_copied};
 ghost use Rattle.mx_isa.specs.Words.{Words};
 ghost use Rattle.mx_board.specs.Contents.{bytes_in};
 ghost use Rattle.mx_icache.specs.Residency.{resident};
 ghost use Rattle.mx_turn.specs.declared.latches.Latches.{Latches};
 ghost use Rattle.mx_turn.specs.Decoded.{ShiftFits};
-ghost use Rattle.mx_turn.specs.Stages.{live};
+ghost use Rattle.mx_code.specs.Delay.{next_of};
+ghost use Rattle.mx_turn.specs.Stages.{fetch_of, live};
 ghost use Rattle.mx_turn.specs.Handler.{shipped};
 ghost use Rattle.mx_turn.specs.Cycle.{shifted, committed, commit_byte, showing, is_taken, entered, decision, decided, ended, takes, squashes, waited, acted, acted_answer};
 ghost use Rattle.mx_turn.specs.Program.{Program, program_of};
@@ -17,7 +18,9 @@ use crate::decoded::{Decoded, IDLE};
 use crate::mem_stage::commit;
 use crate::registers::{Slot, no_slot, read, sees};
 use crate::shown::{number_of, sources};
-use crate::stages::{address_of, fetch_of, led, popped, restored, saved, squash, stage_of};
+use crate::stages::{
+    address_of, fetch_of, led, next_of, popped, restored, saved, squash, stage_of,
+};
 use crate::{Counts, Cycled, Latches, Machine};
 use mx_board::Board;
 use mx_code::Image;
@@ -180,6 +183,39 @@ impl<C: FetchCache> Turns<C> {
         self.looked.chain = self.chain;
     }
 
+    // The next fetch is that of the address behind the last one.
+    fn go_on(&mut self)
+        ensures state { Does (λ m. record m { next = fetch_of (next_of None m.next.address) }) self.old self.new }
+        ensures shown { shown_of self.new ≡ shown_of self.old }
+        ensures program { KeepsProgram self.old self.new }
+        ensures cache { self.new.cache ≡ self.old.cache }
+        ensures missed { self.new.missed ≡ self.old.missed }
+        ensures counts { self.new.counts ≡ self.old.counts }
+    {
+        self.next = fetch_of(next_of(None, self.next.address));
+    }
+
+    // A transfer decides. Answers whether it cancels the two words behind it.
+    fn transfer(&mut self, inst: &Inst) -> bool
+        requires { inst.now ≡ live (code_of_turns self.old) self.old.alu }
+        ensures state { Does (decided (code_of_turns self.old)) self.old self.new }
+        ensures cancels { Tells (λ m. (decision (code_of_turns self.old) m).cancels) self.old result }
+        ensures shown { shown_of self.new ≡ shown_of self.old }
+        ensures program { KeepsProgram self.old self.new }
+        ensures cache { self.new.cache ≡ self.old.cache }
+        ensures missed { self.new.missed ≡ self.old.missed }
+        ensures counts { self.new.counts ≡ self.old.counts }
+    {
+        let decided = decide(inst, address_of(self.alu), &self.slot, &self.file);
+        let back = decided.pops && !self.psw.current.user;
+        self.next = led(back, &self.chain, decided.target, self.next);
+        self.fetch = squash(decided.cancels, self.fetch);
+        self.rf = squash(decided.cancels, self.rf);
+        self.chain = popped(back, self.chain);
+        self.psw = restored(decided.restores && back, self.psw);
+        decided.cancels
+    }
+
     // The word in ALU decides. Answers whether it cancels the two words behind it.
     fn decide(&mut self) -> bool
         ensures state { Does (decided (code_of_turns self.old)) self.old self.new }
@@ -191,14 +227,12 @@ impl<C: FetchCache> Turns<C> {
         ensures counts { self.new.counts ≡ self.old.counts }
     {
         let inst = self.live(self.alu);
-        let decided = decide(&inst, address_of(self.alu), &self.slot, &self.file);
-        let back = decided.pops && !self.psw.current.user;
-        self.next = led(back, &self.chain, decided.target, self.next);
-        self.fetch = squash(decided.cancels, self.fetch);
-        self.rf = squash(decided.cancels, self.rf);
-        self.chain = popped(back, self.chain);
-        self.psw = restored(decided.restores && back, self.psw);
-        decided.cancels
+        // Most words are no transfers: for them nothing but the next fetch is written.
+        if !inst.is_transfer() {
+            self.go_on();
+            return false;
+        }
+        self.transfer(&inst)
     }
 
     // The interrupt is taken.

@@ -1,0 +1,86 @@
+-- Words that are no transfers: they lead to the next word.
+use Rattle.std.proofs.Common.{◌≡◌, ℕ, Bool, false, cond, not, ◌&&◌, Option, Some, None, refl, sym, ap, ◌∙◌, true≢false}
+use Rattle.mx_isa.specs.declared.inst.Inst.{Inst}
+use Rattle.mx_isa.specs.declared.inst.Inst.TheVariants.{Load, Store, Branch, Compute, Addi, MoveFrom, MoveTo, Jspci, Jpc, Jpcrs, Halt}
+use Rattle.mx_isa.specs.Words.{Words}
+use Rattle.mx_isa.specs.Effect.{Decision, decides, goes_on}
+use Rattle.mx_isa.specs.Views.{is_transfer}
+use Rattle.mx_code.specs.Delay.{Code, next_of}
+use Rattle.mx_pcchain.specs.Fetch.{Fetch}
+use Rattle.mx_pcchain.specs.Chain.{pop}
+use Rattle.mx_pcchain.specs.Modes.{psw_restored}
+use Rattle.mx_turn.specs.Stages.{live, fetch_of, squash, address_of}
+use Rattle.mx_turn.specs.System.{pops, restores, seen}
+use Rattle.mx_turn.specs.Cycle.{Machine, decision, decided, led}
+
+pub goes_on_is : (i : Inst) (at : ℕ) (r : Words) → is_transfer i ≡ false → decides i at r ≡ goes_on
+goes_on_is (Load base d offset) at r e = refl
+goes_on_is (Store base value offset) at r e = refl
+goes_on_is (Branch a b condition s by) at r e = absurd (true≢false e)
+goes_on_is (Compute a d b op) at r e = refl
+goes_on_is (Addi a d imm) at r e = refl
+goes_on_is (MoveFrom d special) at r e = refl
+goes_on_is (MoveTo a special) at r e = refl
+goes_on_is (Jspci a d imm) at r e = absurd (true≢false e)
+goes_on_is Jpc at r e = absurd (true≢false e)
+goes_on_is Jpcrs at r e = absurd (true≢false e)
+goes_on_is Halt at r e = refl
+
+pub pops_not : (i : Inst) → is_transfer i ≡ false → pops i ≡ false
+pops_not (Load base d offset) e = refl
+pops_not (Store base value offset) e = refl
+pops_not (Branch a b condition s by) e = refl
+pops_not (Compute a d b op) e = refl
+pops_not (Addi a d imm) e = refl
+pops_not (MoveFrom d special) e = refl
+pops_not (MoveTo a special) e = refl
+pops_not (Jspci a d imm) e = refl
+pops_not Jpc e = absurd (true≢false e)
+pops_not Jpcrs e = absurd (true≢false e)
+pops_not Halt e = refl
+
+pub restores_not : (i : Inst) → is_transfer i ≡ false → restores i ≡ false
+restores_not (Load base d offset) e = refl
+restores_not (Store base value offset) e = refl
+restores_not (Branch a b condition s by) e = refl
+restores_not (Compute a d b op) e = refl
+restores_not (Addi a d imm) e = refl
+restores_not (MoveFrom d special) e = refl
+restores_not (MoveTo a special) e = refl
+restores_not (Jspci a d imm) e = refl
+restores_not Jpc e = refl
+restores_not Jpcrs e = absurd (true≢false e)
+restores_not Halt e = refl
+
+unsquashed : (f : Option Fetch) → squash false f ≡ f
+unsquashed None = refl
+unsquashed (Some f) = refl
+
+-- the machine after such a word in ALU
+pub decided_goes_on : (code : Code) (m : Machine) → is_transfer (live code m.alu) ≡ false
+    → (let n : Machine = record m { next = fetch_of (next_of None m.next.address) } in n ≡ decided code m)
+decided_goes_on code m e =
+    let i = live code m.alu in
+    let d = goes_on_is i (address_of m.alu) (seen m.slot m.core.regs) e in
+    sym ((λ k. by_parts (pops i) (restores i) (d k))
+    ∙ (λ k. by_parts (pops_not i e k) (restores i) goes_on)
+    ∙ (λ k. by_parts false (restores_not i e k) goes_on)
+    ∙ (λ k. record m { next = fetch_of (next_of None m.next.address); fetch = unsquashed m.fetch k; rf = unsquashed m.rf k }))
+  where
+    by_parts : Bool → Bool → Decision → Machine
+    by_parts popping restoring d =
+        let back = popping && not m.psw.current.user in
+        record m {
+          next = led back m.chain d m.next;
+          fetch = squash d.cancels m.fetch;
+          rf = squash d.cancels m.rf;
+          chain = cond back (pop m.chain) m.chain;
+          psw = cond (restoring && back) (psw_restored m.psw) m.psw;
+        }
+
+pub cancels_not : (code : Code) (m : Machine) → is_transfer (live code m.alu) ≡ false → false ≡ (decision code m).cancels
+cancels_not code m e = λ k. (sym (goes_on_is (live code m.alu) (address_of m.alu) (seen m.slot m.core.regs) e) k).cancels
+
+-- a test that failed
+pub tested : (r : Bool) (i j : Inst) → i ≡ j → r ≡ is_transfer i → r ≡ false → is_transfer j ≡ false
+tested r i j e f n = ap is_transfer (sym e) ∙ sym f ∙ n
