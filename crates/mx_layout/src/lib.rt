@@ -1,0 +1,8 @@
+//! Where the blocks of a source stand, each as the plan that is taken for it.
+#![tactic(auto)]
+
+mod error;
+mod layout;
+
+pub use error::LinkError;
+pub use layout::{Layout, lay_out};
