@@ -1,0 +1,6 @@
+//! Runs of generated sources under many interrupts.
+#![tactic(auto)]
+
+mod soaking;
+
+pub use soaking::soak;
