@@ -26,14 +26,21 @@ kind_text lines (Own i) = decimal (slice_index lines i)
 kind_text lines (Copy i) = 43 ∷ decimal (slice_index lines i)
 kind_text lines Pad = codes "-"
 
--- the words of the shipped handler, from address 0 on
-abbrev pub handler_lines : List ℕ
-handler_lines = lines_from (λ a. listed_line a (slice_index shipped a) (codes "h")) (length shipped) 0
+-- word a of a handler
+abbrev pub handler_line : List ℕ → ℕ → List ℕ
+handler_line words a = listed_line a (slice_index words a) (codes "h")
+
+-- the words of a handler, from address 0 on
+abbrev pub handler_lines : List ℕ → List ℕ
+handler_lines words = lines_from (handler_line words) (length words) 0
+
+-- code word k
+abbrev pub code_line : List ℕ → List ℕ → List Origin → ℕ → List ℕ
+code_line lines code origin k = listed_line (4096 + k) (slice_index code k) (kind_text lines (slice_index_or origin k Pad))
 
 -- the code words, from address 4096 on
 abbrev pub code_lines : List ℕ → List ℕ → List Origin → List ℕ
-code_lines lines code origin =
-    lines_from (λ k. listed_line (4096 + k) (slice_index code k) (kind_text lines (slice_index_or origin k Pad))) (length code) 0
+code_lines lines code origin = lines_from (code_line lines code origin) (length code) 0
 
 -- a code label, with the address of its statement
 abbrev pub label_line : List ℕ → List ℕ → Label → List ℕ
@@ -60,7 +67,7 @@ counts_text p =
 -- the listing of these parts of a program of a source
 unfoldable pub listing_text : SourceValue → Parts → List ℕ
 listing_text source p =
-    (((handler_lines ++ code_lines source.lines p.code p.origin) ++ line (codes "links")) ++ label_lines p.links source.labels) ++ counts_text p
+    (((handler_lines shipped ++ code_lines source.lines p.code p.origin) ++ line (codes "links")) ++ label_lines p.links source.labels) ++ counts_text p
 
 -- what is listed of a linked program
 abbrev pub linked_parts : Linked → Parts
