@@ -2,5 +2,6 @@
 #![tactic(auto)]
 
 mod soaking;
+mod told;
 
 pub use soaking::soak;
