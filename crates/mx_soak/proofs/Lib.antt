@@ -1,0 +1,3 @@
+pub mod Multiples
+pub mod Steps
+pub mod Layouts
