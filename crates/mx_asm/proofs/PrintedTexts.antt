@@ -1,6 +1,6 @@
 -- The canonical text of a printable source reads back.
 use Rattle.std.proofs.Common.{◌≡◌, ℕ, suc, ◌+◌, ◌≤◌, ◌<◌, Bool, true, false, cond, ◌||◌, List, [], ◌∷◌, ◌++◌, length, get_or, Option, Some, None, refl, sym, ap, ◌∙◌, subst, arith, append_assoc}
-use Rattle.std.specs.Prelude.{All, is_some, nat_le, nat_lt, codes}
+use Rattle.std.specs.Prelude.{Result, Ok, Err, IfOk, IfErr, All, is_some, nat_le, nat_lt, codes}
 use Rattle.std.specs.List.{list_any}
 use Rattle.std.specs.Str.{bytes_eq}
 use Rattle.std.proofs.lemmas.Bool.Decides.{nat_tests}
@@ -16,12 +16,15 @@ use Rattle.mx_source.specs.SourceValue.{SourceValue}
 use Rattle.mx_source.specs.Printed.{ended, label_lines, statement_text, code_text, value_text, words_text, spelled, has_words, data_text, input_text, printed}
 use Rattle.mx_asm.specs.declared.position.Section.TheVariants as section
 use Rattle.mx_asm.specs.declared.position.Position.{Position}
+use Rattle.mx_asm.specs.declared.fault.AsmError.{AsmError}
+use Rattle.mx_asm.specs.declared.fault.AsmError.TheVariants.{Refused, Memory}
+use Rattle.mx_asm.specs.Listings.{IsRefusal}
 use Rattle.mx_asm.specs.Operands.{label_named}
 use Rattle.mx_asm.specs.Instructions.{Labels}
 use Rattle.mx_asm.specs.Directives.{Nothing, Instruction, Data, Input}
 use Rattle.mx_asm.specs.Positions.{start}
-use Rattle.mx_asm.specs.Texts.{text_labels, text_effects, text_fault, source_of}
-use Rattle.mx_asm.specs.Printable.{IsLabelName, IsWithin, NamesRegisters, IsWord, IsPrintable, ReadsBack}
+use Rattle.mx_asm.specs.Texts.{text_labels, text_effects, text_fault, source_of, ReadsAs}
+use Rattle.mx_asm.specs.Printable.{IsLabelName, IsWithin, NamesRegisters, IsWord, IsPrintable, IsSameProgram, ReadsBack, ReadsPrinted}
 use Rattle.mx_asm.proofs.Spelled.{or_none}
 use Rattle.mx_asm.proofs.Spellings.{statement_says, value_says}
 use Rattle.mx_asm.proofs.Readback.{Finder, Finds, Good, step_good, nothing_good, from_same, to_same}
@@ -249,3 +252,12 @@ printed_reads s h =
     reads_back s
     (text_good s.labels (length s.statements) h.source.few_statements h.names apart h.source.labels_fit s.user_data h.source.few_words h.source.words_fit h.words h.within
     s.statements refl h.source.statements_fit h.registers s.input)
+
+-- what is answered with the source that a text reads as, or its fault
+pub printed_answer : (text : List ℕ) (result : Result SourceValue AsmError) → IfOk result (ReadsAs 256 65536 text) → IfErr result (IsRefusal (text_fault 256 65536 text)) → ReadsPrinted text result
+printed_answer text (Ok t) read refused s h e =
+    subst (IsSameProgram s) (sym (read.same ∙ ap (source_of 256) e)) (printed_reads s h).same
+printed_answer text (Err Memory) read refused s h e = refl
+printed_answer text (Err (Refused line fault)) read refused s h e =
+    let none : text_fault 256 65536 text ≡ None = ap (text_fault 256 65536) e ∙ (printed_reads s h).faultless in
+    cc

@@ -1,5 +1,5 @@
 -- Sources whose canonical text reads back.
-use Rattle.std.specs.Prelude.{◌≡◌, ℕ, ◌+◌, ◌^◌, ◌≤◌, ◌<◌, Bool, true, false, ◌&&◌, List, [], ◌∷◌, length, map, All, None, is_some}
+use Rattle.std.specs.Prelude.{◌≡◌, ℕ, ◌+◌, ◌^◌, ◌≤◌, ◌<◌, Bool, true, false, ◌&&◌, List, [], ◌∷◌, length, map, All, None, Result, MatchResult, is_some}
 use Rattle.std.specs.List.{list_all, IsDistinct}
 use Rattle.std.specs.Str.{bytes_eq}
 use Rattle.mx_lex.specs.Bytes.{begins_name, continues_name}
@@ -14,6 +14,8 @@ use Rattle.mx_source.specs.declared.statement.Statement.{Statement}
 use Rattle.mx_source.specs.declared.statement.Statement.TheVariants.{Plain, LaCode, Branch, Call, CallReg, JumpReg, Halt}
 use Rattle.mx_source.specs.SourceValue.{SourceValue, IsSource}
 use Rattle.mx_source.specs.Printed.{printed}
+use Rattle.mx_asm.specs.declared.fault.AsmError.{AsmError}
+use Rattle.mx_asm.specs.declared.fault.AsmError.TheVariants.{Memory}
 use Rattle.mx_asm.specs.Operands.{label_named}
 use Rattle.mx_asm.specs.Directives.{is_dotted}
 use Rattle.mx_asm.specs.Texts.{text_fault, source_of}
@@ -79,3 +81,7 @@ pub record IsSameProgram (s t : SourceValue) : Type 0 where
 pub record ReadsBack (s : SourceValue) : Type 0 where
   pub faultless : text_fault 256 65536 (printed s) ≡ None
   pub same : IsSameProgram s (source_of 256 (printed s))
+
+-- what assembling a text answers where it is the canonical text of a printable source: the same program, or that memory ran out
+abbrev pub ReadsPrinted : List ℕ → Result SourceValue AsmError → Type 0
+ReadsPrinted text result = (s : SourceValue) → IsPrintable s → text ≡ printed s → MatchResult result (IsSameProgram s) (λ e. e ≡ Memory)
