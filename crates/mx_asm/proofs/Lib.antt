@@ -7,6 +7,12 @@ pub mod Labelled
 pub mod Listed
 pub mod Named
 pub mod Pieces
+pub mod PrintedLines
+pub mod PrintedTexts
+pub mod Readback
 pub mod Repeats
+pub mod Spelled
+pub mod Spellings
+pub mod Tabled
 pub mod Tables
 pub mod Whole

@@ -10,5 +10,6 @@ pub mod Directives
 pub mod Positions
 pub mod Faults
 pub mod Texts
+pub mod Printable
 pub mod Effects
 pub mod Listings

@@ -5,6 +5,7 @@ ghost use Rattle.mx_asm.specs.Faults;
 ghost use Rattle.mx_asm.specs.Listings;
 ghost use Rattle.mx_asm.specs.Listings.{IsListingOf, IsRefusal};
 ghost use Rattle.mx_asm.specs.Positions.{start};
+ghost use Rattle.mx_asm.specs.Printable.{ReadsPrinted};
 ghost use Rattle.mx_asm.specs.Texts.{ReadsAs, text_fault};
 ghost use Rattle.mx_asm.specs.Words.{texts};
 ghost use Rattle.mx_source.specs.Names.{named_labels};
@@ -78,11 +79,13 @@ fn is_line(found: Option<u32>, number: u32) -> bool
 /// # Errors
 ///
 /// `Refused` with the first faulty line and its least fault, exactly where some line has a fault.
-/// `Memory` where there is no room for the source.
+/// `Memory` where there is no room for the source. The canonical text of a printable source is not
+/// refused.
 pub fn assemble(alloc: Global, text: &[u8]) -> Result<Source, AsmError>
     requires { length text.now ≤ 4194304 }
     ensures source { IfOk result (ReadsAs 256 65536 text.now) }
     ensures refused { IfErr result (IsRefusal (text_fault 256 65536 text.now)) }
+    ensures printed { ReadsPrinted text.now result }
 {
     assemble_at(alloc, text, 256, 65536)
 }
