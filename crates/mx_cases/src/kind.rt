@@ -1,12 +1,7 @@
 //! Kinds of cases.
-ghost use Rattle.std.specs.Prelude.{◌≤◌, IfOk};
-ghost use Rattle.mx_isa.specs.Arithmetic.{CountFits};
-
-use crate::spelling;
-use anyhow::{Context, Result, bail, ensure};
-use mx_code::decode;
-use mx_isa::{Cond, Op, compute, holds};
-use std::alloc::Global;
+use crate::{numbers, texts};
+use anyhow::{Context, Result};
+use std::rt::Files;
 
 /// A kind of cases, each a line of one file.
 #[derive(Clone, Copy, Debug, PartialEq, Eq)]
@@ -14,99 +9,59 @@ pub enum Kind {
     Words,
     Compute,
     Conditions,
-}
-
-/// A number in hexadecimal.
-fn number(text: Option<&str>) -> Result<u32> {
-    let digits = text.context("a number is missing")?;
-    Ok(u32::from_str_radix(digits, 16)?)
-}
-
-/// The count of a shift, as in `Asr(7)`.
-fn count(text: &str) -> Result<u8>
-    ensures { IfOk result (λ n. n ≤ 31) }
-{
-    let digits = text.strip_suffix(")").context("the count has no end")?;
-    let n = digits.parse::<u8>()?;
-    ensure!(n <= 31, "the count is above 31");
-    Ok(n)
-}
-
-/// An operation.
-fn operation(text: &str) -> Result<Op>
-    ensures { IfOk result CountFits }
-{
-    if let Some(rest) = text.strip_prefix("Asr(") {
-        return Ok(Op::Asr(count(rest)?));
-    }
-    if let Some(rest) = text.strip_prefix("Sh(") {
-        return Ok(Op::Sh(count(rest)?));
-    }
-    Ok(match text {
-        "Add" => Op::Add,
-        "Sub" => Op::Sub,
-        "Subnc" => Op::Subnc,
-        "And" => Op::And,
-        "Or" => Op::Or,
-        "Xor" => Op::Xor,
-        "Bic" => Op::Bic,
-        "Not" => Op::Not,
-        "Rotlb" => Op::Rotlb,
-        "Mstart" => Op::Mstart,
-        "Mstep" => Op::Mstep,
-        "Dstep" => Op::Dstep,
-        _ => bail!("no operation"),
-    })
-}
-
-/// A condition.
-fn condition(text: &str) -> Result<Cond> {
-    Ok(match text {
-        "Eq" => Cond::Eq,
-        "Ne" => Cond::Ne,
-        "Lt" => Cond::Lt,
-        "Ge" => Cond::Ge,
-        "Lo" => Cond::Lo,
-        "Hs" => Cond::Hs,
-        _ => bail!("no condition"),
-    })
+    Faults,
+    Meanings,
+    Statements,
+    Generated,
 }
 
 impl Kind {
+    pub const ALL: [Kind; 7] = [
+        Kind::Words,
+        Kind::Compute,
+        Kind::Conditions,
+        Kind::Faults,
+        Kind::Meanings,
+        Kind::Statements,
+        Kind::Generated,
+    ];
+
     /// The file that has these cases.
     pub fn file(self) -> &'static str {
         match self {
             Kind::Words => "words.txt",
             Kind::Compute => "compute.txt",
             Kind::Conditions => "conditions.txt",
+            Kind::Faults => "faults.txt",
+            Kind::Meanings => "meanings.txt",
+            Kind::Statements => "statements.txt",
+            Kind::Generated => "generated.txt",
         }
     }
 
     /// The line of a case, with the answer that the crates give in place of its own.
-    pub fn answered(self, alloc: Global, line: &str) -> Result<String> {
-        let mut words = line.split(" ");
-        let first = words.next().context("the line is empty")?;
+    pub fn answered<R: Files + AllocGlobal>(self, rt: &R, line: &str) -> Result<String> {
+        let alloc = rt.alloc();
         match self {
-            Kind::Words => {
-                let word = u32::from_str_radix(first, 16)?;
-                let spelled = spelling::spelled(alloc, decode(word))?;
-                Ok(format!(in alloc; "{word:08x} {spelled}")?)
-            }
-            Kind::Compute => {
-                let op = operation(first)?;
-                let a = number(words.next())?;
-                let b = number(words.next())?;
-                let md = number(words.next())?;
-                let (result, new_md) = compute(op, a, b, md);
-                Ok(format!(in alloc; "{first} {a:08x} {b:08x} {md:08x} {result:08x} {new_md:08x}")?)
-            }
-            Kind::Conditions => {
-                let cond = condition(first)?;
-                let a = number(words.next())?;
-                let b = number(words.next())?;
-                let held = u8::from(holds(cond, a, b));
-                Ok(format!(in alloc; "{first} {a:08x} {b:08x} {held}")?)
-            }
+            Kind::Words => numbers::word(alloc, line),
+            Kind::Compute => numbers::computed(alloc, line),
+            Kind::Conditions => numbers::held(alloc, line),
+            Kind::Faults => texts::fault(rt, before(line, " ")?),
+            Kind::Meanings => texts::meaning(rt, behind(line, " ")?),
+            Kind::Statements => texts::statement(alloc, before(line, " -> ")?),
+            Kind::Generated => texts::generated(alloc, before(line, ":")?),
         }
     }
+}
+
+/// What stands before the first separator.
+fn before<'a>(line: &'a str, separator: &str) -> Result<&'a str> {
+    let (front, _) = line.split_once(separator).context("no separator")?;
+    Ok(front)
+}
+
+/// What stands behind the first separator.
+fn behind<'a>(line: &'a str, separator: &str) -> Result<&'a str> {
+    let (_, back) = line.split_once(separator).context("no separator")?;
+    Ok(back)
 }

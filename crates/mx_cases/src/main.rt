@@ -1,9 +1,11 @@
-//! Compares the instruction table, the arithmetic and the coder with cases from files, whose answers come
-//! from another implementation. Prints a line for each kind of case, and one for each case that differs.
+//! Compares the instruction table, the arithmetic, the coder, the assembler, the meaning and the generator with cases
+//! from files, whose answers come from outside. Prints a line for each kind of case, and one for each case that differs.
 #![tactic(auto)]
 
 mod kind;
+mod numbers;
 mod spelling;
+mod texts;
 
 use anyhow::{Context, Result};
 use kind::Kind;
@@ -18,7 +20,7 @@ fn compare<R: Files + Print + AllocGlobal>(rt: &R, kind: Kind) -> Result<()> {
     let mut agree = 0u64;
     for line in text.lines() {
         let ours = kind
-            .answered(rt.alloc(), line)
+            .answered(rt, line)
             .context(format_args!("{file}: no case: {line}"))?;
         cases = cases.saturating_add(1);
         if ours.as_str() == line {
@@ -32,8 +34,8 @@ fn compare<R: Files + Print + AllocGlobal>(rt: &R, kind: Kind) -> Result<()> {
 }
 
 fn main(rt: HostRuntime) -> Result<()> {
-    compare(&rt, Kind::Words)?;
-    compare(&rt, Kind::Compute)?;
-    compare(&rt, Kind::Conditions)?;
+    for kind in Kind::ALL {
+        compare(&rt, kind)?;
+    }
     Ok(())
 }

@@ -1,5 +1,6 @@
 //! Instructions as the cases spell them.
 use mx_isa::{Inst, Reg};
+use mx_source::Statement;
 use std::alloc::{AllocError, Global};
 
 /// A word's instruction, or `none`.
@@ -7,6 +8,34 @@ pub fn spelled(alloc: Global, inst: Option<Inst>) -> Result<String, AllocError> 
     match &inst {
         Some(inst) => instruction(alloc, inst),
         None => String::from_str(alloc, "none"),
+    }
+}
+
+/// A statement, with its registers as numbers.
+pub fn statement(alloc: Global, statement: &Statement) -> Result<String, AllocError> {
+    match statement {
+        Statement::Plain(inst) => instruction(alloc, inst),
+        Statement::LaCode { dest, target } => {
+            let dest = dest.number();
+            format!(in alloc; "LaCode {{ target: {target}, dest: {dest} }}")
+        }
+        Statement::Branch { a, b, cond, target } => {
+            let (a, b) = (a.number(), b.number());
+            format!(in alloc; "Branch {{ cond: {cond:?}, a: {a}, b: {b}, target: {target} }}")
+        }
+        Statement::Call { dest, target } => {
+            let dest = dest.number();
+            format!(in alloc; "Call {{ target: {target}, dest: {dest} }}")
+        }
+        Statement::CallReg { a, dest } => {
+            let (a, dest) = (a.number(), dest.number());
+            format!(in alloc; "CallReg {{ a: {a}, dest: {dest} }}")
+        }
+        Statement::JumpReg { a } => {
+            let a = a.number();
+            format!(in alloc; "JumpReg {{ a: {a} }}")
+        }
+        Statement::Halt => String::from_str(alloc, "Halt"),
     }
 }
 

@@ -108,7 +108,7 @@ module _ (p : Program) (board : IsBoard p.place) where
   skip_soon : (j a b c bound : ℕ) (d : Draft) → Front (skip j a b c d) → Soon bound (skip j a b c d) → Soon (suc (suc bound)) d
   skip_soon j a b c bound d front next s h at =
       let n = length d.statements in
-      let s0 = Branch a b Lt (suc (suc n)) in let s1 = Plain (Compute b c a Add) in
+      let s0 = Branch a b Lt (suc (suc n)) in let s1 = Plain (Compute c a b Add) in
       let d1 = put s0 d in
       let l1 = length-push d.statements s0 in let l2 = length-push d1.statements s1 in
       let e0 = front_last s0 d (front_put s1 d1 front) in
@@ -120,7 +120,7 @@ module _ (p : Program) (board : IsBoard p.place) where
       let taken : holds ≡ true → HaltsSoon p (suc bound) t = λ e. sooner p bound (suc bound) t (omega arith) (next t ht (cond-true holds (suc (suc n)) (suc s.index) e ∙ sym m2)) in
       let falls : holds ≡ false → HaltsSoon p (suc bound) t = λ e.
       let there : t.index ≡ length d1.statements = cond-false holds (suc (suc n)) (suc s.index) e ∙ (ap suc at ∙ sym l1) in
-      plain_soon (Compute b c a Add) bound d1 (λ u hu. compute_runs p u b c a Add hu) front next t ht there in
+      plain_soon (Compute c a b Add) bound d1 (λ u hu. compute_runs p u c a b Add hu) front next t ht there in
       one_before p (suc bound) s h (subst (λ (x : Step). HaltsSoon p (suc bound) x.after) (sym is) (⊎_elim taken falls (cases_Bool holds)))
 
   -- what holds of both holds of the one that is chosen
@@ -180,7 +180,7 @@ module _ (p : Program) (board : IsBoard p.place) where
           front_put s0 d (front_put s1 d1 (front_put s2 d2 (front_put s3 d3 f)))
 
       front_skip : (a b c : ℕ) → Front (skip j a b c d) → Front d
-      front_skip a b c f = let s0 = Branch a b Lt (suc (suc (length d.statements))) in front_put s0 d (front_put (Plain (Compute b c a Add)) (put s0 d) f)
+      front_skip a b c f = let s0 = Branch a b Lt (suc (suc (length d.statements))) in front_put s0 d (front_put (Plain (Compute c a b Add)) (put s0 d) f)
 
   front_items : (k j x : ℕ) (d : Draft) → Front (items k j x d) → Front d
   front_items zero j x d f = f

@@ -38,7 +38,7 @@ near_round j a b c d all =
 near_skip : (j a b c : ℕ) (d : Draft) → AllNear d.statements → AllNear (skip j a b c d).statements
 near_skip j a b c d all =
     let s0 = Branch a b Lt (suc (suc (length d.statements))) in
-    near_put (Plain (Compute b c a Add)) (put s0 d) tt (near_put s0 d (omega arith, omega arith) all)
+    near_put (Plain (Compute c a b Add)) (put s0 d) tt (near_put s0 d (omega arith, omega arith) all)
 
 one_near : (b : Bool) (x y : Draft) → AllNear x.statements → AllNear y.statements → AllNear (if b then x else y).statements
 one_near true x y hx hy = hx

@@ -136,7 +136,7 @@ sound_round j a b c d h =
 pub sound_skip : (j a b c : ℕ) (d : Draft) → IsSound j d → IsSound (suc j) (skip j a b c d)
 sound_skip j a b c d h =
     let n : List ℕ = 83 ∷ decimal j in
-    let s0 = Branch a b Lt (suc (suc (length d.statements))) in let s1 = Plain (Compute b c a Add) in
+    let s0 = Branch a b Lt (suc (suc (length d.statements))) in let s1 = Plain (Compute c a b Add) in
     let st1 = d.statements ++ s0 ∷ [] in let st2 = st1 ++ s1 ∷ [] in
     let l1 = d.lines ++ d.line ∷ [] in
     let e1 = length-push d.statements s0 in let e2 = length-push st1 s1 in

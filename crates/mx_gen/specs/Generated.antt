@@ -46,7 +46,7 @@ round j a b c d =
 
 -- a branch over one addition, to a label Sj
 abbrev pub skip : ℕ → ℕ → ℕ → ℕ → Draft → Draft
-skip j a b c d = name (83 ∷ decimal j) (compute Add b a c (put (Branch a b Lt (suc (suc (length d.statements)))) d))
+skip j a b c d = name (83 ∷ decimal j) (compute Add c b a (put (Branch a b Lt (suc (suc (length d.statements)))) d))
 
 -- the statements of the item of a number j, from what was drawn for it
 abbrev pub item : ℕ → ℕ → Draft → Draft

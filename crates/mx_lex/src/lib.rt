@@ -8,3 +8,6 @@ mod token;
 
 pub use lexer::Lexer;
 pub use token::{Kind, LexFault, Token};
+
+#[cfg(test)]
+mod tests;

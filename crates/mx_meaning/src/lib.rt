@@ -8,3 +8,6 @@ mod told;
 pub use board::BOARD;
 pub use steps::{Ending, Progress, run_steps};
 pub use told::meaning_reply;
+
+#[cfg(test)]
+mod tests;

@@ -1,0 +1,4 @@
+b x
+x: nop
+.data
+x: .word 1

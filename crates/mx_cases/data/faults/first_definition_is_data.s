@@ -1,0 +1,5 @@
+b x
+.data
+x: .word 1
+.code
+x: nop

@@ -1,0 +1,2 @@
+.data
+here: b here

@@ -1,0 +1,2 @@
+nop
+x: y: x: halt

@@ -1,0 +1,3 @@
+.data
+.space 65279
+.word 1,2

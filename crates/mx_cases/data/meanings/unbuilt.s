@@ -1,0 +1,3 @@
+addi r0,#1,r1
+nop
+halt
