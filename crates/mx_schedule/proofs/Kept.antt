@@ -14,7 +14,8 @@ use Rattle.mx_link.specs.Linked.{IsLinked}
 use Rattle.mx_reorg.specs.Greedy.{IsGreedy}
 use Rattle.mx_meaning.specs.Boards.{board}
 use Rattle.mx_schedule.specs.Schedule.{IsScheduler}
-use Rattle.mx_schedule.proofs.Heights.{greedy_is_valid}
+use Rattle.mx_reorg.proofs.ValidPlans.{greedy_valid}
+use Rattle.mx_reorg.proofs.ExistsItems.{height_of}
 
 -- no proposal is rejected, and each plan is greedy
 record AreGreedy (n : ℕ) (sites : List Site) : Type 0 where
@@ -31,7 +32,7 @@ kept_greedy n (s ∷ sites) (proposal ∷ proposals) kept = ⊎_elim
     (λ valid.
     let others = kept_greedy n sites proposals valid.2 in
     record { none = others.none; plans = one_more s sites (subst (λ (p : Plan). IsGreedy s.block p) (sym valid.1) kept.0) others.plans })
-    (λ faulty. absurd (greedy_is_valid s.block proposal kept.0 faulty.0))
+    (λ faulty. absurd (faulty.0 (greedy_valid s.block proposal kept.0 (λ x l. height_of s.block x))))
     kept.1
 kept_greedy n [] (proposal ∷ proposals) kept = absurd kept
 kept_greedy n (s ∷ sites) [] kept = absurd kept

@@ -1,2 +1,2 @@
-pub mod Heights
 pub mod Kept
+pub mod Layouts

@@ -6,6 +6,6 @@ use Rattle.mx_layout.specs.Layout.{IsLayout}
 use Rattle.mx_reorg.specs.Greedy.{IsGreedy}
 use Rattle.mx_meaning.specs.Boards.{board}
 
--- the function gives the layout of each source by greedy plans at the board's place; each source has at most one
+-- the function gives the layout of each source by greedy plans at the board's place; a source has exactly one (`greedy_layout_exists`)
 abbrev pub IsScheduler : (SourceValue → List Site) → Type 0
 IsScheduler layout_of = (source : SourceValue) (sites : List Site) → IsLayout IsGreedy source board sites → layout_of source ≡ sites

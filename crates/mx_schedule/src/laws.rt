@@ -1,7 +1,7 @@
 //! What the linker keeps of greedy plans.
 ghost use Rattle.std.specs.Prelude.{◌≡◌, ℕ, List};
 ghost use Rattle.mx_isa.specs.declared.Place.{Place};
-ghost use Rattle.mx_source.specs.SourceValue.{SourceValue};
+ghost use Rattle.mx_source.specs.SourceValue.{SourceValue, IsSource};
 ghost use Rattle.mx_squash.specs.Copies.{Site};
 ghost use Rattle.mx_layout.specs.Layout.{IsLayout};
 ghost use Rattle.mx_layout.specs.Overlong.{Overlong, IsTooLong};
@@ -28,4 +28,11 @@ pub fn scheduler_links()
         → (k : IsLinked IsGreedy filling source board l) → layout_of source ≡ k.sites }
     ensures too_long { (layout_of : SourceValue → List Site) → IsScheduler layout_of → (source : SourceValue) (found : Overlong)
         → (t : IsTooLong IsGreedy source board found) → layout_of source ≡ t.sites }
+{}
+
+/// Each source has exactly one layout by greedy plans at a place.
+pub fn greedy_layout_exists()
+    ensures exists { (source : SourceValue) (place : Place) → IsSource source → (sites : List Site) × IsLayout IsGreedy source place sites }
+    ensures unique { (source : SourceValue) (place : Place) (sites others : List Site)
+        → IsLayout IsGreedy source place sites → IsLayout IsGreedy source place others → sites ≡ others }
 {}
