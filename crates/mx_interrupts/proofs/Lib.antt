@@ -5,3 +5,5 @@ pub mod Phases
 pub mod Cycles
 pub mod Runs
 pub mod Ends
+pub mod Interrupted
+pub mod Saves

@@ -66,6 +66,7 @@ module _ (user : Code) (inside : ℕ → Bool) (p : Place) (input : Option (List
     pub rest_after : ℕ
     pub left : rest_after + 1 ≡ rest + one (is_users m.alu) + 26 * one (takes c)
     pub state : State (erased (ended (with_shipped user) c)) (past (is_users m.alu) s) (n + one (takes c)) rest_after
+    pub taken : takes c ≡ true → InUser user inside p input c (past (is_users m.alu) s) n
 
   module _ (at_board : IsOnBoard p) (at_code : p.code ≡ 4096) where
     -- what is reached in user code, after the turn
@@ -136,7 +137,8 @@ module _ (user : Code) (inside : ℕ → Bool) (p : Place) (input : Option (List
             ∙ ap (λ b. (past b s).at.console) (sym passes);
         rest_after = 26 * one (takes c);
         left = (let e = g.none in let f : one (is_users m.alu) ≡ 1 = ap one passes in omega (arith, e, f));
-        state = ended_user c (past (is_users m.alu) s) n (subst (λ b. InUser user inside p input c (past b s) n) (sym passes) turn);
+        state = ended_user c (past (is_users m.alu) s) n reaches;
+        taken = λ e. reaches;
       }
         where
           passes : is_users m.alu ≡ true
@@ -155,6 +157,9 @@ module _ (user : Code) (inside : ℕ → Bool) (p : Place) (input : Option (List
           turn : InUser user inside p input c (next user inside p input s) n
           turn = subst (λ x. InUser user inside p input (reached (with_shipped user) input (before_turn stall latch counts x)) (next user inside p input s) n) (sym g.is)
               (user_turn user inside p input at_board at_code g.c s n stall latch counts g.in_user g.goes g.quiet next_clean)
+
+          reaches : InUser user inside p input c (past (is_users m.alu) s) n
+          reaches = subst (λ b. InUser user inside p input c (past b s) n) (sym passes) turn
 
           bytes : commit_byte (with_shipped user) input (shifted m) ≡ delay_byte user p input s.at
           bytes =
@@ -210,6 +215,7 @@ module _ (user : Code) (inside : ℕ → Bool) (p : Place) (input : Option (List
                 goes = ap (λ (x : Machine). x.halted) (goes_on (with_shipped user) c goes quiet) ∙ goes;
                 waits = h.waits;
               })));
+          taken = λ e. absurd (false≢true (sym not_taken ∙ e));
         }
           where
             still : Still user inside p input t
@@ -230,6 +236,7 @@ module _ (user : Code) (inside : ℕ → Bool) (p : Place) (input : Option (List
           rest_after = 26 * one (takes c);
           left = (let e = h.sum in let g = h.some in let f : one (is_users m.alu) ≡ 0 = ap one system in omega (arith, e, f, g, l));
           state = subst (λ b. State (erased (ended (with_shipped user) c)) (past b s) (n + one (takes c)) (26 * one (takes c))) (sym system) (ended_user c s n back);
+          taken = λ e. subst (λ b. InUser user inside p input c (past b s) n) (sym system) back;
         }
           where
             at_last : h.last ≡ h.k
