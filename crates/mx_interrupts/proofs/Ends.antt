@@ -1,0 +1,88 @@
+-- What a run within a budget gives.
+use Rattle.std.proofs.Common.{◌≡◌, ℕ, ◌+◌, ◌*◌, ◌≤◌, Bool, true, List, [], ◌⊎◌, length, Option, refl, sym, ◌∙◌, subst, arith, ⊎_elim, inl, inr}
+use Rattle.std.proofs.lemmas.Bool.{cases_Bool, false≢true}
+use Rattle.mx_isa.specs.declared.place.Place.{Place}
+use Rattle.mx_isa.specs.Words.{Words}
+use Rattle.mx_code.specs.Decoding.{inst_of}
+use Rattle.mx_code.specs.Delay.{Code, code_from, data_from, delay}
+use Rattle.mx_code.specs.Clean.{is_inside, IsClean, Watched, watch_start}
+use Rattle.mx_turn.specs.Cycle.{Machine, start}
+use Rattle.mx_turn.specs.Run.{Run, run_of, bits}
+use Rattle.mx_turn.specs.OneTurn.{IsOnBoard}
+use Rattle.mx_interrupts.specs.Laws.{RunsAs, IsCleanImage}
+use Rattle.mx_interrupts.proofs.Watched.{watched_at, clean_for_fewer}
+use Rattle.mx_interrupts.proofs.InUser.{InUser}
+use Rattle.mx_interrupts.proofs.Pauses.{erased}
+use Rattle.mx_interrupts.proofs.Phases.{State, going, pausing, over, halted_alike}
+use Rattle.mx_interrupts.proofs.Cycles.{stands_start}
+use Rattle.mx_interrupts.proofs.Runs.{program, steps, Ran, runs, passed_few, length_bits, asked_few}
+
+module _ (user : Code) (inside : ℕ → Bool) (p : Place) (input : Option (List ℕ)) where
+  -- where it halted, it did so in user code
+  ended_in_user : (m : Machine) (s : Watched) (n rest : ℕ) → State user inside p input m s n rest → m.halted ≡ true → InUser user inside p input m s n
+  ended_in_user m s n rest (going g) h = absurd (false≢true (sym g.goes ∙ g.in_user.follows.halted ∙ sym (halted_alike user inside p input m s n rest (going g)) ∙ h))
+  ended_in_user m s n rest (pausing q) h = absurd (false≢true (sym q.goes ∙ h))
+  ended_in_user m s n rest (over o) h = o.in_user
+
+module _ (user : Code) (inside : ℕ → Bool) (p : Place) (input : Option (List ℕ)) (words : Words) (at_board : IsOnBoard p) (at_code : p.code ≡ 4096) (low : words 0 ≡ 0) (requests : List ℕ) (budget : ℕ) (clean : IsClean user inside p input words budget) where
+  abbrev run : Run
+  run = run_of (program user inside p input words) requests budget
+
+  -- the steps that are done
+  abbrev done : Watched
+  done = steps user inside p input words run.passed (watch_start p words)
+
+  few : run.passed ≤ budget
+  few = let e = passed_few (program user inside p input words) (bits requests budget) (start words) in let f = length_bits requests budget in omega (arith, e, f)
+
+  ran : Ran user inside p input words (bits requests budget) (start words) (watch_start p words) 0 0 0
+  ran = runs user inside p input words at_board at_code (bits requests budget) (start words) (watch_start p words) 0 0 0
+      (stands_start user inside p input words at_code low)
+      (clean_for_fewer user inside p input run.passed budget (watch_start p words) few clean)
+
+  is_delay : done.at ≡ delay user p input words run.passed
+  is_delay = watched_at user inside p input run.passed (watch_start p words)
+
+  pub as_delay : RunsAs p run (delay user p input words run.passed)
+  as_delay = subst (RunsAs p run) is_delay (record {
+    console = ran.console;
+    halted = halted_alike user inside p input (erased run.last) done run.counts.interrupts ran.stands.rest ran.stands.state;
+    ends = λ h.
+        let u = ended_in_user user inside p input (erased run.last) done run.counts.interrupts ran.stands.rest ran.stands.state h in
+        let f = u.follows in
+        record { regs = f.regs; md = f.md; mem = f.mem; taken = f.taken; counted = u.counted };
+  })
+
+  pub few_taken : run.counts.interrupts ≤ length requests
+  few_taken = let e = ran.stands.taken in let f = asked_few requests budget in omega (arith, e, f)
+
+  pub passes_by : (w : ℕ) → 3 * (w + 3) + 78 * length requests ≤ budget → (w ≤ run.passed) ⊎ (run.halted ≡ true)
+  passes_by w h = ⊎_elim
+      (λ k. inr k)
+      (λ k. inl (let a = ran.stands.all k in let b = ran.stands.within in let c = ran.stands.turns in let d = few_taken in let e = length_bits requests budget in omega (arith, h, a, b, c, d, e)))
+      (cases_Bool run.halted)
+
+pub runs_as : (code_words data_words : List ℕ) (input : Option (List ℕ)) (requests : List ℕ) (budget : ℕ) (p : Place)
+    → IsOnBoard p → p.code ≡ 4096 → IsCleanImage code_words data_words p input budget
+    → let user = code_from inst_of 4096 code_words in
+    let words = data_from 256 data_words in
+    let r = run_of (program user (is_inside p (length code_words)) p input words) requests budget in
+    RunsAs p r (delay user p input words r.passed)
+runs_as code_words data_words input requests budget p b c clean =
+    as_delay (code_from inst_of 4096 code_words) (is_inside p (length code_words)) p input (data_from 256 data_words) b c refl requests budget clean
+
+pub gets_on : (code_words data_words : List ℕ) (input : Option (List ℕ)) (requests : List ℕ) (budget : ℕ) (p : Place)
+    → IsOnBoard p → p.code ≡ 4096 → IsCleanImage code_words data_words p input budget
+    → let r = run_of (program (code_from inst_of 4096 code_words) (is_inside p (length code_words)) p input (data_from 256 data_words)) requests budget in
+    (r.counts.interrupts ≤ length requests) × ((w : ℕ) → 3 * (w + 3) + 78 * length requests ≤ budget → (w ≤ r.passed) ⊎ (r.halted ≡ true))
+gets_on code_words data_words input requests budget p b c clean = (
+  few_taken (code_from inst_of 4096 code_words) (is_inside p (length code_words)) p input (data_from 256 data_words) b c refl requests budget clean,
+  passes_by (code_from inst_of 4096 code_words) (is_inside p (length code_words)) p input (data_from 256 data_words) b c refl requests budget clean,
+)
+
+pub undisturbed : (code_words data_words : List ℕ) (input : Option (List ℕ)) (budget : ℕ) (p : Place)
+    → IsOnBoard p → p.code ≡ 4096 → IsCleanImage code_words data_words p input budget
+    → let r = run_of (program (code_from inst_of 4096 code_words) (is_inside p (length code_words)) p input (data_from 256 data_words)) [] budget in
+    (w : ℕ) → 3 * (w + 3) ≤ budget → (w ≤ r.passed) ⊎ (r.halted ≡ true)
+undisturbed code_words data_words input budget p b c clean w h =
+    passes_by (code_from inst_of 4096 code_words) (is_inside p (length code_words)) p input (data_from 256 data_words) b c refl [] budget clean w (omega (arith, h))

@@ -1,0 +1,9 @@
+pub mod Watched
+pub mod InUser
+pub mod Pauses
+pub mod Phases
+pub mod Cycles
+pub mod Runs
+pub mod Ends
+pub mod Interrupted
+pub mod Saves

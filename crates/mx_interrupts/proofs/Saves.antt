@@ -1,0 +1,159 @@
+-- What an interrupt saves in a run, and what comes back.
+use Rattle.std.proofs.Common.{◌≡◌, ℕ, zero, suc, ◌+◌, ◌-◌, ◌%◌, ◌^◌, ◌<◌, ◌≤◌, Bool, true, false, List, [], ◌∷◌, ◌++◌, length, append-nil, append_assoc, Option, refl, sym, ap, ◌∙◌, subst, arith}
+use Rattle.mx_isa.specs.declared.place.Place.{Place}
+use Rattle.mx_isa.specs.Words.{Words}
+use Rattle.mx_code.specs.Decoding.{inst_of}
+use Rattle.mx_code.specs.Delay.{Code, code_from, data_from, delay}
+use Rattle.mx_code.specs.Clean.{is_inside, IsClean, Watched, watch_start}
+use Rattle.mx_icache.specs.Residency.{resident}
+use Rattle.mx_pcchain.specs.Chain.{chain_of}
+use Rattle.mx_turn.specs.Counted.{one}
+use Rattle.mx_turn.specs.Stages.{saved}
+use Rattle.mx_turn.specs.Cycle.{Machine, entered, start, cycled, after_bits}
+use Rattle.mx_turn.specs.Program.{Program}
+use Rattle.mx_turn.specs.Run.{is_requested, bits, passes, passed_on, run_of}
+use Rattle.mx_turn.specs.OneTurn.{IsOnBoard, Follows}
+use Rattle.mx_turn.proofs.Steps.{after_one_more}
+use Rattle.mx_handler.specs.Returns.{with_shipped}
+use Rattle.mx_interrupts.specs.Laws.{IsCleanImage}
+use Rattle.mx_interrupts.specs.Saves.{before_cycle, takes_in, in_cycle, Saved, IsTurn26}
+use Rattle.mx_interrupts.proofs.Watched.{watched_at, watched_more, clean_for_fewer}
+use Rattle.mx_interrupts.proofs.InUser.{InUser}
+use Rattle.mx_interrupts.proofs.Pauses.{Pause, handler_pause}
+use Rattle.mx_interrupts.proofs.Phases.{past}
+use Rattle.mx_interrupts.proofs.Cycles.{stands_start}
+use Rattle.mx_interrupts.proofs.Runs.{program, steps, Ran, runs, passed_few, length_bits}
+use Rattle.mx_interrupts.proofs.Interrupted.{Interrupted, interrupted, InPause, pause_goes, pause_ends}
+
+after_append : (code : Code) (input : Option (List ℕ)) (g h : List Bool) (m : Machine) → after_bits resident code input m (g ++ h) ≡ after_bits resident code input (after_bits resident code input m g) h
+after_append code input [] h m = refl
+after_append code input (b ∷ g) h m = after_append code input g h (cycled resident code input m b)
+
+passed_more : (q : Program) (g : List Bool) (b : Bool) (m : Machine) → passed_on q m (g ++ b ∷ []) ≡ passed_on q m g + one (passes (after_bits resident q.code q.input m g))
+passed_more q [] b m = omega arith
+passed_more q (a ∷ g) b m = let e = passed_more q g b (cycled resident q.code q.input m a) in omega (arith, e)
+
+-- the bits of later cycles
+bits_more : (requests : List ℕ) (n k : ℕ) → (g : List Bool) × (bits requests (k + n) ≡ bits requests n ++ g)
+bits_more requests n zero = ([], ap (bits requests) (let e : zero + n ≡ n = omega arith in e) ∙ sym (append-nil (bits requests n)))
+bits_more requests n (suc k) =
+    let r = bits_more requests n k in (
+      r.0 ++ is_requested requests (k + n) ∷ [],
+      ap (bits requests) (let e : suc k + n ≡ suc (k + n) = omega arith in e)
+          ∙ ap (λ h. h ++ is_requested requests (k + n) ∷ []) r.1
+          ∙ append_assoc (bits requests n) r.0 (is_requested requests (k + n) ∷ []),
+    )
+
+module _ (user : Code) (inside : ℕ → Bool) (p : Place) (input : Option (List ℕ)) (words : Words) (at_board : IsOnBoard p) (at_code : p.code ≡ 4096) (low : words 0 ≡ 0) (requests : List ℕ) (budget : ℕ) (clean : IsClean user inside p input words budget) where
+  abbrev q : Program
+  q = program user inside p input words
+
+  abbrev passed : ℕ → ℕ
+  passed n = passed_on q (start words) (bits requests n)
+
+  -- the steps that are done before a cycle
+  abbrev done : ℕ → Watched
+  done n = steps user inside p input words (passed n) (watch_start p words)
+
+  clean_at : (n : ℕ) → n ≤ budget → (done n).clean ≡ true
+  clean_at n h =
+      clean_for_fewer user inside p input (passed n) budget (watch_start p words)
+      (let e = passed_few q (bits requests n) (start words) in let f = length_bits requests n in omega (arith, e, f, h)) clean
+
+  ran_at : (n : ℕ) → n ≤ budget → Ran user inside p input words (bits requests n) (start words) (watch_start p words) 0 0 0
+  ran_at n h =
+      runs user inside p input words at_board at_code (bits requests n) (start words) (watch_start p words) 0 0 0
+      (stands_start user inside p input words at_code low) (clean_at n h)
+
+  step_one : (b : Bool) (s : Watched) → steps user inside p input words (one b) s ≡ past user inside p input b s
+  step_one true s = refl
+  step_one false s = refl
+
+  done_next : (n : ℕ) → done (suc n) ≡ past user inside p input (passes (before_cycle q requests n)) (done n)
+  done_next n =
+      ap (λ k. steps user inside p input words k (watch_start p words)) (passed_more q (bits requests n) (is_requested requests n) (start words))
+      ∙ watched_more user inside p input (passed n) (one (passes (before_cycle q requests n))) (watch_start p words)
+      ∙ step_one (passes (before_cycle q requests n)) (done n)
+
+  module _ (n : ℕ) (within : n < budget) (taken : takes_in q requests n ≡ true) where
+    abbrev m : Machine
+    m = before_cycle q requests n
+
+    abbrev m' : Machine
+    m' = before_cycle q requests (suc n)
+
+    is_next : m' ≡ cycled resident (with_shipped user) input m (is_requested requests n)
+    is_next = after_one_more resident (with_shipped user) input (start words) (bits requests n) (is_requested requests n)
+
+    was : Interrupted user inside p input m' (done (suc n)) m.counts.interrupts
+    was =
+        subst (λ x. Interrupted user inside p input x (done (suc n)) m.counts.interrupts) (sym is_next)
+        (subst (λ x. Interrupted user inside p input (cycled resident (with_shipped user) input m (is_requested requests n)) x m.counts.interrupts) (sym (done_next n))
+        (interrupted user inside p input at_board at_code m (is_requested requests n) (done n) _ _ _ (ran_at n (omega (arith, within))).stands taken
+        (sym (ap (λ (x : Watched). x.clean) (done_next n)) ∙ clean_at (suc n) (omega (arith, within)))))
+
+    saves : Saved p m' (done (suc n)).at
+    saves = let f = was.in_user.follows in record {
+      chain = ap (λ (x : Machine). x.chain) was.is ∙ (λ k. chain_of (saved (f.alu k)) (saved (f.rf k)) (saved (f.fetch k)));
+      regs = ap (λ (x : Machine). x.core.regs) was.is ∙ f.regs;
+      md = ap (λ (x : Machine). x.core.md) was.is ∙ f.md;
+      mem = λ a u. ap (λ (x : Machine). x.core.mem a) was.is ∙ f.mem a u;
+      taken = ap (λ (x : Machine). x.core.taken) was.is ∙ f.taken;
+    }
+
+    pause : Pause user inside p input (entered was.c) 25 (done (suc n)) (m.counts.interrupts + 1)
+    pause = handler_pause user inside p input was.c (done (suc n)) m.counts.interrupts at_board was.in_user was.goes
+
+    begins : InPause user inside p input (entered was.c) 25 (done (suc n)) (m.counts.interrupts + 1) pause m' 0
+    begins = record { goes = ap (λ (x : Machine). x.halted) was.is ∙ was.goes; is = was.is }
+
+    module _ (j : ℕ) (after : n < j) (turn : IsTurn26 m' (before_cycle q requests j)) where
+      abbrev g : List Bool
+      g = (bits_more requests (suc n) (j - suc n)).0
+
+      reaches : before_cycle q requests j ≡ after_bits resident (with_shipped user) input m' g
+      reaches =
+          ap (λ k. before_cycle q requests k) (let e : j ≡ j - suc n + suc n = omega (arith, after) in e)
+          ∙ ap (λ h. after_bits resident (with_shipped user) input (start words) h) (bits_more requests (suc n) (j - suc n)).1
+          ∙ after_append (with_shipped user) input (bits requests (suc n)) g (start words)
+
+      at_end : InPause user inside p input (entered was.c) 25 (done (suc n)) (m.counts.interrupts + 1) pause (before_cycle q requests j) 25
+      at_end =
+          subst (λ x. InPause user inside p input (entered was.c) 25 (done (suc n)) (m.counts.interrupts + 1) pause x 25) (sym reaches)
+          (pause_goes user inside p input (entered was.c) 25 (done (suc n)) (m.counts.interrupts + 1) pause g m' 0 25 begins
+          (sym (ap (λ (x : Machine). x.counts.fetches) reaches) ∙ turn.turns) (omega arith))
+
+      again : InUser user inside p input (in_cycle q requests j) (done (suc n)) (m.counts.interrupts + 1)
+      again = pause_ends user inside p input (entered was.c) 25 (done (suc n)) (m.counts.interrupts + 1) pause (before_cycle q requests j) (is_requested requests j) at_end
+
+      counted : (in_cycle q requests j).core.mem 0 ≡ (m'.core.mem 0 + 1) % 2 ^ 32
+      counted =
+          again.counted
+          ∙ (let e : (m.counts.interrupts + 1) % 2 ^ 32 ≡ (m.counts.interrupts % 2 ^ 32 + 1) % 2 ^ 32 = omega arith in e)
+          ∙ ap (λ w. (w + 1) % 2 ^ 32) (sym (ap (λ (x : Machine). x.core.mem 0) was.is ∙ was.in_user.counted))
+
+    is_delay : (done (suc n)).at ≡ delay user p input words (passed (suc n))
+    is_delay = watched_at user inside p input (passed (suc n)) (watch_start p words)
+
+    pub interrupt_saves : Saved p m' (delay user p input words (passed (suc n)))
+        × ((j : ℕ) → n < j → IsTurn26 m' (before_cycle q requests j)
+        → Follows p (in_cycle q requests j) (delay user p input words (passed (suc n))) × ((in_cycle q requests j).core.mem 0 ≡ (m'.core.mem 0 + 1) % 2 ^ 32))
+    interrupt_saves = (
+      subst (Saved p m') is_delay saves,
+      λ j after turn. (subst (Follows p (in_cycle q requests j)) is_delay (again j after turn).follows, counted j after turn),
+    )
+
+pub saves_all : (code_words data_words : List ℕ) (input : Option (List ℕ)) (requests : List ℕ) (budget : ℕ) (p : Place)
+    → IsOnBoard p → p.code ≡ 4096 → IsCleanImage code_words data_words p input budget
+    → (n : ℕ) → n < budget
+    → let user = code_from inst_of 4096 code_words in
+    let words = data_from 256 data_words in
+    let r = program user (is_inside p (length code_words)) p input words in
+    takes_in r requests n ≡ true
+    → let m = before_cycle r requests (suc n) in
+    let d = delay user p input words (run_of r requests (suc n)).passed in
+    Saved p m d
+    × ((j : ℕ) → n < j → IsTurn26 m (before_cycle r requests j)
+    → Follows p (in_cycle r requests j) d × ((in_cycle r requests j).core.mem 0 ≡ (m.core.mem 0 + 1) % 2 ^ 32))
+saves_all code_words data_words input requests budget p b c clean n within taken =
+    interrupt_saves (code_from inst_of 4096 code_words) (is_inside p (length code_words)) p input (data_from 256 data_words) b c refl requests budget clean n within taken
