@@ -44,7 +44,9 @@ pub enum Item {
 }
 
 impl Default for Item {
-    fn default() -> Item {
+    fn default() -> Item
+        ensures { result ≡ Item.Nop }
+    {
         Item::Nop
     }
 }

@@ -146,7 +146,9 @@ fn fits_16(z: i32) -> bool
 
 /// The no-op, `add r0,r0,r0`, which stands in the unused places of a fixed vector.
 impl Default for Inst {
-    fn default() -> Inst {
+    fn default() -> Inst
+        ensures { result ≡ Inst.Compute 0 0 0 Op.Add }
+    {
         Inst::Compute {
             a: Reg::ZERO,
             dest: Reg::ZERO,
