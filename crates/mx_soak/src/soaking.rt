@@ -60,7 +60,7 @@ fn link_greedily(alloc: Global, source: &Source) -> Result<Linked, Memory>
     match link(alloc, source, BOARD, &mut ListProposer) {
         Ok(linked) => Ok(linked),
         Err(LinkError::Memory) => Err(Memory),
-        Err(LinkError::Displacement { .. }) => Err(Memory),
+        Err(LinkError::Displacement { .. }) => unreachable!(),
     }
 }
 
