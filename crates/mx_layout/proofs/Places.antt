@@ -54,8 +54,8 @@ last_of source b h k = at_last (slice_get source.statements (b.first + size b - 
           statement = s;
           is = f;
           fits =
-          subst (λ (x : Statement). StatementFits (IsPlace source.labels (length source.statements)) x) (get_or_from_slice_get source.statements i s s f)
-            (h.statements_fit i s (slice_get_within source.statements i s f));
+              subst (λ (x : Statement). StatementFits (IsPlace source.labels (length source.statements)) x) (get_or_from_slice_get source.statements i s s f)
+              (h.statements_fit i s (slice_get_within source.statements i s f));
           ends = same_Some (statement_end s) b.end (ap (option_map statement_end) (sym f) ∙ k.end);
         }
 
