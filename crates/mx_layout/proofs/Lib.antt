@@ -1,6 +1,7 @@
 pub mod Sited
 pub mod Taken
 pub mod Sizes
+pub mod Places
 pub mod Reach
 pub mod Whole
 pub mod Links

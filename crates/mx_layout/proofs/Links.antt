@@ -1,5 +1,5 @@
 -- The link map of a layout.
-use Rattle.std.proofs.Common.{◌≡◌, ℕ, zero, suc, ◌+◌, ◌-◌, ◌<◌, ◌≤◌, Bool, true, false, cond, eqb, leb, ltb, ◌&&◌, List, [], ◌∷◌, length, Some, slice_index_or, refl, sym, ap, ◌∙◌, subst, ⊎_elim, All, arith}
+use Rattle.std.proofs.Common.{◌≡◌, ℕ, zero, suc, ◌+◌, ◌-◌, ◌<◌, ◌≤◌, Bool, true, false, cond, eqb, leb, ltb, ◌&&◌, List, [], ◌∷◌, length, Some, None, slice_index_or, refl, sym, ap, ◌∙◌, subst, ⊎_elim, All, arith}
 use Rattle.std.proofs.lemmas.Bool.{cases_Bool, cases_lt, false≢true}
 use Rattle.std.proofs.lemmas.Bool.Decides.{nat_tests}
 use Rattle.std.proofs.lemmas.Option.{none-some, same_Some}
@@ -9,7 +9,8 @@ use Rattle.mx_source.specs.SourceValue.{SourceValue}
 use Rattle.mx_blocks.specs.declared.block.Block.{Block}
 use Rattle.mx_blocks.specs.declared.block.Plan.{Plan}
 use Rattle.mx_blocks.specs.Leaders.{BlocksFrom, IsBlockOf, is_leader, size}
-use Rattle.mx_squash.specs.Copies.{Site, site_of}
+use Rattle.mx_blocks.specs.declared.block.End.TheVariants.{Branches, Calls}
+use Rattle.mx_squash.specs.Copies.{Site, site_of, is_target}
 use Rattle.mx_layout.specs.Layout.{IsLayout, plan_size, StandFrom, end_of, blocks_in, has_statement, link_of}
 
 has : (t low high : ℕ) → low ≤ t → t < high → (leb low t && ltb t high) ≡ true
@@ -133,3 +134,18 @@ leads source i j (s ∷ list) t h l m e = ⊎_elim
 -- the site of a leader's block is found
 pub leader_site : (Takes : Block → Plan → Type 0) (source : SourceValue) (place : Place) (list : List Site) (t : ℕ) → IsLayout Takes source place list → is_leader source t ≡ true → t < length source.statements → (s : Site) × (site_of (λ b. eqb b.first t) list ≡ Some s)
 leader_site Takes source place list t h e l = leads source 0 (length source.statements) list t h.blocks (omega arith) l e
+
+pub branch_link : (Takes : Block → Plan → Type 0) (source : SourceValue) (place : Place) (list : List Site) (target : ℕ) (s : Site) → IsLayout Takes source place list → site_of (is_target (Branches target)) list ≡ Some s → link_of place.code list target ≡ s.start
+branch_link Takes source place list target s h e = target_link Takes source place list target s h e
+
+pub call_link : (Takes : Block → Plan → Type 0) (source : SourceValue) (place : Place) (list : List Site) (target : ℕ) (s : Site) → IsLayout Takes source place list → site_of (is_target (Calls target)) list ≡ Some s → link_of place.code list target ≡ s.start
+call_link Takes source place list target s h e = target_link Takes source place list target s h e
+
+-- a leader with no site is the end
+pub no_site : (Takes : Block → Plan → Type 0) (source : SourceValue) (place : Place) (list : List Site) (t : ℕ) → IsLayout Takes source place list → is_leader source t ≡ true → t ≤ length source.statements → site_of (λ b. eqb b.first t) list ≡ None → (t ≡ length source.statements) × (link_of place.code list t ≡ end_of place.code list)
+no_site Takes source place list t h e l none = ⊎_elim
+    (λ below. let found = leader_site Takes source place list t h e below in absurd (none-some found.0 (sym none ∙ found.1)))
+    (λ past.
+    let same : t ≡ length source.statements = omega arith in
+    (same, ap (λ i. link_of place.code list i) same ∙ end_link Takes source place list h))
+    (cases_lt t (length source.statements))

@@ -1,10 +1,9 @@
 -- A branch that reaches its target in the padded layout reaches it in each layout of valid plans.
 use Rattle.std.proofs.Common.{◌≡◌, ℕ, zero, suc, ◌+◌, ◌-◌, ◌<◌, ◌≤◌, ◌⊎◌, Bool, true, false, cond, List, [], ◌∷◌, length, drop, Option, Some, None, slice_index_or, refl, sym, ap, ◌∙◌, subst, inl, inr, ⊎_elim, All, arith}
-use Rattle.std.specs.Prelude.{slice_index, slice_get}
+use Rattle.std.specs.Prelude.{slice_index}
 use Rattle.std.proofs.lemmas.Bool.Decides.{nat_tests}
 use Rattle.std.proofs.lemmas.List.{drop_more}
-use Rattle.std.proofs.lemmas.Option.{none-some, same_Some, slice_get_within, get_or_from_slice_get}
-use Rattle.std.specs.Option.{option_map}
+use Rattle.std.proofs.lemmas.Option.{none-some, same_Some}
 use Rattle.mx_isa.specs.declared.Place.{Place}
 use Rattle.mx_source.specs.declared.statement.Statement.{Statement}
 use Rattle.mx_source.specs.declared.statement.Statement.TheVariants.{Branch}
@@ -20,6 +19,7 @@ use Rattle.mx_layout.specs.declared.error.LinkError.{LinkError}
 use Rattle.mx_layout.specs.declared.error.LinkError.TheVariants.{Displacement, Memory}
 use Rattle.mx_layout.specs.Layout.{plan_size, StandFrom, blocks_in, has_statement, link_of}
 use Rattle.mx_layout.specs.Overlong.{Overlong, padded_size, padded_link, branch_target, unless_reached, overlong_to, or_else, overlong_from, overlong, IsReported}
+use Rattle.mx_layout.proofs.Places.{last_of}
 use Rattle.mx_layout.proofs.Sizes.{AreValid, first_valid, others_valid, padded_whole, valid_short}
 
 -- two addresses are no further apart than two others, on the same side
@@ -131,18 +131,10 @@ target_of P (Branch a b c target) t h e = subst P (same_Some target t e) h
 target_of P _ t h e = absurd (none-some t e)
 
 pub target_within : (source : SourceValue) (b : Block) (t : ℕ) → IsSource source → IsBlockOf source b → branch_target b.end ≡ Some t → t ≤ length source.statements
-target_within source b t h k e = at_last (slice_get source.statements (b.first + size b - 1)) refl
-  where
-    at_last : (o : Option Statement) → slice_get source.statements (b.first + size b - 1) ≡ o → t ≤ length source.statements
-    at_last None f = absurd (none-some b.end (ap (option_map statement_end) (sym f) ∙ k.end))
-    at_last (Some s) f =
-        let last = b.first + size b - 1 in
-        let same : statement_end s ≡ b.end = same_Some (statement_end s) b.end (ap (option_map statement_end) (sym f) ∙ k.end) in
-        let fits : StatementFits (IsPlace source.labels (length source.statements)) s =
-        subst (λ (x : Statement). StatementFits (IsPlace source.labels (length source.statements)) x) (get_or_from_slice_get source.statements last s s f)
-        (h.statements_fit last s (slice_get_within source.statements last s f)) in
-        let place = target_of (IsPlace source.labels (length source.statements)) s t fits (ap branch_target same ∙ e) in
-        place.within
+target_within source b t h k e =
+    let last = last_of source b h k in
+    let place = target_of (IsPlace source.labels (length source.statements)) last.statement t last.fits (ap branch_target last.ends ∙ e) in
+    place.within
 
 -- the branch of a block by two link maps that agree on what branches may name
 pub overlong_to-same : (source : SourceValue) (link link' : ℕ → ℕ) (at : ℕ) (b : Block) → IsSource source → IsBlockOf source b → ((t : ℕ) → t ≤ length source.statements → link t ≡ link' t) → overlong_to source link at b (branch_target b.end) ≡ overlong_to source link' at b (branch_target b.end)

@@ -9,3 +9,6 @@ mod reaching;
 
 pub use error::LinkError;
 pub use layout::{Layout, lay_out};
+
+#[cfg(test)]
+mod tests;

@@ -12,8 +12,8 @@ use mx_source::Source;
 use mx_validate::padded;
 use std::alloc::Global;
 
-/// Finds the first branch, in source order, that would not reach its target, had each block its padded plan and
-/// stood the blocks from an address on.
+/// Refuses the first branch, in source order, that would not reach its target, had each block its padded plan and
+/// began the code at an address.
 pub(crate) fn check_reach(
     alloc: Global,
     source: &Source,
@@ -30,7 +30,7 @@ pub(crate) fn check_reach(
     check_branches(source, first, blocks, sizes.as_slice(), links.as_slice())
 }
 
-/// Finds the first branch, in source order, that does not reach its target by the link map.
+/// Refuses the first branch, in source order, that does not reach its target by the link map of padded blocks.
 fn check_branches(
     source: &Source,
     first: u32,
