@@ -63,12 +63,13 @@ pub fn fault<R: Files + AllocGlobal>(rt: &R, name: &str) -> Result<String> {
 }
 
 /// How the meaning of `meanings/NAME.s` ends, for the case `STATUS NAME` or `STATUS NAME INPUT`. What it prints
-/// stands in `meanings/NAME.out`.
+/// stands in `meanings/NAME.out`, and the canonical text of the source in `meanings/NAME.txt`.
 pub fn meaning<R: Files + AllocGlobal>(rt: &R, case: &str) -> Result<String> {
     let alloc = rt.alloc();
     let (name, input) = case.split_once(" ").unwrap_or((case, ""));
     let text = fs::read(rt, format!(in alloc; "meanings/{name}.s")?)?;
     let wanted = fs::read(rt, format!(in alloc; "meanings/{name}.out")?)?;
+    let canonical = fs::read(rt, format!(in alloc; "meanings/{name}.txt")?)?;
     let source = match assemble_text(alloc, text.as_slice())? {
         Assembled::Source(source) => source,
         Assembled::Refused { line, fault } => {
@@ -76,7 +77,10 @@ pub fn meaning<R: Files + AllocGlobal>(rt: &R, case: &str) -> Result<String> {
         }
     };
     let (status, output) = meaning_of(alloc, &source, input.as_bytes())?;
+    let printed = source.print(alloc)?;
     let note = if output.as_slice() != wanted.as_slice() {
+        ", of another meaning"
+    } else if printed.as_slice() != canonical.as_slice() {
         ", printed otherwise"
     } else if !reads_back(alloc, &source)? {
         ", not read back"
