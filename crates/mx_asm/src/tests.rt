@@ -5,6 +5,9 @@ use std::test::Fail;
 const TEXT: &[u8] =
     b"next: ld 254[r0],r1 ; takes a byte\n.input\nla next,r2\nb next\n.data\nw: .word next,-1\n";
 
+const CANONICAL: &[u8] =
+    b".input\nnext:\nld 254[r0],r1\nla next,r2\nbeq r0,r0,next\n.data\nw:\n.word next\n.word 4294967295\n";
+
 #[test]
 fn assembles_a_text(rt: HostRuntime) -> Result<(), Fail> {
     let source = assemble(rt.alloc(), TEXT)?;
@@ -122,5 +125,19 @@ fn prints_and_reads_back(rt: HostRuntime) -> Result<(), Fail> {
         let printed = assemble(rt.alloc(), text)?.print(rt.alloc())?;
         assert_eq!(rt; printed.as_slice(), PRINTED);
     }
+    Ok(())
+}
+
+#[test]
+fn reads_back_the_canonical_text(rt: HostRuntime) -> Result<(), Fail> {
+    let source = assemble(rt.alloc(), TEXT)?;
+    let text = source.print(rt.alloc())?;
+    assert!(rt; text.as_slice() == CANONICAL);
+    assert!(rt; text.len() <= 100);
+    let again = assemble(rt.alloc(), text.as_slice())?;
+    assert!(rt; again.statements() == source.statements());
+    assert!(rt; again.user_data() == source.user_data());
+    assert_eq!(rt; again.labels().len(), 2);
+    assert_eq!(rt; again.input(), Some(1));
     Ok(())
 }
