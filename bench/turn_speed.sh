@@ -1,10 +1,10 @@
-#!/bin/sh
-# Prints how many cycles per second the turn machine runs: 100,000,000 cycles of a nested counting loop, or as many as the
-# first word says. Run `rt run` in crates/turn_speed first, which builds the program.
-set -eu
-cycles="${1:-100000000}"
-program="$(dirname "$0")/../crates/turn_speed/out/turn_speed"
-begin=$(date +%s%N)
-"$program" "$cycles"
-end=$(date +%s%N)
-awk -v n="$cycles" -v t="$((end - begin))" 'BEGIN { printf "%.1f million cycles per second\n", n / t * 1000 }'
+#!/bin/bash
+# Cycles a second of the turn machine, by the built program: 100,000,000 cycles of a nested counting loop, or as many as the
+# first word says: bench/turn_speed.sh [CYCLES]
+set -e
+cycles=${1:-100000000}
+cd "$(dirname "$0")/../crates/turn_speed"
+rt run -- 1000 >/dev/null 2>&1 # proves and builds it, where it is not built
+TIMEFORMAT=%U
+seconds=$( { time ./out/turn_speed "$cycles" >/dev/null; } 2>&1 )
+awk -v n="$cycles" -v s="$seconds" 'BEGIN { printf "%d cycles in %.2f processor seconds: %.1f million a second\n", n, s, n / s / 1e6 }'
