@@ -1,5 +1,5 @@
 -- Steps of a run, and a run that has ended.
-use Rattle.std.proofs.Common.{◌≡◌, ◌≢◌, ℕ, zero, suc, ◌+◌, Bool, true, false, cond, List, [], ◌++◌, option_to_list, append-nil, Option, Some, None, refl, sym, ap, ◌∙◌, arith}
+use Rattle.std.proofs.Common.{◌≡◌, ◌≢◌, ℕ, zero, suc, ◌+◌, Bool, true, false, cond, ◌++◌, option_to_list, append-nil, Option, Some, None, refl, ap, ◌∙◌}
 use Rattle.std.specs.Prelude.{slice_get}
 use Rattle.mx_source.specs.declared.Value.{Value}
 use Rattle.mx_source.specs.declared.Value.TheVariants.{Int, Code}

@@ -1,5 +1,5 @@
 -- The place of the board: code from 4096, user data from 256 to 65535, the console at 255 and the input at 254.
-use Rattle.std.specs.Prelude.{◌≡◌, ◌≢◌, ℕ, Bool, true, false, eqb}
+use Rattle.std.specs.Prelude.{◌≢◌, ℕ, Bool, true, false, eqb}
 use Rattle.std.proofs.Common.{lit<, lit≤, subst}
 use Rattle.mx_isa.specs.declared.Place.{Place}
 

@@ -1,10 +1,10 @@
-use Rattle.std.proofs.Common.{◌≡◌, ◌≢◌, ℕ, suc, ◌+◌, ◌-◌, List, Option, Some, None, IfSome, subst, sym, ap, ◌∙◌, arith}
-use Rattle.mx_source.specs.Meaning.{Going, Mark, Program, State, Run, run_step, run_for}
+use Rattle.std.proofs.Common.{◌≡◌, ◌≢◌, ℕ, suc, ◌+◌, ◌-◌, Option, IfSome, subst, sym, ap, ◌∙◌, arith}
+use Rattle.mx_source.specs.Meaning.{Going, Mark, Program, Run, run_step, run_for}
 use Rattle.mx_seq.specs.Seqs.{program_of, state_of}
 use Rattle.mx_meaning.specs.declared.steps.Ending.{Ending}
 use Rattle.mx_meaning.specs.Told.{went, steps_in}
 use Rattle.mx_meaning.specs.Endings.{mark_of, mark_after}
-use Rattle.mx_meaning.proofs.Walks.{run_still, steps_still, next_run, next_steps}
+use Rattle.mx_meaning.proofs.Walks.{run_still, steps_still, next_steps}
 use Rattle.mx_meaning.proofs.steps.run_steps.Goals as goal
 
 pub returns-in-Some-clause-run : goal.returns-in-Some-clause-run

@@ -1,5 +1,5 @@
-use Rattle.std.proofs.Common.{◌≡◌, ◌≢◌, ℕ, List, ◌++◌, option_to_list, append-nil, Option, None, sym, ap, ◌∙◌}
-use Rattle.mx_source.specs.Meaning.{Going, Stuck, Mark, Program, State, step}
+use Rattle.std.proofs.Common.{◌≡◌, ℕ, List, ◌++◌, option_to_list, append-nil, Option, None, sym, ap, ◌∙◌}
+use Rattle.mx_source.specs.Meaning.{Going, Stuck, Program, State, step}
 use Rattle.mx_seq.specs.Seqs.{program_of, state_of}
 use Rattle.mx_meaning.proofs.Walks.{is_stuck_by, ends_silently}
 use Rattle.mx_meaning.proofs.steps.take_step.Goals as goal

@@ -1,8 +1,7 @@
 use Rattle.std.proofs.Common.{◌≡◌, ℕ, List, [], ◌++◌, codes, sym, ap, ◌∙◌}
-use Rattle.mx_source.specs.Meaning.{Mark, Program, State, Run, program, start, run_for}
-use Rattle.mx_seq.specs.Seqs.{program_of, state_of}
+use Rattle.mx_source.specs.Meaning.{Mark, Program, Run, program, start, run_for}
+use Rattle.mx_seq.specs.Seqs.{state_of}
 use Rattle.mx_text.specs.Text.{count_line, console_lines}
-use Rattle.mx_answer.specs.declared.Status.{Status}
 use Rattle.mx_answer.specs.Answer.{prints}
 use Rattle.mx_meaning.specs.Told.{steps_in, mark_text, last_text, meaning_text, status_of, meaning_answer}
 use Rattle.mx_meaning.specs.Endings.{mark_of, told_text}

@@ -1,4 +1,4 @@
-use Rattle.std.proofs.Common.{◌≡◌, ◌<◌, ◌+◌, ◌-◌, ◌++◌, ℕ, List, [], ap, sym, ◌∙◌, append_assoc, append-nil, arith}
+use Rattle.std.proofs.Common.{◌≡◌, ◌+◌, ◌-◌, ◌++◌, ℕ, List, [], ap, sym, ◌∙◌, append_assoc, append-nil, arith}
 use Rattle.mx_source.specs.Values.{value_in}
 use Rattle.mx_seq.specs.Seqs.{state_of}
 use Rattle.mx_text.specs.Text.{register_line, lines_from}
