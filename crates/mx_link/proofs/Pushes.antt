@@ -69,10 +69,10 @@ pub before_next : (Q : Inst → Type 0) (link : ℕ → ℕ) (statements : List 
 before_next Q link statements s c n item e q h p other low f = ⊎_elim
     (λ below. h p other below f)
     (λ at.
-      let same : n ≡ p = omega arith in
-      let item_same : item ≡ other = same_Some item other (sym e ∙ ap (slice_get (items_of s.plan)) same ∙ f) in
-      subst (λ (m : ℕ). Q (inst_at link statements c (s.start + m) (origin_at s c m other))) same
-      (subst (λ (x : Item). Q (inst_at link statements c (s.start + n) (origin_at s c n x))) item_same q))
+    let same : n ≡ p = omega arith in
+    let item_same : item ≡ other = same_Some item other (sym e ∙ ap (slice_get (items_of s.plan)) same ∙ f) in
+    subst (λ (m : ℕ). Q (inst_at link statements c (s.start + m) (origin_at s c m other))) same
+    (subst (λ (x : Item). Q (inst_at link statements c (s.start + n) (origin_at s c n x))) item_same q))
     (cases_lt p n)
 
 -- one more piece

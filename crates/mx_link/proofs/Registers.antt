@@ -1,7 +1,7 @@
 -- Each statement of a source stands in its linked code as it is, so that its registers are those of its word.
 use Rattle.std.proofs.Common.{◌≡◌, ℕ, suc, ◌+◌, ◌-◌, ◌<◌, ◌≤◌, Bool, true, false, cond, eqb, List, [], ◌∷◌, length, Option, Some, None, refl, sym, ap, ◌∙◌, subst, inl, inr, ⊎_elim, arith}
-use Rattle.std.specs.Prelude.{slice_get, slice_index_or, ◌&&◌, ◌||◌, ◌⊎◌, min}
-use Rattle.std.proofs.lemmas.Bool.{cases_Bool, cases_lt, false≢true}
+use Rattle.std.specs.Prelude.{slice_get, slice_index_or, ◌||◌, ◌⊎◌, min}
+use Rattle.std.proofs.lemmas.Bool.{cases_lt, false≢true}
 use Rattle.std.proofs.lemmas.Bool.Decides.{nat_tests}
 use Rattle.std.proofs.lemmas.Option.{same_Some, slice_get-get_or}
 use Rattle.mx_code.specs.Codes.{HasRegisters}
@@ -18,7 +18,7 @@ use Rattle.mx_validate.specs.Padded.{items_of}
 use Rattle.mx_validate.specs.Validity.{Valid}
 use Rattle.mx_validate.proofs.Listed.{counted_stands, once_all}
 use Rattle.mx_squash.specs.declared.Copied.{Copied}
-use Rattle.mx_squash.specs.Copies.{Site, site_of, is_target, is_nop, slot, room, room_for, may_stay, most, count, is_too_far, is_fed, copyable, filled, item_at, no_copies, copied}
+use Rattle.mx_squash.specs.Copies.{Site, site_of, is_target, is_nop, slot, room, room_for, may_stay, count, is_too_far, is_fed, copyable, filled, item_at, copied}
 use Rattle.mx_layout.specs.Layout.{IsLayout, blocks_in}
 use Rattle.mx_isa.specs.declared.Place.{Place}
 use Rattle.mx_link.specs.declared.code.Slots.{Slots}
@@ -42,6 +42,7 @@ slot_places c place p k = by_tests (eqb p (place + 1)) (eqb p (place + 2)) refl 
   where
     equal : (m n : ℕ) → eqb m n ≡ true → m ≡ n
     equal m n e = grind (arith, nat_tests)
+
     by_tests : (a b : Bool) → eqb p (place + 1) ≡ a → eqb p (place + 2) ≡ b → cond a (slice_index_or c.from 0 Nop) (cond b (slice_index_or c.from 1 Nop) Nop) ≡ Op k → ((p ≡ place + 1) × (slice_index_or c.from 0 Nop ≡ Op k)) ⊎ ((p ≡ place + 2) × (slice_index_or c.from 1 Nop ≡ Op k))
     by_tests true b f g e = inl (equal p (place + 1) f, e)
     by_tests false true f g e = inr (equal p (place + 2) g, e)
@@ -53,6 +54,7 @@ first_filled free n first second k = by_tests (eqb n 0) (eqb free 1) (eqb n 1) r
   where
     some : eqb n 0 ≡ false → 1 ≤ n
     some f = grind (arith, nat_tests)
+
     by_tests : (a b c : Bool) → eqb n 0 ≡ a → eqb free 1 ≡ b → slice_index_or (cond a (Nop ∷ Nop ∷ []) (cond b (Nop ∷ first ∷ []) (cond c (first ∷ Nop ∷ []) (first ∷ second ∷ [])))) 0 Nop ≡ Op k → (1 ≤ n) × (eqb free 1 ≡ false)
     by_tests true b c f g e = absurd (nop_op k e)
     by_tests false true c f g e = absurd (nop_op k e)
@@ -63,6 +65,7 @@ second_filled free n first second k = by_tests (eqb n 0) (eqb free 1) (eqb n 1) 
   where
     some : eqb n 0 ≡ false → 1 ≤ n
     some f = grind (arith, nat_tests)
+
     by_tests : (a b c : Bool) → eqb n 0 ≡ a → slice_index_or (cond a (Nop ∷ Nop ∷ []) (cond b (Nop ∷ first ∷ []) (cond c (first ∷ Nop ∷ []) (first ∷ second ∷ [])))) 1 Nop ≡ Op k → 1 ≤ n
     by_tests true b c f e = absurd (nop_op k e)
     by_tests false b c f e = some f
@@ -95,12 +98,12 @@ kept_free s g p k j stands e =
     let small = count_room s g in
     ⊎_elim
     (λ h.
-      let some = first_filled free n (item_at g.plan 0) (item_at g.plan 1) j h.1 in
-      let one = some.0 in
-      no_op_there s p k 1 h.0 (room_first s.block.end (may_stay s.block) (is_nop (slot s.plan 1)) (is_nop (slot s.plan 2)) (omega arith) some.1) stands)
+    let some = first_filled free n (item_at g.plan 0) (item_at g.plan 1) j h.1 in
+    let one = some.0 in
+    no_op_there s p k 1 h.0 (room_first s.block.end (may_stay s.block) (is_nop (slot s.plan 1)) (is_nop (slot s.plan 2)) (omega arith) some.1) stands)
     (λ h.
-      let one = second_filled free n (item_at g.plan 0) (item_at g.plan 1) j h.1 in
-      no_op_there s p k 2 h.0 (room_second s.block.end (may_stay s.block) (is_nop (slot s.plan 1)) (is_nop (slot s.plan 2)) (omega arith)) stands)
+    let one = second_filled free n (item_at g.plan 0) (item_at g.plan 1) j h.1 in
+    no_op_there s p k 2 h.0 (room_second s.block.end (may_stay s.block) (is_nop (slot s.plan 1)) (is_nop (slot s.plan 2)) (omega arith)) stands)
     (slot_places (copied s (Some g)) s.plan.place p j e)
 
 copied_free : (s : Site) (o : Option Site) (p k j : ℕ) → StandsAt (items_of s.plan) p k → copied_to (copied s o) s.plan.place p ≡ Op j → ⊥

@@ -6,6 +6,8 @@ use Rattle.mx_isa.specs.Fields.{InstFits}
 use Rattle.mx_code.specs.Codes.{word_of_row, HasRegisters}
 use Rattle.mx_source.specs.declared.Statement.{Statement}
 use Rattle.mx_source.specs.SourceValue.{SourceValue}
+use Rattle.mx_blocks.specs.declared.Block.{Block}
+use Rattle.mx_blocks.specs.declared.Plan.{Plan}
 use Rattle.mx_blocks.specs.declared.Item.{Item}
 use Rattle.mx_blocks.specs.Leaders.{inst_of}
 use Rattle.mx_validate.specs.Padded.{items_of}
@@ -24,6 +26,9 @@ use Rattle.mx_link.specs.Words.{insts_from, inst_at}
 abbrev pub filling_of : Slots → Filling
 filling_of FromTarget = from_target
 filling_of Kept = from_nowhere
+
+abbrev pub site : Block → Plan → ℕ → Site
+site block plan start = record { block = block; plan = plan; start = start }
 
 abbrev pub sites_of : Layout → List Site
 sites_of l = sites l.blocks.items l.plans.items l.starts.items

@@ -80,9 +80,9 @@ loop-k-preserved c =
           ∙ ap (λ x. c.loop-k.code.words.items ++ site_words (link_in l) statements s x) copied)
           c.loop-k.invariant.words;
       registers = next_site (λ (x : Site). EachInst HasRegisters (link_in l) statements x (filling all x)) all k s at
-        (subst (λ (x : Copied). EachInst HasRegisters (link_in l) statements s x) copied
-        (subst (λ (links : List ℕ). EachInst HasRegisters (slice_index links) statements s c.copied_at-copied.result) c.as_slice.ensures.value c.in_ok-push_block.ensures.registers))
-        c.loop-k.invariant.registers;
+          (subst (λ (x : Copied). EachInst HasRegisters (link_in l) statements s x) copied
+          (subst (λ (links : List ℕ). EachInst HasRegisters (slice_index links) statements s c.copied_at-copied.result) c.as_slice.ensures.value c.in_ok-push_block.ensures.registers))
+          c.loop-k.invariant.registers;
       origin = flat_pushed (λ x. origins_at x (filling all x)) all k s c.loop-k.code.origin.items _ _ at
           (c.in_ok-push_block.ensures.origin ∙ ap (λ x. c.loop-k.code.origin.items ++ origins_at s x) copied)
           c.loop-k.invariant.origin;
@@ -116,6 +116,6 @@ returns-clause-registers c =
     let count = length-sites l.blocks.items l.plans.items l.starts.items c.requires.plans c.requires.starts in
     have_registers source c.requires.place (link_in l) c.args.slots all c.requires.layout
     (λ k s e.
-      let low = slice_get_within all k s e in
-      subst (λ (xs : List Statement). EachInst HasRegisters (link_in l) xs s (filling all s)) c.statements-statements.ensures.value
-      (c.loop-k.invariant.registers k s (omega (arith, c.loop-k-test.false, c.len-k-end.ensures)) e))
+    let low = slice_get_within all k s e in
+    subst (λ (xs : List Statement). EachInst HasRegisters (link_in l) xs s (filling all s)) c.statements-statements.ensures.value
+    (c.loop-k.invariant.registers k s (omega (arith, c.loop-k-test.false, c.len-k-end.ensures)) e))

@@ -1,4 +1,4 @@
-use Rattle.std.proofs.Common.{◌≡◌, ◌<◌, ◌+◌, ◌++◌, ◌∷◌, [], length, Some, slice_index, slice_index_or, sym, ap, ◌∙◌, subst, arith}
+use Rattle.std.proofs.Common.{◌≡◌, ◌<◌, ◌+◌, ◌++◌, ◌∷◌, [], length, Some, slice_index, slice_index_or, ap, ◌∙◌, subst, arith}
 use Rattle.std.specs.Prelude.{slice_get}
 use Rattle.std.proofs.lemmas.Option.{slice_get-get_or}
 use Rattle.mx_isa.specs.declared.Inst.{Inst}
@@ -27,12 +27,12 @@ loop-p-preserved c =
     c.inst_at-inst.ensures ∙ ap (inst_at link statements copied (c.args.start + p)) origin in
     record {
       words =
-        ap (λ ws. ws ++ words_after link statements s copied (p + 1))
-        (c.in_ok-push_word.ensures.words ∙ ap (λ (i : Inst). c.loop-p.code.words.items ++ word_of_row i ∷ []) inst)
-        ∙ word_pushed link statements s copied p item c.loop-p.code.words.items _ at c.loop-p.invariant.words;
+          ap (λ ws. ws ++ words_after link statements s copied (p + 1))
+          (c.in_ok-push_word.ensures.words ∙ ap (λ (i : Inst). c.loop-p.code.words.items ++ word_of_row i ∷ []) inst)
+          ∙ word_pushed link statements s copied p item c.loop-p.code.words.items _ at c.loop-p.invariant.words;
       registers = before_next HasRegisters link statements s copied p item at (subst HasRegisters inst c.in_ok-push_word.ensures.registers) c.loop-p.invariant.registers;
       origin =
-        ap (λ os. os ++ origins_after s copied (p + 1))
-        (c.in_ok-push_word.ensures.origin ∙ ap (λ o. c.loop-p.code.origin.items ++ o ∷ []) origin)
-        ∙ origin_pushed s copied p item c.loop-p.code.origin.items _ at c.loop-p.invariant.origin;
+          ap (λ os. os ++ origins_after s copied (p + 1))
+          (c.in_ok-push_word.ensures.origin ∙ ap (λ o. c.loop-p.code.origin.items ++ o ∷ []) origin)
+          ∙ origin_pushed s copied p item c.loop-p.code.origin.items _ at c.loop-p.invariant.origin;
     }
