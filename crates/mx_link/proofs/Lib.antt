@@ -7,3 +7,4 @@ pub mod Linkable
 pub mod Sizes
 pub mod Relinked
 pub mod Registers
+pub mod Spelled
