@@ -6,3 +6,5 @@ pub mod Slots
 pub mod Linkable
 pub mod Sizes
 pub mod Relinked
+pub mod Registers
+pub mod Spelled

@@ -1,11 +1,10 @@
 -- Each word of a layout spells an instruction.
-use Rattle.std.proofs.Common.{◌≡◌, ℕ, ◌+◌, ◌-◌, ◌<◌, ◌≤◌, true, false, eqb, List, length, All, Option, Some, None, refl, sym, ap, ◌∙◌, subst, ⊎_elim, arith}
+use Rattle.std.proofs.Common.{◌≡◌, ℕ, ◌+◌, ◌-◌, ◌*◌, ◌<◌, ◌≤◌, true, false, eqb, List, length, All, Option, Some, None, refl, sym, ap, ◌∙◌, subst, ⊎_elim, arith}
 use Rattle.std.specs.Prelude.{slice_get, slice_index, slice_index_or}
 use Rattle.std.specs.Option.{option_map}
-use Rattle.std.proofs.lemmas.Bool.{cases_lt, false≢true}
+use Rattle.std.proofs.lemmas.Bool.{false≢true}
 use Rattle.std.proofs.lemmas.Bool.Decides.{nat_tests}
 use Rattle.std.proofs.lemmas.Grind.{common_steps}
-use Rattle.std.proofs.lemmas.List.{get_or_past}
 use Rattle.std.proofs.lemmas.Option.{none-some, same_Some}
 use Rattle.mx_isa.specs.Fields.{InstFits}
 use Rattle.mx_source.specs.declared.Statement.{Statement}
@@ -25,19 +24,23 @@ use Rattle.mx_validate.specs.Validity.{Valid}
 use Rattle.mx_validate.proofs.Listed.{once_below}
 use Rattle.mx_squash.specs.declared.Copied.{Copied}
 use Rattle.mx_squash.specs.Copies.{Site, site_of, is_target, is_branch_end, reaches, no_copies, copied, count}
+use Rattle.mx_isa.specs.declared.Place.{Place}
 use Rattle.mx_layout.specs.declared.Layout.{Layout}
-use Rattle.mx_layout.specs.Layout.{link_of, plan_size}
+use Rattle.mx_layout.specs.Layout.{IsLayout, link_of, plan_size, blocks_in}
 use Rattle.mx_layout.specs.Layout.{end_of as end_at}
-use Rattle.mx_layout.specs.Overlong.{branch_target}
+use Rattle.mx_layout.specs.Overlong.{branch_target, overlong}
+use Rattle.mx_layout.proofs.Reach.{layout_reaches}
+use Rattle.mx_layout.proofs.Sizes.{end_short, covered}
 use Rattle.mx_layout.proofs.Links.{site_blocks, first_link, site_found, link_within}
 use Rattle.mx_link.specs.declared.code.Slots.{Slots}
 use Rattle.mx_link.specs.declared.code.Slots.TheVariants.{FromTarget, Kept}
 use Rattle.mx_link.specs.Origins.{goal_of, own, over, copied_to}
 use Rattle.mx_link.specs.Words.{linked_statement, inst_at}
-use Rattle.mx_link.specs.Parts.{filling_of, sites_of, link_in, IsLaidOut, HasWords}
+use Rattle.mx_link.specs.Parts.{filling_of, sites_of, link_in, Reach, IsLaidOut, HasWords, origin_at}
 use Rattle.mx_link.proofs.Places.{at_place, site_below, sites_below}
 use Rattle.mx_link.proofs.Bodies.{is_last_of, last_stands, copy_goes_on}
 use Rattle.mx_link.proofs.Fits.{inst_fits}
+use Rattle.mx_link.proofs.Relinked.{same_at}
 use Rattle.mx_link.proofs.Slots.{copied_op, copied_none, count_cases, count_small, copyable_small}
 
 -- where a site's transfer goes behind its copies, and what is copied
@@ -108,54 +111,57 @@ goal_small source block is b = by_last (slice_get source.statements (block.first
         subst (λ (x : End). goal_of x ≤ length source.statements) (same_Some (end_of t) block.end (sym (ap (option_map end_of) e) ∙ b.end))
         (by_statement t (fits_at source is (block.first + size block - 1) t e))
 
-block_of : (source : SourceValue) (l : Layout) (k : ℕ) (s : Site) → IsLaidOut source l → slice_get (sites_of l) k ≡ Some s → IsBlockOf source s.block
-block_of source l k s h e = at_place (λ (x : Site). IsBlockOf source x.block) (sites_of l) k s (site_blocks Valid source h.place (sites_of l) h.layout) e
+-- valid plans of a source one behind the other, so that each branch reaches its target and each address fits
+pub record Laid (source : SourceValue) (place : Place) (all : List Site) : Type 0 where
+  pub layout : IsLayout Valid source place all
+  pub reach : Reach place all
+  pub below : end_at place.code all ≤ 65535
 
--- links of a layout are at most 65535
-pub link_short : (source : SourceValue) (l : Layout) → IsLaidOut source l → (i : ℕ) → link_in l i ≤ 65535
-link_short source l h i = ⊎_elim
-    (λ within.
-    let same = h.links i (omega arith) in
-    let below = (link_within h.place.code (sites_of l) i).1 in
-    let short = h.short in
-    let room = h.room in
-    omega arith)
-    (λ past. let count = h.links_count in let zero = get_or_past l.links.items i 0 (omega arith) in omega arith)
-    (cases_lt i (length source.statements + 1))
+pub laid : (source : SourceValue) (place : Place) (all : List Site) → IsLayout Valid source place all → overlong source place (blocks_in all) ≡ None → place.code + 3 * length source.statements ≤ 65535 → Laid source place all
+laid source place all layout fits room = record {
+  layout = layout;
+  reach = layout_reaches source place all layout.stand layout.plans fits;
+  below =
+      let end = end_short place.code all layout.plans in
+      let whole = covered source 0 (length source.statements) (blocks_in all) layout.blocks in
+      omega arith;
+}
+
+block_of : (source : SourceValue) (place : Place) (all : List Site) (k : ℕ) (s : Site) → Laid source place all → slice_get all k ≡ Some s → IsBlockOf source s.block
+block_of source place all k s h e = at_place (λ (x : Site). IsBlockOf source x.block) all k s (site_blocks Valid source place all h.layout) e
+
+link_short : (source : SourceValue) (place : Place) (all : List Site) → Laid source place all → (i : ℕ) → link_of place.code all i ≤ 65535
+link_short source place all h i = let within = (link_within place.code all i).1 in let below = h.below in omega arith
 
 -- nothing is copied
-goes_plain : (source : SourceValue) (l : Layout) (k : ℕ) (s : Site) (c : Copied) → IsSource source → IsLaidOut source l → slice_get (sites_of l) k ≡ Some s → c.count ≡ 0 → ((p j : ℕ) (t : Statement) → copied_to c s.plan.place p ≡ Op j → slice_get source.statements (goal_of s.block.end + j) ≡ Some t → is_last (inst_of t) ≡ false) → Goes source (link_in l) s c
-goes_plain source l k s c is h e none copies = record {
-  short = link_short source l h;
-  call = λ target f. (let low = link_short source l h target in omega arith);
+goes_plain : (source : SourceValue) (place : Place) (all : List Site) (k : ℕ) (s : Site) (c : Copied) → Laid source place all → slice_get all k ≡ Some s → c.count ≡ 0 → ((p j : ℕ) (t : Statement) → copied_to c s.plan.place p ≡ Op j → slice_get source.statements (goal_of s.block.end + j) ≡ Some t → is_last (inst_of t) ≡ false) → Goes source (link_of place.code all) s c
+goes_plain source place all k s c h e none copies = record {
+  short = link_short source place all h;
+  call = λ target f. (let low = link_short source place all h target in omega arith);
   branch = λ target f.
-      let small = goal_small source s.block is (block_of source l k s h e) in
-      let same : goal_of s.block.end ≡ target = ap goal_of f in
-      let link : link_in l target + c.count ≡ link_of h.place.code (sites_of l) target = (let at = h.links target (omega arith) in omega arith) in
+      let link : link_of place.code all target + c.count ≡ link_of place.code all target = omega arith in
       ap (reaches (s.start + s.plan.place)) link
-      ∙ at_place (λ (x : Site). (t : ℕ) → branch_target x.block.end ≡ Some t → reaches (x.start + x.plan.place) (link_of h.place.code (sites_of l) t) ≡ true) (sites_of l) k s h.reach e target (ap branch_target f);
+      ∙ at_place (λ (x : Site). (t : ℕ) → branch_target x.block.end ≡ Some t → reaches (x.start + x.plan.place) (link_of place.code all t) ≡ true) all k s h.reach e target (ap branch_target f);
   copies = copies;
 }
 
 -- the goal of a site's copies
-record IsGoal (source : SourceValue) (l : Layout) (h : IsLaidOut source l) (s g : Site) : Type 0 where
+record IsGoal (source : SourceValue) (place : Place) (all : List Site) (s g : Site) : Type 0 where
   is : is_target s.block.end g.block ≡ true
-  link : link_of h.place.code (sites_of l) g.block.first ≡ g.start
+  link : link_of place.code all g.block.first ≡ g.start
   block : IsBlockOf source g.block
   valid : Valid g.block g.plan
   below : g.start + plan_size g.plan ≤ 65535
 
-goal_is : (source : SourceValue) (l : Layout) (s g : Site) (h : IsLaidOut source l) → site_of (is_target s.block.end) (sites_of l) ≡ Some g → IsGoal source l h s g
-goal_is source l s g h e =
+goal_is : (source : SourceValue) (place : Place) (all : List Site) (s g : Site) (h : Laid source place all) → site_of (is_target s.block.end) all ≡ Some g → IsGoal source place all s g
+goal_is source place all s g h e =
     let test = is_target s.block.end in
-    let all = sites_of l in
-    let at = h.place.code in
-    let link = site_found (λ (x : Site). link_of at all x.block.first ≡ x.start) test all g (first_link Valid source h.place all h.layout) e in
-    let block = site_found (λ (x : Site). IsBlockOf source x.block) test all g (site_blocks Valid source h.place all h.layout) e in
+    let at = place.code in
+    let link = site_found (λ (x : Site). link_of at all x.block.first ≡ x.start) test all g (first_link Valid source place all h.layout) e in
+    let block = site_found (λ (x : Site). IsBlockOf source x.block) test all g (site_blocks Valid source place all h.layout) e in
     let valid = site_found (λ (x : Site). Valid x.block x.plan) test all g h.layout.plans e in
     let low = site_found (λ (x : Site). x.start + plan_size x.plan ≤ end_at at all) test all g (sites_below at all h.layout.stand) e in
-    let short = h.short in
-    let room = h.room in record {
+    let end = h.below in record {
       is = link.1;
       link = link.0;
       block = block.0;
@@ -163,30 +169,27 @@ goal_is source l s g h e =
       below = let own = low.0 in omega arith;
     }
 
+equal_from_test : (m n : ℕ) → eqb m n ≡ true → m ≡ n
+equal_from_test m n e = grind (arith, nat_tests)
+
 -- a block goes to the first statement of its goal
 goal_first : (e : End) (b : Block) → is_target e b ≡ true → b.first ≡ goal_of e
-goal_first (Branches target) b h = equal b.first target h
-  where
-    equal : (m n : ℕ) → eqb m n ≡ true → m ≡ n
-    equal m n e = grind (arith, nat_tests)
-goal_first (Calls target) b h = equal b.first target h
-  where
-    equal : (m n : ℕ) → eqb m n ≡ true → m ≡ n
-    equal m n e = grind (arith, nat_tests)
+goal_first (Branches target) b h = equal_from_test b.first target h
+goal_first (Calls target) b h = equal_from_test b.first target h
 goal_first _ b h = absurd (false≢true h)
 
-copied_goes_on : (source : SourceValue) (l : Layout) (h : IsLaidOut source l) (s g : Site) → IsGoal source l h s g → (p k : ℕ) (t : Statement) → copied_to (copied s (Some g)) s.plan.place p ≡ Op k → slice_get source.statements (goal_of s.block.end + k) ≡ Some t → is_last (inst_of t) ≡ false
-copied_goes_on source l h s g goal p k t e f =
+copied_goes_on : (source : SourceValue) (place : Place) (all : List Site) (s g : Site) → IsGoal source place all s g → (p k : ℕ) (t : Statement) → copied_to (copied s (Some g)) s.plan.place p ≡ Op k → slice_get source.statements (goal_of s.block.end + k) ≡ Some t → is_last (inst_of t) ≡ false
+copied_goes_on source place all s g goal p k t e f =
     let op = copied_op s g s.plan.place p k e in
     let first = goal_first s.block.end g.block goal.is in
     copy_goes_on source g.block g.plan goal.block goal.valid op.0 k t op.1 (ap (λ n. slice_get source.statements (n + k)) first ∙ f)
 
 -- the words of the target are copied
-goes_copied : (source : SourceValue) (l : Layout) (k : ℕ) (s g : Site) → IsSource source → (h : IsLaidOut source l) → slice_get (sites_of l) k ≡ Some s → IsGoal source l h s g → Goes source (link_in l) s (copied s (Some g))
-goes_copied source l k s g is h e goal = ⊎_elim
-    (λ none. goes_plain source l k s (copied s (Some g)) is h e none (copied_goes_on source l h s g goal))
+goes_copied : (source : SourceValue) (place : Place) (all : List Site) (k : ℕ) (s g : Site) → Laid source place all → slice_get all k ≡ Some s → IsGoal source place all s g → Goes source (link_of place.code all) s (copied s (Some g))
+goes_copied source place all k s g h e goal = ⊎_elim
+    (λ none. goes_plain source place all k s (copied s (Some g)) h e none (copied_goes_on source place all s g goal))
     (λ moves. record {
-      short = link_short source l h;
+      short = link_short source place all h;
       call = λ target f.
           let link = links_there target (ap goal_of f) in
           let small = count_small s g in
@@ -196,30 +199,38 @@ goes_copied source l k s g is h e goal = ⊎_elim
           omega arith;
       branch = λ target f.
           ap (λ n. reaches (s.start + s.plan.place) (n + count s g)) (links_there target (ap goal_of f)) ∙ moves.near (ap is_branch_end f);
-      copies = copied_goes_on source l h s g goal;
+      copies = copied_goes_on source place all s g goal;
     })
     (count_cases s g)
   where
-    small : goal_of s.block.end ≤ length source.statements
-    small = goal_small source s.block is (block_of source l k s h e)
-
-    links_there : (target : ℕ) → goal_of s.block.end ≡ target → link_in l target ≡ g.start
+    links_there : (target : ℕ) → goal_of s.block.end ≡ target → link_of place.code all target ≡ g.start
     links_there target f =
-        let first = goal_first s.block.end g.block goal.is in
-        let low = small in
-        let same : target ≡ g.block.first = sym (first ∙ f) in
-        h.links target (omega arith) ∙ ap (link_of h.place.code (sites_of l)) same ∙ goal.link
+        let same : target ≡ g.block.first = sym (goal_first s.block.end g.block goal.is ∙ f) in
+        ap (link_of place.code all) same ∙ goal.link
 
 none_goes_on : (source : SourceValue) (s : Site) (p k : ℕ) (t : Statement) → copied_to no_copies s.plan.place p ≡ Op k → slice_get source.statements (goal_of s.block.end + k) ≡ Some t → is_last (inst_of t) ≡ false
 none_goes_on source s p k t e f = absurd (copied_none s.plan.place p k e)
 
-goes : (source : SourceValue) (l : Layout) (slots : Slots) (k : ℕ) (s : Site) → IsSource source → IsLaidOut source l → slice_get (sites_of l) k ≡ Some s → Goes source (link_in l) s (filling_of slots (sites_of l) s)
-goes source l Kept k s is h e = goes_plain source l k s no_copies is h e refl (none_goes_on source s)
-goes source l FromTarget k s is h e = by_goal (site_of (is_target s.block.end) (sites_of l)) refl
+goes : (source : SourceValue) (place : Place) (all : List Site) (slots : Slots) (k : ℕ) (s : Site) → Laid source place all → slice_get all k ≡ Some s → Goes source (link_of place.code all) s (filling_of slots all s)
+goes source place all Kept k s h e = goes_plain source place all k s no_copies h e refl (none_goes_on source s)
+goes source place all FromTarget k s h e = by_goal (site_of (is_target s.block.end) all) refl
   where
-    by_goal : (o : Option Site) → site_of (is_target s.block.end) (sites_of l) ≡ o → Goes source (link_in l) s (copied s o)
-    by_goal None f = goes_plain source l k s no_copies is h e refl (none_goes_on source s)
-    by_goal (Some g) f = goes_copied source l k s g is h e (goal_is source l s g h f)
+    by_goal : (o : Option Site) → site_of (is_target s.block.end) all ≡ o → Goes source (link_of place.code all) s (copied s o)
+    by_goal None f = goes_plain source place all k s no_copies h e refl (none_goes_on source s)
+    by_goal (Some g) f = goes_copied source place all k s g h e (goal_is source place all s g h f)
+
+-- each instruction of a laid out source has a word
+pub all_fit : (source : SourceValue) (place : Place) (all : List Site) (slots : Slots) (k : ℕ) (s : Site) → IsSource source → Laid source place all → slice_get all k ≡ Some s → HasWords (link_of place.code all) source.statements s (filling_of slots all s)
+all_fit source place all slots k s is h e =
+    has_words source (link_of place.code all) s (filling_of slots all s) is (block_of source place all k s h e)
+    (at_place (λ (x : Site). Valid x.block x.plan) all k s h.layout.plans e) (goes source place all slots k s h e)
+
+laid_out : (source : SourceValue) (l : Layout) (h : IsLaidOut source l) → Laid source h.place (sites_of l)
+laid_out source l h = record {
+  layout = h.layout;
+  reach = h.reach;
+  below = let short = h.short in let room = h.room in omega arith;
+}
 
 -- what pushing the words of a site asks
 pub record IsLinkable (links : List ℕ) (statements : List Statement) (s : Site) (c : Copied) : Type 0 where
@@ -231,13 +242,19 @@ pub record IsLinkable (links : List ℕ) (statements : List Statement) (s : Site
 
 linkable_site : (source : SourceValue) (l : Layout) (slots : Slots) (k : ℕ) (s : Site) → IsSource source → IsLaidOut source l → slice_get (sites_of l) k ≡ Some s → IsLinkable l.links.items source.statements s (filling_of slots (sites_of l) s)
 linkable_site source l slots k s is h e =
-    let block = block_of source l k s h e in
-    let few = is.few_statements in record {
-      short = λ i d low. subst (λ n. n ≤ 65535) (get_or_same l.links.items i 0 d low) (link_short source l h i);
-      within = let low = site_below h.place.code (sites_of l) h.layout.stand k s e in let short = h.short in let room = h.room in omega arith;
+    let all = sites_of l in
+    let code = h.place.code in
+    let laid = laid_out source l h in
+    let block = block_of source h.place all k s laid e in
+    let few = is.few_statements in
+    let below = laid.below in
+    let c = filling_of slots all s in record {
+      short = λ i d low. subst (λ n. n ≤ 65535) (get_or_same l.links.items i 0 d low)
+          (let same = h.links i (let count = h.links_count in omega arith) in let short = link_short source h.place all laid i in omega arith);
+      within = let low = site_below code all h.layout.stand k s e in omega arith;
       first = let within = block.within in omega arith;
       goal = let small = goal_small source s.block is block in omega arith;
-      fits = has_words source (link_in l) s (filling_of slots (sites_of l) s) is block (at_place (λ (x : Site). Valid x.block x.plan) (sites_of l) k s h.layout.plans e) (goes source l slots k s is h e);
+      fits = λ p item f. subst InstFits (sym (same_at source (link_in l) (link_of code all) c (s.start + p) (origin_at s c p item) is h.links)) (all_fit source h.place all slots k s is laid e p item f);
     }
   where
     get_or_same : (xs : List ℕ) (i d e : ℕ) → i < length xs → slice_index_or xs i d ≡ slice_index_or xs i e

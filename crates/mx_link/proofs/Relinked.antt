@@ -41,7 +41,8 @@ same_statement source f g c at i is h = by_place (slice_get source.statements i)
     by_place None e = refl
     by_place (Some s) e = same_inst source f g c at s h (at_place (StatementFits (IsPlace source.labels (length source.statements))) source.statements i s is.statements_fit e)
 
-same_at : (source : SourceValue) (f g : ℕ → ℕ) (c : Copied) (at : ℕ) (o : Origin) → IsSource source → Agree source f g → inst_at f source.statements c at o ≡ inst_at g source.statements c at o
+-- the same instruction
+pub same_at : (source : SourceValue) (f g : ℕ → ℕ) (c : Copied) (at : ℕ) (o : Origin) → IsSource source → Agree source f g → inst_at f source.statements c at o ≡ inst_at g source.statements c at o
 same_at source f g c at (Own i) is h = same_statement source f g c at i is h
 same_at source f g c at (Copy i) is h = same_statement source f g no_copies at i is h
 same_at source f g c at Pad is h = refl

@@ -11,7 +11,7 @@ use Rattle.mx_squash.specs.Copies.{Site, may_copy, copyable, is_op, item_at, is_
 use Rattle.mx_link.specs.Origins.{copied_to}
 use Rattle.mx_link.proofs.Bodies.{MayCopy, may_copy_op, both}
 
-nop_op : (k : ℕ) → Nop ≡ Op k → ⊥
+pub nop_op : (k : ℕ) → Nop ≡ Op k → ⊥
 nop_op k e = cc
 
 -- what is copied to a place stands in one of the two slots

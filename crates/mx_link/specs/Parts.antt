@@ -1,11 +1,15 @@
 -- What linking works with: a source that is laid out, the words of one block, and what fills its slots.
 use Rattle.std.specs.Prelude.{◌≡◌, ℕ, ◌+◌, ◌*◌, ◌≤◌, true, List, length, map, All, Some, slice_get, slice_index}
 use Rattle.mx_isa.specs.declared.Place.{Place}
+use Rattle.mx_isa.specs.declared.Inst.{Inst}
 use Rattle.mx_isa.specs.Fields.{InstFits}
-use Rattle.mx_code.specs.Codes.{word_of_row}
+use Rattle.mx_code.specs.Codes.{word_of_row, HasRegisters}
 use Rattle.mx_source.specs.declared.Statement.{Statement}
 use Rattle.mx_source.specs.SourceValue.{SourceValue}
+use Rattle.mx_blocks.specs.declared.Block.{Block}
+use Rattle.mx_blocks.specs.declared.Plan.{Plan}
 use Rattle.mx_blocks.specs.declared.Item.{Item}
+use Rattle.mx_blocks.specs.Leaders.{inst_of}
 use Rattle.mx_validate.specs.Padded.{items_of}
 use Rattle.mx_validate.specs.Validity.{Valid}
 use Rattle.mx_squash.specs.declared.Copied.{Copied}
@@ -22,6 +26,9 @@ use Rattle.mx_link.specs.Words.{insts_from, inst_at}
 abbrev pub filling_of : Slots → Filling
 filling_of FromTarget = from_target
 filling_of Kept = from_nowhere
+
+abbrev pub site : Block → Plan → ℕ → Site
+site block plan start = record { block = block; plan = plan; start = start }
 
 abbrev pub sites_of : Layout → List Site
 sites_of l = sites l.blocks.items l.plans.items l.starts.items
@@ -50,10 +57,18 @@ pub record IsLaidOut (source : SourceValue) (l : Layout) : Type 0 where
 abbrev pub origin_at : Site → Copied → ℕ → Item → Origin
 origin_at s c p item = over (goal_of s.block.end) (copied_to c s.plan.place p) (own s.block.first item)
 
+-- each of a site's instructions is so
+abbrev pub EachInst : (Inst → Type 0) → (ℕ → ℕ) → List Statement → Site → Copied → Type 0
+EachInst Q link statements s c =
+    (p : ℕ) (item : Item) → slice_get (items_of s.plan) p ≡ Some item → Q (inst_at link statements c (s.start + p) (origin_at s c p item))
+
 -- each of a site's instructions has a word
 abbrev pub HasWords : (ℕ → ℕ) → List Statement → Site → Copied → Type 0
-HasWords link statements s c =
-    (p : ℕ) (item : Item) → slice_get (items_of s.plan) p ≡ Some item → InstFits (inst_at link statements c (s.start + p) (origin_at s c p item))
+HasWords = EachInst InstFits
+
+-- the registers of each statement are registers
+abbrev pub HaveRegisters : List Statement → Type 0
+HaveRegisters statements = All (λ (s : Statement). HasRegisters (inst_of s)) statements
 
 abbrev pub site_words : (ℕ → ℕ) → List Statement → Site → Copied → List ℕ
 site_words link statements s c = map word_of_row (insts_from link statements c s.start (origins_at s c))

@@ -1,14 +1,14 @@
 //! The code of a source that is laid out.
 ghost use Rattle.std.specs.Prelude.{◌≡◌, ◌<◌, ◌≤◌, ◌+◌, ◌++◌, ◌∷◌, [], ℕ, length, Some, All, IfOk, OnOk, slice_get, slice_index};
 ghost use Rattle.mx_isa.specs.Fields.{InstFits};
-ghost use Rattle.mx_code.specs.Codes.{word_of_row};
+ghost use Rattle.mx_code.specs.Codes.{word_of_row, HasRegisters};
 ghost use Rattle.mx_source.specs.Statements.{StatementFits};
 ghost use Rattle.mx_validate.specs.Padded.{items_of};
 ghost use Rattle.mx_squash.specs.Copies.{Site};
 ghost use Rattle.mx_squash.specs.Ordered.{AreOfOneSource};
 ghost use Rattle.mx_link.specs.Origins.{goal_of, origins_at, origins_of};
 ghost use Rattle.mx_link.specs.Words.{code_of};
-ghost use Rattle.mx_link.specs.Parts.{filling_of, sites_of, link_in, IsLaidOut, HasWords, site_words};
+ghost use Rattle.mx_link.specs.Parts.{filling_of, site, sites_of, link_in, IsLaidOut, EachInst, HasWords, HaveRegisters, site_words};
 
 use crate::Origin;
 use crate::inst::{inst_at, no_copies};
@@ -40,6 +40,7 @@ pub(crate) struct Code {
 /// Appends the word of an instruction.
 fn push_word(code: &mut Code, inst: &Inst, origin: Origin) -> Result<(), AllocError>
     requires { InstFits inst.now }
+    ensures registers { OnOk result (HasRegisters inst.now) }
     ensures words { OnOk result (code.new.words.items ≡ code.old.words.items ++ word_of_row inst.now ∷ []) }
     ensures origin { OnOk result (code.new.origin.items ≡ code.old.origin.items ++ origin ∷ []) }
 {
@@ -63,11 +64,14 @@ fn push_block(
     requires within { start + length (items_of plan.now) ≤ 65535 }
     requires first { block.now.first ≤ 20000 }
     requires goal { goal_of block.now.end ≤ 20000 }
-    requires fits { HasWords (slice_index links.now) statements.now (record { block = block.now; plan = plan.now; start = start }) copied.now }
+    requires fits { HasWords (slice_index links.now) statements.now
+        (site block.now plan.now start) copied.now }
     ensures words { OnOk result (code.new.words.items ≡ code.old.words.items
-        ++ site_words (slice_index links.now) statements.now (record { block = block.now; plan = plan.now; start = start }) copied.now) }
+        ++ site_words (slice_index links.now) statements.now (site block.now plan.now start) copied.now) }
     ensures origin { OnOk result (code.new.origin.items ≡ code.old.origin.items
-        ++ origins_at (record { block = block.now; plan = plan.now; start = start }) copied.now) }
+        ++ origins_at (site block.now plan.now start) copied.now) }
+    ensures registers { OnOk result (EachInst HasRegisters (slice_index links.now) statements.now
+        (site block.now plan.now start) copied.now) }
 {
     let items = plan.items.as_slice();
     for (p, item) in items.iter().enumerate() {
@@ -85,7 +89,8 @@ fn copied_at(layout: &Layout, k: usize, slots: Slots) -> Copied
     requires starts { length layout.now.starts.items ≡ length layout.now.blocks.items }
     requires blocks { AreOfOneSource layout.now.blocks.items }
     requires few { length layout.now.blocks.items ≤ 20000 }
-    ensures { (s : Site) → slice_get (sites_of layout.now) k ≡ Some s → result ≡ filling_of slots (sites_of layout.now) s }
+    ensures { (s : Site) → slice_get (sites_of layout.now) k ≡ Some s
+        → result ≡ filling_of slots (sites_of layout.now) s }
 {
     match slots {
         Slots::FromTarget => copies(
@@ -108,7 +113,9 @@ pub(crate) fn code_of(
     requires { IsLaidOut source.now layout.now }
     ensures words { IfOk result (λ code. code.words.items
         ≡ code_of (filling_of slots) (link_in layout.now) source.now.statements (sites_of layout.now)) }
-    ensures origin { IfOk result (λ code. code.origin.items ≡ origins_of (filling_of slots) (sites_of layout.now)) }
+    ensures origin { IfOk result (λ code. code.origin.items
+        ≡ origins_of (filling_of slots) (sites_of layout.now)) }
+    ensures registers { OnOk result (HaveRegisters source.now.statements) }
 {
     let statements = source.statements();
     let mut code = Code {

@@ -10,3 +10,6 @@ mod origin;
 pub use linked::{Linked, Origin};
 pub use linking::{link, link_plain};
 pub use mx_layout::LinkError;
+
+#[cfg(test)]
+mod tests;

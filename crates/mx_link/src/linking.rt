@@ -1,11 +1,11 @@
 //! Linking.
-ghost use Rattle.std.specs.Prelude.{◌≡◌, ◌≤◌, ◌<◌, ◌+◌, ◌*◌, All, IfOk, IfErr, length, slice_index};
+ghost use Rattle.std.specs.Prelude.{◌≡◌, ◌≤◌, ◌<◌, ◌+◌, ◌*◌, All, IfOk, IfErr, OnOk, length, slice_index};
 ghost use Rattle.mx_source.specs.Statements.{ValueFits};
 ghost use Rattle.mx_source.specs.SourceValue.{IsSource};
 ghost use Rattle.mx_layout.specs.Overlong.{IsRefusal};
 ghost use Rattle.mx_link.specs.Origins.{from_target, from_nowhere, origins_of, copies_in};
 ghost use Rattle.mx_link.specs.Words.{code_of, words_of, value_word, noops_in};
-ghost use Rattle.mx_link.specs.Parts.{filling_of, sites_of, link_in, IsLaidOut};
+ghost use Rattle.mx_link.specs.Parts.{filling_of, sites_of, link_in, IsLaidOut, HaveRegisters};
 ghost use Rattle.mx_link.specs.Linked.{IsLinked};
 
 use crate::code::{Code, Slots, code_of};
@@ -33,6 +33,7 @@ pub fn link<P: Proposer>(
 ) -> Result<Linked, LinkError>
     requires { place.code + 3 * length source.now.statements ≤ 65535 }
     ensures linked { IfOk result (IsLinked P.proposes from_target source.now place) }
+    ensures registers { OnOk result (HaveRegisters source.now.statements) }
     ensures refused { IfErr result (IsRefusal P.proposes source.now place) }
 {
     link_with(alloc, source, place, proposer, Slots::FromTarget)
@@ -51,6 +52,7 @@ pub fn link_plain<P: Proposer>(
 ) -> Result<Linked, LinkError>
     requires { place.code + 3 * length source.now.statements ≤ 65535 }
     ensures linked { IfOk result (IsLinked P.proposes from_nowhere source.now place) }
+    ensures registers { OnOk result (HaveRegisters source.now.statements) }
     ensures refused { IfErr result (IsRefusal P.proposes source.now place) }
 {
     link_with(alloc, source, place, proposer, Slots::Kept)
@@ -66,6 +68,7 @@ fn link_with<P: Proposer>(
 ) -> Result<Linked, LinkError>
     requires { place.code + 3 * length source.now.statements ≤ 65535 }
     ensures linked { IfOk result (IsLinked P.proposes (filling_of slots) source.now place) }
+    ensures registers { OnOk result (HaveRegisters source.now.statements) }
     ensures refused { IfErr result (IsRefusal P.proposes source.now place) }
 {
     let layout = lay_out(alloc, source, place, proposer)?;
@@ -81,10 +84,14 @@ fn linked(
 ) -> Result<Linked, AllocError>
     requires { IsLaidOut source.now layout }
     ensures source { IsSource source.now }
-    ensures code { IfOk result (λ l. l.image.code.items ≡ code_of (filling_of slots) (link_in layout) source.now.statements (sites_of layout)) }
-    ensures user_data { IfOk result (λ l. l.image.user_data.items ≡ words_of (link_in layout) source.now.user_data) }
+    ensures registers { OnOk result (HaveRegisters source.now.statements) }
+    ensures code { IfOk result (λ l. l.image.code.items
+        ≡ code_of (filling_of slots) (link_in layout) source.now.statements (sites_of layout)) }
+    ensures user_data { IfOk result (λ l. l.image.user_data.items
+        ≡ words_of (link_in layout) source.now.user_data) }
     ensures links { IfOk result (λ l. l.links ≡ layout.links) }
-    ensures origin { IfOk result (λ l. l.origin.items ≡ origins_of (filling_of slots) (sites_of layout)) }
+    ensures origin { IfOk result (λ l. l.origin.items
+        ≡ origins_of (filling_of slots) (sites_of layout)) }
     ensures proposals { IfOk result (λ l. l.proposals ≡ layout.proposals) }
     ensures noops { IfOk result (λ l. l.noops ≡ noops_in l.image.code.items) }
     ensures copies { IfOk result (λ l. l.copies ≡ copies_in l.origin.items) }

@@ -1,18 +1,23 @@
-use Rattle.std.proofs.Common.{◌≡◌, ◌<◌, ◌++◌, length, Some, refl, ap, ◌∙◌, subst, slice_index, arith, rules}
+use Rattle.std.proofs.Common.{ℕ, ◌≡◌, ◌<◌, ◌++◌, length, Some, refl, ap, ◌∙◌, subst, slice_index, arith, rules}
 use Rattle.std.specs.Prelude.{slice_get}
-use Rattle.std.proofs.lemmas.Option.{slice_get_read}
+use Rattle.std.proofs.lemmas.Option.{slice_get_read, slice_get_within}
 use Rattle.mx_blocks.specs.declared.Block.{Block}
 use Rattle.std.specs.Prelude.{List}
 use Rattle.mx_blocks.specs.Leaders.{AreBlocks}
 use Rattle.mx_squash.proofs.Targets.{site, sites_get}
 use Rattle.mx_link.specs.Origins.{origins_at}
 use Rattle.mx_link.specs.Words.{code_of}
-use Rattle.mx_link.specs.Parts.{filling_of, sites_of, link_in, site_words}
+use Rattle.mx_link.specs.Parts.{filling_of, sites_of, link_in, site_words, EachInst}
 use Rattle.mx_layout.proofs.Sited.{blocks_in-sites}
 use Rattle.mx_layout.proofs.Sizes.{blocks_few}
 use Rattle.mx_link.proofs.Places.{length-sites}
 use Rattle.mx_link.proofs.Pushes.{flat_pushed, flat_end, all_words}
 use Rattle.mx_link.proofs.Linkable.{linkable}
+use Rattle.mx_link.proofs.Registers.{next_site, have_registers}
+use Rattle.mx_code.specs.Codes.{HasRegisters}
+use Rattle.mx_source.specs.declared.Statement.{Statement}
+use Rattle.mx_squash.specs.declared.Copied.{Copied}
+use Rattle.mx_squash.specs.Copies.{Site}
 use Rattle.mx_link.proofs.code.code_of.Goals as goal
 
 pub copied_at-copied-requires-clause-blocks : goal.copied_at-copied-requires-clause-blocks
@@ -74,6 +79,10 @@ loop-k-preserved c =
           ∙ ap (λ links. c.loop-k.code.words.items ++ site_words (slice_index links) statements s c.copied_at-copied.result) c.as_slice.ensures.value
           ∙ ap (λ x. c.loop-k.code.words.items ++ site_words (link_in l) statements s x) copied)
           c.loop-k.invariant.words;
+      registers = next_site (λ (x : Site). EachInst HasRegisters (link_in l) statements x (filling all x)) all k s at
+          (subst (λ (x : Copied). EachInst HasRegisters (link_in l) statements s x) copied
+          (subst (λ (links : List ℕ). EachInst HasRegisters (slice_index links) statements s c.copied_at-copied.result) c.as_slice.ensures.value c.in_ok-push_block.ensures.registers))
+          c.loop-k.invariant.registers;
       origin = flat_pushed (λ x. origins_at x (filling all x)) all k s c.loop-k.code.origin.items _ _ at
           (c.in_ok-push_block.ensures.origin ∙ ap (λ x. c.loop-k.code.origin.items ++ origins_at s x) copied)
           c.loop-k.invariant.origin;
@@ -97,3 +106,16 @@ returns-clause-origin c =
     let filling = filling_of c.args.slots in
     let count = length-sites l.blocks.items l.plans.items l.starts.items c.requires.plans c.requires.starts in
     flat_end (λ x. origins_at x (filling all x)) all c.loop-k.k c.loop-k.code.origin.items _ (omega (arith, c.loop-k-test.false, c.loop-k.auto.k-end, c.len-k-end.ensures)) c.loop-k.invariant.origin
+
+pub returns-clause-registers : goal.returns-clause-registers
+returns-clause-registers c =
+    let l = c.args.layout.now in
+    let all = sites_of l in
+    let source = c.args.source.now in
+    let filling = filling_of c.args.slots in
+    let count = length-sites l.blocks.items l.plans.items l.starts.items c.requires.plans c.requires.starts in
+    have_registers source c.requires.place (link_in l) c.args.slots all c.requires.layout
+    (λ k s e.
+    let low = slice_get_within all k s e in
+    subst (λ (xs : List Statement). EachInst HasRegisters (link_in l) xs s (filling all s)) c.statements-statements.ensures.value
+    (c.loop-k.invariant.registers k s (omega (arith, c.loop-k-test.false, c.len-k-end.ensures)) e))

@@ -1,5 +1,8 @@
-use Rattle.std.proofs.Common.{◌≡◌, ◌++◌, drop}
-use Rattle.mx_link.specs.Parts.{filling_of, sites_of, link_in}
+use Rattle.std.proofs.Common.{◌≡◌, ◌<◌, ◌++◌, ℕ, drop, Some}
+use Rattle.std.specs.Prelude.{slice_get}
+use Rattle.mx_code.specs.Codes.{HasRegisters}
+use Rattle.mx_squash.specs.Copies.{Site}
+use Rattle.mx_link.specs.Parts.{filling_of, sites_of, link_in, EachInst}
 use Rattle.mx_link.proofs.Pushes.{site_origins, sites_words}
 use Rattle.mx_link.proofs.code.code_of.Given as goal
 
@@ -9,5 +12,6 @@ invariant-loop-k l =
     let filling = filling_of l.slots in record {
       words : l.code.words.items ++ sites_words filling (link_in l.layout) l.statements all (drop l.k all)
           ≡ sites_words filling (link_in l.layout) l.statements all all;
+      registers : (k : ℕ) (s : Site) → k < l.k → slice_get all k ≡ Some s → EachInst HasRegisters (link_in l.layout) l.statements s (filling all s);
       origin : l.code.origin.items ++ site_origins filling all (drop l.k all) ≡ site_origins filling all all;
     }
