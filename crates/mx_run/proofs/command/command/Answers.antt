@@ -1,9 +1,9 @@
-use Rattle.std.proofs.Common.{◌≡◌, ◌≢◌, ℕ, List, Bool, true, false, Option, map, string_bytes, refl, sym, ap, ◌∙◌, subst, ⊎_elim, inl, inr}
+use Rattle.std.proofs.Common.{◌≡◌, ◌≢◌, Option, map, string_bytes, refl, sym, ap, ◌∙◌, subst, ⊎_elim, inl, inr}
 use Rattle.mx_answer.specs.declared.Status.{Status}
 use Rattle.mx_answer.specs.declared.Status.TheVariants.{Usage, WriteFault, Memory}
 use Rattle.mx_answer.specs.Answer.{Answer}
 use Rattle.mx_answer.specs.Delivery.{HasStatus}
-use Rattle.mx_answer.specs.Protocol.{Protocol, Told, Counts, Performed}
+use Rattle.mx_answer.specs.Protocol.{Told, Counts, Performed}
 use Rattle.mx_answer.specs.Replies.{reply_answer}
 use Rattle.mx_asked.specs.Commands.{Command}
 use Rattle.mx_asked.specs.Asked.{command_of}
