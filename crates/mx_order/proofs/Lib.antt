@@ -1,0 +1,5 @@
+pub mod Reorder
+pub mod Swap
+pub mod Order
+pub mod Split
+pub mod Words
