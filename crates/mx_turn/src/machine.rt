@@ -25,7 +25,7 @@ pub trait Machine {
     /// The cycles that it has counted.
     ghost cycles: { Self → ℕ };
 
-    /// One cycle, in which an interrupt request arrives or not. At most 2^63 cycles, as `counts` tells.
+    /// One cycle, in which an interrupt request arrives or not. Fewer than 2^63 cycles were counted before, as `counts` tells.
     fn cycle(&mut self, request: bool) -> Cycled
         requires { cycles self.old < 2 ^ 63 }
         ensures answer { (p : Program) (h : List Bool) → stands self.old p h → result ≡ answer_after p h request }

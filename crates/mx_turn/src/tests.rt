@@ -27,6 +27,9 @@ const READER: [u32; 3] = [0x8002_0100, 0x4040_2000, 0xe000_0000];
 /// `jspci r0,#0,r1`, into the handler
 const INTO_HANDLER: [u32; 1] = [0xc802_0000];
 
+/// `jspci r0,#8,r0`, into the middle of the handler
+const INTO_ITS_MIDDLE: [u32; 1] = [0xc800_0008];
+
 /// `addi r0,#-1,r1 / movtos r1,md / addi r0,#7,r2 / mstart r2,r3`, before `mstep r3,r2,r3`
 const MULTIPLY: [u32; 4] = [0xc003_ffff, 0x5840_0000, 0xc004_0007, 0x4004_3009];
 
@@ -133,6 +136,17 @@ fn interrupts_return_to_what_they_killed(rt: HostRuntime) -> Result<(), Fail> {
 }
 
 #[test]
+fn requests_in_every_cycle_are_taken_one_after_the_other(rt: HostRuntime) -> Result<(), Fail> {
+    let mut requests = Vec::new(rt.alloc());
+    for cycle in 0..200u32 {
+        requests.push(cycle)?;
+    }
+    let storm = told(rt.alloc(), &COUNTDOWN, &[], &requests, 1000)?;
+    assert_eq!(rt; storm.as_str(), "225/18/261 1 8 30 30 0 0 8 321");
+    Ok(())
+}
+
+#[test]
 fn a_reader_behind_a_load_sees_the_old_value(rt: HostRuntime) -> Result<(), Fail> {
     let plain = told(rt.alloc(), &READER, &[7], &[], 1000)?;
     assert_eq!(rt; plain.as_str(), "6/3/12 0 0 7 0 0 0 0 ");
@@ -145,6 +159,8 @@ fn a_reader_behind_a_load_sees_the_old_value(rt: HostRuntime) -> Result<(), Fail
 fn user_code_in_the_handler_is_user_code(rt: HostRuntime) -> Result<(), Fail> {
     let lost = told(rt.alloc(), &INTO_HANDLER, &[], &[], 200)?;
     assert_eq!(rt; lost.as_str(), "99/50/200 0 0 0 0 0 0 0 ");
+    let middle = told(rt.alloc(), &INTO_ITS_MIDDLE, &[], &[], 50)?;
+    assert_eq!(rt; middle.as_str(), "24/13/50 0 0 0 0 0 0 0 ");
     Ok(())
 }
 
