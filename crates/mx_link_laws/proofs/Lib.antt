@@ -2,3 +2,4 @@ pub mod Going
 pub mod Ends
 pub mod Matching
 pub mod Saying
+pub mod Planned
