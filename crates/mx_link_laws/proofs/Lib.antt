@@ -3,3 +3,4 @@ pub mod Ends
 pub mod Matching
 pub mod Saying
 pub mod Planned
+pub mod OneBlock

@@ -1,0 +1,272 @@
+-- One block: from its first word on, the linked code does what its statements mean.
+use Rattle.std.proofs.Common.{◌≡◌, ℕ, ℤ, pos, zero, suc, ◌+◌, ◌*◌, ◌-◌, ◌%◌, ◌^◌, ◌<◌, ◌≤◌, Bool, true, false, cond, not, ◌&&◌, List, [], ◌∷◌, ◌++◌, ◌⊎◌, length, length-append, Option, Some, None, refl, sym, ap, ◌∙◌, subst, arith, ⊎_elim, inl, inr}
+use Rattle.std.specs.Prelude.{slice_get}
+use Rattle.std.specs.Int.{w32, cast_unsigned}
+use Rattle.std.proofs.lemmas.Bool.{cond-true, cond-false, cases_Bool, or_parts}
+use Rattle.std.proofs.lemmas.List.{append-nil, length-map}
+use Rattle.mx_isa.specs.declared.inst.Cond.{Cond}
+use Rattle.mx_isa.specs.declared.inst.Inst.{Inst}
+use Rattle.mx_isa.specs.declared.inst.Inst.TheVariants.{Jspci}
+use Rattle.mx_isa.specs.declared.inst.Inst.TheVariants.{Branch as BranchInst, Halt as HaltInst}
+use Rattle.mx_isa.specs.Words.{Words, reg, write}
+use Rattle.mx_isa.specs.Arithmetic.{condition_holds}
+use Rattle.mx_isa.specs.Effect.{Core, Decision, decides, offset_by}
+use Rattle.mx_isa.specs.Views.{is_load, is_halt, is_transfer, dest, reads}
+use Rattle.mx_code.specs.Delay.{Code, idle, queued, next_of}
+use Rattle.mx_code.specs.Clean.{Watched, watch, loads_to}
+use Rattle.mx_depend.specs.Graphs.{inst_at}
+use Rattle.mx_source.specs.declared.statement.Statement.{Statement}
+use Rattle.mx_source.specs.declared.statement.Statement.TheVariants.{Branch, Call, CallReg, JumpReg, Halt}
+use Rattle.mx_source.specs.declared.statement.Value.{Value}
+use Rattle.mx_source.specs.declared.statement.Value.TheVariants.{Int, Code as CodeValue}
+use Rattle.mx_source.specs.Values.{value_in, is_code, word_in}
+use Rattle.mx_source.specs.Meaning.{Program, Going, Halted, State, Step, Run, any_code, stuck, goes as meant_to, jumps as meant_by, execute, run_step, run_for, is_stuck}
+use Rattle.mx_blocks.specs.declared.block.Block.{Block}
+use Rattle.mx_blocks.specs.declared.block.Plan.{Plan}
+use Rattle.mx_blocks.specs.declared.block.Item.{Item}
+use Rattle.mx_blocks.specs.declared.block.Item.TheVariants.{Op, Nop}
+use Rattle.mx_validate.specs.Padded.{insts_of, items_of, falls, body_count}
+use Rattle.mx_order.specs.Running.{Ran, run_one, run_source}
+use Rattle.mx_order.specs.Laws.{IsLaidOut}
+use Rattle.mx_order.specs.Parts.{AreBelow, Parts}
+use Rattle.mx_order.proofs.Words.{item_inst, words, run_along}
+use Rattle.mx_link_laws.proofs.Going.{Did, IsPlain, ArePlain, idle_plain, Stands, stands_left, did_same, did, did_all, did_anywhere, queue, starts, for, for_same, for_add, plain_word, goes, Keeps, keeps_self, keeps_then}
+use Rattle.mx_link_laws.proofs.Ends.{append_did, past_transfer, slots_taken, slots_cancelled, one_taken, at_g, in_g, halts, Same3, undo, keeps_idle, keeps_head}
+use Rattle.mx_link_laws.proofs.Matching.{linked, linked_write, linked_value, word_seen, word_value, core_of}
+use Rattle.mx_link_laws.proofs.Saying.{said, step_is, not_stuck_before, run_same, run_add, run_one_more, AreBody, all_plain, ran_at, BodyRun, body_run}
+use Rattle.mx_link_laws.proofs.Planned.{ran_of, all_ran, all_loaded, body, bodies, pre, last, bodies_length, pre_length, plain_words, plain_body, plain_pre, size_ends, body_falls, falls_run, words_are, ends_run, decides_there, apart_all, apart_pre, end_loaded}
+
+false_true : false ≡ true → ⊥
+false_true e = grind arith
+
+left_below : (n : ℕ) (f g : Item) → AreBelow n (f ∷ g ∷ []) → AreBelow n (f ∷ [])
+left_below n (Op k) g h = (h.0, tt)
+left_below n Nop g h = tt
+
+right_below : (n : ℕ) (f g : Item) → AreBelow n (f ∷ g ∷ []) → AreBelow n (g ∷ [])
+right_below n (Op k) g h = h.1
+right_below n Nop g h = h
+
+plain_item : (insts : List Inst) (n : ℕ) (x : Item) → AreBelow n (x ∷ []) → ((k : ℕ) → k < n → IsPlain (inst_at insts k)) → IsPlain (item_inst insts x)
+plain_item insts n Nop b h = idle_plain
+plain_item insts n (Op k) b h = h k b.0
+
+next_none : (n : ℕ) → n + 1 < 2 ^ 31 → next_of None n ≡ n + 1
+next_none n h = omega arith
+
+abbrev pub nowhere : Decision
+nowhere = record { target = None; cancels = false }
+
+abbrev pub onward : Bool → Decision
+onward sq = record { target = None; cancels = sq }
+
+abbrev pub away : ℕ → Decision
+away z = record { target = Some z; cancels = false }
+
+module _ (link : ℕ → ℕ) (p : Program) (small : (i : ℕ) → link i + 8 < 2 ^ 31) (low : (i : ℕ) → p.place.code ≤ link i) (code : Code) (inside : ℕ → Bool) (leader : ℕ → Bool) (place_of : ℕ → ℕ) where
+  pub short : (i : ℕ) → link i < 2 ^ 32
+  short i = let s = small i in omega arith
+
+  -- a leader, or the end of the source
+  abbrev pub Leads : ℕ → Type 0
+  Leads j = (leader j ≡ true) ⊎ (j ≡ length p.statements)
+
+  -- and so many words stand before the terminator's place
+  abbrev pub LeadsAt : ℕ → ℕ → Type 0
+  LeadsAt c j = ((leader j ≡ true) × (c ≤ place_of j)) ⊎ (j ≡ length p.statements)
+
+  -- word k of the block that begins at a statement, before its terminator's place
+  pub record Head (t k : ℕ) (x : Inst) : Type 0 where
+    pub at : code (link t + k) ≡ x
+    pub within : inside (link t + k) ≡ true
+    pub plain : IsPlain x
+    pub before : k < place_of t
+
+  -- What stands in the slots of a transfer to statement t: its own items, or the first words of the target.
+  pub data Filled (t count : ℕ) (sq sure : Bool) (insts : List Inst) (f g : Item) (x y : Inst) : Type 0 where
+    Own : (none : count ≡ 0) → (clear : sq ≡ false) → (first : x ≡ item_inst insts f) → (second : y ≡ item_inst insts g) → Filled t count sq sure insts f g x y
+    InSecond : (one : count ≡ 1) → (surely : sure ≡ true) → (no_second : g ≡ Nop) → (first : x ≡ item_inst insts f) → (head : Head t 0 y) → (free : reads y (loads_to x) ≡ false) → (leads : leader t ≡ true) → Filled t count sq sure insts f g x y
+    InFirst : (one : count ≡ 1) → (set : sure ≡ false → sq ≡ true) → (no_first : f ≡ Nop) → (no_second : g ≡ Nop) → (head : Head t 0 x) → (second : y ≡ idle) → (leads : leader t ≡ true) → Filled t count sq sure insts f g x y
+    InBoth : (two : count ≡ 2) → (set : sure ≡ false → sq ≡ true) → (no_first : f ≡ Nop) → (no_second : g ≡ Nop) → (head : Head t 0 x) → (other : Head t 1 y) → (leads : leader t ≡ true) → Filled t count sq sure insts f g x y
+
+  abbrev pub did_of : Run → Did
+  did_of r = record { core = core_of link short r.state; console = r.console; clean = true; loaded = 0 }
+
+  abbrev pub begins : ℕ → Did → Watched
+  begins = starts code inside p.place p.input
+
+  abbrev pub steps : ℕ → Watched → Watched
+  steps = for code inside p.place p.input
+
+  abbrev pub doing : ℕ → Inst → Did → Did
+  doing = did code inside p.place p.input
+
+  abbrev pub doing_all : ℕ → List Inst → Did → Did
+  doing_all = did_all code inside p.place p.input
+
+  abbrev pub StandsAt : ℕ → List Inst → Type 0
+  StandsAt = Stands code inside
+
+  abbrev pub Keeping : Watched → Watched → Type 0
+  Keeping = Keeps code inside p.place p.input
+
+  -- the state shows what the meaning says
+  pub record IsAt (x : Watched) (r : Run) : Type 0 where
+    pub core : x.at.core ≡ core_of link short r.state
+    pub console : x.at.console ≡ r.console
+    pub clean : x.clean ≡ true
+
+  is_at_did : (d : Did) (r : Run) (z : ℕ) → d ≡ did_of r → IsAt (begins z d) r
+  is_at_did d r z e = record { core = ap (λ (x : Did). x.core) e; console = ap (λ (x : Did). x.console) e; clean = ap (λ (x : Did). x.clean) e }
+
+  -- from the first word of a block of n statements, len words and this place to where the next one goes on
+  pub record GoesOn (i n len place : ℕ) (r : Run) : Type 0 where
+    pub own : ℕ
+    pub w : ℕ
+    pub c : ℕ
+    pub is_own : own + w ≡ len
+    pub many : n ≤ own
+    pub behind : place ≤ own
+    pub short_len : len ≤ 3 * n
+    pub count : c ≤ w
+    pub mark : (run_for p n r).state.mark ≡ Going
+    pub lead : LeadsAt c (run_for p n r).state.index
+    pub reaches : Keeping (steps len (begins (link i) (did_of r))) (steps c (begins (link (run_for p n r).state.index) (did_of (run_for p n r))))
+    pub shown : IsAt (steps own (begins (link i) (did_of r))) (run_for p n r)
+    pub runs_on : (steps own (begins (link i) (did_of r))).at.halted ≡ false
+
+  pub record StopsAt (i n place : ℕ) (r : Run) : Type 0 where
+    pub before_n : ℕ
+    pub is_n : n ≡ suc before_n
+    pub many : n ≤ suc place
+    pub short_len : suc place ≤ 3 * n
+    pub before : (run_for p before_n r).state.mark ≡ Going
+    pub mark : (run_for p n r).state.mark ≡ Halted
+    pub runs_on : (steps place (begins (link i) (did_of r))).at.halted ≡ false
+    pub halted : (steps (place + 1) (begins (link i) (did_of r))).at.halted ≡ true
+    pub shown : IsAt (steps (place + 1) (begins (link i) (did_of r))) (run_for p n r)
+
+  -- a block with a plan, and where it stands
+  pub record Laid (i : ℕ) : Type 0 where
+    pub block : Block
+    pub plan : Plan
+    pub insts : List Inst
+    pub laid : IsLaidOut block plan insts p.input
+    pub parts : Parts block plan
+    pub some : 1 ≤ length (insts_of block)
+    pub few : length (insts_of block) ≤ 64
+    pub body : AreBody link short p.statements i (bodies block plan insts p.input laid parts some)
+    pub next : link (i + length (insts_of block)) ≡ link i + length (items_of plan)
+    pub ops : length (insts_of block) ≤ length (items_of plan)
+    pub lead : Leads (i + length (insts_of block))
+
+  module _ (i : ℕ) (w : Laid i) (r : Run) (going : r.state.mark ≡ Going) (here : r.state.index ≡ i) (safe : is_stuck (run_for p (length (insts_of w.block)) r).state.mark ≡ false) where
+    abbrev n : ℕ
+    n = length (insts_of w.block)
+
+    abbrev len : ℕ
+    len = length (items_of w.plan)
+
+    abbrev base : ℕ
+    base = link i
+
+    abbrev inner : List Inst
+    inner = bodies w.block w.plan w.insts p.input w.laid w.parts w.some
+
+    abbrev front : List Inst
+    front = pre w.block w.plan w.insts p.input w.laid w.parts w.some
+
+    abbrev ender : Inst
+    ender = last w.block w.plan w.insts p.input w.laid w.parts w.some
+
+    abbrev all : List Inst
+    all = words w.insts (items_of w.plan)
+
+    abbrev place : ℕ
+    place = length w.parts.front
+
+    abbrev at : ℕ
+    at = base + length front
+
+    abbrev d0 : Did
+    d0 = did_of r
+
+    abbrev R0 : Ran
+    R0 = ran_at link short p r true nowhere
+
+    -- behind the body
+    abbrev r1 : Run
+    r1 = run_for p (length inner) r
+
+    abbrev r2 : Run
+    r2 = run_for p n r
+
+    front_is : length front ≡ place
+    front_is = pre_length w.block w.plan w.insts p.input w.laid w.parts w.some
+
+    inner_is : length inner ≡ body_count w.block
+    inner_is = bodies_length w.block w.plan w.insts p.input w.laid w.parts w.some
+
+    len_parts : len ≡ place + length w.parts.back
+    len_parts = ap length w.parts.whole ∙ length-append w.parts.front w.parts.back
+
+    len_all : length all ≡ len
+    len_all = length-map (items_of w.plan) (item_inst w.insts)
+
+    body_done : (k : ℕ) → n ≡ length inner + k → BodyRun link short p i at inner r true nowhere
+    body_done k e = body_run link short p i at inner r true nowhere going here w.body
+        (not_stuck_before p k r1 (ap (λ (u : Run). is_stuck u.state.mark) (sym (run_add p (length inner) k r) ∙ run_same p (length inner + k) n r (sym e)) ∙ safe))
+
+    inner_plain : ArePlain inner
+    inner_plain = all_plain link short p.statements i inner w.body
+
+    front_plain : ArePlain front
+    front_plain = plain_pre w.block w.plan w.insts p.input w.laid w.parts w.some inner_plain
+
+    did_is : (d : Did) (u : Run) (x : Ran) (l : Decision) → ran_of code inside p.place p.input d l ≡ x → x.core ≡ core_of link short u.state → x.bytes ≡ u.console → x.clean ≡ true → d.loaded ≡ 0 → d ≡ did_of u
+    did_is d u x l e c b k m = did_same d (did_of u) (ap (λ (y : Ran). y.core) e ∙ c) (ap (λ (y : Ran). y.bytes) e ∙ b) (ap (λ (y : Ran). y.clean) e ∙ k) m
+
+    all_made : ran_of code inside p.place p.input (doing_all base all d0) (run_along p.place p.input base all R0).leads ≡ run_along p.place p.input base all R0
+    all_made = all_ran code inside p.place p.input base all d0 nowhere (apart_all w.block w.plan w.insts p.input w.laid w.parts w.some)
+
+    all_free : (doing_all base all d0).loaded ≡ 0
+    all_free = all_loaded code inside p.place p.input base all d0 ∙ end_loaded w.block w.plan w.insts p.input w.laid w.parts w.some
+
+    -- a block that falls through
+    pub falls_on : falls w.block.end ≡ true → w.parts.back ≡ [] → StandsAt base all → GoesOn i n len place r
+    falls_on f none st =
+        let size_is : n ≡ length inner = (let a = inner_is in let b = cond-true (falls w.block.end) (length (insts_of w.block)) (length (insts_of w.block) - 1) f in omega arith) in
+        let run = body_done 0 (omega arith) in
+        let to_size : r2 ≡ r1 = run_same p n (length inner) r size_is in
+        let whole = all_made ∙ falls_run w.block w.plan w.insts p.input w.laid w.parts w.some p.place base at R0 f none ∙ run.ran in
+        let d_is : doing_all base all d0 ≡ did_of r2 = did_is (doing_all base all d0) r1 (ran_at link short p r1 true nowhere) (run_along p.place p.input base all R0).leads whole refl refl refl all_free ∙ ap did_of (sym to_size) in
+        let no_items : length w.parts.back ≡ 0 = ap length none in
+        let lp = len_parts in
+        let la = len_all in
+        let wp : ArePlain all = subst ArePlain (sym (ap (words w.insts) (w.parts.whole ∙ ap (λ l. w.parts.front ++ l) none ∙ append-nil w.parts.front))) front_plain in
+        let sm = small (i + n) in
+        let nx = w.next in
+        let go : steps len (begins base d0) ≡ begins (link (i + n)) (did_of r2) =
+        for_same code inside p.place p.input len (length all) (begins base d0) (sym la)
+        ∙ goes code inside p.place p.input all base d0 st wp (low i) (omega arith)
+        ∙ (λ k. begins ((ap (λ m. base + m) la ∙ sym nx) k) (d_is k)) in
+        let ix : r2.state.index ≡ i + n = ap (λ (u : Run). u.state.index) to_size ∙ run.index ∙ ap (λ m. i + m) (sym size_is) in
+        let go2 : steps len (begins base d0) ≡ begins (link r2.state.index) (did_of r2) = go ∙ ap (λ m. begins (link m) (did_of r2)) (sym ix) in
+        let room = w.parts.room in
+        let in_is = inner_is in
+        let ops = w.ops in
+        record {
+          own = len;
+          w = 0;
+          c = 0;
+          is_own = omega arith;
+          many = ops;
+          behind = omega arith;
+          short_len = omega arith;
+          count = omega arith;
+          mark = ap (λ (u : Run). u.state.mark) to_size ∙ run.mark;
+          lead = ⊎_elim (λ l. inl (ap leader ix ∙ l, (let q : 0 ≤ place_of r2.state.index = omega arith in q))) (λ l. inr (ix ∙ l)) w.lead;
+          reaches = keeps_self code inside p.place p.input (steps len (begins base d0)) (begins (link r2.state.index) (did_of r2)) go2;
+          shown = subst (λ (x : Watched). IsAt x r2) (sym go) (is_at_did (did_of r2) r2 (link (i + n)) refl);
+          runs_on = ap (λ (x : Watched). x.at.halted) go;
+        }
