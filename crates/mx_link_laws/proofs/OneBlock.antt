@@ -3,17 +3,18 @@ use Rattle.std.proofs.Common.{◌≡◌, ℕ, ℤ, pos, zero, suc, ◌+◌, ◌*
 use Rattle.std.specs.Prelude.{slice_get}
 use Rattle.std.specs.Int.{w32, cast_unsigned}
 use Rattle.std.proofs.lemmas.Bool.{cond-true, cond-false, cases_Bool, or_parts}
+use Rattle.std.proofs.lemmas.Bool.Decides.{nat_tests}
 use Rattle.std.proofs.lemmas.List.{append-nil, length-map}
 use Rattle.mx_isa.specs.declared.inst.Cond.{Cond}
 use Rattle.mx_isa.specs.declared.inst.Inst.{Inst}
-use Rattle.mx_isa.specs.declared.inst.Inst.TheVariants.{Jspci}
+use Rattle.mx_isa.specs.declared.inst.Inst.TheVariants.{Load, Store, Jspci}
 use Rattle.mx_isa.specs.declared.inst.Inst.TheVariants.{Branch as BranchInst, Halt as HaltInst}
 use Rattle.mx_isa.specs.Words.{Words, reg, write}
 use Rattle.mx_isa.specs.Arithmetic.{condition_holds}
 use Rattle.mx_isa.specs.Effect.{Core, Decision, decides, offset_by}
-use Rattle.mx_isa.specs.Views.{is_load, is_halt, is_transfer, dest, reads}
+use Rattle.mx_isa.specs.Views.{Access, access, is_load, is_halt, is_transfer, dest, reads}
 use Rattle.mx_code.specs.Delay.{Code, idle, queued, next_of}
-use Rattle.mx_code.specs.Clean.{Watched, watch, loads_to}
+use Rattle.mx_code.specs.Clean.{is_lawful, Watched, watch, loads_to}
 use Rattle.mx_depend.specs.Graphs.{inst_at}
 use Rattle.mx_source.specs.declared.statement.Statement.{Statement}
 use Rattle.mx_source.specs.declared.statement.Statement.TheVariants.{Branch, Call, CallReg, JumpReg, Halt}
@@ -25,10 +26,13 @@ use Rattle.mx_blocks.specs.declared.block.Block.{Block}
 use Rattle.mx_blocks.specs.declared.block.Plan.{Plan}
 use Rattle.mx_blocks.specs.declared.block.Item.{Item}
 use Rattle.mx_blocks.specs.declared.block.Item.TheVariants.{Op, Nop}
+use Rattle.mx_blocks.specs.Items.{ops}
 use Rattle.mx_validate.specs.Padded.{insts_of, items_of, falls, body_count}
+use Rattle.mx_validate.proofs.Listed.{ops_append}
 use Rattle.mx_order.specs.Running.{Ran, run_one, run_source}
 use Rattle.mx_order.specs.Laws.{IsLaidOut}
 use Rattle.mx_order.specs.Parts.{AreBelow, Parts}
+use Rattle.mx_order.proofs.Reorder.{once_length}
 use Rattle.mx_order.proofs.Words.{item_inst, words, run_along}
 use Rattle.mx_link_laws.proofs.Going.{Did, IsPlain, ArePlain, idle_plain, Stands, stands_left, did_same, did, did_all, did_anywhere, queue, starts, for, for_same, for_add, plain_word, goes, Keeps, keeps_self, keeps_then}
 use Rattle.mx_link_laws.proofs.Ends.{append_did, past_transfer, slots_taken, slots_cancelled, one_taken, at_g, in_g, halts, Same3, undo, keeps_idle, keeps_head}
@@ -51,8 +55,21 @@ plain_item : (insts : List Inst) (n : ℕ) (x : Item) → AreBelow n (x ∷ []) 
 plain_item insts n Nop b h = idle_plain
 plain_item insts n (Op k) b h = h k b.0
 
+ops_length : (xs : List Item) → length (ops xs) ≤ length xs
+ops_length [] = omega arith
+ops_length (Op k ∷ xs) = let h = ops_length xs in omega arith
+ops_length (Nop ∷ xs) = let h = ops_length xs in omega arith
+
 next_none : (n : ℕ) → n + 1 < 2 ^ 31 → next_of None n ≡ n + 1
 next_none n h = omega arith
+
+some_none : (a : Access) → Some a ≡ None → ⊥
+some_none a e = cc
+
+no_access_moves : (i : Inst) → is_transfer i ≡ true → access i ≡ None
+no_access_moves (Load base d offset) h = absurd (false_true h)
+no_access_moves (Store base v offset) h = absurd (false_true h)
+no_access_moves _ h = refl
 
 abbrev pub nowhere : Decision
 nowhere = record { target = None; cancels = false }
@@ -157,7 +174,6 @@ module _ (link : ℕ → ℕ) (p : Program) (small : (i : ℕ) → link i + 8 < 
     pub few : length (insts_of block) ≤ 64
     pub body : AreBody link short p.statements i (bodies block plan insts p.input laid parts some)
     pub next : link (i + length (insts_of block)) ≡ link i + length (items_of plan)
-    pub ops : length (insts_of block) ≤ length (items_of plan)
     pub lead : Leads (i + length (insts_of block))
 
   module _ (i : ℕ) (w : Laid i) (r : Run) (going : r.state.mark ≡ Going) (here : r.state.index ≡ i) (safe : is_stuck (run_for p (length (insts_of w.block)) r).state.mark ≡ false) where
@@ -210,6 +226,9 @@ module _ (link : ℕ → ℕ) (p : Program) (small : (i : ℕ) → link i + 8 < 
     len_parts : len ≡ place + length w.parts.back
     len_parts = ap length w.parts.whole ∙ length-append w.parts.front w.parts.back
 
+    size_ops : n ≤ length (ops (items_of w.plan))
+    size_ops = once_length n 0 (ops (items_of w.plan)) (λ k. w.laid.valid.once k ∙ grind (arith, nat_tests))
+
     len_all : length all ≡ len
     len_all = length-map (items_of w.plan) (item_inst w.insts)
 
@@ -254,13 +273,14 @@ module _ (link : ℕ → ℕ) (p : Program) (small : (i : ℕ) → link i + 8 < 
         let go2 : steps len (begins base d0) ≡ begins (link r2.state.index) (did_of r2) = go ∙ ap (λ m. begins (link m) (did_of r2)) (sym ix) in
         let room = w.parts.room in
         let in_is = inner_is in
-        let ops = w.ops in
+        let sized = size_ops in
+        let ol = ops_length (items_of w.plan) in
         record {
           own = len;
           w = 0;
           c = 0;
           is_own = omega arith;
-          many = ops;
+          many = omega arith;
           behind = omega arith;
           short_len = omega arith;
           count = omega arith;
@@ -270,3 +290,203 @@ module _ (link : ℕ → ℕ) (p : Program) (small : (i : ℕ) → link i + 8 < 
           shown = subst (λ (x : Watched). IsAt x r2) (sym go) (is_at_did (did_of r2) r2 (link (i + n)) refl);
           runs_on = ap (λ (x : Watched). x.at.halted) go;
         }
+
+    -- a block that halts
+    pub stops : falls w.block.end ≡ false → w.parts.back ≡ Op (body_count w.block) ∷ [] → slice_get p.statements (i + length inner) ≡ Some Halt → ender ≡ HaltInst → StandsAt base all → StopsAt i n place r
+    stops f one stop is_halt_there st =
+        let in_is = inner_is in
+        let size_is : n ≡ suc (length inner) = size_ends w.block w.plan w.insts p.input w.laid w.parts w.some f ∙ ap (λ m. suc m) (sym in_is) in
+        let run = body_done 1 (omega arith) in
+        let end_is : r2 ≡ said p (Some Halt) r1 = run_same p n (suc (length inner)) r size_is ∙ run_one_more p (length inner) r ∙ step_is p r1 (Some Halt) run.mark (ap (slice_get p.statements) run.index ∙ stop) in
+        let words_is : all ≡ front ++ HaltInst ∷ [] = words_are w.block w.plan w.insts p.input w.laid w.parts w.some [] one ∙ ap (λ j. front ++ j ∷ []) is_halt_there in
+        let st2 : StandsAt base (front ++ HaltInst ∷ []) = subst (StandsAt base) words_is st in
+        let lp : len ≡ place + 1 = len_parts ∙ ap (λ l. place + length l) one in
+        let fl = front_is in
+        let sm = small (i + n) in
+        let nx = w.next in
+        let h = halts code inside p.place p.input front base d0 st2 front_plain (low i) (omega arith) in
+        let go = goes code inside p.place p.input front base d0 (stands_left code inside base front (HaltInst ∷ []) st2) front_plain (low i) (omega arith) in
+        let all_is : doing_all base all d0 ≡ doing at HaltInst (doing_all base front d0) = ap (λ l. doing_all base l d0) words_is ∙ append_did code inside p.place p.input base front (HaltInst ∷ []) d0 in
+        let whole : ran_of code inside p.place p.input (doing_all base all d0) (run_along p.place p.input base all R0).leads ≡ run_one p.place p.input at HaltInst (ran_at link short p r1 true nowhere) =
+        all_made
+        ∙ ends_run w.block w.plan w.insts p.input w.laid w.parts w.some p.place base R0 [] f one tt
+        ∙ ap (run_one p.place p.input at ender) run.ran
+        ∙ ap (λ j. run_one p.place p.input at j (ran_at link short p r1 true nowhere)) is_halt_there in
+        let to_place = for_same code inside p.place p.input (length front + 1) (place + 1) (begins base d0) (ap (λ m. m + 1) fl) in
+        let sized = size_ops in
+        let ol = ops_length (items_of w.plan) in
+        let room = w.parts.room in
+        record {
+          before_n = length inner;
+          is_n = size_is;
+          many = omega arith;
+          short_len = omega arith;
+          before = run.mark;
+          mark = ap (λ (u : Run). u.state.mark) end_is;
+          runs_on = ap (λ (x : Watched). x.at.halted) (for_same code inside p.place p.input place (length front) (begins base d0) (sym fl) ∙ go);
+          halted = ap (λ (x : Watched). x.at.halted) (sym to_place) ∙ h.halted;
+          shown = subst (λ (x : Watched). IsAt x r2) to_place (record {
+            core = h.core ∙ ap (λ (d : Did). d.core) (sym all_is) ∙ ap (λ (y : Ran). y.core) whole ∙ ap (λ (u : Run). core_of link short u.state) (sym end_is);
+            console = h.console ∙ ap (λ (d : Did). d.console) (sym all_is) ∙ ap (λ (y : Ran). y.bytes) whole ∙ ap (λ (u : Run). u.console) (sym end_is);
+            clean = h.clean ∙ ap (λ (d : Did). d.clean) (sym all_is) ∙ ap (λ (y : Ran). y.clean) whole;
+          });
+        }
+
+    -- a block that ends with a transfer
+    module _ (f_not : falls w.block.end ≡ false) (moves : is_transfer ender ≡ true) (on : is_halt ender ≡ false) (no_load : is_load ender ≡ false) (f g : Item) (three : w.parts.back ≡ Op (body_count w.block) ∷ f ∷ g ∷ []) (below : AreBelow (body_count w.block) (f ∷ g ∷ [])) where
+      abbrev fw : Inst
+      fw = item_inst w.insts f
+
+      abbrev gw : Inst
+      gw = item_inst w.insts g
+
+      abbrev D0 : Did
+      D0 = doing_all base front d0
+
+      abbrev D1 : Did
+      D1 = doing at ender D0
+
+      abbrev R1 : Ran
+      R1 = run_one p.place p.input at ender (ran_at link short p r1 true nowhere)
+
+      size_is : n ≡ suc (length inner)
+      size_is = size_ends w.block w.plan w.insts p.input w.laid w.parts w.some f_not ∙ ap (λ m. suc m) (sym inner_is)
+
+      pub run_b : BodyRun link short p i at inner r true nowhere
+      run_b = body_done 1 (let s = size_is in omega arith)
+
+      pub to_end : r2 ≡ run_step p r1
+      to_end = run_same p n (suc (length inner)) r size_is ∙ run_one_more p (length inner) r
+
+      pub behind_it : suc r1.state.index ≡ i + n
+      behind_it = let s = size_is in let e = run_b.index in omega arith
+
+      all_are : all ≡ front ++ ender ∷ fw ∷ gw ∷ []
+      all_are = words_are w.block w.plan w.insts p.input w.laid w.parts w.some (f ∷ g ∷ []) three
+
+      did_are : doing_all base all d0 ≡ doing (at + 2) gw (doing (at + 1) fw D1)
+      did_are =
+          ap (λ l. doing_all base l d0) all_are
+          ∙ append_did code inside p.place p.input base front (ender ∷ fw ∷ gw ∷ []) d0
+          ∙ ap (λ m. doing m gw (doing (at + 1) fw D1)) (let e : at + 1 + 1 ≡ at + 2 = omega arith in e)
+
+      ran_end : run_along p.place p.input base all R0 ≡ R1
+      ran_end = ends_run w.block w.plan w.insts p.input w.laid w.parts w.some p.place base R0 (f ∷ g ∷ []) f_not three below ∙ ap (run_one p.place p.input at ender) run_b.ran
+
+      -- the transfer decides in its place as at the end of the block
+      pub decision : decides ender at D0.core.regs ≡ decides ender at (core_of link short r1.state).regs
+      decision =
+          ap (λ (y : Ran). decides ender at y.core.regs) (all_ran code inside p.place p.input base front d0 nowhere (apart_pre w.block w.plan w.insts p.input w.laid w.parts w.some))
+          ∙ decides_there w.block w.plan w.insts p.input w.laid w.parts w.some p.place base R0
+          ∙ ap (λ (y : Ran). decides ender at y.core.regs) run_b.ran
+
+      -- where the meaning lands after the block
+      pub record Landed (j : ℕ) : Type 0 where
+        pub index : r2.state.index ≡ j
+        pub mark : r2.state.mark ≡ Going
+        pub core : R1.core ≡ core_of link short r2.state
+        pub bytes : R1.bytes ≡ r2.console
+
+      transfer_clean : R1.clean ≡ true
+      transfer_clean = lawful_none (access ender) (no_access_moves ender moves)
+        where
+          lawful_none : (o : Option Access) → o ≡ None → (true && is_lawful p.place p.input o (core_of link short r1.state).regs) ≡ true
+          lawful_none None e = refl
+          lawful_none (Some a) e = absurd (some_none a e)
+
+      -- all items done
+      ended : (j : ℕ) → Landed j → doing (at + 2) gw (doing (at + 1) fw D1) ≡ did_of r2
+      ended j m = sym did_are ∙ did_is (doing_all base all d0) r2 R1 (run_along p.place p.input base all R0).leads (all_made ∙ ran_end) m.core m.bytes transfer_clean all_free
+
+      len3 : len ≡ place + 3
+      len3 = len_parts ∙ ap (λ l. place + length l) three
+
+      many_by : (k : ℕ) → length (ops (f ∷ g ∷ [])) ≤ k → n ≤ place + 1 + k
+      many_by k h =
+          let e : length (ops (items_of w.plan)) ≡ length (ops w.parts.front) + suc (length (ops (f ∷ g ∷ []))) =
+          ap (λ l. length (ops l)) (w.parts.whole ∙ ap (λ l. w.parts.front ++ l) three)
+          ∙ ap length (ops_append w.parts.front (Op (body_count w.block) ∷ f ∷ g ∷ []))
+          ∙ length-append (ops w.parts.front) (body_count w.block ∷ ops (f ∷ g ∷ [])) in
+          let l = ops_length w.parts.front in
+          let a = size_ops in
+          omega arith
+
+      item_plain : (x : Item) → AreBelow (body_count w.block) (x ∷ []) → IsPlain (item_inst w.insts x)
+      item_plain x h = plain_item w.insts (body_count w.block) x h (plain_body w.block w.plan w.insts p.input w.laid w.parts w.some inner_plain)
+
+      plain_f : IsPlain fw
+      plain_f = item_plain f (left_below (body_count w.block) f g below)
+
+      plain_g : IsPlain gw
+      plain_g = item_plain g (right_below (body_count w.block) f g below)
+
+      bound : at + 5 < 2 ^ 31
+      bound = let fl = front_is in let l3 = len3 in let sm = small (i + n) in let nx = w.next in omega arith
+
+      goes_on_at : (j : ℕ) → Landed j → (own k c : ℕ) → own + k ≡ len → n ≤ own → place ≤ own → c ≤ k → LeadsAt c j
+          → Keeping (steps len (begins base d0)) (steps c (begins (link j) (did_of r2))) → IsAt (steps own (begins base d0)) r2 → (steps own (begins base d0)).at.halted ≡ false → GoesOn i n len place r
+      goes_on_at j m own k c e many behind few lead reach shown runs =
+          let ix = m.index in
+          record {
+            own = own;
+            w = k;
+            c = c;
+            is_own = e;
+            many = many;
+            behind = behind;
+            short_len = (let a = w.parts.room in let b = size_is in let x = inner_is in let d = len3 in omega arith);
+            count = few;
+            mark = m.mark;
+            lead = subst (LeadsAt c) (sym ix) lead;
+            reaches = subst (λ q. Keeping (steps len (begins base d0)) (steps c (begins (link q) (did_of r2)))) (sym ix) reach;
+            shown = shown;
+            runs_on = runs;
+          }
+
+      -- with all items done
+      all_done : (j : ℕ) → Landed j → Leads j → steps (length front + 1 + 2) (begins base d0) ≡ begins (link j) (doing (at + 2) gw (doing (at + 1) fw D1)) → GoesOn i n len place r
+      all_done j m lead go =
+          let fl = front_is in
+          let l3 = len3 in
+          let same : steps len (begins base d0) ≡ begins (link j) (did_of r2) =
+          for_same code inside p.place p.input len (length front + 1 + 2) (begins base d0) (omega arith) ∙ go ∙ ap (begins (link j)) (ended j m) in
+          goes_on_at j m len 0 0 (let q : len + 0 ≡ len = omega arith in q)
+          (let a = size_ops in let b = ops_length (items_of w.plan) in omega arith)
+          (omega arith)
+          (let q : 0 ≤ 0 = omega arith in q)
+          (⊎_elim (λ l. inl (l, (let q : 0 ≤ place_of j = omega arith in q))) (λ l. inr l) lead)
+          (keeps_self code inside p.place p.input (steps len (begins base d0)) (begins (link j) (did_of r2)) same)
+          (subst (λ (x : Watched). IsAt x r2) (sym same) (is_at_did (did_of r2) r2 (link j) refl))
+          (ap (λ (x : Watched). x.at.halted) same)
+
+      after_it : next_of None (at + 2) ≡ link (i + n)
+      after_it =
+          let fl = front_is in
+          let l3 = len3 in
+          let sm = small (i + n) in
+          let nx = w.next in
+          next_none (at + 2) (omega arith) ∙ (let q : at + 2 + 1 ≡ link (i + n) = omega arith in q)
+
+      abbrev Decides : Decision → Type 0
+      Decides d = decides ender at (core_of link short r1.state).regs ≡ d
+
+      -- not taken, the slots being its own
+      passes_own : (sq : Bool) (x y : Inst) → Decides (onward sq) → Landed (i + n) → sq ≡ false → x ≡ fw → y ≡ gw → StandsAt base (front ++ ender ∷ x ∷ y ∷ []) → GoesOn i n len place r
+      passes_own sq x y e m clear x_is y_is st =
+          all_done (i + n) m w.lead
+          (slots_taken code inside p.place p.input front ender fw gw base d0 (subst (StandsAt base) (λ k. front ++ ender ∷ x_is k ∷ y_is k ∷ []) st) front_plain plain_f plain_g on (low i) bound (link (i + n))
+          (ap (λ (d : Decision). d.cancels) (decision ∙ e) ∙ clear)
+          (ap (λ (d : Decision). next_of d.target (at + 2)) (decision ∙ e) ∙ after_it)
+          (low (i + n))
+          (let sm = small (i + n) in omega arith))
+
+      -- not taken, both slots being squashed
+      passes_squashed : (sq : Bool) (x y : Inst) → Decides (onward sq) → Landed (i + n) → sq ≡ true → IsPlain x → IsPlain y → f ≡ Nop → g ≡ Nop → StandsAt base (front ++ ender ∷ x ∷ y ∷ []) → GoesOn i n len place r
+      passes_squashed sq x y e m set px py nf ng st =
+          all_done (i + n) m w.lead
+          (slots_cancelled code inside p.place p.input front ender x y base d0 st front_plain px py on (low i) bound (link (i + n))
+          (ap (λ (d : Decision). d.cancels) (decision ∙ e) ∙ set)
+          (ap (λ (d : Decision). next_of d.target (at + 2)) (decision ∙ e) ∙ after_it)
+          (low (i + n))
+          (let sm = small (i + n) in omega arith)
+          ∙ (λ k. begins (link (i + n)) (doing (at + 2) (item_inst w.insts (sym ng k)) (doing (at + 1) (item_inst w.insts (sym nf k)) D1))))
