@@ -490,3 +490,178 @@ module _ (link : ℕ → ℕ) (p : Program) (small : (i : ℕ) → link i + 8 < 
           (low (i + n))
           (let sm = small (i + n) in omega arith)
           ∙ (λ k. begins (link (i + n)) (doing (at + 2) (item_inst w.insts (sym ng k)) (doing (at + 1) (item_inst w.insts (sym nf k)) D1))))
+
+      -- the transfer goes to the block at statement t, behind so many of its words
+      module _ (t count : ℕ) (e : Decides (away (link t + count))) (m : Landed t) where
+        to_target : next_of (decides ender at D0.core.regs).target (at + 2) ≡ link t + count
+        to_target = ap (λ (d : Decision). next_of d.target (at + 2)) (decision ∙ e)
+
+        not_cancelled : (decides ender at D0.core.regs).cancels ≡ false
+        not_cancelled = ap (λ (d : Decision). d.cancels) (decision ∙ e)
+
+        -- taken, the slots being its own
+        takes_own : (x y : Inst) → count ≡ 0 → Leads t → x ≡ fw → y ≡ gw → StandsAt base (front ++ ender ∷ x ∷ y ∷ []) → GoesOn i n len place r
+        takes_own x y none lead x_is y_is st =
+            all_done t m lead
+            (slots_taken code inside p.place p.input front ender fw gw base d0 (subst (StandsAt base) (λ k. front ++ ender ∷ x_is k ∷ y_is k ∷ []) st) front_plain plain_f plain_g on (low i) bound (link t)
+            not_cancelled
+            (to_target ∙ (let q : link t + count ≡ link t = omega arith in q))
+            (low t)
+            (let sm = small t in omega arith))
+
+        abbrev S : Did
+        S = did_of r2
+
+        one_head : (x : Inst) → Head t 0 x → steps 1 (begins (link t) S) ≡ begins (link t + 1) (doing (link t) x S)
+        one_head x h =
+            let sm = small t in
+            goes code inside p.place p.input (x ∷ []) (link t) S (subst (λ q. code q ≡ x) plus_zero h.at, subst (λ q. inside q ≡ true) plus_zero h.within, tt) (h.plain, tt) (low t) (omega arith)
+          where
+            plus_zero : link t + 0 ≡ link t
+            plus_zero = omega arith
+
+        two_heads : (x y : Inst) → Head t 0 x → Head t 1 y → steps 2 (begins (link t) S) ≡ begins (link t + 2) (doing (link t + 1) y (doing (link t) x S))
+        two_heads x y h k =
+            let sm = small t in
+            goes code inside p.place p.input (x ∷ y ∷ []) (link t) S (subst (λ q. code q ≡ x) plus_zero h.at, subst (λ q. inside q ≡ true) plus_zero h.within, (k.at, k.within, tt)) (h.plain, (k.plain, tt)) (low t) (omega arith)
+          where
+            plus_zero : link t + 0 ≡ link t
+            plus_zero = omega arith
+
+        both_nops : f ≡ Nop → g ≡ Nop → D1 ≡ S
+        both_nops nf ng =
+            let two : doing (at + 2) idle (doing (at + 1) idle D1) ≡ S = (λ k. doing (at + 2) (item_inst w.insts (sym ng k)) (doing (at + 1) (item_inst w.insts (sym nf k)) D1)) ∙ ended t m in
+            let a = undo code inside p.place p.input (at + 2) (doing (at + 1) idle D1) S two refl in
+            let b = undo code inside p.place p.input (at + 1) D1 (doing (at + 1) idle D1) refl a.clean in
+            did_same D1 S (b.core ∙ a.core) (b.console ∙ a.console) b.clean (cond-false (is_load ender) (dest ender) 0 no_load)
+
+        no_ops : f ≡ Nop → g ≡ Nop → length (ops (f ∷ g ∷ [])) ≤ 0
+        no_ops nf ng = let e : length (ops (f ∷ g ∷ [])) ≡ 0 = (λ k. length (ops (nf k ∷ ng k ∷ []))) in omega arith
+
+        one_op : g ≡ Nop → length (ops (f ∷ g ∷ [])) ≤ 1
+        one_op ng = let e : length (ops (f ∷ g ∷ [])) ≡ length (ops (f ∷ Nop ∷ [])) = (λ k. length (ops (f ∷ ng k ∷ []))) in let h = ops_length (f ∷ []) in let q : length (ops (f ∷ Nop ∷ [])) ≡ length (ops (f ∷ [])) = without f in omega arith
+          where
+            without : (x : Item) → length (ops (x ∷ Nop ∷ [])) ≡ length (ops (x ∷ []))
+            without (Op k) = refl
+            without Nop = refl
+
+        pub record Shown (own : ℕ) : Type 0 where
+          pub shown : IsAt (steps own (begins base d0)) r2
+          pub runs_on : (steps own (begins base d0)).at.halted ≡ false
+
+        low_on : (k : ℕ) → p.place.code ≤ link t + k
+        low_on k = let l = low t in omega arith
+
+        -- the transfer is done, and both slots hold what is not the block's
+        after_transfer : (x y : Inst) → StandsAt base (front ++ ender ∷ x ∷ y ∷ []) → IsPlain x → IsPlain y → D1 ≡ S → Shown (place + 1)
+        after_transfer x y st px py d_is =
+            let fl = front_is in
+            let run : steps (place + 1) (begins base d0) ≡ queue code inside p.place p.input (queued (at + 1)) (queued (at + 2)) (link t + count) D1 =
+            for_same code inside p.place p.input (place + 1) (length front + 1) (begins base d0) (omega arith)
+            ∙ past_transfer code inside p.place p.input front ender x y base d0 st front_plain px py on (low i) bound false (link t + count) not_cancelled to_target (low_on count) in
+            record {
+              shown = record {
+                core = ap (λ (u : Watched). u.at.core) run ∙ ap (λ (d : Did). d.core) d_is;
+                console = ap (λ (u : Watched). u.at.console) run ∙ ap (λ (d : Did). d.console) d_is;
+                clean = ap (λ (u : Watched). u.clean) run ∙ ap (λ (d : Did). d.clean) d_is;
+              };
+              runs_on = ap (λ (u : Watched). u.at.halted) run;
+            }
+
+        -- both slots hold words of the target
+        takes_both : (x y : Inst) → count ≡ 2 → f ≡ Nop → g ≡ Nop → leader t ≡ true → Head t 0 x → Head t 1 y → StandsAt base (front ++ ender ∷ x ∷ y ∷ []) → GoesOn i n len place r
+        takes_both x y two nf ng lead hx hy st =
+            let done = both_nops nf ng in
+            let l3 = len3 in
+            let fl = front_is in
+            let sm = small t in
+            let z_is : link t + count ≡ link t + 2 = omega arith in
+            let own = after_transfer x y st hx.plain hy.plain done in
+            let b = hy.before in
+            goes_on_at t m (place + 1) 2 2 (omega arith) (let q = many_by 0 (no_ops nf ng) in omega arith) (omega arith) (let q : 2 ≤ 2 = omega arith in q) (inl (lead, (let q : 2 ≤ place_of t = omega arith in q)))
+            (keeps_self code inside p.place p.input (steps len (begins base d0)) (steps 2 (begins (link t) S))
+            (for_same code inside p.place p.input len (length front + 1 + 2) (begins base d0) (omega arith)
+            ∙ slots_taken code inside p.place p.input front ender x y base d0 st front_plain hx.plain hy.plain on (low i) bound (link t + 2) not_cancelled (to_target ∙ z_is) (low_on 2) (omega arith)
+            ∙ ap (λ d. begins (link t + 2) (doing (at + 2) y (doing (at + 1) x d))) done
+            ∙ ap (λ d. begins (link t + 2) (doing (at + 2) y d)) (did_anywhere code inside p.place p.input (at + 1) (link t) x S hx.plain.stays)
+            ∙ ap (begins (link t + 2)) (did_anywhere code inside p.place p.input (at + 2) (link t + 1) y (doing (link t) x S) hy.plain.stays)
+            ∙ sym (two_heads x y hx hy)))
+            own.shown own.runs_on
+
+        -- the first slot holds a word of the target
+        takes_first : (x y : Inst) → count ≡ 1 → f ≡ Nop → g ≡ Nop → leader t ≡ true → Head t 0 x → y ≡ idle → StandsAt base (front ++ ender ∷ x ∷ y ∷ []) → GoesOn i n len place r
+        takes_first x y one nf ng lead hx y_is st0 =
+            let st : StandsAt base (front ++ ender ∷ x ∷ idle ∷ []) = subst (λ j. StandsAt base (front ++ ender ∷ x ∷ j ∷ [])) y_is st0 in
+            let done = both_nops nf ng in
+            let l3 = len3 in
+            let fl = front_is in
+            let sm = small t in
+            let z_is : link t + count ≡ link t + 1 = omega arith in
+            let own = after_transfer x idle st hx.plain idle_plain done in
+            let b = hx.before in
+            let last = doing (at + 2) idle (doing (link t) x S) in
+            let go : steps len (begins base d0) ≡ begins (link t + 1) last =
+            for_same code inside p.place p.input len (length front + 1 + 2) (begins base d0) (omega arith)
+            ∙ slots_taken code inside p.place p.input front ender x idle base d0 st front_plain hx.plain idle_plain on (low i) bound (link t + 1) not_cancelled (to_target ∙ z_is) (low_on 1) (omega arith)
+            ∙ ap (λ d. begins (link t + 1) (doing (at + 2) idle (doing (at + 1) x d))) done
+            ∙ ap (λ d. begins (link t + 1) (doing (at + 2) idle d)) (did_anywhere code inside p.place p.input (at + 1) (link t) x S hx.plain.stays) in
+            goes_on_at t m (place + 1) 2 1 (omega arith) (let q = many_by 0 (no_ops nf ng) in omega arith) (omega arith) (let q : 1 ≤ 2 = omega arith in q) (inl (lead, (let q : 1 ≤ place_of t = omega arith in q)))
+            (keeps_then code inside p.place p.input (steps len (begins base d0)) (begins (link t + 1) last) (steps 1 (begins (link t) S))
+            (keeps_self code inside p.place p.input (steps len (begins base d0)) (begins (link t + 1) last) go)
+            (subst (λ (u : Watched). Keeping (begins (link t + 1) last) u) (sym (one_head x hx)) (keeps_idle code inside p.place p.input (link t + 1) (at + 2) (doing (link t) x S))))
+            own.shown own.runs_on
+
+        -- the second slot holds a word of the target
+        takes_second : (x y : Inst) → count ≡ 1 → g ≡ Nop → leader t ≡ true → x ≡ fw → Head t 0 y → reads y (loads_to x) ≡ false → StandsAt base (front ++ ender ∷ x ∷ y ∷ []) → GoesOn i n len place r
+        takes_second x y one ng lead x_is hy free0 st0 =
+            let st : StandsAt base (front ++ ender ∷ fw ∷ y ∷ []) = subst (λ j. StandsAt base (front ++ ender ∷ j ∷ y ∷ [])) x_is st0 in
+            let free : reads y (loads_to fw) ≡ false = subst (λ j. reads y (loads_to j) ≡ false) x_is free0 in
+            let D2 = doing (at + 1) fw D1 in
+            let idle_is : doing (at + 2) idle D2 ≡ S = (λ k. doing (at + 2) (item_inst w.insts (sym ng k)) D2) ∙ ended t m in
+            let done = undo code inside p.place p.input (at + 2) D2 S idle_is refl in
+            let l3 = len3 in
+            let fl = front_is in
+            let sm = small t in
+            let b = hy.before in
+            let z = link t + 1 in
+            let z_is : link t + count ≡ link t + 1 = omega arith in
+            let own_run : steps (place + 2) (begins base d0) ≡ queue code inside p.place p.input (queued (at + 2)) (queued z) (z + 1) D2 =
+            for_same code inside p.place p.input (place + 2) (length front + 1 + 1) (begins base d0) (omega arith)
+            ∙ one_taken code inside p.place p.input front ender fw y base d0 st front_plain plain_f hy.plain on (low i) bound z not_cancelled (to_target ∙ z_is) (low_on 1) (omega arith) in
+            let last : queue code inside p.place p.input (queued z) (queued (z + 1)) (z + 1 + 1) (doing (at + 2) y D2) ≡ watch code inside p.place p.input (queue code inside p.place p.input (queued (at + 2)) (queued z) (z + 1) D2) =
+            plain_word code inside p.place p.input (at + 2) (queued z) (z + 1) D2 y (at_g code inside p.place p.input front ender fw y base d0 st front_plain plain_f hy.plain on (low i) bound) (in_g code inside p.place p.input front ender fw y base d0 st front_plain plain_f hy.plain on (low i) bound) hy.plain (let q = low_on 2 in omega arith) (omega arith) in
+            let go : steps len (begins base d0) ≡ begins z (doing (at + 2) y D2) =
+            for_same code inside p.place p.input len (place + 2 + 1) (begins base d0) (omega arith)
+            ∙ for_add code inside p.place p.input (place + 2) 1 (begins base d0)
+            ∙ ap (watch code inside p.place p.input) own_run
+            ∙ sym last
+            ∙ ap (λ q. queue code inside p.place p.input (queued z) (queued (z + 1)) q (doing (at + 2) y D2)) (let q : z + 1 + 1 ≡ z + 2 = omega arith in q) in
+            goes_on_at t m (place + 2) 1 1 (omega arith) (let q = many_by 1 (one_op ng) in omega arith) (omega arith) (let q : 1 ≤ 1 = omega arith in q) (inl (lead, (let q : 1 ≤ place_of t = omega arith in q)))
+            (keeps_then code inside p.place p.input (steps len (begins base d0)) (begins z (doing (at + 2) y D2)) (steps 1 (begins (link t) S))
+            (keeps_self code inside p.place p.input (steps len (begins base d0)) (begins z (doing (at + 2) y D2)) go)
+            (subst (λ (u : Watched). Keeping (begins z (doing (at + 2) y D2)) u) (sym (one_head y hy)) (keeps_head code inside p.place p.input y z (at + 2) (link t) D2 S hy.plain done free)))
+            (record {
+              core = ap (λ (u : Watched). u.at.core) own_run ∙ done.core;
+              console = ap (λ (u : Watched). u.at.console) own_run ∙ done.console;
+              clean = ap (λ (u : Watched). u.clean) own_run ∙ done.clean;
+            })
+            (ap (λ (u : Watched). u.at.halted) own_run)
+
+        -- by what its slots hold
+        pub takes : (sq sure : Bool) (x y : Inst) → Leads t → Filled t count sq sure w.insts f g x y → StandsAt base (front ++ ender ∷ x ∷ y ∷ []) → GoesOn i n len place r
+        takes sq sure x y lead (Own none clear first second) st = takes_own x y none lead first second st
+        takes sq sure x y lead (InSecond one surely ng first head free leads) st = takes_second x y one ng leads first head free st
+        takes sq sure x y lead (InFirst one set nf ng head second leads) st = takes_first x y one nf ng leads head second st
+        takes sq sure x y lead (InBoth two set nf ng head other leads) st = takes_both x y two nf ng leads head other st
+
+      -- the transfer does not go
+      pub passes : (t count : ℕ) (sq sure : Bool) (x y : Inst) → Decides (onward sq) → Landed (i + n) → sure ≡ false → Filled t count sq sure w.insts f g x y → StandsAt base (front ++ ender ∷ x ∷ y ∷ []) → GoesOn i n len place r
+      passes t count sq sure x y e m unsure (Own none clear first second) st = passes_own sq x y e m clear first second st
+      passes t count sq sure x y e m unsure (InSecond one surely ng first head free leads) st = absurd (false_true (sym unsure ∙ surely))
+      passes t count sq sure x y e m unsure (InFirst one set nf ng head second leads) st =
+          passes_squashed sq x y e m (set unsure) head.plain (subst IsPlain (sym second) idle_plain) nf ng st
+      passes t count sq sure x y e m unsure (InBoth two set nf ng head other leads) st = passes_squashed sq x y e m (set unsure) head.plain other.plain nf ng st
+
+      -- the address behind the slots is the next block's
+      pub behind_slots : link (suc r1.state.index) ≡ at + 3
+      behind_slots = let l3 = len3 in let fl = front_is in ap link behind_it ∙ w.next ∙ (let q : base + len ≡ at + 3 = omega arith in q)
