@@ -4,3 +4,4 @@ pub mod Matching
 pub mod Saying
 pub mod Planned
 pub mod OneBlock
+pub mod Transfers
