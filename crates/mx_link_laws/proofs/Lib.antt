@@ -5,3 +5,4 @@ pub mod Saying
 pub mod Planned
 pub mod OneBlock
 pub mod Transfers
+pub mod Whole
