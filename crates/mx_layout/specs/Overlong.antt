@@ -58,6 +58,11 @@ overlong_from source link at (block ∷ blocks) =
 abbrev pub overlong : SourceValue → Place → List Block → Option Overlong
 overlong source place blocks = overlong_from source (padded_link place.code blocks) place.code blocks
 
+-- the branch that was found is reported; memory may be wanting
+abbrev pub IsReported : Option Overlong → LinkError → Type 0
+IsReported found (Displacement line from to) = found ≡ Some (record { line = line; from = from; to = to })
+IsReported found Memory = Unit {0}
+
 -- the source is laid out and has an overlong branch
 pub record IsTooLong (Proposes : Block → Plan → Type 0) (source : SourceValue) (place : Place) (found : Overlong) : Type 0 where
   pub sites : List Site

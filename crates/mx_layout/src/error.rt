@@ -1,8 +1,9 @@
 //! Why a source is not linked.
 ghost use Rattle.std.specs.Prelude.{◌≡◌};
+ghost use Rattle.mx_layout.specs.declared.error.LinkError.TheVariants.{Memory as OutOfMemory};
 
 use mx_io::Memory;
-use std::alloc::{AllocError, AllocFailed};
+use std::alloc::AllocError;
 use thiserror::Error;
 
 /// Why a source is not linked.
@@ -18,9 +19,17 @@ pub enum LinkError {
 }
 
 impl From<Memory> for LinkError {
-    fn from(_: Memory) -> LinkError
-        ensures { result ≡ LinkError.Memory }
-    {
+    ghost from_gives = { λ _ e. e ≡ OutOfMemory };
+
+    fn from(_: Memory) -> LinkError {
+        LinkError::Memory
+    }
+}
+
+impl From<AllocError> for LinkError {
+    ghost from_gives = { λ _ e. e ≡ OutOfMemory };
+
+    fn from(_: AllocError) -> LinkError {
         LinkError::Memory
     }
 }

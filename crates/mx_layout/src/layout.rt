@@ -7,7 +7,10 @@ ghost use Rattle.mx_layout.specs.Kept.{AreKept};
 ghost use Rattle.mx_layout.specs.Overlong.{overlong, branch_target, IsRefusal};
 
 use crate::LinkError;
-use mx_blocks::{Block, Plan};
+use crate::addresses::{links_of, plan_sizes, starts_of};
+use crate::choosing::{Choices, choose_all};
+use crate::reaching::check_reach;
+use mx_blocks::{Block, Plan, blocks};
 use mx_isa::Place;
 use mx_source::Source;
 use mx_validate::Proposer;
@@ -57,5 +60,22 @@ pub fn lay_out<P: Proposer>(
         (sites l.blocks.items l.plans.items l.starts.items)) }
     ensures refused { IfErr result (IsRefusal P.proposes source.now place) }
 {
-    Err(LinkError::Memory)
+    let blocks = blocks(alloc, source)?;
+    let Choices {
+        proposals,
+        plans,
+        rejected,
+    } = choose_all(alloc, blocks.as_slice(), proposer)?;
+    check_reach(alloc, source, place.code, blocks.as_slice())?;
+    let sizes = plan_sizes(alloc, plans.as_slice())?;
+    let starts = starts_of(alloc, place.code, sizes.as_slice())?;
+    let links = links_of(alloc, place.code, blocks.as_slice(), sizes.as_slice())?;
+    Ok(Layout {
+        blocks,
+        plans,
+        starts,
+        links,
+        proposals,
+        rejected,
+    })
 }

@@ -1,0 +1,251 @@
+-- Each word of a layout spells an instruction.
+use Rattle.std.proofs.Common.{◌≡◌, ℕ, ◌+◌, ◌-◌, ◌<◌, ◌≤◌, true, false, eqb, List, length, All, Option, Some, None, refl, sym, ap, ◌∙◌, subst, ⊎_elim, arith}
+use Rattle.std.specs.Prelude.{slice_get, slice_index, slice_index_or}
+use Rattle.std.specs.Option.{option_map}
+use Rattle.std.proofs.lemmas.Bool.{cases_lt, false≢true}
+use Rattle.std.proofs.lemmas.Bool.Decides.{nat_tests}
+use Rattle.std.proofs.lemmas.Grind.{common_steps}
+use Rattle.std.proofs.lemmas.List.{get_or_past}
+use Rattle.std.proofs.lemmas.Option.{none-some, same_Some}
+use Rattle.mx_isa.specs.Fields.{InstFits}
+use Rattle.mx_source.specs.declared.Statement.{Statement}
+use Rattle.mx_source.specs.declared.Statement.TheVariants.{Plain, LaCode, Branch, Call, CallReg, JumpReg, Halt}
+use Rattle.mx_source.specs.Labels.{IsPlace}
+use Rattle.mx_source.specs.Statements.{StatementFits}
+use Rattle.mx_source.specs.SourceValue.{SourceValue, IsSource}
+use Rattle.mx_blocks.specs.declared.Block.{Block}
+use Rattle.mx_blocks.specs.declared.Item.{Item}
+use Rattle.mx_blocks.specs.declared.Item.TheVariants.{Op, Nop}
+use Rattle.mx_blocks.specs.declared.End.{End}
+use Rattle.mx_blocks.specs.declared.End.TheVariants.{Branches, Calls}
+use Rattle.mx_blocks.specs.Ends.{is_last}
+use Rattle.mx_blocks.specs.Leaders.{IsBlockOf, size, inst_of, end_of}
+use Rattle.mx_validate.specs.Padded.{items_of}
+use Rattle.mx_validate.specs.Validity.{Valid}
+use Rattle.mx_validate.proofs.Listed.{once_below}
+use Rattle.mx_squash.specs.declared.Copied.{Copied}
+use Rattle.mx_squash.specs.Copies.{Site, site_of, is_target, is_branch_end, reaches, no_copies, copied, count}
+use Rattle.mx_layout.specs.declared.Layout.{Layout}
+use Rattle.mx_layout.specs.Layout.{link_of, plan_size}
+use Rattle.mx_layout.specs.Layout.{end_of as end_at}
+use Rattle.mx_layout.specs.Overlong.{branch_target}
+use Rattle.mx_layout.proofs.Links.{site_blocks, first_link, site_found, link_within}
+use Rattle.mx_link.specs.declared.code.Slots.{Slots}
+use Rattle.mx_link.specs.declared.code.Slots.TheVariants.{FromTarget, Kept}
+use Rattle.mx_link.specs.Origins.{goal_of, own, over, copied_to}
+use Rattle.mx_link.specs.Words.{linked_statement, inst_at}
+use Rattle.mx_link.specs.Parts.{filling_of, sites_of, link_in, IsLaidOut, HasWords}
+use Rattle.mx_link.proofs.Places.{at_place, site_below, sites_below}
+use Rattle.mx_link.proofs.Bodies.{is_last_of, last_stands, copy_goes_on}
+use Rattle.mx_link.proofs.Fits.{inst_fits}
+use Rattle.mx_link.proofs.Slots.{copied_op, copied_none, count_cases, count_small, copyable_small}
+
+-- where a site's transfer goes behind its copies, and what is copied
+pub record Goes (source : SourceValue) (link : ℕ → ℕ) (s : Site) (c : Copied) : Type 0 where
+  pub short : (i : ℕ) → link i ≤ 65535
+  pub call : (target : ℕ) → s.block.end ≡ Calls target → link target + c.count ≤ 65535
+  pub branch : (target : ℕ) → s.block.end ≡ Branches target → reaches (s.start + s.plan.place) (link target + c.count) ≡ true
+  pub copies : (p k : ℕ) (t : Statement) → copied_to c s.plan.place p ≡ Op k → slice_get source.statements (goal_of s.block.end + k) ≡ Some t → is_last (inst_of t) ≡ false
+
+fits_at : (source : SourceValue) → IsSource source → (i : ℕ) (t : Statement) → slice_get source.statements i ≡ Some t → StatementFits (IsPlace source.labels (length source.statements)) t
+fits_at source h i t e = at_place (StatementFits (IsPlace source.labels (length source.statements))) source.statements i t h.statements_fit e
+
+last_false : (t u : Statement) → t ≡ u → is_last (inst_of u) ≡ true → is_last (inst_of t) ≡ false → ⊥
+last_false t u e h f = false≢true (sym f ∙ ap (λ x. is_last (inst_of x)) e ∙ h)
+
+pub has_words : (source : SourceValue) (link : ℕ → ℕ) (s : Site) (c : Copied) → IsSource source → IsBlockOf source s.block → Valid s.block s.plan → Goes source link s c → HasWords link source.statements s c
+has_words source link s c is b v g p item e = by_copied (copied_to c s.plan.place p) refl
+  where
+    at : ℕ
+    at = s.start + p
+
+    of_copy : (k : ℕ) → copied_to c s.plan.place p ≡ Op k → (o : Option Statement) → slice_get source.statements (goal_of s.block.end + k) ≡ o → InstFits (linked_statement link no_copies at o)
+    of_copy k f None h = tt
+    of_copy k f (Some t) h =
+        let quiet = g.copies p k t f h in
+        inst_fits (IsPlace source.labels (length source.statements)) link no_copies at t (fits_at source is (goal_of s.block.end + k) t h) g.short
+        (λ d target x. absurd (last_false t (Call d target) x refl quiet))
+        (λ a a' k' target x. absurd (last_false t (Branch a a' k' target) x refl quiet))
+
+    of_own : (k : ℕ) → item ≡ Op k → (o : Option Statement) → slice_get source.statements (s.block.first + k) ≡ o → InstFits (linked_statement link c at o)
+    of_own k f None h = tt
+    of_own k f (Some t) h =
+        let stands = e ∙ ap (λ x. Some x) f in
+        let low = once_below (size s.block) (items_of s.plan) v.once p k stands in
+        inst_fits (IsPlace source.labels (length source.statements)) link c at t (fits_at source is (s.block.first + k) t h) g.short
+        (λ d target x.
+        let last = is_last_of source s.block b k t low h (ap (λ y. is_last (inst_of y)) x) in
+        g.call target (last.end ∙ ap end_of x))
+        (λ a a' k' target x.
+        let last = is_last_of source s.block b k t low h (ap (λ y. is_last (inst_of y)) x) in
+        let place = last_stands source s.block s.plan v k t last p stands in
+        ap (λ n. reaches (s.start + n) (link target + c.count)) place ∙ g.branch target (last.end ∙ ap end_of x))
+
+    by_item : (x : Item) → item ≡ x → InstFits (inst_at link source.statements c at (own s.block.first x))
+    by_item Nop f = tt
+    by_item (Op k) f = of_own k f (slice_get source.statements (s.block.first + k)) refl
+
+    by_copied : (x : Item) → copied_to c s.plan.place p ≡ x → InstFits (inst_at link source.statements c at (over (goal_of s.block.end) x (own s.block.first item)))
+    by_copied Nop f = by_item item refl
+    by_copied (Op k) f = of_copy k f (slice_get source.statements (goal_of s.block.end + k)) refl
+
+-- the statement to which a block goes is one of the source, or the end
+pub goal_small : (source : SourceValue) (block : Block) → IsSource source → IsBlockOf source block → goal_of block.end ≤ length source.statements
+goal_small source block is b = by_last (slice_get source.statements (block.first + size block - 1)) refl
+  where
+    by_statement : (t : Statement) → StatementFits (IsPlace source.labels (length source.statements)) t → goal_of (end_of t) ≤ length source.statements
+    by_statement (Plain inst) h = omega arith
+    by_statement (LaCode dest target) h = omega arith
+    by_statement (Branch a b k target) h = h.within
+    by_statement (Call dest target) h = h.within
+    by_statement (CallReg a dest) h = omega arith
+    by_statement (JumpReg a) h = omega arith
+    by_statement Halt h = omega arith
+
+    by_last : (o : Option Statement) → slice_get source.statements (block.first + size block - 1) ≡ o → goal_of block.end ≤ length source.statements
+    by_last None e = absurd (none-some block.end (sym (ap (option_map end_of) e) ∙ b.end))
+    by_last (Some t) e =
+        subst (λ (x : End). goal_of x ≤ length source.statements) (same_Some (end_of t) block.end (sym (ap (option_map end_of) e) ∙ b.end))
+        (by_statement t (fits_at source is (block.first + size block - 1) t e))
+
+block_of : (source : SourceValue) (l : Layout) (k : ℕ) (s : Site) → IsLaidOut source l → slice_get (sites_of l) k ≡ Some s → IsBlockOf source s.block
+block_of source l k s h e = at_place (λ (x : Site). IsBlockOf source x.block) (sites_of l) k s (site_blocks Valid source h.place (sites_of l) h.layout) e
+
+-- links of a layout are at most 65535
+pub link_short : (source : SourceValue) (l : Layout) → IsLaidOut source l → (i : ℕ) → link_in l i ≤ 65535
+link_short source l h i = ⊎_elim
+    (λ within.
+    let same = h.links i (omega arith) in
+    let below = (link_within h.place.code (sites_of l) i).1 in
+    let short = h.short in
+    let room = h.room in
+    omega arith)
+    (λ past. let count = h.links_count in let zero = get_or_past l.links.items i 0 (omega arith) in omega arith)
+    (cases_lt i (length source.statements + 1))
+
+-- nothing is copied
+goes_plain : (source : SourceValue) (l : Layout) (k : ℕ) (s : Site) (c : Copied) → IsSource source → IsLaidOut source l → slice_get (sites_of l) k ≡ Some s → c.count ≡ 0 → ((p j : ℕ) (t : Statement) → copied_to c s.plan.place p ≡ Op j → slice_get source.statements (goal_of s.block.end + j) ≡ Some t → is_last (inst_of t) ≡ false) → Goes source (link_in l) s c
+goes_plain source l k s c is h e none copies = record {
+  short = link_short source l h;
+  call = λ target f. (let low = link_short source l h target in omega arith);
+  branch = λ target f.
+      let small = goal_small source s.block is (block_of source l k s h e) in
+      let same : goal_of s.block.end ≡ target = ap goal_of f in
+      let link : link_in l target + c.count ≡ link_of h.place.code (sites_of l) target = (let at = h.links target (omega arith) in omega arith) in
+      ap (reaches (s.start + s.plan.place)) link
+      ∙ at_place (λ (x : Site). (t : ℕ) → branch_target x.block.end ≡ Some t → reaches (x.start + x.plan.place) (link_of h.place.code (sites_of l) t) ≡ true) (sites_of l) k s h.reach e target (ap branch_target f);
+  copies = copies;
+}
+
+-- the goal of a site's copies
+record IsGoal (source : SourceValue) (l : Layout) (h : IsLaidOut source l) (s g : Site) : Type 0 where
+  is : is_target s.block.end g.block ≡ true
+  link : link_of h.place.code (sites_of l) g.block.first ≡ g.start
+  block : IsBlockOf source g.block
+  valid : Valid g.block g.plan
+  below : g.start + plan_size g.plan ≤ 65535
+
+goal_is : (source : SourceValue) (l : Layout) (s g : Site) (h : IsLaidOut source l) → site_of (is_target s.block.end) (sites_of l) ≡ Some g → IsGoal source l h s g
+goal_is source l s g h e =
+    let test = is_target s.block.end in
+    let all = sites_of l in
+    let at = h.place.code in
+    let link = site_found (λ (x : Site). link_of at all x.block.first ≡ x.start) test all g (first_link Valid source h.place all h.layout) e in
+    let block = site_found (λ (x : Site). IsBlockOf source x.block) test all g (site_blocks Valid source h.place all h.layout) e in
+    let valid = site_found (λ (x : Site). Valid x.block x.plan) test all g h.layout.plans e in
+    let low = site_found (λ (x : Site). x.start + plan_size x.plan ≤ end_at at all) test all g (sites_below at all h.layout.stand) e in
+    let short = h.short in
+    let room = h.room in record {
+      is = link.1;
+      link = link.0;
+      block = block.0;
+      valid = valid.0;
+      below = let own = low.0 in omega arith;
+    }
+
+-- a block goes to the first statement of its goal
+goal_first : (e : End) (b : Block) → is_target e b ≡ true → b.first ≡ goal_of e
+goal_first (Branches target) b h = equal b.first target h
+  where
+    equal : (m n : ℕ) → eqb m n ≡ true → m ≡ n
+    equal m n e = grind (arith, nat_tests)
+goal_first (Calls target) b h = equal b.first target h
+  where
+    equal : (m n : ℕ) → eqb m n ≡ true → m ≡ n
+    equal m n e = grind (arith, nat_tests)
+goal_first _ b h = absurd (false≢true h)
+
+copied_goes_on : (source : SourceValue) (l : Layout) (h : IsLaidOut source l) (s g : Site) → IsGoal source l h s g → (p k : ℕ) (t : Statement) → copied_to (copied s (Some g)) s.plan.place p ≡ Op k → slice_get source.statements (goal_of s.block.end + k) ≡ Some t → is_last (inst_of t) ≡ false
+copied_goes_on source l h s g goal p k t e f =
+    let op = copied_op s g s.plan.place p k e in
+    let first = goal_first s.block.end g.block goal.is in
+    copy_goes_on source g.block g.plan goal.block goal.valid op.0 k t op.1 (ap (λ n. slice_get source.statements (n + k)) first ∙ f)
+
+-- the words of the target are copied
+goes_copied : (source : SourceValue) (l : Layout) (k : ℕ) (s g : Site) → IsSource source → (h : IsLaidOut source l) → slice_get (sites_of l) k ≡ Some s → IsGoal source l h s g → Goes source (link_in l) s (copied s (Some g))
+goes_copied source l k s g is h e goal = ⊎_elim
+    (λ none. goes_plain source l k s (copied s (Some g)) is h e none (copied_goes_on source l h s g goal))
+    (λ moves. record {
+      short = link_short source l h;
+      call = λ target f.
+          let link = links_there target (ap goal_of f) in
+          let small = count_small s g in
+          let low = copyable_small g.plan in
+          let tail = goal.valid.tail in
+          let below = goal.below in
+          omega arith;
+      branch = λ target f.
+          ap (λ n. reaches (s.start + s.plan.place) (n + count s g)) (links_there target (ap goal_of f)) ∙ moves.near (ap is_branch_end f);
+      copies = copied_goes_on source l h s g goal;
+    })
+    (count_cases s g)
+  where
+    small : goal_of s.block.end ≤ length source.statements
+    small = goal_small source s.block is (block_of source l k s h e)
+
+    links_there : (target : ℕ) → goal_of s.block.end ≡ target → link_in l target ≡ g.start
+    links_there target f =
+        let first = goal_first s.block.end g.block goal.is in
+        let low = small in
+        let same : target ≡ g.block.first = sym (first ∙ f) in
+        h.links target (omega arith) ∙ ap (link_of h.place.code (sites_of l)) same ∙ goal.link
+
+none_goes_on : (source : SourceValue) (s : Site) (p k : ℕ) (t : Statement) → copied_to no_copies s.plan.place p ≡ Op k → slice_get source.statements (goal_of s.block.end + k) ≡ Some t → is_last (inst_of t) ≡ false
+none_goes_on source s p k t e f = absurd (copied_none s.plan.place p k e)
+
+goes : (source : SourceValue) (l : Layout) (slots : Slots) (k : ℕ) (s : Site) → IsSource source → IsLaidOut source l → slice_get (sites_of l) k ≡ Some s → Goes source (link_in l) s (filling_of slots (sites_of l) s)
+goes source l Kept k s is h e = goes_plain source l k s no_copies is h e refl (none_goes_on source s)
+goes source l FromTarget k s is h e = by_goal (site_of (is_target s.block.end) (sites_of l)) refl
+  where
+    by_goal : (o : Option Site) → site_of (is_target s.block.end) (sites_of l) ≡ o → Goes source (link_in l) s (copied s o)
+    by_goal None f = goes_plain source l k s no_copies is h e refl (none_goes_on source s)
+    by_goal (Some g) f = goes_copied source l k s g is h e (goal_is source l s g h f)
+
+-- what pushing the words of a site asks
+pub record IsLinkable (links : List ℕ) (statements : List Statement) (s : Site) (c : Copied) : Type 0 where
+  pub short : All (λ link. link ≤ 65535) links
+  pub within : s.start + length (items_of s.plan) ≤ 65535
+  pub first : s.block.first ≤ 20000
+  pub goal : goal_of s.block.end ≤ 20000
+  pub fits : HasWords (slice_index links) statements s c
+
+linkable_site : (source : SourceValue) (l : Layout) (slots : Slots) (k : ℕ) (s : Site) → IsSource source → IsLaidOut source l → slice_get (sites_of l) k ≡ Some s → IsLinkable l.links.items source.statements s (filling_of slots (sites_of l) s)
+linkable_site source l slots k s is h e =
+    let block = block_of source l k s h e in
+    let few = is.few_statements in record {
+      short = λ i d low. subst (λ n. n ≤ 65535) (get_or_same l.links.items i 0 d low) (link_short source l h i);
+      within = let low = site_below h.place.code (sites_of l) h.layout.stand k s e in let short = h.short in let room = h.room in omega arith;
+      first = let within = block.within in omega arith;
+      goal = let small = goal_small source s.block is block in omega arith;
+      fits = has_words source (link_in l) s (filling_of slots (sites_of l) s) is block (at_place (λ (x : Site). Valid x.block x.plan) (sites_of l) k s h.layout.plans e) (goes source l slots k s is h e);
+    }
+  where
+    get_or_same : (xs : List ℕ) (i d e : ℕ) → i < length xs → slice_index_or xs i d ≡ slice_index_or xs i e
+    get_or_same xs i d e low = grind (arith, common_steps)
+
+pub linkable : (source : SourceValue) (l : Layout) (slots : Slots) (k : ℕ) (s : Site) (links : List ℕ) (statements : List Statement) (c : Copied) → IsSource source → IsLaidOut source l → slice_get (sites_of l) k ≡ Some s → links ≡ l.links.items → statements ≡ source.statements → c ≡ filling_of slots (sites_of l) s → IsLinkable links statements s c
+linkable source l slots k s links statements c is h e f g i =
+    subst (λ (x : Copied). IsLinkable links statements s x) (sym i)
+    (subst (λ (x : List Statement). IsLinkable links x s (filling_of slots (sites_of l) s)) (sym g)
+    (subst (λ (x : List ℕ). IsLinkable x source.statements s (filling_of slots (sites_of l) s)) (sym f)
+    (linkable_site source l slots k s is h e)))

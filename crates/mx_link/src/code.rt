@@ -1,0 +1,131 @@
+//! The code of a source that is laid out.
+ghost use Rattle.std.specs.Prelude.{◌≡◌, ◌<◌, ◌≤◌, ◌+◌, ◌++◌, ◌∷◌, [], ℕ, length, Some, All, IfOk, OnOk, slice_get, slice_index};
+ghost use Rattle.mx_isa.specs.Fields.{InstFits};
+ghost use Rattle.mx_code.specs.Codes.{word_of_row};
+ghost use Rattle.mx_source.specs.Statements.{StatementFits};
+ghost use Rattle.mx_validate.specs.Padded.{items_of};
+ghost use Rattle.mx_squash.specs.Copies.{Site};
+ghost use Rattle.mx_squash.specs.Ordered.{AreOfOneSource};
+ghost use Rattle.mx_link.specs.Origins.{goal_of, origins_at, origins_of};
+ghost use Rattle.mx_link.specs.Words.{code_of};
+ghost use Rattle.mx_link.specs.Parts.{filling_of, sites_of, link_in, IsLaidOut, HasWords, site_words};
+
+use crate::Origin;
+use crate::inst::{inst_at, no_copies};
+use crate::origin::origin_at;
+use mx_blocks::{Block, Plan};
+use mx_code::encode;
+use mx_isa::Inst;
+use mx_layout::Layout;
+use mx_source::{Source, Statement};
+use mx_squash::{Copied, copies};
+use std::alloc::{AllocError, Global};
+
+/// What goes into slots that hold no-ops.
+#[derive(Clone, Copy)]
+pub(crate) enum Slots {
+    /// The first words of the target.
+    FromTarget,
+    /// They are kept as they are.
+    Kept,
+}
+
+/// Code words, and where each comes from.
+#[derive(Drop)]
+pub(crate) struct Code {
+    pub words: Vec<u32>,
+    pub origin: Vec<Origin>,
+}
+
+/// Appends the word of an instruction.
+fn push_word(code: &mut Code, inst: &Inst, origin: Origin) -> Result<(), AllocError>
+    requires { InstFits inst.now }
+    ensures words { OnOk result (code.new.words.items ≡ code.old.words.items ++ word_of_row inst.now ∷ []) }
+    ensures origin { OnOk result (code.new.origin.items ≡ code.old.origin.items ++ origin ∷ []) }
+{
+    code.words.push(encode(inst))?;
+    code.origin.push(origin)?;
+    Ok(())
+}
+
+/// Appends the words of a block, which begins at an address, with copies in its slots.
+fn push_block(
+    code: &mut Code,
+    statements: &[Statement],
+    links: &[u32],
+    block: &Block,
+    plan: &Plan,
+    start: u32,
+    copied: &Copied,
+) -> Result<(), AllocError>
+    requires fit { All (StatementFits (λ i. i < length links.now)) statements.now }
+    requires short { All (λ link. link ≤ 65535) links.now }
+    requires within { start + length (items_of plan.now) ≤ 65535 }
+    requires first { block.now.first ≤ 20000 }
+    requires goal { goal_of block.now.end ≤ 20000 }
+    requires fits { HasWords (slice_index links.now) statements.now (record { block = block.now; plan = plan.now; start = start }) copied.now }
+    ensures words { OnOk result (code.new.words.items ≡ code.old.words.items
+        ++ site_words (slice_index links.now) statements.now (record { block = block.now; plan = plan.now; start = start }) copied.now) }
+    ensures origin { OnOk result (code.new.origin.items ≡ code.old.origin.items
+        ++ origins_at (record { block = block.now; plan = plan.now; start = start }) copied.now) }
+{
+    let items = plan.items.as_slice();
+    for (p, item) in items.iter().enumerate() {
+        let origin = origin_at(block, plan, copied, p, *item);
+        let inst = inst_at(statements, links, copied, start + p as u32, origin);
+        push_word(code, &inst, origin)?;
+    }
+    Ok(())
+}
+
+/// What is copied into the slots of block `k`.
+fn copied_at(layout: &Layout, k: usize, slots: Slots) -> Copied
+    requires within { k < length layout.now.blocks.items }
+    requires plans { length layout.now.plans.items ≡ length layout.now.blocks.items }
+    requires starts { length layout.now.starts.items ≡ length layout.now.blocks.items }
+    requires blocks { AreOfOneSource layout.now.blocks.items }
+    requires few { length layout.now.blocks.items ≤ 20000 }
+    ensures { (s : Site) → slice_get (sites_of layout.now) k ≡ Some s → result ≡ filling_of slots (sites_of layout.now) s }
+{
+    match slots {
+        Slots::FromTarget => copies(
+            layout.blocks.as_slice(),
+            layout.plans.as_slice(),
+            layout.starts.as_slice(),
+            k as u32,
+        ),
+        Slots::Kept => no_copies(),
+    }
+}
+
+/// The code of a source that is laid out.
+pub(crate) fn code_of(
+    alloc: Global,
+    source: &Source,
+    layout: &Layout,
+    slots: Slots,
+) -> Result<Code, AllocError>
+    requires { IsLaidOut source.now layout.now }
+    ensures words { IfOk result (λ code. code.words.items
+        ≡ code_of (filling_of slots) (link_in layout.now) source.now.statements (sites_of layout.now)) }
+    ensures origin { IfOk result (λ code. code.origin.items ≡ origins_of (filling_of slots) (sites_of layout.now)) }
+{
+    let statements = source.statements();
+    let mut code = Code {
+        words: Vec::new(alloc),
+        origin: Vec::new(alloc),
+    };
+    for k in 0..layout.blocks.len() {
+        let copied = copied_at(layout, k, slots);
+        push_block(
+            &mut code,
+            statements,
+            layout.links.as_slice(),
+            &layout.blocks[k],
+            &layout.plans[k],
+            layout.starts[k],
+            &copied,
+        )?;
+    }
+    Ok(code)
+}
