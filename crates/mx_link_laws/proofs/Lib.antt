@@ -6,3 +6,4 @@ pub mod Planned
 pub mod OneBlock
 pub mod Transfers
 pub mod Whole
+pub mod Codes
