@@ -7,3 +7,4 @@ pub mod OneBlock
 pub mod Transfers
 pub mod Whole
 pub mod Codes
+pub mod Imaged
