@@ -8,3 +8,4 @@ pub mod Transfers
 pub mod Whole
 pub mod Codes
 pub mod Imaged
+pub mod Sited
