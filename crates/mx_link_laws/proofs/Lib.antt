@@ -9,3 +9,4 @@ pub mod Whole
 pub mod Codes
 pub mod Imaged
 pub mod Sited
+pub mod Layouts
