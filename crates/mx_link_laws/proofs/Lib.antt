@@ -10,3 +10,4 @@ pub mod Codes
 pub mod Imaged
 pub mod Sited
 pub mod Layouts
+pub mod Slots
