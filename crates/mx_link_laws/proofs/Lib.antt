@@ -11,3 +11,4 @@ pub mod Imaged
 pub mod Sited
 pub mod Layouts
 pub mod Slots
+pub mod Placing

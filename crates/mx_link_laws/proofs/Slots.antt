@@ -185,7 +185,7 @@ module _ (source : SourceValue) (is : IsSource source) (registers : (i : ℕ) (s
       ∙ linked_anywhere lk no_copies (filling all g) a (g.start + g.plan.place) x.statement (goes_on source is lk shorter g (filling all g) st.of.block st.of.valid go k x.statement l x.is_there)
       ∙ sym (inst_there source is lk shorter g (filling all g) st.of.block st.of.valid go k within)
 
-never : (list : List Site) → site_of (λ b. false) list ≡ None
+pub never : (list : List Site) → site_of (λ b. false) list ≡ None
 never [] = refl
 never (s ∷ list) = never list
 
@@ -474,3 +474,19 @@ module _ (source : SourceValue) (is : IsSource source) (registers : (i : ℕ) (s
         (λ e. all_own (ap (λ (d : Copied). d.count) e) (ap (λ (d : Copied). d.squash) e) (ap (λ (d : Copied). d.from) e))
         (λ e. by_goal (site_of (is_target s.block.end) all) refl e)
         (fills s)
+
+    -- where there is no target, the slots are its own
+    pub record OwnSlots : Type 0 where
+      pub first : x ≡ item_inst (insts_of_site s st) f
+      pub second : y ≡ item_inst (insts_of_site s st) g
+
+    pub own_slots : site_of (is_target s.block.end) all ≡ None → OwnSlots
+    own_slots none =
+        let e : c.from ≡ Nop ∷ Nop ∷ [] = ⊎_elim
+        (λ e. ap (λ (d : Copied). d.from) e)
+        (λ e. ap (λ (d : Copied). d.from) (e ∙ ap (copied s) none))
+        (fills s) in
+        record {
+          first = x_is Nop (ap (λ l. slice_index_or l 0 Nop) e) ∙ own_item 1 f below_f;
+          second = y_is Nop (ap (λ l. slice_index_or l 1 Nop) e) ∙ own_item 2 g below_g;
+        }

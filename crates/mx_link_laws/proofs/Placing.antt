@@ -1,0 +1,187 @@
+-- Each block of a layout, with what it ends with, as it is linked.
+use Rattle.std.proofs.Common.{◌≡◌, ◌≢◌, ℕ, ℤ, pos, negsuc, zero, suc, ◌+◌, ◌*◌, ◌-◌, ◌%◌, ◌^◌, ◌<◌, ◌≤◌, Bool, true, false, cond, eqb, leb, ltb, not, ◌&&◌, ◌||◌, List, [], ◌∷◌, ◌++◌, ◌⊎◌, length, All, Option, Some, None, slice_index_or, refl, sym, ap, ◌∙◌, subst, arith, ⊎_elim, inl, inr}
+use Rattle.std.specs.Prelude.{slice_get}
+use Rattle.std.specs.Int.{w32, cast_unsigned}
+use Rattle.std.specs.Option.{option_map}
+use Rattle.std.proofs.lemmas.Bool.{cases_lt, cases_Bool, and_parts, eqb-true}
+use Rattle.std.proofs.lemmas.Bool.Decides.{nat_tests}
+use Rattle.std.proofs.lemmas.List.{append-nil, length-map}
+use Rattle.std.proofs.lemmas.Option.{same_Some, none-some}
+use Rattle.mx_isa.specs.declared.place.Place.{Place}
+use Rattle.mx_isa.specs.declared.inst.Cond.{Cond}
+use Rattle.mx_isa.specs.declared.inst.Cond.TheVariants.{Eq}
+use Rattle.mx_isa.specs.declared.inst.Inst.{Inst}
+use Rattle.mx_isa.specs.declared.inst.Inst.TheVariants.{Jspci}
+use Rattle.mx_isa.specs.declared.inst.Inst.TheVariants.{Branch as BranchInst, Halt as HaltInst}
+use Rattle.mx_isa.specs.Words.{Words, reg}
+use Rattle.mx_isa.specs.Arithmetic.{condition_holds}
+use Rattle.mx_code.specs.Codes.{HasRegisters}
+use Rattle.mx_depend.specs.Graphs.{inst_at as inst_number}
+use Rattle.mx_source.specs.declared.statement.Statement.{Statement}
+use Rattle.mx_source.specs.declared.statement.Statement.TheVariants.{Plain, LaCode, Branch, Call, CallReg, JumpReg, Halt}
+use Rattle.mx_source.specs.Labels.{is_labelled, IsPlace}
+use Rattle.mx_source.specs.Statements.{StatementFits}
+use Rattle.mx_source.specs.SourceValue.{SourceValue, IsSource}
+use Rattle.mx_source.specs.Values.{value_in}
+use Rattle.mx_source.specs.Meaning.{State, jumps, execute}
+use Rattle.mx_blocks.specs.declared.block.Block.{Block}
+use Rattle.mx_blocks.specs.declared.block.Item.{Item}
+use Rattle.mx_blocks.specs.declared.block.Item.TheVariants.{Op, Nop}
+use Rattle.mx_blocks.specs.declared.block.End.{End}
+use Rattle.mx_blocks.specs.declared.block.End.TheVariants.{Falls as FallsEnd, Halts as HaltsEnd, Branches as BranchesEnd, Calls as CallsEnd, Jumps as JumpsEnd}
+use Rattle.mx_blocks.specs.Leaders.{ends_there, gap, is_leader, end_of, size, IsBlockOf, BlocksFrom}
+use Rattle.mx_blocks.specs.Leaders.{inst_of as statement_inst}
+use Rattle.mx_blocks.proofs.Splits.{gap_small}
+use Rattle.mx_validate.specs.Padded.{insts_of, items_of, falls, body_count}
+use Rattle.mx_validate.specs.Validity.{Valid}
+use Rattle.mx_squash.specs.declared.copying.Copied.{Copied}
+use Rattle.mx_squash.specs.Copies.{Site, site_of, is_target, may_stay, always_goes, terminator, is_branch_end}
+use Rattle.mx_layout.specs.Layout.{IsLayout, link_of, plan_size, StandFrom, blocks_in, has_statement}
+use Rattle.mx_layout.specs.Overlong.{overlong}
+use Rattle.mx_link.specs.Origins.{Filling, own, goal_of, copied_to}
+use Rattle.mx_link.specs.Words.{displacement, linked_inst, inst_at}
+use Rattle.mx_link.specs.Parts.{origin_at}
+use Rattle.mx_link.proofs.Bodies.{inst_is}
+use Rattle.mx_order.specs.Parts.{AreBelow, EndsWith, IsTransfer, Parts}
+use Rattle.mx_order.proofs.Split.{body_within, has_parts}
+use Rattle.mx_order.proofs.Words.{item_inst, words}
+use Rattle.mx_link_laws.proofs.Going.{Stands}
+use Rattle.mx_link_laws.proofs.Planned.{bodies_length, size_ends}
+use Rattle.mx_link_laws.proofs.Codes.{place_leads, statement_fits}
+use Rattle.mx_link_laws.proofs.Sited.{body, there, inst_there, words_from, plain_word_at, end_word}
+use Rattle.mx_link_laws.proofs.Layouts.{Fills, goes, Begins, begins, low, link_low}
+use Rattle.mx_link_laws.proofs.Slots.{never, lk, p, smaller, lower, cd, ins, place_of, place_in, Stood, shorter, insts_at, laid_at, parts_stand, x, y, filled_there, own_slots}
+use Rattle.mx_link_laws.proofs.Transfers.{Lay, Kind, Branches, Calls, Transfers, EndOf, Falls, Stops, Moves, Jumps}
+use Rattle.mx_link_laws.proofs.Whole.{Placed}
+
+false_true : false ≡ true → ⊥
+false_true e = grind arith
+
+-- no block begins before the first
+first_low : (source : SourceValue) (i j : ℕ) (list : List Site) (k : ℕ) (d : Site) → BlocksFrom source i j (blocks_in list) → k < length list → i ≤ (slice_index_or list k d).block.first
+first_low source i j [] k d h l = absurd (omega arith)
+first_low source i j (s ∷ list) zero d h l = let first = h.0 in omega arith
+first_low source i j (s ∷ list) (suc k) d h l = let later = first_low source (i + size s.block) j list k d h.2 (omega arith) in omega arith
+
+behind_block : (t : ℕ) (b : Block) → b.first + size b ≤ t → has_statement t b ≡ false
+behind_block t b l = grind (arith, nat_tests)
+
+in_block : (t : ℕ) (b : Block) → b.first ≡ t → 1 ≤ size b → has_statement t b ≡ true
+in_block t b e l = grind (arith, nat_tests)
+
+-- behind each block the next one begins
+next_links : (source : SourceValue) (i j at : ℕ) (list : List Site) → BlocksFrom source i j (blocks_in list) → StandFrom at list → All (λ (s : Site). link_of at list (s.block.first + size s.block) ≡ s.start + plan_size s.plan) list
+next_links source i j at [] h st k d l = absurd (omega arith)
+next_links source i j at (s ∷ list) h st zero d l =
+    ap (λ c. cond c at (link_of (at + plan_size s.plan) list (s.block.first + size s.block))) (behind_block (s.block.first + size s.block) s.block (omega arith))
+    ∙ at_next list h.2
+    ∙ ap (λ n. n + plan_size s.plan) (sym st.0)
+  where
+    at_next : (rest : List Site) → BlocksFrom source (i + size s.block) j (blocks_in rest) → link_of (at + plan_size s.plan) rest (s.block.first + size s.block) ≡ at + plan_size s.plan
+    at_next [] b = refl
+    at_next (r ∷ rest) b =
+        let first = h.0 in
+        let begin = b.0 in
+        ap (λ c. cond c (at + plan_size s.plan) (link_of (at + plan_size s.plan + plan_size r.plan) rest (s.block.first + size s.block))) (in_block (s.block.first + size s.block) r.block (omega arith) b.1.some)
+next_links source i j at (s ∷ list) h st (suc k) d l =
+    let r = slice_index_or list k d in
+    let first = h.0 in
+    let above = first_low source (i + size s.block) j list k d h.2 (omega arith) in
+    ap (λ c. cond c at (link_of (at + plan_size s.plan) list (r.block.first + size r.block))) (behind_block (r.block.first + size r.block) s.block (omega arith))
+    ∙ next_links source (i + size s.block) j (at + plan_size s.plan) list h.2 st.1 k d (omega arith)
+
+-- a block has at most 64 statements
+gap_in : (source : SourceValue) (b : Block) → IsBlockOf source b → (t : ℕ) → t < size b → gap (is_labelled source.labels) source.statements (b.first + t) ≡ t
+gap_in source b h zero l = ap (gap (is_labelled source.labels) source.statements) (let e : b.first + 0 ≡ b.first = omega arith in e) ∙ eqb-true _ 0 h.leader
+gap_in source b h (suc t) l =
+    let on : b.first + suc t ≡ suc (b.first + t) = omega arith in
+    let quiet = h.inner (suc t) (omega arith) l in
+    ap (gap (is_labelled source.labels) source.statements) on
+    ∙ counts (is_labelled source.labels (suc (b.first + t)) || (ends_there (slice_get source.statements (b.first + t)) || eqb (gap (is_labelled source.labels) source.statements (b.first + t)) 63)) (gap (is_labelled source.labels) source.statements (b.first + t)) (ap (is_leader source) (sym on) ∙ quiet)
+    ∙ ap (λ n. suc n) (gap_in source b h t (omega arith))
+  where
+    counts : (c : Bool) (n : ℕ) → eqb (cond c 0 (suc n)) 0 ≡ false → cond c 0 (suc n) ≡ suc n
+    counts true n e = absurd (false_true (sym e))
+    counts false n e = refl
+
+few_statements : (source : SourceValue) (b : Block) → IsBlockOf source b → size b ≤ 64
+few_statements source b h =
+    let some = h.some in
+    let g = gap_in source b h (size b - 1) (omega arith) in
+    let m = gap_small (is_labelled source.labels) source.statements (b.first + (size b - 1)) in
+    omega arith
+
+-- a displacement leads from one address to the other
+displaced : (a z : ℕ) → a < 2 ^ 31 → z < 2 ^ 31 → (a + cast_unsigned w32 (displacement a z)) % 2 ^ 31 ≡ z
+displaced a z h k = by_order (leb a z) refl
+  where
+    by_order : (b : Bool) → leb a z ≡ b → (a + cast_unsigned w32 (cond b (pos (z - a)) (negsuc (a - z - 1)))) % 2 ^ 31 ≡ z
+    by_order true e = let l : a ≤ z = grind (arith, nat_tests) in omega arith
+    by_order false e = let l : z < a = grind (arith, nat_tests) in omega arith
+
+-- beq r0,r0 goes whatever registers hold
+always_holds : (a b : ℕ) (condition : Cond) (f : Words) → always_goes (Some (BranchInst a b condition false (pos 0))) ≡ true → condition_holds condition (reg f a) (reg f b) ≡ true
+always_holds a b Eq f e =
+    let both = and_parts (eqb a 0) (eqb b 0) e in
+    let za = eqb-true a 0 both.0 in
+    let zb = eqb-true b 0 both.1 in
+    (λ k. condition_holds Eq (reg f (za k)) (reg f (zb k)))
+always_holds a b _ f e = absurd (false_true e)
+
+module _ (source : SourceValue) (is : IsSource source) (registers : (i : ℕ) (s : Statement) → slice_get source.statements i ≡ Some s → HasRegisters (statement_inst s)) (place : Place) (all : List Site) (h : IsLayout Valid source place all) (room' : place.code + 3 * length source.statements ≤ 65535) (reach : overlong source place (blocks_in all) ≡ None) (filling : Filling) (fills : Fills source is registers place all h room' reach filling) (bytes : List ℕ) where
+  abbrev pub link : ℕ → ℕ
+  link = lk source is registers place all h room' reach filling fills bytes
+
+  abbrev pub small : (i : ℕ) → link i + 8 < 2 ^ 31
+  small = smaller source is registers place all h room' reach filling fills bytes
+
+  abbrev pub above : (i : ℕ) → place.code ≤ link i
+  above = lower source is registers place all h room' reach filling fills bytes
+
+  abbrev pub PlacedAt : ℕ → Type 0
+  PlacedAt t = Placed link (p source is registers place all h room' reach filling fills bytes) small above (cd source is registers place all h room' reach filling fills bytes) (ins source is registers place all h room' reach filling fills bytes) (is_leader source) (place_of source is registers place all h room' reach filling fills bytes) t
+
+  abbrev pub LayAt : ℕ → Type 0
+  LayAt t = Lay link (p source is registers place all h room' reach filling fills bytes) small above (cd source is registers place all h room' reach filling fills bytes) (ins source is registers place all h room' reach filling fills bytes) (is_leader source) (place_of source is registers place all h room' reach filling fills bytes) t
+
+  abbrev pub EndAt : (t : ℕ) → LayAt t → Type 0
+  EndAt t w = EndOf link (p source is registers place all h room' reach filling fills bytes) small above (cd source is registers place all h room' reach filling fills bytes) (ins source is registers place all h room' reach filling fills bytes) (is_leader source) (place_of source is registers place all h room' reach filling fills bytes) t w
+
+  abbrev StoodAt : Site → Type 0
+  StoodAt s = Stood source is registers place all h room' reach filling fills bytes s
+
+  module _ (s : Site) (st : StoodAt s) (next_is : link (s.block.first + size s.block) ≡ s.start + plan_size s.plan) where
+    abbrev c : Copied
+    c = filling all s
+
+    abbrev first : ℕ
+    first = s.block.first
+
+    abbrev n : ℕ
+    n = body_count s.block
+
+    abbrev list : List Inst
+    list = insts_at source is registers place all h room' reach filling fills bytes s st
+
+    parts : Parts s.block s.plan
+    parts = has_parts s.block s.plan st.of.valid
+
+    abbrev front : List Item
+    front = parts.front
+
+    abbrev back : List Item
+    back = parts.back
+
+    lay : LayAt first
+    lay = record {
+      block = s.block;
+      plan = s.plan;
+      insts = list;
+      laid = laid_at source is registers place all h room' reach filling fills bytes s st;
+      parts = parts;
+      some = st.of.block.some;
+      few = few_statements source s.block st.of.block;
+      body = body source is link (shorter source is registers place all h room' reach filling fills bytes) s c st.of.block st.of.valid (goes source is registers place all h room' reach filling fills s st.of);
+      next = next_is ∙ ap (λ a. a + plan_size s.plan) (sym st.of.start);
+      lead = st.of.block.next;
+    }
