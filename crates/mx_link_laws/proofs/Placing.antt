@@ -1,11 +1,11 @@
 -- Each block of a layout, with what it ends with, as it is linked.
-use Rattle.std.proofs.Common.{◌≡◌, ◌≢◌, ℕ, ℤ, pos, negsuc, zero, suc, ◌+◌, ◌*◌, ◌-◌, ◌%◌, ◌^◌, ◌<◌, ◌≤◌, Bool, true, false, cond, eqb, leb, ltb, not, ◌&&◌, ◌||◌, List, [], ◌∷◌, ◌++◌, ◌⊎◌, length, All, Option, Some, None, slice_index_or, refl, sym, ap, ◌∙◌, subst, arith, ⊎_elim, inl, inr}
+use Rattle.std.proofs.Common.{◌≡◌, ◌≢◌, ℕ, ℤ, pos, negsuc, zero, suc, ◌+◌, ◌*◌, ◌-◌, ◌%◌, ◌^◌, ◌<◌, ◌≤◌, Bool, true, false, cond, eqb, leb, ltb, not, ◌&&◌, ◌||◌, List, [], ◌∷◌, ◌++◌, ◌⊎◌, length, take, All, Option, Some, None, slice_index_or, refl, sym, ap, ◌∙◌, subst, arith, ⊎_elim, inl, inr}
 use Rattle.std.specs.Prelude.{slice_get}
 use Rattle.std.specs.Int.{w32, cast_unsigned}
 use Rattle.std.specs.Option.{option_map}
 use Rattle.std.proofs.lemmas.Bool.{cases_lt, cases_Bool, and_parts, eqb-true}
 use Rattle.std.proofs.lemmas.Bool.Decides.{nat_tests}
-use Rattle.std.proofs.lemmas.List.{append-nil, length-map}
+use Rattle.std.proofs.lemmas.List.{append-nil, length-map, map-append}
 use Rattle.std.proofs.lemmas.Option.{same_Some, none-some}
 use Rattle.mx_isa.specs.declared.place.Place.{Place}
 use Rattle.mx_isa.specs.declared.inst.Cond.{Cond}
@@ -42,6 +42,7 @@ use Rattle.mx_link.specs.Origins.{Filling, own, goal_of, copied_to}
 use Rattle.mx_link.specs.Words.{displacement, linked_inst, inst_at}
 use Rattle.mx_link.specs.Parts.{origin_at}
 use Rattle.mx_link.proofs.Bodies.{inst_is}
+use Rattle.mx_link.proofs.Linkable.{Goes}
 use Rattle.mx_order.specs.Parts.{AreBelow, EndsWith, IsTransfer, Parts}
 use Rattle.mx_order.proofs.Split.{body_within, has_parts}
 use Rattle.mx_order.proofs.Words.{item_inst, words}
@@ -163,7 +164,7 @@ module _ (source : SourceValue) (is : IsSource source) (registers : (i : ℕ) (s
     abbrev list : List Inst
     list = insts_at source is registers place all h room' reach filling fills bytes s st
 
-    parts : Parts s.block s.plan
+    abbrev parts : Parts s.block s.plan
     parts = has_parts s.block s.plan st.of.valid
 
     abbrev front : List Item
@@ -172,7 +173,7 @@ module _ (source : SourceValue) (is : IsSource source) (registers : (i : ℕ) (s
     abbrev back : List Item
     back = parts.back
 
-    lay : LayAt first
+    abbrev lay : LayAt first
     lay = record {
       block = s.block;
       plan = s.plan;
@@ -185,3 +186,84 @@ module _ (source : SourceValue) (is : IsSource source) (registers : (i : ℕ) (s
       next = next_is ∙ ap (λ a. a + plan_size s.plan) (sym st.of.start);
       lead = st.of.block.next;
     }
+
+    -- the site of the last statement
+    abbrev final : ℕ
+    final = size s.block - 1
+
+    abbrev seen : ℕ → Item → Inst
+    seen a item = inst_at link source.statements c a (own first item)
+
+    goes_here : Goes source link s c
+    goes_here = goes source is registers place all h room' reach filling fills s st.of
+
+    place_is : s.plan.place ≡ length front
+    place_is = parts.place
+
+    inner_is : length (take n list) ≡ n
+    inner_is = bodies_length s.block s.plan list _ (laid_at source is registers place all h room' reach filling fills bytes s st) parts st.of.block.some
+
+    last_is : falls s.block.end ≡ false → n ≡ final
+    last_is f = let e = size_ends s.block s.plan list _ (laid_at source is registers place all h room' reach filling fills bytes s st) parts st.of.block.some f in let b = st.of.block.some in omega arith
+
+    -- the words from the terminator's place on
+    abbrev tail_words : List Item → List Inst
+    tail_words items = words_from source is link (shorter source is registers place all h room' reach filling fills bytes) s c st.of.block st.of.valid (goes source is registers place all h room' reach filling fills s st.of) (length front) items
+
+    abbrev StandsHere : ℕ → List Inst → Type 0
+    StandsHere = Stands (cd source is registers place all h room' reach filling fills bytes) (ins source is registers place all h room' reach filling fills bytes)
+
+    stands_here : (items : List Item) (tail : List Inst) → back ≡ items → tail_words items ≡ tail → StandsHere (link first) (words list front ++ tail)
+    stands_here items tail e f =
+        subst (λ a. StandsHere a (words list front ++ tail)) (sym st.of.start)
+        (subst (λ l. StandsHere s.start (words list front ++ l)) (ap tail_words e ∙ f)
+        (parts_stand source is registers place all h room' reach filling fills bytes s st parts))
+
+    -- the terminator's word
+    ender_word : n < size s.block → inst_at link source.statements c (s.start + length front) (origin_at s c (length front) (Op n)) ≡ inst_number list n
+    ender_word l =
+        (λ k. inst_at link source.statements c (s.start + sym place_is k) (origin_at s c (sym place_is k) (Op n)))
+        ∙ plain_word_at source is link (shorter source is registers place all h room' reach filling fills bytes) s c st.of.block st.of.valid goes_here s.plan.place (Op n) (omega arith)
+        ∙ end_word source is link (shorter source is registers place all h room' reach filling fills bytes) s c st.of.block st.of.valid goes_here n l
+
+    words_all : (items : List Item) → back ≡ items → words list (items_of s.plan) ≡ words list front ++ words list items
+    words_all items e = ap (words list) (parts.whole ∙ ap (λ l. front ++ l) e) ∙ map-append (item_inst list) front items
+
+    -- the last statement, by its block's end
+    record Last (z : Statement) : Type 0 where
+      at : slice_get source.statements (first + final) ≡ Some z
+      end : s.block.end ≡ end_of z
+
+    end_parts : (z : Statement) → Last z → EndsWith (end_of z) n back
+    end_parts z l = subst (λ e. EndsWith e n back) l.end parts.end
+
+    -- the statement behind the body, and its instruction
+    behind_body : (z : Statement) → Last z → falls s.block.end ≡ false → slice_get source.statements (first + length (take n list)) ≡ Some z
+    behind_body z l f = (let e : first + length (take n list) ≡ first + final = (let a = inner_is in let b = last_is f in omega arith) in ap (slice_get source.statements) e) ∙ l.at
+
+    ender_is : (z : Statement) → Last z → falls s.block.end ≡ false → inst_number list n ≡ linked_inst link c (s.start + s.plan.place) z
+    ender_is z l f =
+        let b = last_is f in
+        let some = st.of.block.some in
+        let w : n < size s.block = omega arith in
+        let t = there source is link (shorter source is registers place all h room' reach filling fills bytes) s c st.of.block st.of.valid goes_here n w in
+        let on : first + n ≡ first + final = omega arith in
+        inst_there source is link (shorter source is registers place all h room' reach filling fills bytes) s c st.of.block st.of.valid goes_here n w
+        ∙ ap (linked_inst link c (s.start + s.plan.place)) (same_Some t.statement z (sym t.is_there ∙ ap (slice_get source.statements) on ∙ l.at))
+
+    falls_end : (z : Statement) → Last z → end_of z ≡ FallsEnd → EndAt first lay
+    falls_end z l e =
+        let none : back ≡ [] = subst (λ x. EndsWith x n back) e (end_parts z l) in
+        Falls (ap falls (l.end ∙ e)) none
+        (subst (StandsHere (link first)) (sym (words_all [] none)) (stands_here [] [] none refl))
+
+    stops_end : Last Halt → EndAt first lay
+    stops_end l =
+        let f : falls s.block.end ≡ false = ap falls l.end in
+        let one : back ≡ Op n ∷ [] = end_parts Halt l in
+        let b = last_is f in
+        let some = st.of.block.some in
+        let w : n < size s.block = omega arith in
+        Stops f one (behind_body Halt l f) (ender_is Halt l f)
+        (subst (StandsHere (link first)) (sym (words_all (Op n ∷ []) one))
+        (stands_here (Op n ∷ []) (inst_number list n ∷ []) one (λ k. ender_word w k ∷ [])))
