@@ -50,7 +50,8 @@ use Rattle.mx_link_laws.proofs.Going.{Stands}
 use Rattle.mx_link_laws.proofs.Planned.{bodies_length, size_ends}
 use Rattle.mx_link_laws.proofs.Codes.{place_leads, statement_fits}
 use Rattle.mx_link_laws.proofs.Sited.{body, there, inst_there, words_from, plain_word_at, end_word}
-use Rattle.mx_link_laws.proofs.Layouts.{Fills, goes, Begins, begins, low, link_low}
+use Rattle.mx_layout.proofs.Links.{site_found}
+use Rattle.mx_link_laws.proofs.Layouts.{Fills, goes, Begins, begins, end_low}
 use Rattle.mx_link_laws.proofs.Slots.{never, lk, p, smaller, lower, cd, ins, place_of, place_in, Stood, shorter, insts_at, laid_at, parts_stand, x, y, filled_there, own_slots}
 use Rattle.mx_link_laws.proofs.Transfers.{Lay, Kind, Branches, Calls, Transfers, EndOf, Falls, Stops, Moves, Jumps}
 use Rattle.mx_link_laws.proofs.Whole.{Placed}
@@ -111,6 +112,14 @@ few_statements source b h =
     let g = gap_in source b h (size b - 1) (omega arith) in
     let m = gap_small (is_labelled source.labels) source.statements (b.first + (size b - 1)) in
     omega arith
+
+left_below : (n : ℕ) (f g : Item) → AreBelow n (f ∷ g ∷ []) → AreBelow n (f ∷ [])
+left_below n (Op k) g h = (h.0, tt)
+left_below n Nop g h = tt
+
+right_below : (n : ℕ) (f g : Item) → AreBelow n (f ∷ g ∷ []) → AreBelow n (g ∷ [])
+right_below n (Op k) g h = h.1
+right_below n Nop g h = h
 
 -- a displacement leads from one address to the other
 displaced : (a z : ℕ) → a < 2 ^ 31 → z < 2 ^ 31 → (a + cast_unsigned w32 (displacement a z)) % 2 ^ 31 ≡ z
@@ -267,3 +276,161 @@ module _ (source : SourceValue) (is : IsSource source) (registers : (i : ℕ) (s
         Stops f one (behind_body Halt l f) (ender_is Halt l f)
         (subst (StandsHere (link first)) (sym (words_all (Op n ∷ []) one))
         (stands_here (Op n ∷ []) (inst_number list n ∷ []) one (λ k. ender_word w k ∷ [])))
+
+    abbrev TransfersHere : Type 0
+    TransfersHere = Transfers link (p source is registers place all h room' reach filling fills bytes) small above (cd source is registers place all h room' reach filling fills bytes) (ins source is registers place all h room' reach filling fills bytes) (is_leader source) (place_of source is registers place all h room' reach filling fills bytes) first lay
+
+    abbrev KindHere : Type 0
+    KindHere = Kind link (p source is registers place all h room' reach filling fills bytes) small above (cd source is registers place all h room' reach filling fills bytes) (ins source is registers place all h room' reach filling fills bytes) (is_leader source) (place_of source is registers place all h room' reach filling fills bytes) first lay (goal_of s.block.end) c.count c.squash (not (may_stay s.block))
+
+    -- a transfer and its slots
+    module _ (f_not : falls s.block.end ≡ false) (t : IsTransfer n back) where
+      below_f : AreBelow n (t.first ∷ [])
+      below_f = left_below n t.first t.second t.slots
+
+      below_g : AreBelow n (t.second ∷ [])
+      below_g = right_below n t.first t.second t.slots
+
+      abbrev transfers : TransfersHere
+      transfers = record { f_not = f_not; f = t.first; g = t.second; three = t.is; below = t.slots }
+
+      abbrev first_slot : Inst
+      first_slot = x source is registers place all h room' reach filling fills bytes s st parts t.first t.second t.is below_f below_g
+
+      abbrev second_slot : Inst
+      second_slot = y source is registers place all h room' reach filling fills bytes s st parts t.first t.second t.is below_f below_g
+
+      three_words : n < size s.block → tail_words (Op n ∷ t.first ∷ t.second ∷ []) ≡ inst_number list n ∷ first_slot ∷ second_slot ∷ []
+      three_words l =
+          (λ k. ender_word l k ∷ inst_at link source.statements c (one k) (origin_at s c (one_on k) t.first) ∷ inst_at link source.statements c (two k) (origin_at s c (two_on k) t.second) ∷ [])
+        where
+          one_on : suc (length front) ≡ s.plan.place + 1
+          one_on = let e = place_is in omega arith
+
+          two_on : suc (suc (length front)) ≡ s.plan.place + 2
+          two_on = let e = place_is in omega arith
+
+          one : suc (s.start + length front) ≡ s.start + (s.plan.place + 1)
+          one = let e = place_is in omega arith
+
+          two : suc (suc (s.start + length front)) ≡ s.start + (s.plan.place + 2)
+          two = let e = place_is in omega arith
+
+      stand_three : StandsHere (link first) (words list front ++ inst_number list n ∷ first_slot ∷ second_slot ∷ [])
+      stand_three =
+          let b = last_is f_not in
+          let some = st.of.block.some in
+          let w : n < size s.block = omega arith in
+          stands_here (Op n ∷ t.first ∷ t.second ∷ []) (inst_number list n ∷ first_slot ∷ second_slot ∷ []) t.is (three_words w)
+
+      -- to the block at the goal
+      moves : KindHere → is_leader source (goal_of s.block.end) ≡ true → EndAt first lay
+      moves kind lead =
+          Moves transfers (goal_of s.block.end) c.count c.squash (not (may_stay s.block)) first_slot second_slot kind
+          (filled_there source is registers place all h room' reach filling fills bytes s st parts t.first t.second t.is below_f below_g)
+          (inl lead)
+          stand_three
+
+      -- by a register
+      jumps_end : s.block.end ≡ JumpsEnd → (a d : ℕ) (z : Statement) → Last z → ((u : State) → execute (p source is registers place all h room' reach filling fills bytes) (Some z) u ≡ jumps (value_in u.regs a) d u) → inst_number list n ≡ Jspci a d (pos 0) → EndAt first lay
+      jumps_end e a d z l means ender =
+          let own = own_slots source is registers place all h room' reach filling fills bytes s st parts t.first t.second t.is below_f below_g (ap (λ q. site_of (is_target q) all) e ∙ never all) in
+          Jumps transfers a d
+          (λ u. ap (λ o. execute (p source is registers place all h room' reach filling fills bytes) o u) (behind_body z l f_not) ∙ means u)
+          ender
+          (subst (StandsHere (link first)) (λ k. words list front ++ inst_number list n ∷ own.first k ∷ own.second k ∷ []) stand_three)
+
+    at_low : s.start + s.plan.place < 2 ^ 31
+    at_low =
+        let b = st.of.below in
+        let e = end_low source is registers place all h room' reach in
+        let t = st.of.valid.tail in
+        omega arith
+
+    place_there : link first + length (words list front) ≡ s.start + s.plan.place
+    place_there =
+        let a = st.of.start in
+        let e = place_is in
+        let m = length-map front (item_inst list) in
+        omega arith
+
+    branch_kind : (a b : ℕ) (condition : Cond) (t : ℕ) → Last (Branch a b condition t) → KindHere
+    branch_kind a b condition t l =
+        let z = Branch a b condition t in
+        let f : falls s.block.end ≡ false = ap falls l.end in
+        let goal : t ≡ goal_of s.block.end = sym (ap goal_of l.end) in
+        let near = goes_here.branch t l.end in
+        Branches a b condition (displacement (s.start + s.plan.place) (link (goal_of s.block.end) + c.count))
+        (behind_body z l f ∙ ap (λ u. Some (Branch a b condition u)) goal)
+        (ender_is z l f ∙ ap (λ u. BranchInst a b condition c.squash (displacement (s.start + s.plan.place) (link u + c.count))) goal)
+        (ap (λ q. (q + cast_unsigned w32 (displacement (s.start + s.plan.place) (link (goal_of s.block.end) + c.count))) % 2 ^ 31) place_there
+        ∙ displaced (s.start + s.plan.place) (link (goal_of s.block.end) + c.count) at_low
+        (subst (λ u. link u + c.count < 2 ^ 31) goal (near_low (link t + c.count) near)))
+        (λ sure g. always_holds a b condition g (always (is_branch_end s.block.end) (always_goes (terminator s.block)) (ap is_branch_end l.end) sure
+        (ap always_goes (inst_is source s.block st.of.block final z (let some = st.of.block.some in omega arith) l.at))))
+      where
+        near_low : (to : ℕ) → (leb to (s.start + s.plan.place + 32767) && leb (s.start + s.plan.place) (to + 32768)) ≡ true → to < 2 ^ 31
+        near_low to e =
+            let parts = and_parts (leb to (s.start + s.plan.place + 32767)) (leb (s.start + s.plan.place) (to + 32768)) e in
+            let q = at_low in
+            let r : to ≤ s.start + s.plan.place + 32767 = under to (s.start + s.plan.place + 32767) parts.0 in
+            let b = st.of.below in
+            let m = end_low source is registers place all h room' reach in
+            let v = st.of.valid.tail in
+            omega arith
+          where
+            under : (m k : ℕ) → leb m k ≡ true → m ≤ k
+            under m k e = grind (arith, nat_tests)
+
+        always : (v w : Bool) {q : Bool} → v ≡ true → not (v && not w) ≡ true → w ≡ q → q ≡ true
+        always v w e g r = sym r ∙ both v w e g
+          where
+            both : (v w : Bool) → v ≡ true → not (v && not w) ≡ true → w ≡ true
+            both v w e g = grind arith
+
+    call_kind : (d t : ℕ) → Last (Call d t) → KindHere
+    call_kind d t l =
+        let f : falls s.block.end ≡ false = ap falls l.end in
+        let goal : t ≡ goal_of s.block.end = sym (ap goal_of l.end) in
+        Calls d
+        (behind_body (Call d t) l f ∙ ap (λ u. Some (Call d u)) goal)
+        (ender_is (Call d t) l f ∙ ap (λ u. Jspci 0 d (pos (link u + c.count))) goal)
+
+    ends : (z : Statement) → Last z → StatementFits (IsPlace source.labels (length source.statements)) z → EndAt first lay
+    ends (Plain i) l fit = falls_end (Plain i) l refl
+    ends (LaCode d t) l fit = falls_end (LaCode d t) l refl
+    ends (Branch a b condition t) l fit =
+        moves (ap falls l.end) (end_parts (Branch a b condition t) l) (branch_kind a b condition t l)
+        (ap (is_leader source) (ap goal_of l.end) ∙ place_leads source is t fit)
+    ends (Call d t) l fit =
+        moves (ap falls l.end) (end_parts (Call d t) l) (call_kind d t l)
+        (ap (is_leader source) (ap goal_of l.end) ∙ place_leads source is t fit)
+    ends (CallReg a d) l fit =
+        jumps_end (ap falls l.end) (end_parts (CallReg a d) l) l.end a d (CallReg a d) l (λ u. refl) (ender_is (CallReg a d) l (ap falls l.end))
+    ends (JumpReg a) l fit =
+        jumps_end (ap falls l.end) (end_parts (JumpReg a) l) l.end a 0 (JumpReg a) l (λ u. refl) (ender_is (JumpReg a) l (ap falls l.end))
+    ends Halt l fit = stops_end l
+
+    end : EndAt first lay
+    end = by_last (slice_get source.statements (first + final)) refl
+      where
+        by_last : (o : Option Statement) → slice_get source.statements (first + final) ≡ o → EndAt first lay
+        by_last None e = absurd (none-some s.block.end (sym (ap (option_map end_of) (there_on ∙ e)) ∙ st.of.block.end))
+          where
+            there_on : slice_get source.statements (first + size s.block - 1) ≡ slice_get source.statements (first + final)
+            there_on = let some = st.of.block.some in let q : first + size s.block - 1 ≡ first + final = omega arith in ap (slice_get source.statements) q
+        by_last (Some z) e = ends z (record { at = e; end = sym (same_Some (end_of z) s.block.end (sym (ap (option_map end_of) (there_on ∙ e)) ∙ st.of.block.end)) }) (statement_fits source is (first + final) z e)
+          where
+            there_on : slice_get source.statements (first + size s.block - 1) ≡ slice_get source.statements (first + final)
+            there_on = let some = st.of.block.some in let q : first + size s.block - 1 ≡ first + final = omega arith in ap (slice_get source.statements) q
+
+    pub placed_first : (t : ℕ) → first ≡ t → site_of (λ b. eqb b.first t) all ≡ Some s → PlacedAt t
+    placed_first t e found =
+        subst PlacedAt e (record { lay = lay; end = end; place = ap (place_of source is registers place all h room' reach filling fills bytes) e ∙ ap place_in found ∙ place_is })
+
+  -- the block of each leader
+  pub placed : (t : ℕ) → is_leader source t ≡ true → t < length source.statements → PlacedAt t
+  placed t e l =
+      let b = begins source is registers place all h room' reach filling fills t e l in
+      let next = site_found (λ (s : Site). link (s.block.first + size s.block) ≡ s.start + plan_size s.plan) (λ b. eqb b.first t) all b.site (next_links source 0 (length source.statements) place.code all h.blocks h.stand) b.found in
+      placed_first b.site b.standing next.0 t b.first b.found
