@@ -1,31 +1,29 @@
 -- The laws of linked code.
-use Rattle.std.proofs.Common.{◌≡◌, ℕ, zero, suc, ◌+◌, ◌*◌, ◌-◌, ◌^◌, ◌<◌, ◌≤◌, Bool, true, false, cond, eqb, leb, not, ◌&&◌, List, [], ◌∷◌, ◌⊎◌, length, map, All, Option, Some, None, refl, sym, ap, ◌∙◌, subst, arith, ⊎_elim, inl, inr}
+use Rattle.std.proofs.Common.{◌≡◌, ℕ, zero, suc, ◌+◌, ◌*◌, ◌-◌, ◌^◌, ◌<◌, ◌≤◌, Bool, true, false, cond, leb, not, ◌&&◌, List, [], ◌∷◌, length, map, Option, Some, refl, sym, ap, ◌∙◌, subst, arith, ⊎_elim, inl, inr}
 use Rattle.std.specs.Prelude.{slice_get, slice_index, slice_index_or}
 use Rattle.std.proofs.lemmas.Bool.{cond-true, cond-false}
 use Rattle.std.proofs.lemmas.Bool.Decides.{nat_tests}
 use Rattle.std.proofs.lemmas.Option.{slice_get_within, get_or_from_slice_get}
-use Rattle.std.proofs.Math.ListN.{get_or-map}
 use Rattle.mx_isa.specs.declared.place.Place.{Place}
 use Rattle.mx_isa.specs.Effect.{Core, decides}
 use Rattle.mx_isa.specs.Views.{reads}
-use Rattle.mx_isa.specs.Words.{Words}
 use Rattle.mx_isa.proofs.Frame.{same_words}
 use Rattle.mx_code.specs.Codes.{HasRegisters}
-use Rattle.mx_code.specs.Delay.{Code, does, data_from, Delay, stepped, delay_step, delay_start, delay_for}
+use Rattle.mx_code.specs.Delay.{Code, does, data_from, Delay, stepped, delay_step, delay_for}
 use Rattle.mx_code.specs.Clean.{is_clean_step, loads_to, Watched, watch, watch_start, watch_for}
 use Rattle.mx_source.specs.declared.statement.Statement.{Statement}
 use Rattle.mx_source.specs.declared.statement.Value.{Value}
 use Rattle.mx_source.specs.declared.statement.Value.TheVariants.{Int}
 use Rattle.mx_source.specs.SourceValue.{SourceValue}
-use Rattle.mx_source.specs.Meaning.{Program, program, Mark, Going, Halted, Stuck, State, Run, start, start_words, run_for, is_stuck, given, HaltsIn}
+use Rattle.mx_source.specs.Meaning.{Program, program, Mark, Going, Halted, Stuck, Run, start, start_words, run_for, given}
 use Rattle.mx_blocks.specs.Leaders.{is_leader, size, BlocksFrom}
 use Rattle.mx_blocks.specs.Leaders.{inst_of as statement_inst}
-use Rattle.mx_squash.specs.Copies.{Site, site_of, is_target, copied}
+use Rattle.mx_squash.specs.Copies.{Site}
 use Rattle.mx_layout.specs.Layout.{link_of, plan_size, blocks_in, has_statement}
-use Rattle.mx_link.specs.Origins.{Filling, from_target, from_nowhere}
+use Rattle.mx_link.specs.Origins.{Filling, from_nowhere}
 use Rattle.mx_link.specs.Words.{value_word}
 use Rattle.mx_order.specs.Laws.{IsPrefix}
-use Rattle.mx_link_laws.specs.Runs.{IsLaid, IsFilling, Linking, IsLinking, code_in, inside, data_in, linked_run, RunsClean, Matches}
+use Rattle.mx_link_laws.specs.Runs.{IsLaid, IsFilling, Linking, IsLinking, code_in, inside, data_in, linked_run, RunsClean}
 use Rattle.mx_link_laws.specs.Laws.{meant, IsSafe, LinkedCodeIsClean, Shows, HaltsSoon, LinkedCodeHalts, HaltedBefore, LinkedCodeHaltsOnly, LinkedCodeSends}
 use Rattle.mx_link_laws.proofs.Saying.{Prefix, is_going}
 use Rattle.mx_link_laws.proofs.Matching.{core_of}
@@ -34,8 +32,8 @@ use Rattle.mx_link_laws.proofs.OneBlock.{short, LeadsAt, IsAt}
 use Rattle.mx_link_laws.proofs.Transfers.{CodesLead}
 use Rattle.mx_link_laws.proofs.Layouts.{Fills}
 use Rattle.mx_link_laws.proofs.Slots.{place_of}
-use Rattle.mx_link_laws.proofs.Placing.{link, small, above, placed}
-use Rattle.mx_link_laws.proofs.Whole.{Placed, D, M, from, M_stays, runs_clean, halts_soon as soon_halted, halted_back, sent_soon}
+use Rattle.mx_link_laws.proofs.Placing.{small, above, len_of, placed}
+use Rattle.mx_link_laws.proofs.Whole.{Placed, D, from, M_stays, runs_clean, halts_soon as soon_halted, halted_back, sent_soon}
 
 false_true : false ≡ true → ⊥
 false_true e = grind arith
@@ -88,18 +86,28 @@ data_linked link place words = same_words _ _ (λ a. by_test (leb place.user_dat
 is_prefix : (xs ys : List ℕ) → Prefix xs ys → IsPrefix xs ys
 is_prefix xs ys h = record { rest = h.0; whole = h.1 }
 
-module _ (l : Linking) (h : IsLinking l) where
+module _ (l : Linking) (laid : IsLaid l.source l.place l.sites) where
+  registers : (i : ℕ) (s : Statement) → slice_get l.source.statements i ≡ Some s → HasRegisters (statement_inst s)
+  registers i s e = subst (λ (x : Statement). HasRegisters (statement_inst x)) (get_or_from_slice_get l.source.statements i s s e) (laid.registers i s (slice_get_within l.source.statements i s e))
+
+  abbrev Filled : Type 0
+  Filled = Fills l.source laid.well_formed registers l.place l.sites laid.layout laid.room laid.reach l.filling
+
+  filled_from : IsFilling l.filling → Filled
+  filled_from h = ⊎_elim
+      (λ e. (false, λ s. inr (refl, ap (λ (f : Filling). f l.sites s) e)))
+      (λ e. (true, λ s. inl (ap (λ (f : Filling). f l.sites s) e)))
+      h
+
+  abbrev filled_bare : l.filling ≡ from_nowhere → Filled
+  filled_bare e = (true, λ s. inl (ap (λ (f : Filling). f l.sites s) e))
+
+module _ (l : Linking) (laid : IsLaid l.source l.place l.sites) (fills : Filled l laid) where
   abbrev source : SourceValue
   source = l.source
 
   abbrev all : List Site
   all = l.sites
-
-  registers : (i : ℕ) (s : Statement) → slice_get source.statements i ≡ Some s → HasRegisters (statement_inst s)
-  registers i s e = subst (λ (x : Statement). HasRegisters (statement_inst x)) (get_or_from_slice_get source.statements i s s e) (h.laid.registers i s (slice_get_within source.statements i s e))
-
-  fills : Fills source h.laid.well_formed registers l.place all h.laid.layout h.laid.room h.laid.reach l.filling
-  fills s = ⊎_elim (λ e. inr (ap (λ (f : Filling). f all s) e)) (λ e. inl (ap (λ (f : Filling). f all s) e)) h.filled
 
   abbrev p : Program
   p = program source l.place l.bytes
@@ -114,31 +122,31 @@ module _ (l : Linking) (h : IsLinking l) where
   r0 = record { state = start source l.place; console = [] }
 
   abbrev smalls : (i : ℕ) → lk i + 8 < 2 ^ 31
-  smalls = small source h.laid.well_formed registers l.place all h.laid.layout h.laid.room h.laid.reach l.filling fills l.bytes
+  smalls = small source laid.well_formed (registers l laid) l.place all laid.layout laid.room laid.reach l.filling fills l.bytes
 
   abbrev lows : (i : ℕ) → l.place.code ≤ lk i
-  lows = above source h.laid.well_formed registers l.place all h.laid.layout h.laid.room h.laid.reach l.filling fills l.bytes
+  lows = above source laid.well_formed (registers l laid) l.place all laid.layout laid.room laid.reach l.filling fills l.bytes
 
   abbrev places : ℕ → ℕ
-  places = place_of source h.laid.well_formed registers l.place all h.laid.layout h.laid.room h.laid.reach l.filling fills l.bytes
+  places = place_of source laid.well_formed (registers l laid) l.place all laid.layout laid.room laid.reach l.filling fills l.bytes
 
-  abbrev blocks : (t : ℕ) → is_leader source t ≡ true → t < length source.statements → Placed lk p smalls lows (code_in l) (inside l) (is_leader source) places t
-  blocks = placed source h.laid.well_formed registers l.place all h.laid.layout h.laid.room h.laid.reach l.filling fills l.bytes
+  abbrev blocks : (t : ℕ) → is_leader source t ≡ true → t < length source.statements → Placed lk p smalls lows (code_in l) (inside l) (is_leader source) places (len_of all) t
+  blocks = placed source laid.well_formed (registers l laid) l.place all laid.layout laid.room laid.reach l.filling fills l.bytes
 
   leads0 : LeadsAt lk p smalls lows (code_in l) (inside l) (is_leader source) places 0 0
-  leads0 = inl (refl, (let q : 0 ≤ places 0 = omega arith in q))
+  leads0 = (inl refl, (let q : 0 ≤ places 0 = omega arith in q))
 
   codes : (m : ℕ) → CodesLead lk p smalls lows (code_in l) (inside l) (is_leader source) places (run_for p m r0)
-  codes m n t e = inl (registers_lead source h.laid.well_formed l.place l.bytes m n t e)
+  codes m n t e = inl (registers_lead source laid.well_formed l.place l.bytes m n t e)
 
   abbrev Linked : ℕ → Watched
-  Linked j = D lk p smalls lows (code_in l) (inside l) (is_leader source) places blocks r0 refl leads0 codes j
+  Linked j = D lk p smalls lows (code_in l) (inside l) (is_leader source) places (len_of all) blocks r0 refl leads0 codes j
 
   abbrev shorts : (i : ℕ) → lk i < 2 ^ 32
   shorts = short lk p smalls lows (code_in l) (inside l) (is_leader source) places
 
   -- the run begins as the machine starts
-  begins_so : from lk p smalls lows (code_in l) (inside l) (is_leader source) places blocks r0 refl leads0 codes r0 ≡ watch_start l.place (data_in l)
+  begins_so : from lk p smalls lows (code_in l) (inside l) (is_leader source) places (len_of all) blocks r0 refl leads0 codes r0 ≡ watch_start l.place (data_in l)
   begins_so = λ k. record {
     at = record {
       first = record { address = start_at k; squashed = false };
@@ -153,7 +161,7 @@ module _ (l : Linking) (h : IsLinking l) where
   }
     where
       start_at : lk 0 ≡ l.place.code
-      start_at = first_link source (length source.statements) l.place.code all h.laid.layout.blocks
+      start_at = first_link source (length source.statements) l.place.code all laid.layout.blocks
 
   watched_so : (j : ℕ) → Linked j ≡ watch_for (code_in l) (inside l) l.place input j (watch_start l.place (data_in l))
   watched_so j = ap (watch_for (code_in l) (inside l) l.place input j) begins_so
@@ -163,8 +171,7 @@ module _ (l : Linking) (h : IsLinking l) where
 
   clean_so : (j : ℕ) → IsSafe l (j + 64) → RunsClean l j × IsPrefix (linked_run l j).console (meant l (j + 64)).console
   clean_so j safe =
-      let c = runs_clean lk p smalls lows (code_in l) (inside l) (is_leader source) places blocks r0 refl leads0 codes j safe in
-      (
+      let c = runs_clean lk p smalls lows (code_in l) (inside l) (is_leader source) places (len_of all) blocks r0 refl leads0 codes j safe in (
         sym (ap (λ (x : Watched). x.clean) (watched_so j)) ∙ c.clean,
         subst (λ (x : Delay). IsPrefix x.console (meant l (j + 64)).console) (runs_so j) (is_prefix (Linked j).at.console (meant l (j + 64)).console c.console),
       )
@@ -187,7 +194,7 @@ module _ (l : Linking) (h : IsLinking l) where
 
   halts_so : (n : ℕ) → (meant l n).state.mark ≡ Halted → HaltsSoon l n
   halts_so n e =
-      let s = soon_halted lk p smalls lows (code_in l) (inside l) (is_leader source) places blocks r0 refl leads0 codes n e in
+      let s = soon_halted lk p smalls lows (code_in l) (inside l) (is_leader source) places (len_of all) blocks r0 refl leads0 codes n e in
       record {
         steps = s.e;
         soon = s.soon;
@@ -201,12 +208,12 @@ module _ (l : Linking) (h : IsLinking l) where
     where
       by_mark : (k : Mark) → (meant l m).state.mark ≡ k → (meant l m).state.mark ≡ Going
       by_mark Going q = q
-      by_mark Halted q = absurd (false_true (sym (ap is_going q) ∙ sym (ap (λ (r : Run). is_going r.state.mark) (M_stays lk p smalls lows (code_in l) (inside l) (is_leader source) places blocks r0 refl leads0 codes m last le (ap is_going q))) ∙ ap is_going e))
-      by_mark (Stuck why) q = absurd (false_true (sym (ap is_going q) ∙ sym (ap (λ (r : Run). is_going r.state.mark) (M_stays lk p smalls lows (code_in l) (inside l) (is_leader source) places blocks r0 refl leads0 codes m last le (ap is_going q))) ∙ ap is_going e))
+      by_mark Halted q = absurd (false_true (sym (ap is_going q) ∙ sym (ap (λ (r : Run). is_going r.state.mark) (M_stays lk p smalls lows (code_in l) (inside l) (is_leader source) places (len_of all) blocks r0 refl leads0 codes m last le (ap is_going q))) ∙ ap is_going e))
+      by_mark (Stuck why) q = absurd (false_true (sym (ap is_going q) ∙ sym (ap (λ (r : Run). is_going r.state.mark) (M_stays lk p smalls lows (code_in l) (inside l) (is_leader source) places (len_of all) blocks r0 refl leads0 codes m last le (ap is_going q))) ∙ ap is_going e))
 
   halted_so : (j : ℕ) → IsSafe l (j + 64) → (linked_run l j).halted ≡ true → HaltedBefore l j
   halted_so j safe e =
-      let b = halted_back lk p smalls lows (code_in l) (inside l) (is_leader source) places blocks r0 refl leads0 codes j safe (ap (λ (x : Delay). x.halted) (runs_so j) ∙ e) in
+      let b = halted_back lk p smalls lows (code_in l) (inside l) (is_leader source) places (len_of all) blocks r0 refl leads0 codes j safe (ap (λ (x : Delay). x.halted) (runs_so j) ∙ e) in
       record {
         statements = b.n;
         few = b.few;
@@ -217,16 +224,16 @@ module _ (l : Linking) (h : IsLinking l) where
   sent_so : (m : ℕ) → IsSafe l (m + 64) → IsPrefix (meant l m).console (linked_run l (3 * (m + 64))).console
   sent_so m safe =
       subst (λ (x : Delay). IsPrefix (meant l m).console x.console) (runs_so (3 * (m + 64)))
-      (is_prefix (meant l m).console (Linked (3 * (m + 64))).at.console (sent_soon lk p smalls lows (code_in l) (inside l) (is_leader source) places blocks r0 refl leads0 codes m safe))
+      (is_prefix (meant l m).console (Linked (3 * (m + 64))).at.console (sent_soon lk p smalls lows (code_in l) (inside l) (is_leader source) places (len_of all) blocks r0 refl leads0 codes m safe))
 
 pub is_clean : LinkedCodeIsClean
-is_clean l j h safe = clean_so l h j safe
+is_clean l j h safe = clean_so l h.laid (filled_from l h.laid h.filled) j safe
 
 pub halts : LinkedCodeHalts
-halts l n h e = halts_so l h n e.halted
+halts l n h e = halts_so l h.laid (filled_from l h.laid h.filled) n e.halted
 
 pub halts_only : LinkedCodeHaltsOnly
-halts_only l j h safe e = halted_so l h j safe e
+halts_only l j h safe e = halted_so l h.laid (filled_from l h.laid h.filled) j safe e
 
 pub sends : LinkedCodeSends
-sends l m h safe = sent_so l h m safe
+sends l m h safe = sent_so l h.laid (filled_from l h.laid h.filled) m safe

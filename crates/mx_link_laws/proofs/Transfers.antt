@@ -1,15 +1,15 @@
 -- One block by how it ends: it falls through, halts, branches, calls, or jumps by a register.
-use Rattle.std.proofs.Common.{◌≡◌, ℕ, ℤ, pos, suc, ◌+◌, ◌%◌, ◌^◌, ◌<◌, ◌≤◌, Bool, true, false, cond, List, [], ◌∷◌, ◌++◌, ◌⊎◌, length, Option, Some, None, option_to_list, refl, sym, ap, ◌∙◌, subst, arith, ⊎_elim, inl, inr}
+use Rattle.std.proofs.Common.{◌≡◌, ℕ, ℤ, pos, suc, ◌+◌, ◌%◌, ◌^◌, ◌<◌, ◌≤◌, Bool, true, false, cond, List, [], ◌∷◌, ◌++◌, ◌⊎◌, length, Option, Some, None, option_to_list, refl, sym, ap, ◌∙◌, arith, inl, inr}
 use Rattle.std.specs.Prelude.{slice_get}
 use Rattle.std.specs.Int.{w32, cast_unsigned}
-use Rattle.std.proofs.lemmas.Bool.{cond-true, cond-false, cases_Bool, or_parts}
+use Rattle.std.proofs.lemmas.Bool.{or_parts}
 use Rattle.mx_isa.specs.declared.inst.Cond.{Cond}
 use Rattle.mx_isa.specs.declared.inst.Inst.{Inst}
 use Rattle.mx_isa.specs.declared.inst.Inst.TheVariants.{Jspci}
 use Rattle.mx_isa.specs.declared.inst.Inst.TheVariants.{Branch as BranchInst, Halt as HaltInst}
 use Rattle.mx_isa.specs.Words.{Words, reg, write}
 use Rattle.mx_isa.specs.Arithmetic.{condition_holds}
-use Rattle.mx_isa.specs.Effect.{Core, Decision, decides, offset_by}
+use Rattle.mx_isa.specs.Effect.{Core, decides, offset_by}
 use Rattle.mx_isa.specs.Views.{is_transfer, is_halt, is_load}
 use Rattle.mx_code.specs.Delay.{Code}
 use Rattle.mx_source.specs.declared.statement.Statement.{Statement}
@@ -17,8 +17,8 @@ use Rattle.mx_source.specs.declared.statement.Statement.TheVariants.{Branch, Cal
 use Rattle.mx_source.specs.declared.statement.Value.{Value}
 use Rattle.mx_source.specs.declared.statement.Value.TheVariants.{Int, Code as CodeValue}
 use Rattle.mx_source.specs.declared.statement.Why.TheVariants.{CodeOperand}
-use Rattle.mx_source.specs.Values.{value_in, is_code, word_in, write_value}
-use Rattle.mx_source.specs.Meaning.{Program, Going, State, Step, Run, any_code, stuck, jumps, execute, run_step, run_for, is_stuck}
+use Rattle.mx_source.specs.Values.{value_in, word_in, write_value}
+use Rattle.mx_source.specs.Meaning.{Program, Going, State, Step, Run, any_code, stuck, jumps, execute, run_for, is_stuck}
 use Rattle.mx_blocks.specs.declared.block.Item.{Item}
 use Rattle.mx_blocks.specs.declared.block.Item.TheVariants.{Op}
 use Rattle.mx_validate.specs.Padded.{insts_of, items_of, falls, body_count}
@@ -238,7 +238,7 @@ module _ (link : ℕ → ℕ) (p : Program) (small : (i : ℕ) → link i + 8 < 
               false false (item_inst w.insts b.f) (item_inst w.insts b.g) (codes a t e) (Own refl refl refl refl) st
 
     -- one block
-    pub one_block : EndOf i w → CodesLead r1 → Onward ⊎ StopsAt link p small low code inside leader place_of i n (length w.parts.front) r
+    pub one_block : EndOf i w → CodesLead r1 → Onward ⊎ StopsAt link p small low code inside leader place_of i n (length (items_of w.plan)) (length w.parts.front) r
     one_block (Falls f none st) codes = inl (falls_on link p small low code inside leader place_of i w r going here safe f none st)
     one_block (Stops f one stop is st) codes = inr (stops link p small low code inside leader place_of i w r going here safe f one stop is st)
     one_block (Moves b t count sq sure x y (Branches a c condition by statement is reach surely) filled lead st) codes =

@@ -3,4 +3,6 @@
 
 mod laws;
 
-pub use laws::{linked_code_halts, linked_code_halts_only, linked_code_is_clean, linked_code_sends};
+pub use laws::{
+    linked_code_halts, linked_code_halts_only, linked_code_is_clean, linked_code_sends,
+};
