@@ -45,6 +45,7 @@ use Rattle.mx_link.proofs.Linkable.{Goes}
 use Rattle.mx_order.specs.Parts.{AreBelow, EndsWith, IsTransfer, Parts}
 use Rattle.mx_order.proofs.Split.{has_parts}
 use Rattle.mx_order.proofs.Words.{item_inst, words}
+use Rattle.mx_link_laws.specs.Laws.{plan_words}
 use Rattle.mx_link_laws.proofs.Going.{Stands}
 use Rattle.mx_link_laws.proofs.Planned.{bodies_length, size_ends}
 use Rattle.mx_link_laws.proofs.Codes.{place_leads, statement_fits}
@@ -137,14 +138,9 @@ always_holds a b Eq f e =
     (λ k. condition_holds Eq (reg f (za k)) (reg f (zb k)))
 always_holds a b _ f e = absurd (false_true e)
 
--- the number of words of a site that was found
-abbrev pub long_in : Option Site → ℕ
-long_in None = 0
-long_in (Some s) = plan_size s.plan
-
 -- the number of words of the plan of the block that begins at a statement
 abbrev pub len_of : List Site → ℕ → ℕ
-len_of all t = long_in (site_of (λ b. eqb b.first t) all)
+len_of all t = plan_words (site_of (λ b. eqb b.first t) all)
 
 module _ (source : SourceValue) (is : IsSource source) (registers : (i : ℕ) (s : Statement) → slice_get source.statements i ≡ Some s → HasRegisters (statement_inst s)) (place : Place) (all : List Site) (h : IsLayout Valid source place all) (room' : place.code + 3 * length source.statements ≤ 65535) (reach : overlong source place (blocks_in all) ≡ None) (filling : Filling) (fills : Fills source is registers place all h room' reach filling) (bytes : List ℕ) where
   abbrev pub link : ℕ → ℕ
@@ -445,7 +441,7 @@ module _ (source : SourceValue) (is : IsSource source) (registers : (i : ℕ) (s
           lay = lay;
           end = end;
           place = (let q = place_most first in let r = place_is in let x = ap (λ u. place_in (site_of (λ b. eqb b.first u) all)) e ∙ ap place_in found in omega arith);
-          long = ap (len_of all) e ∙ ap long_in found;
+          long = ap (len_of all) e ∙ ap plan_words found;
           inner = st.of.block.inner;
         })
 

@@ -1,7 +1,7 @@
 -- The laws of linked code.
-use Rattle.std.proofs.Common.{◌≡◌, ℕ, zero, suc, ◌+◌, ◌*◌, ◌-◌, ◌^◌, ◌<◌, ◌≤◌, Bool, true, false, cond, leb, not, ◌&&◌, List, [], ◌∷◌, length, map, Option, Some, refl, sym, ap, ◌∙◌, subst, arith, ⊎_elim, inl, inr}
+use Rattle.std.proofs.Common.{◌≡◌, ℕ, zero, suc, ◌+◌, ◌*◌, ◌-◌, ◌^◌, ◌<◌, ◌≤◌, Bool, true, false, cond, leb, not, ◌&&◌, List, [], ◌∷◌, length, map, Option, Some, refl, sym, ap, ◌∙◌, subst, arith, ⊎_elim, inl, inr, ltb}
 use Rattle.std.specs.Prelude.{slice_get, slice_index, slice_index_or}
-use Rattle.std.proofs.lemmas.Bool.{cond-true, cond-false}
+use Rattle.std.proofs.lemmas.Bool.{cond-true, cond-false, cases_lt}
 use Rattle.std.proofs.lemmas.Bool.Decides.{nat_tests}
 use Rattle.std.proofs.lemmas.Option.{slice_get_within, get_or_from_slice_get}
 use Rattle.mx_isa.specs.declared.place.Place.{Place}
@@ -20,11 +20,13 @@ use Rattle.mx_blocks.specs.Leaders.{is_leader, size, BlocksFrom}
 use Rattle.mx_blocks.specs.Leaders.{inst_of as statement_inst}
 use Rattle.mx_squash.specs.Copies.{Site}
 use Rattle.mx_layout.specs.Layout.{link_of, plan_size, blocks_in, has_statement}
+use Rattle.mx_validate.specs.Padded.{insts_of, items_of}
+use Rattle.mx_layout.proofs.Links.{link_within}
 use Rattle.mx_link.specs.Origins.{Filling, from_nowhere}
 use Rattle.mx_link.specs.Words.{value_word}
 use Rattle.mx_order.specs.Laws.{IsPrefix}
 use Rattle.mx_link_laws.specs.Runs.{IsLaid, IsFilling, Linking, IsLinking, code_in, inside, data_in, linked_run, RunsClean}
-use Rattle.mx_link_laws.specs.Laws.{meant, IsSafe, LinkedCodeIsClean, Shows, HaltsSoon, LinkedCodeHalts, HaltedBefore, LinkedCodeHaltsOnly, LinkedCodeSends}
+use Rattle.mx_link_laws.specs.Laws.{meant, IsSafe, LinkedCodeIsClean, Shows, HaltsSoon, LinkedCodeHalts, HaltedBefore, LinkedCodeHaltsOnly, LinkedCodeSends, block_words, planned_words, IsBlockStart, StartsBlock, LinkedBlocksStart, LaterBlocksStartLater, ComesFrom, FetchesStartBlocks}
 use Rattle.mx_link_laws.proofs.Saying.{Prefix, is_going}
 use Rattle.mx_link_laws.proofs.Matching.{core_of}
 use Rattle.mx_link_laws.proofs.Codes.{registers_lead}
@@ -33,7 +35,7 @@ use Rattle.mx_link_laws.proofs.Transfers.{CodesLead}
 use Rattle.mx_link_laws.proofs.Layouts.{Fills}
 use Rattle.mx_link_laws.proofs.Slots.{place_of}
 use Rattle.mx_link_laws.proofs.Placing.{small, above, len_of, placed}
-use Rattle.mx_link_laws.proofs.Whole.{Placed, D, from, M_stays, runs_clean, halts_soon as soon_halted, halted_back, sent_soon}
+use Rattle.mx_link_laws.proofs.Whole.{Placed, D, from, M_stays, runs_clean, halts_soon as soon_halted, halted_back, sent_soon, sum_of_plans, block_starts, sum_grows, some_words, block_at_fetch}
 
 false_true : false ≡ true → ⊥
 false_true e = grind arith
@@ -69,6 +71,29 @@ first_link source j at (s ∷ sites) h =
   where
     in_first : (s.block.first ≤ 0) × (0 < s.block.first + size s.block) → has_statement 0 s.block ≡ true
     in_first l = let a = l.0 in let b = l.1 in grind (arith, nat_tests)
+
+-- links grow with statements
+link_grows : (source : SourceValue) (i j at : ℕ) (sites : List Site) (t u : ℕ) → BlocksFrom source i j (blocks_in sites) → i ≤ t → t ≤ u → link_of at sites t ≤ link_of at sites u
+link_grows source i j at [] t u h l m = omega arith
+link_grows source i j at (s ∷ sites) t u h l m = ⊎_elim
+    (λ (q : t < s.block.first + size s.block).
+    let first = h.0 in
+    let here : link_of at (s ∷ sites) t ≡ at = ap (λ c. cond c at (link_of (at + plan_size s.plan) sites t)) (has t s.block.first (s.block.first + size s.block) (omega arith) q) in
+    let w = (link_within at (s ∷ sites) u).0 in
+    omega arith)
+    (λ (q : s.block.first + size s.block ≤ t).
+    let first = h.0 in
+    let at_t : link_of at (s ∷ sites) t ≡ link_of (at + plan_size s.plan) sites t = ap (λ c. cond c at (link_of (at + plan_size s.plan) sites t)) (has_not t s.block.first (s.block.first + size s.block) q) in
+    let at_u : link_of at (s ∷ sites) u ≡ link_of (at + plan_size s.plan) sites u = ap (λ c. cond c at (link_of (at + plan_size s.plan) sites u)) (has_not u s.block.first (s.block.first + size s.block) (omega arith)) in
+    let more = link_grows source (i + size s.block) j (at + plan_size s.plan) sites t u h.2 (omega arith) m in
+    omega arith)
+    (cases_lt t (s.block.first + size s.block))
+  where
+    has : (x a b : ℕ) → a ≤ x → x < b → (leb a x && ltb x b) ≡ true
+    has x a b p q = grind (arith, nat_tests)
+
+    has_not : (x a b : ℕ) → b ≤ x → (leb a x && ltb x b) ≡ false
+    has_not x a b p = grind (arith, nat_tests)
 
 -- data words with places of code as their addresses
 words_linked : (link : ℕ → ℕ) (words : List Value) (k : ℕ) → slice_index (map (value_word link) words) k ≡ value_word link (slice_index_or words k (Int 0))
@@ -179,18 +204,19 @@ module _ (l : Linking) (laid : IsLaid l.source l.place l.sites) (fills : Filled 
   abbrev AtNow : Watched → Run → Type 0
   AtNow x r = IsAt lk p smalls lows (code_in l) (inside l) (is_leader source) places x r
 
+  shows_by : (j n : ℕ) → (linked_run l j).core ≡ core_of lk shorts (meant l n).state → (linked_run l j).console ≡ (meant l n).console → Shows l j n
+  shows_by j n core console = record {
+    console = console;
+    state = record {
+      registers = λ i low high. ap (λ (c : Core). c.regs i) core;
+      user_data = λ i user. ap (λ (c : Core). c.mem i) core;
+      md = ap (λ (c : Core). c.md) core;
+      taken = ap (λ (c : Core). c.taken) core;
+    };
+  }
+
   shows_so : (j n : ℕ) → AtNow (Linked j) (meant l n) → Shows l j n
-  shows_so j n a =
-      let core : (linked_run l j).core ≡ core_of lk shorts (meant l n).state = ap (λ (x : Delay). x.core) (sym (runs_so j)) ∙ a.core in
-      record {
-        console = ap (λ (x : Delay). x.console) (sym (runs_so j)) ∙ a.console;
-        state = record {
-          registers = λ i low high. ap (λ (c : Core). c.regs i) core;
-          user_data = λ i user. ap (λ (c : Core). c.mem i) core;
-          md = ap (λ (c : Core). c.md) core;
-          taken = ap (λ (c : Core). c.taken) core;
-        };
-      }
+  shows_so j n a = shows_by j n (ap (λ (x : Delay). x.core) (sym (runs_so j)) ∙ a.core) (ap (λ (x : Delay). x.console) (sym (runs_so j)) ∙ a.console)
 
   halts_so : (n : ℕ) → (meant l n).state.mark ≡ Halted → HaltsSoon l n
   halts_so n e =
@@ -226,6 +252,78 @@ module _ (l : Linking) (laid : IsLaid l.source l.place l.sites) (fills : Filled 
       subst (λ (x : Delay). IsPrefix (meant l m).console x.console) (runs_so (3 * (m + 64)))
       (is_prefix (meant l m).console (Linked (3 * (m + 64))).at.console (sent_soon lk p smalls lows (code_in l) (inside l) (is_leader source) places (len_of all) blocks r0 refl leads0 codes m safe))
 
+  -- the words of the plans so far
+  abbrev Sum : ℕ → ℕ
+  Sum m = sum_of_plans lk p smalls lows (code_in l) (inside l) (is_leader source) places (len_of all) blocks r0 refl leads0 codes m
+
+  sums : (m : ℕ) → Sum m ≡ planned_words l m
+  sums zero = refl
+  sums (suc m) = ap (λ k. k + cond (is_leader l.source (meant l m).state.index) (block_words l (meant l m).state.index) 0) (sums m)
+
+  start_so : ((t : ℕ) → places t ≡ 0) → (m : ℕ) → IsBlockStart l m → StartsBlock l m
+  start_so bare m s =
+      let b = block_starts lk p smalls lows (code_in l) (inside l) (is_leader source) places (len_of all) blocks r0 refl leads0 codes bare m s.going s.leads in
+      let at_is : linked_run l (planned_words l m) ≡ (from lk p smalls lows (code_in l) (inside l) (is_leader source) places (len_of all) blocks r0 refl leads0 codes (meant l m)).at = ap (linked_run l) (sym (sums m)) ∙ sym (runs_so (Sum m)) ∙ b.state in
+      let sum = sums m in
+      record {
+        no_fewer = (let q = b.low_sum in omega arith);
+        no_more = (let q = b.high_sum in omega arith);
+        going = ap (λ (x : Delay). x.halted) at_is;
+        first = ap (λ (x : Delay). x.first) at_is;
+        second = ap (λ (x : Delay). x.second) at_is;
+        third = ap (λ (x : Delay). x.third) at_is;
+        shows = shows_by (planned_words l m) m (ap (λ (x : Delay). x.core) at_is) (ap (λ (x : Delay). x.console) at_is);
+      }
+
+  later_so : (m n : ℕ) → IsBlockStart l m → IsBlockStart l n → m < n → planned_words l m < planned_words l n
+  later_so m n s t less =
+      let g = sum_grows lk p smalls lows (code_in l) (inside l) (is_leader source) places (len_of all) blocks r0 refl leads0 codes m n s.going s.leads t.going less in
+      let a = sums m in
+      let b = sums n in
+      omega arith
+
+  abbrev PlacedHere : ℕ → Type 0
+  PlacedHere = Placed lk p smalls lows (code_in l) (inside l) (is_leader source) places (len_of all)
+
+  -- the next leader is behind the block
+  behind : (i j : ℕ) (w : PlacedHere i) → i < j → is_leader source j ≡ true → i + length (insts_of w.lay.block) ≤ j
+  behind i j w less lead = ⊎_elim
+      (λ (q : j < i + length (insts_of w.lay.block)).
+      let on : i + (j - i) ≡ j = omega arith in
+      absurd (false_true (sym (w.inner (j - i) (omega arith) (omega arith)) ∙ ap (is_leader source) on ∙ lead)))
+      (λ q. q)
+      (cases_lt j (i + length (insts_of w.lay.block)))
+
+  no_later : (i j : ℕ) → i ≤ j → lk i ≤ lk j
+  no_later i j le = link_grows source 0 (length source.statements) l.place.code all i j laid.layout.blocks (omega arith) le
+
+  only : (i j k : ℕ) → is_leader source i ≡ true → i < length source.statements → (w : PlacedHere j) → is_leader source j ≡ true → j < length source.statements → k < length (items_of w.lay.plan) → lk i ≡ lk j + k → i ≡ j
+  only i j k li hi w lj hj few e = ⊎_elim
+      (λ (q : i < j).
+      let wi = blocks i li hi in
+      let some = some_words lk p smalls lows (code_in l) (inside l) (is_leader source) places (len_of all) blocks r0 refl leads0 codes i wi in
+      let next = wi.lay.next in
+      let above = no_later (i + length (insts_of wi.lay.block)) j (behind i j wi q lj) in
+      absurd (omega arith))
+      (λ (q : j ≤ i). ⊎_elim
+      (λ (x : j < i).
+      let next = w.lay.next in
+      let above = no_later (j + length (insts_of w.lay.block)) i (behind j i w x li) in
+      absurd (omega arith))
+      (λ (x : i ≤ j). omega arith)
+      (cases_lt j i))
+      (cases_lt i j)
+
+  fetch_so : ((t : ℕ) → places t ≡ 0) → (d i : ℕ) → IsSafe l (d + 64) → (linked_run l d).halted ≡ false → is_leader source i ≡ true → i < length source.statements → (linked_run l d).first.address ≡ lk i → ComesFrom l d i
+  fetch_so bare d i safe on lead within here =
+      let b = block_at_fetch lk p smalls lows (code_in l) (inside l) (is_leader source) places (len_of all) blocks r0 refl leads0 codes bare only d safe (ap (λ (x : Delay). x.halted) (runs_so d) ∙ on) i lead within (ap (λ (x : Delay). x.first.address) (runs_so d) ∙ here) in
+      record {
+        statements = b.m;
+        start = record { going = b.going; leads = ap (is_leader source) b.index ∙ lead };
+        index = b.index;
+        steps = b.is_d ∙ sums b.m;
+      }
+
 pub is_clean : LinkedCodeIsClean
 is_clean l j h safe = clean_so l h.laid (filled_from l h.laid h.filled) j safe
 
@@ -237,3 +335,12 @@ halts_only l j h safe e = halted_so l h.laid (filled_from l h.laid h.filled) j s
 
 pub sends : LinkedCodeSends
 sends l m h safe = sent_so l h.laid (filled_from l h.laid h.filled) m safe
+
+pub blocks_start : LinkedBlocksStart
+blocks_start l m h e s = start_so l h.laid (filled_bare l h.laid e) (λ t. refl) m s
+
+pub later : LaterBlocksStartLater
+later l m n h s t less = later_so l h.laid (filled_from l h.laid h.filled) m n s t less
+
+pub fetches : FetchesStartBlocks
+fetches l d i h e safe on lead within here = fetch_so l h.laid (filled_bare l h.laid e) (λ t. refl) d i safe on lead within here

@@ -639,7 +639,7 @@ module _ (link : ℕ → ℕ) (p : Program) (small : (i : ℕ) → link i + 8 < 
       (λ (q : k ≤ length lay.parts.front). let r = heads t w d k q in ap (λ (x : Watched). x.at.first.address) r.1)
       (cases_lt (length lay.parts.front) k)
 
-  some_words : (t : ℕ) (w : PlacedHere t) → 1 ≤ length (items_of w.lay.plan)
+  pub some_words : (t : ℕ) (w : PlacedHere t) → 1 ≤ length (items_of w.lay.plan)
   some_words t w =
       let lay = w.lay in
       let once = once_length (length (insts_of lay.block)) 0 (ops (items_of lay.plan)) (λ k. lay.laid.valid.once k ∙ grind (arith, nat_tests)) in
