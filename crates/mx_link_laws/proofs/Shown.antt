@@ -25,7 +25,7 @@ use Rattle.mx_layout.proofs.Links.{link_within}
 use Rattle.mx_link.specs.Origins.{Filling, from_nowhere}
 use Rattle.mx_link.specs.Words.{value_word}
 use Rattle.mx_order.specs.Laws.{IsPrefix}
-use Rattle.mx_link_laws.specs.Runs.{IsLaid, IsFilling, Linking, IsLinking, code_in, inside, data_in, linked_run, RunsClean}
+use Rattle.mx_link_laws.specs.Runs.{IsLaid, IsFilling, Linking, code_in, inside, data_in, linked_run, RunsClean}
 use Rattle.mx_link_laws.specs.Laws.{meant, IsSafe, LinkedCodeIsClean, Shows, HaltsSoon, LinkedCodeHalts, HaltedBefore, LinkedCodeHaltsOnly, LinkedCodeSends, block_words, planned_words, IsBlockStart, StartsBlock, LinkedBlocksStart, LaterBlocksStartLater, ComesFrom, FetchesStartBlocks}
 use Rattle.mx_link_laws.proofs.Saying.{Prefix, is_going}
 use Rattle.mx_link_laws.proofs.Matching.{core_of}
