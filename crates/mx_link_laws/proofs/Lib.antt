@@ -1,0 +1,15 @@
+pub mod Going
+pub mod Ends
+pub mod Matching
+pub mod Saying
+pub mod Planned
+pub mod OneBlock
+pub mod Transfers
+pub mod Whole
+pub mod Codes
+pub mod Imaged
+pub mod Sited
+pub mod Layouts
+pub mod Slots
+pub mod Placing
+pub mod Shown
