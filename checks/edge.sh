@@ -1,7 +1,7 @@
 #!/bin/sh
 # What no proof can reach: the built program at the edge of the system. It needs a built program,
-# as ./mx leaves it, and tries a missing file, a file over the limit, an endless file, a full
-# device as standard output, and a name that is not text.
+# as ./mx leaves it, and tries missing, endless, long and broken files, a full device and a closed
+# pipe as standard output, and a name that is not text.
 top=$(CDPATH= cd -- "$(dirname -- "$0")/.." && pwd) || exit 1
 program=$top/crates/mx_run/out/mx_run
 folder=$(mktemp -d) || exit 1
@@ -84,5 +84,82 @@ expect 'the run of a built image' 0 ''
 "$program" build "$top/examples/hello.s" missing/image >out 2>err
 status=$?
 expect 'an image that cannot be written' 5 ''
+
+# Sources that are long in other ways end by themselves too.
+head -c 4194304 /dev/zero | tr '\0' x >one_line
+"$program" run one_line >out 2>err
+status=$?
+expect 'a source of one line' 1 'line 1: F3 UnknownMnemonic'
+
+awk 'BEGIN { for (i = 0; i < 300000; i++) printf "l%d:", i; print "halt" }' >labels
+"$program" run labels >out 2>err
+status=$?
+expect 'a line of 300,000 labels' 1 'line 1: F14 LineTooLong'
+
+awk 'BEGIN { printf "addi r0,#"; for (i = 0; i < 1000000; i++) printf "9"; print ",r1" }' >digits
+"$program" run digits >out 2>err
+status=$?
+expect 'a number of a million digits' 1 'line 1: F6 NumberOutOfRange'
+
+seq 1 65537 >requests
+"$program" run "$top/examples/hello.s" --interrupts requests >out 2>err
+status=$?
+expect '65,537 requests' 8 'interrupts line 65537: TooMany'
+
+{
+    sleep 1
+    "$program" run "$top/examples/hello.s"
+    echo $? >ended
+} | true
+sleep 1
+status=$(cat ended)
+: >out
+expect 'a closed pipe' 5 ''
+
+# No file that is cut, lengthened or changed in its magic is taken for an image, and none loses what it held.
+"$program" build "$top/examples/hello.s" image
+length=$(wc -c <image)
+n=0
+bad=0
+while [ "$n" -lt "$length" ]; do
+    head -c "$n" image >cut
+    cp cut kept
+    "$program" migrate cut cut >out 2>err
+    if [ $? -ne 7 ] || ! cmp -s cut kept || [ "$(cat out)" != "image: Truncated at $n" ]; then bad=$((bad + 1)); fi
+    n=$((n + 1))
+done
+: >out
+status=$bad
+expect 'each front of an image' 0 ''
+
+{ cat image; printf x; } >longer
+"$program" exec longer >out 2>err
+status=$?
+expect 'one byte more' 7 "image: Trailing at $length"
+
+{ printf MXIm; tail -c +5 image; } >other
+"$program" exec other >out 2>err
+status=$?
+expect 'another magic' 7 'image: BadMagic'
+
+{ printf 'MXIM\0\0\0\3'; tail -c +9 image; } >other
+"$program" exec other >out 2>err
+status=$?
+expect 'version 3' 7 'image: BadRange at 4'
+
+{ head -c 11 image; printf '\2'; tail -c +13 image; } >other
+"$program" exec other >out 2>err
+status=$?
+expect 'flags 2' 7 'image: BadRange at 8'
+
+head -c 1048576 /dev/urandom >noise
+"$program" exec noise >out 2>err
+status=$?
+expect 'noise' 7 'image: BadMagic'
+
+head -c 1048577 /dev/zero >noise
+"$program" exec noise >out 2>err
+status=$?
+expect 'an image over the limit' 4 'read fault: image too long'
 
 [ "$failures" -eq 0 ]
