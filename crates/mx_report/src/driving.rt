@@ -35,19 +35,21 @@ fn push_byte(console: &mut Vec<u8>, byte: Option<u8>) -> Result<(), AllocError>
     }
 }
 
-// Appends the line of a cycle, where it is one of those asked for.
-fn push_line_if(
+// Appends the line of a cycle, where it is one of those asked for. The machine is as the cycle left it; its latches are asked
+// for only then, since they cost as much as the cycle.
+fn push_line_if<M: Machine>(
     alloc: Global,
     text: &mut Vec<u8>,
     asked: bool,
     cycle: u32,
     cycled: &Cycled,
-    latches: &Latches,
+    machine: &M,
 ) -> Result<(), AllocError>
-    ensures { OnOk result (text.new.items ≡ text.old.items ++ cond asked (trace_line cycle cycled.now latches.now) []) }
+    ensures { OnOk result ((p : Program) (h : List Bool) → M.stands machine.now p h
+        → text.new.items ≡ text.old.items ++ cond asked (trace_line cycle cycled.now (state_after p h).shown) []) }
 {
     if asked {
-        push_trace_line(alloc, text, cycle, cycled, latches)
+        push_trace_line(alloc, text, cycle, cycled, &machine.latches())
     } else {
         Ok(())
     }
@@ -74,14 +76,7 @@ fn run_cycle<M: Machine>(
 {
     let cycled = machine.cycle(requests.wants(cycle));
     push_byte(console, cycled.byte)?;
-    push_line_if(
-        alloc,
-        text,
-        cycle < trace,
-        cycle,
-        &cycled,
-        &machine.latches(),
-    )?;
+    push_line_if(alloc, text, cycle < trace, cycle, &cycled, machine)?;
     Ok(cycled.halted)
 }
 

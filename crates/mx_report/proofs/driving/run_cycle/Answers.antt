@@ -40,9 +40,8 @@ returns-clause-trace g c = λ p s going before.
     let old : List ℕ = c.args.text.now.items in
     let answered : c.cycle-cycled.result ≡ cycled_at p reqs i = c.cycle-cycled.ensures.answer p (bits reqs i) s ∙ ap (answer_after p (bits reqs i)) c.wants.ensures in
     let later = subst (λ (r : Bool). g.M.Machine.stands c.cycle-cycled.new.self p (bits reqs i ++ r ∷ [])) c.wants.ensures (c.cycle-cycled.ensures.next p (bits reqs i) s) in
-    let shown : c.latches.result ≡ (state_at p reqs (suc i)).shown = c.latches.ensures p (bits reqs (suc i)) later in
-    c.in_ok-push_line_if.ensures
-    ∙ ap (λ (r : Cycled). old ++ cond (nat_lt i t) (trace_line i r c.latches.result) []) answered
-    ∙ ap (λ (l : Latches). old ++ cond (nat_lt i t) (trace_line i (cycled_at p reqs i) l) []) shown
+    let shown : Latches = (state_at p reqs (suc i)).shown in
+    c.in_ok-push_line_if.ensures p (bits reqs (suc i)) later
+    ∙ ap (λ (r : Cycled). old ++ cond (nat_lt i t) (trace_line i r shown) []) answered
     ∙ ap (λ l. l ++ cond (nat_lt i t) (trace_line i (cycled_at p reqs i) (state_at p reqs (suc i)).shown) []) before
     ∙ sym (next_trace p reqs t i going)
