@@ -26,14 +26,16 @@ use Rattle.mx_validate.proofs.Listed.{once_below}
 use Rattle.mx_squash.specs.declared.Copied.{Copied}
 use Rattle.mx_squash.specs.Copies.{Site, site_of, is_target, is_branch_end, reaches, no_copies, copied, count}
 use Rattle.mx_layout.specs.declared.Layout.{Layout}
-use Rattle.mx_layout.specs.Layout.{link_of, plan_size, blocks_in}
+use Rattle.mx_layout.specs.Layout.{link_of, plan_size}
+use Rattle.mx_layout.specs.Layout.{end_of as end_at}
 use Rattle.mx_layout.specs.Overlong.{branch_target}
+use Rattle.mx_layout.proofs.Links.{site_blocks, first_link, site_found, link_within}
 use Rattle.mx_link.specs.declared.code.Slots.{Slots}
 use Rattle.mx_link.specs.declared.code.Slots.TheVariants.{FromTarget, Kept}
 use Rattle.mx_link.specs.Origins.{goal_of, own, over, copied_to}
 use Rattle.mx_link.specs.Words.{linked_statement, inst_at}
 use Rattle.mx_link.specs.Parts.{filling_of, sites_of, link_in, IsLaidOut, HasWords}
-use Rattle.mx_link.proofs.Places.{at_place, site_below, link_below, block_at, is_block, leads_to, Found, found}
+use Rattle.mx_link.proofs.Places.{at_place, site_below, sites_below}
 use Rattle.mx_link.proofs.Bodies.{is_last_of, last_stands, copy_goes_on}
 use Rattle.mx_link.proofs.Fits.{inst_fits}
 use Rattle.mx_link.proofs.Slots.{copied_op, copied_none, count_cases, count_small, copyable_small}
@@ -106,12 +108,15 @@ goal_small source block is b = by_last (slice_get source.statements (block.first
         subst (λ (x : End). goal_of x ≤ length source.statements) (same_Some (end_of t) block.end (sym (ap (option_map end_of) e) ∙ b.end))
         (by_statement t (fits_at source is (block.first + size block - 1) t e))
 
+block_of : (source : SourceValue) (l : Layout) (k : ℕ) (s : Site) → IsLaidOut source l → slice_get (sites_of l) k ≡ Some s → IsBlockOf source s.block
+block_of source l k s h e = at_place (λ (x : Site). IsBlockOf source x.block) (sites_of l) k s (site_blocks Valid source h.place (sites_of l) h.layout) e
+
 -- links of a layout are at most 65535
 pub link_short : (source : SourceValue) (l : Layout) → IsLaidOut source l → (i : ℕ) → link_in l i ≤ 65535
 link_short source l h i = ⊎_elim
     (λ within.
     let same = h.links i (omega arith) in
-    let below = link_below h.place.code (sites_of l) i in
+    let below = (link_within h.place.code (sites_of l) i).1 in
     let short = h.short in
     let room = h.room in
     omega arith)
@@ -124,7 +129,7 @@ goes_plain source l k s c is h e none copies = record {
   short = link_short source l h;
   call = λ target f. (let low = link_short source l h target in omega arith);
   branch = λ target f.
-      let small = goal_small source s.block is (is_block source 0 (length source.statements) (blocks_in (sites_of l)) h.layout.blocks k s.block (block_at (sites_of l) k s e)) in
+      let small = goal_small source s.block is (block_of source l k s h e) in
       let same : goal_of s.block.end ≡ target = ap goal_of f in
       let link : link_in l target + c.count ≡ link_of h.place.code (sites_of l) target = (let at = h.links target (omega arith) in omega arith) in
       ap (reaches (s.start + s.plan.place)) link
@@ -133,19 +138,29 @@ goes_plain source l k s c is h e none copies = record {
 }
 
 -- the goal of a site's copies
-record IsGoal (source : SourceValue) (l : Layout) (s g : Site) : Type 0 where
-  at : Found (is_target s.block.end) (sites_of l) g
+record IsGoal (source : SourceValue) (l : Layout) (h : IsLaidOut source l) (s g : Site) : Type 0 where
+  is : is_target s.block.end g.block ≡ true
+  link : link_of h.place.code (sites_of l) g.block.first ≡ g.start
   block : IsBlockOf source g.block
   valid : Valid g.block g.plan
   below : g.start + plan_size g.plan ≤ 65535
 
-goal_is : (source : SourceValue) (l : Layout) (s g : Site) → IsLaidOut source l → site_of (is_target s.block.end) (sites_of l) ≡ Some g → IsGoal source l s g
+goal_is : (source : SourceValue) (l : Layout) (s g : Site) (h : IsLaidOut source l) → site_of (is_target s.block.end) (sites_of l) ≡ Some g → IsGoal source l h s g
 goal_is source l s g h e =
-    let at = found (is_target s.block.end) (sites_of l) g e in record {
-      at = at;
-      block = is_block source 0 (length source.statements) (blocks_in (sites_of l)) h.layout.blocks at.at g.block (block_at (sites_of l) at.at g at.is);
-      valid = at_place (λ (x : Site). Valid x.block x.plan) (sites_of l) at.at g h.layout.plans at.is;
-      below = let low = site_below h.place.code (sites_of l) h.layout.stand at.at g at.is in let short = h.short in let room = h.room in omega arith;
+    let test = is_target s.block.end in
+    let all = sites_of l in
+    let at = h.place.code in
+    let link = site_found (λ (x : Site). link_of at all x.block.first ≡ x.start) test all g (first_link Valid source h.place all h.layout) e in
+    let block = site_found (λ (x : Site). IsBlockOf source x.block) test all g (site_blocks Valid source h.place all h.layout) e in
+    let valid = site_found (λ (x : Site). Valid x.block x.plan) test all g h.layout.plans e in
+    let low = site_found (λ (x : Site). x.start + plan_size x.plan ≤ end_at at all) test all g (sites_below at all h.layout.stand) e in
+    let short = h.short in
+    let room = h.room in record {
+      is = link.1;
+      link = link.0;
+      block = block.0;
+      valid = valid.0;
+      below = let own = low.0 in omega arith;
     }
 
 -- a block goes to the first statement of its goal
@@ -160,16 +175,16 @@ goal_first (Calls target) b h = equal b.first target h
     equal m n e = grind (arith, nat_tests)
 goal_first _ b h = absurd (false≢true h)
 
-copied_goes_on : (source : SourceValue) (l : Layout) (s g : Site) → IsGoal source l s g → (p k : ℕ) (t : Statement) → copied_to (copied s (Some g)) s.plan.place p ≡ Op k → slice_get source.statements (goal_of s.block.end + k) ≡ Some t → is_last (inst_of t) ≡ false
-copied_goes_on source l s g goal p k t e f =
+copied_goes_on : (source : SourceValue) (l : Layout) (h : IsLaidOut source l) (s g : Site) → IsGoal source l h s g → (p k : ℕ) (t : Statement) → copied_to (copied s (Some g)) s.plan.place p ≡ Op k → slice_get source.statements (goal_of s.block.end + k) ≡ Some t → is_last (inst_of t) ≡ false
+copied_goes_on source l h s g goal p k t e f =
     let op = copied_op s g s.plan.place p k e in
-    let first = goal_first s.block.end g.block goal.at.passes in
+    let first = goal_first s.block.end g.block goal.is in
     copy_goes_on source g.block g.plan goal.block goal.valid op.0 k t op.1 (ap (λ n. slice_get source.statements (n + k)) first ∙ f)
 
 -- the words of the target are copied
-goes_copied : (source : SourceValue) (l : Layout) (k : ℕ) (s g : Site) → IsSource source → IsLaidOut source l → slice_get (sites_of l) k ≡ Some s → IsGoal source l s g → Goes source (link_in l) s (copied s (Some g))
+goes_copied : (source : SourceValue) (l : Layout) (k : ℕ) (s g : Site) → IsSource source → (h : IsLaidOut source l) → slice_get (sites_of l) k ≡ Some s → IsGoal source l h s g → Goes source (link_in l) s (copied s (Some g))
 goes_copied source l k s g is h e goal = ⊎_elim
-    (λ none. goes_plain source l k s (copied s (Some g)) is h e none (copied_goes_on source l s g goal))
+    (λ none. goes_plain source l k s (copied s (Some g)) is h e none (copied_goes_on source l h s g goal))
     (λ moves. record {
       short = link_short source l h;
       call = λ target f.
@@ -181,20 +196,19 @@ goes_copied source l k s g is h e goal = ⊎_elim
           omega arith;
       branch = λ target f.
           ap (λ n. reaches (s.start + s.plan.place) (n + count s g)) (links_there target (ap goal_of f)) ∙ moves.near (ap is_branch_end f);
-      copies = copied_goes_on source l s g goal;
+      copies = copied_goes_on source l h s g goal;
     })
     (count_cases s g)
   where
     small : goal_of s.block.end ≤ length source.statements
-    small = goal_small source s.block is (is_block source 0 (length source.statements) (blocks_in (sites_of l)) h.layout.blocks k s.block (block_at (sites_of l) k s e))
+    small = goal_small source s.block is (block_of source l k s h e)
 
     links_there : (target : ℕ) → goal_of s.block.end ≡ target → link_in l target ≡ g.start
     links_there target f =
-        let lead = leads_to source 0 (length source.statements) h.place.code (sites_of l) h.layout.blocks h.layout.stand goal.at.at g goal.at.is in
-        let first = goal_first s.block.end g.block goal.at.passes in
+        let first = goal_first s.block.end g.block goal.is in
         let low = small in
         let same : target ≡ g.block.first = sym (first ∙ f) in
-        h.links target (omega arith) ∙ ap (link_of h.place.code (sites_of l)) same ∙ lead.link
+        h.links target (omega arith) ∙ ap (link_of h.place.code (sites_of l)) same ∙ goal.link
 
 none_goes_on : (source : SourceValue) (s : Site) (p k : ℕ) (t : Statement) → copied_to no_copies s.plan.place p ≡ Op k → slice_get source.statements (goal_of s.block.end + k) ≡ Some t → is_last (inst_of t) ≡ false
 none_goes_on source s p k t e f = absurd (copied_none s.plan.place p k e)
@@ -217,7 +231,7 @@ pub record IsLinkable (links : List ℕ) (statements : List Statement) (s : Site
 
 linkable_site : (source : SourceValue) (l : Layout) (slots : Slots) (k : ℕ) (s : Site) → IsSource source → IsLaidOut source l → slice_get (sites_of l) k ≡ Some s → IsLinkable l.links.items source.statements s (filling_of slots (sites_of l) s)
 linkable_site source l slots k s is h e =
-    let block = is_block source 0 (length source.statements) (blocks_in (sites_of l)) h.layout.blocks k s.block (block_at (sites_of l) k s e) in
+    let block = block_of source l k s h e in
     let few = is.few_statements in record {
       short = λ i d low. subst (λ n. n ≤ 65535) (get_or_same l.links.items i 0 d low) (link_short source l h i);
       within = let low = site_below h.place.code (sites_of l) h.layout.stand k s e in let short = h.short in let room = h.room in omega arith;

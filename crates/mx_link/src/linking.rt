@@ -69,10 +69,7 @@ fn link_with<P: Proposer>(
     ensures refused { IfErr result (IsRefusal P.proposes source.now place) }
 {
     let layout = lay_out(alloc, source, place, proposer)?;
-    match linked(alloc, source, layout, slots) {
-        Ok(linked) => Ok(linked),
-        Err(_) => Err(LinkError::Memory),
-    }
+    Ok(linked(alloc, source, layout, slots)?)
 }
 
 /// The linked program of a source that is laid out.

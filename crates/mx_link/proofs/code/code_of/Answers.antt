@@ -8,7 +8,9 @@ use Rattle.mx_squash.proofs.Targets.{site, sites_get}
 use Rattle.mx_link.specs.Origins.{origins_at}
 use Rattle.mx_link.specs.Words.{code_of}
 use Rattle.mx_link.specs.Parts.{filling_of, sites_of, link_in, site_words}
-use Rattle.mx_link.proofs.Places.{blocks_of_sites, few_blocks, length-sites}
+use Rattle.mx_layout.proofs.Sited.{blocks_in-sites}
+use Rattle.mx_layout.proofs.Sizes.{blocks_few}
+use Rattle.mx_link.proofs.Places.{length-sites}
 use Rattle.mx_link.proofs.Pushes.{flat_pushed, flat_end, all_words}
 use Rattle.mx_link.proofs.Linkable.{linkable}
 use Rattle.mx_link.proofs.code.code_of.Goals as goal
@@ -17,15 +19,15 @@ pub copied_at-copied-requires-clause-blocks : goal.copied_at-copied-requires-cla
 copied_at-copied-requires-clause-blocks c =
     let l = c.args.layout.now in record {
       source = c.args.source.now;
-      all = subst (λ (bs : List Block). AreBlocks c.args.source.now bs) (blocks_of_sites l.blocks.items l.plans.items l.starts.items c.requires.plans c.requires.starts) c.requires.layout.blocks;
+      all = subst (λ (bs : List Block). AreBlocks c.args.source.now bs) (blocks_in-sites l.blocks.items l.plans.items l.starts.items c.requires.plans c.requires.starts) c.requires.layout.blocks;
     }
 
 pub copied_at-copied-requires-clause-few : goal.copied_at-copied-requires-clause-few
 copied_at-copied-requires-clause-few c =
     let l = c.args.layout.now in
     let source = c.args.source.now in
-    let blocks = subst (λ (bs : List Block). AreBlocks source bs) (blocks_of_sites l.blocks.items l.plans.items l.starts.items c.requires.plans c.requires.starts) c.requires.layout.blocks in
-    let few = few_blocks source 0 (length source.statements) l.blocks.items blocks in
+    let blocks = subst (λ (bs : List Block). AreBlocks source bs) (blocks_in-sites l.blocks.items l.plans.items l.starts.items c.requires.plans c.requires.starts) c.requires.layout.blocks in
+    let few = blocks_few source 0 (length source.statements) l.blocks.items blocks in
     let statements = c.statements-statements.ensures.source.few_statements in
     omega arith
 

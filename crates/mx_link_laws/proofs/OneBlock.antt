@@ -1,0 +1,667 @@
+-- One block: from its first word on, the linked code does what its statements mean.
+use Rattle.std.proofs.Common.{◌≡◌, ℕ, ℤ, pos, zero, suc, ◌+◌, ◌*◌, ◌-◌, ◌%◌, ◌^◌, ◌<◌, ◌≤◌, Bool, true, false, cond, not, ◌&&◌, List, [], ◌∷◌, ◌++◌, ◌⊎◌, length, length-append, Option, Some, None, refl, sym, ap, ◌∙◌, subst, arith, ⊎_elim, inl, inr}
+use Rattle.std.specs.Prelude.{slice_get}
+use Rattle.std.specs.Int.{w32, cast_unsigned}
+use Rattle.std.proofs.lemmas.Bool.{cond-true, cond-false, cases_Bool, or_parts}
+use Rattle.std.proofs.lemmas.Bool.Decides.{nat_tests}
+use Rattle.std.proofs.lemmas.List.{append-nil, length-map}
+use Rattle.mx_isa.specs.declared.inst.Cond.{Cond}
+use Rattle.mx_isa.specs.declared.inst.Inst.{Inst}
+use Rattle.mx_isa.specs.declared.inst.Inst.TheVariants.{Load, Store, Jspci}
+use Rattle.mx_isa.specs.declared.inst.Inst.TheVariants.{Branch as BranchInst, Halt as HaltInst}
+use Rattle.mx_isa.specs.Words.{Words, reg, write}
+use Rattle.mx_isa.specs.Arithmetic.{condition_holds}
+use Rattle.mx_isa.specs.Effect.{Core, Decision, decides, offset_by}
+use Rattle.mx_isa.specs.Views.{Access, access, is_load, is_halt, is_transfer, dest, reads}
+use Rattle.mx_code.specs.Delay.{Code, idle, queued, next_of}
+use Rattle.mx_code.specs.Clean.{is_lawful, Watched, watch, loads_to}
+use Rattle.mx_depend.specs.Graphs.{inst_at}
+use Rattle.mx_source.specs.declared.statement.Statement.{Statement}
+use Rattle.mx_source.specs.declared.statement.Statement.TheVariants.{Branch, Call, CallReg, JumpReg, Halt}
+use Rattle.mx_source.specs.declared.statement.Value.{Value}
+use Rattle.mx_source.specs.declared.statement.Value.TheVariants.{Int, Code as CodeValue}
+use Rattle.mx_source.specs.Values.{value_in, is_code, word_in}
+use Rattle.mx_source.specs.Meaning.{Program, Going, Halted, State, Step, Run, any_code, stuck, goes as meant_to, jumps as meant_by, execute, run_step, run_for, is_stuck}
+use Rattle.mx_blocks.specs.declared.block.Block.{Block}
+use Rattle.mx_blocks.specs.declared.block.Plan.{Plan}
+use Rattle.mx_blocks.specs.declared.block.Item.{Item}
+use Rattle.mx_blocks.specs.declared.block.Item.TheVariants.{Op, Nop}
+use Rattle.mx_blocks.specs.Items.{ops}
+use Rattle.mx_validate.specs.Padded.{insts_of, items_of, falls, body_count}
+use Rattle.mx_validate.proofs.Listed.{ops_append}
+use Rattle.mx_order.specs.Running.{Ran, run_one, run_source}
+use Rattle.mx_order.specs.Laws.{IsLaidOut}
+use Rattle.mx_order.specs.Parts.{AreBelow, Parts}
+use Rattle.mx_order.proofs.Reorder.{once_length}
+use Rattle.mx_order.proofs.Words.{item_inst, words, run_along}
+use Rattle.mx_link_laws.proofs.Going.{Did, IsPlain, ArePlain, idle_plain, Stands, stands_left, did_same, did, did_all, did_anywhere, queue, starts, for, for_same, for_add, plain_word, goes, Keeps, keeps_self, keeps_then}
+use Rattle.mx_link_laws.proofs.Ends.{append_did, past_transfer, slots_taken, slots_cancelled, one_taken, at_g, in_g, halts, Same3, undo, keeps_idle, keeps_head}
+use Rattle.mx_link_laws.proofs.Matching.{linked, linked_write, linked_value, word_seen, word_value, core_of}
+use Rattle.mx_link_laws.proofs.Saying.{said, step_is, not_stuck_before, run_same, run_add, run_one_more, AreBody, all_plain, ran_at, BodyRun, body_run}
+use Rattle.mx_link_laws.proofs.Planned.{ran_of, all_ran, all_loaded, body, bodies, pre, last, bodies_length, pre_length, plain_words, plain_body, plain_pre, size_ends, body_falls, falls_run, words_are, ends_run, decides_there, apart_all, apart_pre, end_loaded}
+
+false_true : false ≡ true → ⊥
+false_true e = grind arith
+
+left_below : (n : ℕ) (f g : Item) → AreBelow n (f ∷ g ∷ []) → AreBelow n (f ∷ [])
+left_below n (Op k) g h = (h.0, tt)
+left_below n Nop g h = tt
+
+right_below : (n : ℕ) (f g : Item) → AreBelow n (f ∷ g ∷ []) → AreBelow n (g ∷ [])
+right_below n (Op k) g h = h.1
+right_below n Nop g h = h
+
+plain_item : (insts : List Inst) (n : ℕ) (x : Item) → AreBelow n (x ∷ []) → ((k : ℕ) → k < n → IsPlain (inst_at insts k)) → IsPlain (item_inst insts x)
+plain_item insts n Nop b h = idle_plain
+plain_item insts n (Op k) b h = h k b.0
+
+ops_length : (xs : List Item) → length (ops xs) ≤ length xs
+ops_length [] = omega arith
+ops_length (Op k ∷ xs) = let h = ops_length xs in omega arith
+ops_length (Nop ∷ xs) = let h = ops_length xs in omega arith
+
+next_none : (n : ℕ) → n + 1 < 2 ^ 31 → next_of None n ≡ n + 1
+next_none n h = omega arith
+
+some_none : (a : Access) → Some a ≡ None → ⊥
+some_none a e = cc
+
+no_access_moves : (i : Inst) → is_transfer i ≡ true → access i ≡ None
+no_access_moves (Load base d offset) h = absurd (false_true h)
+no_access_moves (Store base v offset) h = absurd (false_true h)
+no_access_moves _ h = refl
+
+abbrev pub nowhere : Decision
+nowhere = record { target = None; cancels = false }
+
+abbrev pub onward : Bool → Decision
+onward sq = record { target = None; cancels = sq }
+
+abbrev pub away : ℕ → Decision
+away z = record { target = Some z; cancels = false }
+
+module _ (link : ℕ → ℕ) (p : Program) (small : (i : ℕ) → link i + 8 < 2 ^ 31) (low : (i : ℕ) → p.place.code ≤ link i) (code : Code) (inside : ℕ → Bool) (leader : ℕ → Bool) (place_of : ℕ → ℕ) where
+  pub short : (i : ℕ) → link i < 2 ^ 32
+  short i = let s = small i in omega arith
+
+  -- a leader, or the end of the source
+  abbrev pub Leads : ℕ → Type 0
+  Leads j = (leader j ≡ true) ⊎ (j ≡ length p.statements)
+
+  -- and so many words stand before the terminator's place
+  abbrev pub LeadsAt : ℕ → ℕ → Type 0
+  LeadsAt c j = ((leader j ≡ true) × (c ≤ place_of j)) ⊎ (j ≡ length p.statements)
+
+  -- word k of the block that begins at a statement, before its terminator's place
+  pub record Head (t k : ℕ) (x : Inst) : Type 0 where
+    pub at : code (link t + k) ≡ x
+    pub within : inside (link t + k) ≡ true
+    pub plain : IsPlain x
+    pub before : k < place_of t
+
+  -- What stands in the slots of a transfer to statement t: its own items, or the first words of the target.
+  pub data Filled (t count : ℕ) (sq sure : Bool) (insts : List Inst) (f g : Item) (x y : Inst) : Type 0 where
+    Own : (none : count ≡ 0) → (clear : sq ≡ false) → (first : x ≡ item_inst insts f) → (second : y ≡ item_inst insts g) → Filled t count sq sure insts f g x y
+    InSecond : (one : count ≡ 1) → (surely : sure ≡ true) → (no_second : g ≡ Nop) → (first : x ≡ item_inst insts f) → (head : Head t 0 y) → (free : reads y (loads_to x) ≡ false) → (leads : leader t ≡ true) → Filled t count sq sure insts f g x y
+    InFirst : (one : count ≡ 1) → (set : sure ≡ false → sq ≡ true) → (no_first : f ≡ Nop) → (no_second : g ≡ Nop) → (head : Head t 0 x) → (second : y ≡ idle) → (leads : leader t ≡ true) → Filled t count sq sure insts f g x y
+    InBoth : (two : count ≡ 2) → (set : sure ≡ false → sq ≡ true) → (no_first : f ≡ Nop) → (no_second : g ≡ Nop) → (head : Head t 0 x) → (other : Head t 1 y) → (leads : leader t ≡ true) → Filled t count sq sure insts f g x y
+
+  abbrev pub did_of : Run → Did
+  did_of r = record { core = core_of link short r.state; console = r.console; clean = true; loaded = 0 }
+
+  abbrev pub begins : ℕ → Did → Watched
+  begins = starts code inside p.place p.input
+
+  abbrev pub steps : ℕ → Watched → Watched
+  steps = for code inside p.place p.input
+
+  abbrev pub doing : ℕ → Inst → Did → Did
+  doing = did code inside p.place p.input
+
+  abbrev pub doing_all : ℕ → List Inst → Did → Did
+  doing_all = did_all code inside p.place p.input
+
+  abbrev pub StandsAt : ℕ → List Inst → Type 0
+  StandsAt = Stands code inside
+
+  abbrev pub Keeping : Watched → Watched → Type 0
+  Keeping = Keeps code inside p.place p.input
+
+  -- the state shows what the meaning says
+  pub record IsAt (x : Watched) (r : Run) : Type 0 where
+    pub core : x.at.core ≡ core_of link short r.state
+    pub console : x.at.console ≡ r.console
+    pub clean : x.clean ≡ true
+
+  is_at_did : (d : Did) (r : Run) (z : ℕ) → d ≡ did_of r → IsAt (begins z d) r
+  is_at_did d r z e = record { core = ap (λ (x : Did). x.core) e; console = ap (λ (x : Did). x.console) e; clean = ap (λ (x : Did). x.clean) e }
+
+  -- from the first word of a block of n statements, len words and this place to where the next one goes on
+  pub record GoesOn (i n len place : ℕ) (r : Run) : Type 0 where
+    pub own : ℕ
+    pub w : ℕ
+    pub c : ℕ
+    pub is_own : own + w ≡ len
+    pub many : n ≤ own
+    pub behind : place ≤ own
+    pub short_len : len ≤ 3 * n
+    pub count : c ≤ w
+    pub mark : (run_for p n r).state.mark ≡ Going
+    pub lead : LeadsAt c (run_for p n r).state.index
+    pub reaches : Keeping (steps len (begins (link i) (did_of r))) (steps c (begins (link (run_for p n r).state.index) (did_of (run_for p n r))))
+    pub shown : IsAt (steps own (begins (link i) (did_of r))) (run_for p n r)
+    pub runs_on : (steps own (begins (link i) (did_of r))).at.halted ≡ false
+
+  pub record StopsAt (i n place : ℕ) (r : Run) : Type 0 where
+    pub before_n : ℕ
+    pub is_n : n ≡ suc before_n
+    pub many : n ≤ suc place
+    pub short_len : suc place ≤ 3 * n
+    pub before : (run_for p before_n r).state.mark ≡ Going
+    pub mark : (run_for p n r).state.mark ≡ Halted
+    pub runs_on : (steps place (begins (link i) (did_of r))).at.halted ≡ false
+    pub halted : (steps (place + 1) (begins (link i) (did_of r))).at.halted ≡ true
+    pub shown : IsAt (steps (place + 1) (begins (link i) (did_of r))) (run_for p n r)
+
+  -- a block with a plan, and where it stands
+  pub record Laid (i : ℕ) : Type 0 where
+    pub block : Block
+    pub plan : Plan
+    pub insts : List Inst
+    pub laid : IsLaidOut block plan insts p.input
+    pub parts : Parts block plan
+    pub some : 1 ≤ length (insts_of block)
+    pub few : length (insts_of block) ≤ 64
+    pub body : AreBody link short p.statements i (bodies block plan insts p.input laid parts some)
+    pub next : link (i + length (insts_of block)) ≡ link i + length (items_of plan)
+    pub lead : Leads (i + length (insts_of block))
+
+  module _ (i : ℕ) (w : Laid i) (r : Run) (going : r.state.mark ≡ Going) (here : r.state.index ≡ i) (safe : is_stuck (run_for p (length (insts_of w.block)) r).state.mark ≡ false) where
+    abbrev n : ℕ
+    n = length (insts_of w.block)
+
+    abbrev len : ℕ
+    len = length (items_of w.plan)
+
+    abbrev base : ℕ
+    base = link i
+
+    abbrev inner : List Inst
+    inner = bodies w.block w.plan w.insts p.input w.laid w.parts w.some
+
+    abbrev front : List Inst
+    front = pre w.block w.plan w.insts p.input w.laid w.parts w.some
+
+    abbrev ender : Inst
+    ender = last w.block w.plan w.insts p.input w.laid w.parts w.some
+
+    abbrev all : List Inst
+    all = words w.insts (items_of w.plan)
+
+    abbrev place : ℕ
+    place = length w.parts.front
+
+    abbrev at : ℕ
+    at = base + length front
+
+    abbrev d0 : Did
+    d0 = did_of r
+
+    abbrev R0 : Ran
+    R0 = ran_at link short p r true nowhere
+
+    -- behind the body
+    abbrev r1 : Run
+    r1 = run_for p (length inner) r
+
+    abbrev r2 : Run
+    r2 = run_for p n r
+
+    front_is : length front ≡ place
+    front_is = pre_length w.block w.plan w.insts p.input w.laid w.parts w.some
+
+    inner_is : length inner ≡ body_count w.block
+    inner_is = bodies_length w.block w.plan w.insts p.input w.laid w.parts w.some
+
+    len_parts : len ≡ place + length w.parts.back
+    len_parts = ap length w.parts.whole ∙ length-append w.parts.front w.parts.back
+
+    size_ops : n ≤ length (ops (items_of w.plan))
+    size_ops = once_length n 0 (ops (items_of w.plan)) (λ k. w.laid.valid.once k ∙ grind (arith, nat_tests))
+
+    len_all : length all ≡ len
+    len_all = length-map (items_of w.plan) (item_inst w.insts)
+
+    body_done : (k : ℕ) → n ≡ length inner + k → BodyRun link short p i at inner r true nowhere
+    body_done k e = body_run link short p i at inner r true nowhere going here w.body
+        (not_stuck_before p k r1 (ap (λ (u : Run). is_stuck u.state.mark) (sym (run_add p (length inner) k r) ∙ run_same p (length inner + k) n r (sym e)) ∙ safe))
+
+    inner_plain : ArePlain inner
+    inner_plain = all_plain link short p.statements i inner w.body
+
+    front_plain : ArePlain front
+    front_plain = plain_pre w.block w.plan w.insts p.input w.laid w.parts w.some inner_plain
+
+    did_is : (d : Did) (u : Run) (x : Ran) (l : Decision) → ran_of code inside p.place p.input d l ≡ x → x.core ≡ core_of link short u.state → x.bytes ≡ u.console → x.clean ≡ true → d.loaded ≡ 0 → d ≡ did_of u
+    did_is d u x l e c b k m = did_same d (did_of u) (ap (λ (y : Ran). y.core) e ∙ c) (ap (λ (y : Ran). y.bytes) e ∙ b) (ap (λ (y : Ran). y.clean) e ∙ k) m
+
+    all_made : ran_of code inside p.place p.input (doing_all base all d0) (run_along p.place p.input base all R0).leads ≡ run_along p.place p.input base all R0
+    all_made = all_ran code inside p.place p.input base all d0 nowhere (apart_all w.block w.plan w.insts p.input w.laid w.parts w.some)
+
+    all_free : (doing_all base all d0).loaded ≡ 0
+    all_free = all_loaded code inside p.place p.input base all d0 ∙ end_loaded w.block w.plan w.insts p.input w.laid w.parts w.some
+
+    -- a block that falls through
+    pub falls_on : falls w.block.end ≡ true → w.parts.back ≡ [] → StandsAt base all → GoesOn i n len place r
+    falls_on f none st =
+        let size_is : n ≡ length inner = (let a = inner_is in let b = cond-true (falls w.block.end) (length (insts_of w.block)) (length (insts_of w.block) - 1) f in omega arith) in
+        let run = body_done 0 (omega arith) in
+        let to_size : r2 ≡ r1 = run_same p n (length inner) r size_is in
+        let whole = all_made ∙ falls_run w.block w.plan w.insts p.input w.laid w.parts w.some p.place base at R0 f none ∙ run.ran in
+        let d_is : doing_all base all d0 ≡ did_of r2 = did_is (doing_all base all d0) r1 (ran_at link short p r1 true nowhere) (run_along p.place p.input base all R0).leads whole refl refl refl all_free ∙ ap did_of (sym to_size) in
+        let no_items : length w.parts.back ≡ 0 = ap length none in
+        let lp = len_parts in
+        let la = len_all in
+        let wp : ArePlain all = subst ArePlain (sym (ap (words w.insts) (w.parts.whole ∙ ap (λ l. w.parts.front ++ l) none ∙ append-nil w.parts.front))) front_plain in
+        let sm = small (i + n) in
+        let nx = w.next in
+        let go : steps len (begins base d0) ≡ begins (link (i + n)) (did_of r2) =
+        for_same code inside p.place p.input len (length all) (begins base d0) (sym la)
+        ∙ goes code inside p.place p.input all base d0 st wp (low i) (omega arith)
+        ∙ (λ k. begins ((ap (λ m. base + m) la ∙ sym nx) k) (d_is k)) in
+        let ix : r2.state.index ≡ i + n = ap (λ (u : Run). u.state.index) to_size ∙ run.index ∙ ap (λ m. i + m) (sym size_is) in
+        let go2 : steps len (begins base d0) ≡ begins (link r2.state.index) (did_of r2) = go ∙ ap (λ m. begins (link m) (did_of r2)) (sym ix) in
+        let room = w.parts.room in
+        let in_is = inner_is in
+        let sized = size_ops in
+        let ol = ops_length (items_of w.plan) in
+        record {
+          own = len;
+          w = 0;
+          c = 0;
+          is_own = omega arith;
+          many = omega arith;
+          behind = omega arith;
+          short_len = omega arith;
+          count = omega arith;
+          mark = ap (λ (u : Run). u.state.mark) to_size ∙ run.mark;
+          lead = ⊎_elim (λ l. inl (ap leader ix ∙ l, (let q : 0 ≤ place_of r2.state.index = omega arith in q))) (λ l. inr (ix ∙ l)) w.lead;
+          reaches = keeps_self code inside p.place p.input (steps len (begins base d0)) (begins (link r2.state.index) (did_of r2)) go2;
+          shown = subst (λ (x : Watched). IsAt x r2) (sym go) (is_at_did (did_of r2) r2 (link (i + n)) refl);
+          runs_on = ap (λ (x : Watched). x.at.halted) go;
+        }
+
+    -- a block that halts
+    pub stops : falls w.block.end ≡ false → w.parts.back ≡ Op (body_count w.block) ∷ [] → slice_get p.statements (i + length inner) ≡ Some Halt → ender ≡ HaltInst → StandsAt base all → StopsAt i n place r
+    stops f one stop is_halt_there st =
+        let in_is = inner_is in
+        let size_is : n ≡ suc (length inner) = size_ends w.block w.plan w.insts p.input w.laid w.parts w.some f ∙ ap (λ m. suc m) (sym in_is) in
+        let run = body_done 1 (omega arith) in
+        let end_is : r2 ≡ said p (Some Halt) r1 = run_same p n (suc (length inner)) r size_is ∙ run_one_more p (length inner) r ∙ step_is p r1 (Some Halt) run.mark (ap (slice_get p.statements) run.index ∙ stop) in
+        let words_is : all ≡ front ++ HaltInst ∷ [] = words_are w.block w.plan w.insts p.input w.laid w.parts w.some [] one ∙ ap (λ j. front ++ j ∷ []) is_halt_there in
+        let st2 : StandsAt base (front ++ HaltInst ∷ []) = subst (StandsAt base) words_is st in
+        let lp : len ≡ place + 1 = len_parts ∙ ap (λ l. place + length l) one in
+        let fl = front_is in
+        let sm = small (i + n) in
+        let nx = w.next in
+        let h = halts code inside p.place p.input front base d0 st2 front_plain (low i) (omega arith) in
+        let go = goes code inside p.place p.input front base d0 (stands_left code inside base front (HaltInst ∷ []) st2) front_plain (low i) (omega arith) in
+        let all_is : doing_all base all d0 ≡ doing at HaltInst (doing_all base front d0) = ap (λ l. doing_all base l d0) words_is ∙ append_did code inside p.place p.input base front (HaltInst ∷ []) d0 in
+        let whole : ran_of code inside p.place p.input (doing_all base all d0) (run_along p.place p.input base all R0).leads ≡ run_one p.place p.input at HaltInst (ran_at link short p r1 true nowhere) =
+        all_made
+        ∙ ends_run w.block w.plan w.insts p.input w.laid w.parts w.some p.place base R0 [] f one tt
+        ∙ ap (run_one p.place p.input at ender) run.ran
+        ∙ ap (λ j. run_one p.place p.input at j (ran_at link short p r1 true nowhere)) is_halt_there in
+        let to_place = for_same code inside p.place p.input (length front + 1) (place + 1) (begins base d0) (ap (λ m. m + 1) fl) in
+        let sized = size_ops in
+        let ol = ops_length (items_of w.plan) in
+        let room = w.parts.room in
+        record {
+          before_n = length inner;
+          is_n = size_is;
+          many = omega arith;
+          short_len = omega arith;
+          before = run.mark;
+          mark = ap (λ (u : Run). u.state.mark) end_is;
+          runs_on = ap (λ (x : Watched). x.at.halted) (for_same code inside p.place p.input place (length front) (begins base d0) (sym fl) ∙ go);
+          halted = ap (λ (x : Watched). x.at.halted) (sym to_place) ∙ h.halted;
+          shown = subst (λ (x : Watched). IsAt x r2) to_place (record {
+            core = h.core ∙ ap (λ (d : Did). d.core) (sym all_is) ∙ ap (λ (y : Ran). y.core) whole ∙ ap (λ (u : Run). core_of link short u.state) (sym end_is);
+            console = h.console ∙ ap (λ (d : Did). d.console) (sym all_is) ∙ ap (λ (y : Ran). y.bytes) whole ∙ ap (λ (u : Run). u.console) (sym end_is);
+            clean = h.clean ∙ ap (λ (d : Did). d.clean) (sym all_is) ∙ ap (λ (y : Ran). y.clean) whole;
+          });
+        }
+
+    -- a block that ends with a transfer
+    module _ (f_not : falls w.block.end ≡ false) (moves : is_transfer ender ≡ true) (on : is_halt ender ≡ false) (no_load : is_load ender ≡ false) (f g : Item) (three : w.parts.back ≡ Op (body_count w.block) ∷ f ∷ g ∷ []) (below : AreBelow (body_count w.block) (f ∷ g ∷ [])) where
+      abbrev fw : Inst
+      fw = item_inst w.insts f
+
+      abbrev gw : Inst
+      gw = item_inst w.insts g
+
+      abbrev D0 : Did
+      D0 = doing_all base front d0
+
+      abbrev D1 : Did
+      D1 = doing at ender D0
+
+      abbrev R1 : Ran
+      R1 = run_one p.place p.input at ender (ran_at link short p r1 true nowhere)
+
+      size_is : n ≡ suc (length inner)
+      size_is = size_ends w.block w.plan w.insts p.input w.laid w.parts w.some f_not ∙ ap (λ m. suc m) (sym inner_is)
+
+      pub run_b : BodyRun link short p i at inner r true nowhere
+      run_b = body_done 1 (let s = size_is in omega arith)
+
+      pub to_end : r2 ≡ run_step p r1
+      to_end = run_same p n (suc (length inner)) r size_is ∙ run_one_more p (length inner) r
+
+      pub behind_it : suc r1.state.index ≡ i + n
+      behind_it = let s = size_is in let e = run_b.index in omega arith
+
+      all_are : all ≡ front ++ ender ∷ fw ∷ gw ∷ []
+      all_are = words_are w.block w.plan w.insts p.input w.laid w.parts w.some (f ∷ g ∷ []) three
+
+      did_are : doing_all base all d0 ≡ doing (at + 2) gw (doing (at + 1) fw D1)
+      did_are =
+          ap (λ l. doing_all base l d0) all_are
+          ∙ append_did code inside p.place p.input base front (ender ∷ fw ∷ gw ∷ []) d0
+          ∙ ap (λ m. doing m gw (doing (at + 1) fw D1)) (let e : at + 1 + 1 ≡ at + 2 = omega arith in e)
+
+      ran_end : run_along p.place p.input base all R0 ≡ R1
+      ran_end = ends_run w.block w.plan w.insts p.input w.laid w.parts w.some p.place base R0 (f ∷ g ∷ []) f_not three below ∙ ap (run_one p.place p.input at ender) run_b.ran
+
+      -- the transfer decides in its place as at the end of the block
+      pub decision : decides ender at D0.core.regs ≡ decides ender at (core_of link short r1.state).regs
+      decision =
+          ap (λ (y : Ran). decides ender at y.core.regs) (all_ran code inside p.place p.input base front d0 nowhere (apart_pre w.block w.plan w.insts p.input w.laid w.parts w.some))
+          ∙ decides_there w.block w.plan w.insts p.input w.laid w.parts w.some p.place base R0
+          ∙ ap (λ (y : Ran). decides ender at y.core.regs) run_b.ran
+
+      -- where the meaning lands after the block
+      pub record Landed (j : ℕ) : Type 0 where
+        pub index : r2.state.index ≡ j
+        pub mark : r2.state.mark ≡ Going
+        pub core : R1.core ≡ core_of link short r2.state
+        pub bytes : R1.bytes ≡ r2.console
+
+      transfer_clean : R1.clean ≡ true
+      transfer_clean = lawful_none (access ender) (no_access_moves ender moves)
+        where
+          lawful_none : (o : Option Access) → o ≡ None → (true && is_lawful p.place p.input o (core_of link short r1.state).regs) ≡ true
+          lawful_none None e = refl
+          lawful_none (Some a) e = absurd (some_none a e)
+
+      -- all items done
+      ended : (j : ℕ) → Landed j → doing (at + 2) gw (doing (at + 1) fw D1) ≡ did_of r2
+      ended j m = sym did_are ∙ did_is (doing_all base all d0) r2 R1 (run_along p.place p.input base all R0).leads (all_made ∙ ran_end) m.core m.bytes transfer_clean all_free
+
+      len3 : len ≡ place + 3
+      len3 = len_parts ∙ ap (λ l. place + length l) three
+
+      many_by : (k : ℕ) → length (ops (f ∷ g ∷ [])) ≤ k → n ≤ place + 1 + k
+      many_by k h =
+          let e : length (ops (items_of w.plan)) ≡ length (ops w.parts.front) + suc (length (ops (f ∷ g ∷ []))) =
+          ap (λ l. length (ops l)) (w.parts.whole ∙ ap (λ l. w.parts.front ++ l) three)
+          ∙ ap length (ops_append w.parts.front (Op (body_count w.block) ∷ f ∷ g ∷ []))
+          ∙ length-append (ops w.parts.front) (body_count w.block ∷ ops (f ∷ g ∷ [])) in
+          let l = ops_length w.parts.front in
+          let a = size_ops in
+          omega arith
+
+      item_plain : (x : Item) → AreBelow (body_count w.block) (x ∷ []) → IsPlain (item_inst w.insts x)
+      item_plain x h = plain_item w.insts (body_count w.block) x h (plain_body w.block w.plan w.insts p.input w.laid w.parts w.some inner_plain)
+
+      plain_f : IsPlain fw
+      plain_f = item_plain f (left_below (body_count w.block) f g below)
+
+      plain_g : IsPlain gw
+      plain_g = item_plain g (right_below (body_count w.block) f g below)
+
+      bound : at + 5 < 2 ^ 31
+      bound = let fl = front_is in let l3 = len3 in let sm = small (i + n) in let nx = w.next in omega arith
+
+      goes_on_at : (j : ℕ) → Landed j → (own k c : ℕ) → own + k ≡ len → n ≤ own → place ≤ own → c ≤ k → LeadsAt c j
+          → Keeping (steps len (begins base d0)) (steps c (begins (link j) (did_of r2))) → IsAt (steps own (begins base d0)) r2 → (steps own (begins base d0)).at.halted ≡ false → GoesOn i n len place r
+      goes_on_at j m own k c e many behind few lead reach shown runs =
+          let ix = m.index in
+          record {
+            own = own;
+            w = k;
+            c = c;
+            is_own = e;
+            many = many;
+            behind = behind;
+            short_len = (let a = w.parts.room in let b = size_is in let x = inner_is in let d = len3 in omega arith);
+            count = few;
+            mark = m.mark;
+            lead = subst (LeadsAt c) (sym ix) lead;
+            reaches = subst (λ q. Keeping (steps len (begins base d0)) (steps c (begins (link q) (did_of r2)))) (sym ix) reach;
+            shown = shown;
+            runs_on = runs;
+          }
+
+      -- with all items done
+      all_done : (j : ℕ) → Landed j → Leads j → steps (length front + 1 + 2) (begins base d0) ≡ begins (link j) (doing (at + 2) gw (doing (at + 1) fw D1)) → GoesOn i n len place r
+      all_done j m lead go =
+          let fl = front_is in
+          let l3 = len3 in
+          let same : steps len (begins base d0) ≡ begins (link j) (did_of r2) =
+          for_same code inside p.place p.input len (length front + 1 + 2) (begins base d0) (omega arith) ∙ go ∙ ap (begins (link j)) (ended j m) in
+          goes_on_at j m len 0 0 (let q : len + 0 ≡ len = omega arith in q)
+          (let a = size_ops in let b = ops_length (items_of w.plan) in omega arith)
+          (omega arith)
+          (let q : 0 ≤ 0 = omega arith in q)
+          (⊎_elim (λ l. inl (l, (let q : 0 ≤ place_of j = omega arith in q))) (λ l. inr l) lead)
+          (keeps_self code inside p.place p.input (steps len (begins base d0)) (begins (link j) (did_of r2)) same)
+          (subst (λ (x : Watched). IsAt x r2) (sym same) (is_at_did (did_of r2) r2 (link j) refl))
+          (ap (λ (x : Watched). x.at.halted) same)
+
+      after_it : next_of None (at + 2) ≡ link (i + n)
+      after_it =
+          let fl = front_is in
+          let l3 = len3 in
+          let sm = small (i + n) in
+          let nx = w.next in
+          next_none (at + 2) (omega arith) ∙ (let q : at + 2 + 1 ≡ link (i + n) = omega arith in q)
+
+      abbrev Decides : Decision → Type 0
+      Decides d = decides ender at (core_of link short r1.state).regs ≡ d
+
+      -- not taken, the slots being its own
+      passes_own : (sq : Bool) (x y : Inst) → Decides (onward sq) → Landed (i + n) → sq ≡ false → x ≡ fw → y ≡ gw → StandsAt base (front ++ ender ∷ x ∷ y ∷ []) → GoesOn i n len place r
+      passes_own sq x y e m clear x_is y_is st =
+          all_done (i + n) m w.lead
+          (slots_taken code inside p.place p.input front ender fw gw base d0 (subst (StandsAt base) (λ k. front ++ ender ∷ x_is k ∷ y_is k ∷ []) st) front_plain plain_f plain_g on (low i) bound (link (i + n))
+          (ap (λ (d : Decision). d.cancels) (decision ∙ e) ∙ clear)
+          (ap (λ (d : Decision). next_of d.target (at + 2)) (decision ∙ e) ∙ after_it)
+          (low (i + n))
+          (let sm = small (i + n) in omega arith))
+
+      -- not taken, both slots being squashed
+      passes_squashed : (sq : Bool) (x y : Inst) → Decides (onward sq) → Landed (i + n) → sq ≡ true → IsPlain x → IsPlain y → f ≡ Nop → g ≡ Nop → StandsAt base (front ++ ender ∷ x ∷ y ∷ []) → GoesOn i n len place r
+      passes_squashed sq x y e m set px py nf ng st =
+          all_done (i + n) m w.lead
+          (slots_cancelled code inside p.place p.input front ender x y base d0 st front_plain px py on (low i) bound (link (i + n))
+          (ap (λ (d : Decision). d.cancels) (decision ∙ e) ∙ set)
+          (ap (λ (d : Decision). next_of d.target (at + 2)) (decision ∙ e) ∙ after_it)
+          (low (i + n))
+          (let sm = small (i + n) in omega arith)
+          ∙ (λ k. begins (link (i + n)) (doing (at + 2) (item_inst w.insts (sym ng k)) (doing (at + 1) (item_inst w.insts (sym nf k)) D1))))
+
+      -- the transfer goes to the block at statement t, behind so many of its words
+      module _ (t count : ℕ) (e : Decides (away (link t + count))) (m : Landed t) where
+        to_target : next_of (decides ender at D0.core.regs).target (at + 2) ≡ link t + count
+        to_target = ap (λ (d : Decision). next_of d.target (at + 2)) (decision ∙ e)
+
+        not_cancelled : (decides ender at D0.core.regs).cancels ≡ false
+        not_cancelled = ap (λ (d : Decision). d.cancels) (decision ∙ e)
+
+        -- taken, the slots being its own
+        takes_own : (x y : Inst) → count ≡ 0 → Leads t → x ≡ fw → y ≡ gw → StandsAt base (front ++ ender ∷ x ∷ y ∷ []) → GoesOn i n len place r
+        takes_own x y none lead x_is y_is st =
+            all_done t m lead
+            (slots_taken code inside p.place p.input front ender fw gw base d0 (subst (StandsAt base) (λ k. front ++ ender ∷ x_is k ∷ y_is k ∷ []) st) front_plain plain_f plain_g on (low i) bound (link t)
+            not_cancelled
+            (to_target ∙ (let q : link t + count ≡ link t = omega arith in q))
+            (low t)
+            (let sm = small t in omega arith))
+
+        abbrev S : Did
+        S = did_of r2
+
+        one_head : (x : Inst) → Head t 0 x → steps 1 (begins (link t) S) ≡ begins (link t + 1) (doing (link t) x S)
+        one_head x h =
+            let sm = small t in
+            goes code inside p.place p.input (x ∷ []) (link t) S (subst (λ q. code q ≡ x) plus_zero h.at, subst (λ q. inside q ≡ true) plus_zero h.within, tt) (h.plain, tt) (low t) (omega arith)
+          where
+            plus_zero : link t + 0 ≡ link t
+            plus_zero = omega arith
+
+        two_heads : (x y : Inst) → Head t 0 x → Head t 1 y → steps 2 (begins (link t) S) ≡ begins (link t + 2) (doing (link t + 1) y (doing (link t) x S))
+        two_heads x y h k =
+            let sm = small t in
+            goes code inside p.place p.input (x ∷ y ∷ []) (link t) S (subst (λ q. code q ≡ x) plus_zero h.at, subst (λ q. inside q ≡ true) plus_zero h.within, (k.at, k.within, tt)) (h.plain, (k.plain, tt)) (low t) (omega arith)
+          where
+            plus_zero : link t + 0 ≡ link t
+            plus_zero = omega arith
+
+        both_nops : f ≡ Nop → g ≡ Nop → D1 ≡ S
+        both_nops nf ng =
+            let two : doing (at + 2) idle (doing (at + 1) idle D1) ≡ S = (λ k. doing (at + 2) (item_inst w.insts (sym ng k)) (doing (at + 1) (item_inst w.insts (sym nf k)) D1)) ∙ ended t m in
+            let a = undo code inside p.place p.input (at + 2) (doing (at + 1) idle D1) S two refl in
+            let b = undo code inside p.place p.input (at + 1) D1 (doing (at + 1) idle D1) refl a.clean in
+            did_same D1 S (b.core ∙ a.core) (b.console ∙ a.console) b.clean (cond-false (is_load ender) (dest ender) 0 no_load)
+
+        no_ops : f ≡ Nop → g ≡ Nop → length (ops (f ∷ g ∷ [])) ≤ 0
+        no_ops nf ng = let e : length (ops (f ∷ g ∷ [])) ≡ 0 = (λ k. length (ops (nf k ∷ ng k ∷ []))) in omega arith
+
+        one_op : g ≡ Nop → length (ops (f ∷ g ∷ [])) ≤ 1
+        one_op ng = let e : length (ops (f ∷ g ∷ [])) ≡ length (ops (f ∷ Nop ∷ [])) = (λ k. length (ops (f ∷ ng k ∷ []))) in let h = ops_length (f ∷ []) in let q : length (ops (f ∷ Nop ∷ [])) ≡ length (ops (f ∷ [])) = without f in omega arith
+          where
+            without : (x : Item) → length (ops (x ∷ Nop ∷ [])) ≡ length (ops (x ∷ []))
+            without (Op k) = refl
+            without Nop = refl
+
+        pub record Shown (own : ℕ) : Type 0 where
+          pub shown : IsAt (steps own (begins base d0)) r2
+          pub runs_on : (steps own (begins base d0)).at.halted ≡ false
+
+        low_on : (k : ℕ) → p.place.code ≤ link t + k
+        low_on k = let l = low t in omega arith
+
+        -- the transfer is done, and both slots hold what is not the block's
+        after_transfer : (x y : Inst) → StandsAt base (front ++ ender ∷ x ∷ y ∷ []) → IsPlain x → IsPlain y → D1 ≡ S → Shown (place + 1)
+        after_transfer x y st px py d_is =
+            let fl = front_is in
+            let run : steps (place + 1) (begins base d0) ≡ queue code inside p.place p.input (queued (at + 1)) (queued (at + 2)) (link t + count) D1 =
+            for_same code inside p.place p.input (place + 1) (length front + 1) (begins base d0) (omega arith)
+            ∙ past_transfer code inside p.place p.input front ender x y base d0 st front_plain px py on (low i) bound false (link t + count) not_cancelled to_target (low_on count) in
+            record {
+              shown = record {
+                core = ap (λ (u : Watched). u.at.core) run ∙ ap (λ (d : Did). d.core) d_is;
+                console = ap (λ (u : Watched). u.at.console) run ∙ ap (λ (d : Did). d.console) d_is;
+                clean = ap (λ (u : Watched). u.clean) run ∙ ap (λ (d : Did). d.clean) d_is;
+              };
+              runs_on = ap (λ (u : Watched). u.at.halted) run;
+            }
+
+        -- both slots hold words of the target
+        takes_both : (x y : Inst) → count ≡ 2 → f ≡ Nop → g ≡ Nop → leader t ≡ true → Head t 0 x → Head t 1 y → StandsAt base (front ++ ender ∷ x ∷ y ∷ []) → GoesOn i n len place r
+        takes_both x y two nf ng lead hx hy st =
+            let done = both_nops nf ng in
+            let l3 = len3 in
+            let fl = front_is in
+            let sm = small t in
+            let z_is : link t + count ≡ link t + 2 = omega arith in
+            let own = after_transfer x y st hx.plain hy.plain done in
+            let b = hy.before in
+            goes_on_at t m (place + 1) 2 2 (omega arith) (let q = many_by 0 (no_ops nf ng) in omega arith) (omega arith) (let q : 2 ≤ 2 = omega arith in q) (inl (lead, (let q : 2 ≤ place_of t = omega arith in q)))
+            (keeps_self code inside p.place p.input (steps len (begins base d0)) (steps 2 (begins (link t) S))
+            (for_same code inside p.place p.input len (length front + 1 + 2) (begins base d0) (omega arith)
+            ∙ slots_taken code inside p.place p.input front ender x y base d0 st front_plain hx.plain hy.plain on (low i) bound (link t + 2) not_cancelled (to_target ∙ z_is) (low_on 2) (omega arith)
+            ∙ ap (λ d. begins (link t + 2) (doing (at + 2) y (doing (at + 1) x d))) done
+            ∙ ap (λ d. begins (link t + 2) (doing (at + 2) y d)) (did_anywhere code inside p.place p.input (at + 1) (link t) x S hx.plain.stays)
+            ∙ ap (begins (link t + 2)) (did_anywhere code inside p.place p.input (at + 2) (link t + 1) y (doing (link t) x S) hy.plain.stays)
+            ∙ sym (two_heads x y hx hy)))
+            own.shown own.runs_on
+
+        -- the first slot holds a word of the target
+        takes_first : (x y : Inst) → count ≡ 1 → f ≡ Nop → g ≡ Nop → leader t ≡ true → Head t 0 x → y ≡ idle → StandsAt base (front ++ ender ∷ x ∷ y ∷ []) → GoesOn i n len place r
+        takes_first x y one nf ng lead hx y_is st0 =
+            let st : StandsAt base (front ++ ender ∷ x ∷ idle ∷ []) = subst (λ j. StandsAt base (front ++ ender ∷ x ∷ j ∷ [])) y_is st0 in
+            let done = both_nops nf ng in
+            let l3 = len3 in
+            let fl = front_is in
+            let sm = small t in
+            let z_is : link t + count ≡ link t + 1 = omega arith in
+            let own = after_transfer x idle st hx.plain idle_plain done in
+            let b = hx.before in
+            let last = doing (at + 2) idle (doing (link t) x S) in
+            let go : steps len (begins base d0) ≡ begins (link t + 1) last =
+            for_same code inside p.place p.input len (length front + 1 + 2) (begins base d0) (omega arith)
+            ∙ slots_taken code inside p.place p.input front ender x idle base d0 st front_plain hx.plain idle_plain on (low i) bound (link t + 1) not_cancelled (to_target ∙ z_is) (low_on 1) (omega arith)
+            ∙ ap (λ d. begins (link t + 1) (doing (at + 2) idle (doing (at + 1) x d))) done
+            ∙ ap (λ d. begins (link t + 1) (doing (at + 2) idle d)) (did_anywhere code inside p.place p.input (at + 1) (link t) x S hx.plain.stays) in
+            goes_on_at t m (place + 1) 2 1 (omega arith) (let q = many_by 0 (no_ops nf ng) in omega arith) (omega arith) (let q : 1 ≤ 2 = omega arith in q) (inl (lead, (let q : 1 ≤ place_of t = omega arith in q)))
+            (keeps_then code inside p.place p.input (steps len (begins base d0)) (begins (link t + 1) last) (steps 1 (begins (link t) S))
+            (keeps_self code inside p.place p.input (steps len (begins base d0)) (begins (link t + 1) last) go)
+            (subst (λ (u : Watched). Keeping (begins (link t + 1) last) u) (sym (one_head x hx)) (keeps_idle code inside p.place p.input (link t + 1) (at + 2) (doing (link t) x S))))
+            own.shown own.runs_on
+
+        -- the second slot holds a word of the target
+        takes_second : (x y : Inst) → count ≡ 1 → g ≡ Nop → leader t ≡ true → x ≡ fw → Head t 0 y → reads y (loads_to x) ≡ false → StandsAt base (front ++ ender ∷ x ∷ y ∷ []) → GoesOn i n len place r
+        takes_second x y one ng lead x_is hy free0 st0 =
+            let st : StandsAt base (front ++ ender ∷ fw ∷ y ∷ []) = subst (λ j. StandsAt base (front ++ ender ∷ j ∷ y ∷ [])) x_is st0 in
+            let free : reads y (loads_to fw) ≡ false = subst (λ j. reads y (loads_to j) ≡ false) x_is free0 in
+            let D2 = doing (at + 1) fw D1 in
+            let idle_is : doing (at + 2) idle D2 ≡ S = (λ k. doing (at + 2) (item_inst w.insts (sym ng k)) D2) ∙ ended t m in
+            let done = undo code inside p.place p.input (at + 2) D2 S idle_is refl in
+            let l3 = len3 in
+            let fl = front_is in
+            let sm = small t in
+            let b = hy.before in
+            let z = link t + 1 in
+            let z_is : link t + count ≡ link t + 1 = omega arith in
+            let own_run : steps (place + 2) (begins base d0) ≡ queue code inside p.place p.input (queued (at + 2)) (queued z) (z + 1) D2 =
+            for_same code inside p.place p.input (place + 2) (length front + 1 + 1) (begins base d0) (omega arith)
+            ∙ one_taken code inside p.place p.input front ender fw y base d0 st front_plain plain_f hy.plain on (low i) bound z not_cancelled (to_target ∙ z_is) (low_on 1) (omega arith) in
+            let last : queue code inside p.place p.input (queued z) (queued (z + 1)) (z + 1 + 1) (doing (at + 2) y D2) ≡ watch code inside p.place p.input (queue code inside p.place p.input (queued (at + 2)) (queued z) (z + 1) D2) =
+            plain_word code inside p.place p.input (at + 2) (queued z) (z + 1) D2 y (at_g code inside p.place p.input front ender fw y base d0 st front_plain plain_f hy.plain on (low i) bound) (in_g code inside p.place p.input front ender fw y base d0 st front_plain plain_f hy.plain on (low i) bound) hy.plain (let q = low_on 2 in omega arith) (omega arith) in
+            let go : steps len (begins base d0) ≡ begins z (doing (at + 2) y D2) =
+            for_same code inside p.place p.input len (place + 2 + 1) (begins base d0) (omega arith)
+            ∙ for_add code inside p.place p.input (place + 2) 1 (begins base d0)
+            ∙ ap (watch code inside p.place p.input) own_run
+            ∙ sym last
+            ∙ ap (λ q. queue code inside p.place p.input (queued z) (queued (z + 1)) q (doing (at + 2) y D2)) (let q : z + 1 + 1 ≡ z + 2 = omega arith in q) in
+            goes_on_at t m (place + 2) 1 1 (omega arith) (let q = many_by 1 (one_op ng) in omega arith) (omega arith) (let q : 1 ≤ 1 = omega arith in q) (inl (lead, (let q : 1 ≤ place_of t = omega arith in q)))
+            (keeps_then code inside p.place p.input (steps len (begins base d0)) (begins z (doing (at + 2) y D2)) (steps 1 (begins (link t) S))
+            (keeps_self code inside p.place p.input (steps len (begins base d0)) (begins z (doing (at + 2) y D2)) go)
+            (subst (λ (u : Watched). Keeping (begins z (doing (at + 2) y D2)) u) (sym (one_head y hy)) (keeps_head code inside p.place p.input y z (at + 2) (link t) D2 S hy.plain done free)))
+            (record {
+              core = ap (λ (u : Watched). u.at.core) own_run ∙ done.core;
+              console = ap (λ (u : Watched). u.at.console) own_run ∙ done.console;
+              clean = ap (λ (u : Watched). u.clean) own_run ∙ done.clean;
+            })
+            (ap (λ (u : Watched). u.at.halted) own_run)
+
+        -- by what its slots hold
+        pub takes : (sq sure : Bool) (x y : Inst) → Leads t → Filled t count sq sure w.insts f g x y → StandsAt base (front ++ ender ∷ x ∷ y ∷ []) → GoesOn i n len place r
+        takes sq sure x y lead (Own none clear first second) st = takes_own x y none lead first second st
+        takes sq sure x y lead (InSecond one surely ng first head free leads) st = takes_second x y one ng leads first head free st
+        takes sq sure x y lead (InFirst one set nf ng head second leads) st = takes_first x y one nf ng leads head second st
+        takes sq sure x y lead (InBoth two set nf ng head other leads) st = takes_both x y two nf ng leads head other st
+
+      -- the transfer does not go
+      pub passes : (t count : ℕ) (sq sure : Bool) (x y : Inst) → Decides (onward sq) → Landed (i + n) → sure ≡ false → Filled t count sq sure w.insts f g x y → StandsAt base (front ++ ender ∷ x ∷ y ∷ []) → GoesOn i n len place r
+      passes t count sq sure x y e m unsure (Own none clear first second) st = passes_own sq x y e m clear first second st
+      passes t count sq sure x y e m unsure (InSecond one surely ng first head free leads) st = absurd (false_true (sym unsure ∙ surely))
+      passes t count sq sure x y e m unsure (InFirst one set nf ng head second leads) st =
+          passes_squashed sq x y e m (set unsure) head.plain (subst IsPlain (sym second) idle_plain) nf ng st
+      passes t count sq sure x y e m unsure (InBoth two set nf ng head other leads) st = passes_squashed sq x y e m (set unsure) head.plain other.plain nf ng st
+
+      -- the address behind the slots is the next block's
+      pub behind_slots : link (suc r1.state.index) ≡ at + 3
+      behind_slots = let l3 = len3 in let fl = front_is in ap link behind_it ∙ w.next ∙ (let q : base + len ≡ at + 3 = omega arith in q)

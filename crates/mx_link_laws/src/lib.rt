@@ -1,0 +1,2 @@
+//! Linked code on the machine with delay slots is the sequential meaning.
+#![tactic(auto)]
