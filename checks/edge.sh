@@ -44,7 +44,7 @@ expect 'a file one byte over the limit' 4 'read fault: source too long'
 head -c 4194304 /dev/zero >longest
 "$program" run longest >out 2>err
 status=$?
-expect 'a file at the limit' 1 'line 1: not built'
+expect 'a file at the limit' 1 'line 1: F1 BadByte'
 
 "$program" run /dev/zero >out 2>err
 status=$?
@@ -66,11 +66,23 @@ expect 'no words' 2 'usage: mx_run COMMAND WORDS'
 printf 'halt' >-x
 "$program" run -x >out 2>err
 status=$?
-expect 'an option that is not built' 2 'usage: mx_run COMMAND WORDS'
+expect 'an option that is not there' 2 'usage: mx_run COMMAND WORDS'
 
 "$program" run -- -x >out 2>err
 status=$?
 [ "$(head -n 1 out)" = halted ] && : >out
 expect 'a name after --' 0 ''
+
+"$program" build "$top/examples/hello.s" image >out 2>err
+status=$?
+expect 'a built image' 0 ''
+"$program" exec image >out 2>err
+status=$?
+cmp -s out "$top/crates/mx_run/stdout" && : >out
+expect 'the run of a built image' 0 ''
+
+"$program" build "$top/examples/hello.s" missing/image >out 2>err
+status=$?
+expect 'an image that cannot be written' 5 ''
 
 [ "$failures" -eq 0 ]

@@ -5,12 +5,18 @@ use Rattle.mx_simulate.specs.Machines.{Files}
 
 pub data Command : Type 0 where
   -- runs a source
-  Run : (source : List ℕ) → Command
+  Run : (source : List ℕ) → (files : Files) → (limits : Limits) → Command
   -- tells what a source means after some steps
   Meaning : (source : List ℕ) → (steps : ℕ) → (input : Option (List ℕ)) → Command
-  -- prints a generated source
-  Gen : (seed : ℕ) → (count : ℕ) → Command
+  -- writes the image file of a source
+  Build : (source : List ℕ) → (target : List ℕ) → Command
   -- runs an image file
   Exec : (image : List ℕ) → (files : Files) → (limits : Limits) → Command
+  -- lists the words of a linked source
+  Listing : (source : List ℕ) → Command
+  -- prints a generated source
+  Gen : (seed : ℕ) → (count : ℕ) → Command
+  -- runs a generated source under many interrupts
+  Soak : (seed : ℕ) → (count : ℕ) → Command
   -- writes an image file in the newest version
   Migrate : (image : List ℕ) → (target : List ℕ) → Command

@@ -1,18 +1,27 @@
 use Rattle.std.specs.Prelude.{◌≤◌, option_map}
+use Rattle.mx_simulate.specs.declared.RunFiles.{RunFiles}
+use Rattle.mx_simulate.specs.Machines.{Files}
 use Rattle.mx_asked.specs.declared.command.Command.{Command}
 use Rattle.mx_asked.specs.declared.command.Command.TheVariants as given
 use Rattle.mx_asked.specs.Commands as asked
 
+-- what contracts see of the files of a run
+abbrev pub seen_files : RunFiles → Files
+seen_files files = record { interrupts = option_map (λ s. s.now) files.interrupts; input = option_map (λ s. s.now) files.input }
+
 -- what contracts see of a command
 abbrev pub seen_command : Command → asked.Command
-seen_command (given.Run source) = asked.Run source.now
+seen_command (given.Run source files limits) = asked.Run source.now (seen_files files) limits
 seen_command (given.Meaning source steps input) = asked.Meaning source.now steps (option_map (λ s. s.now) input)
+seen_command (given.Build source target) = asked.Build source.now target.now
+seen_command (given.Exec image files limits) = asked.Exec image.now (seen_files files) limits
+seen_command (given.Listing source) = asked.Listing source.now
 seen_command (given.Gen seed count) = asked.Gen seed count
-seen_command (given.Exec image files limits) =
-    asked.Exec image.now (record { interrupts = option_map (λ s. s.now) files.interrupts; input = option_map (λ s. s.now) files.input }) limits
+seen_command (given.Soak seed count) = asked.Soak seed count
 seen_command (given.Migrate image target) = asked.Migrate image.now target.now
 
 -- at most 4,000 items are generated
 abbrev pub IsAllowed : Command → Type 0
 IsAllowed (given.Gen seed count) = count ≤ 4000
+IsAllowed (given.Soak seed count) = count ≤ 4000
 IsAllowed _ = Unit {0}

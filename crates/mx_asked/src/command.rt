@@ -2,7 +2,7 @@
 ghost use Rattle.std.specs.Prelude.{◌≡◌, ◌≤◌, IfOk, IfSome, map, option_map, string_bytes, Some, None, [], option_and_then};
 ghost use Rattle.mx_words.specs.Reading.{asked};
 ghost use Rattle.mx_words.specs.Read.{seen};
-ghost use Rattle.mx_asked.specs.Asked.{run_options, meaning_options, meaning_of, gen_of, dump_of, limits_of, run_of, exec_of, migrate_of, command_of};
+ghost use Rattle.mx_asked.specs.Asked.{run_options, meaning_options, dump_of, limits_of, run_of, meaning_of, build_of, exec_of, list_of, gen_of, soak_of, migrate_of, command_of};
 ghost use Rattle.mx_asked.specs.Seen.{seen_command, IsAllowed};
 
 use crate::numbers::{number, number_or, optional};
@@ -17,20 +17,33 @@ use std::alloc::Global;
 pub enum Command<'a> {
     Run {
         source: &'a str,
+        files: RunFiles<'a>,
+        limits: Limits,
     },
     Meaning {
         source: &'a str,
         steps: u32,
         input: Option<&'a str>,
     },
-    Gen {
-        seed: u32,
-        count: u32,
+    Build {
+        source: &'a str,
+        target: &'a str,
     },
     Exec {
         image: &'a str,
         files: RunFiles<'a>,
         limits: Limits,
+    },
+    Listing {
+        source: &'a str,
+    },
+    Gen {
+        seed: u32,
+        count: u32,
+    },
+    Soak {
+        seed: u32,
+        count: u32,
     },
     Migrate {
         image: &'a str,
@@ -78,7 +91,18 @@ fn run_read<'a>(read: &Read<'a>) -> Option<Command<'a>>
     ensures allowed { IfSome result IsAllowed }
 {
     match (read.names.as_slice(), read.values.as_slice()) {
-        ([source], []) => Some(Command::Run { source: *source }),
+        ([source], [budget, trace, dump, count, interrupts, input]) => {
+            let limits = limits_of(*budget, *trace, *dump, *count)?;
+            let files = RunFiles {
+                interrupts: *interrupts,
+                input: *input,
+            };
+            Some(Command::Run {
+                source: *source,
+                files,
+                limits,
+            })
+        }
         _ => None,
     }
 }
@@ -101,29 +125,14 @@ fn meaning_read<'a>(read: &Read<'a>) -> Option<Command<'a>>
     }
 }
 
-// What was read of `gen`.
-fn gen_read<'a>(read: &Read<'a>) -> Option<Command<'a>>
-    ensures command { option_map seen_command result ≡ gen_of (seen read.entry.now) }
+// What was read of `build`.
+fn build_read<'a>(read: &Read<'a>) -> Option<Command<'a>>
+    ensures command { option_map seen_command result ≡ build_of (seen read.entry.now) }
     ensures allowed { IfSome result IsAllowed }
 {
     match (read.names.as_slice(), read.values.as_slice()) {
-        ([seed, count], []) => {
-            let seed = number(seed, 0, 4_294_967_295)?;
-            let count = number(count, 0, 4_000)?;
-            Some(Command::Gen { seed, count })
-        }
-        _ => None,
-    }
-}
-
-// What was read of `migrate`.
-fn migrate_read<'a>(read: &Read<'a>) -> Option<Command<'a>>
-    ensures command { option_map seen_command result ≡ migrate_of (seen read.entry.now) }
-    ensures allowed { IfSome result IsAllowed }
-{
-    match (read.names.as_slice(), read.values.as_slice()) {
-        ([image, target], []) => Some(Command::Migrate {
-            image: *image,
+        ([source, target], []) => Some(Command::Build {
+            source: *source,
             target: *target,
         }),
         _ => None,
@@ -152,13 +161,68 @@ fn exec_read<'a>(read: &Read<'a>) -> Option<Command<'a>>
     }
 }
 
+// What was read of `list`.
+fn list_read<'a>(read: &Read<'a>) -> Option<Command<'a>>
+    ensures command { option_map seen_command result ≡ list_of (seen read.entry.now) }
+    ensures allowed { IfSome result IsAllowed }
+{
+    match (read.names.as_slice(), read.values.as_slice()) {
+        ([source], []) => Some(Command::Listing { source: *source }),
+        _ => None,
+    }
+}
+
+// What was read of `gen`.
+fn gen_read<'a>(read: &Read<'a>) -> Option<Command<'a>>
+    ensures command { option_map seen_command result ≡ gen_of (seen read.entry.now) }
+    ensures allowed { IfSome result IsAllowed }
+{
+    match (read.names.as_slice(), read.values.as_slice()) {
+        ([seed, count], []) => {
+            let seed = number(seed, 0, 4_294_967_295)?;
+            let count = number(count, 0, 4_000)?;
+            Some(Command::Gen { seed, count })
+        }
+        _ => None,
+    }
+}
+
+// What was read of `soak`.
+fn soak_read<'a>(read: &Read<'a>) -> Option<Command<'a>>
+    ensures command { option_map seen_command result ≡ soak_of (seen read.entry.now) }
+    ensures allowed { IfSome result IsAllowed }
+{
+    match (read.names.as_slice(), read.values.as_slice()) {
+        ([seed, count], []) => {
+            let seed = number(seed, 0, 4_294_967_295)?;
+            let count = number(count, 0, 4_000)?;
+            Some(Command::Soak { seed, count })
+        }
+        _ => None,
+    }
+}
+
+// What was read of `migrate`.
+fn migrate_read<'a>(read: &Read<'a>) -> Option<Command<'a>>
+    ensures command { option_map seen_command result ≡ migrate_of (seen read.entry.now) }
+    ensures allowed { IfSome result IsAllowed }
+{
+    match (read.names.as_slice(), read.values.as_slice()) {
+        ([image, target], []) => Some(Command::Migrate {
+            image: *image,
+            target: *target,
+        }),
+        _ => None,
+    }
+}
+
 // The command `run`.
 fn run_words<'a>(alloc: Global, words: &'a [String]) -> Result<Option<Command<'a>>, Memory>
-    ensures command { IfOk result (λ r. option_map seen_command r ≡ option_and_then run_of (asked [] 1 (map string_bytes words.entry.now))) }
+    ensures command { IfOk result (λ r. option_map seen_command r ≡ option_and_then run_of (asked run_options 1 (map string_bytes words.entry.now))) }
     ensures allowed { IfOk result (λ r. IfSome r IsAllowed) }
 {
     let shape = Shape {
-        options: &[],
+        options: &RUN_OPTIONS,
         names: 1,
     };
     match read_words(alloc, &shape, words)? {
@@ -182,9 +246,9 @@ fn meaning_words<'a>(alloc: Global, words: &'a [String]) -> Result<Option<Comman
     }
 }
 
-// The command `gen`.
-fn gen_words<'a>(alloc: Global, words: &'a [String]) -> Result<Option<Command<'a>>, Memory>
-    ensures command { IfOk result (λ r. option_map seen_command r ≡ option_and_then gen_of (asked [] 2 (map string_bytes words.entry.now))) }
+// The command `build`.
+fn build_words<'a>(alloc: Global, words: &'a [String]) -> Result<Option<Command<'a>>, Memory>
+    ensures command { IfOk result (λ r. option_map seen_command r ≡ option_and_then build_of (asked [] 2 (map string_bytes words.entry.now))) }
     ensures allowed { IfOk result (λ r. IfSome r IsAllowed) }
 {
     let shape = Shape {
@@ -192,7 +256,7 @@ fn gen_words<'a>(alloc: Global, words: &'a [String]) -> Result<Option<Command<'a
         names: 2,
     };
     match read_words(alloc, &shape, words)? {
-        Some(read) => Ok(gen_read(&read)),
+        Some(read) => Ok(build_read(&read)),
         None => Ok(None),
     }
 }
@@ -208,6 +272,51 @@ fn exec_words<'a>(alloc: Global, words: &'a [String]) -> Result<Option<Command<'
     };
     match read_words(alloc, &shape, words)? {
         Some(read) => Ok(exec_read(&read)),
+        None => Ok(None),
+    }
+}
+
+// The command `list`.
+fn list_words<'a>(alloc: Global, words: &'a [String]) -> Result<Option<Command<'a>>, Memory>
+    ensures command { IfOk result (λ r. option_map seen_command r ≡ option_and_then list_of (asked [] 1 (map string_bytes words.entry.now))) }
+    ensures allowed { IfOk result (λ r. IfSome r IsAllowed) }
+{
+    let shape = Shape {
+        options: &[],
+        names: 1,
+    };
+    match read_words(alloc, &shape, words)? {
+        Some(read) => Ok(list_read(&read)),
+        None => Ok(None),
+    }
+}
+
+// The command `gen`.
+fn gen_words<'a>(alloc: Global, words: &'a [String]) -> Result<Option<Command<'a>>, Memory>
+    ensures command { IfOk result (λ r. option_map seen_command r ≡ option_and_then gen_of (asked [] 2 (map string_bytes words.entry.now))) }
+    ensures allowed { IfOk result (λ r. IfSome r IsAllowed) }
+{
+    let shape = Shape {
+        options: &[],
+        names: 2,
+    };
+    match read_words(alloc, &shape, words)? {
+        Some(read) => Ok(gen_read(&read)),
+        None => Ok(None),
+    }
+}
+
+// The command `soak`.
+fn soak_words<'a>(alloc: Global, words: &'a [String]) -> Result<Option<Command<'a>>, Memory>
+    ensures command { IfOk result (λ r. option_map seen_command r ≡ option_and_then soak_of (asked [] 2 (map string_bytes words.entry.now))) }
+    ensures allowed { IfOk result (λ r. IfSome r IsAllowed) }
+{
+    let shape = Shape {
+        options: &[],
+        names: 2,
+    };
+    match read_words(alloc, &shape, words)? {
+        Some(read) => Ok(soak_read(&read)),
         None => Ok(None),
     }
 }
@@ -240,8 +349,11 @@ pub fn read_command<'a>(alloc: Global, words: &'a [String]) -> Result<Option<Com
     match first.as_str() {
         "run" => run_words(alloc, rest),
         "meaning" => meaning_words(alloc, rest),
-        "gen" => gen_words(alloc, rest),
+        "build" => build_words(alloc, rest),
         "exec" => exec_words(alloc, rest),
+        "list" => list_words(alloc, rest),
+        "gen" => gen_words(alloc, rest),
+        "soak" => soak_words(alloc, rest),
         "migrate" => migrate_words(alloc, rest),
         _ => Ok(None),
     }

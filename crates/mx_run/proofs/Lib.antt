@@ -1,3 +1,4 @@
-pub mod Lines
 pub mod Own
 pub mod Ended
+pub mod Links
+pub mod Laid

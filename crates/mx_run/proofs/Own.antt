@@ -1,16 +1,17 @@
--- No command answers a fault outside or want of memory by itself, and only one that is done writes a file.
-use Rattle.std.proofs.Common.{◌≡◌, ℕ, List, Bool, true, false, cond, Option, Some, None, Result, Ok, Err, inl, inr, refl, sym, ap, ◌∙◌, subst}
-use Rattle.mx_isa.specs.declared.Inst.{Inst}
+-- Each command answers with a status of its own, and only an answer that is done writes a file.
+use Rattle.std.proofs.Common.{◌≡◌, ◌⊎◌, ℕ, List, Bool, true, false, cond, Option, Some, None, Result, Ok, Err, inl, inr, refl, sym, ap, ◌∙◌, subst, ⊎_elim}
+use Rattle.std.specs.Prelude.{is_some}
 use Rattle.mx_board.specs.declared.EventError.{EventError}
 use Rattle.mx_board.specs.RequestFile.{requests_of}
-use Rattle.mx_plain.specs.Plain.{plain_reading}
 use Rattle.mx_image.specs.declared.ImageError.{ImageError}
-use Rattle.mx_image.specs.Files.{file_refusal, file_in}
+use Rattle.mx_image.specs.Files.{file_refusal, file_in, file_bytes}
 use Rattle.mx_turn.specs.Handler.{shipped}
 use Rattle.mx_turn.specs.Program.{Program, program_of}
+use Rattle.mx_answer.specs.declared.FileKind.{FileKind}
 use Rattle.mx_answer.specs.declared.Status.{Status}
-use Rattle.mx_answer.specs.declared.Status.TheVariants.{Halted, OutOfBudget, Usage}
-use Rattle.mx_answer.specs.Answer.{Answer, prints, usage, is_own}
+use Rattle.mx_answer.specs.declared.Status.TheVariants.{Halted, Done, Refused, Usage, OutOfBudget, ReadFault, WriteFault, Memory, BadImage, BadEvents, Stuck}
+use Rattle.mx_answer.specs.Answer.{Answer, prints, writes, is_own}
+use Rattle.mx_answer.specs.Delivery.{HasStatus}
 use Rattle.mx_answer.specs.Protocol.{Protocol, Answers, Reads, Told, Counts, IsFault, Performed, IsOwnAnswer, HasOwnAnswers}
 use Rattle.mx_asm.specs.declared.Fault.{Fault}
 use Rattle.mx_asm.specs.Texts.{source_of, text_fault}
@@ -18,164 +19,148 @@ use Rattle.mx_isa.specs.declared.Place.{Place}
 use Rattle.mx_source.specs.SourceValue.{SourceValue}
 use Rattle.mx_source.specs.Meaning.{Mark}
 use Rattle.mx_source.specs.Meaning as meant
+use Rattle.mx_layout.specs.Overlong.{Overlong}
+use Rattle.mx_link.specs.Origins.{from_target}
+use Rattle.mx_link.specs.Linked.{linked_code, linked_data}
+use Rattle.mx_listing.specs.Listing.{layout_listing}
 use Rattle.mx_meaning.specs.Boards.{board}
 use Rattle.mx_meaning.specs.Told.{status_of, meaning_answer}
 use Rattle.mx_simulate.specs.declared.Limits.{Limits}
 use Rattle.mx_simulate.specs.Simulated.{program_answer}
 use Rattle.mx_simulate.specs.Machines.{Files, given, by_requests, requests_protocol, input_protocol, machine_protocol}
-use Rattle.mx_asked.specs.Commands.{Command, Run, Meaning, Gen, Exec, Migrate}
-use Rattle.mx_run.specs.Protocols.{plain_answer, unless_faulty, unless_refused, migrated, protocol_of}
+use Rattle.mx_asked.specs.declared.Command.{Command as GivenCommand}
+use Rattle.mx_asked.specs.Seen.{seen_command}
+use Rattle.mx_asked.specs.Commands.{Command, Run, Meaning, Build, Exec, Listing, Gen, Soak, Migrate}
+use Rattle.mx_run.specs.Protocols.{unless_faulty, unless_overlong, unless_refused, migrated, Layouts, Linking, linked_protocol, run_protocol, build_protocol, linked_contents, list_protocol, protocol_of}
+use Rattle.mx_run.specs.Replied.{is_answered, IsReplied}
 
-own_print : (status : Status) (output : List ℕ) → is_own status ≡ true → IsOwnAnswer (prints status output)
-own_print status output own = record { status = own; done = λ h. absurd (cc) }
+-- the answer to what was asked
+pub record IsAnswer (answer : Answer) : Type 0 where
+  pub answered : is_answered answer.status ≡ true
+  pub done : is_some answer.file ≡ true → answer.status ≡ Done
 
-own_plain : (reading : Result (List Inst) ℕ) → IsOwnAnswer (plain_answer reading)
-own_plain (Ok insts) = own_print _ _ refl
-own_plain (Err line) = own_print _ _ refl
+abbrev pub HasAnswers : Protocol → Type 0
+HasAnswers (Answers answer) = IsAnswer answer
+HasAnswers (Reads kind name next) = (bytes : List ℕ) → HasAnswers (next bytes)
 
-own_ending : (halted : Bool) → is_own (cond halted Halted OutOfBudget) ≡ true
-own_ending true = refl
-own_ending false = refl
+printed_answer : (status : Status) (output : List ℕ) → is_answered status ≡ true → IsAnswer (prints status output)
+printed_answer status output is = record { answered = is; done = λ h. absurd (cc) }
 
-own_program : (p : Program) (code requests : List ℕ) (limits : Limits) → IsOwnAnswer (program_answer p code requests limits)
+written_answer : (name bytes : List ℕ) → IsAnswer (writes name bytes)
+written_answer name bytes = record { answered = refl; done = λ h. refl }
+
+answered_ending : (halted : Bool) → is_answered (cond halted Halted OutOfBudget) ≡ true
+answered_ending true = refl
+answered_ending false = refl
+
+answers_program : (p : Program) (code requests : List ℕ) (limits : Limits) → IsAnswer (program_answer p code requests limits)
 unfolding program_answer
-own_program p code requests limits = own_print _ _ (own_ending _)
+answers_program p code requests limits = printed_answer _ _ (answered_ending _)
 
-own_by_requests : (read : Result (List ℕ) EventError) (next : List ℕ → Protocol) → ((requests : List ℕ) → HasOwnAnswers (next requests)) → HasOwnAnswers (by_requests read next)
-own_by_requests (Ok requests) next own = own requests
-own_by_requests (Err fault) next own = own_print _ _ refl
+answers_by_requests : (read : Result (List ℕ) EventError) (next : List ℕ → Protocol) → ((requests : List ℕ) → HasAnswers (next requests)) → HasAnswers (by_requests read next)
+answers_by_requests (Ok requests) next has = has requests
+answers_by_requests (Err fault) next has = printed_answer _ _ refl
 
-own_requests : (name : Option (List ℕ)) (next : List ℕ → Protocol) → ((requests : List ℕ) → HasOwnAnswers (next requests)) → HasOwnAnswers (requests_protocol name next)
-own_requests None next own = own _
-own_requests (Some name) next own = λ bytes. own_by_requests (requests_of bytes) next own
+answers_requests : (name : Option (List ℕ)) (next : List ℕ → Protocol) → ((requests : List ℕ) → HasAnswers (next requests)) → HasAnswers (requests_protocol name next)
+answers_requests None next has = has _
+answers_requests (Some name) next has = λ bytes. answers_by_requests (requests_of bytes) next has
 
-own_input : (name : Option (List ℕ)) (next : List ℕ → Protocol) → ((bytes : List ℕ) → HasOwnAnswers (next bytes)) → HasOwnAnswers (input_protocol name next)
-own_input None next own = own _
-own_input (Some name) next own = own
+answers_input : (name : Option (List ℕ)) (next : List ℕ → Protocol) → ((bytes : List ℕ) → HasAnswers (next bytes)) → HasAnswers (input_protocol name next)
+answers_input None next has = has _
+answers_input (Some name) next has = has
 
-own_machine : (files : Files) (limits : Limits) (code user_data : List ℕ) (asks : Bool) → HasOwnAnswers (machine_protocol files limits code user_data asks)
-own_machine files limits code user_data asks =
-    own_requests files.interrupts _ (λ requests. own_input files.input _ (λ bytes. own_program (program_of shipped code user_data (given asks bytes)) code requests limits))
+pub answers_machine : (files : Files) (limits : Limits) (code user_data : List ℕ) (asks : Bool) → HasAnswers (machine_protocol files limits code user_data asks)
+answers_machine files limits code user_data asks =
+    answers_requests files.interrupts _ (λ requests. answers_input files.input _ (λ bytes. answers_program (program_of shipped code user_data (given asks bytes)) code requests limits))
 
-own_mark : (m : Mark) → is_own (status_of m) ≡ true
-own_mark meant.Going = refl
-own_mark meant.Halted = refl
-own_mark (meant.Stuck why) = refl
+answered_mark : (m : Mark) → is_answered (status_of m) ≡ true
+answered_mark meant.Going = refl
+answered_mark meant.Halted = refl
+answered_mark (meant.Stuck why) = refl
 
-own_meaning : (source : SourceValue) (place : Place) (input : List ℕ) (n : ℕ) → IsOwnAnswer (meaning_answer source place input n)
+answers_meaning : (source : SourceValue) (place : Place) (input : List ℕ) (n : ℕ) → IsAnswer (meaning_answer source place input n)
 unfolding meaning_answer
-own_meaning source place input n = own_print _ _ (own_mark _)
+answers_meaning source place input n = printed_answer _ _ (answered_mark _)
 
-own_faulty : (found : Option (ℕ × Fault)) (next : Protocol) → HasOwnAnswers next → HasOwnAnswers (unless_faulty found next)
-own_faulty (Some found) next own = own_print _ _ refl
-own_faulty None next own = own
+answers_faulty : (found : Option (ℕ × Fault)) (next : Protocol) → HasAnswers next → HasAnswers (unless_faulty found next)
+answers_faulty (Some found) next has = printed_answer _ _ refl
+answers_faulty None next has = has
 
-own_refused : (refusal : Option ImageError) (next : Protocol) → HasOwnAnswers next → HasOwnAnswers (unless_refused refusal next)
-own_refused (Some error) next own = own_print _ _ refl
-own_refused None next own = own
+answers_overlong : (found : Option Overlong) (next : Protocol) → HasAnswers next → HasAnswers (unless_overlong found next)
+answers_overlong (Some found) next has = printed_answer _ _ refl
+answers_overlong None next has = has
 
-own_migrated : (target bytes : List ℕ) (refusal : Option ImageError) → IsOwnAnswer (migrated target bytes refusal)
-own_migrated target bytes (Some error) = own_print _ _ refl
-own_migrated target bytes None = record { status = refl; done = λ h. refl }
+answers_linked : (layout_of : Layouts) (next : Linking) → ((source : SourceValue) → HasAnswers (next source (layout_of source))) → (text : List ℕ) → HasAnswers (linked_protocol layout_of next text)
+answers_linked layout_of next has text = answers_faulty (text_fault 256 65536 text) _ (answers_overlong _ _ (has (source_of 256 text)))
 
-pub own_answers : (asked : Option Command) → HasOwnAnswers (protocol_of asked)
-own_answers None = own_print _ _ refl
-own_answers (Some (Run source)) = λ text. own_plain (plain_reading text)
-own_answers (Some (Meaning source steps input)) = λ text. own_faulty (text_fault 256 65536 text) _ (own_input input _ (λ bytes. own_meaning (source_of 256 text) board bytes steps))
-own_answers (Some (Gen seed count)) = own_print _ _ refl
-own_answers (Some (Exec image files limits)) = λ bytes. own_refused (file_refusal bytes) _ (own_machine files limits (file_in bytes).code (file_in bytes).user_data (file_in bytes).input)
-own_answers (Some (Migrate image target)) = λ bytes. own_migrated target bytes (file_refusal bytes)
+answers_refused : (refusal : Option ImageError) (next : Protocol) → HasAnswers next → HasAnswers (unless_refused refusal next)
+answers_refused (Some error) next has = printed_answer _ _ refl
+answers_refused None next has = has
 
--- no answer of its own is Usage
-is_usage : Status → Bool
-is_usage Usage = true
-is_usage _ = false
+answers_migrated : (target bytes : List ℕ) (refusal : Option ImageError) → IsAnswer (migrated target bytes refusal)
+answers_migrated target bytes (Some error) = printed_answer _ _ refl
+answers_migrated target bytes None = written_answer target _
 
-HasNoUsage : Protocol → Type 0
-HasNoUsage (Answers answer) = is_usage answer.status ≡ false
-HasNoUsage (Reads kind name next) = (bytes : List ℕ) → HasNoUsage (next bytes)
+pub has_answers : (layout_of : Layouts) (asked : Command) → HasAnswers (protocol_of layout_of (Some asked))
+has_answers layout_of (Run source files limits) =
+    answers_linked layout_of (run_protocol files limits)
+    (λ read. answers_machine files limits (linked_code from_target read board (layout_of read)) (linked_data read board (layout_of read)) (is_some read.input))
+has_answers layout_of (Meaning source steps input) = λ text. answers_faulty (text_fault 256 65536 text) _ (answers_input input _ (λ bytes. answers_meaning (source_of 256 text) board bytes steps))
+has_answers layout_of (Build source target) = answers_linked layout_of (build_protocol target) (λ read. written_answer target (file_bytes (linked_contents read (layout_of read))))
+has_answers layout_of (Exec image files limits) = λ bytes. answers_refused (file_refusal bytes) _ (answers_machine files limits (file_in bytes).code (file_in bytes).user_data (file_in bytes).input)
+has_answers layout_of (Listing source) = answers_linked layout_of list_protocol (λ read. printed_answer Done (layout_listing read board (layout_of read)) refl)
+has_answers layout_of (Gen seed count) = printed_answer _ _ refl
+has_answers layout_of (Soak seed count) = printed_answer _ _ refl
+has_answers layout_of (Migrate image target) = λ bytes. answers_migrated target bytes (file_refusal bytes)
 
-no_usage_plain : (reading : Result (List Inst) ℕ) → is_usage (plain_answer reading).status ≡ false
-unfolding is_usage
-no_usage_plain (Ok insts) = refl
-no_usage_plain (Err line) = refl
+own_status : (status : Status) → is_answered status ≡ true → is_own status ≡ true
+own_status Halted is = refl
+own_status Done is = refl
+own_status Refused is = refl
+own_status Usage is = absurd (cc)
+own_status OutOfBudget is = refl
+own_status ReadFault is = absurd (cc)
+own_status WriteFault is = absurd (cc)
+own_status Memory is = absurd (cc)
+own_status BadImage is = refl
+own_status BadEvents is = refl
+own_status Stuck is = refl
 
-no_usage_ending : (halted : Bool) → is_usage (cond halted Halted OutOfBudget) ≡ false
-unfolding is_usage
-no_usage_ending true = refl
-no_usage_ending false = refl
+own_protocol : (p : Protocol) → HasAnswers p → HasOwnAnswers p
+own_protocol (Answers answer) has = record { status = own_status answer.status has.answered; done = has.done }
+own_protocol (Reads kind name next) has = λ bytes. own_protocol (next bytes) (has bytes)
 
-no_usage_program : (p : Program) (code requests : List ℕ) (limits : Limits) → is_usage (program_answer p code requests limits).status ≡ false
-unfolding program_answer
-no_usage_program p code requests limits = no_usage_ending _
+pub own_answers : (layout_of : Layouts) (asked : Option Command) → HasOwnAnswers (protocol_of layout_of asked)
+own_answers layout_of None = record { status = refl; done = λ h. absurd (cc) }
+own_answers layout_of (Some asked) = own_protocol (protocol_of layout_of (Some asked)) (has_answers layout_of asked)
 
-no_usage_by_requests : (read : Result (List ℕ) EventError) (next : List ℕ → Protocol) → ((requests : List ℕ) → HasNoUsage (next requests)) → HasNoUsage (by_requests read next)
-unfolding is_usage HasNoUsage
-no_usage_by_requests (Ok requests) next own = own requests
-no_usage_by_requests (Err fault) next own = refl
+pub fault_is_replied : (shelf : Told) (kind : FileKind) (name : List ℕ) (before after : Counts) (answer : Answer) → IsFault shelf kind name before after answer → IsReplied answer
+fault_is_replied shelf kind name before after answer (inl (is, why)) = inr (ap (λ a. a.status) is)
+fault_is_replied shelf kind name before after answer (inr (is, why)) = inr (ap (λ a. a.status) is)
 
-no_usage_requests : (name : Option (List ℕ)) (next : List ℕ → Protocol) → ((requests : List ℕ) → HasNoUsage (next requests)) → HasNoUsage (requests_protocol name next)
-unfolding HasNoUsage
-no_usage_requests None next own = own _
-no_usage_requests (Some name) next own = λ bytes. no_usage_by_requests (requests_of bytes) next own
+pub performed_is_replied : (shelf : Told) (p : Protocol) (before after : Counts) (answer : Answer) → HasAnswers p → Performed shelf p before after answer → IsReplied answer
+performed_is_replied shelf (Answers given) before after answer has (same, is) = inl (ap (λ a. is_answered a.status) is ∙ has.answered)
+performed_is_replied shelf (Reads kind name next) before after answer has (between, read, inl (same, faulty)) = fault_is_replied shelf kind name before between answer faulty
+performed_is_replied shelf (Reads kind name next) before after answer has (between, read, inr (bytes, found, rest)) = performed_is_replied shelf (next bytes) between after answer (has bytes) rest
 
-no_usage_input : (name : Option (List ℕ)) (next : List ℕ → Protocol) → ((bytes : List ℕ) → HasNoUsage (next bytes)) → HasNoUsage (input_protocol name next)
-unfolding HasNoUsage
-no_usage_input None next own = own _
-no_usage_input (Some name) next own = own
+-- a reply has a status that can be put out
+pub replied_status : (answer : Answer) → IsReplied answer → HasStatus answer
+replied_status answer (inl is) = inl (own_status answer.status is)
+replied_status answer (inr is) = inr is
 
-no_usage_machine : (files : Files) (limits : Limits) (code user_data : List ℕ) (asks : Bool) → HasNoUsage (machine_protocol files limits code user_data asks)
-unfolding HasNoUsage
-no_usage_machine files limits code user_data asks =
-    no_usage_requests files.interrupts _ (λ requests. no_usage_input files.input _ (λ bytes. no_usage_program (program_of shipped code user_data (given asks bytes)) code requests limits))
+-- and its status is not that of words that ask for nothing
+pub replied_asks : (answer : Answer) → IsReplied answer → answer.status ≡ Usage → ⊥
+replied_asks answer (inl is) e = let bad : true ≡ false = sym is ∙ ap is_answered e in absurd (cc)
+replied_asks answer (inr is) e = let bad : ReadFault ≡ Usage = sym is ∙ e in absurd (cc)
 
-no_usage_mark : (m : Mark) → is_usage (status_of m) ≡ false
-unfolding is_usage
-no_usage_mark meant.Going = refl
-no_usage_mark meant.Halted = refl
-no_usage_mark (meant.Stuck why) = refl
+-- what a command performs is what its value asks for
+pub by_command : (layout_of : Layouts) (shelf : Told) (before after : Counts) (answer : Answer) (asked meant : GivenCommand) → asked ≡ meant
+    → Performed shelf (protocol_of layout_of (Some (seen_command meant))) before after answer → Performed shelf (protocol_of layout_of (Some (seen_command asked))) before after answer
+by_command layout_of shelf before after answer asked meant is performed =
+    subst (λ (c : GivenCommand). Performed shelf (protocol_of layout_of (Some (seen_command c))) before after answer) (sym is) performed
 
-no_usage_meaning : (source : SourceValue) (place : Place) (input : List ℕ) (n : ℕ) → is_usage (meaning_answer source place input n).status ≡ false
-unfolding meaning_answer
-no_usage_meaning source place input n = no_usage_mark _
-
-no_usage_faulty : (found : Option (ℕ × Fault)) (next : Protocol) → HasNoUsage next → HasNoUsage (unless_faulty found next)
-unfolding is_usage HasNoUsage
-no_usage_faulty (Some found) next own = refl
-no_usage_faulty None next own = own
-
-no_usage_refused : (refusal : Option ImageError) (next : Protocol) → HasNoUsage next → HasNoUsage (unless_refused refusal next)
-unfolding is_usage HasNoUsage
-no_usage_refused (Some error) next own = refl
-no_usage_refused None next own = own
-
-no_usage_migrated : (target bytes : List ℕ) (refusal : Option ImageError) → is_usage (migrated target bytes refusal).status ≡ false
-unfolding is_usage
-no_usage_migrated target bytes (Some error) = refl
-no_usage_migrated target bytes None = refl
-
-no_usage : (asked : Command) → HasNoUsage (protocol_of (Some asked))
-unfolding is_usage HasNoUsage
-no_usage (Run source) = λ text. no_usage_plain (plain_reading text)
-no_usage (Meaning source steps input) = λ text. no_usage_faulty (text_fault 256 65536 text) _ (no_usage_input input _ (λ bytes. no_usage_meaning (source_of 256 text) board bytes steps))
-no_usage (Gen seed count) = refl
-no_usage (Exec image files limits) = λ bytes. no_usage_refused (file_refusal bytes) _ (no_usage_machine files limits (file_in bytes).code (file_in bytes).user_data (file_in bytes).input)
-no_usage (Migrate image target) = λ bytes. no_usage_migrated target bytes (file_refusal bytes)
-
-no_usage_given : (shelf : Told) (p : Protocol) (before after : Counts) (answer : Answer) → HasNoUsage p → Performed shelf p before after answer → is_usage answer.status ≡ false
-unfolding is_usage HasNoUsage
-no_usage_given shelf (Answers answer) before after given_answer own (same, is) = ap (λ a. is_usage a.status) is ∙ own
-no_usage_given shelf (Reads kind name next) before after answer own (between, read, inl (same, inl (is, why))) = ap (λ a. is_usage a.status) is
-no_usage_given shelf (Reads kind name next) before after answer own (between, read, inl (same, inr (is, why))) = ap (λ a. is_usage a.status) is
-no_usage_given shelf (Reads kind name next) before after answer own (between, read, inr (bytes, found, rest)) = no_usage_given shelf (next bytes) between after answer (own bytes) rest
-
--- an answer that is Usage is that of words that ask for nothing
-pub usage_only : (shelf : Told) (asked : Option Command) (before after : Counts) (answer : Answer) → Performed shelf (protocol_of asked) before after answer → answer.status ≡ Usage → asked ≡ None
-unfolding is_usage
-usage_only shelf None before after answer performed is = refl
-usage_only shelf (Some asked) before after answer performed is =
-    let bad : false ≡ true = sym (no_usage_given shelf (protocol_of (Some asked)) before after answer (no_usage asked) performed) ∙ ap is_usage is in absurd (cc)
-
-pub asks_nothing : (shelf : Told) (asked : Option Command) (before after : Counts) (answer : Answer) → asked ≡ None → Performed shelf (protocol_of asked) before after answer → answer ≡ usage
-asks_nothing shelf asked before after answer nothing performed =
-    (subst (λ (a : Option Command). Performed shelf (protocol_of a) before after answer) nothing performed).1
+-- a reply to a command, whatever the layouts are
+pub command_is_replied : (layout_of : Layouts) (shelf : Told) (before after : Counts) (answer : Answer) (meant : GivenCommand)
+    → Performed shelf (protocol_of layout_of (Some (seen_command meant))) before after answer → IsReplied answer
+command_is_replied layout_of shelf before after answer meant performed =
+    performed_is_replied shelf (protocol_of layout_of (Some (seen_command meant))) before after answer (has_answers layout_of (seen_command meant)) performed

@@ -1,2 +1,2 @@
-pub mod Report
 pub mod Protocols
+pub mod Replied

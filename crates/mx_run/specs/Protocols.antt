@@ -1,16 +1,22 @@
 -- What each command reads and answers, in the order in which it is refused.
-use Rattle.std.specs.Prelude.{ℕ, ◌++◌, [], codes, List, Option, Some, None, Result, Ok, Err}
-use Rattle.std.specs.Fmt.{decimal}
-use Rattle.mx_isa.specs.declared.Inst.{Inst}
-use Rattle.mx_plain.specs.Plain.{plain_reading}
-use Rattle.mx_plain.specs.PlainStep.{meaning_of}
+use Rattle.std.specs.Prelude.{ℕ, ◌++◌, [], codes, List, Option, Some, None, is_some, ℤ, pos, ◌-ℤ◌}
+use Rattle.std.specs.Fmt.{decimal, signed_decimal}
+use Rattle.mx_source.specs.SourceValue.{SourceValue}
 use Rattle.mx_source.specs.Printed.{printed}
 use Rattle.mx_gen.specs.Generated.{generated}
+use Rattle.mx_squash.specs.Copies.{Site}
+use Rattle.mx_layout.specs.Layout.{blocks_in}
+use Rattle.mx_layout.specs.Overlong.{Overlong, overlong}
+use Rattle.mx_link.specs.Origins.{from_target}
+use Rattle.mx_link.specs.Linked.{linked_code, linked_data, links_of}
+use Rattle.mx_listing.specs.Listing.{layout_listing}
+use Rattle.mx_soak.specs.Soak.{soak_text}
 use Rattle.mx_image.specs.declared.ImageError.{ImageError}
 use Rattle.mx_image.specs.declared.ImageError.TheVariants as image
+use Rattle.mx_image.specs.Contents.{Contents}
 use Rattle.mx_image.specs.Files.{file_refusal, file_in, file_bytes}
 use Rattle.mx_answer.specs.declared.FileKind.TheVariants.{Source, Image}
-use Rattle.mx_answer.specs.declared.Status.TheVariants.{Halted, Done, Refused, BadImage}
+use Rattle.mx_answer.specs.declared.Status.TheVariants.{Done, Refused, BadImage}
 use Rattle.mx_answer.specs.Answer.{Answer, prints, writes, text_line, usage}
 use Rattle.mx_answer.specs.Protocol.{Protocol, Answers, Reads}
 use Rattle.mx_simulate.specs.declared.Limits.{Limits}
@@ -20,13 +26,7 @@ use Rattle.mx_asm.specs.declared.Fault.TheVariants as fault
 use Rattle.mx_asm.specs.Texts.{source_of, text_fault}
 use Rattle.mx_meaning.specs.Boards.{board}
 use Rattle.mx_meaning.specs.Told.{meaning_answer}
-use Rattle.mx_asked.specs.Commands.{Command, Run, Meaning, Gen, Exec, Migrate}
-use Rattle.mx_run.specs.Report.{report_text}
-
--- a plain text: the report of its meaning, or its first line that is not built
-abbrev pub plain_answer : Result (List Inst) ℕ → Answer
-plain_answer (Ok insts) = prints Halted (report_text (meaning_of insts))
-plain_answer (Err line) = prints Refused (text_line (codes "line " ++ decimal line ++ codes ": not built"))
+use Rattle.mx_asked.specs.Commands.{Command, Run, Meaning, Build, Exec, Listing, Gen, Soak, Migrate}
 
 abbrev pub fault_text : Fault → List ℕ
 fault_text fault.BadByte = codes "F1 BadByte"
@@ -58,6 +58,62 @@ abbrev pub meaning_protocol : ℕ → Option (List ℕ) → List ℕ → Protoco
 meaning_protocol steps input text =
     unless_faulty (text_fault 256 65536 text) (input_protocol input (λ bytes. Answers (meaning_answer (source_of 256 text) board bytes steps)))
 
+abbrev pub displacement_text : ℕ → ℤ → List ℕ
+displacement_text line displacement = codes "line " ++ decimal line ++ codes ": displacement " ++ signed_decimal displacement
+
+abbrev pub span_text : ℕ → ℕ → List ℕ
+span_text from to = codes " from " ++ decimal from ++ codes " to " ++ decimal to
+
+-- a branch at one address, on this line, and its displacement to another
+abbrev pub overlong_text : ℕ → ℤ → ℕ → ℕ → List ℕ
+overlong_text line displacement from to = displacement_text line displacement ++ span_text from to
+
+-- the line of a branch that does not reach its target; the displacement is one address minus the other
+abbrev pub overlong_line : ℕ → ℕ → ℕ → List ℕ
+overlong_line line from to = text_line (overlong_text line (pos to -ℤ pos from) from to)
+
+-- a source: refused by its first branch that does not reach its target, or what follows
+abbrev pub unless_overlong : Option Overlong → Protocol → Protocol
+unless_overlong (Some found) next = Answers (prints Refused (overlong_line found.line found.from found.to))
+unless_overlong None next = next
+
+-- which layout each source has
+abbrev pub Layouts : Type 0
+Layouts = SourceValue → List Site
+
+-- what follows a source and its layout
+abbrev pub Linking : Type 0
+Linking = SourceValue → List Site → Protocol
+
+-- a text, which is assembled and linked: refused by its first fault, then by a displacement, or what follows
+abbrev pub linked_protocol : Layouts → Linking → List ℕ → Protocol
+linked_protocol layout_of next text =
+    let source = source_of 256 text in
+    let sites = layout_of source in
+    unless_faulty (text_fault 256 65536 text) (unless_overlong (overlong source board (blocks_in sites)) (next source sites))
+
+-- the run of a source
+abbrev pub run_protocol : Files → Limits → Linking
+run_protocol files limits source sites =
+    machine_protocol files limits (linked_code from_target source board sites) (linked_data source board sites) (is_some source.input)
+
+-- what an image file keeps of a source
+abbrev pub linked_contents : SourceValue → List Site → Contents
+linked_contents source sites = record {
+  code = linked_code from_target source board sites;
+  user_data = linked_data source board sites;
+  input = is_some source.input;
+  links = links_of source board sites;
+}
+
+-- the image file of a source, under this name
+abbrev pub build_protocol : List ℕ → Linking
+build_protocol target source sites = Answers (writes target (file_bytes (linked_contents source sites)))
+
+-- the listing of a source
+abbrev pub list_protocol : Linking
+list_protocol source sites = Answers (prints Done (layout_listing source board sites))
+
 abbrev pub image_text : ℕ → List ℕ → List ℕ
 image_text at cause = text_line (codes "image: " ++ cause ++ codes " at " ++ decimal at)
 
@@ -87,10 +143,14 @@ migrated target bytes None = writes target (file_bytes (file_in bytes))
 abbrev pub migrate_answer : List ℕ → List ℕ → Answer
 migrate_answer target bytes = migrated target bytes (file_refusal bytes)
 
-abbrev pub protocol_of : Option Command → Protocol
-protocol_of None = Answers usage
-protocol_of (Some (Run source)) = Reads Source source (λ text. Answers (plain_answer (plain_reading text)))
-protocol_of (Some (Meaning source steps input)) = Reads Source source (meaning_protocol steps input)
-protocol_of (Some (Gen seed count)) = Answers (prints Done (printed (generated seed count)))
-protocol_of (Some (Exec image files limits)) = Reads Image image (exec_protocol files limits)
-protocol_of (Some (Migrate image target)) = Reads Image image (λ bytes. Answers (migrate_answer target bytes))
+-- what a command reads and answers, where this is the layout of each source
+abbrev pub protocol_of : Layouts → Option Command → Protocol
+protocol_of layout_of None = Answers usage
+protocol_of layout_of (Some (Run source files limits)) = Reads Source source (linked_protocol layout_of (run_protocol files limits))
+protocol_of layout_of (Some (Meaning source steps input)) = Reads Source source (meaning_protocol steps input)
+protocol_of layout_of (Some (Build source target)) = Reads Source source (linked_protocol layout_of (build_protocol target))
+protocol_of layout_of (Some (Exec image files limits)) = Reads Image image (exec_protocol files limits)
+protocol_of layout_of (Some (Listing source)) = Reads Source source (linked_protocol layout_of list_protocol)
+protocol_of layout_of (Some (Gen seed count)) = Answers (prints Done (printed (generated seed count)))
+protocol_of layout_of (Some (Soak seed count)) = Answers (prints Done (soak_text layout_of seed count))
+protocol_of layout_of (Some (Migrate image target)) = Reads Image image (λ bytes. Answers (migrate_answer target bytes))

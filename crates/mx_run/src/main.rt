@@ -2,9 +2,11 @@
 #![tactic(auto)]
 
 mod command;
-mod machine;
+mod files;
+mod images;
 mod reply;
-mod report;
+mod sourced;
+mod sources;
 
 use command::command;
 use mx_io::{RealShelf, RealSink};

@@ -1,3 +1,4 @@
 pub mod Multiples
 pub mod Steps
 pub mod Layouts
+pub mod Reach

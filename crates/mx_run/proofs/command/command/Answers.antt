@@ -1,14 +1,15 @@
-use Rattle.std.proofs.Common.{◌≡◌, ◌≢◌, ℕ, List, Bool, true, false, Option, map, string_bytes, sym, ap, ◌∙◌, subst, ⊎_elim, inl, inr}
+use Rattle.std.proofs.Common.{◌≡◌, ◌≢◌, ℕ, List, Bool, true, false, Option, map, string_bytes, refl, sym, ap, ◌∙◌, subst, ⊎_elim, inl, inr}
 use Rattle.mx_answer.specs.declared.Status.{Status}
 use Rattle.mx_answer.specs.declared.Status.TheVariants.{Usage, WriteFault, Memory}
+use Rattle.mx_answer.specs.Answer.{Answer}
+use Rattle.mx_answer.specs.Delivery.{HasStatus}
 use Rattle.mx_answer.specs.Protocol.{Protocol, Told, Counts, Performed}
 use Rattle.mx_answer.specs.Replies.{reply_answer}
-use Rattle.mx_answer.proofs.Protocols.{status_is}
 use Rattle.mx_asked.specs.Commands.{Command}
 use Rattle.mx_asked.specs.Asked.{command_of}
 use Rattle.mx_run.specs.Protocols.{protocol_of}
 use Rattle.mx_answer.proofs.Commands.{status_cases}
-use Rattle.mx_run.proofs.Own.{own_answers, usage_only, asks_nothing}
+use Rattle.mx_run.proofs.Own.{own_answers, replied_status, replied_asks}
 use Rattle.mx_run.proofs.Ended.{ended}
 use Rattle.mx_run.proofs.command.command.Goals as goal
 
@@ -20,14 +21,14 @@ usage_is_no_memory s is e = let bad : Memory ≡ Usage = sym e ∙ is in absurd 
 
 pub finish-requires : goal.finish-requires
 finish-requires g c =
-    let asked : Option Command = command_of (map string_bytes c.args.words.now) in
-    let told : Told = record { tells = g.S.Shelf.tells c.args.shelf.now; held = g.S.Shelf.held c.args.shelf.now } in
-    let before : Counts = record { reads = g.S.Shelf.reads c.args.shelf.now; taken = g.S.Shelf.taken c.args.shelf.now; faults = g.S.Shelf.read_faults c.args.shelf.now } in
-    let between : Counts = record { reads = g.S.Shelf.reads c.reply_to.new.shelf; taken = g.S.Shelf.taken c.reply_to.new.shelf; faults = g.S.Shelf.read_faults c.reply_to.new.shelf } in
-    status_is told (protocol_of asked) before between (reply_answer c.in-Ok.reply) (own_answers asked) c.in-Ok.ensures.performed
+    let answer : Answer = reply_answer c.in-Ok.reply in
+    ⊎_elim
+    (replied_status answer)
+    (λ nothing. subst (λ (a : Answer). HasStatus a) (sym (c.in-Ok.ensures.asks_nothing nothing)) (inl refl))
+    c.in-Ok.ensures.replied
 
 pub returns-clause-complete : goal.returns-clause-complete
-returns-clause-complete g c =
+returns-clause-complete g c = λ layout_of is.
     let asked : Option Command = command_of (map string_bytes c.args.words.now) in
     let first = c.args.shelf.now in
     let second = c.reply_to.new.shelf in
@@ -37,17 +38,17 @@ returns-clause-complete g c =
     let after : Counts = record { reads = g.S.Shelf.reads third; taken = g.S.Shelf.taken third; faults = g.S.Shelf.read_faults third } in
     let unread = c.finish.ensures.unread in
     let same : after ≡ between = λ k. record { reads = unread.0 k; taken = unread.1 k; faults = unread.2 k } in
-    let whole = ended (protocol_of asked) (reply_answer c.in-Ok.reply) c.finish.result
+    let whole = ended (protocol_of layout_of asked) (reply_answer c.in-Ok.reply) c.finish.result
     (g.S.Shelf.tells first) (g.S.Shelf.tells second) (g.S.Shelf.held first) (g.S.Shelf.held second) (g.S.Shelf.held third)
     before between after
     (g.S.Shelf.write_faults first) (g.S.Shelf.write_faults second) (g.S.Shelf.write_faults third)
     (g.W.Sink.faults c.args.out.now) (g.W.Sink.faults c.finish.new.out) (g.W.Sink.written c.args.out.now) (g.W.Sink.written c.finish.new.out)
-    (own_answers asked) c.in-Ok.ensures.performed c.in-Ok.ensures.tells_stay c.in-Ok.ensures.held_stays c.in-Ok.ensures.writes_stay same
+    (own_answers layout_of asked) (c.in-Ok.ensures.performed layout_of is) c.in-Ok.ensures.tells_stay c.in-Ok.ensures.held_stays c.in-Ok.ensures.writes_stay same
     c.finish.ensures.delivered c.finish.ensures.write_fault c.finish.ensures.prefix c.finish.ensures.memory c.finish.ensures.kept in
     whole.complete
 
 pub returns-clause-sound : goal.returns-clause-sound
-returns-clause-sound g c =
+returns-clause-sound g c = λ layout_of is.
     let asked : Option Command = command_of (map string_bytes c.args.words.now) in
     let first = c.args.shelf.now in
     let second = c.reply_to.new.shelf in
@@ -57,17 +58,17 @@ returns-clause-sound g c =
     let after : Counts = record { reads = g.S.Shelf.reads third; taken = g.S.Shelf.taken third; faults = g.S.Shelf.read_faults third } in
     let unread = c.finish.ensures.unread in
     let same : after ≡ between = λ k. record { reads = unread.0 k; taken = unread.1 k; faults = unread.2 k } in
-    let whole = ended (protocol_of asked) (reply_answer c.in-Ok.reply) c.finish.result
+    let whole = ended (protocol_of layout_of asked) (reply_answer c.in-Ok.reply) c.finish.result
     (g.S.Shelf.tells first) (g.S.Shelf.tells second) (g.S.Shelf.held first) (g.S.Shelf.held second) (g.S.Shelf.held third)
     before between after
     (g.S.Shelf.write_faults first) (g.S.Shelf.write_faults second) (g.S.Shelf.write_faults third)
     (g.W.Sink.faults c.args.out.now) (g.W.Sink.faults c.finish.new.out) (g.W.Sink.written c.args.out.now) (g.W.Sink.written c.finish.new.out)
-    (own_answers asked) c.in-Ok.ensures.performed c.in-Ok.ensures.tells_stay c.in-Ok.ensures.held_stays c.in-Ok.ensures.writes_stay same
+    (own_answers layout_of asked) (c.in-Ok.ensures.performed layout_of is) c.in-Ok.ensures.tells_stay c.in-Ok.ensures.held_stays c.in-Ok.ensures.writes_stay same
     c.finish.ensures.delivered c.finish.ensures.write_fault c.finish.ensures.prefix c.finish.ensures.memory c.finish.ensures.kept in
     whole.sound
 
 pub returns-clause-read_fault : goal.returns-clause-read_fault
-returns-clause-read_fault g c =
+returns-clause-read_fault g c = λ layout_of is.
     let asked : Option Command = command_of (map string_bytes c.args.words.now) in
     let first = c.args.shelf.now in
     let second = c.reply_to.new.shelf in
@@ -77,17 +78,17 @@ returns-clause-read_fault g c =
     let after : Counts = record { reads = g.S.Shelf.reads third; taken = g.S.Shelf.taken third; faults = g.S.Shelf.read_faults third } in
     let unread = c.finish.ensures.unread in
     let same : after ≡ between = λ k. record { reads = unread.0 k; taken = unread.1 k; faults = unread.2 k } in
-    let whole = ended (protocol_of asked) (reply_answer c.in-Ok.reply) c.finish.result
+    let whole = ended (protocol_of layout_of asked) (reply_answer c.in-Ok.reply) c.finish.result
     (g.S.Shelf.tells first) (g.S.Shelf.tells second) (g.S.Shelf.held first) (g.S.Shelf.held second) (g.S.Shelf.held third)
     before between after
     (g.S.Shelf.write_faults first) (g.S.Shelf.write_faults second) (g.S.Shelf.write_faults third)
     (g.W.Sink.faults c.args.out.now) (g.W.Sink.faults c.finish.new.out) (g.W.Sink.written c.args.out.now) (g.W.Sink.written c.finish.new.out)
-    (own_answers asked) c.in-Ok.ensures.performed c.in-Ok.ensures.tells_stay c.in-Ok.ensures.held_stays c.in-Ok.ensures.writes_stay same
+    (own_answers layout_of asked) (c.in-Ok.ensures.performed layout_of is) c.in-Ok.ensures.tells_stay c.in-Ok.ensures.held_stays c.in-Ok.ensures.writes_stay same
     c.finish.ensures.delivered c.finish.ensures.write_fault c.finish.ensures.prefix c.finish.ensures.memory c.finish.ensures.kept in
     whole.read_fault
 
 pub returns-clause-prefix : goal.returns-clause-prefix
-returns-clause-prefix g c =
+returns-clause-prefix g c = λ layout_of is.
     let asked : Option Command = command_of (map string_bytes c.args.words.now) in
     let first = c.args.shelf.now in
     let second = c.reply_to.new.shelf in
@@ -97,17 +98,17 @@ returns-clause-prefix g c =
     let after : Counts = record { reads = g.S.Shelf.reads third; taken = g.S.Shelf.taken third; faults = g.S.Shelf.read_faults third } in
     let unread = c.finish.ensures.unread in
     let same : after ≡ between = λ k. record { reads = unread.0 k; taken = unread.1 k; faults = unread.2 k } in
-    let whole = ended (protocol_of asked) (reply_answer c.in-Ok.reply) c.finish.result
+    let whole = ended (protocol_of layout_of asked) (reply_answer c.in-Ok.reply) c.finish.result
     (g.S.Shelf.tells first) (g.S.Shelf.tells second) (g.S.Shelf.held first) (g.S.Shelf.held second) (g.S.Shelf.held third)
     before between after
     (g.S.Shelf.write_faults first) (g.S.Shelf.write_faults second) (g.S.Shelf.write_faults third)
     (g.W.Sink.faults c.args.out.now) (g.W.Sink.faults c.finish.new.out) (g.W.Sink.written c.args.out.now) (g.W.Sink.written c.finish.new.out)
-    (own_answers asked) c.in-Ok.ensures.performed c.in-Ok.ensures.tells_stay c.in-Ok.ensures.held_stays c.in-Ok.ensures.writes_stay same
+    (own_answers layout_of asked) (c.in-Ok.ensures.performed layout_of is) c.in-Ok.ensures.tells_stay c.in-Ok.ensures.held_stays c.in-Ok.ensures.writes_stay same
     c.finish.ensures.delivered c.finish.ensures.write_fault c.finish.ensures.prefix c.finish.ensures.memory c.finish.ensures.kept in
     whole.put_out
 
 pub returns-clause-performed : goal.returns-clause-performed
-returns-clause-performed g c = λ r w m.
+returns-clause-performed g c = λ layout_of is r w m.
     let asked : Option Command = command_of (map string_bytes c.args.words.now) in
     let told : Told = record { tells = g.S.Shelf.tells c.args.shelf.now; held = g.S.Shelf.held c.args.shelf.now } in
     let before : Counts = record { reads = g.S.Shelf.reads c.args.shelf.now; taken = g.S.Shelf.taken c.args.shelf.now; faults = g.S.Shelf.read_faults c.args.shelf.now } in
@@ -116,25 +117,19 @@ returns-clause-performed g c = λ r w m.
     let unread = c.finish.ensures.unread in
     let same : after ≡ between = λ k. record { reads = unread.0 k; taken = unread.1 k; faults = unread.2 k } in
     let delivered = c.finish.ensures.delivered w m in
-    (reply_answer c.in-Ok.reply, subst (λ (n : Counts). Performed told (protocol_of asked) before n (reply_answer c.in-Ok.reply)) (sym same) c.in-Ok.ensures.performed, delivered.status, delivered.output)
+    (reply_answer c.in-Ok.reply, subst (λ (n : Counts). Performed told (protocol_of layout_of asked) before n (reply_answer c.in-Ok.reply)) (sym same) (c.in-Ok.ensures.performed layout_of is), delivered.status, delivered.output)
 
 pub returns-clause-usage : goal.returns-clause-usage
 returns-clause-usage g c = λ is.
-    let asked : Option Command = command_of (map string_bytes c.args.words.now) in
-    let told : Told = record { tells = g.S.Shelf.tells c.args.shelf.now; held = g.S.Shelf.held c.args.shelf.now } in
-    let before : Counts = record { reads = g.S.Shelf.reads c.args.shelf.now; taken = g.S.Shelf.taken c.args.shelf.now; faults = g.S.Shelf.read_faults c.args.shelf.now } in
-    let between : Counts = record { reads = g.S.Shelf.reads c.reply_to.new.shelf; taken = g.S.Shelf.taken c.reply_to.new.shelf; faults = g.S.Shelf.read_faults c.reply_to.new.shelf } in
     let delivered = c.finish.ensures.delivered (usage_is_no_write_fault c.finish.result is) (usage_is_no_memory c.finish.result is) in
-    usage_only told asked before between (reply_answer c.in-Ok.reply) c.in-Ok.ensures.performed (sym delivered.status ∙ is)
+    ⊎_elim
+    (λ replied. absurd (replied_asks (reply_answer c.in-Ok.reply) replied (sym delivered.status ∙ is)))
+    (λ nothing. nothing)
+    c.in-Ok.ensures.replied
 
 pub returns-clause-asks_nothing : goal.returns-clause-asks_nothing
 returns-clause-asks_nothing g c = λ nothing.
-    let asked : Option Command = command_of (map string_bytes c.args.words.now) in
-    let told : Told = record { tells = g.S.Shelf.tells c.args.shelf.now; held = g.S.Shelf.held c.args.shelf.now } in
-    let before : Counts = record { reads = g.S.Shelf.reads c.args.shelf.now; taken = g.S.Shelf.taken c.args.shelf.now; faults = g.S.Shelf.read_faults c.args.shelf.now } in
-    let between : Counts = record { reads = g.S.Shelf.reads c.reply_to.new.shelf; taken = g.S.Shelf.taken c.reply_to.new.shelf; faults = g.S.Shelf.read_faults c.reply_to.new.shelf } in
-    let answer = asks_nothing told asked before between (reply_answer c.in-Ok.reply) nothing c.in-Ok.ensures.performed in
     ⊎_elim
     (λ fault. inr fault)
-    (λ other. inl ((c.finish.ensures.delivered other.0 other.1).status ∙ ap (λ a. a.status) answer))
+    (λ other. inl ((c.finish.ensures.delivered other.0 other.1).status ∙ ap (λ a. a.status) (c.in-Ok.ensures.asks_nothing nothing)))
     (status_cases c.finish.result)

@@ -1,9 +1,0 @@
-use Rattle.std.proofs.Common.{◌≤◌, ◌≡◌, drop}
-use Rattle.mx_plain.specs.Plain.{number_after, number_of}
-use Rattle.mx_plain.proofs.plain.number.Given as goal
-
-abbrev pub invariant-loop-d : goal.invariant-loop-d
-invariant-loop-d l = record {
-  within : l.n ≤ 65536;
-  value : number_after l.n (drop l.d-index l.digits) ≡ number_of l.digits;
-}

@@ -1,3 +1,0 @@
-addi r0,#1,r1
-nop
-halt
