@@ -7,3 +7,8 @@ pub mod OneBlock
 pub mod Transfers
 pub mod Whole
 pub mod Codes
+pub mod Imaged
+pub mod Sited
+pub mod Layouts
+pub mod Slots
+pub mod Placing

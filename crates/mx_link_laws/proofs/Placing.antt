@@ -1,0 +1,436 @@
+-- Each block of a layout, with what it ends with, as it is linked.
+use Rattle.std.proofs.Common.{◌≡◌, ◌≢◌, ℕ, ℤ, pos, negsuc, zero, suc, ◌+◌, ◌*◌, ◌-◌, ◌%◌, ◌^◌, ◌<◌, ◌≤◌, Bool, true, false, cond, eqb, leb, ltb, not, ◌&&◌, ◌||◌, List, [], ◌∷◌, ◌++◌, ◌⊎◌, length, take, All, Option, Some, None, slice_index_or, refl, sym, ap, ◌∙◌, subst, arith, ⊎_elim, inl, inr}
+use Rattle.std.specs.Prelude.{slice_get}
+use Rattle.std.specs.Int.{w32, cast_unsigned}
+use Rattle.std.specs.Option.{option_map}
+use Rattle.std.proofs.lemmas.Bool.{cases_lt, cases_Bool, and_parts, eqb-true}
+use Rattle.std.proofs.lemmas.Bool.Decides.{nat_tests}
+use Rattle.std.proofs.lemmas.List.{append-nil, length-map, map-append}
+use Rattle.std.proofs.lemmas.Option.{same_Some, none-some}
+use Rattle.mx_isa.specs.declared.place.Place.{Place}
+use Rattle.mx_isa.specs.declared.inst.Cond.{Cond}
+use Rattle.mx_isa.specs.declared.inst.Cond.TheVariants.{Eq}
+use Rattle.mx_isa.specs.declared.inst.Inst.{Inst}
+use Rattle.mx_isa.specs.declared.inst.Inst.TheVariants.{Jspci}
+use Rattle.mx_isa.specs.declared.inst.Inst.TheVariants.{Branch as BranchInst, Halt as HaltInst}
+use Rattle.mx_isa.specs.Words.{Words, reg}
+use Rattle.mx_isa.specs.Arithmetic.{condition_holds}
+use Rattle.mx_code.specs.Codes.{HasRegisters}
+use Rattle.mx_depend.specs.Graphs.{inst_at as inst_number}
+use Rattle.mx_source.specs.declared.statement.Statement.{Statement}
+use Rattle.mx_source.specs.declared.statement.Statement.TheVariants.{Plain, LaCode, Branch, Call, CallReg, JumpReg, Halt}
+use Rattle.mx_source.specs.Labels.{is_labelled, IsPlace}
+use Rattle.mx_source.specs.Statements.{StatementFits}
+use Rattle.mx_source.specs.SourceValue.{SourceValue, IsSource}
+use Rattle.mx_source.specs.Values.{value_in}
+use Rattle.mx_source.specs.Meaning.{State, jumps, execute}
+use Rattle.mx_blocks.specs.declared.block.Block.{Block}
+use Rattle.mx_blocks.specs.declared.block.Item.{Item}
+use Rattle.mx_blocks.specs.declared.block.Item.TheVariants.{Op, Nop}
+use Rattle.mx_blocks.specs.declared.block.End.{End}
+use Rattle.mx_blocks.specs.declared.block.End.TheVariants.{Falls as FallsEnd, Halts as HaltsEnd, Branches as BranchesEnd, Calls as CallsEnd, Jumps as JumpsEnd}
+use Rattle.mx_blocks.specs.Leaders.{ends_there, gap, is_leader, end_of, size, IsBlockOf, BlocksFrom}
+use Rattle.mx_blocks.specs.Leaders.{inst_of as statement_inst}
+use Rattle.mx_blocks.proofs.Splits.{gap_small}
+use Rattle.mx_validate.specs.Padded.{insts_of, items_of, falls, body_count}
+use Rattle.mx_validate.specs.Validity.{Valid}
+use Rattle.mx_squash.specs.declared.copying.Copied.{Copied}
+use Rattle.mx_squash.specs.Copies.{Site, site_of, is_target, may_stay, always_goes, terminator, is_branch_end}
+use Rattle.mx_layout.specs.Layout.{IsLayout, link_of, plan_size, StandFrom, blocks_in, has_statement}
+use Rattle.mx_layout.specs.Overlong.{overlong}
+use Rattle.mx_link.specs.Origins.{Filling, own, goal_of, copied_to}
+use Rattle.mx_link.specs.Words.{displacement, linked_inst, inst_at}
+use Rattle.mx_link.specs.Parts.{origin_at}
+use Rattle.mx_link.proofs.Bodies.{inst_is}
+use Rattle.mx_link.proofs.Linkable.{Goes}
+use Rattle.mx_order.specs.Parts.{AreBelow, EndsWith, IsTransfer, Parts}
+use Rattle.mx_order.proofs.Split.{body_within, has_parts}
+use Rattle.mx_order.proofs.Words.{item_inst, words}
+use Rattle.mx_link_laws.proofs.Going.{Stands}
+use Rattle.mx_link_laws.proofs.Planned.{bodies_length, size_ends}
+use Rattle.mx_link_laws.proofs.Codes.{place_leads, statement_fits}
+use Rattle.mx_link_laws.proofs.Sited.{body, there, inst_there, words_from, plain_word_at, end_word}
+use Rattle.mx_layout.proofs.Links.{site_found}
+use Rattle.mx_link_laws.proofs.Layouts.{Fills, goes, Begins, begins, end_low}
+use Rattle.mx_link_laws.proofs.Slots.{never, lk, p, smaller, lower, cd, ins, place_of, place_in, Stood, shorter, insts_at, laid_at, parts_stand, x, y, filled_there, own_slots}
+use Rattle.mx_link_laws.proofs.Transfers.{Lay, Kind, Branches, Calls, Transfers, EndOf, Falls, Stops, Moves, Jumps}
+use Rattle.mx_link_laws.proofs.Whole.{Placed}
+
+false_true : false ≡ true → ⊥
+false_true e = grind arith
+
+-- no block begins before the first
+first_low : (source : SourceValue) (i j : ℕ) (list : List Site) (k : ℕ) (d : Site) → BlocksFrom source i j (blocks_in list) → k < length list → i ≤ (slice_index_or list k d).block.first
+first_low source i j [] k d h l = absurd (omega arith)
+first_low source i j (s ∷ list) zero d h l = let first = h.0 in omega arith
+first_low source i j (s ∷ list) (suc k) d h l = let later = first_low source (i + size s.block) j list k d h.2 (omega arith) in omega arith
+
+behind_block : (t : ℕ) (b : Block) → b.first + size b ≤ t → has_statement t b ≡ false
+behind_block t b l = grind (arith, nat_tests)
+
+in_block : (t : ℕ) (b : Block) → b.first ≡ t → 1 ≤ size b → has_statement t b ≡ true
+in_block t b e l = grind (arith, nat_tests)
+
+-- behind each block the next one begins
+next_links : (source : SourceValue) (i j at : ℕ) (list : List Site) → BlocksFrom source i j (blocks_in list) → StandFrom at list → All (λ (s : Site). link_of at list (s.block.first + size s.block) ≡ s.start + plan_size s.plan) list
+next_links source i j at [] h st k d l = absurd (omega arith)
+next_links source i j at (s ∷ list) h st zero d l =
+    ap (λ c. cond c at (link_of (at + plan_size s.plan) list (s.block.first + size s.block))) (behind_block (s.block.first + size s.block) s.block (omega arith))
+    ∙ at_next list h.2
+    ∙ ap (λ n. n + plan_size s.plan) (sym st.0)
+  where
+    at_next : (rest : List Site) → BlocksFrom source (i + size s.block) j (blocks_in rest) → link_of (at + plan_size s.plan) rest (s.block.first + size s.block) ≡ at + plan_size s.plan
+    at_next [] b = refl
+    at_next (r ∷ rest) b =
+        let first = h.0 in
+        let begin = b.0 in
+        ap (λ c. cond c (at + plan_size s.plan) (link_of (at + plan_size s.plan + plan_size r.plan) rest (s.block.first + size s.block))) (in_block (s.block.first + size s.block) r.block (omega arith) b.1.some)
+next_links source i j at (s ∷ list) h st (suc k) d l =
+    let r = slice_index_or list k d in
+    let first = h.0 in
+    let above = first_low source (i + size s.block) j list k d h.2 (omega arith) in
+    ap (λ c. cond c at (link_of (at + plan_size s.plan) list (r.block.first + size r.block))) (behind_block (r.block.first + size r.block) s.block (omega arith))
+    ∙ next_links source (i + size s.block) j (at + plan_size s.plan) list h.2 st.1 k d (omega arith)
+
+-- a block has at most 64 statements
+gap_in : (source : SourceValue) (b : Block) → IsBlockOf source b → (t : ℕ) → t < size b → gap (is_labelled source.labels) source.statements (b.first + t) ≡ t
+gap_in source b h zero l = ap (gap (is_labelled source.labels) source.statements) (let e : b.first + 0 ≡ b.first = omega arith in e) ∙ eqb-true _ 0 h.leader
+gap_in source b h (suc t) l =
+    let on : b.first + suc t ≡ suc (b.first + t) = omega arith in
+    let quiet = h.inner (suc t) (omega arith) l in
+    ap (gap (is_labelled source.labels) source.statements) on
+    ∙ counts (is_labelled source.labels (suc (b.first + t)) || (ends_there (slice_get source.statements (b.first + t)) || eqb (gap (is_labelled source.labels) source.statements (b.first + t)) 63)) (gap (is_labelled source.labels) source.statements (b.first + t)) (ap (is_leader source) (sym on) ∙ quiet)
+    ∙ ap (λ n. suc n) (gap_in source b h t (omega arith))
+  where
+    counts : (c : Bool) (n : ℕ) → eqb (cond c 0 (suc n)) 0 ≡ false → cond c 0 (suc n) ≡ suc n
+    counts true n e = absurd (false_true (sym e))
+    counts false n e = refl
+
+few_statements : (source : SourceValue) (b : Block) → IsBlockOf source b → size b ≤ 64
+few_statements source b h =
+    let some = h.some in
+    let g = gap_in source b h (size b - 1) (omega arith) in
+    let m = gap_small (is_labelled source.labels) source.statements (b.first + (size b - 1)) in
+    omega arith
+
+left_below : (n : ℕ) (f g : Item) → AreBelow n (f ∷ g ∷ []) → AreBelow n (f ∷ [])
+left_below n (Op k) g h = (h.0, tt)
+left_below n Nop g h = tt
+
+right_below : (n : ℕ) (f g : Item) → AreBelow n (f ∷ g ∷ []) → AreBelow n (g ∷ [])
+right_below n (Op k) g h = h.1
+right_below n Nop g h = h
+
+-- a displacement leads from one address to the other
+displaced : (a z : ℕ) → a < 2 ^ 31 → z < 2 ^ 31 → (a + cast_unsigned w32 (displacement a z)) % 2 ^ 31 ≡ z
+displaced a z h k = by_order (leb a z) refl
+  where
+    by_order : (b : Bool) → leb a z ≡ b → (a + cast_unsigned w32 (cond b (pos (z - a)) (negsuc (a - z - 1)))) % 2 ^ 31 ≡ z
+    by_order true e = let l : a ≤ z = grind (arith, nat_tests) in omega arith
+    by_order false e = let l : z < a = grind (arith, nat_tests) in omega arith
+
+-- beq r0,r0 goes whatever registers hold
+always_holds : (a b : ℕ) (condition : Cond) (f : Words) → always_goes (Some (BranchInst a b condition false (pos 0))) ≡ true → condition_holds condition (reg f a) (reg f b) ≡ true
+always_holds a b Eq f e =
+    let both = and_parts (eqb a 0) (eqb b 0) e in
+    let za = eqb-true a 0 both.0 in
+    let zb = eqb-true b 0 both.1 in
+    (λ k. condition_holds Eq (reg f (za k)) (reg f (zb k)))
+always_holds a b _ f e = absurd (false_true e)
+
+module _ (source : SourceValue) (is : IsSource source) (registers : (i : ℕ) (s : Statement) → slice_get source.statements i ≡ Some s → HasRegisters (statement_inst s)) (place : Place) (all : List Site) (h : IsLayout Valid source place all) (room' : place.code + 3 * length source.statements ≤ 65535) (reach : overlong source place (blocks_in all) ≡ None) (filling : Filling) (fills : Fills source is registers place all h room' reach filling) (bytes : List ℕ) where
+  abbrev pub link : ℕ → ℕ
+  link = lk source is registers place all h room' reach filling fills bytes
+
+  abbrev pub small : (i : ℕ) → link i + 8 < 2 ^ 31
+  small = smaller source is registers place all h room' reach filling fills bytes
+
+  abbrev pub above : (i : ℕ) → place.code ≤ link i
+  above = lower source is registers place all h room' reach filling fills bytes
+
+  abbrev pub PlacedAt : ℕ → Type 0
+  PlacedAt t = Placed link (p source is registers place all h room' reach filling fills bytes) small above (cd source is registers place all h room' reach filling fills bytes) (ins source is registers place all h room' reach filling fills bytes) (is_leader source) (place_of source is registers place all h room' reach filling fills bytes) t
+
+  abbrev pub LayAt : ℕ → Type 0
+  LayAt t = Lay link (p source is registers place all h room' reach filling fills bytes) small above (cd source is registers place all h room' reach filling fills bytes) (ins source is registers place all h room' reach filling fills bytes) (is_leader source) (place_of source is registers place all h room' reach filling fills bytes) t
+
+  abbrev pub EndAt : (t : ℕ) → LayAt t → Type 0
+  EndAt t w = EndOf link (p source is registers place all h room' reach filling fills bytes) small above (cd source is registers place all h room' reach filling fills bytes) (ins source is registers place all h room' reach filling fills bytes) (is_leader source) (place_of source is registers place all h room' reach filling fills bytes) t w
+
+  abbrev StoodAt : Site → Type 0
+  StoodAt s = Stood source is registers place all h room' reach filling fills bytes s
+
+  module _ (s : Site) (st : StoodAt s) (next_is : link (s.block.first + size s.block) ≡ s.start + plan_size s.plan) where
+    abbrev c : Copied
+    c = filling all s
+
+    abbrev first : ℕ
+    first = s.block.first
+
+    abbrev n : ℕ
+    n = body_count s.block
+
+    abbrev list : List Inst
+    list = insts_at source is registers place all h room' reach filling fills bytes s st
+
+    abbrev parts : Parts s.block s.plan
+    parts = has_parts s.block s.plan st.of.valid
+
+    abbrev front : List Item
+    front = parts.front
+
+    abbrev back : List Item
+    back = parts.back
+
+    abbrev lay : LayAt first
+    lay = record {
+      block = s.block;
+      plan = s.plan;
+      insts = list;
+      laid = laid_at source is registers place all h room' reach filling fills bytes s st;
+      parts = parts;
+      some = st.of.block.some;
+      few = few_statements source s.block st.of.block;
+      body = body source is link (shorter source is registers place all h room' reach filling fills bytes) s c st.of.block st.of.valid (goes source is registers place all h room' reach filling fills s st.of);
+      next = next_is ∙ ap (λ a. a + plan_size s.plan) (sym st.of.start);
+      lead = st.of.block.next;
+    }
+
+    -- the site of the last statement
+    abbrev final : ℕ
+    final = size s.block - 1
+
+    abbrev seen : ℕ → Item → Inst
+    seen a item = inst_at link source.statements c a (own first item)
+
+    goes_here : Goes source link s c
+    goes_here = goes source is registers place all h room' reach filling fills s st.of
+
+    place_is : s.plan.place ≡ length front
+    place_is = parts.place
+
+    inner_is : length (take n list) ≡ n
+    inner_is = bodies_length s.block s.plan list _ (laid_at source is registers place all h room' reach filling fills bytes s st) parts st.of.block.some
+
+    last_is : falls s.block.end ≡ false → n ≡ final
+    last_is f = let e = size_ends s.block s.plan list _ (laid_at source is registers place all h room' reach filling fills bytes s st) parts st.of.block.some f in let b = st.of.block.some in omega arith
+
+    -- the words from the terminator's place on
+    abbrev tail_words : List Item → List Inst
+    tail_words items = words_from source is link (shorter source is registers place all h room' reach filling fills bytes) s c st.of.block st.of.valid (goes source is registers place all h room' reach filling fills s st.of) (length front) items
+
+    abbrev StandsHere : ℕ → List Inst → Type 0
+    StandsHere = Stands (cd source is registers place all h room' reach filling fills bytes) (ins source is registers place all h room' reach filling fills bytes)
+
+    stands_here : (items : List Item) (tail : List Inst) → back ≡ items → tail_words items ≡ tail → StandsHere (link first) (words list front ++ tail)
+    stands_here items tail e f =
+        subst (λ a. StandsHere a (words list front ++ tail)) (sym st.of.start)
+        (subst (λ l. StandsHere s.start (words list front ++ l)) (ap tail_words e ∙ f)
+        (parts_stand source is registers place all h room' reach filling fills bytes s st parts))
+
+    -- the terminator's word
+    ender_word : n < size s.block → inst_at link source.statements c (s.start + length front) (origin_at s c (length front) (Op n)) ≡ inst_number list n
+    ender_word l =
+        (λ k. inst_at link source.statements c (s.start + sym place_is k) (origin_at s c (sym place_is k) (Op n)))
+        ∙ plain_word_at source is link (shorter source is registers place all h room' reach filling fills bytes) s c st.of.block st.of.valid goes_here s.plan.place (Op n) (omega arith)
+        ∙ end_word source is link (shorter source is registers place all h room' reach filling fills bytes) s c st.of.block st.of.valid goes_here n l
+
+    words_all : (items : List Item) → back ≡ items → words list (items_of s.plan) ≡ words list front ++ words list items
+    words_all items e = ap (words list) (parts.whole ∙ ap (λ l. front ++ l) e) ∙ map-append (item_inst list) front items
+
+    -- the last statement, by its block's end
+    record Last (z : Statement) : Type 0 where
+      at : slice_get source.statements (first + final) ≡ Some z
+      end : s.block.end ≡ end_of z
+
+    end_parts : (z : Statement) → Last z → EndsWith (end_of z) n back
+    end_parts z l = subst (λ e. EndsWith e n back) l.end parts.end
+
+    -- the statement behind the body, and its instruction
+    behind_body : (z : Statement) → Last z → falls s.block.end ≡ false → slice_get source.statements (first + length (take n list)) ≡ Some z
+    behind_body z l f = (let e : first + length (take n list) ≡ first + final = (let a = inner_is in let b = last_is f in omega arith) in ap (slice_get source.statements) e) ∙ l.at
+
+    ender_is : (z : Statement) → Last z → falls s.block.end ≡ false → inst_number list n ≡ linked_inst link c (s.start + s.plan.place) z
+    ender_is z l f =
+        let b = last_is f in
+        let some = st.of.block.some in
+        let w : n < size s.block = omega arith in
+        let t = there source is link (shorter source is registers place all h room' reach filling fills bytes) s c st.of.block st.of.valid goes_here n w in
+        let on : first + n ≡ first + final = omega arith in
+        inst_there source is link (shorter source is registers place all h room' reach filling fills bytes) s c st.of.block st.of.valid goes_here n w
+        ∙ ap (linked_inst link c (s.start + s.plan.place)) (same_Some t.statement z (sym t.is_there ∙ ap (slice_get source.statements) on ∙ l.at))
+
+    falls_end : (z : Statement) → Last z → end_of z ≡ FallsEnd → EndAt first lay
+    falls_end z l e =
+        let none : back ≡ [] = subst (λ x. EndsWith x n back) e (end_parts z l) in
+        Falls (ap falls (l.end ∙ e)) none
+        (subst (StandsHere (link first)) (sym (words_all [] none)) (stands_here [] [] none refl))
+
+    stops_end : Last Halt → EndAt first lay
+    stops_end l =
+        let f : falls s.block.end ≡ false = ap falls l.end in
+        let one : back ≡ Op n ∷ [] = end_parts Halt l in
+        let b = last_is f in
+        let some = st.of.block.some in
+        let w : n < size s.block = omega arith in
+        Stops f one (behind_body Halt l f) (ender_is Halt l f)
+        (subst (StandsHere (link first)) (sym (words_all (Op n ∷ []) one))
+        (stands_here (Op n ∷ []) (inst_number list n ∷ []) one (λ k. ender_word w k ∷ [])))
+
+    abbrev TransfersHere : Type 0
+    TransfersHere = Transfers link (p source is registers place all h room' reach filling fills bytes) small above (cd source is registers place all h room' reach filling fills bytes) (ins source is registers place all h room' reach filling fills bytes) (is_leader source) (place_of source is registers place all h room' reach filling fills bytes) first lay
+
+    abbrev KindHere : Type 0
+    KindHere = Kind link (p source is registers place all h room' reach filling fills bytes) small above (cd source is registers place all h room' reach filling fills bytes) (ins source is registers place all h room' reach filling fills bytes) (is_leader source) (place_of source is registers place all h room' reach filling fills bytes) first lay (goal_of s.block.end) c.count c.squash (not (may_stay s.block))
+
+    -- a transfer and its slots
+    module _ (f_not : falls s.block.end ≡ false) (t : IsTransfer n back) where
+      below_f : AreBelow n (t.first ∷ [])
+      below_f = left_below n t.first t.second t.slots
+
+      below_g : AreBelow n (t.second ∷ [])
+      below_g = right_below n t.first t.second t.slots
+
+      abbrev transfers : TransfersHere
+      transfers = record { f_not = f_not; f = t.first; g = t.second; three = t.is; below = t.slots }
+
+      abbrev first_slot : Inst
+      first_slot = x source is registers place all h room' reach filling fills bytes s st parts t.first t.second t.is below_f below_g
+
+      abbrev second_slot : Inst
+      second_slot = y source is registers place all h room' reach filling fills bytes s st parts t.first t.second t.is below_f below_g
+
+      three_words : n < size s.block → tail_words (Op n ∷ t.first ∷ t.second ∷ []) ≡ inst_number list n ∷ first_slot ∷ second_slot ∷ []
+      three_words l =
+          (λ k. ender_word l k ∷ inst_at link source.statements c (one k) (origin_at s c (one_on k) t.first) ∷ inst_at link source.statements c (two k) (origin_at s c (two_on k) t.second) ∷ [])
+        where
+          one_on : suc (length front) ≡ s.plan.place + 1
+          one_on = let e = place_is in omega arith
+
+          two_on : suc (suc (length front)) ≡ s.plan.place + 2
+          two_on = let e = place_is in omega arith
+
+          one : suc (s.start + length front) ≡ s.start + (s.plan.place + 1)
+          one = let e = place_is in omega arith
+
+          two : suc (suc (s.start + length front)) ≡ s.start + (s.plan.place + 2)
+          two = let e = place_is in omega arith
+
+      stand_three : StandsHere (link first) (words list front ++ inst_number list n ∷ first_slot ∷ second_slot ∷ [])
+      stand_three =
+          let b = last_is f_not in
+          let some = st.of.block.some in
+          let w : n < size s.block = omega arith in
+          stands_here (Op n ∷ t.first ∷ t.second ∷ []) (inst_number list n ∷ first_slot ∷ second_slot ∷ []) t.is (three_words w)
+
+      -- to the block at the goal
+      moves : KindHere → is_leader source (goal_of s.block.end) ≡ true → EndAt first lay
+      moves kind lead =
+          Moves transfers (goal_of s.block.end) c.count c.squash (not (may_stay s.block)) first_slot second_slot kind
+          (filled_there source is registers place all h room' reach filling fills bytes s st parts t.first t.second t.is below_f below_g)
+          (inl lead)
+          stand_three
+
+      -- by a register
+      jumps_end : s.block.end ≡ JumpsEnd → (a d : ℕ) (z : Statement) → Last z → ((u : State) → execute (p source is registers place all h room' reach filling fills bytes) (Some z) u ≡ jumps (value_in u.regs a) d u) → inst_number list n ≡ Jspci a d (pos 0) → EndAt first lay
+      jumps_end e a d z l means ender =
+          let own = own_slots source is registers place all h room' reach filling fills bytes s st parts t.first t.second t.is below_f below_g (ap (λ q. site_of (is_target q) all) e ∙ never all) in
+          Jumps transfers a d
+          (λ u. ap (λ o. execute (p source is registers place all h room' reach filling fills bytes) o u) (behind_body z l f_not) ∙ means u)
+          ender
+          (subst (StandsHere (link first)) (λ k. words list front ++ inst_number list n ∷ own.first k ∷ own.second k ∷ []) stand_three)
+
+    at_low : s.start + s.plan.place < 2 ^ 31
+    at_low =
+        let b = st.of.below in
+        let e = end_low source is registers place all h room' reach in
+        let t = st.of.valid.tail in
+        omega arith
+
+    place_there : link first + length (words list front) ≡ s.start + s.plan.place
+    place_there =
+        let a = st.of.start in
+        let e = place_is in
+        let m = length-map front (item_inst list) in
+        omega arith
+
+    branch_kind : (a b : ℕ) (condition : Cond) (t : ℕ) → Last (Branch a b condition t) → KindHere
+    branch_kind a b condition t l =
+        let z = Branch a b condition t in
+        let f : falls s.block.end ≡ false = ap falls l.end in
+        let goal : t ≡ goal_of s.block.end = sym (ap goal_of l.end) in
+        let near = goes_here.branch t l.end in
+        Branches a b condition (displacement (s.start + s.plan.place) (link (goal_of s.block.end) + c.count))
+        (behind_body z l f ∙ ap (λ u. Some (Branch a b condition u)) goal)
+        (ender_is z l f ∙ ap (λ u. BranchInst a b condition c.squash (displacement (s.start + s.plan.place) (link u + c.count))) goal)
+        (ap (λ q. (q + cast_unsigned w32 (displacement (s.start + s.plan.place) (link (goal_of s.block.end) + c.count))) % 2 ^ 31) place_there
+        ∙ displaced (s.start + s.plan.place) (link (goal_of s.block.end) + c.count) at_low
+        (subst (λ u. link u + c.count < 2 ^ 31) goal (near_low (link t + c.count) near)))
+        (λ sure g. always_holds a b condition g (always (is_branch_end s.block.end) (always_goes (terminator s.block)) (ap is_branch_end l.end) sure
+        (ap always_goes (inst_is source s.block st.of.block final z (let some = st.of.block.some in omega arith) l.at))))
+      where
+        near_low : (to : ℕ) → (leb to (s.start + s.plan.place + 32767) && leb (s.start + s.plan.place) (to + 32768)) ≡ true → to < 2 ^ 31
+        near_low to e =
+            let parts = and_parts (leb to (s.start + s.plan.place + 32767)) (leb (s.start + s.plan.place) (to + 32768)) e in
+            let q = at_low in
+            let r : to ≤ s.start + s.plan.place + 32767 = under to (s.start + s.plan.place + 32767) parts.0 in
+            let b = st.of.below in
+            let m = end_low source is registers place all h room' reach in
+            let v = st.of.valid.tail in
+            omega arith
+          where
+            under : (m k : ℕ) → leb m k ≡ true → m ≤ k
+            under m k e = grind (arith, nat_tests)
+
+        always : (v w : Bool) {q : Bool} → v ≡ true → not (v && not w) ≡ true → w ≡ q → q ≡ true
+        always v w e g r = sym r ∙ both v w e g
+          where
+            both : (v w : Bool) → v ≡ true → not (v && not w) ≡ true → w ≡ true
+            both v w e g = grind arith
+
+    call_kind : (d t : ℕ) → Last (Call d t) → KindHere
+    call_kind d t l =
+        let f : falls s.block.end ≡ false = ap falls l.end in
+        let goal : t ≡ goal_of s.block.end = sym (ap goal_of l.end) in
+        Calls d
+        (behind_body (Call d t) l f ∙ ap (λ u. Some (Call d u)) goal)
+        (ender_is (Call d t) l f ∙ ap (λ u. Jspci 0 d (pos (link u + c.count))) goal)
+
+    ends : (z : Statement) → Last z → StatementFits (IsPlace source.labels (length source.statements)) z → EndAt first lay
+    ends (Plain i) l fit = falls_end (Plain i) l refl
+    ends (LaCode d t) l fit = falls_end (LaCode d t) l refl
+    ends (Branch a b condition t) l fit =
+        moves (ap falls l.end) (end_parts (Branch a b condition t) l) (branch_kind a b condition t l)
+        (ap (is_leader source) (ap goal_of l.end) ∙ place_leads source is t fit)
+    ends (Call d t) l fit =
+        moves (ap falls l.end) (end_parts (Call d t) l) (call_kind d t l)
+        (ap (is_leader source) (ap goal_of l.end) ∙ place_leads source is t fit)
+    ends (CallReg a d) l fit =
+        jumps_end (ap falls l.end) (end_parts (CallReg a d) l) l.end a d (CallReg a d) l (λ u. refl) (ender_is (CallReg a d) l (ap falls l.end))
+    ends (JumpReg a) l fit =
+        jumps_end (ap falls l.end) (end_parts (JumpReg a) l) l.end a 0 (JumpReg a) l (λ u. refl) (ender_is (JumpReg a) l (ap falls l.end))
+    ends Halt l fit = stops_end l
+
+    end : EndAt first lay
+    end = by_last (slice_get source.statements (first + final)) refl
+      where
+        by_last : (o : Option Statement) → slice_get source.statements (first + final) ≡ o → EndAt first lay
+        by_last None e = absurd (none-some s.block.end (sym (ap (option_map end_of) (there_on ∙ e)) ∙ st.of.block.end))
+          where
+            there_on : slice_get source.statements (first + size s.block - 1) ≡ slice_get source.statements (first + final)
+            there_on = let some = st.of.block.some in let q : first + size s.block - 1 ≡ first + final = omega arith in ap (slice_get source.statements) q
+        by_last (Some z) e = ends z (record { at = e; end = sym (same_Some (end_of z) s.block.end (sym (ap (option_map end_of) (there_on ∙ e)) ∙ st.of.block.end)) }) (statement_fits source is (first + final) z e)
+          where
+            there_on : slice_get source.statements (first + size s.block - 1) ≡ slice_get source.statements (first + final)
+            there_on = let some = st.of.block.some in let q : first + size s.block - 1 ≡ first + final = omega arith in ap (slice_get source.statements) q
+
+    pub placed_first : (t : ℕ) → first ≡ t → site_of (λ b. eqb b.first t) all ≡ Some s → PlacedAt t
+    placed_first t e found =
+        subst PlacedAt e (record { lay = lay; end = end; place = ap (place_of source is registers place all h room' reach filling fills bytes) e ∙ ap place_in found ∙ place_is })
+
+  -- the block of each leader
+  pub placed : (t : ℕ) → is_leader source t ≡ true → t < length source.statements → PlacedAt t
+  placed t e l =
+      let b = begins source is registers place all h room' reach filling fills t e l in
+      let next = site_found (λ (s : Site). link (s.block.first + size s.block) ≡ s.start + plan_size s.plan) (λ b. eqb b.first t) all b.site (next_links source 0 (length source.statements) place.code all h.blocks h.stand) b.found in
+      placed_first b.site b.standing next.0 t b.first b.found
