@@ -12,3 +12,4 @@ pub mod Sited
 pub mod Layouts
 pub mod Slots
 pub mod Placing
+pub mod Shown

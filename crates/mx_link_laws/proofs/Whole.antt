@@ -275,7 +275,7 @@ module _ (link : ℕ → ℕ) (p : Program) (small : (i : ℕ) → link i + 8 < 
   D_stays : (a b : ℕ) → a ≤ b → (D a).at.halted ≡ true → D b ≡ D a
   D_stays a b h q = ap D (let e : b ≡ a + (b - a) = omega arith in e) ∙ D_add a (b - a) ∙ halted_for code inside p.place p.input (b - a) (D a) q
 
-  M_stays : (a b : ℕ) → a ≤ b → is_going (M a).state.mark ≡ false → M b ≡ M a
+  pub M_stays : (a b : ℕ) → a ≤ b → is_going (M a).state.mark ≡ false → M b ≡ M a
   M_stays a b h q = ap M (let e : b ≡ a + (b - a) = omega arith in e) ∙ run_add p a (b - a) r0 ∙ stays_for p (b - a) (M a) q
 
   -- The run of linked code is clean, and what it has sent is what the meaning says.
