@@ -3,4 +3,4 @@
 
 mod laws;
 
-pub use laws::run_does_as_linked;
+pub use laws::run_means_its_source;
