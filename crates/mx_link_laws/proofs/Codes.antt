@@ -1,5 +1,5 @@
 -- Each place of code that the meaning holds is a leader.
-use Rattle.std.proofs.Common.{◌≡◌, ℕ, zero, suc, ◌+◌, ◌-◌, ◌<◌, ◌≤◌, Bool, true, false, cond, eqb, leb, ◌&&◌, ◌||◌, List, [], length, All, Option, Some, None, refl, sym, ap, ◌∙◌, subst, arith, ⊎_elim}
+use Rattle.std.proofs.Common.{◌≡◌, ℕ, zero, suc, ◌-◌, ◌<◌, ◌≤◌, Bool, true, false, cond, eqb, leb, ◌||◌, List, [], length, Option, Some, None, refl, sym, ap, subst, arith, ⊎_elim}
 use Rattle.std.specs.Prelude.{slice_get, slice_index_or}
 use Rattle.std.proofs.lemmas.Bool.{cond-true, cases_lt}
 use Rattle.std.proofs.lemmas.List.{get_or_past}
@@ -18,7 +18,7 @@ use Rattle.mx_source.specs.Values.{Values, value_in, put_value, write_value, is_
 use Rattle.mx_source.specs.Labels.{is_labelled, IsPlace}
 use Rattle.mx_source.specs.Statements.{StatementFits, ValueFits}
 use Rattle.mx_source.specs.SourceValue.{SourceValue, IsSource}
-use Rattle.mx_source.specs.Meaning.{Program, program, Mark, Going, Halted, Stuck, State, start_words, start, Step, copies, any_code, why_plain, passed, store_value, done, unless_stuck, goes, jumps, execute, if_going, step, Run, run_step, run_for}
+use Rattle.mx_source.specs.Meaning.{Program, program, Mark, Going, Halted, Stuck, State, start, Step, copies, any_code, why_plain, passed, store_value, done, unless_stuck, goes, jumps, execute, if_going, step, Run, run_step, run_for}
 use Rattle.mx_blocks.specs.Leaders.{ends_there, gap, is_leader}
 
 module _ (source : SourceValue) (is : IsSource source) where

@@ -1,9 +1,8 @@
 -- The words of linked code stand, each site's from its start on.
-use Rattle.std.proofs.Common.{◌≡◌, ℕ, pos, zero, suc, ◌+◌, ◌*◌, ◌-◌, ◌<◌, ◌≤◌, Bool, true, false, cond, eqb, leb, ltb, ◌&&◌, List, [], ◌∷◌, ◌++◌, length, map, All, Option, Some, None, slice_index_or, refl, sym, ap, ◌∙◌, subst, arith, ⊎_elim}
+use Rattle.std.proofs.Common.{◌≡◌, ℕ, zero, suc, ◌+◌, ◌-◌, ◌<◌, Bool, true, cond, leb, ltb, ◌&&◌, List, [], ◌∷◌, ◌++◌, length, map, All, Option, Some, None, refl, sym, ap, ◌∙◌, subst, arith}
 use Rattle.std.specs.Prelude.{slice_get, option_and_then, unwrap_or}
 use Rattle.std.specs.List.{flat_map}
 use Rattle.std.specs.Option.{option_map}
-use Rattle.std.proofs.lemmas.Bool.{cases_eq}
 use Rattle.std.proofs.lemmas.Bool.Decides.{nat_tests}
 use Rattle.std.proofs.lemmas.List.{length-map}
 use Rattle.std.proofs.lemmas.List.Elements.{All-head, All-tail}
@@ -29,8 +28,8 @@ use Rattle.mx_squash.specs.Copies.{Site, no_copies}
 use Rattle.mx_layout.specs.Layout.{plan_size, StandFrom}
 use Rattle.mx_link.specs.declared.linked.Origin.{Origin}
 use Rattle.mx_link.specs.declared.linked.Origin.TheVariants.{Own, Copy, Pad}
-use Rattle.mx_link.specs.Origins.{Filling, own, over, copied_to, goal_of, origins_from, origins_at}
-use Rattle.mx_link.specs.Words.{linked_inst, linked_statement, inst_at, insts_from, insts_of, code_of}
+use Rattle.mx_link.specs.Origins.{Filling, origins_from, origins_at}
+use Rattle.mx_link.specs.Words.{linked_inst, linked_statement, inst_at, insts_from, code_of}
 use Rattle.mx_link.specs.Parts.{origin_at}
 use Rattle.mx_link.proofs.Sizes.{length-origins_from, length-insts_from}
 use Rattle.mx_link.proofs.Linkable.{Goes, has_words}
@@ -61,8 +60,7 @@ stands_all : (code : Code) (inside : ℕ → Bool) (b : ℕ) (insts : List Inst)
 stands_all code inside b [] h = tt
 stands_all code inside b (i ∷ insts) h =
     let here = h 0 i refl in
-    let zero_on : b + 0 ≡ b = omega arith in
-    (
+    let zero_on : b + 0 ≡ b = omega arith in (
       ap code (sym zero_on) ∙ here.0,
       ap inside (sym zero_on) ∙ here.1,
       stands_all code inside (b + 1) insts (λ k x e. let r = h (suc k) x e in let on : b + 1 + k ≡ b + suc k = omega arith in (ap code on ∙ r.0, ap inside on ∙ r.1)),
@@ -128,8 +126,7 @@ module _ (source : SourceValue) (registers : (i : ℕ) (s : Statement) → slice
       → AllSpelled (insts_from link source.statements c a (origins_from s c p items))
   items_spelled s c p a [] e h = tt
   items_spelled s c p a (item ∷ items) e h =
-      let here : p + 0 ≡ p = omega arith in
-      (
+      let here : p + 0 ≡ p = omega arith in (
         record {
           fits = subst (λ n. InstFits (inst_at link source.statements c n (origin_at s c p item))) (sym e) (subst (λ n. InstFits (inst_at link source.statements c (s.start + n) (origin_at s c n item))) here (h 0 item refl));
           registers = origin_registers c a (origin_at s c p item);

@@ -11,13 +11,10 @@ use Rattle.mx_code.specs.Clean.{is_inside}
 use Rattle.mx_source.specs.declared.statement.Statement.{Statement}
 use Rattle.mx_source.specs.SourceValue.{SourceValue, IsSource}
 use Rattle.mx_blocks.specs.declared.block.Block.{Block}
-use Rattle.mx_blocks.specs.declared.block.Item.TheVariants.{Op}
 use Rattle.mx_blocks.specs.declared.block.End.{End}
 use Rattle.mx_blocks.specs.declared.block.End.TheVariants.{Branches, Calls}
-use Rattle.mx_blocks.specs.Ends.{is_last}
-use Rattle.mx_blocks.specs.Leaders.{IsBlockOf, size, is_leader}
+use Rattle.mx_blocks.specs.Leaders.{IsBlockOf, is_leader}
 use Rattle.mx_blocks.specs.Leaders.{inst_of as statement_inst}
-use Rattle.mx_validate.specs.Padded.{items_of}
 use Rattle.mx_validate.specs.Validity.{Valid}
 use Rattle.mx_squash.specs.declared.copying.Copied.{Copied}
 use Rattle.mx_squash.specs.Copies.{Site, site_of, is_target, is_branch_end, reaches, no_copies, copied, count}
@@ -27,14 +24,14 @@ use Rattle.mx_layout.specs.Overlong.{overlong, branch_target}
 use Rattle.mx_layout.proofs.Links.{first_link, site_blocks, site_found, link_within, leader_site}
 use Rattle.mx_layout.proofs.Reach.{layout_reaches}
 use Rattle.mx_layout.proofs.Sizes.{end_short, covered}
-use Rattle.mx_link.specs.Origins.{Filling, goal_of, copied_to}
+use Rattle.mx_link.specs.Origins.{Filling, goal_of}
 use Rattle.mx_link.specs.Words.{code_of}
 use Rattle.mx_link.proofs.Places.{sites_below}
 use Rattle.mx_link.proofs.Bodies.{copy_goes_on}
 use Rattle.mx_link.proofs.Slots.{copied_op, copied_none, count_cases, count_small, copyable_small}
 use Rattle.mx_link.proofs.Linkable.{Goes}
 use Rattle.mx_link_laws.proofs.Going.{Stands}
-use Rattle.mx_link_laws.proofs.Imaged.{AllSpelled, piece, piece_spelled, code_stands}
+use Rattle.mx_link_laws.proofs.Imaged.{piece, piece_spelled, code_stands}
 
 false_true : false ≡ true → ⊥
 false_true e = grind arith
@@ -133,16 +130,16 @@ module _ (source : SourceValue) (is : IsSource source) (registers : (i : ℕ) (s
   goes_any s f None e = goes_plain s f
   goes_any s f (Some g) e = goes_copied s g f (goal_is s g e)
 
-  -- nothing is copied, or the first words of the target are
+  -- nothing is copied, or the first words of the target are, unless all is bare
   abbrev pub Fills : Filling → Type 0
-  Fills filling = (s : Site) → (filling all s ≡ copied s None) ⊎ (filling all s ≡ copied s (site_of (is_target s.block.end) all))
+  Fills filling = (bare : Bool) × ((s : Site) → (filling all s ≡ copied s None) ⊎ ((bare ≡ false) × (filling all s ≡ copied s (site_of (is_target s.block.end) all))))
 
   module _ (filling : Filling) (fills : Fills filling) where
     pub goes : (s : Site) → Facts s → Goes source link s (filling all s)
     goes s f = ⊎_elim
         (λ e. subst (λ (c : Copied). Goes source link s c) (sym e) (goes_plain s f))
-        (λ e. subst (λ (c : Copied). Goes source link s c) (sym e) (goes_any s f (site_of (is_target s.block.end) all) refl))
-        (fills s)
+        (λ e. subst (λ (c : Copied). Goes source link s c) (sym e.1) (goes_any s f (site_of (is_target s.block.end) all) refl))
+        (fills.1 s)
 
     abbrev pub words : List ℕ
     words = code_of filling link source.statements all

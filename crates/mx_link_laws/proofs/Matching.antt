@@ -1,20 +1,18 @@
 -- A statement of a body that is not stuck does to values what its instruction does to words, lawfully.
-use Rattle.std.proofs.Common.{◌≡◌, ◌≢◌, ℕ, ℤ, pos, suc, ◌+◌, ◌%◌, ◌^◌, ◌<◌, Bool, true, false, cond, eqb, ◌&&◌, ◌||◌, ◌⊎◌, List, Option, Some, None, refl, sym, ap, ◌∙◌, subst, arith, ⊎_elim, inl, inr}
+use Rattle.std.proofs.Common.{◌≡◌, ℕ, ℤ, suc, ◌+◌, ◌%◌, ◌^◌, ◌<◌, Bool, true, false, cond, eqb, ◌&&◌, ◌||◌, ◌⊎◌, Option, Some, None, refl, sym, ap, ◌∙◌, subst, arith, ⊎_elim, inl, inr}
 use Rattle.std.specs.Prelude.{is_some}
-use Rattle.std.proofs.lemmas.Bool.{cases_eq, cases_Bool, ne_eqb, eqb-true, or_parts, cond-true, cond-false}
+use Rattle.std.proofs.lemmas.Bool.{eqb-true, or_parts}
 use Rattle.std.proofs.lemmas.Bool.Decides.{nat_tests}
 use Rattle.mx_isa.specs.declared.inst.Op.{Op}
 use Rattle.mx_isa.specs.declared.inst.Op.TheVariants.{Add}
-use Rattle.mx_isa.specs.declared.inst.Special.TheVariants.{Md}
 use Rattle.mx_isa.specs.declared.inst.Inst.{Inst}
 use Rattle.mx_isa.specs.declared.inst.Inst.TheVariants.{Load, Store, Compute, Addi, MoveFrom, MoveTo}
-use Rattle.mx_isa.specs.declared.place.Place.{Place}
-use Rattle.mx_isa.specs.Arithmetic.{word_of, result_of}
+use Rattle.mx_isa.specs.Arithmetic.{word_of}
 use Rattle.mx_isa.specs.Words.{Words, put, reg, write}
-use Rattle.mx_isa.specs.Effect.{Sent, Found, Change, Core, Bus, change, offset_by, stored, sent, or_kept, apply, act}
-use Rattle.mx_isa.specs.Views.{sources, reads_md, Access, access, address}
+use Rattle.mx_isa.specs.Effect.{Sent, Found, Change, Core, Bus, change, offset_by, stored, sent, or_kept, act}
+use Rattle.mx_isa.specs.Views.{sources, Access, access, address}
 use Rattle.mx_isa.specs.UserBus.{is_user, user_bus, plain_word, from_input}
-use Rattle.mx_isa.proofs.Frame.{same_words, SeesAlike, change_same, core_same, address_same}
+use Rattle.mx_isa.proofs.Frame.{same_words, SeesAlike, change_same, core_same}
 use Rattle.mx_code.specs.Delay.{user_byte}
 use Rattle.mx_code.specs.Clean.{is_lawful}
 use Rattle.mx_source.specs.declared.statement.Value.{Value}
@@ -23,7 +21,7 @@ use Rattle.mx_source.specs.declared.statement.Why.{Why}
 use Rattle.mx_source.specs.declared.statement.Why.TheVariants.{CodeOperand, LoadOutside, StoreOutside, CodeToConsole}
 use Rattle.mx_source.specs.Values.{Values, value_in, put_value, write_value, is_code, word_in, words_in, passed_on}
 use Rattle.mx_source.specs.Statements.{IsPlain as IsPlainStatement}
-use Rattle.mx_source.specs.Meaning.{Program, State, copies, operands, any_code, can_load, why_load, why_store, why_access, why_plain, passed, store_value, done}
+use Rattle.mx_source.specs.Meaning.{Program, State, copies, operands, any_code, why_access, why_plain, passed, store_value, done}
 use Rattle.mx_link.specs.Words.{value_word}
 
 false_true : false ≡ true → ⊥

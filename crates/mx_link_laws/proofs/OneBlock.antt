@@ -1,27 +1,19 @@
 -- One block: from its first word on, the linked code does what its statements mean.
-use Rattle.std.proofs.Common.{◌≡◌, ℕ, ℤ, pos, zero, suc, ◌+◌, ◌*◌, ◌-◌, ◌%◌, ◌^◌, ◌<◌, ◌≤◌, Bool, true, false, cond, not, ◌&&◌, List, [], ◌∷◌, ◌++◌, ◌⊎◌, length, length-append, Option, Some, None, refl, sym, ap, ◌∙◌, subst, arith, ⊎_elim, inl, inr}
+use Rattle.std.proofs.Common.{◌≡◌, ℕ, suc, ◌+◌, ◌*◌, ◌-◌, ◌^◌, ◌<◌, ◌≤◌, Bool, true, false, ◌&&◌, List, [], ◌∷◌, ◌++◌, ◌⊎◌, length, length-append, Option, Some, None, refl, sym, ap, ◌∙◌, subst, arith, ⊎_elim, inl, inr}
 use Rattle.std.specs.Prelude.{slice_get}
-use Rattle.std.specs.Int.{w32, cast_unsigned}
-use Rattle.std.proofs.lemmas.Bool.{cond-true, cond-false, cases_Bool, or_parts}
+use Rattle.std.proofs.lemmas.Bool.{cond-true, cond-false}
 use Rattle.std.proofs.lemmas.Bool.Decides.{nat_tests}
 use Rattle.std.proofs.lemmas.List.{append-nil, length-map}
-use Rattle.mx_isa.specs.declared.inst.Cond.{Cond}
 use Rattle.mx_isa.specs.declared.inst.Inst.{Inst}
-use Rattle.mx_isa.specs.declared.inst.Inst.TheVariants.{Load, Store, Jspci}
-use Rattle.mx_isa.specs.declared.inst.Inst.TheVariants.{Branch as BranchInst, Halt as HaltInst}
-use Rattle.mx_isa.specs.Words.{Words, reg, write}
-use Rattle.mx_isa.specs.Arithmetic.{condition_holds}
-use Rattle.mx_isa.specs.Effect.{Core, Decision, decides, offset_by}
+use Rattle.mx_isa.specs.declared.inst.Inst.TheVariants.{Load, Store}
+use Rattle.mx_isa.specs.declared.inst.Inst.TheVariants.{Halt as HaltInst}
+use Rattle.mx_isa.specs.Effect.{Decision, decides}
 use Rattle.mx_isa.specs.Views.{Access, access, is_load, is_halt, is_transfer, dest, reads}
 use Rattle.mx_code.specs.Delay.{Code, idle, queued, next_of}
 use Rattle.mx_code.specs.Clean.{is_lawful, Watched, watch, loads_to}
 use Rattle.mx_depend.specs.Graphs.{inst_at}
-use Rattle.mx_source.specs.declared.statement.Statement.{Statement}
-use Rattle.mx_source.specs.declared.statement.Statement.TheVariants.{Branch, Call, CallReg, JumpReg, Halt}
-use Rattle.mx_source.specs.declared.statement.Value.{Value}
-use Rattle.mx_source.specs.declared.statement.Value.TheVariants.{Int, Code as CodeValue}
-use Rattle.mx_source.specs.Values.{value_in, is_code, word_in}
-use Rattle.mx_source.specs.Meaning.{Program, Going, Halted, State, Step, Run, any_code, stuck, goes as meant_to, jumps as meant_by, execute, run_step, run_for, is_stuck}
+use Rattle.mx_source.specs.declared.statement.Statement.TheVariants.{Halt}
+use Rattle.mx_source.specs.Meaning.{Program, Going, Halted, Run, run_step, run_for, is_stuck}
 use Rattle.mx_blocks.specs.declared.block.Block.{Block}
 use Rattle.mx_blocks.specs.declared.block.Plan.{Plan}
 use Rattle.mx_blocks.specs.declared.block.Item.{Item}
@@ -29,16 +21,16 @@ use Rattle.mx_blocks.specs.declared.block.Item.TheVariants.{Op, Nop}
 use Rattle.mx_blocks.specs.Items.{ops}
 use Rattle.mx_validate.specs.Padded.{insts_of, items_of, falls, body_count}
 use Rattle.mx_validate.proofs.Listed.{ops_append}
-use Rattle.mx_order.specs.Running.{Ran, run_one, run_source}
+use Rattle.mx_order.specs.Running.{Ran, run_one}
 use Rattle.mx_order.specs.Laws.{IsLaidOut}
 use Rattle.mx_order.specs.Parts.{AreBelow, Parts}
 use Rattle.mx_order.proofs.Reorder.{once_length}
 use Rattle.mx_order.proofs.Words.{item_inst, words, run_along}
 use Rattle.mx_link_laws.proofs.Going.{Did, IsPlain, ArePlain, idle_plain, Stands, stands_left, did_same, did, did_all, did_anywhere, queue, starts, for, for_same, for_add, plain_word, goes, Keeps, keeps_self, keeps_then}
-use Rattle.mx_link_laws.proofs.Ends.{append_did, past_transfer, slots_taken, slots_cancelled, one_taken, at_g, in_g, halts, Same3, undo, keeps_idle, keeps_head}
-use Rattle.mx_link_laws.proofs.Matching.{linked, linked_write, linked_value, word_seen, word_value, core_of}
+use Rattle.mx_link_laws.proofs.Ends.{append_did, past_transfer, slots_taken, slots_cancelled, one_taken, at_g, in_g, halts, undo, keeps_idle, keeps_head}
+use Rattle.mx_link_laws.proofs.Matching.{core_of}
 use Rattle.mx_link_laws.proofs.Saying.{said, step_is, not_stuck_before, run_same, run_add, run_one_more, AreBody, all_plain, ran_at, BodyRun, body_run}
-use Rattle.mx_link_laws.proofs.Planned.{ran_of, all_ran, all_loaded, body, bodies, pre, last, bodies_length, pre_length, plain_words, plain_body, plain_pre, size_ends, body_falls, falls_run, words_are, ends_run, decides_there, apart_all, apart_pre, end_loaded}
+use Rattle.mx_link_laws.proofs.Planned.{ran_of, all_ran, all_loaded, bodies, pre, last, bodies_length, pre_length, plain_body, plain_pre, size_ends, falls_run, words_are, ends_run, decides_there, apart_all, apart_pre, end_loaded}
 
 false_true : false ≡ true → ⊥
 false_true e = grind arith
@@ -90,7 +82,7 @@ module _ (link : ℕ → ℕ) (p : Program) (small : (i : ℕ) → link i + 8 < 
 
   -- and so many words stand before the terminator's place
   abbrev pub LeadsAt : ℕ → ℕ → Type 0
-  LeadsAt c j = ((leader j ≡ true) × (c ≤ place_of j)) ⊎ (j ≡ length p.statements)
+  LeadsAt c j = ((leader j ≡ true) ⊎ (j ≡ length p.statements)) × (c ≤ place_of j)
 
   -- word k of the block that begins at a statement, before its terminator's place
   pub record Head (t k : ℕ) (x : Inst) : Type 0 where
@@ -146,13 +138,16 @@ module _ (link : ℕ → ℕ) (p : Program) (small : (i : ℕ) → link i + 8 < 
     pub behind : place ≤ own
     pub short_len : len ≤ 3 * n
     pub count : c ≤ w
+    -- where no word of the next block is done, no slot holds a word of another block
+    pub bare : c ≡ 0 → w ≡ 0
     pub mark : (run_for p n r).state.mark ≡ Going
     pub lead : LeadsAt c (run_for p n r).state.index
     pub reaches : Keeping (steps len (begins (link i) (did_of r))) (steps c (begins (link (run_for p n r).state.index) (did_of (run_for p n r))))
     pub shown : IsAt (steps own (begins (link i) (did_of r))) (run_for p n r)
     pub runs_on : (steps own (begins (link i) (did_of r))).at.halted ≡ false
 
-  pub record StopsAt (i n place : ℕ) (r : Run) : Type 0 where
+  pub record StopsAt (i n len place : ℕ) (r : Run) : Type 0 where
+    pub within : place + 1 ≤ len
     pub before_n : ℕ
     pub is_n : n ≡ suc before_n
     pub many : n ≤ suc place
@@ -284,15 +279,16 @@ module _ (link : ℕ → ℕ) (p : Program) (small : (i : ℕ) → link i + 8 < 
           behind = omega arith;
           short_len = omega arith;
           count = omega arith;
+          bare = λ e. refl;
           mark = ap (λ (u : Run). u.state.mark) to_size ∙ run.mark;
-          lead = ⊎_elim (λ l. inl (ap leader ix ∙ l, (let q : 0 ≤ place_of r2.state.index = omega arith in q))) (λ l. inr (ix ∙ l)) w.lead;
+          lead = (⊎_elim (λ l. inl (ap leader ix ∙ l)) (λ l. inr (ix ∙ l)) w.lead, (let q : 0 ≤ place_of r2.state.index = omega arith in q));
           reaches = keeps_self code inside p.place p.input (steps len (begins base d0)) (begins (link r2.state.index) (did_of r2)) go2;
           shown = subst (λ (x : Watched). IsAt x r2) (sym go) (is_at_did (did_of r2) r2 (link (i + n)) refl);
           runs_on = ap (λ (x : Watched). x.at.halted) go;
         }
 
     -- a block that halts
-    pub stops : falls w.block.end ≡ false → w.parts.back ≡ Op (body_count w.block) ∷ [] → slice_get p.statements (i + length inner) ≡ Some Halt → ender ≡ HaltInst → StandsAt base all → StopsAt i n place r
+    pub stops : falls w.block.end ≡ false → w.parts.back ≡ Op (body_count w.block) ∷ [] → slice_get p.statements (i + length inner) ≡ Some Halt → ender ≡ HaltInst → StandsAt base all → StopsAt i n len place r
     stops f one stop is_halt_there st =
         let in_is = inner_is in
         let size_is : n ≡ suc (length inner) = size_ends w.block w.plan w.insts p.input w.laid w.parts w.some f ∙ ap (λ m. suc m) (sym in_is) in
@@ -317,6 +313,7 @@ module _ (link : ℕ → ℕ) (p : Program) (small : (i : ℕ) → link i + 8 < 
         let ol = ops_length (items_of w.plan) in
         let room = w.parts.room in
         record {
+          within = omega arith;
           before_n = length inner;
           is_n = size_is;
           many = omega arith;
@@ -423,9 +420,9 @@ module _ (link : ℕ → ℕ) (p : Program) (small : (i : ℕ) → link i + 8 < 
       bound : at + 5 < 2 ^ 31
       bound = let fl = front_is in let l3 = len3 in let sm = small (i + n) in let nx = w.next in omega arith
 
-      goes_on_at : (j : ℕ) → Landed j → (own k c : ℕ) → own + k ≡ len → n ≤ own → place ≤ own → c ≤ k → LeadsAt c j
+      goes_on_at : (j : ℕ) → Landed j → (own k c : ℕ) → own + k ≡ len → n ≤ own → place ≤ own → c ≤ k → (c ≡ 0 → k ≡ 0) → LeadsAt c j
           → Keeping (steps len (begins base d0)) (steps c (begins (link j) (did_of r2))) → IsAt (steps own (begins base d0)) r2 → (steps own (begins base d0)).at.halted ≡ false → GoesOn i n len place r
-      goes_on_at j m own k c e many behind few lead reach shown runs =
+      goes_on_at j m own k c e many behind few bare lead reach shown runs =
           let ix = m.index in
           record {
             own = own;
@@ -436,6 +433,7 @@ module _ (link : ℕ → ℕ) (p : Program) (small : (i : ℕ) → link i + 8 < 
             behind = behind;
             short_len = (let a = w.parts.room in let b = size_is in let x = inner_is in let d = len3 in omega arith);
             count = few;
+            bare = bare;
             mark = m.mark;
             lead = subst (LeadsAt c) (sym ix) lead;
             reaches = subst (λ q. Keeping (steps len (begins base d0)) (steps c (begins (link q) (did_of r2)))) (sym ix) reach;
@@ -454,7 +452,8 @@ module _ (link : ℕ → ℕ) (p : Program) (small : (i : ℕ) → link i + 8 < 
           (let a = size_ops in let b = ops_length (items_of w.plan) in omega arith)
           (omega arith)
           (let q : 0 ≤ 0 = omega arith in q)
-          (⊎_elim (λ l. inl (l, (let q : 0 ≤ place_of j = omega arith in q))) (λ l. inr l) lead)
+          (λ e. refl)
+          (lead, (let q : 0 ≤ place_of j = omega arith in q))
           (keeps_self code inside p.place p.input (steps len (begins base d0)) (begins (link j) (did_of r2)) same)
           (subst (λ (x : Watched). IsAt x r2) (sym same) (is_at_did (did_of r2) r2 (link j) refl))
           (ap (λ (x : Watched). x.at.halted) same)
@@ -578,7 +577,7 @@ module _ (link : ℕ → ℕ) (p : Program) (small : (i : ℕ) → link i + 8 < 
             let z_is : link t + count ≡ link t + 2 = omega arith in
             let own = after_transfer x y st hx.plain hy.plain done in
             let b = hy.before in
-            goes_on_at t m (place + 1) 2 2 (omega arith) (let q = many_by 0 (no_ops nf ng) in omega arith) (omega arith) (let q : 2 ≤ 2 = omega arith in q) (inl (lead, (let q : 2 ≤ place_of t = omega arith in q)))
+            goes_on_at t m (place + 1) 2 2 (omega arith) (let q = many_by 0 (no_ops nf ng) in omega arith) (omega arith) (let q : 2 ≤ 2 = omega arith in q) (λ e. e) (inl lead, (let q : 2 ≤ place_of t = omega arith in q))
             (keeps_self code inside p.place p.input (steps len (begins base d0)) (steps 2 (begins (link t) S))
             (for_same code inside p.place p.input len (length front + 1 + 2) (begins base d0) (omega arith)
             ∙ slots_taken code inside p.place p.input front ender x y base d0 st front_plain hx.plain hy.plain on (low i) bound (link t + 2) not_cancelled (to_target ∙ z_is) (low_on 2) (omega arith)
@@ -605,7 +604,7 @@ module _ (link : ℕ → ℕ) (p : Program) (small : (i : ℕ) → link i + 8 < 
             ∙ slots_taken code inside p.place p.input front ender x idle base d0 st front_plain hx.plain idle_plain on (low i) bound (link t + 1) not_cancelled (to_target ∙ z_is) (low_on 1) (omega arith)
             ∙ ap (λ d. begins (link t + 1) (doing (at + 2) idle (doing (at + 1) x d))) done
             ∙ ap (λ d. begins (link t + 1) (doing (at + 2) idle d)) (did_anywhere code inside p.place p.input (at + 1) (link t) x S hx.plain.stays) in
-            goes_on_at t m (place + 1) 2 1 (omega arith) (let q = many_by 0 (no_ops nf ng) in omega arith) (omega arith) (let q : 1 ≤ 2 = omega arith in q) (inl (lead, (let q : 1 ≤ place_of t = omega arith in q)))
+            goes_on_at t m (place + 1) 2 1 (omega arith) (let q = many_by 0 (no_ops nf ng) in omega arith) (omega arith) (let q : 1 ≤ 2 = omega arith in q) (λ e. absurd (omega arith)) (inl lead, (let q : 1 ≤ place_of t = omega arith in q))
             (keeps_then code inside p.place p.input (steps len (begins base d0)) (begins (link t + 1) last) (steps 1 (begins (link t) S))
             (keeps_self code inside p.place p.input (steps len (begins base d0)) (begins (link t + 1) last) go)
             (subst (λ (u : Watched). Keeping (begins (link t + 1) last) u) (sym (one_head x hx)) (keeps_idle code inside p.place p.input (link t + 1) (at + 2) (doing (link t) x S))))
@@ -636,7 +635,7 @@ module _ (link : ℕ → ℕ) (p : Program) (small : (i : ℕ) → link i + 8 < 
             ∙ ap (watch code inside p.place p.input) own_run
             ∙ sym last
             ∙ ap (λ q. queue code inside p.place p.input (queued z) (queued (z + 1)) q (doing (at + 2) y D2)) (let q : z + 1 + 1 ≡ z + 2 = omega arith in q) in
-            goes_on_at t m (place + 2) 1 1 (omega arith) (let q = many_by 1 (one_op ng) in omega arith) (omega arith) (let q : 1 ≤ 1 = omega arith in q) (inl (lead, (let q : 1 ≤ place_of t = omega arith in q)))
+            goes_on_at t m (place + 2) 1 1 (omega arith) (let q = many_by 1 (one_op ng) in omega arith) (omega arith) (let q : 1 ≤ 1 = omega arith in q) (λ e. e) (inl lead, (let q : 1 ≤ place_of t = omega arith in q))
             (keeps_then code inside p.place p.input (steps len (begins base d0)) (begins z (doing (at + 2) y D2)) (steps 1 (begins (link t) S))
             (keeps_self code inside p.place p.input (steps len (begins base d0)) (begins z (doing (at + 2) y D2)) go)
             (subst (λ (u : Watched). Keeping (begins z (doing (at + 2) y D2)) u) (sym (one_head y hy)) (keeps_head code inside p.place p.input y z (at + 2) (link t) D2 S hy.plain done free)))

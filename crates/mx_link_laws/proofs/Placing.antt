@@ -1,18 +1,18 @@
 -- Each block of a layout, with what it ends with, as it is linked.
-use Rattle.std.proofs.Common.{◌≡◌, ◌≢◌, ℕ, ℤ, pos, negsuc, zero, suc, ◌+◌, ◌*◌, ◌-◌, ◌%◌, ◌^◌, ◌<◌, ◌≤◌, Bool, true, false, cond, eqb, leb, ltb, not, ◌&&◌, ◌||◌, List, [], ◌∷◌, ◌++◌, ◌⊎◌, length, take, All, Option, Some, None, slice_index_or, refl, sym, ap, ◌∙◌, subst, arith, ⊎_elim, inl, inr}
+use Rattle.std.proofs.Common.{◌≡◌, ℕ, pos, negsuc, zero, suc, ◌+◌, ◌*◌, ◌-◌, ◌%◌, ◌^◌, ◌<◌, ◌≤◌, Bool, true, false, cond, eqb, leb, not, ◌&&◌, ◌||◌, List, [], ◌∷◌, ◌++◌, length, take, All, Option, Some, None, slice_index_or, refl, sym, ap, ◌∙◌, subst, arith, inl}
 use Rattle.std.specs.Prelude.{slice_get}
 use Rattle.std.specs.Int.{w32, cast_unsigned}
 use Rattle.std.specs.Option.{option_map}
-use Rattle.std.proofs.lemmas.Bool.{cases_lt, cases_Bool, and_parts, eqb-true}
+use Rattle.std.proofs.lemmas.Bool.{and_parts, eqb-true}
 use Rattle.std.proofs.lemmas.Bool.Decides.{nat_tests}
-use Rattle.std.proofs.lemmas.List.{append-nil, length-map, map-append}
+use Rattle.std.proofs.lemmas.List.{length-map, map-append}
 use Rattle.std.proofs.lemmas.Option.{same_Some, none-some}
 use Rattle.mx_isa.specs.declared.place.Place.{Place}
 use Rattle.mx_isa.specs.declared.inst.Cond.{Cond}
 use Rattle.mx_isa.specs.declared.inst.Cond.TheVariants.{Eq}
 use Rattle.mx_isa.specs.declared.inst.Inst.{Inst}
 use Rattle.mx_isa.specs.declared.inst.Inst.TheVariants.{Jspci}
-use Rattle.mx_isa.specs.declared.inst.Inst.TheVariants.{Branch as BranchInst, Halt as HaltInst}
+use Rattle.mx_isa.specs.declared.inst.Inst.TheVariants.{Branch as BranchInst}
 use Rattle.mx_isa.specs.Words.{Words, reg}
 use Rattle.mx_isa.specs.Arithmetic.{condition_holds}
 use Rattle.mx_code.specs.Codes.{HasRegisters}
@@ -27,31 +27,31 @@ use Rattle.mx_source.specs.Meaning.{State, jumps, execute}
 use Rattle.mx_blocks.specs.declared.block.Block.{Block}
 use Rattle.mx_blocks.specs.declared.block.Item.{Item}
 use Rattle.mx_blocks.specs.declared.block.Item.TheVariants.{Op, Nop}
-use Rattle.mx_blocks.specs.declared.block.End.{End}
-use Rattle.mx_blocks.specs.declared.block.End.TheVariants.{Falls as FallsEnd, Halts as HaltsEnd, Branches as BranchesEnd, Calls as CallsEnd, Jumps as JumpsEnd}
+use Rattle.mx_blocks.specs.declared.block.End.TheVariants.{Falls as FallsEnd, Jumps as JumpsEnd}
 use Rattle.mx_blocks.specs.Leaders.{ends_there, gap, is_leader, end_of, size, IsBlockOf, BlocksFrom}
 use Rattle.mx_blocks.specs.Leaders.{inst_of as statement_inst}
 use Rattle.mx_blocks.proofs.Splits.{gap_small}
-use Rattle.mx_validate.specs.Padded.{insts_of, items_of, falls, body_count}
+use Rattle.mx_validate.specs.Padded.{items_of, falls, body_count}
 use Rattle.mx_validate.specs.Validity.{Valid}
 use Rattle.mx_squash.specs.declared.copying.Copied.{Copied}
 use Rattle.mx_squash.specs.Copies.{Site, site_of, is_target, may_stay, always_goes, terminator, is_branch_end}
 use Rattle.mx_layout.specs.Layout.{IsLayout, link_of, plan_size, StandFrom, blocks_in, has_statement}
 use Rattle.mx_layout.specs.Overlong.{overlong}
-use Rattle.mx_link.specs.Origins.{Filling, own, goal_of, copied_to}
+use Rattle.mx_link.specs.Origins.{Filling, own, goal_of}
 use Rattle.mx_link.specs.Words.{displacement, linked_inst, inst_at}
 use Rattle.mx_link.specs.Parts.{origin_at}
 use Rattle.mx_link.proofs.Bodies.{inst_is}
 use Rattle.mx_link.proofs.Linkable.{Goes}
 use Rattle.mx_order.specs.Parts.{AreBelow, EndsWith, IsTransfer, Parts}
-use Rattle.mx_order.proofs.Split.{body_within, has_parts}
+use Rattle.mx_order.proofs.Split.{has_parts}
 use Rattle.mx_order.proofs.Words.{item_inst, words}
+use Rattle.mx_link_laws.specs.Laws.{plan_words}
 use Rattle.mx_link_laws.proofs.Going.{Stands}
 use Rattle.mx_link_laws.proofs.Planned.{bodies_length, size_ends}
 use Rattle.mx_link_laws.proofs.Codes.{place_leads, statement_fits}
 use Rattle.mx_link_laws.proofs.Sited.{body, there, inst_there, words_from, plain_word_at, end_word}
 use Rattle.mx_layout.proofs.Links.{site_found}
-use Rattle.mx_link_laws.proofs.Layouts.{Fills, goes, Begins, begins, end_low}
+use Rattle.mx_link_laws.proofs.Layouts.{Fills, goes, begins, end_low}
 use Rattle.mx_link_laws.proofs.Slots.{never, lk, p, smaller, lower, cd, ins, place_of, place_in, Stood, shorter, insts_at, laid_at, parts_stand, x, y, filled_there, own_slots}
 use Rattle.mx_link_laws.proofs.Transfers.{Lay, Kind, Branches, Calls, Transfers, EndOf, Falls, Stops, Moves, Jumps}
 use Rattle.mx_link_laws.proofs.Whole.{Placed}
@@ -138,6 +138,10 @@ always_holds a b Eq f e =
     (λ k. condition_holds Eq (reg f (za k)) (reg f (zb k)))
 always_holds a b _ f e = absurd (false_true e)
 
+-- the number of words of the plan of the block that begins at a statement
+abbrev pub len_of : List Site → ℕ → ℕ
+len_of all t = plan_words (site_of (λ b. eqb b.first t) all)
+
 module _ (source : SourceValue) (is : IsSource source) (registers : (i : ℕ) (s : Statement) → slice_get source.statements i ≡ Some s → HasRegisters (statement_inst s)) (place : Place) (all : List Site) (h : IsLayout Valid source place all) (room' : place.code + 3 * length source.statements ≤ 65535) (reach : overlong source place (blocks_in all) ≡ None) (filling : Filling) (fills : Fills source is registers place all h room' reach filling) (bytes : List ℕ) where
   abbrev pub link : ℕ → ℕ
   link = lk source is registers place all h room' reach filling fills bytes
@@ -149,7 +153,7 @@ module _ (source : SourceValue) (is : IsSource source) (registers : (i : ℕ) (s
   above = lower source is registers place all h room' reach filling fills bytes
 
   abbrev pub PlacedAt : ℕ → Type 0
-  PlacedAt t = Placed link (p source is registers place all h room' reach filling fills bytes) small above (cd source is registers place all h room' reach filling fills bytes) (ins source is registers place all h room' reach filling fills bytes) (is_leader source) (place_of source is registers place all h room' reach filling fills bytes) t
+  PlacedAt t = Placed link (p source is registers place all h room' reach filling fills bytes) small above (cd source is registers place all h room' reach filling fills bytes) (ins source is registers place all h room' reach filling fills bytes) (is_leader source) (place_of source is registers place all h room' reach filling fills bytes) (len_of all) t
 
   abbrev pub LayAt : ℕ → Type 0
   LayAt t = Lay link (p source is registers place all h room' reach filling fills bytes) small above (cd source is registers place all h room' reach filling fills bytes) (ins source is registers place all h room' reach filling fills bytes) (is_leader source) (place_of source is registers place all h room' reach filling fills bytes) t
@@ -424,9 +428,22 @@ module _ (source : SourceValue) (is : IsSource source) (registers : (i : ℕ) (s
             there_on : slice_get source.statements (first + size s.block - 1) ≡ slice_get source.statements (first + final)
             there_on = let some = st.of.block.some in let q : first + size s.block - 1 ≡ first + final = omega arith in ap (slice_get source.statements) q
 
+    place_most : (u : ℕ) → place_of source is registers place all h room' reach filling fills bytes u ≤ place_in (site_of (λ b. eqb b.first u) all)
+    place_most u = at_most fills.0 (place_in (site_of (λ b. eqb b.first u) all))
+      where
+        at_most : (b : Bool) (m : ℕ) → cond b 0 m ≤ m
+        at_most true m = omega arith
+        at_most false m = omega arith
+
     pub placed_first : (t : ℕ) → first ≡ t → site_of (λ b. eqb b.first t) all ≡ Some s → PlacedAt t
     placed_first t e found =
-        subst PlacedAt e (record { lay = lay; end = end; place = ap (place_of source is registers place all h room' reach filling fills bytes) e ∙ ap place_in found ∙ place_is })
+        subst PlacedAt e (record {
+          lay = lay;
+          end = end;
+          place = (let q = place_most first in let r = place_is in let x = ap (λ u. place_in (site_of (λ b. eqb b.first u) all)) e ∙ ap place_in found in omega arith);
+          long = ap (len_of all) e ∙ ap plan_words found;
+          inner = st.of.block.inner;
+        })
 
   -- the block of each leader
   pub placed : (t : ℕ) → is_leader source t ≡ true → t < length source.statements → PlacedAt t

@@ -1,5 +1,5 @@
 -- The words of a valid plan do on the machine what the block's instructions do in source order.
-use Rattle.std.proofs.Common.{◌≡◌, ℕ, zero, suc, ◌+◌, ◌*◌, ◌-◌, ◌<◌, ◌≤◌, Bool, true, false, cond, not, ◌&&◌, List, [], ◌∷◌, ◌++◌, length, map, take, Option, refl, sym, ap, ◌∙◌, subst, arith}
+use Rattle.std.proofs.Common.{◌≡◌, ℕ, zero, suc, ◌+◌, ◌-◌, ◌<◌, ◌≤◌, Bool, true, false, cond, not, ◌&&◌, List, [], ◌∷◌, ◌++◌, length, take, Option, refl, sym, ap, ◌∙◌, subst, arith}
 use Rattle.std.proofs.Math.Seq.{take-suc}
 use Rattle.std.proofs.lemmas.Bool.{cond-false, cond-true}
 use Rattle.std.proofs.lemmas.List.{length-take-le, get_or-take, take_all, length-map, map-append}
@@ -15,7 +15,7 @@ use Rattle.mx_blocks.specs.declared.block.Plan.{Plan}
 use Rattle.mx_blocks.specs.declared.block.Item.{Item}
 use Rattle.mx_blocks.specs.declared.block.Item.TheVariants.{Op, Nop}
 use Rattle.mx_validate.specs.Padded.{insts_of, items_of, falls, body_count}
-use Rattle.mx_order.specs.Running.{Ran, run_one, run_source, run_items}
+use Rattle.mx_order.specs.Running.{Ran, run_one, run_source}
 use Rattle.mx_order.specs.Laws.{IsLaidOut}
 use Rattle.mx_order.specs.Parts.{AreBelow, Parts}
 use Rattle.mx_order.proofs.Order.{same_length, keeps_effect}

@@ -1,5 +1,5 @@
 -- What the statements of a body do on the side of the meaning, and runs of the meaning.
-use Rattle.std.proofs.Common.{◌≡◌, ℕ, pos, zero, suc, ◌+◌, ◌^◌, ◌<◌, ◌≤◌, ◌-◌, Bool, true, false, cond, ◌&&◌, List, [], ◌∷◌, ◌++◌, length, Option, Some, None, option_to_list, append_assoc, refl, sym, ap, ◌∙◌, subst, arith, ⊎_elim}
+use Rattle.std.proofs.Common.{◌≡◌, ℕ, pos, zero, suc, ◌+◌, ◌^◌, ◌<◌, Bool, true, false, cond, ◌&&◌, List, [], ◌∷◌, ◌++◌, length, Option, Some, None, option_to_list, append_assoc, refl, sym, ap, ◌∙◌, subst, arith, ⊎_elim}
 use Rattle.std.specs.Prelude.{slice_get}
 use Rattle.std.specs.Int.{w32, cast_unsigned}
 use Rattle.std.proofs.lemmas.Bool.{cases_Bool}
@@ -9,9 +9,7 @@ use Rattle.mx_isa.specs.declared.inst.Inst.TheVariants.{Addi, Load, Store, Compu
 use Rattle.mx_isa.specs.Arithmetic.{word_of}
 use Rattle.mx_isa.specs.Words.{write}
 use Rattle.mx_isa.specs.Effect.{Decision, decides}
-use Rattle.mx_isa.specs.Views.{access, is_transfer, is_halt}
-use Rattle.mx_isa.specs.UserBus.{user_bus}
-use Rattle.mx_code.specs.Delay.{user_byte}
+use Rattle.mx_isa.specs.Views.{access, is_transfer}
 use Rattle.mx_code.specs.Clean.{is_lawful}
 use Rattle.mx_source.specs.declared.statement.Statement.{Statement}
 use Rattle.mx_source.specs.declared.statement.Statement.TheVariants.{Plain, LaCode}

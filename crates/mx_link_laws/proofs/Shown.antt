@@ -1,32 +1,32 @@
 -- The laws of linked code.
-use Rattle.std.proofs.Common.{◌≡◌, ℕ, zero, suc, ◌+◌, ◌*◌, ◌-◌, ◌^◌, ◌<◌, ◌≤◌, Bool, true, false, cond, eqb, leb, not, ◌&&◌, List, [], ◌∷◌, ◌⊎◌, length, map, All, Option, Some, None, refl, sym, ap, ◌∙◌, subst, arith, ⊎_elim, inl, inr}
+use Rattle.std.proofs.Common.{◌≡◌, ℕ, zero, suc, ◌+◌, ◌*◌, ◌-◌, ◌^◌, ◌<◌, ◌≤◌, Bool, true, false, cond, leb, not, ◌&&◌, List, [], ◌∷◌, length, map, Option, Some, refl, sym, ap, ◌∙◌, subst, arith, ⊎_elim, inl, inr, ltb}
 use Rattle.std.specs.Prelude.{slice_get, slice_index, slice_index_or}
-use Rattle.std.proofs.lemmas.Bool.{cond-true, cond-false}
+use Rattle.std.proofs.lemmas.Bool.{cond-true, cond-false, cases_lt}
 use Rattle.std.proofs.lemmas.Bool.Decides.{nat_tests}
 use Rattle.std.proofs.lemmas.Option.{slice_get_within, get_or_from_slice_get}
-use Rattle.std.proofs.Math.ListN.{get_or-map}
 use Rattle.mx_isa.specs.declared.place.Place.{Place}
 use Rattle.mx_isa.specs.Effect.{Core, decides}
 use Rattle.mx_isa.specs.Views.{reads}
-use Rattle.mx_isa.specs.Words.{Words}
 use Rattle.mx_isa.proofs.Frame.{same_words}
 use Rattle.mx_code.specs.Codes.{HasRegisters}
-use Rattle.mx_code.specs.Delay.{Code, does, data_from, Delay, stepped, delay_step, delay_start, delay_for}
+use Rattle.mx_code.specs.Delay.{Code, does, data_from, Delay, stepped, delay_step, delay_for}
 use Rattle.mx_code.specs.Clean.{is_clean_step, loads_to, Watched, watch, watch_start, watch_for}
 use Rattle.mx_source.specs.declared.statement.Statement.{Statement}
 use Rattle.mx_source.specs.declared.statement.Value.{Value}
 use Rattle.mx_source.specs.declared.statement.Value.TheVariants.{Int}
 use Rattle.mx_source.specs.SourceValue.{SourceValue}
-use Rattle.mx_source.specs.Meaning.{Program, program, Mark, Going, Halted, Stuck, State, Run, start, start_words, run_for, is_stuck, given, HaltsIn}
+use Rattle.mx_source.specs.Meaning.{Program, program, Mark, Going, Halted, Stuck, Run, start, start_words, run_for, given}
 use Rattle.mx_blocks.specs.Leaders.{is_leader, size, BlocksFrom}
 use Rattle.mx_blocks.specs.Leaders.{inst_of as statement_inst}
-use Rattle.mx_squash.specs.Copies.{Site, site_of, is_target, copied}
+use Rattle.mx_squash.specs.Copies.{Site}
 use Rattle.mx_layout.specs.Layout.{link_of, plan_size, blocks_in, has_statement}
-use Rattle.mx_link.specs.Origins.{Filling, from_target, from_nowhere}
+use Rattle.mx_validate.specs.Padded.{insts_of, items_of}
+use Rattle.mx_layout.proofs.Links.{link_within}
+use Rattle.mx_link.specs.Origins.{Filling, from_nowhere}
 use Rattle.mx_link.specs.Words.{value_word}
 use Rattle.mx_order.specs.Laws.{IsPrefix}
-use Rattle.mx_link_laws.specs.Runs.{IsLaid, IsFilling, Linking, IsLinking, code_in, inside, data_in, linked_run, RunsClean, Matches}
-use Rattle.mx_link_laws.specs.Laws.{meant, IsSafe, LinkedCodeIsClean, Shows, HaltsSoon, LinkedCodeHalts, HaltedBefore, LinkedCodeHaltsOnly, LinkedCodeSends}
+use Rattle.mx_link_laws.specs.Runs.{IsLaid, IsFilling, Linking, code_in, inside, data_in, linked_run, RunsClean}
+use Rattle.mx_link_laws.specs.Laws.{meant, IsSafe, LinkedCodeIsClean, Shows, HaltsSoon, LinkedCodeHalts, HaltedBefore, LinkedCodeHaltsOnly, LinkedCodeSends, block_words, planned_words, IsBlockStart, StartsBlock, LinkedBlocksStart, LaterBlocksStartLater, ComesFrom, FetchesStartBlocks}
 use Rattle.mx_link_laws.proofs.Saying.{Prefix, is_going}
 use Rattle.mx_link_laws.proofs.Matching.{core_of}
 use Rattle.mx_link_laws.proofs.Codes.{registers_lead}
@@ -34,8 +34,8 @@ use Rattle.mx_link_laws.proofs.OneBlock.{short, LeadsAt, IsAt}
 use Rattle.mx_link_laws.proofs.Transfers.{CodesLead}
 use Rattle.mx_link_laws.proofs.Layouts.{Fills}
 use Rattle.mx_link_laws.proofs.Slots.{place_of}
-use Rattle.mx_link_laws.proofs.Placing.{link, small, above, placed}
-use Rattle.mx_link_laws.proofs.Whole.{Placed, D, M, from, M_stays, runs_clean, halts_soon as soon_halted, halted_back, sent_soon}
+use Rattle.mx_link_laws.proofs.Placing.{small, above, len_of, placed}
+use Rattle.mx_link_laws.proofs.Whole.{Placed, D, from, M_stays, runs_clean, halts_soon as soon_halted, halted_back, sent_soon, sum_of_plans, block_starts, sum_grows, some_words, block_at_fetch}
 
 false_true : false ≡ true → ⊥
 false_true e = grind arith
@@ -72,6 +72,29 @@ first_link source j at (s ∷ sites) h =
     in_first : (s.block.first ≤ 0) × (0 < s.block.first + size s.block) → has_statement 0 s.block ≡ true
     in_first l = let a = l.0 in let b = l.1 in grind (arith, nat_tests)
 
+-- links grow with statements
+link_grows : (source : SourceValue) (i j at : ℕ) (sites : List Site) (t u : ℕ) → BlocksFrom source i j (blocks_in sites) → i ≤ t → t ≤ u → link_of at sites t ≤ link_of at sites u
+link_grows source i j at [] t u h l m = omega arith
+link_grows source i j at (s ∷ sites) t u h l m = ⊎_elim
+    (λ (q : t < s.block.first + size s.block).
+    let first = h.0 in
+    let here : link_of at (s ∷ sites) t ≡ at = ap (λ c. cond c at (link_of (at + plan_size s.plan) sites t)) (has t s.block.first (s.block.first + size s.block) (omega arith) q) in
+    let w = (link_within at (s ∷ sites) u).0 in
+    omega arith)
+    (λ (q : s.block.first + size s.block ≤ t).
+    let first = h.0 in
+    let at_t : link_of at (s ∷ sites) t ≡ link_of (at + plan_size s.plan) sites t = ap (λ c. cond c at (link_of (at + plan_size s.plan) sites t)) (has_not t s.block.first (s.block.first + size s.block) q) in
+    let at_u : link_of at (s ∷ sites) u ≡ link_of (at + plan_size s.plan) sites u = ap (λ c. cond c at (link_of (at + plan_size s.plan) sites u)) (has_not u s.block.first (s.block.first + size s.block) (omega arith)) in
+    let more = link_grows source (i + size s.block) j (at + plan_size s.plan) sites t u h.2 (omega arith) m in
+    omega arith)
+    (cases_lt t (s.block.first + size s.block))
+  where
+    has : (x a b : ℕ) → a ≤ x → x < b → (leb a x && ltb x b) ≡ true
+    has x a b p q = grind (arith, nat_tests)
+
+    has_not : (x a b : ℕ) → b ≤ x → (leb a x && ltb x b) ≡ false
+    has_not x a b p = grind (arith, nat_tests)
+
 -- data words with places of code as their addresses
 words_linked : (link : ℕ → ℕ) (words : List Value) (k : ℕ) → slice_index (map (value_word link) words) k ≡ value_word link (slice_index_or words k (Int 0))
 words_linked link [] k = refl
@@ -88,18 +111,28 @@ data_linked link place words = same_words _ _ (λ a. by_test (leb place.user_dat
 is_prefix : (xs ys : List ℕ) → Prefix xs ys → IsPrefix xs ys
 is_prefix xs ys h = record { rest = h.0; whole = h.1 }
 
-module _ (l : Linking) (h : IsLinking l) where
+module _ (l : Linking) (laid : IsLaid l.source l.place l.sites) where
+  registers : (i : ℕ) (s : Statement) → slice_get l.source.statements i ≡ Some s → HasRegisters (statement_inst s)
+  registers i s e = subst (λ (x : Statement). HasRegisters (statement_inst x)) (get_or_from_slice_get l.source.statements i s s e) (laid.registers i s (slice_get_within l.source.statements i s e))
+
+  abbrev Filled : Type 0
+  Filled = Fills l.source laid.well_formed registers l.place l.sites laid.layout laid.room laid.reach l.filling
+
+  filled_from : IsFilling l.filling → Filled
+  filled_from h = ⊎_elim
+      (λ e. (false, λ s. inr (refl, ap (λ (f : Filling). f l.sites s) e)))
+      (λ e. (true, λ s. inl (ap (λ (f : Filling). f l.sites s) e)))
+      h
+
+  abbrev filled_bare : l.filling ≡ from_nowhere → Filled
+  filled_bare e = (true, λ s. inl (ap (λ (f : Filling). f l.sites s) e))
+
+module _ (l : Linking) (laid : IsLaid l.source l.place l.sites) (fills : Filled l laid) where
   abbrev source : SourceValue
   source = l.source
 
   abbrev all : List Site
   all = l.sites
-
-  registers : (i : ℕ) (s : Statement) → slice_get source.statements i ≡ Some s → HasRegisters (statement_inst s)
-  registers i s e = subst (λ (x : Statement). HasRegisters (statement_inst x)) (get_or_from_slice_get source.statements i s s e) (h.laid.registers i s (slice_get_within source.statements i s e))
-
-  fills : Fills source h.laid.well_formed registers l.place all h.laid.layout h.laid.room h.laid.reach l.filling
-  fills s = ⊎_elim (λ e. inr (ap (λ (f : Filling). f all s) e)) (λ e. inl (ap (λ (f : Filling). f all s) e)) h.filled
 
   abbrev p : Program
   p = program source l.place l.bytes
@@ -114,31 +147,31 @@ module _ (l : Linking) (h : IsLinking l) where
   r0 = record { state = start source l.place; console = [] }
 
   abbrev smalls : (i : ℕ) → lk i + 8 < 2 ^ 31
-  smalls = small source h.laid.well_formed registers l.place all h.laid.layout h.laid.room h.laid.reach l.filling fills l.bytes
+  smalls = small source laid.well_formed (registers l laid) l.place all laid.layout laid.room laid.reach l.filling fills l.bytes
 
   abbrev lows : (i : ℕ) → l.place.code ≤ lk i
-  lows = above source h.laid.well_formed registers l.place all h.laid.layout h.laid.room h.laid.reach l.filling fills l.bytes
+  lows = above source laid.well_formed (registers l laid) l.place all laid.layout laid.room laid.reach l.filling fills l.bytes
 
   abbrev places : ℕ → ℕ
-  places = place_of source h.laid.well_formed registers l.place all h.laid.layout h.laid.room h.laid.reach l.filling fills l.bytes
+  places = place_of source laid.well_formed (registers l laid) l.place all laid.layout laid.room laid.reach l.filling fills l.bytes
 
-  abbrev blocks : (t : ℕ) → is_leader source t ≡ true → t < length source.statements → Placed lk p smalls lows (code_in l) (inside l) (is_leader source) places t
-  blocks = placed source h.laid.well_formed registers l.place all h.laid.layout h.laid.room h.laid.reach l.filling fills l.bytes
+  abbrev blocks : (t : ℕ) → is_leader source t ≡ true → t < length source.statements → Placed lk p smalls lows (code_in l) (inside l) (is_leader source) places (len_of all) t
+  blocks = placed source laid.well_formed (registers l laid) l.place all laid.layout laid.room laid.reach l.filling fills l.bytes
 
   leads0 : LeadsAt lk p smalls lows (code_in l) (inside l) (is_leader source) places 0 0
-  leads0 = inl (refl, (let q : 0 ≤ places 0 = omega arith in q))
+  leads0 = (inl refl, (let q : 0 ≤ places 0 = omega arith in q))
 
   codes : (m : ℕ) → CodesLead lk p smalls lows (code_in l) (inside l) (is_leader source) places (run_for p m r0)
-  codes m n t e = inl (registers_lead source h.laid.well_formed l.place l.bytes m n t e)
+  codes m n t e = inl (registers_lead source laid.well_formed l.place l.bytes m n t e)
 
   abbrev Linked : ℕ → Watched
-  Linked j = D lk p smalls lows (code_in l) (inside l) (is_leader source) places blocks r0 refl leads0 codes j
+  Linked j = D lk p smalls lows (code_in l) (inside l) (is_leader source) places (len_of all) blocks r0 refl leads0 codes j
 
   abbrev shorts : (i : ℕ) → lk i < 2 ^ 32
   shorts = short lk p smalls lows (code_in l) (inside l) (is_leader source) places
 
   -- the run begins as the machine starts
-  begins_so : from lk p smalls lows (code_in l) (inside l) (is_leader source) places blocks r0 refl leads0 codes r0 ≡ watch_start l.place (data_in l)
+  begins_so : from lk p smalls lows (code_in l) (inside l) (is_leader source) places (len_of all) blocks r0 refl leads0 codes r0 ≡ watch_start l.place (data_in l)
   begins_so = λ k. record {
     at = record {
       first = record { address = start_at k; squashed = false };
@@ -153,7 +186,7 @@ module _ (l : Linking) (h : IsLinking l) where
   }
     where
       start_at : lk 0 ≡ l.place.code
-      start_at = first_link source (length source.statements) l.place.code all h.laid.layout.blocks
+      start_at = first_link source (length source.statements) l.place.code all laid.layout.blocks
 
   watched_so : (j : ℕ) → Linked j ≡ watch_for (code_in l) (inside l) l.place input j (watch_start l.place (data_in l))
   watched_so j = ap (watch_for (code_in l) (inside l) l.place input j) begins_so
@@ -163,8 +196,7 @@ module _ (l : Linking) (h : IsLinking l) where
 
   clean_so : (j : ℕ) → IsSafe l (j + 64) → RunsClean l j × IsPrefix (linked_run l j).console (meant l (j + 64)).console
   clean_so j safe =
-      let c = runs_clean lk p smalls lows (code_in l) (inside l) (is_leader source) places blocks r0 refl leads0 codes j safe in
-      (
+      let c = runs_clean lk p smalls lows (code_in l) (inside l) (is_leader source) places (len_of all) blocks r0 refl leads0 codes j safe in (
         sym (ap (λ (x : Watched). x.clean) (watched_so j)) ∙ c.clean,
         subst (λ (x : Delay). IsPrefix x.console (meant l (j + 64)).console) (runs_so j) (is_prefix (Linked j).at.console (meant l (j + 64)).console c.console),
       )
@@ -172,22 +204,23 @@ module _ (l : Linking) (h : IsLinking l) where
   abbrev AtNow : Watched → Run → Type 0
   AtNow x r = IsAt lk p smalls lows (code_in l) (inside l) (is_leader source) places x r
 
+  shows_by : (j n : ℕ) → (linked_run l j).core ≡ core_of lk shorts (meant l n).state → (linked_run l j).console ≡ (meant l n).console → Shows l j n
+  shows_by j n core console = record {
+    console = console;
+    state = record {
+      registers = λ i low high. ap (λ (c : Core). c.regs i) core;
+      user_data = λ i user. ap (λ (c : Core). c.mem i) core;
+      md = ap (λ (c : Core). c.md) core;
+      taken = ap (λ (c : Core). c.taken) core;
+    };
+  }
+
   shows_so : (j n : ℕ) → AtNow (Linked j) (meant l n) → Shows l j n
-  shows_so j n a =
-      let core : (linked_run l j).core ≡ core_of lk shorts (meant l n).state = ap (λ (x : Delay). x.core) (sym (runs_so j)) ∙ a.core in
-      record {
-        console = ap (λ (x : Delay). x.console) (sym (runs_so j)) ∙ a.console;
-        state = record {
-          registers = λ i low high. ap (λ (c : Core). c.regs i) core;
-          user_data = λ i user. ap (λ (c : Core). c.mem i) core;
-          md = ap (λ (c : Core). c.md) core;
-          taken = ap (λ (c : Core). c.taken) core;
-        };
-      }
+  shows_so j n a = shows_by j n (ap (λ (x : Delay). x.core) (sym (runs_so j)) ∙ a.core) (ap (λ (x : Delay). x.console) (sym (runs_so j)) ∙ a.console)
 
   halts_so : (n : ℕ) → (meant l n).state.mark ≡ Halted → HaltsSoon l n
   halts_so n e =
-      let s = soon_halted lk p smalls lows (code_in l) (inside l) (is_leader source) places blocks r0 refl leads0 codes n e in
+      let s = soon_halted lk p smalls lows (code_in l) (inside l) (is_leader source) places (len_of all) blocks r0 refl leads0 codes n e in
       record {
         steps = s.e;
         soon = s.soon;
@@ -201,12 +234,12 @@ module _ (l : Linking) (h : IsLinking l) where
     where
       by_mark : (k : Mark) → (meant l m).state.mark ≡ k → (meant l m).state.mark ≡ Going
       by_mark Going q = q
-      by_mark Halted q = absurd (false_true (sym (ap is_going q) ∙ sym (ap (λ (r : Run). is_going r.state.mark) (M_stays lk p smalls lows (code_in l) (inside l) (is_leader source) places blocks r0 refl leads0 codes m last le (ap is_going q))) ∙ ap is_going e))
-      by_mark (Stuck why) q = absurd (false_true (sym (ap is_going q) ∙ sym (ap (λ (r : Run). is_going r.state.mark) (M_stays lk p smalls lows (code_in l) (inside l) (is_leader source) places blocks r0 refl leads0 codes m last le (ap is_going q))) ∙ ap is_going e))
+      by_mark Halted q = absurd (false_true (sym (ap is_going q) ∙ sym (ap (λ (r : Run). is_going r.state.mark) (M_stays lk p smalls lows (code_in l) (inside l) (is_leader source) places (len_of all) blocks r0 refl leads0 codes m last le (ap is_going q))) ∙ ap is_going e))
+      by_mark (Stuck why) q = absurd (false_true (sym (ap is_going q) ∙ sym (ap (λ (r : Run). is_going r.state.mark) (M_stays lk p smalls lows (code_in l) (inside l) (is_leader source) places (len_of all) blocks r0 refl leads0 codes m last le (ap is_going q))) ∙ ap is_going e))
 
   halted_so : (j : ℕ) → IsSafe l (j + 64) → (linked_run l j).halted ≡ true → HaltedBefore l j
   halted_so j safe e =
-      let b = halted_back lk p smalls lows (code_in l) (inside l) (is_leader source) places blocks r0 refl leads0 codes j safe (ap (λ (x : Delay). x.halted) (runs_so j) ∙ e) in
+      let b = halted_back lk p smalls lows (code_in l) (inside l) (is_leader source) places (len_of all) blocks r0 refl leads0 codes j safe (ap (λ (x : Delay). x.halted) (runs_so j) ∙ e) in
       record {
         statements = b.n;
         few = b.few;
@@ -217,16 +250,97 @@ module _ (l : Linking) (h : IsLinking l) where
   sent_so : (m : ℕ) → IsSafe l (m + 64) → IsPrefix (meant l m).console (linked_run l (3 * (m + 64))).console
   sent_so m safe =
       subst (λ (x : Delay). IsPrefix (meant l m).console x.console) (runs_so (3 * (m + 64)))
-      (is_prefix (meant l m).console (Linked (3 * (m + 64))).at.console (sent_soon lk p smalls lows (code_in l) (inside l) (is_leader source) places blocks r0 refl leads0 codes m safe))
+      (is_prefix (meant l m).console (Linked (3 * (m + 64))).at.console (sent_soon lk p smalls lows (code_in l) (inside l) (is_leader source) places (len_of all) blocks r0 refl leads0 codes m safe))
+
+  -- the words of the plans so far
+  abbrev Sum : ℕ → ℕ
+  Sum m = sum_of_plans lk p smalls lows (code_in l) (inside l) (is_leader source) places (len_of all) blocks r0 refl leads0 codes m
+
+  sums : (m : ℕ) → Sum m ≡ planned_words l m
+  sums zero = refl
+  sums (suc m) = ap (λ k. k + cond (is_leader l.source (meant l m).state.index) (block_words l (meant l m).state.index) 0) (sums m)
+
+  start_so : ((t : ℕ) → places t ≡ 0) → (m : ℕ) → IsBlockStart l m → StartsBlock l m
+  start_so bare m s =
+      let b = block_starts lk p smalls lows (code_in l) (inside l) (is_leader source) places (len_of all) blocks r0 refl leads0 codes bare m s.going s.leads in
+      let at_is : linked_run l (planned_words l m) ≡ (from lk p smalls lows (code_in l) (inside l) (is_leader source) places (len_of all) blocks r0 refl leads0 codes (meant l m)).at = ap (linked_run l) (sym (sums m)) ∙ sym (runs_so (Sum m)) ∙ b.state in
+      let sum = sums m in
+      record {
+        no_fewer = (let q = b.low_sum in omega arith);
+        no_more = (let q = b.high_sum in omega arith);
+        going = ap (λ (x : Delay). x.halted) at_is;
+        first = ap (λ (x : Delay). x.first) at_is;
+        second = ap (λ (x : Delay). x.second) at_is;
+        third = ap (λ (x : Delay). x.third) at_is;
+        shows = shows_by (planned_words l m) m (ap (λ (x : Delay). x.core) at_is) (ap (λ (x : Delay). x.console) at_is);
+      }
+
+  later_so : (m n : ℕ) → IsBlockStart l m → IsBlockStart l n → m < n → planned_words l m < planned_words l n
+  later_so m n s t less =
+      let g = sum_grows lk p smalls lows (code_in l) (inside l) (is_leader source) places (len_of all) blocks r0 refl leads0 codes m n s.going s.leads t.going less in
+      let a = sums m in
+      let b = sums n in
+      omega arith
+
+  abbrev PlacedHere : ℕ → Type 0
+  PlacedHere = Placed lk p smalls lows (code_in l) (inside l) (is_leader source) places (len_of all)
+
+  -- the next leader is behind the block
+  behind : (i j : ℕ) (w : PlacedHere i) → i < j → is_leader source j ≡ true → i + length (insts_of w.lay.block) ≤ j
+  behind i j w less lead = ⊎_elim
+      (λ (q : j < i + length (insts_of w.lay.block)).
+      let on : i + (j - i) ≡ j = omega arith in
+      absurd (false_true (sym (w.inner (j - i) (omega arith) (omega arith)) ∙ ap (is_leader source) on ∙ lead)))
+      (λ q. q)
+      (cases_lt j (i + length (insts_of w.lay.block)))
+
+  no_later : (i j : ℕ) → i ≤ j → lk i ≤ lk j
+  no_later i j le = link_grows source 0 (length source.statements) l.place.code all i j laid.layout.blocks (omega arith) le
+
+  only : (i j k : ℕ) → is_leader source i ≡ true → i < length source.statements → (w : PlacedHere j) → is_leader source j ≡ true → j < length source.statements → k < length (items_of w.lay.plan) → lk i ≡ lk j + k → i ≡ j
+  only i j k li hi w lj hj few e = ⊎_elim
+      (λ (q : i < j).
+      let wi = blocks i li hi in
+      let some = some_words lk p smalls lows (code_in l) (inside l) (is_leader source) places (len_of all) blocks r0 refl leads0 codes i wi in
+      let next = wi.lay.next in
+      let above = no_later (i + length (insts_of wi.lay.block)) j (behind i j wi q lj) in
+      absurd (omega arith))
+      (λ (q : j ≤ i). ⊎_elim
+      (λ (x : j < i).
+      let next = w.lay.next in
+      let above = no_later (j + length (insts_of w.lay.block)) i (behind j i w x li) in
+      absurd (omega arith))
+      (λ (x : i ≤ j). omega arith)
+      (cases_lt j i))
+      (cases_lt i j)
+
+  fetch_so : ((t : ℕ) → places t ≡ 0) → (d i : ℕ) → IsSafe l (d + 64) → (linked_run l d).halted ≡ false → is_leader source i ≡ true → i < length source.statements → (linked_run l d).first.address ≡ lk i → ComesFrom l d i
+  fetch_so bare d i safe on lead within here =
+      let b = block_at_fetch lk p smalls lows (code_in l) (inside l) (is_leader source) places (len_of all) blocks r0 refl leads0 codes bare only d safe (ap (λ (x : Delay). x.halted) (runs_so d) ∙ on) i lead within (ap (λ (x : Delay). x.first.address) (runs_so d) ∙ here) in
+      record {
+        statements = b.m;
+        start = record { going = b.going; leads = ap (is_leader source) b.index ∙ lead };
+        index = b.index;
+        steps = b.is_d ∙ sums b.m;
+      }
 
 pub is_clean : LinkedCodeIsClean
-is_clean l j h safe = clean_so l h j safe
+is_clean l j h safe = clean_so l h.laid (filled_from l h.laid h.filled) j safe
 
 pub halts : LinkedCodeHalts
-halts l n h e = halts_so l h n e.halted
+halts l n h e = halts_so l h.laid (filled_from l h.laid h.filled) n e.halted
 
 pub halts_only : LinkedCodeHaltsOnly
-halts_only l j h safe e = halted_so l h j safe e
+halts_only l j h safe e = halted_so l h.laid (filled_from l h.laid h.filled) j safe e
 
 pub sends : LinkedCodeSends
-sends l m h safe = sent_so l h m safe
+sends l m h safe = sent_so l h.laid (filled_from l h.laid h.filled) m safe
+
+pub blocks_start : LinkedBlocksStart
+blocks_start l m h e s = start_so l h.laid (filled_bare l h.laid e) (λ t. refl) m s
+
+pub later : LaterBlocksStartLater
+later l m n h s t less = later_so l h.laid (filled_from l h.laid h.filled) m n s t less
+
+pub fetches : FetchesStartBlocks
+fetches l d i h e safe on lead within here = fetch_so l h.laid (filled_bare l h.laid e) (λ t. refl) d i safe on lead within here

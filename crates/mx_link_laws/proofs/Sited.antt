@@ -1,15 +1,13 @@
 -- The instructions of a block as it is linked, and the words of its site.
-use Rattle.std.proofs.Common.{◌≡◌, ℕ, ℤ, pos, zero, suc, ◌+◌, ◌-◌, ◌^◌, ◌<◌, ◌≤◌, Bool, true, false, cond, eqb, ◌||◌, List, [], ◌∷◌, ◌++◌, length, map, take, All, Option, Some, None, slice_index_or, refl, sym, ap, ◌∙◌, subst, arith, ⊎_elim}
+use Rattle.std.proofs.Common.{◌≡◌, ℕ, suc, ◌+◌, ◌^◌, ◌<◌, ◌≤◌, Bool, true, false, cond, eqb, List, [], ◌∷◌, ◌++◌, length, map, take, All, Option, Some, None, slice_index_or, refl, sym, ap, ◌∙◌, subst, arith}
 use Rattle.std.specs.Prelude.{slice_get, slice_range, is_some}
 use Rattle.std.specs.Option.{option_map}
-use Rattle.std.proofs.lemmas.Bool.{or_parts}
 use Rattle.std.proofs.lemmas.Bool.Decides.{nat_tests}
 use Rattle.std.proofs.lemmas.List.{length-map, get_or-take, length-take-le}
-use Rattle.std.proofs.lemmas.Option.{slice_get-map, slice_get_within, get_or_from_slice_get, slice_get-get_or, same_Some}
+use Rattle.std.proofs.lemmas.Option.{slice_get-map, slice_get_within, get_or_from_slice_get, slice_get-get_or}
 use Rattle.mx_isa.specs.declared.inst.Inst.{Inst}
 use Rattle.mx_isa.specs.declared.inst.Inst.TheVariants.{Halt as HaltInst}
 use Rattle.mx_isa.specs.Fields.{InstFits}
-use Rattle.mx_code.specs.Delay.{idle}
 use Rattle.mx_depend.specs.Graphs.{inst_at as inst_number}
 use Rattle.mx_source.specs.declared.statement.Statement.{Statement}
 use Rattle.mx_source.specs.declared.statement.Statement.TheVariants.{Plain, LaCode, Branch, Call, CallReg, JumpReg, Halt}
@@ -17,19 +15,17 @@ use Rattle.mx_source.specs.Labels.{IsPlace}
 use Rattle.mx_source.specs.Statements.{StatementFits}
 use Rattle.mx_source.specs.SourceValue.{SourceValue, IsSource}
 use Rattle.mx_source.specs.Meaning.{given}
-use Rattle.mx_blocks.specs.declared.block.Block.{Block}
 use Rattle.mx_blocks.specs.declared.block.Item.{Item}
 use Rattle.mx_blocks.specs.declared.block.Item.TheVariants.{Op, Nop}
-use Rattle.mx_blocks.specs.declared.block.End.TheVariants.{Branches, Calls}
 use Rattle.mx_blocks.specs.Ends.{is_last}
 use Rattle.mx_blocks.specs.Leaders.{inst_of, end_of, size, IsBlockOf}
 use Rattle.mx_blocks.proofs.Splits.{get_range, range_length}
-use Rattle.mx_validate.specs.Padded.{insts_of, items_of, body_count}
+use Rattle.mx_validate.specs.Padded.{insts_of, body_count}
 use Rattle.mx_validate.specs.Validity.{Valid}
 use Rattle.mx_squash.specs.declared.copying.Copied.{Copied}
-use Rattle.mx_squash.specs.Copies.{Site, no_copies, reaches}
+use Rattle.mx_squash.specs.Copies.{Site}
 use Rattle.mx_link.specs.declared.linked.Origin.{Origin}
-use Rattle.mx_link.specs.Origins.{own, over, copied_to, goal_of, origins_from, origins_at}
+use Rattle.mx_link.specs.Origins.{own, over, copied_to, goal_of, origins_from}
 use Rattle.mx_link.specs.Words.{linked_inst, linked_statement, inst_at, insts_from}
 use Rattle.mx_link.specs.Parts.{origin_at}
 use Rattle.mx_link.proofs.Bodies.{inst_is, is_last_of}
@@ -79,11 +75,10 @@ body_of link short P c at Halt f h = absurd (false_true (sym h))
 
 are_body : (link : ℕ → ℕ) (short : (i : ℕ) → link i < 2 ^ 32) (statements : List Statement) (i : ℕ) (xs : List Inst) → ((k : ℕ) → k < length xs → IsBodyOf link short (slice_get statements (i + k)) (inst_number xs k)) → AreBody link short statements i xs
 are_body link short statements i [] h = tt
-are_body link short statements i (x ∷ xs) h =
-    (
-      subst (λ n. IsBodyOf link short (slice_get statements n) x) (let e : i + 0 ≡ i = omega arith in e) (h 0 (omega arith)),
-      are_body link short statements (suc i) xs (λ k l. let on : i + suc k ≡ suc i + k = omega arith in subst (λ n. IsBodyOf link short (slice_get statements n) (inst_number xs k)) on (h (suc k) (omega arith))),
-    )
+are_body link short statements i (x ∷ xs) h = (
+  subst (λ n. IsBodyOf link short (slice_get statements n) x) (let e : i + 0 ≡ i = omega arith in e) (h 0 (omega arith)),
+  are_body link short statements (suc i) xs (λ k l. let on : i + suc k ≡ suc i + k = omega arith in subst (λ n. IsBodyOf link short (slice_get statements n) (inst_number xs k)) on (h (suc k) (omega arith))),
+)
 
 -- items one behind the other
 origins_append : (s : Site) (c : Copied) (p : ℕ) (xs ys : List Item) → origins_from s c p (xs ++ ys) ≡ origins_from s c p xs ++ origins_from s c (p + length xs) ys

@@ -1,22 +1,21 @@
 -- What stands in the slots of a site's transfer: its own items, or the first words of its target.
-use Rattle.std.proofs.Common.{◌≡◌, ◌≢◌, ℕ, zero, suc, ◌+◌, ◌*◌, ◌-◌, ◌^◌, ◌<◌, ◌≤◌, Bool, true, false, cond, eqb, ltb, not, ◌&&◌, ◌||◌, List, [], ◌∷◌, ◌++◌, ◌⊎◌, length, All, Option, Some, None, slice_index_or, take, min, refl, sym, ap, ◌∙◌, subst, arith, ⊎_elim, inl, inr}
+use Rattle.std.proofs.Common.{◌≡◌, ◌≢◌, ℕ, zero, suc, ◌+◌, ◌*◌, ◌^◌, ◌<◌, ◌≤◌, Bool, true, false, cond, eqb, ltb, not, ◌&&◌, ◌||◌, List, [], ◌∷◌, ◌++◌, ◌⊎◌, length, Option, Some, None, slice_index_or, take, min, refl, sym, ap, ◌∙◌, subst, arith, ⊎_elim, inl, inr}
 use Rattle.std.specs.Prelude.{slice_get}
-use Rattle.std.proofs.lemmas.Bool.{cases_eq, cases_Bool, and_parts, or_parts, cond-true, cond-false}
+use Rattle.std.proofs.lemmas.Bool.{cases_eq, and_parts, cond-true, cond-false}
 use Rattle.std.proofs.lemmas.Bool.Decides.{nat_tests}
-use Rattle.std.proofs.lemmas.Option.{slice_get_within, get_or_from_slice_get, slice_get-get_or}
+use Rattle.std.proofs.lemmas.Option.{get_or_from_slice_get, slice_get-get_or}
 use Rattle.mx_isa.specs.declared.place.Place.{Place}
 use Rattle.mx_isa.specs.declared.inst.Inst.{Inst}
 use Rattle.mx_isa.specs.declared.inst.Inst.TheVariants.{Halt as HaltInst}
 use Rattle.mx_isa.specs.Views.{is_load, dest, reads}
 use Rattle.mx_code.specs.Codes.{HasRegisters}
-use Rattle.mx_code.specs.Delay.{Code, idle}
+use Rattle.mx_code.specs.Delay.{Code}
 use Rattle.mx_code.specs.Clean.{loads_to}
 use Rattle.mx_depend.specs.Independence.{feeds}
 use Rattle.mx_depend.specs.Graphs.{inst_at as inst_number}
 use Rattle.mx_source.specs.declared.statement.Statement.{Statement}
 use Rattle.mx_source.specs.SourceValue.{SourceValue, IsSource}
 use Rattle.mx_source.specs.Meaning.{Program, program}
-use Rattle.mx_blocks.specs.declared.block.Block.{Block}
 use Rattle.mx_blocks.specs.declared.block.Plan.{Plan}
 use Rattle.mx_blocks.specs.declared.block.Item.{Item}
 use Rattle.mx_blocks.specs.declared.block.Item.TheVariants.{Op, Nop}
@@ -32,18 +31,18 @@ use Rattle.mx_squash.specs.Copies.{item_inst as block_item}
 use Rattle.mx_layout.specs.Layout.{IsLayout, link_of, blocks_in}
 use Rattle.mx_layout.specs.Overlong.{overlong}
 use Rattle.mx_link.specs.Origins.{Filling, own, over, copied_to, goal_of, origins_at}
-use Rattle.mx_link.specs.Words.{linked_inst, linked_statement, inst_at, insts_from}
+use Rattle.mx_link.specs.Words.{linked_statement, inst_at, insts_from}
 use Rattle.mx_order.specs.Laws.{IsLaidOut}
 use Rattle.mx_order.specs.Parts.{AreBelow, Parts}
 use Rattle.mx_order.proofs.Order.{SameViews, laid_out_views}
 use Rattle.mx_order.proofs.Split.{body_within, has_parts}
 use Rattle.mx_order.proofs.Words.{item_inst, words}
-use Rattle.mx_link_laws.proofs.Going.{IsPlain, ArePlain, idle_plain, Stands, stands_left}
+use Rattle.mx_link_laws.proofs.Going.{IsPlain, idle_plain, Stands, stands_left}
 use Rattle.mx_link_laws.proofs.Saying.{all_plain}
 use Rattle.mx_link_laws.proofs.Planned.{plain_body}
 use Rattle.mx_link_laws.proofs.OneBlock.{Head, Filled, Own, InSecond, InFirst, InBoth}
-use Rattle.mx_link_laws.proofs.Sited.{insts, laid, body, there, inst_there, linked_anywhere, goes_on, body_word, word_at, words_from, words_append, front_words}
-use Rattle.mx_link_laws.proofs.Layouts.{link_low, small, low, Facts, Goal, goal_is, goal_first, Fills, goes, code, inside, piece_of, Standing, standing}
+use Rattle.mx_link_laws.proofs.Sited.{insts, laid, body, there, inst_there, linked_anywhere, goes_on, body_word, words_from, words_append, front_words}
+use Rattle.mx_link_laws.proofs.Layouts.{link_low, small, low, Goal, goal_is, Fills, goes, code, inside, Standing, standing}
 use Rattle.mx_layout.proofs.Links.{site_found}
 
 false_true : false ≡ true → ⊥
@@ -110,7 +109,7 @@ module _ (source : SourceValue) (is : IsSource source) (registers : (i : ℕ) (s
   ins = inside source is registers place all h room' reach filling fills
 
   abbrev pub place_of : ℕ → ℕ
-  place_of t = place_in (site_of (λ b. eqb b.first t) all)
+  place_of t = cond fills.0 0 (place_in (site_of (λ b. eqb b.first t) all))
 
   abbrev pub Stood : Site → Type 0
   Stood s = Standing source is registers place all h room' reach filling fills s
@@ -337,7 +336,7 @@ module _ (source : SourceValue) (is : IsSource source) (registers : (i : ℕ) (s
     slot_g = (λ k. slice_get (items_are k) (parts.place k + 2)) ∙ get_front parts.front (Op (body_count s.block)) f g 1
 
     -- copies from a target
-    module _ (gs : Site) (found : site_of (is_target s.block.end) all ≡ Some gs) (is_c : c ≡ copied s (Some gs)) where
+    module _ (gs : Site) (found : site_of (is_target s.block.end) all ≡ Some gs) (is_c : c ≡ copied s (Some gs)) (copying : fills.0 ≡ false) where
       goal_facts : Goal source is registers place all h room' reach s gs
       goal_facts = goal_is source is registers place all h room' reach s gs found
 
@@ -345,7 +344,7 @@ module _ (source : SourceValue) (is : IsSource source) (registers : (i : ℕ) (s
       gst = (site_found StoodAt (is_target s.block.end) all gs (standing source is registers place all h room' reach filling fills) found).0
 
       goal_place : place_of source is registers place all h room' reach filling fills bytes goal ≡ gs.plan.place
-      goal_place = ap place_in (target_test s.block.end all gs found)
+      goal_place = ap (λ b. cond b 0 (place_in (site_of (λ b. eqb b.first goal) all))) copying ∙ ap place_in (target_test s.block.end all gs found)
 
       goal_leads : is_leader source goal ≡ true
       goal_leads = ap (is_leader source) (sym goal_facts.first) ∙ gst.of.block.leader
@@ -465,15 +464,15 @@ module _ (source : SourceValue) (is : IsSource source) (registers : (i : ℕ) (s
           (λ (z : n ≢ 0). some_copied (omega arith))
           (cases_eq n 0)
 
-    by_goal : (o : Option Site) → site_of (is_target s.block.end) all ≡ o → c ≡ copied s o → FilledHere c.count c.squash
-    by_goal None e is_c = all_own (ap (λ (d : Copied). d.count) is_c) (ap (λ (d : Copied). d.squash) is_c) (ap (λ (d : Copied). d.from) is_c)
-    by_goal (Some gs) e is_c = from_goal gs e is_c
+    by_goal : (o : Option Site) → site_of (is_target s.block.end) all ≡ o → c ≡ copied s o → fills.0 ≡ false → FilledHere c.count c.squash
+    by_goal None e is_c copying = all_own (ap (λ (d : Copied). d.count) is_c) (ap (λ (d : Copied). d.squash) is_c) (ap (λ (d : Copied). d.from) is_c)
+    by_goal (Some gs) e is_c copying = from_goal gs e is_c copying
 
     pub filled_there : FilledHere c.count c.squash
     filled_there = ⊎_elim
         (λ e. all_own (ap (λ (d : Copied). d.count) e) (ap (λ (d : Copied). d.squash) e) (ap (λ (d : Copied). d.from) e))
-        (λ e. by_goal (site_of (is_target s.block.end) all) refl e)
-        (fills s)
+        (λ e. by_goal (site_of (is_target s.block.end) all) refl e.1 e.0)
+        (fills.1 s)
 
     -- where there is no target, the slots are its own
     pub record OwnSlots : Type 0 where
@@ -484,8 +483,8 @@ module _ (source : SourceValue) (is : IsSource source) (registers : (i : ℕ) (s
     own_slots none =
         let e : c.from ≡ Nop ∷ Nop ∷ [] = ⊎_elim
         (λ e. ap (λ (d : Copied). d.from) e)
-        (λ e. ap (λ (d : Copied). d.from) (e ∙ ap (copied s) none))
-        (fills s) in
+        (λ e. ap (λ (d : Copied). d.from) (e.1 ∙ ap (copied s) none))
+        (fills.1 s) in
         record {
           first = x_is Nop (ap (λ l. slice_index_or l 0 Nop) e) ∙ own_item 1 f below_f;
           second = y_is Nop (ap (λ l. slice_index_or l 1 Nop) e) ∙ own_item 2 g below_g;

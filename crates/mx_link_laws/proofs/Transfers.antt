@@ -1,15 +1,15 @@
 -- One block by how it ends: it falls through, halts, branches, calls, or jumps by a register.
-use Rattle.std.proofs.Common.{◌≡◌, ℕ, ℤ, pos, suc, ◌+◌, ◌%◌, ◌^◌, ◌<◌, ◌≤◌, Bool, true, false, cond, List, [], ◌∷◌, ◌++◌, ◌⊎◌, length, Option, Some, None, option_to_list, refl, sym, ap, ◌∙◌, subst, arith, ⊎_elim, inl, inr}
+use Rattle.std.proofs.Common.{◌≡◌, ℕ, ℤ, pos, suc, ◌+◌, ◌%◌, ◌^◌, ◌<◌, ◌≤◌, Bool, true, false, cond, List, [], ◌∷◌, ◌++◌, ◌⊎◌, length, Option, Some, None, option_to_list, refl, sym, ap, ◌∙◌, subst, arith, inl, inr}
 use Rattle.std.specs.Prelude.{slice_get}
 use Rattle.std.specs.Int.{w32, cast_unsigned}
-use Rattle.std.proofs.lemmas.Bool.{cond-true, cond-false, cases_Bool, or_parts}
+use Rattle.std.proofs.lemmas.Bool.{or_parts}
 use Rattle.mx_isa.specs.declared.inst.Cond.{Cond}
 use Rattle.mx_isa.specs.declared.inst.Inst.{Inst}
 use Rattle.mx_isa.specs.declared.inst.Inst.TheVariants.{Jspci}
 use Rattle.mx_isa.specs.declared.inst.Inst.TheVariants.{Branch as BranchInst, Halt as HaltInst}
 use Rattle.mx_isa.specs.Words.{Words, reg, write}
 use Rattle.mx_isa.specs.Arithmetic.{condition_holds}
-use Rattle.mx_isa.specs.Effect.{Core, Decision, decides, offset_by}
+use Rattle.mx_isa.specs.Effect.{Core, decides, offset_by}
 use Rattle.mx_isa.specs.Views.{is_transfer, is_halt, is_load}
 use Rattle.mx_code.specs.Delay.{Code}
 use Rattle.mx_source.specs.declared.statement.Statement.{Statement}
@@ -17,14 +17,16 @@ use Rattle.mx_source.specs.declared.statement.Statement.TheVariants.{Branch, Cal
 use Rattle.mx_source.specs.declared.statement.Value.{Value}
 use Rattle.mx_source.specs.declared.statement.Value.TheVariants.{Int, Code as CodeValue}
 use Rattle.mx_source.specs.declared.statement.Why.TheVariants.{CodeOperand}
-use Rattle.mx_source.specs.Values.{value_in, is_code, word_in, write_value}
-use Rattle.mx_source.specs.Meaning.{Program, Going, State, Step, Run, any_code, stuck, jumps, execute, run_step, run_for, is_stuck}
+use Rattle.mx_source.specs.Values.{value_in, word_in, write_value}
+use Rattle.mx_source.specs.Meaning.{Program, Going, State, Step, Run, any_code, stuck, jumps, execute, run_for, is_stuck}
 use Rattle.mx_blocks.specs.declared.block.Item.{Item}
 use Rattle.mx_blocks.specs.declared.block.Item.TheVariants.{Op}
 use Rattle.mx_validate.specs.Padded.{insts_of, items_of, falls, body_count}
 use Rattle.mx_order.specs.Running.{Ran, run_one}
 use Rattle.mx_order.specs.Parts.{AreBelow}
 use Rattle.mx_order.proofs.Words.{item_inst, words}
+use Rattle.std.proofs.lemmas.List.{map-append}
+use Rattle.mx_link_laws.proofs.Going.{stands_left}
 use Rattle.mx_link_laws.proofs.Matching.{linked, linked_write, linked_value, word_seen, word_value, core_of}
 use Rattle.mx_link_laws.proofs.Saying.{said, step_is, ran_at}
 use Rattle.mx_link_laws.proofs.Planned.{bodies, pre, last}
@@ -91,6 +93,20 @@ module _ (link : ℕ → ℕ) (p : Program) (small : (i : ℕ) → link i + 8 < 
     Stops : (f : falls w.block.end ≡ false) → (one : w.parts.back ≡ Op (body_count w.block) ∷ []) → (stop : end_statement i w ≡ Some Halt) → (is : ender_of i w ≡ HaltInst) → (st : Standing (link i) (words_of i w)) → EndOf i w
     Moves : (b : Transfers i w) → (t count : ℕ) → (sq sure : Bool) → (x y : Inst) → (kind : Kind i w t count sq sure) → (filled : Filling t count sq sure w.insts b.f b.g x y) → (lead : Leading t) → (st : Standing (link i) (front_of i w ++ ender_of i w ∷ x ∷ y ∷ [])) → EndOf i w
     Jumps : (b : Transfers i w) → (a d : ℕ) → (means : (s : State) → execute p (end_statement i w) s ≡ jumps (value_in s.regs a) d s) → (is : ender_of i w ≡ Jspci a d (pos 0)) → (st : Standing (link i) (front_of i w ++ ender_of i w ∷ item_inst w.insts b.f ∷ item_inst w.insts b.g ∷ [])) → EndOf i w
+
+  -- the words before the terminator's place stand
+  pub front_stands : (i : ℕ) (w : Lay i) → EndOf i w → Standing (link i) (front_of i w)
+  front_stands i w (Falls f none st) = stands_left code inside (link i) (front_of i w) (words w.insts w.parts.back) (subst (Standing (link i)) (ap (words w.insts) w.parts.whole ∙ map-append (item_inst w.insts) w.parts.front w.parts.back) st)
+  front_stands i w (Stops f one stop is st) = stands_left code inside (link i) (front_of i w) (words w.insts w.parts.back) (subst (Standing (link i)) (ap (words w.insts) w.parts.whole ∙ map-append (item_inst w.insts) w.parts.front w.parts.back) st)
+  front_stands i w (Moves b t count sq sure x y kind filled lead st) = stands_left code inside (link i) (front_of i w) (ender_of i w ∷ x ∷ y ∷ []) st
+  front_stands i w (Jumps b a d means is st) = stands_left code inside (link i) (front_of i w) (ender_of i w ∷ item_inst w.insts b.f ∷ item_inst w.insts b.g ∷ []) st
+
+  -- and at most three from there on
+  pub back_short : (i : ℕ) (w : Lay i) → EndOf i w → length w.parts.back ≤ 3
+  back_short i w (Falls f none st) = let e = ap length none in omega arith
+  back_short i w (Stops f one stop is st) = let e = ap length one in omega arith
+  back_short i w (Moves b t count sq sure x y kind filled lead st) = let e = ap length b.three in omega arith
+  back_short i w (Jumps b a d means is st) = let e = ap length b.three in omega arith
 
   -- each place of code that a register holds is a leader, or the end
   abbrev pub CodesLead : Run → Type 0
@@ -238,7 +254,7 @@ module _ (link : ℕ → ℕ) (p : Program) (small : (i : ℕ) → link i + 8 < 
               false false (item_inst w.insts b.f) (item_inst w.insts b.g) (codes a t e) (Own refl refl refl refl) st
 
     -- one block
-    pub one_block : EndOf i w → CodesLead r1 → Onward ⊎ StopsAt link p small low code inside leader place_of i n (length w.parts.front) r
+    pub one_block : EndOf i w → CodesLead r1 → Onward ⊎ StopsAt link p small low code inside leader place_of i n (length (items_of w.plan)) (length w.parts.front) r
     one_block (Falls f none st) codes = inl (falls_on link p small low code inside leader place_of i w r going here safe f none st)
     one_block (Stops f one stop is st) codes = inr (stops link p small low code inside leader place_of i w r going here safe f one stop is st)
     one_block (Moves b t count sq sure x y (Branches a c condition by statement is reach surely) filled lead st) codes =

@@ -1,6 +1,6 @@
 //! Laws over the definitions: a source that is laid out with valid plans and branches in reach, with its slots
 //! filled from their targets or not at all, at any place and with any input.
-ghost use Rattle.mx_link_laws.specs.Laws.{LinkedCodeIsClean, LinkedCodeHalts, LinkedCodeHaltsOnly, LinkedCodeSends};
+ghost use Rattle.mx_link_laws.specs.Laws.{LinkedCodeIsClean, LinkedCodeHalts, LinkedCodeHaltsOnly, LinkedCodeSends, LinkedBlocksStart, LaterBlocksStartLater, FetchesStartBlocks};
 
 /// Where the meaning is not stuck within j + 64 statements, the first j steps of linked code are clean, and
 /// what they send is a prefix of what those statements send.
@@ -24,4 +24,21 @@ pub fn linked_code_halts_only()
 /// linked code sends in 3 (m + 64) steps.
 pub fn linked_code_sends()
     ensures { LinkedCodeSends }
+{}
+
+/// Without copies: where the meaning goes on at a leader after m statements, linked code has come to that leader's
+/// address after the words of the plans of the blocks that began before, from m to 3m steps, with the same console,
+/// registers, MD, data and count of input bytes.
+pub fn linked_blocks_start()
+    ensures { LinkedBlocksStart }
+{}
+
+/// Of two such numbers of statements the greater has the greater number of steps.
+pub fn later_blocks_start_later()
+    ensures { LaterBlocksStartLater }
+{}
+
+/// Without copies: where linked code is at a leader's address after d steps, it has come there so.
+pub fn fetches_start_blocks()
+    ensures { FetchesStartBlocks }
 {}
