@@ -3,9 +3,9 @@ use Rattle.std.proofs.Common.{◌≡◌, ◌≢◌, ℕ, ◌⊎◌, List, Bool, 
 use Rattle.mx_answer.specs.declared.Status.{Status}
 use Rattle.mx_answer.specs.declared.Status.TheVariants.{WriteFault, Memory}
 use Rattle.mx_answer.specs.Answer.{Answer}
-use Rattle.mx_answer.specs.Protocol.{Protocol, Told, Counts, Performed, HasOwnAnswers}
+use Rattle.mx_answer.specs.Protocol.{Protocol, Counts, Performed, HasOwnAnswers}
 use Rattle.mx_answer.specs.Delivery.{Delivered, PutsPrefix, FailsToWrite}
-use Rattle.mx_answer.specs.Commands.{Outside, Finished, Commanded}
+use Rattle.mx_answer.specs.Commands.{Outside, Commanded}
 use Rattle.mx_answer.proofs.Commands.{commanded}
 
 -- what each name holds

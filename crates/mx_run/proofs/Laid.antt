@@ -1,5 +1,5 @@
 -- A linked source, by the layout that a function of sources gives.
-use Rattle.std.proofs.Common.{◌≡◌, ℕ, List, Some, None, refl, sym, ap, ◌∙◌}
+use Rattle.std.proofs.Common.{◌≡◌, ℕ, List, Some, None, sym, ap, ◌∙◌}
 use Rattle.std.specs.Prelude.{is_some, Option}
 use Rattle.mx_source.specs.SourceValue.{SourceValue}
 use Rattle.mx_squash.specs.Copies.{Site}
@@ -12,7 +12,7 @@ use Rattle.mx_reorg.specs.Greedy.{IsGreedy}
 use Rattle.mx_image.specs.Contents.{Contents}
 use Rattle.mx_answer.specs.declared.Status.TheVariants.{Refused}
 use Rattle.mx_answer.specs.Answer.{prints}
-use Rattle.mx_answer.specs.Protocol.{Protocol, Answers}
+use Rattle.mx_answer.specs.Protocol.{Answers}
 use Rattle.mx_simulate.specs.declared.Limits.{Limits}
 use Rattle.mx_simulate.specs.Machines.{Files, machine_protocol}
 use Rattle.mx_asm.specs.declared.Fault.{Fault}

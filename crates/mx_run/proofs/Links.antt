@@ -1,9 +1,8 @@
 -- The links of a linked source are addresses of its code, or the one after it.
-use Rattle.std.proofs.Common.{◌≡◌, ℕ, zero, suc, ◌+◌, ◌<◌, ◌≤◌, Bool, true, false, cond, List, [], ◌∷◌, ◌++◌, length, slice_index_or, refl, sym, ap, ◌∙◌, subst, length-append, arith}
+use Rattle.std.proofs.Common.{◌≡◌, ℕ, zero, suc, ◌+◌, ◌≤◌, Bool, true, false, cond, List, [], ◌∷◌, length, refl, sym, ap, ◌∙◌, subst, length-append, arith}
 use Rattle.std.proofs.lemmas.List.{length-map}
-use Rattle.std.specs.Prelude.{All, map}
+use Rattle.std.specs.Prelude.{All}
 use Rattle.std.specs.List.{flat_map}
-use Rattle.std.proofs.lemmas.Grind.{common_steps}
 use Rattle.mx_isa.specs.declared.Inst.{Inst}
 use Rattle.mx_code.specs.Codes.{word_of_row}
 use Rattle.mx_source.specs.declared.Statement.{Statement}
@@ -14,7 +13,7 @@ use Rattle.mx_squash.specs.declared.Copied.{Copied}
 use Rattle.mx_squash.specs.Copies.{Site}
 use Rattle.mx_layout.specs.Layout.{plan_size, link_of, has_statement}
 use Rattle.mx_link.specs.declared.Origin.{Origin}
-use Rattle.mx_link.specs.Origins.{Filling, from_target, origins_from, origins_at}
+use Rattle.mx_link.specs.Origins.{Filling, origins_from, origins_at}
 use Rattle.mx_link.specs.Words.{insts_from, insts_of}
 use Rattle.mx_link.specs.Linked.{links_from, link_map, links_of, linked_code}
 use Rattle.mx_image.specs.Contents.{IsLink, LinksFit}

@@ -1,5 +1,5 @@
 -- Each command answers with a status of its own, and only an answer that is done writes a file.
-use Rattle.std.proofs.Common.{◌≡◌, ◌⊎◌, ℕ, List, Bool, true, false, cond, Option, Some, None, Result, Ok, Err, inl, inr, refl, sym, ap, ◌∙◌, subst, ⊎_elim}
+use Rattle.std.proofs.Common.{◌≡◌, ℕ, List, Bool, true, false, cond, Option, Some, None, Result, Ok, Err, inl, inr, refl, sym, ap, ◌∙◌, subst}
 use Rattle.std.specs.Prelude.{is_some}
 use Rattle.mx_board.specs.declared.EventError.{EventError}
 use Rattle.mx_board.specs.RequestFile.{requests_of}
@@ -12,7 +12,7 @@ use Rattle.mx_answer.specs.declared.Status.{Status}
 use Rattle.mx_answer.specs.declared.Status.TheVariants.{Halted, Done, Refused, Usage, OutOfBudget, ReadFault, WriteFault, Memory, BadImage, BadEvents, Stuck}
 use Rattle.mx_answer.specs.Answer.{Answer, prints, writes, is_own}
 use Rattle.mx_answer.specs.Delivery.{HasStatus}
-use Rattle.mx_answer.specs.Protocol.{Protocol, Answers, Reads, Told, Counts, IsFault, Performed, IsOwnAnswer, HasOwnAnswers}
+use Rattle.mx_answer.specs.Protocol.{Protocol, Answers, Reads, Told, Counts, IsFault, Performed, HasOwnAnswers}
 use Rattle.mx_asm.specs.declared.Fault.{Fault}
 use Rattle.mx_asm.specs.Texts.{source_of, text_fault}
 use Rattle.mx_isa.specs.declared.Place.{Place}

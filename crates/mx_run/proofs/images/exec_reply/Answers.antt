@@ -1,7 +1,7 @@
-use Rattle.std.proofs.Common.{◌≡◌, ℕ, List, Option, IfOk, IfErr, option_map, refl, subst, sym, ap, ◌∙◌}
-use Rattle.mx_answer.specs.declared.FileKind.TheVariants.{Source, Image}
+use Rattle.std.proofs.Common.{◌≡◌, ℕ, List, IfOk, IfErr, option_map, subst}
+use Rattle.mx_answer.specs.declared.FileKind.TheVariants.{Image}
 use Rattle.mx_answer.specs.Answer.{Answer}
-use Rattle.mx_answer.specs.Protocol.{Protocol, Answers, Reads, Told, Counts, Performed}
+use Rattle.mx_answer.specs.Protocol.{Protocol, Reads, Told, Counts, Performed}
 use Rattle.mx_answer.specs.Replies.{reply_answer}
 use Rattle.mx_simulate.specs.Machines.{Files}
 use Rattle.mx_run.specs.Protocols.{exec_protocol}

@@ -1,4 +1,4 @@
-use Rattle.std.proofs.Common.{◌≡◌, ℕ, List, []}
+use Rattle.std.proofs.Common.{[]}
 use Rattle.mx_asked.specs.declared.Command.TheVariants as given
 use Rattle.mx_answer.specs.Protocol.{Told, Counts}
 use Rattle.mx_answer.specs.Replies.{reply_answer}

@@ -1,4 +1,4 @@
-use Rattle.std.proofs.Common.{◌≡◌, ℕ, List, Option, Some, option_map, map, string_bytes, subst, sym, ap, ◌∙◌}
+use Rattle.std.proofs.Common.{◌≡◌, Option, Some, option_map, map, string_bytes, subst, sym, ap, ◌∙◌}
 use Rattle.mx_answer.specs.Protocol.{Told, Counts, Performed}
 use Rattle.mx_answer.specs.Replies.{reply_answer}
 use Rattle.mx_asked.specs.Seen.{seen_command}

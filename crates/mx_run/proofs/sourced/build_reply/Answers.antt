@@ -1,4 +1,4 @@
-use Rattle.std.proofs.Common.{◌≡◌, ℕ, List, IfOk, IfErr, refl, inl, subst, sym, ap, ◌∙◌}
+use Rattle.std.proofs.Common.{◌≡◌, IfOk, IfErr, refl, inl, subst, ap, ◌∙◌}
 use Rattle.mx_link.specs.Origins.{from_target}
 use Rattle.mx_link.specs.Linked.{IsLinked}
 use Rattle.mx_reorg.specs.Greedy.{IsGreedy}
@@ -6,7 +6,6 @@ use Rattle.mx_image.specs.Contents.{Contents}
 use Rattle.mx_image.specs.Files.{file_bytes}
 use Rattle.mx_meaning.specs.Boards.{board}
 use Rattle.mx_answer.specs.declared.FileKind.TheVariants.{Source}
-use Rattle.mx_answer.specs.declared.Status.TheVariants.{Done}
 use Rattle.mx_answer.specs.Answer.{Answer, writes}
 use Rattle.mx_answer.specs.Protocol.{Protocol, Answers, Reads, Told, Counts, Performed}
 use Rattle.mx_answer.specs.Replies.{reply_answer}

@@ -1,6 +1,6 @@
-use Rattle.std.proofs.Common.{◌≡◌, ℕ, List, length, subst, sym, ap}
+use Rattle.std.proofs.Common.{ℕ, List, length, subst, sym}
 use Rattle.mx_link.specs.Origins.{from_target}
-use Rattle.mx_link.specs.Linked.{linked_code, links_of}
+use Rattle.mx_link.specs.Linked.{linked_code}
 use Rattle.mx_image.specs.Contents.{LinksFit}
 use Rattle.mx_meaning.specs.Boards.{board}
 use Rattle.mx_run.proofs.Links.{links_fit}

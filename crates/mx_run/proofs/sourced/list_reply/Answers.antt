@@ -1,8 +1,7 @@
-use Rattle.std.proofs.Common.{◌≡◌, ℕ, List, IfOk, IfErr, refl, inl, subst, sym, ap, ◌∙◌}
+use Rattle.std.proofs.Common.{◌≡◌, IfOk, IfErr, refl, subst, ap, ◌∙◌}
 use Rattle.mx_link.specs.Origins.{from_target}
 use Rattle.mx_link.specs.Linked.{IsLinked}
 use Rattle.mx_reorg.specs.Greedy.{IsGreedy}
-use Rattle.mx_listing.specs.Listing.{listing_text, linked_parts, layout_listing}
 use Rattle.mx_meaning.specs.Boards.{board}
 use Rattle.mx_answer.specs.declared.FileKind.TheVariants.{Source}
 use Rattle.mx_answer.specs.declared.Status.TheVariants.{Done}
@@ -11,7 +10,6 @@ use Rattle.mx_answer.specs.Protocol.{Protocol, Answers, Reads, Told, Counts, Per
 use Rattle.mx_answer.specs.Replies.{reply_answer}
 use Rattle.mx_schedule.specs.Schedule.{IsScheduler}
 use Rattle.mx_run.specs.Protocols.{Layouts, Linking, linked_protocol, list_protocol}
-use Rattle.mx_run.specs.Replied.{is_answered}
 use Rattle.mx_run.proofs.Laid.{listing_linked}
 use Rattle.mx_run.proofs.sourced.list_reply.Goals as goal
 

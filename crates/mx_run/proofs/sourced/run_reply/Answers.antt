@@ -1,4 +1,4 @@
-use Rattle.std.proofs.Common.{◌≡◌, ℕ, List, Option, IfOk, IfErr, option_map, subst, ap, ◌∙◌}
+use Rattle.std.proofs.Common.{◌≡◌, IfOk, IfErr, option_map, subst, ap, ◌∙◌}
 use Rattle.std.specs.Prelude.{is_some}
 use Rattle.mx_link.specs.Origins.{from_target}
 use Rattle.mx_link.specs.Linked.{IsLinked}

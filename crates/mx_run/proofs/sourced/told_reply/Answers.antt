@@ -1,4 +1,4 @@
-use Rattle.std.proofs.Common.{◌≡◌, ℕ, List, Option, IfOk, IfErr, option_map, subst}
+use Rattle.std.proofs.Common.{◌≡◌, ℕ, List, IfOk, IfErr, option_map, subst}
 use Rattle.mx_answer.specs.declared.FileKind.TheVariants.{Source}
 use Rattle.mx_answer.specs.Answer.{Answer}
 use Rattle.mx_answer.specs.Protocol.{Protocol, Reads, Told, Counts, Performed}

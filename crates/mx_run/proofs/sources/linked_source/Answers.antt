@@ -1,4 +1,3 @@
-use Rattle.std.proofs.Common.{◌≡◌}
 use Rattle.mx_layout.specs.Layout.{IsLayout}
 use Rattle.mx_layout.specs.Overlong.{Overlong, IsTooLong}
 use Rattle.mx_validate.specs.Validity.{Valid}
