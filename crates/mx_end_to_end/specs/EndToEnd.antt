@@ -39,7 +39,8 @@ pub record EndsAsMeant (source : SourceValue) (sites : List Site) (bytes : List 
   pub console : run.console ≡ (meaning source board bytes n).console
   pub state : Matches (linking source sites bytes) run.last.core (meaning source board bytes n).state
 
--- The run does what the source means. Up to 64 statements of a block stand in an order of their own, so a meaning that gets stuck is told from 64 steps after.
+-- The run does what the source means: it sends no more, it halts only where the meaning halts, and then with its state, and it halts and sends
+-- within the bound of cycles. A block runs in an order of its own and has 64 statements at most: so the meaning is not to get stuck in 64 steps more.
 pub record MeansItsSource (source : SourceValue) (sites : List Site) (requests bytes : List ℕ) (budget : ℕ) : Type 0 where
   pub sent : IsUnstuck source bytes (budget + 64) → IsPrefix (source_run source sites requests bytes budget).console (meaning source board bytes (budget + 64)).console
   pub halts : IsUnstuck source bytes (budget + 64)
