@@ -16,3 +16,5 @@ pub mod Spellings
 pub mod Tabled
 pub mod Tables
 pub mod Whole
+pub mod Suits
+pub mod Sourced

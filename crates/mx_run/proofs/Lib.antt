@@ -2,3 +2,4 @@ pub mod Own
 pub mod Ended
 pub mod Links
 pub mod Laid
+pub mod Headline

@@ -1,2 +1,3 @@
 pub mod Protocols
 pub mod Replied
+pub mod Accepted

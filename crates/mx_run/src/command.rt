@@ -8,6 +8,7 @@ ghost use Rattle.mx_answer.specs.Delivery.{Delivered, PutsPrefix};
 ghost use Rattle.mx_asked.specs.Asked.{command_of};
 ghost use Rattle.mx_schedule.specs.Schedule.{IsScheduler};
 ghost use Rattle.mx_run.specs.Protocols.{Layouts, protocol_of};
+ghost use Rattle.mx_run.specs.Accepted.{Accepted, RunsAsMeant};
 
 use crate::reply::reply_to;
 use mx_answer::{Status, finish};
@@ -29,6 +30,13 @@ pub fn command<S: Shelf, W: Sink>(
     ensures complete { (layout_of : Layouts) → IsScheduler layout_of → S.tells shelf.old ≡ true
         → ¬ Rose (S.read_faults shelf.old) (S.read_faults shelf.new) → ¬ Rose (S.write_faults shelf.old) (S.write_faults shelf.new) → ¬ Rose (W.faults out.old) (W.faults out.new)
         → (result ≡ Status.Memory) ⊎ Delivered (resolved (protocol_of layout_of (command_of (map string_bytes words.now))) (S.held shelf.old)) result (S.tells shelf.old) (W.written out.old) (W.written out.new) (S.held shelf.old) (S.held shelf.new) }
+
+    // Where the words ask for the run of a source that is accepted, the status says how a run ended, exactly
+    // its trace and its report were put out, and it does what the source means.
+    ensures as_meant { (layout_of : Layouts) → IsScheduler layout_of → S.tells shelf.old ≡ true
+        → ¬ Rose (S.read_faults shelf.old) (S.read_faults shelf.new) → ¬ Rose (S.write_faults shelf.old) (S.write_faults shelf.new) → ¬ Rose (W.faults out.old) (W.faults out.new)
+        → (accepted : Accepted layout_of (command_of (map string_bytes words.now)) (S.held shelf.old))
+        → (result ≡ Status.Memory) ⊎ RunsAsMeant layout_of (command_of (map string_bytes words.now)) (S.held shelf.old) accepted result (W.written out.old) (W.written out.new) }
 
     // Whatever the counts do, every other status than these three is that of the same answer.
     ensures sound { (layout_of : Layouts) → IsScheduler layout_of → S.tells shelf.old ≡ true → result ≢ Status.ReadFault → result ≢ Status.WriteFault → result ≢ Status.Memory

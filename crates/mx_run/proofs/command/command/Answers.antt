@@ -11,6 +11,7 @@ use Rattle.mx_run.specs.Protocols.{protocol_of}
 use Rattle.mx_answer.proofs.Commands.{status_cases}
 use Rattle.mx_run.proofs.Own.{own_answers, replied_status, replied_asks}
 use Rattle.mx_run.proofs.Ended.{ended}
+use Rattle.mx_run.proofs.Headline.{meant_or_memory}
 use Rattle.mx_run.proofs.command.command.Goals as goal
 
 usage_is_no_write_fault : (s : Status) → s ≡ Usage → s ≢ WriteFault
@@ -46,6 +47,12 @@ returns-clause-complete g c = λ layout_of is.
     (own_answers layout_of asked) (c.in-Ok.ensures.performed layout_of is) c.in-Ok.ensures.tells_stay c.in-Ok.ensures.held_stays c.in-Ok.ensures.writes_stay same
     c.finish.ensures.delivered c.finish.ensures.write_fault c.finish.ensures.prefix c.finish.ensures.memory c.finish.ensures.kept in
     whole.complete
+
+pub returns-clause-as_meant : goal.returns-clause-as_meant
+returns-clause-as_meant g c = λ layout_of is tells reads writes faults accepted.
+    meant_or_memory layout_of (command_of (map string_bytes c.args.words.now)) (g.S.Shelf.held c.args.shelf.now) accepted is c.finish.result (g.S.Shelf.tells c.args.shelf.now)
+    (g.W.Sink.written c.args.out.now) (g.W.Sink.written c.finish.new.out) (g.S.Shelf.held c.finish.new.shelf)
+    (returns-clause-complete g c layout_of is tells reads writes faults)
 
 pub returns-clause-sound : goal.returns-clause-sound
 returns-clause-sound g c = λ layout_of is.

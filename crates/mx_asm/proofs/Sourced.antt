@@ -1,0 +1,146 @@
+-- The source that a text without faults reads as keeps to what each source does.
+use Rattle.std.proofs.Common.{◌≡◌, ℕ, ◌+◌, ◌≤◌, ◌||◌, List, [], ◌∷◌, ◌++◌, length, cond, Bool, true, false, Option, Some, None, Result, Ok, Err, refl, sym, ap, ◌∙◌, subst, arith}
+use Rattle.std.specs.Prelude.{nat_lt}
+use Rattle.std.proofs.lemmas.Bool.Decides.{nat_tests}
+use Rattle.std.proofs.lemmas.List.{append-nil}
+use Rattle.std.proofs.lemmas.List.Elements.{All-nil}
+use Rattle.mx_lex.specs.Lines.{lines_of}
+use Rattle.mx_source.specs.declared.statement.Label.{Label}
+use Rattle.mx_source.specs.declared.statement.Statement.{Statement}
+use Rattle.mx_source.specs.declared.statement.Value.{Value}
+use Rattle.mx_source.specs.Labels.{LabelFits, IsPlace}
+use Rattle.mx_source.specs.Statements.{StatementFits, ValueFits}
+use Rattle.mx_source.specs.SourceValue.{IsSource}
+use Rattle.mx_asm.specs.declared.fault.Fault.{Fault}
+use Rattle.mx_asm.specs.declared.fault.Fault.TheVariants.{BadDirective, TooManyInstructions, DataFull, LineTooLong, DuplicateLabel}
+use Rattle.mx_asm.specs.declared.position.Position.{Position}
+use Rattle.mx_asm.specs.Words.{Word, words_of}
+use Rattle.mx_asm.specs.Instructions.{Labels}
+use Rattle.mx_asm.specs.Directives.{Effect, effect_of}
+use Rattle.mx_asm.specs.Effects.{EffectFits, first_input}
+use Rattle.mx_asm.specs.Fitting.{LabelsFit}
+use Rattle.mx_asm.specs.Positions.{has_dotted_label, labels_from, line_words, words_or_none, statement_words, after, start, position_at_end}
+use Rattle.mx_asm.specs.Faults.{first_fault, first_repeat, line_fault, words_fault, least_fault, layout_fault, is_full, stands_past, is_line}
+use Rattle.mx_asm.specs.Texts.{text_labels, text_effects, text_fault, source_of, effects_from, statements_in, lines_in, values_in, input_in, onto_statements, onto_lines, onto_values, onto_input}
+use Rattle.mx_asm.proofs.LabelBounds.{found_none, labels_fit}
+use Rattle.mx_asm.proofs.Listed.{Listed, this_fault, listed_step}
+use Rattle.mx_asm.proofs.Suits.{was_fit, effect_fits}
+use Rattle.mx_asm.proofs.Whole.{made}
+
+-- a line without a fault has an effect, and there is room for what it adds
+record ReadLine (labels : Labels) (end : ℕ) (p : Position) (words : List Word) : Type 0 where
+  effect : Effect
+  reads : effect_of labels p.section (statement_words words) ≡ Ok effect
+  few : (after p words).index ≤ 20000
+  within : (after p words).address ≤ end
+
+room : (dotted many full long : Bool) → cond dotted (Some BadDirective) (cond many (Some TooManyInstructions) (cond full (Some DataFull) (cond long (Some LineTooLong) None))) ≡ None → (many ≡ false) × (full ≡ false)
+room true many full long h = cc
+room false true full long h = cc
+room false false true long h = cc
+room false false false long h = (refl, refl)
+
+repeat_none : (b : Bool) (o : Option Fault) → cond b (Some DuplicateLabel) o ≡ None → o ≡ None
+repeat_none true o h = cc
+repeat_none false o h = h
+
+or_first : (a b : Bool) → a || b ≡ false → a ≡ false
+or_first true b h = cc
+or_first false b h = refl
+
+at_most : (a b : ℕ) → nat_lt a b ≡ false → b ≤ a
+at_most a b h = grind (arith, nat_tests)
+
+module _ (labels : Labels) (end : ℕ) (p : Position) (repeated : Bool) (long : ℕ) where
+  by_effect : (words : List Word) (e : Result Effect Fault) → effect_of labels p.section (statement_words words) ≡ e → least_fault repeated e (layout_fault end p long words) ≡ None → ReadLine labels end p words
+  by_effect words (Err fault) is h = cc
+  by_effect words (Ok effect) is h =
+      let free = room (has_dotted_label words) (nat_lt 20000 (after p words).index) (is_full end p words) (nat_lt 255 long) (repeat_none repeated (layout_fault end p long words) h) in
+      record {
+        effect = effect;
+        reads = is;
+        few = at_most 20000 (after p words).index free.0;
+        within = at_most end (after p words).address (or_first (nat_lt end (after p words).address) (stands_past end p words) free.1);
+      }
+
+  read_line : (r : Result (List Word) Fault) → words_fault labels end p repeated long r ≡ None → ReadLine labels end p (words_or_none r)
+  read_line (Err fault) h = cc
+  read_line (Ok words) h = by_effect words (effect_of labels p.section (statement_words words)) refl h
+
+module _ (labels : Labels) (low end : ℕ) (all : List (List ℕ)) (none : first_fault labels end (start low) [] 1 all ≡ None) (most : end ≤ 65536) where
+  abbrev repeated : Option ℕ
+  repeated = first_repeat (start low) [] 1 all
+
+  abbrev ListedTo : List Statement → List ℕ → List Value → Option ℕ → Position → ℕ → List (List ℕ) → Type 0
+  ListedTo = Listed labels end low all repeated
+
+  -- what all lines add
+  pub record AllListed : Type 0 where
+    pub ss : List Statement
+    pub ns : List ℕ
+    pub vs : List Value
+    pub input : Option ℕ
+    pub p : Position
+    pub number : ℕ
+    pub listed : ListedTo ss ns vs input p number []
+
+  all_listed : (rest : List (List ℕ)) (ss : List Statement) (ns : List ℕ) (vs : List Value) (input : Option ℕ) (p : Position) (number : ℕ) → ListedTo ss ns vs input p number rest → AllListed
+  all_listed [] ss ns vs input p number h = record { ss = ss; ns = ns; vs = vs; input = input; p = p; number = number; listed = h }
+  all_listed (line ∷ rest) ss ns vs input p number h =
+      let here = found_none number (line_fault labels end p h.earlier line) _ (h.fault ∙ none) in
+      let clear : words_fault labels end p (is_line repeated number) (length line) (words_of line) ≡ None = sym (this_fault labels end low all repeated ss ns vs input p number line rest h) ∙ here.0 in
+      let read = read_line labels end p (is_line repeated number) (length line) (words_of line) clear in
+      let words = statement_words (line_words line) in
+      let fits = λ (count : ℕ) (fit : LabelsFit count labels). was_fit (EffectFits labels count) (effect_of labels p.section words) read.effect (effect_fits labels count fit p.section words) read.reads in
+      all_listed rest
+      (ss ++ onto_statements read.effect []) (ns ++ onto_lines number read.effect []) (vs ++ onto_values read.effect []) (first_input input (onto_input number read.effect None)) (after p (line_words line)) (number + 1)
+      (listed_step labels end low all repeated ss ns vs input p number line rest h read.effect
+      (ss ++ onto_statements read.effect []) (ns ++ onto_lines number read.effect []) (vs ++ onto_values read.effect []) (first_input input (onto_input number read.effect None)) (after p (line_words line)) (number + 1)
+      clear read.reads refl read.few read.within most fits refl refl refl refl refl)
+
+  pub whole : low ≤ end → AllListed
+  whole order = all_listed all [] [] [] None (start low) 1 (record {
+    earlier = [];
+    fault = refl;
+    repeat = refl;
+    statements = refl;
+    lines = refl;
+    values = refl;
+    inputs = refl;
+    last = refl;
+    count = refl;
+    each = refl;
+    words = omega arith;
+    few = omega arith;
+    within = order;
+    statements_fit = λ count fit. All-nil (StatementFits (IsPlace labels count));
+    values_fit = λ count fit. All-nil (ValueFits (IsPlace labels count));
+  })
+
+lines_make : (low end : ℕ) (all : List (List ℕ)) (labels : Labels) → labels ≡ labels_from (start low) [] all → 256 ≤ low → low ≤ end → end ≤ 65536 → first_fault labels end (start low) [] 1 all ≡ None
+    → (let effects = effects_from labels (start low) 1 all in IsSource (made (statements_in effects) (lines_in effects) (values_in effects) labels (input_in effects)))
+lines_make low end all labels defined least order most none =
+    let w = whole labels low end all none most order in
+    let l = w.listed in
+    let effects = effects_from labels (start low) 1 all in
+    let ended = labels_fit labels end all (start low) [] 1 most least none (All-nil (λ (p : List ℕ × Label). LabelFits (position_at_end (start low) all).index p.1)) in
+    let count : length w.ss ≡ (position_at_end (start low) all).index = l.count ∙ ap (λ (q : Position). q.index) l.last in
+    let fit : LabelsFit (length w.ss) labels = subst (λ n. LabelsFit n labels) (sym count) (subst (LabelsFit (position_at_end (start low) all).index) (sym defined) ended) in
+    let ss = sym (append-nil w.ss) ∙ l.statements in
+    let ns = sym (append-nil w.ns) ∙ l.lines in
+    let vs = sym (append-nil w.vs) ∙ l.values in
+    subst (λ x. IsSource (made x (lines_in effects) (values_in effects) labels (input_in effects))) ss
+    (subst (λ x. IsSource (made w.ss x (values_in effects) labels (input_in effects))) ns
+    (subst (λ x. IsSource (made w.ss w.ns x labels (input_in effects))) vs
+    (record {
+      few_statements = (let a = l.count in let b = l.few in omega (arith, a, b));
+      few_words = (let a = l.words in let b = l.within in omega (arith, a, b));
+      a_line_each = l.each;
+      labels_fit = fit;
+      statements_fit = l.statements_fit (length w.ss) fit;
+      words_fit = l.values_fit (length w.ss) fit;
+    })))
+
+pub faultless_source : (low end : ℕ) (text : List ℕ) → 256 ≤ low → low ≤ end → end ≤ 65536 → text_fault low end text ≡ None → IsSource (source_of low text)
+unfolding source_of text_fault text_labels text_effects
+faultless_source low end text least order most none = lines_make low end (lines_of text) (text_labels low text) refl least order most none

@@ -1,0 +1,37 @@
+-- A text without faults, laid out by greedy plans, is linked as the laws ask.
+use Rattle.std.proofs.Common.{◌≡◌, ℕ, List, None, arith}
+use Rattle.std.specs.Prelude.{slice_index_or}
+use Rattle.mx_squash.specs.Copies.{Site}
+use Rattle.mx_layout.specs.Layout.{IsLayout, blocks_in}
+use Rattle.mx_layout.specs.Overlong.{overlong}
+use Rattle.mx_reorg.specs.Greedy.{IsGreedy}
+use Rattle.mx_reorg.proofs.ValidPlans.{greedy_valid}
+use Rattle.mx_reorg.proofs.ExistsItems.{height_of}
+use Rattle.mx_asm.specs.Texts.{source_of, text_fault}
+use Rattle.mx_asm.proofs.Sourced.{faultless_source}
+use Rattle.mx_meaning.specs.Boards.{board}
+use Rattle.mx_link_laws.specs.Runs.{IsLaid}
+use Rattle.mx_end_to_end.specs.EndToEnd.{MeansItsSource}
+use Rattle.mx_end_to_end.proofs.Composed.{run_means}
+use Rattle.mx_end_to_end.proofs.Registers.{text_registers}
+
+-- such a text is laid out with valid plans at a place that has room
+text_laid : (text : List ℕ) (sites : List Site) → text_fault 256 65536 text ≡ None → IsLayout IsGreedy (source_of 256 text) board sites
+    → overlong (source_of 256 text) board (blocks_in sites) ≡ None → IsLaid (source_of 256 text) board sites
+text_laid text sites faultless layout reach =
+    let kept = faultless_source 256 65536 text (omega arith) (omega arith) (omega arith) faultless in
+    record {
+      well_formed = kept;
+      registers = text_registers text;
+      room = (let few = kept.few_statements in omega (arith, few));
+      layout = record {
+        blocks = layout.blocks;
+        stand = layout.stand;
+        plans = λ k d l. let s : Site = slice_index_or sites k d in greedy_valid s.block s.plan (layout.plans k d l) (λ x h. height_of s.block x);
+      };
+      reach = reach;
+    }
+
+pub text_means : (text : List ℕ) (sites : List Site) (requests bytes : List ℕ) (budget : ℕ) → text_fault 256 65536 text ≡ None → IsLayout IsGreedy (source_of 256 text) board sites
+    → overlong (source_of 256 text) board (blocks_in sites) ≡ None → MeansItsSource (source_of 256 text) sites requests bytes budget
+text_means text sites requests bytes budget faultless layout reach = run_means (source_of 256 text) sites requests bytes budget (text_laid text sites faultless layout reach)

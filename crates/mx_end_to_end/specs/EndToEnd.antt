@@ -1,0 +1,65 @@
+-- What the pipelined machine does on the compiled code of a source, told by what the source means.
+use Rattle.std.specs.Prelude.{◌≡◌, ℕ, ◌+◌, ◌≤◌, true, false, List, length, None}
+use Rattle.mx_source.specs.SourceValue.{SourceValue}
+use Rattle.mx_source.specs.Meaning.{given, meaning, is_stuck, HaltsIn}
+use Rattle.mx_squash.specs.Copies.{Site}
+use Rattle.mx_layout.specs.Layout.{IsLayout, blocks_in}
+use Rattle.mx_layout.specs.Overlong.{overlong}
+use Rattle.mx_link.specs.Origins.{from_target}
+use Rattle.mx_link.specs.Linked.{linked_code, linked_data}
+use Rattle.mx_order.specs.Laws.{IsPrefix}
+use Rattle.mx_turn.specs.Handler.{shipped}
+use Rattle.mx_turn.specs.Program.{Program, program_of}
+use Rattle.mx_turn.specs.Run.{Run, run_of, bound}
+use Rattle.mx_link_laws.specs.Runs.{IsLaid, Linking, Matches}
+use Rattle.mx_reorg.specs.Greedy.{IsGreedy}
+use Rattle.mx_asm.specs.Texts.{source_of, text_fault}
+use Rattle.mx_meaning.specs.Boards.{board}
+
+-- a source that is linked by a layout, under the shipped handler, with these bytes as its input
+abbrev pub source_program : SourceValue → List Site → List ℕ → Program
+source_program source sites bytes =
+    program_of shipped (linked_code from_target source board sites) (linked_data source board sites) (given source.input bytes)
+
+-- its run with requests at these cycles
+abbrev pub source_run : SourceValue → List Site → List ℕ → List ℕ → ℕ → Run
+source_run source sites requests bytes budget = run_of (source_program source sites bytes) requests budget
+
+-- the meaning is not stuck within n steps
+abbrev pub IsUnstuck : SourceValue → List ℕ → ℕ → Type 0
+IsUnstuck source bytes n = is_stuck (meaning source board bytes n).state.mark ≡ false
+
+-- the source as it is linked at the board's place, its slots filled from their targets
+abbrev pub linking : SourceValue → List Site → List ℕ → Linking
+linking source sites bytes = record { filling = from_target; source = source; place = board; sites = sites; bytes = bytes }
+
+-- the meaning halts after n steps, and the run ends with its console and its state
+pub record EndsAsMeant (source : SourceValue) (sites : List Site) (bytes : List ℕ) (run : Run) (n : ℕ) : Type 0 where
+  pub halts : HaltsIn source board bytes n
+  pub console : run.console ≡ (meaning source board bytes n).console
+  pub state : Matches (linking source sites bytes) run.last.core (meaning source board bytes n).state
+
+-- The run does what the source means: it sends no more, it halts only where the meaning halts, and then with its state, and it halts and sends
+-- within the bound of cycles. A block runs in an order of its own and has 64 statements at most: so the meaning is not to get stuck in 64 steps more.
+pub record MeansItsSource (source : SourceValue) (sites : List Site) (requests bytes : List ℕ) (budget : ℕ) : Type 0 where
+  pub sent : IsUnstuck source bytes (budget + 64) → IsPrefix (source_run source sites requests bytes budget).console (meaning source board bytes (budget + 64)).console
+  pub halts : IsUnstuck source bytes (budget + 64)
+      → (source_run source sites requests bytes budget).halted ≡ true
+      → (n : ℕ) × (n ≤ budget) × EndsAsMeant source sites bytes (source_run source sites requests bytes budget) n
+  pub ends : (n : ℕ) → HaltsIn source board bytes n → bound n (length requests) ≤ budget → (source_run source sites requests bytes budget).halted ≡ true
+  pub sends : IsUnstuck source bytes (budget + 64)
+      → (m : ℕ) → bound (m + 64) (length requests) ≤ budget
+      → IsPrefix (meaning source board bytes m).console (source_run source sites requests bytes budget).console
+
+-- A run of a source that is linked at the board's place does what the source means.
+abbrev pub RunMeansItsSource : Type 0
+RunMeansItsSource = (source : SourceValue) (sites : List Site) (requests bytes : List ℕ) (budget : ℕ) → IsLaid source board sites → MeansItsSource source sites requests bytes budget
+
+-- So does the run of a text without faults, laid out by greedy plans, in which no branch is overlong.
+abbrev pub TextMeansItsSource : Type 0
+TextMeansItsSource =
+    (text : List ℕ) (sites : List Site) (requests bytes : List ℕ) (budget : ℕ)
+    → text_fault 256 65536 text ≡ None
+    → IsLayout IsGreedy (source_of 256 text) board sites
+    → overlong (source_of 256 text) board (blocks_in sites) ≡ None
+    → MeansItsSource (source_of 256 text) sites requests bytes budget
