@@ -6,6 +6,7 @@ use Rattle.mx_source.specs.SourceValue.{SourceValue, IsSource}
 use Rattle.mx_blocks.specs.declared.Block.{Block}
 use Rattle.mx_blocks.specs.declared.Plan.{Plan}
 use Rattle.mx_blocks.specs.Leaders.{AreBlocks}
+use Rattle.mx_blocks.proofs.ExistsBlocks.{blocks_exist}
 use Rattle.mx_blocks.proofs.UniqueBlocks.{blocks_unique}
 use Rattle.mx_squash.specs.Copies.{Site}
 use Rattle.mx_layout.specs.Layout.{IsLayout, StandFrom, blocks_in, plan_size}
@@ -13,7 +14,7 @@ use Rattle.mx_reorg.specs.Greedy.{IsGreedy}
 use Rattle.mx_reorg.specs.GreedyPlans.{AreGreedy}
 use Rattle.mx_reorg.proofs.Unique.{greedy_unique}
 use Rattle.mx_reorg.proofs.ExistsItems.{height_of}
-use Rattle.mx_reorg.proofs.ExistsLayouts.{plans_exist}
+use Rattle.mx_reorg.proofs.ExistsLayouts.{plans_of}
 
 abbrev Greedy : Site → Type 0
 Greedy s = IsGreedy s.block s.plan
@@ -50,19 +51,22 @@ greedy at (b ∷ blocks) (p ∷ plans) g = with_first (record { block = b; plan 
 greedy at [] (p ∷ plans) g = absurd g
 greedy at (b ∷ blocks) [] g = absurd g
 
-pub layout_exists : (source : SourceValue) (place : Place) → IsSource source → (sites : List Site) × IsLayout IsGreedy source place sites
-layout_exists source place kept =
-    let found = plans_exist source kept in
-    let blocks = found.0 in
-    let plans = found.1.0 in
-    let has = found.1.1 in (
-      sites_at place.code blocks plans,
+-- blocks of a source with their greedy plans are a layout of it
+pub laid_out : (source : SourceValue) (place : Place) (blocks : List Block) → AreBlocks source blocks → (sites : List Site) × IsLayout IsGreedy source place sites
+laid_out source place blocks are =
+    let plans = plans_of blocks in (
+      sites_at place.code blocks plans.0,
       record {
-        blocks = subst (λ (bs : List Block). AreBlocks source bs) (sym (blocks_are place.code blocks plans has.greedy)) has.blocks_are;
-        stand = stand place.code blocks plans;
-        plans = greedy place.code blocks plans has.greedy;
+        blocks = subst (λ (bs : List Block). AreBlocks source bs) (sym (blocks_are place.code blocks plans.0 plans.1)) are;
+        stand = stand place.code blocks plans.0;
+        plans = greedy place.code blocks plans.0 plans.1;
       },
     )
+
+pub layout_exists : (source : SourceValue) (place : Place) → IsSource source → (sites : List Site) × IsLayout IsGreedy source place sites
+layout_exists source place kept =
+    let found = blocks_exist source kept in
+    laid_out source place found.0 found.1
 
 abbrev rest : List Block → List Block
 rest [] = []

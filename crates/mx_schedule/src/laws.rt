@@ -36,3 +36,8 @@ pub fn greedy_layout_exists()
     ensures unique { (source : SourceValue) (place : Place) (sites others : List Site)
         → IsLayout IsGreedy source place sites → IsLayout IsGreedy source place others → sites ≡ others }
 {}
+
+/// There is a function that gives the layout of each source by greedy plans.
+pub fn scheduler_exists()
+    ensures { (layout_of : SourceValue → List Site) × IsScheduler layout_of }
+{}

@@ -3,4 +3,4 @@
 
 mod laws;
 
-pub use laws::{greedy_is_kept, greedy_layout_exists, scheduler_links};
+pub use laws::{greedy_is_kept, greedy_layout_exists, scheduler_exists, scheduler_links};
