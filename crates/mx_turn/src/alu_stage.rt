@@ -68,6 +68,7 @@ fn branches(holds: bool, at: u32, squash: bool, by: i32) -> Decided
 }
 
 /// What the word in ALU, at an address, decides by the registers that it sees.
+#[inline(always)]
 pub fn decide(inst: &Inst, at: u32, slot: &Slot, file: &[u32; 32]) -> Decided
     ensures target { result.target ≡ (decides inst.now at (seen slot.now (slice_index file.now))).target }
     ensures cancels { result.cancels ≡ (decides inst.now at (seen slot.now (slice_index file.now))).cancels }

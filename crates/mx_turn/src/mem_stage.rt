@@ -42,6 +42,8 @@ fn plain(slot: &mut Slot) -> Committed
 }
 
 /// The word in MEM, at an address, commits: its registers, MD, data and chain.
+// Once a cycle: a call costs a third of it, since what comes back is read in other widths than it is written in.
+#[inline(always)]
 pub fn commit(
     inst: &Inst,
     at: u32,
