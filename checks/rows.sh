@@ -167,6 +167,48 @@ if [ "$status" -eq 0 ] && cmp -s out first; then echo 'ok: the same run twice'; 
     failures=$((failures + 1))
 fi
 
+# The handler's instructions, one by one: each assembles to its word in the listing, but for those that are the system's alone.
+mx list "$top/examples/hello.s"
+head -n 23 out | cut -d ' ' -f 2 >words
+paste -d '|' words - >handler <<'TEXTS'
+st 1[r0],r1
+st 2[r0],r2
+movfrs pc1,r1
+movfrs pc2,r2
+st 3[r0],r1
+st 4[r0],r2
+movfrs pc3,r1
+st 5[r0],r1
+ld 0[r0],r2
+ld 3[r0],r1
+addi r2,#1,r2
+st 0[r0],r2
+movtos r1,pc1
+ld 4[r0],r2
+ld 5[r0],r1
+movtos r2,pc2
+movtos r1,pc3
+ld 2[r0],r2
+ld 1[r0],r1
+add r0,r0,r0
+jpc
+jpc
+jpcrs
+TEXTS
+bad=0
+while IFS='|' read -r want text; do
+    printf '%s\n' "$text" >source
+    mx list source
+    case $text in
+        *pc*) [ "$(cat out)" = 'line 1: F10 SystemInstruction' ] || bad=$((bad + 1)) ;;
+        *) grep -q "^00001000 $want 1$" out || bad=$((bad + 1)) ;;
+    esac
+done <handler
+if [ "$bad" -eq 0 ] && [ "$(wc -l <handler)" -eq 23 ]; then echo 'ok: the words of the handler'; else
+    echo "FAILED: the words of the handler: $bad"
+    failures=$((failures + 1))
+fi
+
 for example in "$top"/examples/*.s; do
     printf ab >input
     seq 5 40 900 >requests
