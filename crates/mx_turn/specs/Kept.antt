@@ -1,11 +1,12 @@
 -- The state of the definition that `Turns` keeps.
-use Rattle.std.specs.Prelude.{◌≡◌, ℕ, Bool, not, List, ◌∷◌, slice_index}
+use Rattle.std.specs.Prelude.{◌≡◌, ℕ, Bool, not, List, ◌∷◌, slice_index, unwrap_or}
 use Rattle.mx_isa.specs.Words.{Words, reg}
 use Rattle.mx_isa.specs.Views.{sources}
 use Rattle.mx_code.specs.Delay.{Code}
 use Rattle.mx_icache.specs.Residency.{resident}
 use Rattle.mx_board.specs.Data.{words_of}
 use Rattle.mx_turn.specs.declared.latches.Latches.{Latches}
+use Rattle.mx_turn.specs.declared.turns.Looked.{Looked}
 use Rattle.mx_turn.specs.declared.turns.Turns.{Turns}
 use Rattle.mx_turn.specs.Decoded.{code_at}
 use Rattle.mx_turn.specs.Stages.{live, address_of, stage_of}
@@ -38,23 +39,30 @@ machine_of t past before shown = record {
   counts = t.counts;
 }
 
--- what the last completed turn showed, from what is left of it: nothing changes the registers between turns
-abbrev pub shown_of : {C : Type 0} → Turns C → Latches
-shown_of t =
-    let i = live (code_of_turns t) t.looked.alu in
+-- what the last completed turn showed of the stages, the mode and the chain
+abbrev pub looked_of : {C : Type 0} → Turns C → Looked
+looked_of t = unwrap_or t.looked (record { fetch = t.fetch; rf = t.rf; alu = t.alu; user = t.psw.current.user; chain = t.chain })
+
+-- all that it showed, from that and from what is left of it: nothing changes the registers between turns
+abbrev pub shown_by : {C : Type 0} → Turns C → Looked → Latches
+shown_by t l =
+    let i = live (code_of_turns t) l.alu in
     let sees = seen t.slot (slice_index t.file) in
     let a = reg sees (sources i).0 in
     let b = reg sees (sources i).1 in
     record {
-      fetch = stage_of t.looked.fetch;
-      rf = stage_of t.looked.rf;
-      alu = stage_of t.looked.alu;
+      fetch = stage_of l.fetch;
+      rf = stage_of l.rf;
+      alu = stage_of l.alu;
       mem = stage_of t.mem;
       wb = stage_of t.wb;
       a = a;
       b = b;
-      result = number_of t.looked.user t.looked.chain i (address_of t.looked.alu) a b t.md;
+      result = number_of l.user l.chain i (address_of l.alu) a b t.md;
     }
+
+abbrev pub shown_of : {C : Type 0} → Turns C → Latches
+shown_of t = shown_by t (looked_of t)
 
 -- it stands for the program after the request bits
 pub record StandsFor {C : Type 0} (holds : C → List ℕ → Type 0) (t : Turns C) (p : Program) (h : List Bool) : Type 0 where

@@ -11,7 +11,7 @@ ghost use Rattle.mx_turn.specs.Stages.{fetch_of, live};
 ghost use Rattle.mx_turn.specs.Handler.{shipped};
 ghost use Rattle.mx_turn.specs.Cycle.{shifted, committed, commit_byte, showing, is_taken, entered, decision, decided, ended, takes, squashes, waited, acted, acted_answer};
 ghost use Rattle.mx_turn.specs.Program.{Program, program_of};
-ghost use Rattle.mx_turn.specs.Kept.{code_of_turns, machine_of, shown_of, KeepsProgram, StandsFor, Does, Tells, Commits, Shows, Waits, FetchesNext, KnowsMiss, Acts};
+ghost use Rattle.mx_turn.specs.Kept.{code_of_turns, machine_of, shown_of, looked_of, shown_by, KeepsProgram, StandsFor, Does, Tells, Commits, Shows, Waits, FetchesNext, KnowsMiss, Acts};
 
 use crate::alu_stage::decide;
 use crate::decoded::{Decoded, IDLE};
@@ -57,7 +57,7 @@ pub const SHIPPED: [u32; 23] = [
     0xd800_0000,
 ];
 
-/// What the last completed turn showed before anything was squashed or killed in it: its stages, the mode and the chain.
+/// What a turn showed before anything was squashed or killed in it: its stages, the mode and the chain.
 #[derive(Clone, Copy)]
 pub struct Looked {
     fetch: Option<Fetched>,
@@ -95,7 +95,8 @@ pub struct Turns<C> {
     chain: Chain,
     psw: Psw,
     halted: bool,
-    looked: Looked,
+    // What the last completed turn showed, if that is no longer what the stages, the mode and the chain are.
+    looked: Option<Looked>,
     counts: Counts,
     cache: C,
 }
@@ -167,7 +168,7 @@ impl<C: FetchCache> Turns<C> {
         committed.byte
     }
 
-    // The stages of the turn are kept to be shown.
+    // The turn shows the stages, the mode and the chain as they are.
     fn show(&mut self)
         ensures state { Shows self.old self.new }
         ensures program { KeepsProgram self.old self.new }
@@ -175,12 +176,44 @@ impl<C: FetchCache> Turns<C> {
         ensures missed { self.new.missed ≡ self.old.missed }
         ensures counts { self.new.counts ≡ self.old.counts }
     {
-        // One by one, which copies no temporary.
-        self.looked.fetch = self.fetch;
-        self.looked.rf = self.rf;
-        self.looked.alu = self.alu;
-        self.looked.user = self.psw.current.user;
-        self.looked.chain = self.chain;
+        self.looked = None;
+    }
+
+    // What the last completed turn showed of the stages, the mode and the chain.
+    fn look(&self) -> Looked
+        ensures { result ≡ looked_of self.now }
+    {
+        match self.looked {
+            Some(looked) => looked,
+            None => Looked {
+                fetch: self.fetch,
+                rf: self.rf,
+                alu: self.alu,
+                user: self.psw.current.user,
+                chain: self.chain,
+            },
+        }
+    }
+
+    // All that a turn shows, by what it showed of the stages, the mode and the chain.
+    fn latches_by(&self, looked: &Looked) -> Latches
+        ensures { result ≡ shown_by self.now looked.now }
+    {
+        let inst = self.live(looked.alu);
+        let operands = sources(&inst);
+        let a = sees(&self.file, &self.slot, operands.0);
+        let b = sees(&self.file, &self.slot, operands.1);
+        let at = address_of(looked.alu);
+        Latches {
+            fetch: stage_of(looked.fetch),
+            rf: stage_of(looked.rf),
+            alu: stage_of(looked.alu),
+            mem: stage_of(self.mem),
+            wb: stage_of(self.wb),
+            a,
+            b,
+            result: number_of(&inst, at, a, b, self.md, looked.user, &looked.chain),
+        }
     }
 
     // The next fetch is that of the address behind the last one.
@@ -208,6 +241,12 @@ impl<C: FetchCache> Turns<C> {
     {
         let decided = decide(inst, address_of(self.alu), &self.slot, &self.file);
         let back = decided.pops && !self.psw.current.user;
+        // Most transfers cancel and pop nothing: for them, too, nothing but the next fetch is written.
+        if !either(back, decided.cancels) {
+            self.next = fetch_of(next_of(decided.target, self.next.address));
+            return false;
+        }
+        self.looked = Some(self.look());
         self.next = led(back, &self.chain, decided.target, self.next);
         self.fetch = squash(decided.cancels, self.fetch);
         self.rf = squash(decided.cancels, self.rf);
@@ -244,6 +283,7 @@ impl<C: FetchCache> Turns<C> {
         ensures missed { self.new.missed ≡ self.old.missed }
         ensures counts { self.new.counts ≡ self.old.counts }
     {
+        self.looked = Some(self.look());
         self.chain
             .enter(saved(self.alu), saved(self.rf), saved(self.fetch));
         self.psw.enter();
@@ -388,13 +428,7 @@ impl<C: FetchCache> Turns<C> {
             chain: Chain::new(),
             psw: Psw::start(),
             halted: false,
-            looked: Looked {
-                fetch: None,
-                rf: None,
-                alu: None,
-                user: true,
-                chain: Chain::new(),
-            },
+            looked: None,
             counts: Counts::none(),
             cache,
         })
@@ -450,29 +484,7 @@ impl<C: FetchCache> Machine for Turns<C> {
     }
 
     fn latches(&self) -> Latches {
-        let inst = self.live(self.looked.alu);
-        let operands = sources(&inst);
-        let a = sees(&self.file, &self.slot, operands.0);
-        let b = sees(&self.file, &self.slot, operands.1);
-        let at = address_of(self.looked.alu);
-        Latches {
-            fetch: stage_of(self.looked.fetch),
-            rf: stage_of(self.looked.rf),
-            alu: stage_of(self.looked.alu),
-            mem: stage_of(self.mem),
-            wb: stage_of(self.wb),
-            a,
-            b,
-            result: number_of(
-                &inst,
-                at,
-                a,
-                b,
-                self.md,
-                self.looked.user,
-                &self.looked.chain,
-            ),
-        }
+        self.latches_by(&self.look())
     }
 }
 
