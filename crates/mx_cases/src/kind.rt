@@ -1,5 +1,5 @@
 //! Kinds of cases.
-use crate::{numbers, texts};
+use crate::{encoded, numbers, texts};
 use anyhow::{Context, Result};
 use std::rt::Files;
 
@@ -13,10 +13,12 @@ pub enum Kind {
     Meanings,
     Statements,
     Generated,
+    Encoded,
+    Handler,
 }
 
 impl Kind {
-    pub const ALL: [Kind; 7] = [
+    pub const ALL: [Kind; 9] = [
         Kind::Words,
         Kind::Compute,
         Kind::Conditions,
@@ -24,6 +26,8 @@ impl Kind {
         Kind::Meanings,
         Kind::Statements,
         Kind::Generated,
+        Kind::Encoded,
+        Kind::Handler,
     ];
 
     /// The file that has these cases.
@@ -36,6 +40,8 @@ impl Kind {
             Kind::Meanings => "meanings.txt",
             Kind::Statements => "statements.txt",
             Kind::Generated => "generated.txt",
+            Kind::Encoded => "encoded.txt",
+            Kind::Handler => "handler.txt",
         }
     }
 
@@ -50,6 +56,8 @@ impl Kind {
             Kind::Meanings => texts::meaning(rt, behind(line, " ")?),
             Kind::Statements => texts::statement(alloc, before(line, " -> ")?),
             Kind::Generated => texts::generated(alloc, before(line, ":")?),
+            Kind::Encoded => encoded::text(alloc, before(line, " -> ")?),
+            Kind::Handler => encoded::handler(alloc, before(line, " ")?),
         }
     }
 }

@@ -1,7 +1,9 @@
-//! Compares the instruction table, the arithmetic, the coder, the assembler, the meaning and the generator with cases
-//! from files, whose answers come from outside. Prints a line for each kind of case, and one for each case that differs.
+//! Compares the instruction table, the arithmetic, the coder, the assembler, the meaning, the generator and the handler
+//! with cases from files, whose answers come from outside. Prints a line for each kind of case, and one for each case
+//! that differs.
 #![tactic(auto)]
 
+mod encoded;
 mod kind;
 mod numbers;
 mod spelling;

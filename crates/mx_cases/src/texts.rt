@@ -12,13 +12,13 @@ use std::rt::Files;
 
 /// A text assembles to a source, or is refused with its first faulty line and the fault.
 #[derive(Drop)]
-enum Assembled {
+pub enum Assembled {
     Source(Source),
     Refused { line: u32, fault: String },
 }
 
 /// What a text assembles to.
-fn assemble_text(alloc: Global, text: &[u8]) -> Result<Assembled> {
+pub fn assemble_text(alloc: Global, text: &[u8]) -> Result<Assembled> {
     ensure!(text.len() <= 4_194_304, "the text is too long");
     match assemble(alloc, text) {
         Ok(source) => Ok(Assembled::Source(source)),

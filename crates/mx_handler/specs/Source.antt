@@ -1,10 +1,26 @@
 -- The handler in assembly language.
-use Rattle.std.specs.Prelude.{ℕ, List, [], ◌∷◌, codes}
+use Rattle.std.specs.Prelude.{ℕ, List, [], ◌∷◌, Option, codes, option_map}
+use Rattle.mx_isa.specs.declared.inst.Special.{Special}
+use Rattle.mx_isa.specs.declared.inst.Special.TheVariants.{Md, Pc1, Pc2, Pc3}
+use Rattle.mx_isa.specs.declared.inst.Inst.{Inst}
+use Rattle.mx_isa.specs.declared.inst.Inst.TheVariants.{MoveFrom, MoveTo, Jpc, Jpcrs}
+use Rattle.mx_code.specs.Decoding.{inst_of}
+use Rattle.mx_source.specs.Printed.{register, spelled, instruction_text}
 
--- a line for each word
-abbrev pub handler_text : List (List ℕ)
-handler_text =
-    codes "st 1[r0],r1" ∷ codes "st 2[r0],r2" ∷ codes "movfrs pc1,r1" ∷ codes "movfrs pc2,r2" ∷ codes "st 3[r0],r1" ∷ codes "st 4[r0],r2"
-    ∷ codes "movfrs pc3,r1" ∷ codes "st 5[r0],r1" ∷ codes "ld 0[r0],r2" ∷ codes "ld 3[r0],r1" ∷ codes "addi r2,#1,r2" ∷ codes "st 0[r0],r2"
-    ∷ codes "movtos r1,pc1" ∷ codes "ld 4[r0],r2" ∷ codes "ld 5[r0],r1" ∷ codes "movtos r2,pc2" ∷ codes "movtos r1,pc3" ∷ codes "ld 2[r0],r2"
-    ∷ codes "ld 1[r0],r1" ∷ codes "add r0,r0,r0" ∷ codes "jpc" ∷ codes "jpc" ∷ codes "jpcrs" ∷ []
+abbrev pub special_text : Special → List ℕ
+special_text Md = codes "md"
+special_text Pc1 = codes "pc1"
+special_text Pc2 = codes "pc2"
+special_text Pc3 = codes "pc3"
+
+-- the canonical text of an instruction, also of the system's own; a branch, a jump and a halt have none here
+abbrev pub text_of : Inst → List ℕ
+text_of (MoveFrom dest special) = spelled (codes "movfrs") (special_text special ∷ register dest ∷ [])
+text_of (MoveTo a special) = spelled (codes "movtos") (register a ∷ special_text special ∷ [])
+text_of Jpc = codes "jpc"
+text_of Jpcrs = codes "jpcrs"
+text_of inst = instruction_text inst
+
+-- the text of the instruction that a word spells, if it spells one
+abbrev pub text_of_word : ℕ → Option (List ℕ)
+text_of_word word = option_map text_of (inst_of word)

@@ -1,6 +1,6 @@
 //! The handler's words and their source.
-ghost use Rattle.std.specs.Prelude.{◌≡◌, map};
-ghost use Rattle.mx_handler.specs.Source.{handler_text};
+ghost use Rattle.std.specs.Prelude.{◌≡◌, Some, map};
+ghost use Rattle.mx_handler.specs.Source.{text_of_word};
 
 /// The 23 words of the shipped handler, from code address 0 on (this project's profile). It saves registers 1 and 2 and the
 /// chain in system words 1 to 5, counts the interrupt in system word 0, and goes back to the three fetches of the chain.
@@ -30,9 +30,10 @@ pub const HANDLER: [u32; 23] = [
     0xd800_0000,
 ];
 
-/// The handler's instructions in assembly language, one for each word.
+/// The texts of the instructions that the words of `HANDLER` spell, in their order. Those that only the system may
+/// use (moves of pc1 to pc3, `jpc` and `jpcrs`) are written as in a source too, though the assembler refuses them.
 pub fn handler_source() -> [&'static str; 23]
-    ensures { map (λ s. s.now) result ≡ handler_text }
+    ensures { map (λ s. Some s.now) result ≡ map text_of_word HANDLER }
 {
     [
         "st 1[r0],r1",
