@@ -1,4 +1,4 @@
-use Rattle.std.proofs.Common.{◌≡◌, List, [], ◌∷◌, lit<, decimal}
+use Rattle.std.proofs.Common.{◌≡◌, [], ◌∷◌, lit<, decimal}
 use Rattle.std.proofs.lemmas.Fmt.{decimal_digit}
 use Rattle.mx_handler.proofs.handler.handler_source.Goals as goal
 
