@@ -8,14 +8,14 @@ use Rattle.mx_board.specs.Data.{words_of}
 use Rattle.mx_turn.specs.declared.latches.Latches.{Latches}
 use Rattle.mx_turn.specs.declared.turns.Looked.{Looked}
 use Rattle.mx_turn.specs.declared.turns.Turns.{Turns}
-use Rattle.mx_turn.specs.Decoded.{code_at}
+use Rattle.mx_turn.specs.Decoded.{code_in}
 use Rattle.mx_turn.specs.Stages.{live, address_of, stage_of}
 use Rattle.mx_turn.specs.System.{seen, number_of}
 use Rattle.mx_turn.specs.Cycle.{Machine, shifted, committed, showing, waited, acted}
-use Rattle.mx_turn.specs.Program.{Program, code_with, state_after}
+use Rattle.mx_turn.specs.Program.{Program, state_after}
 
 abbrev pub code_of_turns : {C : Type 0} → Turns C → Code
-code_of_turns t = code_with (code_at 0 t.handler) (code_at 4096 t.user)
+code_of_turns t = code_in t.code
 
 -- what it keeps, with what it does not keep: the addresses of completed turns, the registers as the last one began, and what that one showed
 abbrev pub machine_of : {C : Type 0} → Turns C → List ℕ → Words → Latches → Machine
@@ -76,8 +76,7 @@ pub record StandsFor {C : Type 0} (holds : C → List ℕ → Type 0) (t : Turns
 
 -- the code words and the input stay
 pub record KeepsProgram {C : Type 0} (t t' : Turns C) : Type 0 where
-  pub user : t'.user ≡ t.user
-  pub handler : t'.handler ≡ t.handler
+  pub code : t'.code ≡ t.code
   pub input : t'.board.input ≡ t.board.input
 
 -- what a step of `Turns` does to the state that it keeps, whatever it does not keep
