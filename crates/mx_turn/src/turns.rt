@@ -1,5 +1,5 @@
 //! The machine that commits each word as a whole.
-ghost use Rattle.std.specs.Prelude.{◌≡◌, ◌<◌, ◌≤◌, ◌+◌, ◌^◌, ℕ, Bool, not, ◌||◌, length, slice_index, IfOk, Some, None, List, if◌then◌else◌, [], ◌∷◌};
+ghost use Rattle.std.specs.Prelude.{◌≡◌, ◌<◌, IfSome, ◌≤◌, ◌+◌, ◌^◌, ℕ, Bool, not, ◌&&◌, ◌||◌, length, slice_index, IfOk, Some, None, List, if◌then◌else◌, [], ◌∷◌};
 ghost use Rattle.std.specs.Option.{option_copied};
 ghost use Rattle.mx_isa.specs.Words.{Words};
 ghost use Rattle.mx_board.specs.Contents.{bytes_in};
@@ -11,9 +11,9 @@ ghost use Rattle.mx_turn.specs.Stages.{fetch_of, live};
 ghost use Rattle.mx_turn.specs.Handler.{shipped};
 ghost use Rattle.mx_turn.specs.Cycle.{shifted, committed, commit_byte, showing, is_taken, entered, decision, decided, ended, takes, squashes, waited, acted, acted_answer};
 ghost use Rattle.mx_turn.specs.Program.{Program, program_of};
-ghost use Rattle.mx_turn.specs.Kept.{code_of_turns, machine_of, shown_of, looked_of, shown_by, KeepsProgram, StandsFor, Does, Tells, Commits, Shows, Waits, FetchesNext, KnowsMiss, Acts};
+ghost use Rattle.mx_turn.specs.Kept.{code_of_turns, machine_of, shown_of, looked_of, shown_by, aside, KeepsProgram, StandsFor, Does, Tells, Commits, Shows, Waits, FetchesNext, KnowsMiss, Acts};
 
-use crate::alu_stage::decide;
+use crate::alu_stage::{Decided, decide};
 use crate::decoded::Decoded;
 use crate::held::{Coming, Held};
 use crate::mem_stage::commit;
@@ -199,6 +199,33 @@ impl<C: FetchCache> Turns<C> {
         self.next = self.next.following();
     }
 
+    // Whether a transfer leads back to a saved fetch.
+    fn goes_back(&self, decided: &Decided) -> bool
+        ensures { result ≡ (decided.now.pops && not self.now.psw.current.user) }
+    {
+        decided.pops && !self.psw.current.user
+    }
+
+    // A transfer cancels the two words behind it, or pops the chain.
+    // Few do: a call of its own keeps the way of the others short.
+    #[inline(never)]
+    fn turn_aside(&mut self, decided: &Decided, back: bool)
+        requires { IfSome decided.now.target (λ a. a < 2 ^ 31) }
+        ensures state { Does (aside decided.now back) self.old self.new }
+        ensures shown { shown_of self.new ≡ shown_of self.old }
+        ensures program { KeepsProgram self.old self.new }
+        ensures cache { self.new.cache ≡ self.old.cache }
+        ensures missed { self.new.missed ≡ self.old.missed }
+        ensures counts { self.new.counts ≡ self.old.counts }
+    {
+        self.looked = Some(self.look());
+        self.next = led(back, &self.chain, decided.target, &self.next);
+        self.fetch = Held::of(squash(decided.cancels, self.fetch.stage()));
+        self.rf = Held::of(squash(decided.cancels, self.rf.stage()));
+        self.chain = popped(back, self.chain);
+        self.psw = restored(decided.restores && back, self.psw);
+    }
+
     // A transfer decides. Answers whether it cancels the two words behind it.
     fn transfer(&mut self, inst: &Inst) -> bool
         requires { inst.now ≡ live (code_of_turns self.old) self.old.alu }
@@ -211,18 +238,13 @@ impl<C: FetchCache> Turns<C> {
         ensures counts { self.new.counts ≡ self.old.counts }
     {
         let decided = decide(inst, self.alu.address(), &self.slot, &self.file);
-        let back = decided.pops && !self.psw.current.user;
+        let back = self.goes_back(&decided);
         // Most transfers cancel and pop nothing: for them, too, nothing but the next fetch is written.
         if !either(back, decided.cancels) {
             self.next = led(false, &self.chain, decided.target, &self.next);
             return false;
         }
-        self.looked = Some(self.look());
-        self.next = led(back, &self.chain, decided.target, &self.next);
-        self.fetch = Held::of(squash(decided.cancels, self.fetch.stage()));
-        self.rf = Held::of(squash(decided.cancels, self.rf.stage()));
-        self.chain = popped(back, self.chain);
-        self.psw = restored(decided.restores && back, self.psw);
+        self.turn_aside(&decided, back);
         decided.cancels
     }
 
@@ -246,6 +268,7 @@ impl<C: FetchCache> Turns<C> {
     }
 
     // The interrupt is taken.
+    #[inline(never)]
     fn enter(&mut self)
         ensures state { Does entered self.old self.new }
         ensures shown { shown_of self.new ≡ shown_of self.old }
