@@ -147,7 +147,10 @@ impl<C: FetchCache> Turns<C> {
         ensures missed { self.new.missed ≡ self.old.missed }
         ensures counts { self.new.counts ≡ self.old.counts }
     {
-        self.looked = None;
+        // Seldom is there anything to forget, and a test costs less than the write.
+        if self.looked.is_some() {
+            self.looked = None;
+        }
     }
 
     // What the last completed turn showed of the stages, the mode and the chain.
