@@ -104,7 +104,7 @@ pub code_is : (handler user : List ℕ) (insts : List Inst) → length handler �
 code_is handler user insts short is =
     let padded : List Inst = map what_of handler ++ replicate (4096 - length handler) idle in
     let full : length padded ≡ 4096 =
-        length-append (map what_of handler) (replicate (4096 - length handler) idle)
-        ∙ (λ i. length-map handler what_of i + length-replicate (4096 - length handler) idle i)
-        ∙ omega (arith, short) in
+    length-append (map what_of handler) (replicate (4096 - length handler) idle)
+    ∙ (λ i. length-map handler what_of i + length-replicate (4096 - length handler) idle i)
+    ∙ omega (arith, short) in
     ap code_in is ∙ joined_is handler user padded full refl

@@ -281,8 +281,11 @@ impl<C: FetchCache> Turns<C> {
         ensures counts { self.new.counts ≡ self.old.counts }
     {
         self.looked = Some(self.look());
-        self.chain
-            .enter(saved(self.alu.stage()), saved(self.rf.stage()), saved(self.fetch.stage()));
+        self.chain.enter(
+            saved(self.alu.stage()),
+            saved(self.rf.stage()),
+            saved(self.fetch.stage()),
+        );
         self.psw.enter();
         self.latch = false;
         self.next = Coming::at(0);
