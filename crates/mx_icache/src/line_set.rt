@@ -79,6 +79,7 @@ impl Set {
     }
 
     // The way that holds the line, where this word of it is valid.
+    #[inline(always)]
     fn hit_of(&self, line: u32, word: u8) -> Option<usize>
         requires { word < 16 }
         ensures within { IfSome result (λ w. w < 8) }
