@@ -38,7 +38,7 @@ words_same line new word past e h = rw e h
 missed_here : (past : List ℕ) (a : ℕ) (v : Bool) → is_held past (line_of a) ≡ true → resident past a ≡ v → missed_since past a ≡ v
 missed_here past a v held e = sym (ap (λ t. t && missed_since past a) held) ∙ e
 
-word_here : (set : Set) (past : List ℕ) (a w : ℕ) → SetHolds set past (set_of (line_of a)) → w < 8 → line_in set w ≡ Some (line_of a) → word_in set w (a % 16) ≡ resident past a
+pub word_here : (set : Set) (past : List ℕ) (a w : ℕ) → SetHolds set past (set_of (line_of a)) → w < 8 → line_in set w ≡ Some (line_of a) → word_in set w (a % 16) ≡ resident past a
 word_here set past a w h p at = let address : 16 * line_of a + a % 16 ≡ a = omega arith in rw address at (h.words w (line_of a) (a % 16) p at (omega arith))
 
 -- a fetch of a valid word

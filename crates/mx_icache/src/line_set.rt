@@ -78,8 +78,25 @@ impl Set {
         self.next = (self.next + 1) % 8;
     }
 
-    /// Takes a fetch of an address of this set, and answers whether it was resident.
-    pub(crate) fn fetch(&mut self, address: u32) -> bool
+    // The way that holds the line, where this word of it is valid.
+    #[inline(always)]
+    fn hit_of(&self, line: u32, word: u8) -> Option<usize>
+        requires { word < 16 }
+        ensures within { IfSome result (λ w. w < 8) }
+        ensures found { IfSome result (λ w. line_in self.now w ≡ Some line) }
+        ensures valid { IfSome result (λ w. word_in self.now w word ≡ true) }
+    {
+        for way in 0..8 {
+            if self.tags[way] == line && is_set(self.masks[way], word) {
+                return Some(way);
+            }
+        }
+        None
+    }
+
+    // Takes a fetch of any address of this set.
+    #[inline(never)]
+    fn take(&mut self, address: u32) -> bool
         ensures answer { (past : List ℕ) → SetHolds self.old past (set_of (line_of address)) → result ≡ resident past address }
         ensures next { (past : List ℕ) → SetHolds self.old past (set_of (line_of address)) → SetHolds self.new (address ∷ past) (set_of (line_of address)) }
     {
@@ -91,6 +108,19 @@ impl Set {
                 self.allocate(line, word);
                 false
             }
+        }
+    }
+
+    /// Takes a fetch of an address of this set, and answers whether it was resident.
+    // Most words are resident, which a tag and a bit of its mask tell; the set then stays as it is.
+    #[inline(always)]
+    pub(crate) fn fetch(&mut self, address: u32) -> bool
+        ensures answer { (past : List ℕ) → SetHolds self.old past (set_of (line_of address)) → result ≡ resident past address }
+        ensures next { (past : List ℕ) → SetHolds self.old past (set_of (line_of address)) → SetHolds self.new (address ∷ past) (set_of (line_of address)) }
+    {
+        match self.hit_of(address / 16, (address % 16) as u8) {
+            Some(_) => true,
+            None => self.take(address),
         }
     }
 }

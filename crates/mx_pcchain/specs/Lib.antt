@@ -1,3 +1,4 @@
 pub mod Fetch
 pub mod Chain
 pub mod Modes
+pub mod Held

@@ -1,5 +1,5 @@
 -- Runs that grow by a cycle, and runs that have halted.
-use Rattle.std.proofs.Common.{◌≡◌, ◌≤◌, ◌<◌, ℕ, zero, suc, Bool, true, false, cond, List, [], ◌∷◌, ◌++◌, option_to_list, append_assoc, append-nil, arith, refl, sym, ap, ◌∙◌, ⊎_elim, inl, inr, ◌⊎◌}
+use Rattle.std.proofs.Common.{◌≡◌, ◌≤◌, ℕ, zero, suc, Bool, true, false, cond, List, [], ◌∷◌, ◌++◌, option_to_list, append_assoc, append-nil, arith, sym, ap, ◌∙◌, ⊎_elim}
 use Rattle.std.specs.Prelude.{min, eqb, nat_lt, Option}
 use Rattle.std.proofs.lemmas.Bool.Decides.{nat_tests}
 use Rattle.std.proofs.lemmas.Grind.{common_steps}
@@ -12,7 +12,7 @@ use Rattle.mx_turn.specs.Program.{Program, state_after, answer_after}
 use Rattle.mx_turn.specs.Run.{is_requested, bits, bytes_on, console_after}
 use Rattle.mx_turn.proofs.Steps.{after_one_more}
 use Rattle.mx_report.specs.Trace.{trace_line}
-use Rattle.mx_report.specs.Driving.{cycle_line, trace_text}
+use Rattle.mx_report.specs.Driving.{trace_text}
 
 turned_halted : (code : Code) (c : Machine) → (turned code c).halted ≡ c.halted
 turned_halted code c = ⊎_elim

@@ -1,5 +1,5 @@
 -- The lines of a trace.
-use Rattle.std.specs.Prelude.{ℕ, List, [], ◌∷◌, ◌++◌, codes, cond}
+use Rattle.std.specs.Prelude.{ℕ, Bool, List, [], ◌∷◌, ◌++◌, codes, cond}
 use Rattle.std.specs.Fmt.{decimal}
 use Rattle.mx_text.specs.Text.{word_text, line}
 use Rattle.mx_turn.specs.declared.Stage.{Stage}
@@ -23,5 +23,8 @@ abbrev pub numbers_text : Latches → List ℕ
 numbers_text l = (spaced (word_text l.a) ++ spaced (word_text l.b)) ++ spaced (word_text l.result)
 
 -- the line of a cycle, from 0: the five stages and the three numbers of the word in ALU, or that it was stalled
+abbrev pub line_of : ℕ → Bool → Latches → List ℕ
+line_of cycle stalled l = line (decimal cycle ++ cond stalled (codes " stall") (stages_text l ++ numbers_text l))
+
 abbrev pub trace_line : ℕ → Cycled → Latches → List ℕ
-trace_line cycle cycled l = line (decimal cycle ++ cond cycled.stalled (codes " stall") (stages_text l ++ numbers_text l))
+trace_line cycle cycled l = line_of cycle cycled.stalled l

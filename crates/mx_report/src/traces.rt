@@ -1,7 +1,7 @@
 //! The lines of a trace.
 ghost use Rattle.std.specs.Prelude.{◌≡◌, ◌++◌, OnOk, IfOk, codes};
 ghost use Rattle.mx_text.specs.Text.{word_text};
-ghost use Rattle.mx_report.specs.Trace.{stage_text, spaced, stages_text, numbers_text, trace_line};
+ghost use Rattle.mx_report.specs.Trace.{stage_text, spaced, stages_text, numbers_text, line_of, trace_line};
 
 use mx_io::Memory;
 use mx_text::{push_decimal, push_word};
@@ -60,18 +60,18 @@ fn push_latches(text: &mut Vec<u8>, latches: &Latches) -> Result<(), AllocError>
     push_numbers(text, latches)
 }
 
-/// Appends the line of a cycle.
+/// Appends the line of a cycle, stalled or not.
 pub fn push_trace_line(
     alloc: Global,
     text: &mut Vec<u8>,
     cycle: u32,
-    cycled: &Cycled,
+    stalled: bool,
     latches: &Latches,
 ) -> Result<(), AllocError>
-    ensures { OnOk result (text.new.items ≡ text.old.items ++ trace_line cycle cycled.now latches.now) }
+    ensures { OnOk result (text.new.items ≡ text.old.items ++ line_of cycle stalled latches.now) }
 {
     push_decimal(alloc, text, u64::from(cycle))?;
-    if cycled.stalled {
+    if stalled {
         text.extend_from_slice(b" stall".as_slice())?;
     } else {
         push_latches(text, latches)?;
@@ -90,7 +90,7 @@ pub fn trace_line(
     ensures { IfOk result (λ t. t.items ≡ trace_line cycle cycled.now latches.now) }
 {
     let mut text = Vec::new(alloc);
-    match push_trace_line(alloc, &mut text, cycle, cycled, latches) {
+    match push_trace_line(alloc, &mut text, cycle, cycled.stalled, latches) {
         Ok(()) => Ok(text),
         Err(_) => Err(Memory),
     }

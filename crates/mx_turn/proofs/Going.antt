@@ -11,7 +11,9 @@ use Rattle.mx_pcchain.specs.Chain.{pop}
 use Rattle.mx_pcchain.specs.Modes.{psw_restored}
 use Rattle.mx_turn.specs.Stages.{live, fetch_of, squash, address_of}
 use Rattle.mx_turn.specs.System.{pops, restores, seen}
-use Rattle.mx_turn.specs.Cycle.{Machine, decision, decided, led}
+use Rattle.mx_turn.specs.Cycle.{Machine, decision, decided_by, decided, led}
+use Rattle.mx_turn.specs.declared.alu_stage.Decided.{Decided}
+use Rattle.mx_turn.specs.Kept.{aside}
 
 pub goes_on_is : (i : Inst) (at : ℕ) (r : Words) → is_transfer i ≡ false → decides i at r ≡ goes_on
 goes_on_is (Load base d offset) at r e = refl
@@ -84,3 +86,12 @@ cancels_not code m e = λ k. (sym (goes_on_is (live code m.alu) (address_of m.al
 -- a test that failed
 pub tested : (r : Bool) (i j : Inst) → i ≡ j → r ≡ is_transfer i → r ≡ false → is_transfer j ≡ false
 tested r i j e f n = ap is_transfer (sym e) ∙ sym f ∙ n
+
+-- what the parts of a decision do is what the word in ALU decides
+pub aside_is : (code : Code) (m : Machine) (i : Inst) (at : ℕ) (d : Decided) (back : Bool) → i ≡ live code m.alu → at ≡ address_of m.alu
+    → d.target ≡ (decides i at (seen m.slot m.core.regs)).target → d.cancels ≡ (decides i at (seen m.slot m.core.regs)).cancels
+    → d.pops ≡ pops i → d.restores ≡ restores i → back ≡ (d.pops && not m.psw.current.user) → aside d back m ≡ decided code m
+aside_is code m i at d back is here target cancels pop restore leads =
+    (λ k. aside d (leads k) m)
+    ∙ (λ k. let x : Decided = record { target = target k; cancels = cancels k; pops = pop k; restores = restore k } in aside x (pop k && not m.psw.current.user) m)
+    ∙ (λ k. decided_by (is k) (decides (is k) (here k) (seen m.slot m.core.regs)) m)

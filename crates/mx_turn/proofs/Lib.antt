@@ -3,3 +3,4 @@ pub mod OneTurn
 mod Moves
 pub mod Steps
 pub mod Stands
+pub mod Table

@@ -1,16 +1,13 @@
 -- How a cycle keeps what the machine stands for, and what a new one stands for.
-use Rattle.std.proofs.Common.{◌≡◌, ℕ, zero, suc, ◌-◌, Bool, false, not, cond, leb, List, [], ◌∷◌, ◌++◌, map, replicate, refl, sym, ap, ◌∙◌}
-use Rattle.std.specs.Prelude.{slice_get, slice_index, unwrap_or, option_and_then}
+use Rattle.std.proofs.Common.{◌≡◌, ℕ, zero, suc, Bool, false, not, List, [], ◌∷◌, ◌++◌, replicate, refl, sym, ap, ◌∙◌}
+use Rattle.std.specs.Prelude.{slice_index}
 use Rattle.mx_isa.specs.Words.{Words}
-use Rattle.mx_isa.specs.declared.inst.Inst.{Inst}
-use Rattle.mx_code.specs.Decoding.{inst_of}
-use Rattle.mx_code.specs.Delay.{idle, code_from}
 use Rattle.mx_icache.specs.Residency.{resident, allocated}
 use Rattle.mx_turn.specs.declared.machine.Cycled.{Cycled}
 use Rattle.mx_turn.specs.declared.turns.Turns.{Turns}
-use Rattle.mx_turn.specs.Decoded.{what_of, code_at}
+use Rattle.mx_turn.specs.Decoded.{code_in}
 use Rattle.mx_turn.specs.Cycle.{Machine, cycled, answer}
-use Rattle.mx_turn.specs.Program.{Program, code_with, answer_after}
+use Rattle.mx_turn.specs.Program.{Program, answer_after}
 use Rattle.mx_turn.specs.Kept.{code_of_turns, machine_of, shown_of, KeepsProgram, StandsFor}
 use Rattle.mx_turn.proofs.Steps.{after_one_more}
 
@@ -29,22 +26,13 @@ module _ {C : Type 0} (holds : C → List ℕ → Type 0) (t : Turns C) (p : Pro
     before = before;
     cache = cache;
     missed = missed;
-    code = (λ k. code_with (code_at 0 (keeps.handler k)) (code_at 4096 (keeps.user k))) ∙ s.code;
+    code = ap code_in keeps.code ∙ s.code;
     input = keeps.input ∙ s.input;
     state =
         e
         ∙ (λ k. cycled resident (s.code k) (s.input k) (s.state k) request)
         ∙ sym (after_one_more resident p.code p.input _ h request);
   }
-
--- words that were decoded are the code that they spell
-decoded_at : (words : List ℕ) (k : ℕ) → unwrap_or (slice_get (map what_of words) k) idle ≡ unwrap_or (option_and_then inst_of (slice_get words k)) idle
-decoded_at [] k = refl
-decoded_at (w ∷ words) zero = refl
-decoded_at (w ∷ words) (suc k) = decoded_at words k
-
-pub code_is : (base : ℕ) (insts : List Inst) (words : List ℕ) → insts ≡ map what_of words → code_at base insts ≡ code_from inst_of base words
-code_is base insts words e = ap (code_at base) e ∙ (λ i a. cond (leb base a) (decoded_at words (a - base) i) idle)
 
 zeros : (k n : ℕ) → slice_index (replicate k 0) n ≡ 0
 zeros zero n = refl

@@ -1,5 +1,5 @@
 -- Code words, decoded once.
-use Rattle.std.specs.Prelude.{ℕ, ◌-◌, cond, leb, List, unwrap_or, slice_get}
+use Rattle.std.specs.Prelude.{ℕ, List, unwrap_or, slice_get}
 use Rattle.mx_isa.specs.declared.inst.Inst.{Inst}
 use Rattle.mx_isa.specs.declared.inst.Inst.TheVariants.{Compute}
 use Rattle.mx_isa.specs.Arithmetic.{CountFits}
@@ -10,9 +10,9 @@ use Rattle.mx_code.specs.Delay.{Code, idle}
 abbrev pub what_of : ℕ → Inst
 what_of word = unwrap_or (inst_of word) idle
 
--- the code that these instructions are, from an address on
-abbrev pub code_at : ℕ → List Inst → Code
-code_at base insts a = cond (leb base a) (unwrap_or (slice_get insts (a - base)) idle) idle
+-- the code that these instructions are, from address 0 on, and the no-op behind them
+abbrev pub code_in : List Inst → Code
+code_in insts a = unwrap_or (slice_get insts a) idle
 
 -- the count of a shift is at most 31
 abbrev pub ShiftFits : Inst → Type 0

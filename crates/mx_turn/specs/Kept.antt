@@ -1,21 +1,24 @@
 -- The state of the definition that `Turns` keeps.
-use Rattle.std.specs.Prelude.{◌≡◌, ℕ, Bool, not, List, ◌∷◌, slice_index, unwrap_or}
+use Rattle.std.specs.Prelude.{◌≡◌, ℕ, Bool, not, cond, ◌&&◌, List, ◌∷◌, slice_index, unwrap_or}
 use Rattle.mx_isa.specs.Words.{Words, reg}
 use Rattle.mx_isa.specs.Views.{sources}
-use Rattle.mx_code.specs.Delay.{Code}
+use Rattle.mx_code.specs.Delay.{Code, next_of}
 use Rattle.mx_icache.specs.Residency.{resident}
 use Rattle.mx_board.specs.Data.{words_of}
+use Rattle.mx_pcchain.specs.Chain.{fetch_from, pop}
+use Rattle.mx_pcchain.specs.Modes.{psw_restored}
 use Rattle.mx_turn.specs.declared.latches.Latches.{Latches}
+use Rattle.mx_turn.specs.declared.alu_stage.Decided.{Decided}
 use Rattle.mx_turn.specs.declared.turns.Looked.{Looked}
 use Rattle.mx_turn.specs.declared.turns.Turns.{Turns}
-use Rattle.mx_turn.specs.Decoded.{code_at}
-use Rattle.mx_turn.specs.Stages.{live, address_of, stage_of}
+use Rattle.mx_turn.specs.Decoded.{code_in}
+use Rattle.mx_turn.specs.Stages.{fetch_of, live, address_of, squash, stage_of}
 use Rattle.mx_turn.specs.System.{seen, number_of}
 use Rattle.mx_turn.specs.Cycle.{Machine, shifted, committed, showing, waited, acted}
-use Rattle.mx_turn.specs.Program.{Program, code_with, state_after}
+use Rattle.mx_turn.specs.Program.{Program, state_after}
 
 abbrev pub code_of_turns : {C : Type 0} → Turns C → Code
-code_of_turns t = code_with (code_at 0 t.handler) (code_at 4096 t.user)
+code_of_turns t = code_in t.code
 
 -- what it keeps, with what it does not keep: the addresses of completed turns, the registers as the last one began, and what that one showed
 abbrev pub machine_of : {C : Type 0} → Turns C → List ℕ → Words → Latches → Machine
@@ -76,14 +79,23 @@ pub record StandsFor {C : Type 0} (holds : C → List ℕ → Type 0) (t : Turns
 
 -- the code words and the input stay
 pub record KeepsProgram {C : Type 0} (t t' : Turns C) : Type 0 where
-  pub user : t'.user ≡ t.user
-  pub handler : t'.handler ≡ t.handler
+  pub code : t'.code ≡ t.code
   pub input : t'.board.input ≡ t.board.input
 
 -- what a step of `Turns` does to the state that it keeps, whatever it does not keep
 abbrev pub Does : {C : Type 0} → (Machine → Machine) → Turns C → Turns C → Type 0
 Does step t t' =
     (past : List ℕ) (before : Words) (shown : Latches) → machine_of t' past before shown ≡ step (machine_of t past before shown)
+
+-- what a decision does, back to a saved fetch or not
+abbrev pub aside : Decided → Bool → Machine → Machine
+aside d back m = record m {
+  next = cond back (fetch_from m.chain.pc1) (fetch_of (next_of d.target m.next.address));
+  fetch = squash d.cancels m.fetch;
+  rf = squash d.cancels m.rf;
+  chain = cond back (pop m.chain) m.chain;
+  psw = cond (d.restores && back) (psw_restored m.psw) m.psw;
+}
 
 -- what a method of `Turns` tells of that state
 abbrev pub Tells : {C T : Type 0} → (Machine → T) → Turns C → T → Type 0

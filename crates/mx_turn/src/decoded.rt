@@ -1,22 +1,27 @@
 //! Code words, decoded once.
-ghost use Rattle.std.specs.Prelude.{◌≡◌, IfOk, All, map, unwrap_or, slice_get};
-ghost use Rattle.mx_code.specs.Delay.{idle};
-ghost use Rattle.mx_turn.specs.Decoded.{what_of, ShiftFits};
+ghost use Rattle.std.specs.Prelude.{◌≡◌, ◌≤◌, ◌-◌, ◌++◌, IfOk, All, map, length, replicate};
+ghost use Rattle.mx_code.specs.Decoding.{inst_of};
+ghost use Rattle.mx_code.specs.Delay.{idle, code_from};
+ghost use Rattle.mx_turn.specs.Decoded.{what_of, code_in, ShiftFits};
+ghost use Rattle.mx_turn.specs.Stages.{live};
+ghost use Rattle.mx_turn.specs.Program.{code_with};
 
+use crate::held::Held;
 use mx_code::decode;
 use mx_io::Memory;
 use mx_isa::{Inst, Op, Reg};
 use std::alloc::{AllocError, Global};
 use std::marker::Model;
 
-/// Instructions, one for each word.
+// One list for both, since a place in it is then found by one comparison.
+/// What each address of code does: the words of a handler from 0 on, and the user's from 4,096 on.
 #[derive(Drop)]
 pub struct Decoded {
     insts: Vec<Inst>,
 }
 
 impl Model for Decoded {
-    ghost use Rattle.std.specs.Prelude.{List, All};
+    ghost use Rattle.std.specs.Prelude.{List, All, length, ◌≤◌, ◌^◌};
     ghost use Rattle.mx_isa.specs.declared.inst.Inst.{Inst};
     ghost use Rattle.mx_turn.specs.Decoded.{ShiftFits};
 
@@ -24,7 +29,7 @@ impl Model for Decoded {
 
     ghost view = { λ d. d.insts.items };
 
-    ghost invariant = { λ d. All ShiftFits d.insts.items };
+    ghost invariant = { λ d. All ShiftFits d.insts.items × (length d.insts.items ≤ 2 ^ 31) };
 }
 
 /// The no-op.
@@ -58,23 +63,38 @@ fn all_of(alloc: Global, words: &[u32]) -> Result<Vec<Inst>, AllocError>
     Ok(insts)
 }
 
+// What the words of a handler and those of the user do.
+fn both(alloc: Global, handler: &[u32], user: &[u32]) -> Result<Vec<Inst>, AllocError>
+    requires handler { length handler.now ≤ 4096 }
+    ensures what { IfOk result (λ v. v.items ≡ (map what_of handler.now ++ replicate (4096 - length handler.now) idle) ++ map what_of user.now) }
+    ensures fits { IfOk result (λ v. All ShiftFits v.items) }
+{
+    let mut insts = all_of(alloc, handler)?;
+    insts.resize(4096, IDLE)?;
+    insts.extend_from_slice(&all_of(alloc, user)?)?;
+    Ok(insts)
+}
+
 impl Decoded {
     /// These words, decoded.
-    pub fn new(alloc: Global, words: &[u32]) -> Result<Decoded, Memory>
-        ensures { IfOk result (λ d. d ≡ map what_of words.now) }
+    #[tactic(auto, using(crate::proofs::Table::code_is))]
+    pub fn new(alloc: Global, handler: &[u32], user: &[u32]) -> Result<Decoded, Memory>
+        requires handler { length handler.now ≤ 4096 }
+        requires user { length user.now ≤ 60000 }
+        ensures { IfOk result (λ d. code_in d ≡ code_with (code_from inst_of 0 handler.now) (code_from inst_of 4096 user.now)) }
     {
-        match all_of(alloc, words) {
+        match both(alloc, handler, user) {
             Ok(insts) => Ok(Decoded { insts }),
             Err(_) => Err(Memory),
         }
     }
 
-    /// The instruction at a place, or the no-op past the end.
-    pub fn at(&self, place: usize) -> Inst
-        ensures what { result ≡ unwrap_or (slice_get self.now place) idle }
+    /// What a stage does; one that is empty or squashed does nothing.
+    pub fn of(&self, stage: Held) -> Inst
+        ensures what { result ≡ live (code_in self.now) stage }
         ensures fits { ShiftFits result }
     {
-        match self.insts.get(place) {
+        match self.insts.get(stage.place()) {
             Some(inst) => *inst,
             None => IDLE,
         }

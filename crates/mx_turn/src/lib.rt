@@ -4,6 +4,7 @@
 mod alu_stage;
 mod counts;
 mod decoded;
+mod held;
 mod latches;
 mod laws;
 mod machine;

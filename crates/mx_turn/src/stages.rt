@@ -8,27 +8,17 @@ ghost use Rattle.mx_pcchain.specs.Modes.{psw_restored};
 ghost use Rattle.mx_turn.specs.Stages.{fetch_of, address_of, squash, saved, stage_of};
 
 use crate::Stage;
+use crate::held::Coming;
 use mx_pcchain::{Chain, Fetched, Psw};
 
-/// The fetch of an address below 2^31.
-pub fn fetch_of(address: u32) -> Fetched
+// The fetch of an address below 2^31.
+fn fetch_of(address: u32) -> Fetched
     requires { address < 2 ^ 31 }
     ensures { result ≡ fetch_of address }
 {
     Fetched {
         address,
         squashed: false,
-    }
-}
-
-/// A stage's address, or 0 where it is empty.
-pub fn address_of(stage: Option<Fetched>) -> u32
-    ensures value { result ≡ address_of stage }
-    ensures code_address { result < 2 ^ 31 }
-{
-    match stage {
-        Some(fetched) => fetched.address,
-        None => 0,
     }
 }
 
@@ -75,28 +65,17 @@ fn shown(fetched: &Fetched) -> Stage
     }
 }
 
-/// The target of a transfer that goes, else the address after the last one.
-pub fn next_of(target: Option<u32>, last: u32) -> u32
-    requires target { IfSome target (λ a. a < 2 ^ 31) }
-    requires last { last < 2 ^ 31 }
-    ensures value { result ≡ next_of target last }
-    ensures code_address { result < 2 ^ 31 }
-{
-    match target {
-        Some(target) => target,
-        None => (last + 1) % (1 << 31),
-    }
-}
-
 /// What the next turn fetches: the first fetch of the chain, or by the decision.
-pub fn led(back: bool, chain: &Chain, target: Option<u32>, last: Fetched) -> Fetched
+pub fn led(back: bool, chain: &Chain, target: Option<u32>, last: &Coming) -> Coming
     requires { IfSome target (λ a. a < 2 ^ 31) }
-    ensures { result ≡ (if back then fetch_from chain.now.pc1 else fetch_of (next_of target last.address)) }
+    ensures { result ≡ (if back then fetch_from chain.now.pc1 else fetch_of (next_of target last.now.address)) }
 {
     if back {
-        Fetched::from_entry(chain.pc1)
-    } else {
-        fetch_of(next_of(target, last.address))
+        return Coming::from_entry(chain.pc1);
+    }
+    match target {
+        Some(target) => Coming::at(target),
+        None => last.following(),
     }
 }
 

@@ -1,5 +1,5 @@
 //! The machine that commits each word as a whole.
-ghost use Rattle.std.specs.Prelude.{◌≡◌, ◌<◌, ◌≤◌, ◌+◌, ◌^◌, ℕ, Bool, not, ◌||◌, length, slice_index, IfOk, Some, None, List, if◌then◌else◌, [], ◌∷◌};
+ghost use Rattle.std.specs.Prelude.{◌≡◌, ◌<◌, IfSome, ◌≤◌, ◌+◌, ◌^◌, ℕ, Bool, not, ◌&&◌, ◌||◌, length, slice_index, IfOk, Some, None, List, if◌then◌else◌, [], ◌∷◌};
 ghost use Rattle.std.specs.Option.{option_copied};
 ghost use Rattle.mx_isa.specs.Words.{Words};
 ghost use Rattle.mx_board.specs.Contents.{bytes_in};
@@ -11,23 +11,22 @@ ghost use Rattle.mx_turn.specs.Stages.{fetch_of, live};
 ghost use Rattle.mx_turn.specs.Handler.{shipped};
 ghost use Rattle.mx_turn.specs.Cycle.{shifted, committed, commit_byte, showing, is_taken, entered, decision, decided, ended, takes, squashes, waited, acted, acted_answer};
 ghost use Rattle.mx_turn.specs.Program.{Program, program_of};
-ghost use Rattle.mx_turn.specs.Kept.{code_of_turns, machine_of, shown_of, looked_of, shown_by, KeepsProgram, StandsFor, Does, Tells, Commits, Shows, Waits, FetchesNext, KnowsMiss, Acts};
+ghost use Rattle.mx_turn.specs.Kept.{code_of_turns, machine_of, shown_of, looked_of, shown_by, aside, KeepsProgram, StandsFor, Does, Tells, Commits, Shows, Waits, FetchesNext, KnowsMiss, Acts};
 
-use crate::alu_stage::decide;
-use crate::decoded::{Decoded, IDLE};
+use crate::alu_stage::{Decided, decide};
+use crate::decoded::Decoded;
+use crate::held::{Coming, Held};
 use crate::mem_stage::commit;
 use crate::registers::{Slot, no_slot, read, sees};
 use crate::shown::{number_of, sources};
-use crate::stages::{
-    address_of, fetch_of, led, next_of, popped, restored, saved, squash, stage_of,
-};
+use crate::stages::{led, popped, restored, saved, squash, stage_of};
 use crate::{Counts, Cycled, Latches, Machine};
 use mx_board::Board;
 use mx_code::Image;
 use mx_icache::FetchCache;
 use mx_io::Memory;
 use mx_isa::{Inst, Reg};
-use mx_pcchain::{Chain, Fetched, Psw};
+use mx_pcchain::{Chain, Psw};
 use std::alloc::Global;
 
 /// The words of the shipped handler, with which a machine begins that is given no other (this project's profile).
@@ -60,9 +59,9 @@ pub const SHIPPED: [u32; 23] = [
 /// What a turn showed before anything was squashed or killed in it: its stages, the mode and the chain.
 #[derive(Clone, Copy)]
 pub struct Looked {
-    fetch: Option<Fetched>,
-    rf: Option<Fetched>,
-    alu: Option<Fetched>,
+    fetch: Held,
+    rf: Held,
+    alu: Held,
     user: bool,
     chain: Chain,
 }
@@ -77,17 +76,16 @@ struct Ended {
 /// The machine that commits one word as a whole, with any cache.
 #[derive(Drop)]
 pub struct Turns<C> {
-    user: Decoded,
-    handler: Decoded,
+    code: Decoded,
     file: [u32; 32],
     md: u32,
     board: Board,
-    next: Fetched,
-    fetch: Option<Fetched>,
-    rf: Option<Fetched>,
-    alu: Option<Fetched>,
-    mem: Option<Fetched>,
-    wb: Option<Fetched>,
+    next: Coming,
+    fetch: Held,
+    rf: Held,
+    alu: Held,
+    mem: Held,
+    wb: Held,
     missed: bool,
     stall: u8,
     latch: bool,
@@ -102,39 +100,12 @@ pub struct Turns<C> {
 }
 
 impl<C: FetchCache> Turns<C> {
-    // What an address of code does.
-    fn at(&self, address: usize) -> Inst
-        ensures what { result ≡ code_of_turns self.now address }
-        ensures fits { ShiftFits result }
-    {
-        if address >= 4096 {
-            self.user.at(address - 4096)
-        } else {
-            self.handler.at(address)
-        }
-    }
-
-    // What a fetch does; a squashed one does nothing.
-    fn word(&self, fetched: &Fetched) -> Inst
-        ensures what { result ≡ live (code_of_turns self.now) (Some fetched.now) }
-        ensures fits { ShiftFits result }
-    {
-        if fetched.squashed {
-            IDLE
-        } else {
-            self.at(fetched.address as usize)
-        }
-    }
-
     // What a stage does; an empty one does nothing.
-    fn live(&self, stage: Option<Fetched>) -> Inst
+    fn live(&self, stage: Held) -> Inst
         ensures what { result ≡ live (code_of_turns self.now) stage }
         ensures fits { ShiftFits result }
     {
-        match stage {
-            Some(fetched) => self.word(&fetched),
-            None => IDLE,
-        }
+        self.code.of(stage)
     }
 
     // The stages move on, and the word that comes into MEM commits.
@@ -147,13 +118,13 @@ impl<C: FetchCache> Turns<C> {
         ensures counts { self.new.counts ≡ self.old.counts }
     {
         let inst = self.live(self.alu);
-        let at = address_of(self.alu);
+        let at = self.alu.address();
         let user = self.psw.current.user;
         self.wb = self.mem;
         self.mem = self.alu;
         self.alu = self.rf;
         self.rf = self.fetch;
-        self.fetch = Some(self.next);
+        self.fetch = self.next.held();
         let committed = commit(
             &inst,
             at,
@@ -176,7 +147,10 @@ impl<C: FetchCache> Turns<C> {
         ensures missed { self.new.missed ≡ self.old.missed }
         ensures counts { self.new.counts ≡ self.old.counts }
     {
-        self.looked = None;
+        // Seldom is there anything to forget, and a test costs less than the write.
+        if self.looked.is_some() {
+            self.looked = None;
+        }
     }
 
     // What the last completed turn showed of the stages, the mode and the chain.
@@ -203,13 +177,13 @@ impl<C: FetchCache> Turns<C> {
         let operands = sources(&inst);
         let a = sees(&self.file, &self.slot, operands.0);
         let b = sees(&self.file, &self.slot, operands.1);
-        let at = address_of(looked.alu);
+        let at = looked.alu.address();
         Latches {
-            fetch: stage_of(looked.fetch),
-            rf: stage_of(looked.rf),
-            alu: stage_of(looked.alu),
-            mem: stage_of(self.mem),
-            wb: stage_of(self.wb),
+            fetch: stage_of(looked.fetch.stage()),
+            rf: stage_of(looked.rf.stage()),
+            alu: stage_of(looked.alu.stage()),
+            mem: stage_of(self.mem.stage()),
+            wb: stage_of(self.wb.stage()),
             a,
             b,
             result: number_of(&inst, at, a, b, self.md, looked.user, &looked.chain),
@@ -225,7 +199,34 @@ impl<C: FetchCache> Turns<C> {
         ensures missed { self.new.missed ≡ self.old.missed }
         ensures counts { self.new.counts ≡ self.old.counts }
     {
-        self.next = fetch_of(next_of(None, self.next.address));
+        self.next = self.next.following();
+    }
+
+    // Whether a transfer leads back to a saved fetch.
+    fn goes_back(&self, decided: &Decided) -> bool
+        ensures { result ≡ (decided.now.pops && not self.now.psw.current.user) }
+    {
+        decided.pops && !self.psw.current.user
+    }
+
+    // A transfer cancels the two words behind it, or pops the chain.
+    // Few do: a call of its own keeps the way of the others short.
+    #[inline(never)]
+    fn turn_aside(&mut self, decided: &Decided, back: bool)
+        requires { IfSome decided.now.target (λ a. a < 2 ^ 31) }
+        ensures state { Does (aside decided.now back) self.old self.new }
+        ensures shown { shown_of self.new ≡ shown_of self.old }
+        ensures program { KeepsProgram self.old self.new }
+        ensures cache { self.new.cache ≡ self.old.cache }
+        ensures missed { self.new.missed ≡ self.old.missed }
+        ensures counts { self.new.counts ≡ self.old.counts }
+    {
+        self.looked = Some(self.look());
+        self.next = led(back, &self.chain, decided.target, &self.next);
+        self.fetch = Held::of(squash(decided.cancels, self.fetch.stage()));
+        self.rf = Held::of(squash(decided.cancels, self.rf.stage()));
+        self.chain = popped(back, self.chain);
+        self.psw = restored(decided.restores && back, self.psw);
     }
 
     // A transfer decides. Answers whether it cancels the two words behind it.
@@ -239,19 +240,14 @@ impl<C: FetchCache> Turns<C> {
         ensures missed { self.new.missed ≡ self.old.missed }
         ensures counts { self.new.counts ≡ self.old.counts }
     {
-        let decided = decide(inst, address_of(self.alu), &self.slot, &self.file);
-        let back = decided.pops && !self.psw.current.user;
+        let decided = decide(inst, self.alu.address(), &self.slot, &self.file);
+        let back = self.goes_back(&decided);
         // Most transfers cancel and pop nothing: for them, too, nothing but the next fetch is written.
         if !either(back, decided.cancels) {
-            self.next = fetch_of(next_of(decided.target, self.next.address));
+            self.next = led(false, &self.chain, decided.target, &self.next);
             return false;
         }
-        self.looked = Some(self.look());
-        self.next = led(back, &self.chain, decided.target, self.next);
-        self.fetch = squash(decided.cancels, self.fetch);
-        self.rf = squash(decided.cancels, self.rf);
-        self.chain = popped(back, self.chain);
-        self.psw = restored(decided.restores && back, self.psw);
+        self.turn_aside(&decided, back);
         decided.cancels
     }
 
@@ -275,6 +271,7 @@ impl<C: FetchCache> Turns<C> {
     }
 
     // The interrupt is taken.
+    #[inline(never)]
     fn enter(&mut self)
         ensures state { Does entered self.old self.new }
         ensures shown { shown_of self.new ≡ shown_of self.old }
@@ -284,14 +281,17 @@ impl<C: FetchCache> Turns<C> {
         ensures counts { self.new.counts ≡ self.old.counts }
     {
         self.looked = Some(self.look());
-        self.chain
-            .enter(saved(self.alu), saved(self.rf), saved(self.fetch));
+        self.chain.enter(
+            saved(self.alu.stage()),
+            saved(self.rf.stage()),
+            saved(self.fetch.stage()),
+        );
         self.psw.enter();
         self.latch = false;
-        self.next = fetch_of(0);
-        self.fetch = None;
-        self.rf = None;
-        self.alu = None;
+        self.next = Coming::at(0);
+        self.fetch = Held::empty();
+        self.rf = Held::empty();
+        self.alu = Held::empty();
     }
 
     // Whether an interrupt is taken in this turn.
@@ -343,7 +343,7 @@ impl<C: FetchCache> Turns<C> {
         ensures program { KeepsProgram self.old self.new }
         ensures counts { self.new.counts ≡ self.old.counts }
     {
-        let hit = self.cache.fetch(self.next.address);
+        let hit = self.cache.fetch(self.next.address());
         self.missed = !hit;
         self.stall = stall_of(hit);
     }
@@ -403,24 +403,22 @@ impl<C: FetchCache> Turns<C> {
         ensures { IfOk result (λ t. StandsFor C.holds t
             (program_of handler.now image.now.code.items image.now.user_data.items (option_copied input.entry)) []) }
     {
-        let user = Decoded::new(alloc, &image.code)?;
-        let handler = Decoded::new(alloc, handler)?;
+        let code = Decoded::new(alloc, handler, &image.code)?;
         let board = Board::new(alloc, &image.user_data, input)?;
-        let next = fetch_of(4096);
+        let next = Coming::at(4096);
         let mut cache = cache;
         let hit = cache.fetch(4096);
         Ok(Turns {
-            user,
-            handler,
+            code,
             file: [0; 32],
             md: 0,
             board,
             next,
-            fetch: None,
-            rf: None,
-            alu: None,
-            mem: None,
-            wb: None,
+            fetch: Held::empty(),
+            rf: Held::empty(),
+            alu: Held::empty(),
+            mem: Held::empty(),
+            wb: Held::empty(),
             missed: !hit,
             stall: stall_of(hit),
             latch: false,

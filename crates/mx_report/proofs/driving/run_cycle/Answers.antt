@@ -1,9 +1,9 @@
 use Rattle.std.proofs.Common.{◌≡◌, ℕ, suc, ◌++◌, ◌∷◌, [], List, Bool, cond, sym, ap, ◌∙◌, subst}
-use Rattle.std.specs.Prelude.{min, nat_lt}
+use Rattle.std.specs.Prelude.{nat_lt}
 use Rattle.std.specs.Option.{option_to_list}
 use Rattle.mx_turn.specs.declared.Cycled.{Cycled}
 use Rattle.mx_turn.specs.declared.Latches.{Latches}
-use Rattle.mx_turn.specs.Program.{Program, answer_after}
+use Rattle.mx_turn.specs.Program.{answer_after}
 use Rattle.mx_turn.specs.Run.{bits}
 use Rattle.mx_report.specs.Trace.{trace_line}
 use Rattle.mx_report.proofs.Runs.{cycled_at, state_at, next_console, next_halted, next_trace}

@@ -1,4 +1,4 @@
-use Rattle.std.proofs.Common.{◌≡◌, ◌≤◌, ◌<◌, suc, List, Bool, true, arith, sym, ap, ◌∙◌}
+use Rattle.std.proofs.Common.{◌≡◌, ◌≤◌, suc, true, arith, sym, ap, ◌∙◌}
 use Rattle.mx_turn.specs.Cycle.{Machine}
 use Rattle.mx_turn.specs.Run.{bits}
 use Rattle.mx_report.proofs.Runs.{state_at, state_still, console_still, trace_within}

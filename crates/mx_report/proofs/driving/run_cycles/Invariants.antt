@@ -1,4 +1,4 @@
-use Rattle.std.proofs.Common.{◌≡◌, ◌≤◌, List, Bool, [], false}
+use Rattle.std.proofs.Common.{◌≡◌, ◌≤◌, [], false}
 use Rattle.std.specs.Prelude.{min}
 use Rattle.mx_turn.specs.Program.{Program, state_after}
 use Rattle.mx_turn.specs.Run.{bits, console_after}

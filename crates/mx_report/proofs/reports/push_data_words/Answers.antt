@@ -1,4 +1,4 @@
-use Rattle.std.proofs.Common.{◌≡◌, ◌<◌, ◌+◌, ◌-◌, ◌++◌, ℕ, List, [], ap, sym, ◌∙◌, append_assoc, append-nil, arith}
+use Rattle.std.proofs.Common.{◌≡◌, ◌+◌, ◌-◌, ◌++◌, ℕ, List, [], ap, sym, ◌∙◌, append_assoc, append-nil, arith}
 use Rattle.mx_text.specs.Text.{lines_from, word_line}
 use Rattle.mx_text.proofs.Lines.{next_line, no_lines}
 use Rattle.mx_turn.specs.Program.{state_after}

@@ -1,4 +1,4 @@
-use Rattle.std.proofs.Common.{◌≡◌, ◌<◌, ◌+◌, ◌-◌, ◌++◌, ℕ, List, [], ap, sym, ◌∙◌, append_assoc, append-nil, arith}
+use Rattle.std.proofs.Common.{◌≡◌, ◌+◌, ◌-◌, ◌++◌, ℕ, List, [], ap, sym, ◌∙◌, append_assoc, append-nil, arith}
 use Rattle.mx_isa.specs.Words.{reg}
 use Rattle.mx_text.specs.Text.{word_text, register_line, lines_from}
 use Rattle.mx_text.proofs.Lines.{next_line, no_lines}

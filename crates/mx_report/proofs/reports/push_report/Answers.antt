@@ -1,4 +1,4 @@
-use Rattle.std.proofs.Common.{◌≡◌, ◌++◌, List, ℕ, ap, ◌∙◌, append_assoc}
+use Rattle.std.proofs.Common.{◌++◌, List, ℕ, ap, ◌∙◌, append_assoc}
 use Rattle.mx_turn.specs.Program.{state_after}
 use Rattle.mx_report.specs.Report.{last_text, head_text, report_text}
 use Rattle.mx_report.proofs.reports.push_report.Goals as goal

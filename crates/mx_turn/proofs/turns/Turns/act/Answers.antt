@@ -6,9 +6,8 @@ use Rattle.mx_icache.specs.Residency.{resident}
 use Rattle.mx_turn.specs.declared.latches.Latches.{Latches}
 use Rattle.mx_turn.specs.declared.turns.Turns.{Turns}
 use Rattle.mx_turn.specs.Counted.{after_turn}
-use Rattle.mx_turn.specs.Decoded.{code_at}
+use Rattle.mx_turn.specs.Decoded.{code_in}
 use Rattle.mx_turn.specs.Cycle.{Machine, showing, reached, ended, takes, squashes, waited, acted}
-use Rattle.mx_turn.specs.Program.{code_with}
 use Rattle.mx_turn.specs.Kept.{code_of_turns, machine_of, shown_of}
 use Rattle.mx_turn.proofs.Steps.{acted_is}
 use Rattle.mx_turn.proofs.turns.Turns.act.Goals as goal
@@ -44,10 +43,10 @@ module _ (g : given.Over) (c : After-wait g) (past : List ℕ) (before : Words) 
   before' = slice_index s0.file
 
   same1 : code_of_turns s1 ≡ code
-  same1 = λ k. code_with (code_at 0 (c.commit-byte.ensures.program.handler k)) (code_at 4096 (c.commit-byte.ensures.program.user k))
+  same1 = ap code_in c.commit-byte.ensures.program.code
 
   same2 : code_of_turns s2 ≡ code
-  same2 = (λ k. code_with (code_at 0 (c.show.ensures.program.handler k)) (code_at 4096 (c.show.ensures.program.user k))) ∙ same1
+  same2 = ap code_in c.show.ensures.program.code ∙ same1
 
   -- the machine once the stages of the turn are shown
   abbrev reaches : Machine

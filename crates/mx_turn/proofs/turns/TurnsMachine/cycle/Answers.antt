@@ -11,14 +11,14 @@ use Rattle.mx_turn.proofs.turns.TurnsMachine.cycle.Goals as goal
 pub returns-then-self-clause-next : goal.returns-then-self-clause-next
 returns-then-self-clause-next g c = λ p h s.
     let self = c.args.self.now in
-    stands_on g.C.FetchCache.holds self p h s c.args.request self s.past s.before s.cache s.missed (record { user = refl; handler = refl; input = refl })
+    stands_on g.C.FetchCache.holds self p h s c.args.request self s.past s.before s.cache s.missed (record { code = refl; input = refl })
     (cycled_halted resident (code_of_turns self) self.board.input (machine_of self s.past s.before (shown_of self)) c.args.request c.if-self.true)
 
 pub returns-then-self-gt0-clause-next : goal.returns-then-self-gt0-clause-next
 returns-then-self-gt0-clause-next g c = λ p h s.
     let self = c.args.self.now in
     let m : Machine = machine_of self s.past s.before (shown_of self) in
-    stands_on g.C.FetchCache.holds self p h s c.args.request _ s.past s.before s.cache s.missed (record { user = refl; handler = refl; input = refl })
+    stands_on g.C.FetchCache.holds self p h s c.args.request _ s.past s.before s.cache s.missed (record { code = refl; input = refl })
     ((λ k. record m { latch = c.either-self.ensures k; stall = m.stall - 1; counts = c.stalled.ensures k })
     ∙ cycled_stalled resident (code_of_turns self) self.board.input m c.args.request c.if-self.false (ne_eqb _ 0 (λ e. absurd (omega (arith, e, c.if-self-gt0.true)))))
 
@@ -38,7 +38,7 @@ returns-clause-next g c = λ p h s.
     stands_on g.C.FetchCache.holds self p h s c.args.request c.act.new.self (self.next.address ∷ s.past) (slice_index self.file)
     (c.act.ensures.cache (self.next.address ∷ s.past) s.cache)
     (c.act.ensures.missed (self.next.address ∷ s.past) s.cache)
-    (record { user = c.act.ensures.program.user; handler = c.act.ensures.program.handler; input = c.act.ensures.program.input })
+    (record { code = c.act.ensures.program.code; input = c.act.ensures.program.input })
     (c.act.ensures.state s.past s.before (shown_of self) s.cache s.missed
     ∙ (λ k. let l : Machine = record m { latch = c.either-self.ensures k } in acted resident (code_of_turns self) self.board.input l)
     ∙ cycled_acted resident (code_of_turns self) self.board.input m c.args.request c.if-self.false (eq-eqb _ 0 (omega (arith, c.if-self-gt0.false))))
