@@ -98,12 +98,15 @@ module _ (layout_of : Layouts) (asked : Option Command) (held : Held) (a : Accep
       let found = layout_exists source board (faultless_source 256 65536 a.text (omega arith) (omega arith) (omega arith) a.faultless) in
       subst (λ (s : List Site). IsLayout IsGreedy source board s) (sym (is source found.0 found.1)) found.1
 
+  -- where the answer was delivered, the run does what its source means
+  pub delivered_means : IsScheduler layout_of → (result : Status) (tells : Bool) (before after : Option (List ℕ)) (held' : Held)
+      → Delivered (resolved (protocol_of layout_of asked) held) result tells before after held held'
+      → RunsAsMeant layout_of asked held a result before after
+  delivered_means is result tells before after held' d = runs_as_meant result tells before after held'
+      (text_means a.text sites a.requests a.input a.limits.budget a.faultless (layout_is is) a.reach)
+      (subst (λ (x : Answer). Delivered x result tells before after held held') answer_is d)
+
   pub meant_or_memory : IsScheduler layout_of → (result : Status) (tells : Bool) (before after : Option (List ℕ)) (held' : Held)
       → (result ≡ Memory) ⊎ Delivered (resolved (protocol_of layout_of asked) held) result tells before after held held'
       → (result ≡ Memory) ⊎ RunsAsMeant layout_of asked held a result before after
-  meant_or_memory is result tells before after held' c = ⊎_elim
-      (λ m. inl m)
-      (λ d. inr (runs_as_meant result tells before after held'
-      (text_means a.text sites a.requests a.input a.limits.budget a.faultless (layout_is is) a.reach)
-      (subst (λ (x : Answer). Delivered x result tells before after held held') answer_is d)))
-      c
+  meant_or_memory is result tells before after held' c = ⊎_elim (λ m. inl m) (λ d. inr (delivered_means is result tells before after held' d)) c

@@ -42,6 +42,11 @@ pub fn command<S: Shelf, W: Sink>(
     ensures sound { (layout_of : Layouts) → IsScheduler layout_of → S.tells shelf.old ≡ true → result ≢ Status.ReadFault → result ≢ Status.WriteFault → result ≢ Status.Memory
         → Delivered (resolved (protocol_of layout_of (command_of (map string_bytes words.now))) (S.held shelf.old)) result (S.tells shelf.old) (W.written out.old) (W.written out.new) (S.held shelf.old) (S.held shelf.new) }
 
+    // So is that of the run of an accepted source, which does what the source means.
+    ensures means_its_source { (layout_of : Layouts) → IsScheduler layout_of → S.tells shelf.old ≡ true → result ≢ Status.ReadFault → result ≢ Status.WriteFault → result ≢ Status.Memory
+        → (accepted : Accepted layout_of (command_of (map string_bytes words.now)) (S.held shelf.old))
+        → RunsAsMeant layout_of (command_of (map string_bytes words.now)) (S.held shelf.old) accepted result (W.written out.old) (W.written out.new) }
+
     // Whatever the shelf tells, such a status is that of an answer which the words ask for, by files that
     // were read.
     ensures performed { (layout_of : Layouts) → IsScheduler layout_of → result ≢ Status.ReadFault → result ≢ Status.WriteFault → result ≢ Status.Memory

@@ -11,7 +11,7 @@ use Rattle.mx_command.specs.Protocols.{protocol_of}
 use Rattle.mx_answer.proofs.Commands.{status_cases}
 use Rattle.mx_command.proofs.Own.{own_answers, replied_status, replied_asks}
 use Rattle.mx_command.proofs.Ended.{ended}
-use Rattle.mx_command.proofs.Headline.{meant_or_memory}
+use Rattle.mx_command.proofs.Headline.{delivered_means, meant_or_memory}
 use Rattle.mx_command.proofs.top.command.Goals as goal
 
 usage_is_no_write_fault : (s : Status) → s ≡ Usage → s ≢ WriteFault
@@ -73,6 +73,12 @@ returns-clause-sound g c = λ layout_of is.
     (own_answers layout_of asked) (c.in-Ok.ensures.performed layout_of is) c.in-Ok.ensures.tells_stay c.in-Ok.ensures.held_stays c.in-Ok.ensures.writes_stay same
     c.finish.ensures.delivered c.finish.ensures.write_fault c.finish.ensures.prefix c.finish.ensures.memory c.finish.ensures.kept in
     whole.sound
+
+pub returns-clause-means_its_source : goal.returns-clause-means_its_source
+returns-clause-means_its_source g c = λ layout_of is tells r w m accepted.
+    delivered_means layout_of (command_of (map string_bytes c.args.words.now)) (g.S.Shelf.held c.args.shelf.now) accepted is c.finish.result (g.S.Shelf.tells c.args.shelf.now)
+    (g.W.Sink.written c.args.out.now) (g.W.Sink.written c.finish.new.out) (g.S.Shelf.held c.finish.new.shelf)
+    (returns-clause-sound g c layout_of is tells r w m)
 
 pub returns-clause-read_fault : goal.returns-clause-read_fault
 returns-clause-read_fault g c = λ layout_of is.
