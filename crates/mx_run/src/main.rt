@@ -1,14 +1,7 @@
-//! Runs assembler texts.
+//! Runs the command that the words of its command line ask for, on the system's files and its standard output.
 #![tactic(auto)]
 
-mod command;
-mod files;
-mod images;
-mod reply;
-mod sourced;
-mod sources;
-
-use command::command;
+use mx_command::command;
 use mx_io::{RealShelf, RealSink};
 use std::env;
 use std::io::ErrorKind;

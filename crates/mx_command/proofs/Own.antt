@@ -1,0 +1,166 @@
+-- Each command answers with a status of its own, and only an answer that is done writes a file.
+use Rattle.std.proofs.Common.{◌≡◌, ℕ, List, Bool, true, false, cond, Option, Some, None, Result, Ok, Err, inl, inr, refl, sym, ap, ◌∙◌, subst}
+use Rattle.std.specs.Prelude.{is_some}
+use Rattle.mx_board.specs.declared.EventError.{EventError}
+use Rattle.mx_board.specs.RequestFile.{requests_of}
+use Rattle.mx_image.specs.declared.ImageError.{ImageError}
+use Rattle.mx_image.specs.Files.{file_refusal, file_in, file_bytes}
+use Rattle.mx_turn.specs.Handler.{shipped}
+use Rattle.mx_turn.specs.Program.{Program, program_of}
+use Rattle.mx_answer.specs.declared.FileKind.{FileKind}
+use Rattle.mx_answer.specs.declared.Status.{Status}
+use Rattle.mx_answer.specs.declared.Status.TheVariants.{Halted, Done, Refused, Usage, OutOfBudget, ReadFault, WriteFault, Memory, BadImage, BadEvents, Stuck}
+use Rattle.mx_answer.specs.Answer.{Answer, prints, writes, is_own}
+use Rattle.mx_answer.specs.Delivery.{HasStatus}
+use Rattle.mx_answer.specs.Protocol.{Protocol, Answers, Reads, Told, Counts, IsFault, Performed, HasOwnAnswers}
+use Rattle.mx_asm.specs.declared.Fault.{Fault}
+use Rattle.mx_asm.specs.Texts.{source_of, text_fault}
+use Rattle.mx_isa.specs.declared.Place.{Place}
+use Rattle.mx_source.specs.SourceValue.{SourceValue}
+use Rattle.mx_source.specs.Meaning.{Mark}
+use Rattle.mx_source.specs.Meaning as meant
+use Rattle.mx_layout.specs.Overlong.{Overlong}
+use Rattle.mx_link.specs.Origins.{from_target}
+use Rattle.mx_link.specs.Linked.{linked_code, linked_data}
+use Rattle.mx_listing.specs.Listing.{layout_listing}
+use Rattle.mx_meaning.specs.Boards.{board}
+use Rattle.mx_meaning.specs.Told.{status_of, meaning_answer}
+use Rattle.mx_simulate.specs.declared.Limits.{Limits}
+use Rattle.mx_simulate.specs.Simulated.{program_answer}
+use Rattle.mx_simulate.specs.Machines.{Files, given, by_requests, requests_protocol, input_protocol, machine_protocol}
+use Rattle.mx_asked.specs.declared.Command.{Command as GivenCommand}
+use Rattle.mx_asked.specs.Seen.{seen_command}
+use Rattle.mx_asked.specs.Commands.{Command, Run, Meaning, Build, Exec, Listing, Gen, Soak, Migrate}
+use Rattle.mx_command.specs.Protocols.{unless_faulty, unless_overlong, unless_refused, migrated, Layouts, Linking, linked_protocol, run_protocol, build_protocol, linked_contents, list_protocol, protocol_of}
+use Rattle.mx_command.specs.Replied.{is_answered, IsReplied}
+
+-- the answer to what was asked
+pub record IsAnswer (answer : Answer) : Type 0 where
+  pub answered : is_answered answer.status ≡ true
+  pub done : is_some answer.file ≡ true → answer.status ≡ Done
+
+abbrev pub HasAnswers : Protocol → Type 0
+HasAnswers (Answers answer) = IsAnswer answer
+HasAnswers (Reads kind name next) = (bytes : List ℕ) → HasAnswers (next bytes)
+
+printed_answer : (status : Status) (output : List ℕ) → is_answered status ≡ true → IsAnswer (prints status output)
+printed_answer status output is = record { answered = is; done = λ h. absurd (cc) }
+
+written_answer : (name bytes : List ℕ) → IsAnswer (writes name bytes)
+written_answer name bytes = record { answered = refl; done = λ h. refl }
+
+answered_ending : (halted : Bool) → is_answered (cond halted Halted OutOfBudget) ≡ true
+answered_ending true = refl
+answered_ending false = refl
+
+answers_program : (p : Program) (code requests : List ℕ) (limits : Limits) → IsAnswer (program_answer p code requests limits)
+unfolding program_answer
+answers_program p code requests limits = printed_answer _ _ (answered_ending _)
+
+answers_by_requests : (read : Result (List ℕ) EventError) (next : List ℕ → Protocol) → ((requests : List ℕ) → HasAnswers (next requests)) → HasAnswers (by_requests read next)
+answers_by_requests (Ok requests) next has = has requests
+answers_by_requests (Err fault) next has = printed_answer _ _ refl
+
+answers_requests : (name : Option (List ℕ)) (next : List ℕ → Protocol) → ((requests : List ℕ) → HasAnswers (next requests)) → HasAnswers (requests_protocol name next)
+answers_requests None next has = has _
+answers_requests (Some name) next has = λ bytes. answers_by_requests (requests_of bytes) next has
+
+answers_input : (name : Option (List ℕ)) (next : List ℕ → Protocol) → ((bytes : List ℕ) → HasAnswers (next bytes)) → HasAnswers (input_protocol name next)
+answers_input None next has = has _
+answers_input (Some name) next has = has
+
+pub answers_machine : (files : Files) (limits : Limits) (code user_data : List ℕ) (asks : Bool) → HasAnswers (machine_protocol files limits code user_data asks)
+answers_machine files limits code user_data asks =
+    answers_requests files.interrupts _ (λ requests. answers_input files.input _ (λ bytes. answers_program (program_of shipped code user_data (given asks bytes)) code requests limits))
+
+answered_mark : (m : Mark) → is_answered (status_of m) ≡ true
+answered_mark meant.Going = refl
+answered_mark meant.Halted = refl
+answered_mark (meant.Stuck why) = refl
+
+answers_meaning : (source : SourceValue) (place : Place) (input : List ℕ) (n : ℕ) → IsAnswer (meaning_answer source place input n)
+unfolding meaning_answer
+answers_meaning source place input n = printed_answer _ _ (answered_mark _)
+
+answers_faulty : (found : Option (ℕ × Fault)) (next : Protocol) → HasAnswers next → HasAnswers (unless_faulty found next)
+answers_faulty (Some found) next has = printed_answer _ _ refl
+answers_faulty None next has = has
+
+answers_overlong : (found : Option Overlong) (next : Protocol) → HasAnswers next → HasAnswers (unless_overlong found next)
+answers_overlong (Some found) next has = printed_answer _ _ refl
+answers_overlong None next has = has
+
+answers_linked : (layout_of : Layouts) (next : Linking) → ((source : SourceValue) → HasAnswers (next source (layout_of source))) → (text : List ℕ) → HasAnswers (linked_protocol layout_of next text)
+answers_linked layout_of next has text = answers_faulty (text_fault 256 65536 text) _ (answers_overlong _ _ (has (source_of 256 text)))
+
+answers_refused : (refusal : Option ImageError) (next : Protocol) → HasAnswers next → HasAnswers (unless_refused refusal next)
+answers_refused (Some error) next has = printed_answer _ _ refl
+answers_refused None next has = has
+
+answers_migrated : (target bytes : List ℕ) (refusal : Option ImageError) → IsAnswer (migrated target bytes refusal)
+answers_migrated target bytes (Some error) = printed_answer _ _ refl
+answers_migrated target bytes None = written_answer target _
+
+pub has_answers : (layout_of : Layouts) (asked : Command) → HasAnswers (protocol_of layout_of (Some asked))
+has_answers layout_of (Run source files limits) =
+    answers_linked layout_of (run_protocol files limits)
+    (λ read. answers_machine files limits (linked_code from_target read board (layout_of read)) (linked_data read board (layout_of read)) (is_some read.input))
+has_answers layout_of (Meaning source steps input) = λ text. answers_faulty (text_fault 256 65536 text) _ (answers_input input _ (λ bytes. answers_meaning (source_of 256 text) board bytes steps))
+has_answers layout_of (Build source target) = answers_linked layout_of (build_protocol target) (λ read. written_answer target (file_bytes (linked_contents read (layout_of read))))
+has_answers layout_of (Exec image files limits) = λ bytes. answers_refused (file_refusal bytes) _ (answers_machine files limits (file_in bytes).code (file_in bytes).user_data (file_in bytes).input)
+has_answers layout_of (Listing source) = answers_linked layout_of list_protocol (λ read. printed_answer Done (layout_listing read board (layout_of read)) refl)
+has_answers layout_of (Gen seed count) = printed_answer _ _ refl
+has_answers layout_of (Soak seed count) = printed_answer _ _ refl
+has_answers layout_of (Migrate image target) = λ bytes. answers_migrated target bytes (file_refusal bytes)
+
+own_status : (status : Status) → is_answered status ≡ true → is_own status ≡ true
+own_status Halted is = refl
+own_status Done is = refl
+own_status Refused is = refl
+own_status Usage is = absurd (cc)
+own_status OutOfBudget is = refl
+own_status ReadFault is = absurd (cc)
+own_status WriteFault is = absurd (cc)
+own_status Memory is = absurd (cc)
+own_status BadImage is = refl
+own_status BadEvents is = refl
+own_status Stuck is = refl
+
+own_protocol : (p : Protocol) → HasAnswers p → HasOwnAnswers p
+own_protocol (Answers answer) has = record { status = own_status answer.status has.answered; done = has.done }
+own_protocol (Reads kind name next) has = λ bytes. own_protocol (next bytes) (has bytes)
+
+pub own_answers : (layout_of : Layouts) (asked : Option Command) → HasOwnAnswers (protocol_of layout_of asked)
+own_answers layout_of None = record { status = refl; done = λ h. absurd (cc) }
+own_answers layout_of (Some asked) = own_protocol (protocol_of layout_of (Some asked)) (has_answers layout_of asked)
+
+pub fault_is_replied : (shelf : Told) (kind : FileKind) (name : List ℕ) (before after : Counts) (answer : Answer) → IsFault shelf kind name before after answer → IsReplied answer
+fault_is_replied shelf kind name before after answer (inl (is, why)) = inr (ap (λ a. a.status) is)
+fault_is_replied shelf kind name before after answer (inr (is, why)) = inr (ap (λ a. a.status) is)
+
+pub performed_is_replied : (shelf : Told) (p : Protocol) (before after : Counts) (answer : Answer) → HasAnswers p → Performed shelf p before after answer → IsReplied answer
+performed_is_replied shelf (Answers given) before after answer has (same, is) = inl (ap (λ a. is_answered a.status) is ∙ has.answered)
+performed_is_replied shelf (Reads kind name next) before after answer has (between, read, inl (same, faulty)) = fault_is_replied shelf kind name before between answer faulty
+performed_is_replied shelf (Reads kind name next) before after answer has (between, read, inr (bytes, found, rest)) = performed_is_replied shelf (next bytes) between after answer (has bytes) rest
+
+-- a reply has a status that can be put out
+pub replied_status : (answer : Answer) → IsReplied answer → HasStatus answer
+replied_status answer (inl is) = inl (own_status answer.status is)
+replied_status answer (inr is) = inr is
+
+-- and its status is not that of words that ask for nothing
+pub replied_asks : (answer : Answer) → IsReplied answer → answer.status ≡ Usage → ⊥
+replied_asks answer (inl is) e = let bad : true ≡ false = sym is ∙ ap is_answered e in absurd (cc)
+replied_asks answer (inr is) e = let bad : ReadFault ≡ Usage = sym is ∙ e in absurd (cc)
+
+-- what a command performs is what its value asks for
+pub by_command : (layout_of : Layouts) (shelf : Told) (before after : Counts) (answer : Answer) (asked meant : GivenCommand) → asked ≡ meant
+    → Performed shelf (protocol_of layout_of (Some (seen_command meant))) before after answer → Performed shelf (protocol_of layout_of (Some (seen_command asked))) before after answer
+by_command layout_of shelf before after answer asked meant is performed =
+    subst (λ (c : GivenCommand). Performed shelf (protocol_of layout_of (Some (seen_command c))) before after answer) (sym is) performed
+
+-- a reply to a command, whatever the layouts are
+pub command_is_replied : (layout_of : Layouts) (shelf : Told) (before after : Counts) (answer : Answer) (meant : GivenCommand)
+    → Performed shelf (protocol_of layout_of (Some (seen_command meant))) before after answer → IsReplied answer
+command_is_replied layout_of shelf before after answer meant performed =
+    performed_is_replied shelf (protocol_of layout_of (Some (seen_command meant))) before after answer (has_answers layout_of (seen_command meant)) performed

@@ -1,0 +1,73 @@
+use Rattle.std.proofs.Common.{[]}
+use Rattle.mx_asked.specs.declared.Command.TheVariants as given
+use Rattle.mx_answer.specs.Protocol.{Told, Counts}
+use Rattle.mx_answer.specs.Replies.{reply_answer}
+use Rattle.mx_command.specs.Protocols.{Layouts}
+use Rattle.mx_command.proofs.Own.{by_command, command_is_replied}
+use Rattle.mx_command.proofs.reply.command_reply.Goals as goal
+
+pub returns-in_ok-reply-in-Run-clause-performed : goal.returns-in_ok-reply-in-Run-clause-performed
+returns-in_ok-reply-in-Run-clause-performed g c = λ layout_of is.
+    let told : Told = record { tells = g.S.Shelf.tells c.args.shelf.now; held = g.S.Shelf.held c.args.shelf.now } in
+    let before : Counts = record { reads = g.S.Shelf.reads c.args.shelf.now; taken = g.S.Shelf.taken c.args.shelf.now; faults = g.S.Shelf.read_faults c.args.shelf.now } in
+    let after : Counts = record { reads = g.S.Shelf.reads c.run_reply.new.shelf; taken = g.S.Shelf.taken c.run_reply.new.shelf; faults = g.S.Shelf.read_faults c.run_reply.new.shelf } in
+    by_command layout_of told before after (reply_answer c.in_ok-reply-in-Run.reply) c.args.asked.now (given.Run c.in-Run.source c.in-Run.files c.in-Run.limits) c.in-Run.is (c.in_ok-reply-in-Run.ensures.performed layout_of is)
+
+pub returns-in_ok-reply-in-Meaning-clause-performed : goal.returns-in_ok-reply-in-Meaning-clause-performed
+returns-in_ok-reply-in-Meaning-clause-performed g c = λ layout_of is.
+    let told : Told = record { tells = g.S.Shelf.tells c.args.shelf.now; held = g.S.Shelf.held c.args.shelf.now } in
+    let before : Counts = record { reads = g.S.Shelf.reads c.args.shelf.now; taken = g.S.Shelf.taken c.args.shelf.now; faults = g.S.Shelf.read_faults c.args.shelf.now } in
+    let after : Counts = record { reads = g.S.Shelf.reads c.told_reply.new.shelf; taken = g.S.Shelf.taken c.told_reply.new.shelf; faults = g.S.Shelf.read_faults c.told_reply.new.shelf } in
+    by_command layout_of told before after (reply_answer c.in_ok-reply-in-Meaning.reply) c.args.asked.now (given.Meaning c.in-Meaning.source c.in-Meaning.steps c.in-Meaning.input) c.in-Meaning.is c.in_ok-reply-in-Meaning.ensures.performed
+
+pub returns-in_ok-reply-in-Meaning-clause-replied : goal.returns-in_ok-reply-in-Meaning-clause-replied
+returns-in_ok-reply-in-Meaning-clause-replied g c =
+    let told : Told = record { tells = g.S.Shelf.tells c.args.shelf.now; held = g.S.Shelf.held c.args.shelf.now } in
+    let before : Counts = record { reads = g.S.Shelf.reads c.args.shelf.now; taken = g.S.Shelf.taken c.args.shelf.now; faults = g.S.Shelf.read_faults c.args.shelf.now } in
+    let after : Counts = record { reads = g.S.Shelf.reads c.told_reply.new.shelf; taken = g.S.Shelf.taken c.told_reply.new.shelf; faults = g.S.Shelf.read_faults c.told_reply.new.shelf } in
+    let layout_of : Layouts = λ source. [] in
+    command_is_replied layout_of told before after (reply_answer c.in_ok-reply-in-Meaning.reply) (given.Meaning c.in-Meaning.source c.in-Meaning.steps c.in-Meaning.input) c.in_ok-reply-in-Meaning.ensures.performed
+
+pub returns-in_ok-reply-in-Build-clause-performed : goal.returns-in_ok-reply-in-Build-clause-performed
+returns-in_ok-reply-in-Build-clause-performed g c = λ layout_of is.
+    let told : Told = record { tells = g.S.Shelf.tells c.args.shelf.now; held = g.S.Shelf.held c.args.shelf.now } in
+    let before : Counts = record { reads = g.S.Shelf.reads c.args.shelf.now; taken = g.S.Shelf.taken c.args.shelf.now; faults = g.S.Shelf.read_faults c.args.shelf.now } in
+    let after : Counts = record { reads = g.S.Shelf.reads c.build_reply.new.shelf; taken = g.S.Shelf.taken c.build_reply.new.shelf; faults = g.S.Shelf.read_faults c.build_reply.new.shelf } in
+    by_command layout_of told before after (reply_answer c.in_ok-reply-in-Build.reply) c.args.asked.now (given.Build c.in-Build.source c.in-Build.target) c.in-Build.is (c.in_ok-reply-in-Build.ensures.performed layout_of is)
+
+pub returns-in_ok-reply-in-Exec-clause-performed : goal.returns-in_ok-reply-in-Exec-clause-performed
+returns-in_ok-reply-in-Exec-clause-performed g c = λ layout_of is.
+    let told : Told = record { tells = g.S.Shelf.tells c.args.shelf.now; held = g.S.Shelf.held c.args.shelf.now } in
+    let before : Counts = record { reads = g.S.Shelf.reads c.args.shelf.now; taken = g.S.Shelf.taken c.args.shelf.now; faults = g.S.Shelf.read_faults c.args.shelf.now } in
+    let after : Counts = record { reads = g.S.Shelf.reads c.exec_reply.new.shelf; taken = g.S.Shelf.taken c.exec_reply.new.shelf; faults = g.S.Shelf.read_faults c.exec_reply.new.shelf } in
+    by_command layout_of told before after (reply_answer c.in_ok-reply-in-Exec.reply) c.args.asked.now (given.Exec c.in-Exec.image c.in-Exec.files c.in-Exec.limits) c.in-Exec.is c.in_ok-reply-in-Exec.ensures.performed
+
+pub returns-in_ok-reply-in-Exec-clause-replied : goal.returns-in_ok-reply-in-Exec-clause-replied
+returns-in_ok-reply-in-Exec-clause-replied g c =
+    let told : Told = record { tells = g.S.Shelf.tells c.args.shelf.now; held = g.S.Shelf.held c.args.shelf.now } in
+    let before : Counts = record { reads = g.S.Shelf.reads c.args.shelf.now; taken = g.S.Shelf.taken c.args.shelf.now; faults = g.S.Shelf.read_faults c.args.shelf.now } in
+    let after : Counts = record { reads = g.S.Shelf.reads c.exec_reply.new.shelf; taken = g.S.Shelf.taken c.exec_reply.new.shelf; faults = g.S.Shelf.read_faults c.exec_reply.new.shelf } in
+    let layout_of : Layouts = λ source. [] in
+    command_is_replied layout_of told before after (reply_answer c.in_ok-reply-in-Exec.reply) (given.Exec c.in-Exec.image c.in-Exec.files c.in-Exec.limits) c.in_ok-reply-in-Exec.ensures.performed
+
+pub returns-in_ok-reply-in-Listing-clause-performed : goal.returns-in_ok-reply-in-Listing-clause-performed
+returns-in_ok-reply-in-Listing-clause-performed g c = λ layout_of is.
+    let told : Told = record { tells = g.S.Shelf.tells c.args.shelf.now; held = g.S.Shelf.held c.args.shelf.now } in
+    let before : Counts = record { reads = g.S.Shelf.reads c.args.shelf.now; taken = g.S.Shelf.taken c.args.shelf.now; faults = g.S.Shelf.read_faults c.args.shelf.now } in
+    let after : Counts = record { reads = g.S.Shelf.reads c.list_reply.new.shelf; taken = g.S.Shelf.taken c.list_reply.new.shelf; faults = g.S.Shelf.read_faults c.list_reply.new.shelf } in
+    by_command layout_of told before after (reply_answer c.in_ok-reply-in-Listing.reply) c.args.asked.now (given.Listing c.in-Listing.source) c.in-Listing.is (c.in_ok-reply-in-Listing.ensures.performed layout_of is)
+
+pub returns-in_ok-reply-in-Migrate-clause-performed : goal.returns-in_ok-reply-in-Migrate-clause-performed
+returns-in_ok-reply-in-Migrate-clause-performed g c = λ layout_of is.
+    let told : Told = record { tells = g.S.Shelf.tells c.args.shelf.now; held = g.S.Shelf.held c.args.shelf.now } in
+    let before : Counts = record { reads = g.S.Shelf.reads c.args.shelf.now; taken = g.S.Shelf.taken c.args.shelf.now; faults = g.S.Shelf.read_faults c.args.shelf.now } in
+    let after : Counts = record { reads = g.S.Shelf.reads c.migrate_reply.new.shelf; taken = g.S.Shelf.taken c.migrate_reply.new.shelf; faults = g.S.Shelf.read_faults c.migrate_reply.new.shelf } in
+    by_command layout_of told before after (reply_answer c.in_ok-reply-in-Migrate.reply) c.args.asked.now (given.Migrate c.in-Migrate.image c.in-Migrate.target) c.in-Migrate.is c.in_ok-reply-in-Migrate.ensures.performed
+
+pub returns-in_ok-reply-in-Migrate-clause-replied : goal.returns-in_ok-reply-in-Migrate-clause-replied
+returns-in_ok-reply-in-Migrate-clause-replied g c =
+    let told : Told = record { tells = g.S.Shelf.tells c.args.shelf.now; held = g.S.Shelf.held c.args.shelf.now } in
+    let before : Counts = record { reads = g.S.Shelf.reads c.args.shelf.now; taken = g.S.Shelf.taken c.args.shelf.now; faults = g.S.Shelf.read_faults c.args.shelf.now } in
+    let after : Counts = record { reads = g.S.Shelf.reads c.migrate_reply.new.shelf; taken = g.S.Shelf.taken c.migrate_reply.new.shelf; faults = g.S.Shelf.read_faults c.migrate_reply.new.shelf } in
+    let layout_of : Layouts = λ source. [] in
+    command_is_replied layout_of told before after (reply_answer c.in_ok-reply-in-Migrate.reply) (given.Migrate c.in-Migrate.image c.in-Migrate.target) c.in_ok-reply-in-Migrate.ensures.performed

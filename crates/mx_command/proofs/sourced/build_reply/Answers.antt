@@ -1,0 +1,45 @@
+use Rattle.std.proofs.Common.{◌≡◌, IfOk, IfErr, refl, inl, subst, ap, ◌∙◌}
+use Rattle.mx_link.specs.Origins.{from_target}
+use Rattle.mx_link.specs.Linked.{IsLinked}
+use Rattle.mx_reorg.specs.Greedy.{IsGreedy}
+use Rattle.mx_image.specs.Contents.{Contents}
+use Rattle.mx_image.specs.Files.{file_bytes}
+use Rattle.mx_meaning.specs.Boards.{board}
+use Rattle.mx_answer.specs.declared.FileKind.TheVariants.{Source}
+use Rattle.mx_answer.specs.Answer.{Answer, writes}
+use Rattle.mx_answer.specs.Protocol.{Protocol, Answers, Reads, Told, Counts, Performed}
+use Rattle.mx_answer.specs.Replies.{reply_answer}
+use Rattle.mx_schedule.specs.Schedule.{IsScheduler}
+use Rattle.mx_command.specs.Protocols.{Layouts, Linking, linked_protocol, build_protocol}
+use Rattle.mx_command.specs.Replied.{is_answered}
+use Rattle.mx_command.proofs.Laid.{contents_linked}
+use Rattle.mx_command.proofs.sourced.build_reply.Goals as goal
+
+pub returns-in-Err-clause-performed : goal.returns-in-Err-clause-performed
+returns-in-Err-clause-performed g c = λ layout_of is.
+    let told : Told = record { tells = g.S.Shelf.tells c.args.shelf.now; held = g.S.Shelf.held c.args.shelf.now } in
+    let before : Counts = record { reads = g.S.Shelf.reads c.args.shelf.now; taken = g.S.Shelf.taken c.args.shelf.now; faults = g.S.Shelf.read_faults c.args.shelf.now } in
+    let between : Counts = record { reads = g.S.Shelf.reads c.read_program.new.shelf; taken = g.S.Shelf.taken c.read_program.new.shelf; faults = g.S.Shelf.read_faults c.read_program.new.shelf } in
+    subst
+    (λ r. IfErr r (λ reply. (layout_of : Layouts) → IsScheduler layout_of → (next : Linking) → Performed told (Reads Source c.args.source.now (linked_protocol layout_of next)) before between (reply_answer reply)))
+    c.in-Err.is c.in_ok-program.ensures.refused layout_of is (build_protocol c.args.target.now)
+
+pub returns-clause-performed : goal.returns-clause-performed
+returns-clause-performed g c = λ layout_of is.
+    let told : Told = record { tells = g.S.Shelf.tells c.args.shelf.now; held = g.S.Shelf.held c.args.shelf.now } in
+    let before : Counts = record { reads = g.S.Shelf.reads c.args.shelf.now; taken = g.S.Shelf.taken c.args.shelf.now; faults = g.S.Shelf.read_faults c.args.shelf.now } in
+    let between : Counts = record { reads = g.S.Shelf.reads c.read_program.new.shelf; taken = g.S.Shelf.taken c.read_program.new.shelf; faults = g.S.Shelf.read_faults c.read_program.new.shelf } in
+    let program = c.in-Ok.program in
+    let linked : IsLinked IsGreedy from_target program.source board program.linked = subst (λ r. IfOk r (λ p. IsLinked IsGreedy from_target p.source board p.linked)) c.in-Ok.is c.in_ok-program.ensures.linked in
+    let by_program = subst
+    (λ r. IfOk r (λ p. (layout_of : Layouts) → IsScheduler layout_of → (next : Linking) (after : Counts) (answer : Answer) → Performed told (next p.source (layout_of p.source)) between after answer → Performed told (Reads Source c.args.source.now (linked_protocol layout_of next)) before after answer))
+    c.in-Ok.is c.in_ok-program.ensures.given in
+    let answered : Answers (reply_answer c.in_ok-reply.reply) ≡ (build_protocol c.args.target.now) program.source (layout_of program.source) = ap Answers (c.in_ok-reply.ensures ∙ ap (λ (f : Contents). writes c.args.target.now (file_bytes f)) (contents_linked layout_of is program.source program.linked linked)) in
+    by_program layout_of is (build_protocol c.args.target.now) between (reply_answer c.in_ok-reply.reply)
+    (subst (λ (p : Protocol). Performed told p between between (reply_answer c.in_ok-reply.reply)) answered (refl, refl))
+
+pub returns-clause-replied : goal.returns-clause-replied
+returns-clause-replied g c = inl (ap (λ a. is_answered a.status) c.in_ok-reply.ensures)
+
+pub file_reply-requires : goal.file_reply-requires
+file_reply-requires g c = subst (λ r. IfOk r (λ p. IsLinked IsGreedy from_target p.source board p.linked)) c.in-Ok.is c.in_ok-program.ensures.linked

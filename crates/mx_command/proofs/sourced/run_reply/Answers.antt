@@ -1,0 +1,61 @@
+use Rattle.std.proofs.Common.{◌≡◌, IfOk, IfErr, option_map, subst, ap, ◌∙◌}
+use Rattle.std.specs.Prelude.{is_some}
+use Rattle.mx_link.specs.Origins.{from_target}
+use Rattle.mx_link.specs.Linked.{IsLinked}
+use Rattle.mx_reorg.specs.Greedy.{IsGreedy}
+use Rattle.mx_meaning.specs.Boards.{board}
+use Rattle.mx_answer.specs.declared.FileKind.TheVariants.{Source}
+use Rattle.mx_answer.specs.Answer.{Answer}
+use Rattle.mx_answer.specs.Protocol.{Protocol, Reads, Told, Counts, Performed}
+use Rattle.mx_answer.specs.Replies.{reply_answer}
+use Rattle.mx_simulate.specs.Machines.{Files, machine_protocol}
+use Rattle.mx_schedule.specs.Schedule.{IsScheduler}
+use Rattle.mx_command.specs.Protocols.{Layouts, Linking, linked_protocol, run_protocol}
+use Rattle.mx_command.proofs.Laid.{run_linked}
+use Rattle.mx_command.proofs.Own.{performed_is_replied, answers_machine}
+use Rattle.mx_command.proofs.sourced.run_reply.Goals as goal
+
+pub returns-in-Err-clause-performed : goal.returns-in-Err-clause-performed
+returns-in-Err-clause-performed g c = λ layout_of is.
+    let told : Told = record { tells = g.S.Shelf.tells c.args.shelf.now; held = g.S.Shelf.held c.args.shelf.now } in
+    let before : Counts = record { reads = g.S.Shelf.reads c.args.shelf.now; taken = g.S.Shelf.taken c.args.shelf.now; faults = g.S.Shelf.read_faults c.args.shelf.now } in
+    let between : Counts = record { reads = g.S.Shelf.reads c.read_program.new.shelf; taken = g.S.Shelf.taken c.read_program.new.shelf; faults = g.S.Shelf.read_faults c.read_program.new.shelf } in
+    let files : Files = record { interrupts = option_map (λ s. s.now) c.args.files.now.interrupts; input = option_map (λ s. s.now) c.args.files.now.input } in
+    subst
+    (λ r. IfErr r (λ reply. (layout_of : Layouts) → IsScheduler layout_of → (next : Linking) → Performed told (Reads Source c.args.source.now (linked_protocol layout_of next)) before between (reply_answer reply)))
+    c.in-Err.is c.in_ok-program.ensures.refused layout_of is (run_protocol files c.args.limits.now)
+
+pub returns-clause-performed : goal.returns-clause-performed
+returns-clause-performed g c = λ layout_of is.
+    let told : Told = record { tells = g.S.Shelf.tells c.args.shelf.now; held = g.S.Shelf.held c.args.shelf.now } in
+    let told_between : Told = record { tells = g.S.Shelf.tells c.read_program.new.shelf; held = g.S.Shelf.held c.read_program.new.shelf } in
+    let before : Counts = record { reads = g.S.Shelf.reads c.args.shelf.now; taken = g.S.Shelf.taken c.args.shelf.now; faults = g.S.Shelf.read_faults c.args.shelf.now } in
+    let between : Counts = record { reads = g.S.Shelf.reads c.read_program.new.shelf; taken = g.S.Shelf.taken c.read_program.new.shelf; faults = g.S.Shelf.read_faults c.read_program.new.shelf } in
+    let last : Counts = record { reads = g.S.Shelf.reads c.run_image.new.shelf; taken = g.S.Shelf.taken c.run_image.new.shelf; faults = g.S.Shelf.read_faults c.run_image.new.shelf } in
+    let files : Files = record { interrupts = option_map (λ s. s.now) c.args.files.now.interrupts; input = option_map (λ s. s.now) c.args.files.now.input } in
+    let program = c.in-Ok.program in
+    let image = program.linked.image in
+    let answer : Answer = reply_answer c.in_ok-reply.reply in
+    let same : told_between ≡ told = λ k. record { tells = c.in_ok-program.ensures.tells_stay k; held = λ n. c.in_ok-program.ensures.held_stays n k } in
+    let linked : IsLinked IsGreedy from_target program.source board program.linked = subst (λ r. IfOk r (λ p. IsLinked IsGreedy from_target p.source board p.linked)) c.in-Ok.is c.in_ok-program.ensures.linked in
+    let by_program = subst
+    (λ r. IfOk r (λ p. (layout_of : Layouts) → IsScheduler layout_of → (next : Linking) (after : Counts) (answer : Answer) → Performed told (next p.source (layout_of p.source)) between after answer → Performed told (Reads Source c.args.source.now (linked_protocol layout_of next)) before after answer))
+    c.in-Ok.is c.in_ok-program.ensures.given in
+    let asks = c.is_some-asks.ensures ∙ ap is_some c.input.ensures in
+    let next : Protocol = run_protocol files c.args.limits.now program.source (layout_of program.source) in
+    let ran : Performed told_between next between last answer =
+    subst (λ (p : Protocol). Performed told_between p between last answer)
+    (ap (machine_protocol files c.args.limits.now image.code.items image.user_data.items) asks ∙ run_linked layout_of is program.source program.linked linked files c.args.limits.now)
+    c.in_ok-reply.ensures.performed in
+    by_program layout_of is (run_protocol files c.args.limits.now) last answer (subst (λ t. Performed t next between last answer) same ran)
+
+pub returns-clause-replied : goal.returns-clause-replied
+returns-clause-replied g c =
+    let told_between : Told = record { tells = g.S.Shelf.tells c.read_program.new.shelf; held = g.S.Shelf.held c.read_program.new.shelf } in
+    let between : Counts = record { reads = g.S.Shelf.reads c.read_program.new.shelf; taken = g.S.Shelf.taken c.read_program.new.shelf; faults = g.S.Shelf.read_faults c.read_program.new.shelf } in
+    let last : Counts = record { reads = g.S.Shelf.reads c.run_image.new.shelf; taken = g.S.Shelf.taken c.run_image.new.shelf; faults = g.S.Shelf.read_faults c.run_image.new.shelf } in
+    let files : Files = record { interrupts = option_map (λ s. s.now) c.args.files.now.interrupts; input = option_map (λ s. s.now) c.args.files.now.input } in
+    let image = c.in-Ok.program.linked.image in
+    performed_is_replied told_between (machine_protocol files c.args.limits.now image.code.items image.user_data.items c.is_some-asks.result) between last (reply_answer c.in_ok-reply.reply)
+    (answers_machine files c.args.limits.now image.code.items image.user_data.items c.is_some-asks.result)
+    c.in_ok-reply.ensures.performed

@@ -1,0 +1,32 @@
+use Rattle.std.proofs.Common.{◌≡◌, IfOk, IfErr, None, subst, sym, ap, ◌∙◌}
+use Rattle.mx_layout.specs.Overlong.{Overlong, IsTooLong}
+use Rattle.mx_link.specs.Origins.{from_target}
+use Rattle.mx_link.specs.Linked.{IsLinked}
+use Rattle.mx_reorg.specs.Greedy.{IsGreedy}
+use Rattle.mx_asm.specs.Texts.{source_of, text_fault}
+use Rattle.mx_meaning.specs.Boards.{board}
+use Rattle.mx_answer.specs.declared.Status.TheVariants.{Refused}
+use Rattle.mx_answer.specs.Answer.{prints}
+use Rattle.mx_answer.specs.Protocol.{Answers}
+use Rattle.mx_answer.specs.Replies.{reply_answer}
+use Rattle.mx_command.specs.Protocols.{overlong_line}
+use Rattle.mx_command.proofs.Laid as laid
+use Rattle.mx_command.proofs.sources.linked_text.Goals as goal
+
+pub returns-in-Ok-2-clause-given : goal.returns-in-Ok-2-clause-given
+returns-in-Ok-2-clause-given c = λ layout_of is next.
+    let text = c.args.text.now in
+    let source = c.in-Ok.source in
+    let read = subst (λ r. IfOk r (λ s. (text_fault 256 65536 text ≡ None) × (s ≡ source_of 256 text))) c.in-Ok.is c.in_ok-source.ensures.source in
+    let linked = subst (λ r. IfOk r (λ l. IsLinked IsGreedy from_target source board l)) c.in-Ok-2.is c.in_ok-linked.ensures.linked in
+    laid.linked_text layout_of is source next text read.0 read.1 c.in-Ok-2.linked linked
+
+pub returns-in-Err-2-clause-refused : goal.returns-in-Err-2-clause-refused
+returns-in-Err-2-clause-refused c = λ layout_of is next.
+    let text = c.args.text.now in
+    let source = c.in-Ok.source in
+    let read = subst (λ r. IfOk r (λ s. (text_fault 256 65536 text ≡ None) × (s ≡ source_of 256 text))) c.in-Ok.is c.in_ok-source.ensures.source in
+    let found = subst
+    (λ r. IfErr r (λ reply. (found : Overlong) × IsTooLong IsGreedy source board found × (reply_answer reply ≡ prints Refused (overlong_line found.line found.from found.to))))
+    c.in-Err-2.is c.in_ok-linked.ensures.refused in
+    laid.too_long layout_of is source next text read.0 read.1 found.0 found.1 ∙ ap Answers (sym found.2)

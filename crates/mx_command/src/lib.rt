@@ -1,0 +1,12 @@
+//! The commands as one call: what the words of a command line ask for, done over any shelf and any sink.
+#![tactic(auto)]
+
+mod files;
+mod images;
+mod reply;
+mod sourced;
+mod sources;
+mod top;
+
+pub use mx_answer::Status;
+pub use top::command;

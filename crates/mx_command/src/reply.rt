@@ -1,0 +1,128 @@
+//! The reply of each command, before anything is put out.
+ghost use Rattle.std.specs.Prelude.{◌≡◌, ◌≤◌, ◌⊎◌, IfOk, List, ℕ, Some, None, map, string_bytes};
+ghost use Rattle.mx_source.specs.Printed.{printed};
+ghost use Rattle.mx_gen.specs.Generated.{generated};
+ghost use Rattle.mx_soak.specs.Soak.{soak_text};
+ghost use Rattle.mx_answer.specs.Answer.{prints, usage};
+ghost use Rattle.mx_answer.specs.Protocol.{Counts, Performed};
+ghost use Rattle.mx_answer.specs.Replies.{reply_answer};
+ghost use Rattle.mx_asked.specs.Seen.{seen_command, IsAllowed};
+ghost use Rattle.mx_asked.specs.Asked.{command_of};
+ghost use Rattle.mx_schedule.specs.Schedule.{IsScheduler};
+ghost use Rattle.mx_command.specs.Protocols.{Layouts, protocol_of};
+ghost use Rattle.mx_command.specs.Replied.{IsReplied};
+
+use crate::images::{exec_reply, migrate_reply};
+use crate::sourced::{build_reply, list_reply, run_reply, told_reply};
+use mx_answer::{Reply, Status, line_reply};
+use mx_asked::{Command, read_command};
+use mx_gen::generate;
+use mx_io::{Memory, Shelf};
+use mx_soak::soak;
+use std::alloc::Global;
+
+/// The reply to `gen SEED COUNT`.
+fn gen_reply(alloc: Global, seed: u32, count: u32) -> Result<Reply, Memory>
+    requires { count ≤ 4000 }
+    ensures { IfOk result (λ r. reply_answer r ≡ prints Status.Done (printed (generated seed count))) }
+{
+    let source = generate(alloc, seed, count)?;
+    let output = source.print(alloc)?;
+    let status = Status::Done;
+    Ok(Reply::Prints { status, output })
+}
+
+/// The reply to `soak SEED COUNT`.
+fn soak_reply(alloc: Global, seed: u32, count: u32) -> Result<Reply, Memory>
+    requires { count ≤ 4000 }
+    ensures answer { (layout_of : Layouts) → IsScheduler layout_of → IfOk result (λ r. reply_answer r ≡ prints Status.Done (soak_text layout_of seed count)) }
+    ensures replied { IfOk result (λ r. IsReplied (reply_answer r)) }
+{
+    let output = soak(alloc, seed, count)?;
+    let status = Status::Done;
+    Ok(Reply::Prints { status, output })
+}
+
+/// The reply to a command.
+fn command_reply<S: Shelf>(alloc: Global, shelf: &mut S, asked: &Command) -> Result<Reply, Memory>
+    requires { IsAllowed asked.now }
+    ensures performed { (layout_of : Layouts) → IsScheduler layout_of → IfOk result (λ r. Performed (record { tells = S.tells shelf.old; held = S.held shelf.old })
+        (protocol_of layout_of (Some (seen_command asked.now)))
+        (record { reads = S.reads shelf.old; taken = S.taken shelf.old; faults = S.read_faults shelf.old })
+        (record { reads = S.reads shelf.new; taken = S.taken shelf.new; faults = S.read_faults shelf.new }) (reply_answer r)) }
+    ensures replied { IfOk result (λ r. IsReplied (reply_answer r)) }
+    ensures tells_stay { S.tells shelf.new ≡ S.tells shelf.old }
+    ensures held_stays { (n : List ℕ) → S.held shelf.new n ≡ S.held shelf.old n }
+    ensures writes_stay { S.write_faults shelf.new ≡ S.write_faults shelf.old }
+{
+    match *asked {
+        Command::Run {
+            source,
+            ref files,
+            ref limits,
+        } => {
+            let reply = run_reply(alloc, shelf, source, files, limits)?;
+            Ok(reply)
+        }
+        Command::Meaning {
+            source,
+            steps,
+            input,
+        } => {
+            let reply = told_reply(alloc, shelf, source, steps, input)?;
+            Ok(reply)
+        }
+        Command::Build { source, target } => {
+            let reply = build_reply(alloc, shelf, source, target)?;
+            Ok(reply)
+        }
+        Command::Exec {
+            image,
+            ref files,
+            ref limits,
+        } => {
+            let reply = exec_reply(alloc, shelf, image, files, limits)?;
+            Ok(reply)
+        }
+        Command::Listing { source } => {
+            let reply = list_reply(alloc, shelf, source)?;
+            Ok(reply)
+        }
+        Command::Gen { seed, count } => {
+            let reply = gen_reply(alloc, seed, count)?;
+            Ok(reply)
+        }
+        Command::Soak { seed, count } => {
+            let reply = soak_reply(alloc, seed, count)?;
+            Ok(reply)
+        }
+        Command::Migrate { image, target } => {
+            let reply = migrate_reply(alloc, shelf, image, target)?;
+            Ok(reply)
+        }
+    }
+}
+
+/// The reply to words.
+pub fn reply_to<S: Shelf>(alloc: Global, words: &[String], shelf: &mut S) -> Result<Reply, Memory>
+    ensures performed { (layout_of : Layouts) → IsScheduler layout_of → IfOk result (λ r. Performed (record { tells = S.tells shelf.old; held = S.held shelf.old })
+        (protocol_of layout_of (command_of (map string_bytes words.now)))
+        (record { reads = S.reads shelf.old; taken = S.taken shelf.old; faults = S.read_faults shelf.old })
+        (record { reads = S.reads shelf.new; taken = S.taken shelf.new; faults = S.read_faults shelf.new }) (reply_answer r)) }
+    ensures replied { IfOk result (λ r. IsReplied (reply_answer r) ⊎ (command_of (map string_bytes words.now) ≡ None)) }
+    ensures asks_nothing { command_of (map string_bytes words.now) ≡ None → IfOk result (λ r. reply_answer r ≡ usage) }
+    ensures tells_stay { S.tells shelf.new ≡ S.tells shelf.old }
+    ensures held_stays { (n : List ℕ) → S.held shelf.new n ≡ S.held shelf.old n }
+    ensures writes_stay { S.write_faults shelf.new ≡ S.write_faults shelf.old }
+{
+    match read_command(alloc, words)? {
+        Some(asked) => {
+            let reply = command_reply(alloc, shelf, &asked)?;
+            Ok(reply)
+        }
+        None => {
+            let reply = line_reply(alloc, Status::Usage, "usage: mx_run COMMAND WORDS")?;
+            Ok(reply)
+        }
+    }
+}

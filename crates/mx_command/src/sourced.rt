@@ -1,0 +1,171 @@
+//! The replies of the commands that read a source.
+ghost use Rattle.std.specs.Prelude.{◌≡◌, ◌≤◌, length, IfOk, List, ℕ, option_map, is_some};
+ghost use Rattle.mx_link.specs.Origins.{from_target};
+ghost use Rattle.mx_link.specs.Linked.{IsLinked};
+ghost use Rattle.mx_reorg.specs.Greedy.{IsGreedy};
+ghost use Rattle.mx_meaning.specs.Boards.{board};
+ghost use Rattle.mx_image.specs.Files.{file_bytes};
+ghost use Rattle.mx_answer.specs.Answer.{writes};
+ghost use Rattle.mx_answer.specs.Protocol.{Answers, Reads, Counts, Performed};
+ghost use Rattle.mx_answer.specs.Replies.{reply_answer};
+ghost use Rattle.mx_asked.specs.Seen.{seen_files};
+ghost use Rattle.mx_schedule.specs.Schedule.{IsScheduler};
+ghost use Rattle.mx_command.specs.Protocols.{Layouts, linked_protocol, run_protocol, meaning_protocol, build_protocol, list_protocol};
+ghost use Rattle.mx_command.specs.Replied.{IsReplied};
+
+use crate::files::read_named;
+use crate::sources::{Program, assembled, read_program};
+use mx_answer::{FileKind, Reply, Status};
+use mx_image::{ImageFile, write_file};
+use mx_io::{Memory, Shelf};
+use mx_link::Linked;
+use mx_listing::listing;
+use mx_meaning::meaning_reply;
+use mx_simulate::{Limits, RunFiles, read_input, run_image};
+use mx_source::Source;
+use std::alloc::Global;
+
+/// The reply to `run SOURCE`.
+pub fn run_reply<S: Shelf>(
+    alloc: Global,
+    shelf: &mut S,
+    source: &str,
+    files: &RunFiles,
+    limits: &Limits,
+) -> Result<Reply, Memory>
+    ensures performed { (layout_of : Layouts) → IsScheduler layout_of → IfOk result (λ r. Performed (record { tells = S.tells shelf.old; held = S.held shelf.old })
+        (Reads FileKind.Source source.now (linked_protocol layout_of (run_protocol (seen_files files.now) limits.now)))
+        (record { reads = S.reads shelf.old; taken = S.taken shelf.old; faults = S.read_faults shelf.old })
+        (record { reads = S.reads shelf.new; taken = S.taken shelf.new; faults = S.read_faults shelf.new }) (reply_answer r)) }
+    ensures replied { IfOk result (λ r. IsReplied (reply_answer r)) }
+    ensures tells_stay { S.tells shelf.new ≡ S.tells shelf.old }
+    ensures held_stays { (n : List ℕ) → S.held shelf.new n ≡ S.held shelf.old n }
+    ensures writes_stay { S.write_faults shelf.new ≡ S.write_faults shelf.old }
+{
+    let program = match read_program(alloc, shelf, source)? {
+        Ok(program) => program,
+        Err(reply) => return Ok(reply),
+    };
+    let asks = program.source.input().is_some();
+    let reply = run_image(alloc, shelf, &program.linked.image, asks, files, limits)?;
+    Ok(reply)
+}
+
+// The reply of `meaning` to the text of its source.
+fn meaning_text<S: Shelf>(
+    alloc: Global,
+    shelf: &mut S,
+    text: &[u8],
+    steps: u32,
+    input: Option<&str>,
+) -> Result<Reply, Memory>
+    requires { length text.now ≤ 4194304 }
+    ensures performed { IfOk result (λ r. Performed (record { tells = S.tells shelf.old; held = S.held shelf.old })
+        (meaning_protocol steps (option_map (λ s. s.now) input.entry) text.now)
+        (record { reads = S.reads shelf.old; taken = S.taken shelf.old; faults = S.read_faults shelf.old })
+        (record { reads = S.reads shelf.new; taken = S.taken shelf.new; faults = S.read_faults shelf.new }) (reply_answer r)) }
+    ensures tells_stay { S.tells shelf.new ≡ S.tells shelf.old }
+    ensures held_stays { (n : List ℕ) → S.held shelf.new n ≡ S.held shelf.old n }
+    ensures writes_stay { S.write_faults shelf.new ≡ S.write_faults shelf.old }
+{
+    let source = match assembled(alloc, text)? {
+        Ok(source) => source,
+        Err(reply) => return Ok(reply),
+    };
+    let bytes = match read_input(alloc, shelf, input)? {
+        Ok(bytes) => bytes,
+        Err(reply) => return Ok(reply),
+    };
+    let reply = meaning_reply(alloc, &source, bytes.as_slice(), steps)?;
+    Ok(reply)
+}
+
+/// The reply to `meaning SOURCE`.
+pub fn told_reply<S: Shelf>(
+    alloc: Global,
+    shelf: &mut S,
+    source: &str,
+    steps: u32,
+    input: Option<&str>,
+) -> Result<Reply, Memory>
+    ensures performed { IfOk result (λ r. Performed (record { tells = S.tells shelf.old; held = S.held shelf.old })
+        (Reads FileKind.Source source.now (meaning_protocol steps (option_map (λ s. s.now) input.entry)))
+        (record { reads = S.reads shelf.old; taken = S.taken shelf.old; faults = S.read_faults shelf.old })
+        (record { reads = S.reads shelf.new; taken = S.taken shelf.new; faults = S.read_faults shelf.new }) (reply_answer r)) }
+    ensures tells_stay { S.tells shelf.new ≡ S.tells shelf.old }
+    ensures held_stays { (n : List ℕ) → S.held shelf.new n ≡ S.held shelf.old n }
+    ensures writes_stay { S.write_faults shelf.new ≡ S.write_faults shelf.old }
+{
+    let text = match read_named(alloc, shelf, FileKind::Source, source)? {
+        Ok(text) => text,
+        Err(reply) => return Ok(reply),
+    };
+    let reply = meaning_text(alloc, shelf, text.as_slice(), steps, input)?;
+    Ok(reply)
+}
+
+// The reply that writes the image file of a linked source.
+fn file_reply(alloc: Global, source: &Source, linked: Linked, target: &str) -> Result<Reply, Memory>
+    requires { IsLinked IsGreedy from_target source.now board linked }
+    ensures { IfOk result (λ r. reply_answer r
+        ≡ writes target.now (file_bytes (record { code = linked.image.code.items; user_data = linked.image.user_data.items; input = is_some source.now.input; links = linked.links.items }))) }
+{
+    let _statements = source.statements();
+    let Linked { image, links, .. } = linked;
+    let input = source.input().is_some();
+    let file = ImageFile {
+        image,
+        input,
+        links,
+    };
+    let bytes = write_file(alloc, &file)?;
+    let Ok(name) = String::from_str(alloc, target) else {
+        return Err(Memory);
+    };
+    Ok(Reply::Writes { name, bytes })
+}
+
+/// The reply to `build SOURCE IMAGE`.
+pub fn build_reply<S: Shelf>(
+    alloc: Global,
+    shelf: &mut S,
+    source: &str,
+    target: &str,
+) -> Result<Reply, Memory>
+    ensures performed { (layout_of : Layouts) → IsScheduler layout_of → IfOk result (λ r. Performed (record { tells = S.tells shelf.old; held = S.held shelf.old })
+        (Reads FileKind.Source source.now (linked_protocol layout_of (build_protocol target.now)))
+        (record { reads = S.reads shelf.old; taken = S.taken shelf.old; faults = S.read_faults shelf.old })
+        (record { reads = S.reads shelf.new; taken = S.taken shelf.new; faults = S.read_faults shelf.new }) (reply_answer r)) }
+    ensures replied { IfOk result (λ r. IsReplied (reply_answer r)) }
+    ensures tells_stay { S.tells shelf.new ≡ S.tells shelf.old }
+    ensures held_stays { (n : List ℕ) → S.held shelf.new n ≡ S.held shelf.old n }
+    ensures writes_stay { S.write_faults shelf.new ≡ S.write_faults shelf.old }
+{
+    let program = match read_program(alloc, shelf, source)? {
+        Ok(program) => program,
+        Err(reply) => return Ok(reply),
+    };
+    let Program { source, linked } = program;
+    let reply = file_reply(alloc, &source, linked, target)?;
+    Ok(reply)
+}
+
+/// The reply to `list SOURCE`.
+pub fn list_reply<S: Shelf>(alloc: Global, shelf: &mut S, source: &str) -> Result<Reply, Memory>
+    ensures performed { (layout_of : Layouts) → IsScheduler layout_of → IfOk result (λ r. Performed (record { tells = S.tells shelf.old; held = S.held shelf.old })
+        (Reads FileKind.Source source.now (linked_protocol layout_of list_protocol))
+        (record { reads = S.reads shelf.old; taken = S.taken shelf.old; faults = S.read_faults shelf.old })
+        (record { reads = S.reads shelf.new; taken = S.taken shelf.new; faults = S.read_faults shelf.new }) (reply_answer r)) }
+    ensures replied { IfOk result (λ r. IsReplied (reply_answer r)) }
+    ensures tells_stay { S.tells shelf.new ≡ S.tells shelf.old }
+    ensures held_stays { (n : List ℕ) → S.held shelf.new n ≡ S.held shelf.old n }
+    ensures writes_stay { S.write_faults shelf.new ≡ S.write_faults shelf.old }
+{
+    let program = match read_program(alloc, shelf, source)? {
+        Ok(program) => program,
+        Err(reply) => return Ok(reply),
+    };
+    let output = listing(alloc, &program.source, &program.linked)?;
+    let status = Status::Done;
+    Ok(Reply::Prints { status, output })
+}

@@ -1,0 +1,190 @@
+//! Sources, assembled and linked, or the reply to what is wrong with them.
+ghost use Rattle.std.specs.Prelude.{◌≡◌, ◌≤◌, ◌++◌, codes, length, IfOk, IfErr, List, ℕ, Some, None, string_bytes};
+ghost use Rattle.mx_layout.specs.Overlong.{Overlong, IsTooLong};
+ghost use Rattle.mx_link.specs.Origins.{from_target};
+ghost use Rattle.mx_link.specs.Linked.{IsLinked};
+ghost use Rattle.mx_reorg.specs.Greedy.{IsGreedy};
+ghost use Rattle.mx_asm.specs.declared.Fault.{Fault as SourceFault};
+ghost use Rattle.mx_asm.specs.Texts.{source_of, text_fault};
+ghost use Rattle.mx_meaning.specs.Boards.{board};
+ghost use Rattle.mx_answer.specs.Answer.{Answer, prints};
+ghost use Rattle.mx_answer.specs.Protocol.{Protocol, Answers, Reads, Counts, Performed};
+ghost use Rattle.mx_answer.specs.Replies.{reply_answer};
+ghost use Rattle.mx_schedule.specs.Schedule.{IsScheduler};
+ghost use Rattle.mx_command.specs.Protocols.{fault_text, fault_line, displacement_text, span_text, overlong_text, overlong_line, Layouts, Linking, linked_protocol};
+ghost use Rattle.mx_command.specs.Replied.{IsReplied};
+
+use crate::files::read_named;
+use mx_answer::{FileKind, Reply, Status, line_reply};
+use mx_asm::{AsmError, Fault, assemble};
+use mx_io::{Memory, Shelf};
+use mx_link::{LinkError, Linked, link};
+use mx_meaning::BOARD;
+use mx_reorg::ListProposer;
+use mx_source::Source;
+use std::alloc::{AllocError, Global};
+
+/// A source, and the program that it is linked to.
+#[derive(Drop)]
+pub struct Program {
+    pub source: Source,
+    pub linked: Linked,
+}
+
+// The text of a fault.
+fn fault_text(fault: Fault) -> &'static str
+    ensures { result.now ≡ fault_text fault }
+{
+    match fault {
+        Fault::BadByte => "F1 BadByte",
+        Fault::BadToken => "F2 BadToken",
+        Fault::UnknownMnemonic => "F3 UnknownMnemonic",
+        Fault::BadOperands => "F4 BadOperands",
+        Fault::BadRegister => "F5 BadRegister",
+        Fault::NumberOutOfRange => "F6 NumberOutOfRange",
+        Fault::DuplicateLabel => "F7 DuplicateLabel",
+        Fault::UndefinedLabel => "F8 UndefinedLabel",
+        Fault::WrongLabelKind => "F9 WrongLabelKind",
+        Fault::SystemInstruction => "F10 SystemInstruction",
+        Fault::BadDirective => "F11 BadDirective",
+        Fault::TooManyInstructions => "F12 TooManyInstructions",
+        Fault::DataFull => "F13 DataFull",
+        Fault::LineTooLong => "F14 LineTooLong",
+    }
+}
+
+// The reply to a faulty source.
+fn fault_reply(alloc: Global, line: u32, fault: Fault) -> Result<Reply, Memory>
+    ensures { IfOk result (λ r. reply_answer r ≡ prints Status.Refused (fault_line line fault)) }
+{
+    let fault = fault_text(fault);
+    let Ok(text) = format!(in alloc; "line {line}: {fault}") else {
+        return Err(Memory);
+    };
+    let reply = line_reply(alloc, Status::Refused, text.as_str())?;
+    Ok(reply)
+}
+
+/// The source of a text, or the reply to its first fault.
+pub fn assembled(alloc: Global, text: &[u8]) -> Result<Result<Source, Reply>, Memory>
+    requires { length text.now ≤ 4194304 }
+    ensures source { IfOk result (λ r. IfOk r (λ source. (text_fault 256 65536 text.now ≡ None) × (source ≡ source_of 256 text.now))) }
+    ensures refused { IfOk result (λ r. IfErr r (λ reply. (line : ℕ) × (fault : SourceFault) × (text_fault 256 65536 text.now ≡ Some (line, fault)) × (reply_answer reply ≡ prints Status.Refused (fault_line line fault)))) }
+{
+    match assemble(alloc, text) {
+        Ok(source) => Ok(Ok(source)),
+        Err(AsmError::Refused { line, fault }) => Ok(Err(fault_reply(alloc, line, fault)?)),
+        Err(AsmError::Memory) => Err(Memory),
+    }
+}
+
+// The text of a displacement on a line.
+fn displacement_text(alloc: Global, line: u32, displacement: i64) -> Result<String, AllocError>
+    ensures { IfOk result (λ text. string_bytes text ≡ displacement_text line displacement) }
+{
+    let text = format!(in alloc; "line {line}: displacement {displacement}")?;
+    Ok(text)
+}
+
+// The text of two addresses.
+fn span_text(alloc: Global, from: u32, to: u32) -> Result<String, AllocError>
+    ensures { IfOk result (λ text. string_bytes text ≡ span_text from to) }
+{
+    let text = format!(in alloc; " from {from} to {to}")?;
+    Ok(text)
+}
+
+// The text of a branch with this displacement, at one address, which does not reach another.
+fn overlong_text(
+    alloc: Global,
+    line: u32,
+    displacement: i64,
+    from: u32,
+    to: u32,
+) -> Result<String, AllocError>
+    ensures { IfOk result (λ text. string_bytes text ≡ overlong_text line displacement from to) }
+{
+    let mut text = displacement_text(alloc, line, displacement)?;
+    let span = span_text(alloc, from, to)?;
+    text.push_str(span.as_str())?;
+    Ok(text)
+}
+
+// The reply to a branch that does not reach its target.
+fn overlong_reply(alloc: Global, line: u32, from: u32, to: u32) -> Result<Reply, Memory>
+    ensures { IfOk result (λ r. reply_answer r ≡ prints Status.Refused (overlong_line line from to)) }
+{
+    let displacement = i64::from(to) - i64::from(from);
+    let Ok(text) = overlong_text(alloc, line, displacement, from, to) else {
+        return Err(Memory);
+    };
+    let reply = line_reply(alloc, Status::Refused, text.as_str())?;
+    Ok(reply)
+}
+
+// A source, linked by the list scheduler, or the reply to its first branch that does not reach its target.
+fn linked_source(alloc: Global, source: &Source) -> Result<Result<Linked, Reply>, Memory>
+    ensures linked { IfOk result (λ r. IfOk r (λ l. IsLinked IsGreedy from_target source.now board l)) }
+    ensures refused { IfOk result (λ r. IfErr r (λ reply. (found : Overlong) × IsTooLong IsGreedy source.now board found
+        × (reply_answer reply ≡ prints Status.Refused (overlong_line found.line found.from found.to)))) }
+{
+    let _statements = source.statements();
+    match link(alloc, source, BOARD, &mut ListProposer) {
+        Ok(linked) => Ok(Ok(linked)),
+        Err(LinkError::Displacement { line, from, to }) => {
+            Ok(Err(overlong_reply(alloc, line, from, to)?))
+        }
+        Err(LinkError::Memory) => Err(Memory),
+    }
+}
+
+// The program of a text, or the reply to its first fault, or to its first branch that does not reach its target.
+fn linked_text(alloc: Global, text: &[u8]) -> Result<Result<Program, Reply>, Memory>
+    requires { length text.now ≤ 4194304 }
+    ensures linked { IfOk result (λ r. IfOk r (λ p. IsLinked IsGreedy from_target p.source board p.linked)) }
+    ensures given { IfOk result (λ r. IfOk r (λ p. (layout_of : Layouts) → IsScheduler layout_of → (next : Linking)
+        → linked_protocol layout_of next text.now ≡ next p.source (layout_of p.source))) }
+    ensures refused { IfOk result (λ r. IfErr r (λ reply. (layout_of : Layouts) → IsScheduler layout_of → (next : Linking)
+        → linked_protocol layout_of next text.now ≡ Answers (reply_answer reply))) }
+    ensures replied { IfOk result (λ r. IfErr r (λ reply. IsReplied (reply_answer reply))) }
+{
+    let source = match assembled(alloc, text)? {
+        Ok(source) => source,
+        Err(reply) => return Ok(Err(reply)),
+    };
+    match linked_source(alloc, &source)? {
+        Ok(linked) => Ok(Ok(Program { source, linked })),
+        Err(reply) => Ok(Err(reply)),
+    }
+}
+
+/// The program of the source of this name, or the reply to the fault of its file, or to what is wrong with its text.
+pub fn read_program<S: Shelf>(
+    alloc: Global,
+    shelf: &mut S,
+    name: &str,
+) -> Result<Result<Program, Reply>, Memory>
+    ensures linked { IfOk result (λ r. IfOk r (λ p. IsLinked IsGreedy from_target p.source board p.linked)) }
+    ensures given { IfOk result (λ r. IfOk r (λ p. (layout_of : Layouts) → IsScheduler layout_of → (next : Linking) (after : Counts) (answer : Answer)
+        → Performed (record { tells = S.tells shelf.old; held = S.held shelf.old }) (next p.source (layout_of p.source))
+        (record { reads = S.reads shelf.new; taken = S.taken shelf.new; faults = S.read_faults shelf.new }) after answer
+        → Performed (record { tells = S.tells shelf.old; held = S.held shelf.old }) (Reads FileKind.Source name.now (linked_protocol layout_of next))
+        (record { reads = S.reads shelf.old; taken = S.taken shelf.old; faults = S.read_faults shelf.old }) after answer)) }
+    ensures refused { IfOk result (λ r. IfErr r (λ reply. (layout_of : Layouts) → IsScheduler layout_of → (next : Linking)
+        → Performed (record { tells = S.tells shelf.old; held = S.held shelf.old }) (Reads FileKind.Source name.now (linked_protocol layout_of next))
+        (record { reads = S.reads shelf.old; taken = S.taken shelf.old; faults = S.read_faults shelf.old })
+        (record { reads = S.reads shelf.new; taken = S.taken shelf.new; faults = S.read_faults shelf.new }) (reply_answer reply))) }
+    ensures replied { IfOk result (λ r. IfErr r (λ reply. IsReplied (reply_answer reply))) }
+    ensures tells_stay { S.tells shelf.new ≡ S.tells shelf.old }
+    ensures held_stays { (n : List ℕ) → S.held shelf.new n ≡ S.held shelf.old n }
+    ensures writes_stay { S.write_faults shelf.new ≡ S.write_faults shelf.old }
+{
+    let text = match read_named(alloc, shelf, FileKind::Source, name)? {
+        Ok(text) => text,
+        Err(reply) => return Ok(Err(reply)),
+    };
+    match linked_text(alloc, text.as_slice())? {
+        Ok(program) => Ok(Ok(program)),
+        Err(reply) => Ok(Err(reply)),
+    }
+}
