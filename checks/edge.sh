@@ -1,9 +1,10 @@
-#!/bin/sh
+#!/bin/bash
 # What no proof can reach: the built program at the edge of the system. It needs a built program,
 # as ./mx leaves it, and tries missing, endless, long and broken files, a full device and a closed
 # pipe as standard output, and a name that is not text.
 top=$(CDPATH= cd -- "$(dirname -- "$0")/.." && pwd) || exit 1
 program=$top/crates/mx_run/out/mx_run
+cases=$top/crates/mx_command_cases/data
 folder=$(mktemp -d) || exit 1
 trap 'rm -rf "$folder"' EXIT
 cd "$folder" || exit 1
@@ -116,41 +117,55 @@ status=$(cat ended)
 : >out
 expect 'a closed pipe' 5 ''
 
-# No file that is cut, lengthened or changed in its magic is taken for an image, and none loses what it held.
-"$program" build "$top/examples/hello.s" image
-length=$(wc -c <image)
-n=0
-bad=0
-while [ "$n" -lt "$length" ]; do
-    head -c "$n" image >cut
-    cp cut kept
-    "$program" migrate cut cut >out 2>err
-    if [ $? -ne 7 ] || ! cmp -s cut kept || [ "$(cat out)" != "image: Truncated at $n" ]; then bad=$((bad + 1)); fi
-    n=$((n + 1))
+# No file that is cut, or has a field out of its range, or a link outside its code, is taken for an image, and none loses
+# what it held.
+
+# decode: the bytes that the standard input spells in hexadecimal
+decode() { printf "$(tr -d ' \n' | sed 's/../\\x&/g')"; }
+
+# refused FILE TEXT: `exec` and `migrate` onto itself refuse the file so, and it stays
+refused() {
+    cp "$1" kept
+    "$program" exec "$1" >out 2>err
+    [ $? -eq 7 ] && [ "$(cat out)" = "$2" ] || return 1
+    "$program" migrate "$1" "$1" >out 2>err
+    [ $? -eq 7 ] && [ "$(cat out)" = "$2" ] && cmp -s "$1" kept
+}
+
+for name in hello_1.mxi hello_2.mxi slot_2.mxi; do
+    decode <"$cases/files/$name.hex" >image
+    length=$(wc -c <image)
+    bad=0
+    for ((n = 0; n < length; n++)); do
+        head -c "$n" image >cut
+        refused cut "image: Truncated at $n" || bad=$((bad + 1))
+    done
+    { cat image; printf x; } >longer
+    refused longer "image: Trailing at $length" || bad=$((bad + 1))
+    status=$bad
+    : >out
+    expect "each front of $name, and one byte more" 0 ''
 done
-: >out
+
+# The cases of image files, on real files: HEX -> STATUS LINE
+count=0
+bad=0
+while IFS= read -r line; do
+    printf '%s' "${line%% ->*}" | decode >image
+    answer=${line#*-> }
+    wanted=${answer%% *}
+    "$program" exec image --budget 100 >out 2>err
+    status=$?
+    count=$((count + 1))
+    if [ "$status" -ne "$wanted" ] || [ "$(head -n 1 out)" != "${answer#* }" ] ||
+        { [ "$wanted" -eq 7 ] && ! refused image "${answer#* }"; }; then
+        echo "FAILED: $line: status $status"
+        bad=$((bad + 1))
+    fi
+done <"$cases/images.txt"
 status=$bad
-expect 'each front of an image' 0 ''
-
-{ cat image; printf x; } >longer
-"$program" exec longer >out 2>err
-status=$?
-expect 'one byte more' 7 "image: Trailing at $length"
-
-{ printf MXIm; tail -c +5 image; } >other
-"$program" exec other >out 2>err
-status=$?
-expect 'another magic' 7 'image: BadMagic'
-
-{ printf 'MXIM\0\0\0\3'; tail -c +9 image; } >other
-"$program" exec other >out 2>err
-status=$?
-expect 'version 3' 7 'image: BadRange at 4'
-
-{ head -c 11 image; printf '\2'; tail -c +13 image; } >other
-"$program" exec other >out 2>err
-status=$?
-expect 'flags 2' 7 'image: BadRange at 8'
+: >out
+expect "$count image files" 0 ''
 
 head -c 1048576 /dev/urandom >noise
 "$program" exec noise >out 2>err

@@ -1,0 +1,5 @@
+ld 256[r0],r1
+addi r1,#1,r1
+halt
+.data
+.word 41

@@ -1,0 +1,49 @@
+//! Cases of whole commands over stored files.
+use crate::case::{Case, bytes_of};
+use anyhow::{Context, Result};
+use mx_command::Status;
+use std::fs;
+use std::rt::Files;
+
+/// How a command ends, for the case `STATUS NAME: WORDS`. What it prints stands in `out/NAME`, and what it writes
+/// in `out/NAME.hex`, where that is there; no other file has changed.
+pub fn run<R: Files + AllocGlobal>(rt: &R, line: &str) -> Result<String> {
+    let alloc = rt.alloc();
+    let (name, words) = line.split_once(": ").context("no words")?;
+    let wanted = fs::read(rt, format!(in alloc; "out/{name}")?)?;
+    let mut case = Case::stored(rt, words)?;
+    let ended = case.run(alloc)?;
+    let status = ended.status.number();
+    let note = if ended.output.written() != wanted.as_slice() {
+        ", of another output"
+    } else if let Ok(text) = fs::read_to_string(rt, format!(in alloc; "out/{name}.hex")?) {
+        let file = bytes_of(alloc, text.as_str())?;
+        if case.written(alloc)?.as_slice() == file.as_slice() {
+            ""
+        } else {
+            ", of another file"
+        }
+    } else if !case.keeps_files(alloc)? {
+        ", which changes a file"
+    } else {
+        ""
+    };
+    Ok(format!(in alloc; "{status} {line}{note}")?)
+}
+
+/// How a command ends whose read or write with a number fails, for the case `STATUS NUMBER: WORDS`. Where it is not
+/// done, no file has changed.
+pub fn failing<R: Files + AllocGlobal>(rt: &R, line: &str) -> Result<String> {
+    let alloc = rt.alloc();
+    let (number, words) = line.split_once(": ").context("no words")?;
+    let mut case = Case::stored(rt, words)?;
+    case.fail_at(number.parse::<u64>()?)?;
+    let ended = case.run(alloc)?;
+    let status = ended.status.number();
+    let note = if ended.status != Status::Done && !case.keeps_files(alloc)? {
+        ", which changes a file"
+    } else {
+        ""
+    };
+    Ok(format!(in alloc; "{status} {line}{note}")?)
+}
