@@ -399,6 +399,34 @@ fn refuses_a_branch_that_does_not_reach(rt: HostRuntime) -> Result<(), Fail> {
     Ok(())
 }
 
+#[test]
+fn refuses_more_statements_than_fit(rt: HostRuntime) -> Result<(), Fail> {
+    let alloc = rt.alloc();
+    let cases: [(usize, Status, &[u8]); 2] = [
+        (19_999, Status::Halted, b"halted\n"),
+        (
+            20_000,
+            Status::Refused,
+            b"line 20001: F12 TooManyInstructions\n",
+        ),
+    ];
+    for (count, status, start) in cases {
+        let mut text = Vec::new(alloc);
+        for _ in 0..count {
+            text.extend_from_slice(b"nop\n")?;
+        }
+        text.extend_from_slice(b"halt\n")?;
+        let mut shelf = MemoryShelf::new(alloc);
+        shelf.add("a", text.as_slice())?;
+        let mut out = MemorySink::new(alloc, 64, 1000)?;
+        let words = words_of(alloc, &["run", "a"])?;
+        let ended = command(alloc, words.as_slice(), &mut shelf, &mut out);
+        assert_eq!(rt; ended, status);
+        assert!(rt; out.written().starts_with(start));
+    }
+    Ok(())
+}
+
 // `addi r0,#72,r1`, `st 255[r0],r1`, `halt` as an image file of version 1.
 const HELLO_IMAGE: [u8; 28] = [
     0x4d, 0x58, 0x49, 0x4d, 0, 0, 0, 1, 0, 0, 0, 3, 0, 0, 0, 0, 0xc0, 0x02, 0x00, 0x48, 0x88, 0x02,
