@@ -1,5 +1,5 @@
 -- The word of a stage tells the stage, and is told by it.
-use Rattle.std.proofs.Common.{◌≡◌, ℕ, ◌≤◌, ◌<◌, ◌^◌, arith}
+use Rattle.std.proofs.Common.{◌≡◌, ℕ, ◌≤◌, ◌^◌, arith}
 use Rattle.std.proofs.lemmas.Grind.{common_steps}
 use Rattle.mx_pcchain.specs.Held.{stage_from, word_of_stage}
 

@@ -1,4 +1,4 @@
-use Rattle.std.proofs.Common.{◌≡◌, ◌≢◌, Bool, false, eqb, cond, Option, Some, None, sym, ap, ◌∙◌, arith}
+use Rattle.std.proofs.Common.{◌≢◌, eqb, Some, None, sym, ap, ◌∙◌}
 use Rattle.std.specs.Prelude.{slice_index}
 use Rattle.std.proofs.lemmas.Bool.{cond-false, ne_eqb}
 use Rattle.mx_icache.proofs.Bits.{is_set-some}
