@@ -1,7 +1,7 @@
 #!/bin/bash
 # Worked runs by the built program, as ./mx leaves it, on real files. First the cases of crates/mx_command_cases, which the
-# merge gate runs over files in memory; then what these cases cannot say: long sources, a run that is made twice, built
-# examples and the words of the handler. `rt ci` does not call this, since it needs a built program.
+# merge gate runs over files in memory; then what these cases cannot say: long sources, a run that is made twice and built
+# examples. `rt ci` does not call this, since it needs a built program.
 top=$(cd -- "$(dirname -- "$0")/.." && pwd) || exit 1
 program=$top/crates/mx_run/out/mx_run
 cases=$top/crates/mx_command_cases/data
@@ -90,46 +90,6 @@ cp out first
 mx soak 7 4000
 [ "$status" -eq 0 ] && cmp -s out first && outcome=ok || outcome="status $status"
 tell "$outcome" 'the same run twice'
-
-# The handler's instructions, one by one: each assembles to its word in the listing, but for those that are the system's alone.
-mx list "$top/examples/hello.s"
-head -n 23 out | cut -d ' ' -f 2 >words
-paste -d '|' words - >handler <<'TEXTS'
-st 1[r0],r1
-st 2[r0],r2
-movfrs pc1,r1
-movfrs pc2,r2
-st 3[r0],r1
-st 4[r0],r2
-movfrs pc3,r1
-st 5[r0],r1
-ld 0[r0],r2
-ld 3[r0],r1
-addi r2,#1,r2
-st 0[r0],r2
-movtos r1,pc1
-ld 4[r0],r2
-ld 5[r0],r1
-movtos r2,pc2
-movtos r1,pc3
-ld 2[r0],r2
-ld 1[r0],r1
-add r0,r0,r0
-jpc
-jpc
-jpcrs
-TEXTS
-bad=0
-while IFS='|' read -r want text; do
-    printf '%s\n' "$text" >source
-    mx list source
-    case $text in
-        *pc*) [ "$(cat out)" = 'line 1: F10 SystemInstruction' ] || bad=$((bad + 1)) ;;
-        *) grep -q "^00001000 $want 1$" out || bad=$((bad + 1)) ;;
-    esac
-done <handler
-[ "$bad" -eq 0 ] && [ "$(wc -l <handler)" -eq 23 ] && outcome=ok || outcome="$bad words"
-tell "$outcome" 'the words of the handler'
 
 for example in "$top"/examples/*.s; do
     printf ab >input

@@ -8,15 +8,17 @@ use std::rt::Files;
 pub enum Kind {
     Runs,
     Failing,
+    Built,
     Images,
     Fronts,
     Long,
 }
 
 impl Kind {
-    pub const ALL: [Kind; 5] = [
+    pub const ALL: [Kind; 6] = [
         Kind::Runs,
         Kind::Failing,
+        Kind::Built,
         Kind::Images,
         Kind::Fronts,
         Kind::Long,
@@ -27,6 +29,7 @@ impl Kind {
         match self {
             Kind::Runs => "runs.txt",
             Kind::Failing => "failing.txt",
+            Kind::Built => "built.txt",
             Kind::Images => "images.txt",
             Kind::Fronts => "fronts.txt",
             Kind::Long => "long.txt",
@@ -39,6 +42,7 @@ impl Kind {
         match self {
             Kind::Runs => runs::run(rt, behind(line, " ")?),
             Kind::Failing => runs::failing(rt, behind(line, " ")?),
+            Kind::Built => runs::built(rt, line),
             Kind::Images => images::image(alloc, before(line, " -> ")?),
             Kind::Fronts => images::fronts(rt, before(line, " ")?),
             Kind::Long => images::long(alloc, before(line, " -> ")?),

@@ -47,3 +47,24 @@ pub fn failing<R: Files + AllocGlobal>(rt: &R, line: &str) -> Result<String> {
     };
     Ok(format!(in alloc; "{status} {line}{note}")?)
 }
+
+/// Whether `exec` of the image file of a source ends and prints as `run` of the source does with the same options, for
+/// the case `SOURCE` or `SOURCE OPTIONS`.
+pub fn built<R: Files + AllocGlobal>(rt: &R, line: &str) -> Result<String> {
+    let alloc = rt.alloc();
+    let mut run = Case::stored(rt, format!(in alloc; "run {line}")?.as_str())?;
+    let wanted = run.run(alloc)?;
+    let (source, words) = match line.split_once(" ") {
+        Some((source, options)) => (source, format!(in alloc; "exec image {options}")?),
+        None => (line, String::from_str(alloc, "exec image")?),
+    };
+    let mut build = Case::stored(rt, format!(in alloc; "build {source} image")?.as_str())?;
+    let _done = build.run(alloc)?;
+    let image = build.written(alloc)?;
+    let mut exec = Case::stored(rt, words.as_str())?;
+    exec.add(alloc, "image", image.as_slice())?;
+    let ended = exec.run(alloc)?;
+    let same = ended.status == wanted.status && ended.output.written() == wanted.output.written();
+    let note = if same { "" } else { ", otherwise" };
+    Ok(format!(in alloc; "{line}{note}")?)
+}
