@@ -44,9 +44,9 @@ run_case() {
     "$program" "$@" >../out 2>../err
     status=$?
     cd ..
-    [ "$status" -eq "$want" ] && cmp -s out "$cases/out/$name" && ! [ -s err ] || return 1
-    [ -f "$cases/out/$name.hex" ] || return 0
-    decode <"$cases/out/$name.hex" >wanted
+    [ "$status" -eq "$want" ] && cmp -s out "$cases/wanted/$name" && ! [ -s err ] || return 1
+    [ -f "$cases/wanted/$name.hex" ] || return 0
+    decode <"$cases/wanted/$name.hex" >wanted
     cmp -s "work/${!#}" wanted
 }
 

@@ -5,18 +5,18 @@ use mx_command::Status;
 use std::fs;
 use std::rt::Files;
 
-/// How a command ends, for the case `STATUS NAME: WORDS`. What it prints stands in `out/NAME`, and what it writes
-/// in `out/NAME.hex`, where that is there; no other file has changed.
+/// How a command ends, for the case `STATUS NAME: WORDS`. What it prints stands in `wanted/NAME`, and what it writes
+/// in `wanted/NAME.hex`, where that is there; no other file has changed.
 pub fn run<R: Files + AllocGlobal>(rt: &R, line: &str) -> Result<String> {
     let alloc = rt.alloc();
     let (name, words) = line.split_once(": ").context("no words")?;
-    let wanted = fs::read(rt, format!(in alloc; "out/{name}")?)?;
+    let wanted = fs::read(rt, format!(in alloc; "wanted/{name}")?)?;
     let mut case = Case::stored(rt, words)?;
     let ended = case.run(alloc)?;
     let status = ended.status.number();
     let note = if ended.output.written() != wanted.as_slice() {
         ", of another output"
-    } else if let Ok(text) = fs::read_to_string(rt, format!(in alloc; "out/{name}.hex")?) {
+    } else if let Ok(text) = fs::read_to_string(rt, format!(in alloc; "wanted/{name}.hex")?) {
         let file = bytes_of(alloc, text.as_str())?;
         if case.written(alloc)?.as_slice() == file.as_slice() {
             ""
