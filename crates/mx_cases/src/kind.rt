@@ -1,6 +1,7 @@
 //! Kinds of cases.
 use crate::{encoded, numbers, texts};
-use anyhow::{Context, Result};
+use anyhow::Result;
+use mx_case_files::{Cases, before, behind};
 use std::rt::Files;
 
 /// A kind of cases, each a line of one file.
@@ -29,10 +30,11 @@ impl Kind {
         Kind::Encoded,
         Kind::Handler,
     ];
+}
 
-    /// The file that has these cases.
-    pub fn file(self) -> &'static str {
-        match self {
+impl Cases for Kind {
+    fn file(&self) -> &'static str {
+        match *self {
             Kind::Words => "words.txt",
             Kind::Compute => "compute.txt",
             Kind::Conditions => "conditions.txt",
@@ -45,10 +47,9 @@ impl Kind {
         }
     }
 
-    /// The line of a case, with the answer that the crates give in place of its own.
-    pub fn answered<R: Files + AllocGlobal>(self, rt: &R, line: &str) -> Result<String> {
+    fn answered<R: Files + AllocGlobal>(&self, rt: &R, line: &str) -> Result<String> {
         let alloc = rt.alloc();
-        match self {
+        match *self {
             Kind::Words => numbers::word(alloc, line),
             Kind::Compute => numbers::computed(alloc, line),
             Kind::Conditions => numbers::held(alloc, line),
@@ -60,16 +61,4 @@ impl Kind {
             Kind::Handler => encoded::handler(alloc, before(line, " ")?),
         }
     }
-}
-
-/// What stands before the first separator.
-fn before<'a>(line: &'a str, separator: &str) -> Result<&'a str> {
-    let (front, _) = line.split_once(separator).context("no separator")?;
-    Ok(front)
-}
-
-/// What stands behind the first separator.
-fn behind<'a>(line: &'a str, separator: &str) -> Result<&'a str> {
-    let (_, back) = line.split_once(separator).context("no separator")?;
-    Ok(back)
 }

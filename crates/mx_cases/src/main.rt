@@ -9,35 +9,13 @@ mod numbers;
 mod spelling;
 mod texts;
 
-use anyhow::{Context, Result};
+use anyhow::Result;
 use kind::Kind;
-use std::fs;
-use std::rt::Files;
-
-/// Compares each case of a kind with what the crates answer.
-fn compare<R: Files + Print + AllocGlobal>(rt: &R, kind: Kind) -> Result<()> {
-    let file = kind.file();
-    let text = fs::read_to_string(rt, file).context(format_args!("reading {file}"))?;
-    let mut cases = 0u64;
-    let mut agree = 0u64;
-    for line in text.lines() {
-        let ours = kind
-            .answered(rt, line)
-            .context(format_args!("{file}: no case: {line}"))?;
-        cases = cases.saturating_add(1);
-        if ours.as_str() == line {
-            agree = agree.saturating_add(1);
-        } else {
-            println!(rt; "{file}: given {line}, here {ours}")?;
-        }
-    }
-    println!(rt; "{file}: {agree} of {cases} agree")?;
-    Ok(())
-}
+use mx_case_files::compare;
 
 fn main(rt: HostRuntime) -> Result<()> {
     for kind in Kind::ALL {
-        compare(&rt, kind)?;
+        compare(&rt, &kind)?;
     }
     Ok(())
 }

@@ -1,6 +1,7 @@
 //! Kinds of cases.
 use crate::{images, runs};
-use anyhow::{Context, Result};
+use anyhow::Result;
+use mx_case_files::{Cases, before, behind};
 use std::rt::Files;
 
 /// A kind of cases, each a line of one file.
@@ -23,10 +24,11 @@ impl Kind {
         Kind::Fronts,
         Kind::Long,
     ];
+}
 
-    /// The file that has these cases.
-    pub fn file(self) -> &'static str {
-        match self {
+impl Cases for Kind {
+    fn file(&self) -> &'static str {
+        match *self {
             Kind::Runs => "runs.txt",
             Kind::Failing => "failing.txt",
             Kind::Built => "built.txt",
@@ -36,10 +38,9 @@ impl Kind {
         }
     }
 
-    /// The line of a case, with the answer of `command` in place of its own.
-    pub fn answered<R: Files + AllocGlobal>(self, rt: &R, line: &str) -> Result<String> {
+    fn answered<R: Files + AllocGlobal>(&self, rt: &R, line: &str) -> Result<String> {
         let alloc = rt.alloc();
-        match self {
+        match *self {
             Kind::Runs => runs::run(rt, behind(line, " ")?),
             Kind::Failing => runs::failing(rt, behind(line, " ")?),
             Kind::Built => runs::built(rt, line),
@@ -48,16 +49,4 @@ impl Kind {
             Kind::Long => images::long(alloc, before(line, " -> ")?),
         }
     }
-}
-
-/// What stands before the first separator.
-fn before<'a>(line: &'a str, separator: &str) -> Result<&'a str> {
-    let (front, _) = line.split_once(separator).context("no separator")?;
-    Ok(front)
-}
-
-/// What stands behind the first separator.
-fn behind<'a>(line: &'a str, separator: &str) -> Result<&'a str> {
-    let (_, back) = line.split_once(separator).context("no separator")?;
-    Ok(back)
 }

@@ -5,26 +5,24 @@
 mod backwards;
 mod shown;
 
-use anyhow::{Context, Result};
+use anyhow::Result;
+use mx_case_files::{Cases, compare};
 use shown::answered;
-use std::fs;
+use std::rt::Files;
 
-/// The file that has the cases.
-const FILE: &str = "plans.txt";
+/// The cases of plans.
+struct Plans;
+
+impl Cases for Plans {
+    fn file(&self) -> &'static str {
+        "plans.txt"
+    }
+
+    fn answered<R: Files + AllocGlobal>(&self, rt: &R, line: &str) -> Result<String> {
+        answered(rt.alloc(), line)
+    }
+}
 
 fn main(rt: HostRuntime) -> Result<()> {
-    let text = fs::read_to_string(&rt, FILE).context(format_args!("reading {FILE}"))?;
-    let mut cases = 0u64;
-    let mut agree = 0u64;
-    for line in text.lines() {
-        let ours = answered(rt.alloc(), line).context(format_args!("no case: {line}"))?;
-        cases = cases.saturating_add(1);
-        if ours.as_str() == line {
-            agree = agree.saturating_add(1);
-        } else {
-            println!(rt; "given {line}\nhere  {ours}")?;
-        }
-    }
-    println!(rt; "{FILE}: {agree} of {cases} agree")?;
-    Ok(())
+    compare(&rt, &Plans)
 }
