@@ -8,6 +8,8 @@ mod answer;
 #[cfg(test)]
 mod arithmetic;
 #[cfg(test)]
+mod assembler;
+#[cfg(test)]
 mod board;
 #[cfg(test)]
 mod chain;
@@ -43,5 +45,7 @@ mod print;
 mod requests;
 #[cfg(test)]
 mod soak;
+#[cfg(test)]
+mod turns;
 #[cfg(test)]
 mod words;
