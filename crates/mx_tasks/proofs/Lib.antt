@@ -13,4 +13,5 @@ pub mod Interrupted
 pub mod Changes
 pub mod Driven
 pub mod Times
-pub mod Refusals
+pub mod Current
+pub mod Sizes

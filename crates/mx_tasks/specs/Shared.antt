@@ -8,39 +8,36 @@ use Rattle.mx_validate.specs.Validity.{Valid}
 use Rattle.mx_squash.specs.Copies.{Site}
 use Rattle.mx_layout.specs.Layout.{IsLayout, blocks_in}
 use Rattle.mx_layout.specs.Kept.{AreKept}
-use Rattle.mx_layout.specs.Overlong.{overlong, IsRefusal}
-use Rattle.mx_layout.specs.declared.LinkError.TheVariants as link
+use Rattle.mx_layout.specs.Overlong.{overlong, IsTooLong}
 use Rattle.mx_link.specs.Origins.{from_target}
 use Rattle.mx_link.specs.Linked.{links_of, linked_code, linked_data}
 use Rattle.mx_tasks.specs.Images.{shared_code, shared_data}
+use Rattle.mx_tasks.specs.Places.{lower, upper}
 use Rattle.mx_tasks.specs.declared.sharing.Shared.{Shared}
 use Rattle.mx_tasks.specs.declared.sharing.ShareError.{ShareError}
 use Rattle.mx_tasks.specs.declared.sharing.ShareError.TheVariants.{Displacement, Memory}
-use Rattle.mx_tasks.specs.Places.{IsLower, IsUpper}
 
--- a source, laid out at a place by plans that are taken for the kept proposals
-pub record IsPart (Proposes : Block → Plan → Type 0) (source : SourceValue) (place : Place) (sites : List Site) (links : List ℕ) (proposals : List Plan) : Type 0 where
+-- a source, laid out at a place by plans that are taken for the kept proposals, with branches that reach their targets
+pub record IsPlaced (Proposes : Block → Plan → Type 0) (source : SourceValue) (place : Place) (proposals : List Plan) : Type 0 where
+  pub sites : List Site
   pub layout : IsLayout Valid source place sites
   pub rejected : ℕ
   pub kept : AreKept Proposes rejected sites proposals
   pub reach : overlong source place (blocks_in sites) ≡ None
-  pub links_are : links ≡ links_of source place sites
 
+-- both sources are linked, each at its place, and the image has the code and the data words of both
 pub record IsShared (Proposes : Block → Plan → Type 0) (first second : SourceValue) (s : Shared) : Type 0 where
-  pub lower : Place
-  pub upper : Place
-  pub is_lower : IsLower lower
-  pub is_upper : IsUpper upper
-  pub first_sites : List Site
-  pub second_sites : List Site
-  pub first_part : IsPart Proposes first lower first_sites s.first_links.items s.first_proposals.items
-  pub second_part : IsPart Proposes second upper second_sites s.second_links.items s.second_proposals.items
-  pub code : s.image.code.items ≡ shared_code (linked_code from_target first lower first_sites) (linked_code from_target second upper second_sites)
-  pub words : s.image.user_data.items ≡ shared_data (linked_data first lower first_sites) (linked_data second upper second_sites)
+  pub at_lower : IsPlaced Proposes first lower s.first_proposals.items
+  pub at_upper : IsPlaced Proposes second upper s.second_proposals.items
+  pub first_links : s.first_links.items ≡ links_of first lower at_lower.sites
+  pub second_links : s.second_links.items ≡ links_of second upper at_upper.sites
+  pub code : s.image.code.items ≡ shared_code (linked_code from_target first lower at_lower.sites) (linked_code from_target second upper at_upper.sites)
+  pub user_data : s.image.user_data.items ≡ shared_data (linked_data first lower at_lower.sites) (linked_data second upper at_upper.sites)
 
--- the first branch of a program that does not reach its target; of the second only where the first has none
+-- two sources are refused by the first overlong branch of the first, or, where that has none, of the second; memory may be wanting
 abbrev pub IsShareRefusal : (Block → Plan → Type 0) → SourceValue → SourceValue → ShareError → Type 0
 IsShareRefusal Proposes first second (Displacement program line from to) =
-    ((program ≡ 1) × (p : Place) × IsLower p × IsRefusal Proposes first p (link.Displacement line from to))
-    ⊎ ((program ≡ 2) × (p : Place) × IsUpper p × IsRefusal Proposes second p (link.Displacement line from to))
+    ((program ≡ 1) × IsTooLong Proposes first lower (record { line = line; from = from; to = to }))
+    ⊎ ((program ≡ 2) × ((proposals : List Plan) × IsPlaced Proposes first lower proposals)
+    × IsTooLong Proposes second upper (record { line = line; from = from; to = to }))
 IsShareRefusal Proposes first second Memory = Unit {0}

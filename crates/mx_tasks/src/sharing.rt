@@ -1,22 +1,47 @@
 //! Linking two sources into one image.
 ghost use Rattle.std.specs.Prelude.{◌≡◌, ◌≤◌, ◌++◌, ◌-◌, ℕ, IfOk, IfErr, OnOk, length, replicate};
-ghost use Rattle.mx_tasks.specs.Images.{beside};
-ghost use Rattle.mx_tasks.specs.Images.{shared_code, shared_data};
-ghost use Rattle.mx_tasks.specs.Places.{IsLower, IsUpper};
-ghost use Rattle.mx_tasks.specs.Shared.{IsShared, IsShareRefusal};
 ghost use Rattle.mx_layout.specs.declared.LinkError.TheVariants.{Displacement as LinkDisplacement, Memory as LinkMemory};
+ghost use Rattle.mx_link.specs.Parts.{HaveRegisters};
+ghost use Rattle.mx_tasks.specs.Images.{beside, shared_code, shared_data};
+ghost use Rattle.mx_tasks.specs.Shared.{IsShared, IsShareRefusal};
 ghost use Rattle.mx_tasks.specs.declared.sharing.ShareError.TheVariants.{Displacement as ShareDisplacement, Memory as ShareMemory};
 
 use mx_blocks::Plan;
 use mx_code::Image;
 use mx_isa::Place;
-use mx_link::{LinkError, Linked, link};
+use mx_link::{LinkError, link};
 use mx_source::Source;
 use mx_validate::Proposer;
 use std::alloc::{AllocError, Global};
 use thiserror::Error;
 
-/// Two linked programs in one image: the first has its code from 4096 and its data from 256 on, the second from 34096 and 32768.
+/// The place of the first program: code from 4096, user data from 256 to 32767.
+pub const LOWER: Place = Place {
+    code: 4096,
+    user_data: 256,
+    end: 32_768,
+    console: 255,
+    input: 254,
+};
+
+/// The place of the second program: code from 34096, user data from 32768 to 65535.
+pub const UPPER: Place = Place {
+    code: 34_096,
+    user_data: 32_768,
+    end: 65_536,
+    console: 255,
+    input: 254,
+};
+
+/// The instruction that does nothing.
+const NO_OP: u32 = 0x4000_0000;
+
+/// How many code words, and data words, the first program's place has.
+const LOWER_CODE: usize = 30_000;
+const LOWER_DATA: usize = 32_512;
+
+/// Two linked programs in one image, the first at `LOWER` and the second at `UPPER`: for each, the addresses of its
+/// statements and of the end of its code, and the plan that was proposed for each of its blocks.
 #[derive(Drop)]
 pub struct Shared {
     pub image: Image,
@@ -29,7 +54,7 @@ pub struct Shared {
 /// Why two sources are not linked.
 #[derive(Clone, Copy, Debug, PartialEq, Eq, Error)]
 pub enum ShareError {
-    /// A branch of program 1 or 2 does not reach its target.
+    /// A branch of program 1 or 2 on this line, at the address `from`, does not reach its target at `to`.
     #[error("program {program} line {line}: no displacement reaches from {from} to {to}")]
     Displacement {
         program: u32,
@@ -40,32 +65,6 @@ pub enum ShareError {
     /// Memory ran out.
     #[error("out of memory")]
     Memory,
-}
-
-// The place of the first program.
-fn lower() -> Place
-    ensures { IsLower result }
-{
-    Place {
-        code: 4096,
-        user_data: 256,
-        end: 32_768,
-        console: 255,
-        input: 254,
-    }
-}
-
-// The place of the second program.
-fn upper() -> Place
-    ensures { IsUpper result }
-{
-    Place {
-        code: 34_096,
-        user_data: 32_768,
-        end: 65_536,
-        console: 255,
-        input: 254,
-    }
 }
 
 // Appends a word so many times.
@@ -79,13 +78,18 @@ fn push_times(words: &mut Vec<u32>, times: usize, word: u32) -> Result<(), Alloc
 }
 
 // Words, and others that begin `start` words later, if there are any; a word stands between them.
-fn joined(first: Vec<u32>, second: &[u32], start: usize, word: u32) -> Result<Vec<u32>, AllocError>
-    ensures { IfOk result (λ all. all.items ≡ beside start word first.items second.now) }
+fn joined(
+    first: Vec<u32>,
+    second: &[u32],
+    start: usize,
+    between: u32,
+) -> Result<Vec<u32>, AllocError>
+    ensures { IfOk result (λ all. all.items ≡ beside start between first.items second.now) }
 {
     let mut all = first;
     if !second.is_empty() {
         let missing = start.saturating_sub(all.len());
-        push_times(&mut all, missing, word)?;
+        push_times(&mut all, missing, between)?;
         all.extend_from_slice(second)?;
     }
     Ok(all)
@@ -108,28 +112,27 @@ fn refusal(program: u32, error: LinkError) -> ShareError
 }
 
 // The two programs in one image.
-fn image_of(first: Image, second: &Image) -> Result<Image, ShareError>
+fn image_of(first: Image, second: &Image) -> Result<Image, AllocError>
+    requires first_code { length first.code.items ≤ 30000 }
+    requires second_code { length second.now.code.items ≤ 30000 }
+    requires first_data { length first.user_data.items ≤ 32512 }
+    requires second_data { length second.now.user_data.items ≤ 32768 }
     ensures code { IfOk result (λ image. image.code.items ≡ shared_code first.code.items second.now.code.items) }
-    ensures words { IfOk result (λ image. image.user_data.items ≡ shared_data first.user_data.items second.now.user_data.items) }
-    ensures refused { IfErr result (λ e. e ≡ ShareMemory) }
+    ensures user_data { IfOk result (λ image. image.user_data.items ≡ shared_data first.user_data.items second.now.user_data.items) }
 {
     let Image { code, user_data } = first;
-    let Ok(code) = joined(code, &second.code, 30_000, 0x4000_0000) else {
-        return Err(ShareError::Memory);
-    };
-    let Ok(user_data) = joined(user_data, &second.user_data, 32_512, 0) else {
-        return Err(ShareError::Memory);
-    };
-    Image::new(code, user_data).ok_or(ShareError::Memory)
+    let code = joined(code, &second.code, LOWER_CODE, NO_OP)?;
+    let user_data = joined(user_data, &second.user_data, LOWER_DATA, 0)?;
+    Ok(Image { code, user_data })
 }
 
-/// Links two sources into one image: the first has its code from 4096 and its data from 256 on, the second from 34096 and
-/// 32768. Between them stand no-ops and zeros.
+/// Links two sources into one image, each at its place as `link` does. Behind the first program's code stand no-ops up to the
+/// second's, and behind its data zeros, where the second has any.
 ///
 /// # Errors
 ///
-/// `Displacement` where a branch of a program would not reach its target, had each block its padded plan: the first one, of
-/// the first program before the second. `Memory` where there is no room.
+/// `Displacement` exactly where some branch of a program would not reach its target, had each block its padded plan: the first
+/// one in source order, of the first program before the second. `Memory` where there is no room.
 pub fn share<P: Proposer>(
     alloc: Global,
     first: &Source,
@@ -138,23 +141,28 @@ pub fn share<P: Proposer>(
 ) -> Result<Shared, ShareError>
     requires first_few { length first.now.statements ≤ 10000 }
     requires second_few { length second.now.statements ≤ 10000 }
+    requires first_data { length first.now.user_data ≤ 32512 }
+    requires second_data { length second.now.user_data ≤ 32768 }
     ensures shared { IfOk result (IsShared P.proposes first.now second.now) }
+    ensures registers { OnOk result (HaveRegisters first.now.statements × HaveRegisters second.now.statements) }
     ensures refused { IfErr result (IsShareRefusal P.proposes first.now second.now) }
 {
-    let one = match link(alloc, first, lower(), proposer) {
-        Ok(one) => one,
+    let lower = match link(alloc, first, LOWER, proposer) {
+        Ok(linked) => linked,
         Err(error) => return Err(refusal(1, error)),
     };
-    let two = match link(alloc, second, upper(), proposer) {
-        Ok(two) => two,
+    let upper = match link(alloc, second, UPPER, proposer) {
+        Ok(linked) => linked,
         Err(error) => return Err(refusal(2, error)),
     };
-    let image = image_of(one.image, &two.image)?;
+    let Ok(image) = image_of(lower.image, &upper.image) else {
+        return Err(ShareError::Memory);
+    };
     Ok(Shared {
         image,
-        first_links: one.links,
-        second_links: two.links,
-        first_proposals: one.proposals,
-        second_proposals: two.proposals,
+        first_links: lower.links,
+        second_links: upper.links,
+        first_proposals: lower.proposals,
+        second_proposals: upper.proposals,
     })
 }

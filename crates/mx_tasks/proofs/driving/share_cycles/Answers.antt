@@ -3,7 +3,7 @@ use Rattle.mx_turn.specs.declared.Cycled.{Cycled}
 use Rattle.mx_turn.specs.Cycle.{Machine}
 use Rattle.mx_turn.specs.Run.{bits}
 use Rattle.mx_report.proofs.Runs.{state_at, state_still, next_halted}
-use Rattle.mx_tasks.specs.Sharing.{runs_next, sent_in, first_runs_in}
+use Rattle.mx_tasks.specs.Sharing.{current_next, task_console, first_is_current}
 use Rattle.mx_tasks.proofs.Driven.{sent_still, next_runs}
 use Rattle.mx_tasks.proofs.driving.share_cycles.Goals as goal
 
@@ -53,9 +53,9 @@ loop-cycle-preserved g c = record {
       let e : suc i ≡ i + 1 = omega arith in
       let answered = c.in_ok-cycled.ensures.answer p inv.0 in (
         subst (λ (n : ℕ). g.M.Machine.stands c.share_cycle.new.machine p (bits reqs n)) e (c.in_ok-cycled.ensures.stands p inv.0),
-        c.in_ok-cycled.ensures.first p inv.0 inv.3 inv.1 ∙ ap (sent_in p reqs true) e,
-        c.in_ok-cycled.ensures.second p inv.0 inv.3 inv.2 ∙ ap (sent_in p reqs false) e,
-        c.runs_after-first_runs.ensures ∙ (λ k. runs_next (answered k).taken (inv.3 k)) ∙ next_runs p reqs i ∙ ap (first_runs_in p reqs) e,
+        c.in_ok-cycled.ensures.first p inv.0 inv.3 inv.1 ∙ ap (task_console p reqs true) e,
+        c.in_ok-cycled.ensures.second p inv.0 inv.3 inv.2 ∙ ap (task_console p reqs false) e,
+        c.current_after-first_current.ensures ∙ (λ k. current_next (answered k).taken (inv.3 k)) ∙ next_runs p reqs i ∙ ap (first_is_current p reqs) e,
         ap (λ (n : ℕ). (state_at p reqs n).halted) (sym e) ∙ sym (ap (λ (r : Cycled). r.halted) answered ∙ next_halted p reqs i) ∙ c.if-cycled.false,
       );
 }
