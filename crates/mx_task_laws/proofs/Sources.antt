@@ -8,9 +8,9 @@ use Rattle.mx_blocks.specs.declared.Plan.{Plan}
 use Rattle.mx_squash.specs.Copies.{Site}
 use Rattle.mx_link.specs.Words.{value_word}
 use Rattle.mx_link.specs.Linked.{link_map}
-use Rattle.mx_turn.specs.Program.{Program, program_of}
+use Rattle.mx_turn.specs.Program.{Program}
 use Rattle.mx_link_laws.specs.Runs.{Linking, IsLinking, IsLaid}
-use Rattle.mx_tasks.specs.Switch.{switch_words}
+use Rattle.mx_tasks.specs.Sharing.{shared}
 use Rattle.mx_tasks.specs.Places.{lower, upper}
 use Rattle.mx_tasks.specs.declared.sharing.Shared.{Shared}
 use Rattle.mx_tasks.specs.Shared.{IsPlaced, IsShared}
@@ -76,7 +76,7 @@ module _ (Proposes : Block → Plan → Type 0) (first second : SourceValue) (s 
   l' = two first second is.at_lower.sites is.at_upper.sites
 
   same : shared_program l l' ≡ program_in s
-  same = λ k. program_of switch_words (sym is.code k) (sym is.user_data k) None
+  same = λ k. shared (sym is.code k) (sym is.user_data k)
 
   pub sources_mean : IsSharing first → IsSharing second → length first.user_data ≤ 32512 → IsUnstuckAt lower first (budget + 64) → IsUnstuckAt upper second (budget + 64)
       → MeanTheirSources (program_in s) l l' requests budget

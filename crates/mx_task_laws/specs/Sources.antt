@@ -12,9 +12,9 @@ use Rattle.mx_reorg.specs.Greedy.{IsGreedy}
 use Rattle.mx_link.specs.Origins.{from_target}
 use Rattle.mx_link.specs.Parts.{HaveRegisters}
 use Rattle.mx_asm.specs.Texts.{source_of, text_fault}
-use Rattle.mx_turn.specs.Program.{Program, program_of}
+use Rattle.mx_turn.specs.Program.{Program}
 use Rattle.mx_link_laws.specs.Runs.{Linking}
-use Rattle.mx_tasks.specs.Switch.{switch_words}
+use Rattle.mx_tasks.specs.Sharing.{shared}
 use Rattle.mx_tasks.specs.Places.{lower, upper}
 use Rattle.mx_tasks.specs.declared.sharing.Shared.{Shared}
 use Rattle.mx_tasks.specs.Shared.{IsShared}
@@ -37,7 +37,7 @@ pub record IsSharing (source : SourceValue) : Type 0 where
 
 -- what the machine runs: the switching handler and the image
 abbrev pub program_in : Shared → Program
-program_in s = program_of switch_words s.image.code.items s.image.user_data.items None
+program_in s = shared s.image.code.items s.image.user_data.items
 
 -- Two sources that were linked into one image do what they mean, whatever interrupts come, and whoever proposed plans for their blocks.
 abbrev pub SharedSourcesMean : (Block → Plan → Type 0) → Type 0

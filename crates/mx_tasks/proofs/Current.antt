@@ -4,7 +4,7 @@ use Rattle.std.specs.Prelude.{eqb}
 use Rattle.std.proofs.lemmas.Bool.Decides.{nat_tests}
 use Rattle.mx_turn.specs.Counted.{one}
 use Rattle.mx_turn.specs.Cycle.{start}
-use Rattle.mx_turn.specs.Program.{Program}
+use Rattle.mx_turn.specs.Program.{Program, memory_of}
 use Rattle.mx_turn.specs.Run.{is_requested, bits, console_after}
 use Rattle.mx_report.proofs.Runs.{one_more_byte}
 use Rattle.mx_interrupts.specs.Saves.{takes_in}
@@ -31,7 +31,7 @@ module _ (q : Program) (requests : List ℕ) where
       × ((is_first : Bool) → task_console q requests is_first (suc n)
       ≡ task_console q requests is_first n ++ cond (is_current q requests is_first n) (sent_in q requests n) [])
   of_current n = (
-      one_more_byte q (start q.words) (bits requests n) (is_requested requests n),
+      one_more_byte q (start (memory_of q)) (bits requests n) (is_requested requests n),
       λ is_first. next_sent q requests is_first n
           ∙ ap (λ b. task_console q requests is_first n ++ cond b (sent_in q requests n) []) (current_in q requests is_first n),
     )
