@@ -5,7 +5,7 @@ use Rattle.mx_words.specs.Reading.{asked}
 use Rattle.mx_report.specs.declared.Dump.{Dump}
 use Rattle.mx_simulate.specs.declared.Limits.{Limits}
 use Rattle.mx_asked.specs.Numbers.{number, number_or, optional}
-use Rattle.mx_asked.specs.Commands.{Command, Run, Meaning, Build, Exec, Listing, Gen, Soak, Migrate}
+use Rattle.mx_asked.specs.Commands.{Command, Run, Meaning, Build, Exec, Listing, Gen, Soak, Migrate, Share}
 
 -- the options of a run
 abbrev pub run_options : List (List ℕ)
@@ -67,6 +67,13 @@ abbrev pub migrate_of : Words → Option Command
 migrate_of (image ∷ target ∷ [], []) = Some (Migrate image target)
 migrate_of _ = None
 
+abbrev pub share_options : List (List ℕ)
+share_options = codes "budget" ∷ codes "interrupts" ∷ []
+
+abbrev pub share_of : Words → Option Command
+share_of (first ∷ second ∷ [], budget ∷ interrupts ∷ []) = option_map (Share first second interrupts) (number_or 1000000 0 100000000 budget)
+share_of _ = None
+
 -- a row of the table of commands: its first word, the names of its options, how few and how many names it takes, and
 -- what it reads of them
 pub record Row : Type 0 where
@@ -87,6 +94,7 @@ rows =
     ∷ record { word = codes "gen"; options = []; fewest = 2; most = 2; reads = gen_of }
     ∷ record { word = codes "soak"; options = []; fewest = 2; most = 2; reads = soak_of }
     ∷ record { word = codes "migrate"; options = []; fewest = 2; most = 2; reads = migrate_of }
+    ∷ record { word = codes "share"; options = share_options; fewest = 2; most = 2; reads = share_of }
     ∷ []
 
 -- the row of a first word, spelled exactly

@@ -9,7 +9,8 @@ ghost use Rattle.mx_asked.specs.Rows.{seen_row, reads_of};
 ghost use Rattle.mx_asked.specs.Seen.{seen_command, IsAllowed};
 
 use crate::readers::{
-    build_read, exec_read, gen_read, list_read, meaning_read, migrate_read, run_read, soak_read,
+    build_read, exec_read, gen_read, list_read, meaning_read, migrate_read, run_read, share_read,
+    soak_read,
 };
 use mx_io::Memory;
 use mx_simulate::{Limits, RunFiles};
@@ -53,9 +54,17 @@ pub enum Command<'a> {
         image: &'a str,
         target: &'a str,
     },
+    Share {
+        first: &'a str,
+        second: &'a str,
+        interrupts: Option<&'a str>,
+        budget: u32,
+    },
 }
 
 const MEANING_OPTIONS: [&str; 2] = ["steps", "input"];
+
+const SHARE_OPTIONS: [&str; 2] = ["budget", "interrupts"];
 
 const RUN_OPTIONS: [&str; 6] = ["budget", "trace", "dump", "count", "interrupts", "input"];
 
@@ -70,6 +79,7 @@ enum Form {
     Gen,
     Soak,
     Migrate,
+    Share,
 }
 
 /// A row of the table of commands.
@@ -98,6 +108,7 @@ const ROWS: &[Row] = &[
     Row { word: "gen", options: &[], fewest: 2, most: 2, form: Form::Gen },
     Row { word: "soak", options: &[], fewest: 2, most: 2, form: Form::Soak },
     Row { word: "migrate", options: &[], fewest: 2, most: 2, form: Form::Migrate },
+    Row { word: "share", options: &SHARE_OPTIONS, fewest: 2, most: 2, form: Form::Share },
 ];
 
 // The row of a first word in a table, if there is one.
@@ -134,6 +145,7 @@ fn command_in<'a>(form: Form, read: Read<'a>) -> Option<Command<'a>>
         Form::Gen => gen_read(&read),
         Form::Soak => soak_read(&read),
         Form::Migrate => migrate_read(&read),
+        Form::Share => share_read(&read),
     }
 }
 

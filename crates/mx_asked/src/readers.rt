@@ -1,7 +1,7 @@
 //! What is made of the words of each command, once they are read.
 ghost use Rattle.std.specs.Prelude.{◌≡◌, IfSome, option_map};
 ghost use Rattle.mx_words.specs.Read.{seen};
-ghost use Rattle.mx_asked.specs.Asked.{dump_of, limits_of, run_of, meaning_of, build_of, exec_of, list_of, gen_of, soak_of, migrate_of};
+ghost use Rattle.mx_asked.specs.Asked.{dump_of, limits_of, run_of, meaning_of, build_of, exec_of, list_of, gen_of, soak_of, migrate_of, share_of};
 ghost use Rattle.mx_asked.specs.Seen.{seen_command, IsAllowed};
 
 use crate::command::Command;
@@ -167,6 +167,25 @@ pub fn migrate_read<'a>(read: &Read<'a>) -> Option<Command<'a>>
             image: *image,
             target: *target,
         }),
+        _ => None,
+    }
+}
+
+/// What was read of `share`.
+pub fn share_read<'a>(read: &Read<'a>) -> Option<Command<'a>>
+    ensures command { option_map seen_command result ≡ share_of (seen read.entry.now) }
+    ensures allowed { IfSome result IsAllowed }
+{
+    match (read.names.as_slice(), read.values.as_slice()) {
+        ([first, second], [budget, interrupts]) => {
+            let budget = number_or(*budget, 1_000_000, 0, 100_000_000)?;
+            Some(Command::Share {
+                first: *first,
+                second: *second,
+                interrupts: *interrupts,
+                budget,
+            })
+        }
         _ => None,
     }
 }
