@@ -86,6 +86,3 @@ pub fn command<S: Shelf, W: Sink>(
     };
     finish(reply, shelf, out)
 }
-
-#[cfg(test)]
-mod tests;

@@ -12,8 +12,6 @@ mod mem_stage;
 mod registers;
 mod shown;
 mod stages;
-#[cfg(test)]
-mod tests;
 mod turns;
 
 pub use counts::Counts;

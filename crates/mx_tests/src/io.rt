@@ -1,5 +1,5 @@
 //! The objects in memory, and the edge to the system.
-use crate::{
+use mx_io::{
     MemoryShelf, MemorySink, RealShelf, RealSink, Shelf, ShelfFault, Sink, SinkFault, SliceSink,
     put_all,
 };

@@ -1,7 +1,8 @@
 //! Whole runs over a shelf and a sink in memory, which also fail in turn at each of their calls.
-use super::*;
-use mx_io::{MemoryShelf, MemorySink};
-use std::alloc::AllocError;
+use mx_answer::Status;
+use mx_command::command;
+use mx_io::{MemoryShelf, MemorySink, Shelf};
+use std::alloc::{AllocError, Global};
 use std::test::Fail;
 
 const HELLO: &[u8] = b"addi r0,#72,r1\nst 255[r0],r1\nhalt\n";

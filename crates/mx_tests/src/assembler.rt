@@ -1,4 +1,5 @@
-use super::*;
+//! What texts assemble to, and their faults.
+use mx_asm::{AsmError, Fault, assemble, assemble_at};
 use mx_source::{Source, Value};
 use std::test::Fail;
 

@@ -1,6 +1,7 @@
-use super::*;
+//! The listing of a linked source.
 use mx_asm::assemble;
 use mx_link::link;
+use mx_listing::listing;
 use mx_meaning::BOARD;
 use mx_reorg::ListProposer;
 use std::test::Fail;

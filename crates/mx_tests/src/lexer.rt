@@ -1,4 +1,5 @@
-use super::*;
+//! The tokens of a line.
+use mx_lex::{Kind, LexFault, Lexer, Token};
 
 #[test]
 fn reads_each_kind(rt: HostRuntime) {

@@ -1,5 +1,5 @@
 //! The caches on given and on drawn fetches.
-use crate::{FetchCache, LineCache, PlainCache, Set};
+use mx_icache::{FetchCache, LineCache, PlainCache, Set};
 use std::process::Abort;
 
 // Nine lines of one set, and then words of them again.

@@ -1,11 +1,11 @@
 //! Tests of the layout.
 ghost use Rattle.std.specs.Prelude.{◌≡◌, IfOk, length};
 
-use super::*;
 use arrayvec::ArrayVec;
 use indexmap::IndexMap;
 use mx_blocks::{Block, Item, Plan};
 use mx_isa::{Cond, Inst, Place, Reg};
+use mx_layout::lay_out;
 use mx_source::{Label, Name, Source, Statement};
 use mx_validate::Proposer;
 use std::alloc::Global;

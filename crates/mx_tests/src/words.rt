@@ -1,5 +1,5 @@
 //! Words of a command with two options and one name, and numbers.
-use crate::{Shape, number_within, read_words};
+use mx_words::{Shape, number_within, read_words};
 use std::test::Fail;
 
 const RUN: Shape<'static> = Shape {

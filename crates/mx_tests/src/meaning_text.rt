@@ -1,8 +1,8 @@
 //! A source that sends its first input byte, and then jumps by a word.
-use super::*;
 use indexmap::IndexMap;
 use mx_answer::{Reply, Status};
 use mx_isa::{Inst, Reg};
+use mx_meaning::meaning_reply;
 use mx_source::{Source, Statement};
 use std::alloc::Global;
 use std::test::Fail;

@@ -1,8 +1,8 @@
 //! Worked runs, on images by hand.
-use crate::{Counts, Latches, Machine, Stage, Turns};
 use mx_code::Image;
 use mx_icache::LineCache;
 use mx_isa::Reg;
+use mx_turn::{Counts, Latches, Machine, Stage, Turns};
 use std::alloc::{AllocError, Global};
 use std::test::Fail;
 

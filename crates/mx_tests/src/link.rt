@@ -1,11 +1,11 @@
 //! The images of small programs.
 ghost use Rattle.std.specs.Prelude.{◌≤◌, length};
 
-use super::*;
 use arrayvec::ArrayVec;
 use mx_asm::assemble;
 use mx_blocks::{Block, End, Item, Plan};
 use mx_isa::Place;
+use mx_link::{Linked, Origin, link, link_plain};
 use mx_reorg::ListProposer;
 use mx_source::Source;
 use mx_validate::Proposer;
