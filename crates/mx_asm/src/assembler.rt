@@ -114,13 +114,13 @@ pub fn assemble_at(alloc: Global, text: &[u8], user_data: u32, end: u32) -> Resu
         last: _,
     } = define_all(alloc, &lines, start)?;
     match read_lines(alloc, &labels, repeated, &lines, start, end) {
-        Ok(listing) => Ok(source(listing, named)),
+        Ok(listing) => Ok(listed_source(listing, named)),
         Err(error) => Err(error),
     }
 }
 
 /// The source of a listing and its labels.
-fn source(listing: Listing, labels: IndexMap<Name, Label>) -> Source
+pub fn listed_source(listing: Listing, labels: IndexMap<Name, Label>) -> Source
     requires { IsSource (source_of listing.statements.items listing.lines.items listing.user_data.items (named_labels labels.entries)) }
     ensures { result ≡ record { statements = listing.statements.items; lines = listing.lines.items; user_data = listing.user_data.items; labels = named_labels labels.entries; input = listing.input } }
 {

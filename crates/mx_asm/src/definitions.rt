@@ -66,7 +66,7 @@ pub fn define_all<'a>(
 }
 
 /// The words of a line, none where it does not split into tokens.
-fn line_words(alloc: Global, line: &[u8]) -> Result<Vec<Word<'_>>, AllocError>
+pub fn line_words(alloc: Global, line: &[u8]) -> Result<Vec<Word<'_>>, AllocError>
     ensures { IfOk result (λ v. map word v.items ≡ Positions.line_words line.now) }
 {
     match words_of(alloc, line) {
