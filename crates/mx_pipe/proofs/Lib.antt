@@ -1,0 +1,2 @@
+mod Makes
+mod Stands

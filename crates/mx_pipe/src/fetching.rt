@@ -1,0 +1,65 @@
+//! The word that is fetched.
+ghost use Rattle.std.specs.Prelude.{◌≡◌, IfSome, Some, unwrap_or, slice_get, option_and_then};
+ghost use Rattle.mx_code.specs.Decoding.{inst_of};
+ghost use Rattle.mx_code.specs.Delay.{code_from, idle};
+ghost use Rattle.mx_turn.specs.Decoded.{ShiftFits};
+ghost use Rattle.mx_turn.specs.Program.{code_with};
+ghost use Rattle.mx_turn.specs.Stages.{live};
+ghost use Rattle.mx_pipe.specs.Latched.{does};
+
+use crate::Latch;
+use mx_code::decode;
+use mx_isa::Inst;
+use mx_pcchain::Fetched;
+
+// What a word does, if it spells an instruction.
+fn decoded(word: u32) -> Option<Inst>
+    ensures what { result ≡ inst_of word }
+    ensures fits { IfSome result ShiftFits }
+{
+    match decode(word) {
+        Some(inst) => Some(inst),
+        None => None,
+    }
+}
+
+// What the word at a place does, if there is one.
+fn word_at(words: &[u32], place: usize) -> Option<Inst>
+    ensures what { result ≡ option_and_then inst_of (slice_get words.now place) }
+    ensures fits { IfSome result ShiftFits }
+{
+    match words.get(place) {
+        Some(word) => decoded(*word),
+        None => None,
+    }
+}
+
+// What the word at an address does: the user's words stand from 4,096 on, those of the handler from 0 on.
+fn inst_at(code: &[u32], handler: &[u32], address: u32) -> Option<Inst>
+    ensures what { unwrap_or result idle ≡ code_with (code_from inst_of 0 handler.now) (code_from inst_of 4096 code.now) address }
+    ensures fits { IfSome result ShiftFits }
+{
+    if address >= 4096 {
+        word_at(code, (address - 4096) as usize)
+    } else {
+        word_at(handler, address as usize)
+    }
+}
+
+/// The latch of a fetch; one that is squashed does nothing.
+pub fn fetched(code: &[u32], handler: &[u32], next: Fetched) -> Latch
+    ensures word { result.word ≡ Some next }
+    ensures inst { does result ≡ live (code_with (code_from inst_of 0 handler.now) (code_from inst_of 4096 code.now)) (Some next) }
+{
+    if next.squashed {
+        return Latch::cleared(Some(next));
+    }
+    Latch {
+        word: Some(next),
+        inst: inst_at(code, handler, next.address),
+        a: 0,
+        b: 0,
+        result: 0,
+        md: 0,
+    }
+}
