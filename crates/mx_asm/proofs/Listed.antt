@@ -18,25 +18,25 @@ use Rattle.mx_asm.specs.Effects.{EffectFits, first_input, IsFaultOf}
 use Rattle.mx_asm.specs.Listings.{IsRefusal, refusal}
 use Rattle.mx_asm.specs.declared.fault.LineError.{LineError}
 use Rattle.mx_asm.specs.declared.fault.LineError.TheVariants as errors
-use Rattle.mx_asm.specs.Positions.{line_words, statement_words, after, behind, with_labels, start, position_at_end, instruction_count, word_count}
+use Rattle.mx_asm.specs.Positions.{line_words, statement_words, after, behind, with_labels, position_at_end, instruction_count, word_count}
 use Rattle.mx_asm.specs.Faults.{first_fault, found_or, line_fault, words_fault, first_repeat, repeats, is_line}
 use Rattle.mx_asm.specs.Texts.{effects_from, statements_in, lines_in, values_in, input_in, onto_statements, onto_lines, onto_values, onto_input, or_nothing}
 use Rattle.mx_asm.proofs.Counts.{effect_counts}
 use Rattle.mx_asm.proofs.LabelBounds.{not_repeated}
 
 -- what was listed so far, and what the rest of the lines adds to it, is what all lines add
-pub record Listed (labels : Labels) (end address : ℕ) (all : List (List ℕ)) (repeated : Option ℕ) (ss : List Statement) (ns : List ℕ) (vs : List Value) (input : Option ℕ) (p : Position) (number : ℕ) (rest : List (List ℕ)) : Type 0 where
+pub record Listed (labels : Labels) (end : ℕ) (from : Position) (all : List (List ℕ)) (repeated : Option ℕ) (ss : List Statement) (ns : List ℕ) (vs : List Value) (input : Option ℕ) (p : Position) (number : ℕ) (rest : List (List ℕ)) : Type 0 where
   pub earlier : Labels
-  pub fault : first_fault labels end p earlier number rest ≡ first_fault labels end (start address) [] 1 all
+  pub fault : first_fault labels end p earlier number rest ≡ first_fault labels end from [] 1 all
   pub repeat : first_repeat p earlier number rest ≡ repeated
-  pub statements : ss ++ statements_in (effects_from labels p number rest) ≡ statements_in (effects_from labels (start address) 1 all)
-  pub lines : ns ++ lines_in (effects_from labels p number rest) ≡ lines_in (effects_from labels (start address) 1 all)
-  pub values : vs ++ values_in (effects_from labels p number rest) ≡ values_in (effects_from labels (start address) 1 all)
-  pub inputs : first_input input (input_in (effects_from labels p number rest)) ≡ input_in (effects_from labels (start address) 1 all)
-  pub last : position_at_end p rest ≡ position_at_end (start address) all
-  pub count : length ss ≡ p.index
+  pub statements : ss ++ statements_in (effects_from labels p number rest) ≡ statements_in (effects_from labels from 1 all)
+  pub lines : ns ++ lines_in (effects_from labels p number rest) ≡ lines_in (effects_from labels from 1 all)
+  pub values : vs ++ values_in (effects_from labels p number rest) ≡ values_in (effects_from labels from 1 all)
+  pub inputs : first_input input (input_in (effects_from labels p number rest)) ≡ input_in (effects_from labels from 1 all)
+  pub last : position_at_end p rest ≡ position_at_end from all
+  pub count : from.index + length ss ≡ p.index
   pub each : length ns ≡ length ss
-  pub words : address + length vs ≡ p.address
+  pub words : from.address + length vs ≡ p.address
   pub few : p.index ≤ 20000
   pub within : p.address ≤ end
   pub statements_fit : (count : ℕ) → LabelsFit count labels → All (StatementFits (IsPlace labels count)) ss
@@ -118,14 +118,14 @@ address_after : (p : Position) (ws : List Word) → (after p ws).address ≤ 655
 unfolding behind
 address_after p ws h = omega (arith, h)
 
-module _ (labels : Labels) (end address : ℕ) (all : List (List ℕ)) (repeated : Option ℕ) (ss : List Statement) (ns : List ℕ) (vs : List Value) (input : Option ℕ) (p : Position) (number : ℕ) (line : List ℕ) (rest : List (List ℕ))
-    (h : Listed labels end address all repeated ss ns vs input p number (line ∷ rest)) where
+module _ (labels : Labels) (end : ℕ) (from : Position) (all : List (List ℕ)) (repeated : Option ℕ) (ss : List Statement) (ns : List ℕ) (vs : List Value) (input : Option ℕ) (p : Position) (number : ℕ) (line : List ℕ) (rest : List (List ℕ))
+    (h : Listed labels end from all repeated ss ns vs input p number (line ∷ rest)) where
   -- the fault of this line, as the program finds it
   pub this_fault : line_fault labels end p h.earlier line ≡ words_fault labels end p (is_line repeated number) (length line) (words_of line)
   this_fault = ap (λ b. words_fault labels end p b (length line) (words_of line)) (sym (flag line rest p h.earlier number) ∙ ap (λ r. is_line r number) h.repeat)
 
   -- a fault of this line is the first
-  pub refused : (fault : Fault) → words_fault labels end p (is_line repeated number) (length line) (words_of line) ≡ Some fault → first_fault labels end (start address) [] 1 all ≡ Some (number, fault)
+  pub refused : (fault : Fault) → words_fault labels end p (is_line repeated number) (length line) (words_of line) ≡ Some fault → first_fault labels end from [] 1 all ≡ Some (number, fault)
   refused fault found =
       sym h.fault
       ∙ ap (λ f. found_or number f (first_fault labels end (after p (line_words line)) (with_labels p h.earlier (line_words line)) (number + 1) rest)) (this_fault ∙ found)
@@ -133,7 +133,7 @@ module _ (labels : Labels) (end address : ℕ) (all : List (List ℕ)) (repeated
   listed_next : (e : Effect) → words_fault labels end p (is_line repeated number) (length line) (words_of line) ≡ None → effect_of labels p.section (statement_words (line_words line)) ≡ Ok e
       → (after p (line_words line)).index ≤ 20000 → (after p (line_words line)).address ≤ end → end ≤ 65536
       → ((count : ℕ) → LabelsFit count labels → EffectFits labels count e)
-      → Listed labels end address all repeated (ss ++ onto_statements e []) (ns ++ onto_lines number e []) (vs ++ onto_values e []) (first_input input (onto_input number e None)) (after p (line_words line)) (number + 1) rest
+      → Listed labels end from all repeated (ss ++ onto_statements e []) (ns ++ onto_lines number e []) (vs ++ onto_values e []) (first_input input (onto_input number e None)) (after p (line_words line)) (number + 1) rest
   listed_next e none effect few within le fits =
       let ws = line_words line in
       let does = ap or_nothing effect in
@@ -166,15 +166,15 @@ module _ (labels : Labels) (end address : ℕ) (all : List (List ℕ)) (repeated
       → p' ≡ after p (line_words line) → p'.index ≤ 20000 → p'.address ≤ end → end ≤ 65536
       → ((count : ℕ) → LabelsFit count labels → EffectFits labels count e)
       → ss' ≡ ss ++ onto_statements e [] → ns' ≡ ns ++ onto_lines number e [] → vs' ≡ vs ++ onto_values e [] → input' ≡ first_input input (onto_input number e None) → number' ≡ number + 1
-      → Listed labels end address all repeated ss' ns' vs' input' p' number' rest
+      → Listed labels end from all repeated ss' ns' vs' input' p' number' rest
   listed_step e ss' ns' vs' input' p' number' none effect next few within le fits es en ev ei em =
       let h0 = listed_next e none effect (subst (λ (q : Position). q.index ≤ 20000) next few) (subst (λ (q : Position). q.address ≤ end) next within) le fits in
-      let h1 = subst (λ q. Listed labels end address all repeated (ss ++ onto_statements e []) (ns ++ onto_lines number e []) (vs ++ onto_values e []) (first_input input (onto_input number e None)) q (number + 1) rest) (sym next) h0 in
-      let h2 = subst (λ x. Listed labels end address all repeated x (ns ++ onto_lines number e []) (vs ++ onto_values e []) (first_input input (onto_input number e None)) p' (number + 1) rest) (sym es) h1 in
-      let h3 = subst (λ x. Listed labels end address all repeated ss' x (vs ++ onto_values e []) (first_input input (onto_input number e None)) p' (number + 1) rest) (sym en) h2 in
-      let h4 = subst (λ x. Listed labels end address all repeated ss' ns' x (first_input input (onto_input number e None)) p' (number + 1) rest) (sym ev) h3 in
-      let h5 = subst (λ x. Listed labels end address all repeated ss' ns' vs' x p' (number + 1) rest) (sym ei) h4 in
-      subst (λ x. Listed labels end address all repeated ss' ns' vs' input' p' x rest) (sym em) h5
+      let h1 = subst (λ q. Listed labels end from all repeated (ss ++ onto_statements e []) (ns ++ onto_lines number e []) (vs ++ onto_values e []) (first_input input (onto_input number e None)) q (number + 1) rest) (sym next) h0 in
+      let h2 = subst (λ x. Listed labels end from all repeated x (ns ++ onto_lines number e []) (vs ++ onto_values e []) (first_input input (onto_input number e None)) p' (number + 1) rest) (sym es) h1 in
+      let h3 = subst (λ x. Listed labels end from all repeated ss' x (vs ++ onto_values e []) (first_input input (onto_input number e None)) p' (number + 1) rest) (sym en) h2 in
+      let h4 = subst (λ x. Listed labels end from all repeated ss' ns' x (first_input input (onto_input number e None)) p' (number + 1) rest) (sym ev) h3 in
+      let h5 = subst (λ x. Listed labels end from all repeated ss' ns' vs' x p' (number + 1) rest) (sym ei) h4 in
+      subst (λ x. Listed labels end from all repeated ss' ns' vs' input' p' x rest) (sym em) h5
 
 pub texts_step : (lines : List (Bor (List ℕ))) (i : ℕ) (d : Bor (List ℕ)) → i < length lines → texts (drop i lines) ≡ (get_or lines i d).now ∷ texts (drop (i + 1) lines)
 texts_step lines i d lt = at_drop_more texts lines i d lt
@@ -183,9 +183,9 @@ pub refusal_is : (found : Option (ℕ × Fault)) (here : Option Fault) (number :
 refusal_is found here number errors.Memory h k = tt
 refusal_is found here number (errors.Fault fault) h k = h fault k
 
-pub listed_none : (labels : Labels) (end address : ℕ) (all : List (List ℕ)) (repeated : Option ℕ) → first_repeat (start address) [] 1 all ≡ repeated → address ≤ end
-    → Listed labels end address all repeated [] [] [] None (start address) 1 all
-listed_none labels end address all repeated h le = record {
+pub listed_none : (labels : Labels) (end : ℕ) (from : Position) (all : List (List ℕ)) (repeated : Option ℕ) → first_repeat from [] 1 all ≡ repeated → from.index ≤ 20000 → from.address ≤ end
+    → Listed labels end from all repeated [] [] [] None from 1 all
+listed_none labels end from all repeated h room le = record {
   earlier = [];
   fault = refl;
   repeat = h;
@@ -194,10 +194,10 @@ listed_none labels end address all repeated h le = record {
   values = refl;
   inputs = refl;
   last = refl;
-  count = refl;
+  count = omega arith;
   each = refl;
   words = omega arith;
-  few = omega arith;
+  few = room;
   within = le;
   statements_fit = λ count fit. All-nil (StatementFits (IsPlace labels count));
   values_fit = λ count fit. All-nil (ValueFits (IsPlace labels count));

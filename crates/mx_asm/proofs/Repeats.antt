@@ -4,7 +4,7 @@ use Rattle.std.proofs.lemmas.List.{at_drop_more}
 use Rattle.mx_asm.specs.declared.position.Position.{Position}
 use Rattle.mx_asm.specs.Words.{texts}
 use Rattle.mx_asm.specs.Instructions.{Labels}
-use Rattle.mx_asm.specs.Positions.{labels_from, line_words, after, with_labels}
+use Rattle.mx_asm.specs.Positions.{labels_from, line_words, after, with_labels, position_at_end}
 use Rattle.mx_asm.specs.Faults.{first_repeat, repeats, earlier_line}
 
 -- a line that was found, or what is found later
@@ -21,6 +21,10 @@ earlier_or_later None false number later = refl
 pub labels_step : (lines : List (Bor (List ℕ))) (i : ℕ) (d : Bor (List ℕ)) (p : Position) (labels : Labels) → i < length lines
     → labels_from p labels (texts (drop i lines)) ≡ labels_from (after p (line_words (get_or lines i d).now)) (with_labels p labels (line_words (get_or lines i d).now)) (texts (drop (i + 1) lines))
 labels_step lines i d p labels lt = at_drop_more (λ ls. labels_from p labels (texts ls)) lines i d lt
+
+pub last_step : (lines : List (Bor (List ℕ))) (i : ℕ) (d : Bor (List ℕ)) (p : Position) → i < length lines
+    → position_at_end p (texts (drop i lines)) ≡ position_at_end (after p (line_words (get_or lines i d).now)) (texts (drop (i + 1) lines))
+last_step lines i d p lt = at_drop_more (λ ls. position_at_end p (texts ls)) lines i d lt
 
 pub repeat_step : (lines : List (Bor (List ℕ))) (i : ℕ) (d : Bor (List ℕ)) (p : Position) (labels : Labels) (found : Option ℕ) (number : ℕ) → i < length lines
     → or_later found (first_repeat p labels number (texts (drop i lines)))

@@ -72,7 +72,7 @@ module _ (labels : Labels) (low end : ℕ) (all : List (List ℕ)) (none : first
   repeated = first_repeat (start low) [] 1 all
 
   abbrev ListedTo : List Statement → List ℕ → List Value → Option ℕ → Position → ℕ → List (List ℕ) → Type 0
-  ListedTo = Listed labels end low all repeated
+  ListedTo = Listed labels end (start low) all repeated
 
   -- what all lines add
   pub record AllListed : Type 0 where
@@ -88,13 +88,13 @@ module _ (labels : Labels) (low end : ℕ) (all : List (List ℕ)) (none : first
   all_listed [] ss ns vs input p number h = record { ss = ss; ns = ns; vs = vs; input = input; p = p; number = number; listed = h }
   all_listed (line ∷ rest) ss ns vs input p number h =
       let here = found_none number (line_fault labels end p h.earlier line) _ (h.fault ∙ none) in
-      let clear : words_fault labels end p (is_line repeated number) (length line) (words_of line) ≡ None = sym (this_fault labels end low all repeated ss ns vs input p number line rest h) ∙ here.0 in
+      let clear : words_fault labels end p (is_line repeated number) (length line) (words_of line) ≡ None = sym (this_fault labels end (start low) all repeated ss ns vs input p number line rest h) ∙ here.0 in
       let read = read_line labels end p (is_line repeated number) (length line) (words_of line) clear in
       let words = statement_words (line_words line) in
       let fits = λ (count : ℕ) (fit : LabelsFit count labels). was_fit (EffectFits labels count) (effect_of labels p.section words) read.effect (effect_fits labels count fit p.section words) read.reads in
       all_listed rest
       (ss ++ onto_statements read.effect []) (ns ++ onto_lines number read.effect []) (vs ++ onto_values read.effect []) (first_input input (onto_input number read.effect None)) (after p (line_words line)) (number + 1)
-      (listed_step labels end low all repeated ss ns vs input p number line rest h read.effect
+      (listed_step labels end (start low) all repeated ss ns vs input p number line rest h read.effect
       (ss ++ onto_statements read.effect []) (ns ++ onto_lines number read.effect []) (vs ++ onto_values read.effect []) (first_input input (onto_input number read.effect None)) (after p (line_words line)) (number + 1)
       clear read.reads refl read.few read.within most fits refl refl refl refl refl)
 
@@ -124,7 +124,7 @@ lines_make low end all labels defined least order most none =
     let l = w.listed in
     let effects = effects_from labels (start low) 1 all in
     let ended = labels_fit labels end all (start low) [] 1 most least none (All-nil (λ (p : List ℕ × Label). LabelFits (position_at_end (start low) all).index p.1)) in
-    let count : length w.ss ≡ (position_at_end (start low) all).index = l.count ∙ ap (λ (q : Position). q.index) l.last in
+    let count : length w.ss ≡ (position_at_end (start low) all).index = (let k = l.count in let m = ap (λ (q : Position). q.index) l.last in omega (arith, k, m)) in
     let fit : LabelsFit (length w.ss) labels = subst (λ n. LabelsFit n labels) (sym count) (subst (LabelsFit (position_at_end (start low) all).index) (sym defined) ended) in
     let ss = sym (append-nil w.ss) ∙ l.statements in
     let ns = sym (append-nil w.ns) ∙ l.lines in
@@ -144,3 +144,13 @@ lines_make low end all labels defined least order most none =
 pub faultless_source : (low end : ℕ) (text : List ℕ) → 256 ≤ low → low ≤ end → end ≤ 65536 → text_fault low end text ≡ None → IsSource (source_of low text)
 unfolding source_of text_fault text_labels text_effects
 faultless_source low end text least order most none = lines_make low end (lines_of text) (text_labels low text) refl least order most none
+
+-- its data words fit between the two addresses
+pub faultless_words : (low end : ℕ) (text : List ℕ) → low ≤ end → end ≤ 65536 → text_fault low end text ≡ None → low + length (source_of low text).user_data ≤ end
+unfolding source_of text_fault text_labels text_effects
+faultless_words low end text order most none =
+    let l = (whole (text_labels low text) low end (lines_of text) none most order).listed in
+    let words = l.words in
+    let within = l.within in
+    let values = ap length (sym (append-nil _) ∙ l.values) in
+    omega (arith, words, within, values)

@@ -9,7 +9,7 @@ use Rattle.mx_source.specs.declared.statement.Label.{Label}
 use Rattle.mx_asm.specs.LabelTable.{named}
 
 -- a look-up by the bytes of the keys
-pub lookup_by_bytes : (es : List (Bor (List ℕ) × Label)) (name : List ℕ) → lookup (λ k. bytes_eq name k.now) es ≡ lookup (bytes_eq name) (map named es)
+pub lookup_by_bytes : {V : Type 0} (es : List (Bor (List ℕ) × V)) (name : List ℕ) → lookup (λ k. bytes_eq name k.now) es ≡ lookup (bytes_eq name) (map named es)
 lookup_by_bytes [] name = refl
 lookup_by_bytes (e ∷ es) name = ap (cond (bytes_eq name e.0.now) (Some e.1)) (lookup_by_bytes es name)
 
@@ -23,5 +23,5 @@ lookup_All P test [] h = tt
 lookup_All P test (e ∷ es) h = if_some_cond P (test e.0) e.1 (lookup test es) (All-head (λ p. P p.1) e es h) (lookup_All P test es (All-tail (λ p. P p.1) e es h))
 
 -- an entry more at the end
-pub view_push : (es fs : List (Bor (List ℕ) × Label)) (name : Bor (List ℕ)) (label : Label) → fs ≡ es ++ (name, label) ∷ [] → map named fs ≡ map named es ++ (name.now, label) ∷ []
+pub view_push : {V : Type 0} (es fs : List (Bor (List ℕ) × V)) (name : Bor (List ℕ)) (label : V) → fs ≡ es ++ (name, label) ∷ [] → map named fs ≡ map named es ++ (name.now, label) ∷ []
 view_push es fs name label e = ap (map named) e ∙ map-append named es ((name, label) ∷ [])

@@ -35,7 +35,7 @@ module _ (low end : ℕ) (text : List ℕ) (lines : List (Bor (List ℕ))) (labe
   unfolding text_effects
   all_effects = ap (λ k. effects_from k (start low) 1 (texts lines)) all_labels ∙ ap (effects_from (text_labels low text) (start low) 1) split
 
-  pub whole_source : (l : Listing) → IsListingOf labels low end (texts lines) l → made l.statements.items l.lines.items l.user_data.items named l.input ≡ source_of low text
+  pub whole_source : (l : Listing) → IsListingOf labels end (start low) (texts lines) l → made l.statements.items l.lines.items l.user_data.items named l.input ≡ source_of low text
   unfolding source_of
   whole_source l h =
       ap (λ x. made x l.lines.items l.user_data.items named l.input) (h.statements ∙ ap statements_in all_effects)
@@ -44,17 +44,18 @@ module _ (low end : ℕ) (text : List ℕ) (lines : List (Bor (List ℕ))) (labe
       ∙ ap (λ x. made (statements_in (text_effects low text)) (lines_in (text_effects low text)) (values_in (text_effects low text)) x l.input) (same ∙ all_labels)
       ∙ ap (λ x. made (statements_in (text_effects low text)) (lines_in (text_effects low text)) (values_in (text_effects low text)) (text_labels low text) x) (h.input ∙ ap input_in all_effects)
 
-  pub whole_reads : (l : Listing) (s : SourceValue) → IsListingOf labels low end (texts lines) l → s ≡ made l.statements.items l.lines.items l.user_data.items named l.input → ReadsAs low end text s
+  pub whole_reads : (l : Listing) (s : SourceValue) → IsListingOf labels end (start low) (texts lines) l → s ≡ made l.statements.items l.lines.items l.user_data.items named l.input → ReadsAs low end text s
   whole_reads l s h e = record { faultless = sym whole_fault ∙ h.faultless; same = e ∙ whole_source l h }
 
-  pub whole_fits : (l : Listing) → 256 ≤ low → end ≤ 65536 → IsListingOf labels low end (texts lines) l → IsSource (listed l.statements.items l.lines.items l.user_data.items named)
+  pub whole_fits : (l : Listing) → 256 ≤ low → end ≤ 65536 → IsListingOf labels end (start low) (texts lines) l → IsSource (listed l.statements.items l.lines.items l.user_data.items named)
   whole_fits l least most h =
       let ended = labels_fit labels end (texts lines) (start low) [] 1 most least h.faultless (All-nil (λ (p : List ℕ × Label). LabelFits (position_at_end (start low) (texts lines)).index p.1)) in
-      let fit : LabelsFit (length l.statements.items) labels = subst (λ n. LabelsFit n labels) (sym h.count) (subst (LabelsFit (position_at_end (start low) (texts lines)).index) (sym defined) ended) in
+      let count : length l.statements.items ≡ (position_at_end (start low) (texts lines)).index = (let k = h.count in omega (arith, k)) in
+      let fit : LabelsFit (length l.statements.items) labels = subst (λ n. LabelsFit n labels) (sym count) (subst (LabelsFit (position_at_end (start low) (texts lines)).index) (sym defined) ended) in
       subst (λ k. IsSource (listed l.statements.items l.lines.items l.user_data.items k)) (sym same)
       (record {
-        few_statements = h.few;
-        few_words = omega (arith, h.within);
+        few_statements = (let k = h.few in omega (arith, k, count));
+        few_words = (let k = h.words in let m = h.within in omega (arith, k, m));
         a_line_each = h.each;
         labels_fit = fit;
         statements_fit = h.statements_fit (length l.statements.items) fit;

@@ -5,8 +5,8 @@ use Rattle.mx_source.specs.declared.statement.Label.{Label}
 use Rattle.mx_source.specs.declared.statement.Label.TheVariants.{Code, Data}
 use Rattle.mx_asm.specs.declared.labels.Labels.TheInside.{Inside}
 
--- a label with the bytes of its name
-abbrev pub named : Bor (List ℕ) × Label → List ℕ × Label
+-- what stands under a name, with the bytes of the name
+abbrev pub named : {V : Type 0} → Bor (List ℕ) × V → List ℕ × V
 named entry = (entry.0.now, entry.1)
 
 -- the labels that a table keeps, in order

@@ -10,21 +10,23 @@ use Rattle.mx_asm.specs.declared.fault.LineError.TheVariants as errors
 use Rattle.mx_asm.specs.declared.listing.Listing.{Listing}
 use Rattle.mx_asm.specs.Instructions.{Labels}
 use Rattle.mx_asm.specs.Fitting.{LabelsFit}
-use Rattle.mx_asm.specs.Positions.{start, position_at_end}
+use Rattle.mx_asm.specs.declared.position.Position.{Position}
+use Rattle.mx_asm.specs.Positions.{position_at_end}
 use Rattle.mx_asm.specs.Faults.{first_fault}
 use Rattle.mx_asm.specs.Texts.{effects_from, statements_in, lines_in, values_in, input_in}
 
--- the listing has what all lines do, and none of them has a fault
-pub record IsListingOf (labels : Labels) (address end : ℕ) (all : List (List ℕ)) (l : Listing) : Type 0 where
-  pub faultless : first_fault labels end (start address) [] 1 all ≡ None
-  pub statements : l.statements.items ≡ statements_in (effects_from labels (start address) 1 all)
-  pub lines : l.lines.items ≡ lines_in (effects_from labels (start address) 1 all)
-  pub user_data : l.user_data.items ≡ values_in (effects_from labels (start address) 1 all)
-  pub input : l.input ≡ input_in (effects_from labels (start address) 1 all)
-  pub count : length l.statements.items ≡ (position_at_end (start address) all).index
+-- the listing has what all lines do from a position on, and none of them has a fault
+pub record IsListingOf (labels : Labels) (end : ℕ) (from : Position) (all : List (List ℕ)) (l : Listing) : Type 0 where
+  pub faultless : first_fault labels end from [] 1 all ≡ None
+  pub statements : l.statements.items ≡ statements_in (effects_from labels from 1 all)
+  pub lines : l.lines.items ≡ lines_in (effects_from labels from 1 all)
+  pub user_data : l.user_data.items ≡ values_in (effects_from labels from 1 all)
+  pub input : l.input ≡ input_in (effects_from labels from 1 all)
+  pub count : from.index + length l.statements.items ≡ (position_at_end from all).index
   pub each : length l.lines.items ≡ length l.statements.items
-  pub few : length l.statements.items ≤ 20000
-  pub within : address + length l.user_data.items ≤ end
+  pub words : from.address + length l.user_data.items ≡ (position_at_end from all).address
+  pub few : (position_at_end from all).index ≤ 20000
+  pub within : (position_at_end from all).address ≤ end
   pub statements_fit : (count : ℕ) → LabelsFit count labels → All (StatementFits (IsPlace labels count)) l.statements.items
   pub values_fit : (count : ℕ) → LabelsFit count labels → All (ValueFits (IsPlace labels count)) l.user_data.items
 

@@ -4,7 +4,6 @@ ghost use Rattle.mx_asm.specs.Faults.{first_fault, first_repeat};
 ghost use Rattle.mx_asm.specs.Faults;
 ghost use Rattle.mx_asm.specs.Listings;
 ghost use Rattle.mx_asm.specs.Listings.{IsListingOf, IsRefusal};
-ghost use Rattle.mx_asm.specs.Positions.{start};
 ghost use Rattle.mx_asm.specs.Printable.{ReadsPrinted};
 ghost use Rattle.mx_asm.specs.Texts.{ReadsAs, text_fault};
 ghost use Rattle.mx_asm.specs.Words.{texts};
@@ -22,24 +21,27 @@ use indexmap::IndexMap;
 use mx_source::{Label, Name, Source};
 use std::alloc::Global;
 
-/// What all lines do, or the first faulty line.
-fn read_lines(
+/// What all lines do from a position on, or the first faulty line.
+///
+/// A name stands for what it names among `labels`.
+pub fn read_lines(
     alloc: Global,
     labels: &Labels,
     repeated: Option<u32>,
     lines: &[&[u8]],
-    address: u32,
+    from: Position,
     end: u32,
 ) -> Result<Listing, AsmError>
     requires few { length lines.now ≤ 4194304 }
-    requires order { address ≤ end }
+    requires room { from.index ≤ 20000 }
+    requires order { from.address ≤ end }
     requires within { end ≤ 65536 }
-    requires repeated { first_repeat (start address) [] 1 (texts lines.now) ≡ repeated }
-    ensures read { IfOk result (IsListingOf labels.now address end (texts lines.now)) }
-    ensures refused { IfErr result (IsRefusal (first_fault labels.now end (start address) [] 1 (texts lines.now))) }
+    requires repeated { first_repeat from [] 1 (texts lines.now) ≡ repeated }
+    ensures read { IfOk result (IsListingOf labels.now end from (texts lines.now)) }
+    ensures refused { IfErr result (IsRefusal (first_fault labels.now end from [] 1 (texts lines.now))) }
 {
     let mut listing = Listing::new(alloc);
-    let mut position = Position::start(address);
+    let mut position = from;
     let mut number = 1u32;
     for line in lines {
         let again = is_line(repeated, number);
@@ -104,19 +106,21 @@ pub fn assemble_at(alloc: Global, text: &[u8], user_data: u32, end: u32) -> Resu
     ensures refused { IfErr result (IsRefusal (text_fault user_data end text.now)) }
 {
     let lines = lines_of(alloc, text)?;
+    let start = Position::start(user_data);
     let Definitions {
         labels,
         named,
         repeated,
-    } = define_all(alloc, &lines, user_data)?;
-    match read_lines(alloc, &labels, repeated, &lines, user_data, end) {
-        Ok(listing) => Ok(source(listing, named)),
+        last: _,
+    } = define_all(alloc, &lines, start)?;
+    match read_lines(alloc, &labels, repeated, &lines, start, end) {
+        Ok(listing) => Ok(listed_source(listing, named)),
         Err(error) => Err(error),
     }
 }
 
 /// The source of a listing and its labels.
-fn source(listing: Listing, labels: IndexMap<Name, Label>) -> Source
+pub fn listed_source(listing: Listing, labels: IndexMap<Name, Label>) -> Source
     requires { IsSource (source_of listing.statements.items listing.lines.items listing.user_data.items (named_labels labels.entries)) }
     ensures { result ≡ record { statements = listing.statements.items; lines = listing.lines.items; user_data = listing.user_data.items; labels = named_labels labels.entries; input = listing.input } }
 {

@@ -1,9 +1,9 @@
 //! The labels of a text.
-ghost use Rattle.std.specs.Prelude.{◌≡◌, ◌≤◌, [], map, length, IfOk};
+ghost use Rattle.std.specs.Prelude.{◌≡◌, ◌+◌, ◌^◌, ◌≤◌, ◌<◌, [], map, length, IfOk};
 ghost use Rattle.mx_source.specs.Names.{named_labels};
 ghost use Rattle.mx_asm.specs.Faults.{first_repeat};
 ghost use Rattle.mx_asm.specs.Faults;
-ghost use Rattle.mx_asm.specs.Positions.{labels_from, start};
+ghost use Rattle.mx_asm.specs.Positions.{labels_from, position_at_end};
 ghost use Rattle.mx_asm.specs.Positions;
 ghost use Rattle.mx_asm.specs.Shapes.{word};
 ghost use Rattle.mx_asm.specs.Words.{texts};
@@ -24,24 +24,30 @@ pub struct Definitions<'a> {
     /// The same labels, for the source.
     pub named: IndexMap<Name, Label>,
     pub repeated: Option<u32>,
+    /// Where the lines end.
+    pub last: Position,
 }
 
-/// The definitions of all lines, whatever is wrong with them.
+/// The definitions of all lines from a position on, whatever is wrong with them.
 pub fn define_all<'a>(
     alloc: Global,
     lines: &[&'a [u8]],
-    address: u32,
+    from: Position,
 ) -> Result<Definitions<'a>, AllocError>
     requires few { length lines.now ≤ 4194304 }
-    requires near { address ≤ 65536 }
-    ensures labels { IfOk result (λ d. d.labels ≡ labels_from (start address) [] (texts lines.now)) }
+    requires room { from.index + length lines.now < 2 ^ 32 }
+    requires near { from.address ≤ 65537 }
+    ensures labels { IfOk result (λ d. d.labels ≡ labels_from from [] (texts lines.now)) }
     ensures named { IfOk result (λ d. named_labels d.named.entries ≡ d.labels) }
-    ensures repeated { IfOk result (λ d. d.repeated ≡ first_repeat (start address) [] 1 (texts lines.now)) }
+    ensures repeated { IfOk result (λ d. d.repeated ≡ first_repeat from [] 1 (texts lines.now)) }
+    ensures last { IfOk result (λ d. d.last ≡ position_at_end from (texts lines.now)) }
+    ensures index { IfOk result (λ d. d.last.index ≤ from.index + length lines.now) }
+    ensures address { IfOk result (λ d. d.last.address ≤ 65537) }
 {
     let mut labels = Labels::new(alloc);
     let mut named = IndexMap::new(alloc);
     let mut repeated = None;
-    let mut position = Position::start(address);
+    let mut position = from;
     let mut number = 1u32;
     for line in lines {
         let words = line_words(alloc, line)?;
@@ -55,11 +61,12 @@ pub fn define_all<'a>(
         labels,
         named,
         repeated,
+        last: position,
     })
 }
 
 /// The words of a line, none where it does not split into tokens.
-fn line_words(alloc: Global, line: &[u8]) -> Result<Vec<Word<'_>>, AllocError>
+pub fn line_words(alloc: Global, line: &[u8]) -> Result<Vec<Word<'_>>, AllocError>
     ensures { IfOk result (λ v. map word v.items ≡ Positions.line_words line.now) }
 {
     match words_of(alloc, line) {

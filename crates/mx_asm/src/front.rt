@@ -14,7 +14,7 @@ use mx_source::{Label, Name};
 use std::alloc::{AllocError, Global};
 
 /// A name and a `:` stand at the front.
-fn begins_label(words: &[Word]) -> bool
+pub fn begins_label(words: &[Word]) -> bool
     ensures front { result ≡ Positions.begins_label (map word words.now) }
     ensures two { result ≡ true → 2 ≤ length words.now }
 {
@@ -95,7 +95,7 @@ fn define_own<'a>(
 }
 
 /// Adds a label under a name of its own.
-fn add_named(
+pub fn add_named(
     alloc: Global,
     named: &mut IndexMap<Name, Label>,
     name: &[u8],

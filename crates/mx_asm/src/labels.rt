@@ -55,4 +55,18 @@ impl<'a> Labels<'a> {
         self.table.insert(name, label)?;
         Ok(())
     }
+
+    /// A table of the same labels.
+    pub fn copied(&self, alloc: Global) -> Result<Labels<'a>, AllocError>
+        ensures { IfOk result (λ l. l ≡ self.now) }
+    {
+        let mut table = IndexMap::new(alloc);
+        for i in 0..self.table.len() {
+            let Some((name, label)) = self.table.get_index(i) else {
+                unreachable!();
+            };
+            table.insert(*name, *label)?;
+        }
+        Ok(Labels { table })
+    }
 }

@@ -3,3 +3,4 @@ pub mod Ended
 pub mod Links
 pub mod Laid
 pub mod Headline
+pub mod Prints

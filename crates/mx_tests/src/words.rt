@@ -4,12 +4,14 @@ use std::test::Fail;
 
 const RUN: Shape<'static> = Shape {
     options: &["budget", "trace"],
-    names: 1,
+    fewest: 1,
+    most: 1,
 };
 
 const BARE: Shape<'static> = Shape {
     options: &[],
-    names: 1,
+    fewest: 1,
+    most: 1,
 };
 
 fn words(rt: &HostRuntime, texts: &[&str]) -> Result<Vec<String>, Fail> {

@@ -1,9 +1,9 @@
 use Rattle.std.proofs.Common.{◌+◌, [], List, ℕ, Bor, drop, get_or, map, sym, ap, ◌∙◌, arith}
 use Rattle.mx_asm.specs.Words.{texts}
 use Rattle.mx_asm.specs.Shapes.{word}
-use Rattle.mx_asm.specs.Positions.{line_words, after, behind, statement_words, label_here, define_front, is_repeated, labels_from}
+use Rattle.mx_asm.specs.Positions.{line_words, after, behind, statement_words, label_here, define_front, is_repeated, labels_from, position_at_end}
 use Rattle.mx_asm.specs.Faults.{first_repeat, repeats, earlier_line}
-use Rattle.mx_asm.proofs.Repeats.{or_later, labels_step, repeat_step}
+use Rattle.mx_asm.proofs.Repeats.{or_later, labels_step, last_step, repeat_step}
 use Rattle.mx_asm.proofs.definitions.define_all.Goals as goal
 
 -- what stands past the end of the lines
@@ -30,6 +30,10 @@ loop-line-preserved c =
       near = c.after-position.ensures.near;
       index = omega (arith, c.after-position.ensures.index, c.loop-line.invariant.index);
       named = c.in_ok-again.ensures.same;
+      last =
+          ap (λ q. position_at_end q rest) next
+          ∙ sym (last_step lines i past p (omega arith))
+          ∙ c.loop-line.invariant.last;
       labels =
           ap (λ q. labels_from q c.define_front.new.labels rest) next
           ∙ ap (λ k. labels_from (after p words) k rest) defined
