@@ -7,6 +7,7 @@ use Rattle.mx_image.specs.declared.ImageError.{ImageError}
 use Rattle.mx_image.specs.Files.{file_refusal, file_in}
 use Rattle.mx_turn.specs.Handler.{shipped}
 use Rattle.mx_turn.specs.Program.{Program, program_of}
+use Rattle.mx_answer.specs.declared.FileKind.TheVariants.{Second}
 use Rattle.mx_answer.specs.Answer.{Answer}
 use Rattle.mx_answer.specs.Protocol.{Protocol, Answers, Reads, Told, Counts, Performed, OnlyPrints}
 use Rattle.mx_answer.proofs.Protocols.{no_file}
@@ -14,7 +15,8 @@ use Rattle.mx_asm.specs.declared.Fault.{Fault}
 use Rattle.mx_asm.specs.Texts.{source_of, text_fault}
 use Rattle.mx_source.specs.SourceValue.{SourceValue}
 use Rattle.mx_isa.specs.declared.Place.{Place}
-use Rattle.mx_layout.specs.Overlong.{Overlong}
+use Rattle.mx_layout.specs.Layout.{blocks_in}
+use Rattle.mx_layout.specs.Overlong.{Overlong, overlong}
 use Rattle.mx_link.specs.Origins.{from_target}
 use Rattle.mx_link.specs.Linked.{linked_code, linked_data}
 use Rattle.mx_listing.specs.Listing.{layout_listing}
@@ -25,8 +27,11 @@ use Rattle.mx_schedule.specs.Schedule.{IsScheduler}
 use Rattle.mx_simulate.specs.declared.Limits.{Limits}
 use Rattle.mx_simulate.specs.Simulated.{program_answer}
 use Rattle.mx_simulate.specs.Machines.{Files, given, by_requests, requests_protocol, input_protocol, machine_protocol}
-use Rattle.mx_asked.specs.Commands.{Command, Run, Meaning, Build, Exec, Listing, Gen, Soak, Migrate}
-use Rattle.mx_command.specs.Protocols.{unless_faulty, unless_overlong, unless_refused, Layouts, Linking, linked_protocol, run_protocol, list_protocol, protocol_of}
+use Rattle.mx_tasks.specs.Places.{lower, upper}
+use Rattle.mx_tasks.specs.Sharing.{shared}
+use Rattle.mx_sharing.specs.Runs.{shared_answer}
+use Rattle.mx_asked.specs.Commands.{Command, Run, Meaning, Build, Exec, Listing, Gen, Soak, Migrate, Share}
+use Rattle.mx_command.specs.Protocols.{unless_faulty, unless_overlong, unless_refused, unless_wrong, wrong_with, unless_far, upper_layout, pair_code, pair_data, pair_protocol, assembled_protocol, Layouts, Linking, linked_protocol, run_protocol, list_protocol, protocol_of}
 use Rattle.mx_command.specs.Writing.{writes_a_file}
 
 program_prints : (p : Program) (code requests : List ℕ) (limits : Limits) → (program_answer p code requests limits).file ≡ None
@@ -68,6 +73,27 @@ refused_prints : (refusal : Option ImageError) (next : Protocol) → OnlyPrints 
 refused_prints (Some error) next prints = refl
 refused_prints None next prints = prints
 
+shared_prints : (q : Program) (requests : List ℕ) (budget : ℕ) → (shared_answer q requests budget).file ≡ None
+unfolding shared_answer
+shared_prints q requests budget = refl
+
+far_prints : (program : ℕ) (found : Option Overlong) (next : Protocol) → OnlyPrints next → OnlyPrints (unless_far program found next)
+far_prints program (Some found) next prints = refl
+far_prints program None next prints = prints
+
+wrong_prints : (program : ℕ) (cause : Option (List ℕ)) (next : Protocol) → OnlyPrints next → OnlyPrints (unless_wrong program cause next)
+wrong_prints program (Some cause) next prints = refl
+wrong_prints program None next prints = prints
+
+pair_prints : (layout_of : Layouts) (interrupts : Option (List ℕ)) (budget : ℕ) (first second : SourceValue) → OnlyPrints (pair_protocol layout_of interrupts budget first second)
+pair_prints layout_of interrupts budget first second =
+    far_prints 1 (overlong first lower (blocks_in (layout_of first))) _
+    (far_prints 2 (overlong second upper (blocks_in (upper_layout layout_of second))) _
+    (files_print interrupts _ (λ requests. shared_prints (shared (pair_code layout_of first second) (pair_data layout_of first second)) requests budget)))
+
+assembled_prints : (program : ℕ) (place : Place) (next : SourceValue → Protocol) → ((source : SourceValue) → OnlyPrints (next source)) → (text : List ℕ) → OnlyPrints (assembled_protocol program place next text)
+assembled_prints program place next prints text = wrong_prints program (wrong_with place text) _ (prints (source_of place.user_data text))
+
 command_prints : (layout_of : Layouts) (asked : Command) → writes_a_file (Some asked) ≡ false → OnlyPrints (protocol_of layout_of (Some asked))
 command_prints layout_of (Run source files limits) only =
     linked_prints layout_of (run_protocol files limits)
@@ -81,6 +107,9 @@ command_prints layout_of (Listing source) only = linked_prints layout_of list_pr
 command_prints layout_of (Gen seed count) only = refl
 command_prints layout_of (Soak seed count) only = refl
 command_prints layout_of (Migrate image target) only = absurd (cc)
+command_prints layout_of (Share first second interrupts budget) only =
+    assembled_prints 1 lower (λ one. Reads Second second (assembled_protocol 2 upper (pair_protocol layout_of interrupts budget one)))
+    (λ one. assembled_prints 2 upper (pair_protocol layout_of interrupts budget one) (pair_prints layout_of interrupts budget one))
 
 only_prints : (layout_of : Layouts) (asked : Option Command) → writes_a_file asked ≡ false → OnlyPrints (protocol_of layout_of asked)
 only_prints layout_of None only = refl
