@@ -30,7 +30,7 @@ after_append : (code : Code) (input : Option (List ℕ)) (g h : List Bool) (m : 
 after_append code input [] h m = refl
 after_append code input (b ∷ g) h m = after_append code input g h (cycled resident code input m b)
 
-passed_more : (q : Program) (g : List Bool) (b : Bool) (m : Machine) → passed_on q m (g ++ b ∷ []) ≡ passed_on q m g + one (passes (after_bits resident (code_of q) q.input m g))
+pub passed_more : (q : Program) (g : List Bool) (b : Bool) (m : Machine) → passed_on q m (g ++ b ∷ []) ≡ passed_on q m g + one (passes (after_bits resident (code_of q) q.input m g))
 passed_more q [] b m = omega arith
 passed_more q (a ∷ g) b m = let e = passed_more q g b (cycled resident (code_of q) q.input m a) in omega (arith, e)
 
@@ -56,14 +56,14 @@ module _ (user_words data_words : List ℕ) (p : Place) (input : Option (List �
   abbrev words : Words
   words = data_from 256 data_words
 
-  abbrev q : Program
+  abbrev pub q : Program
   q = program user_words inside p input data_words
 
-  abbrev passed : ℕ → ℕ
+  abbrev pub passed : ℕ → ℕ
   passed n = passed_on q (start words) (bits requests n)
 
   -- the steps that are done before a cycle
-  abbrev done : ℕ → Watched
+  abbrev pub done : ℕ → Watched
   done n = steps user_words inside p input data_words (passed n) (watch_start p words)
 
   clean_at : (n : ℕ) → n ≤ budget → (done n).clean ≡ true
@@ -71,7 +71,7 @@ module _ (user_words data_words : List ℕ) (p : Place) (input : Option (List �
       clean_for_fewer user inside p input (passed n) budget (watch_start p words)
       (let e = passed_few q (bits requests n) (start words) in let f = length_bits requests n in omega (arith, e, f, h)) clean
 
-  ran_at : (n : ℕ) → n ≤ budget → Ran user_words inside p input data_words (bits requests n) (start words) (watch_start p words) 0 0 0
+  pub ran_at : (n : ℕ) → n ≤ budget → Ran user_words inside p input data_words (bits requests n) (start words) (watch_start p words) 0 0 0
   ran_at n h =
       runs user_words inside p input data_words at_board at_code (bits requests n) (start words) (watch_start p words) 0 0 0
       (stands_start user inside p input words at_code refl) (clean_at n h)
