@@ -20,3 +20,6 @@ most_searched = 8
 pub record IsProposed (block : Block) (plan : Plan) : Type 0 where
   pub small : size block ≤ most_searched → IsShortest block plan
   pub large : most_searched < size block → IsGreedy block plan
+
+abbrev pub ShortestExists : Type 0
+ShortestExists = (block : Block) → (plan : Plan) × IsShortest block plan

@@ -6,6 +6,6 @@ mod proposer;
 mod search;
 mod shortest;
 
-pub use laws::valid_plan_is_visited;
+pub use laws::{shortest_plan_exists, valid_plan_is_visited};
 pub use proposer::BestProposer;
-pub use shortest::best;
+pub use shortest::{MOST_SEARCHED, best};

@@ -6,7 +6,7 @@ use Rattle.mx_icache.specs.Residency.{resident}
 use Rattle.mx_turn.specs.declared.machine.Cycled.{Cycled}
 use Rattle.mx_turn.specs.Counted.{Counted}
 use Rattle.mx_turn.specs.Cycle.{Machine, is_taken, entered, decided, turned, ended, latched, cycled, answer}
-use Rattle.mx_turn.specs.Program.{Program, code_with, state_after, answer_after}
+use Rattle.mx_turn.specs.Program.{Program, code_with, code_of, state_after, answer_after}
 use Rattle.mx_turn.proofs.Steps.{after_one_more}
 use Rattle.mx_pipe.specs.declared.pipe.Pipe.{Pipe}
 use Rattle.mx_pipe.specs.declared.pipe.Wait.{Wait}
@@ -51,16 +51,20 @@ module _ {C : Type 0} (holds : C → List ℕ → Type 0) (t : Pipe C) (p : Prog
   abbrev m : Machine
   m = state_after p h
 
+  same_program : code_of_pipe t ≡ code_of p
+  same_program = λ k. code_with (code_from inst_of 0 (s.handler k)) (code_from inst_of 4096 (s.code k))
+
   pub answers : (r : Cycled) → r ≡ answer (code_of_pipe t) t.board.input m request → r ≡ answer_after p h request
-  answers r e = e ∙ (λ k. answer (s.code k) (s.input k) m request)
+  answers r e = e ∙ (λ k. answer (same_program k) (s.input k) m request)
 
   pub stands_on : (t' : Pipe C) (n : Machine) → KeepsProgram t t' → n ≡ cycled resident (code_of_pipe t) t.board.input m request
       → Waits holds t'.cache n t'.wait → t'.counts ≡ n.counts → Holds (code_of_pipe t) t' n → StandsFor holds t' p (h ++ request ∷ [])
   stands_on t' n keeps e waits counts tied =
       let to : n ≡ state_after p (h ++ request ∷ []) =
-      e ∙ (λ k. cycled resident (s.code k) (s.input k) m request) ∙ sym (after_one_more resident p.code p.input _ h request) in
+      e ∙ (λ k. cycled resident (same_program k) (s.input k) m request) ∙ sym (after_one_more resident (code_of p) p.input _ h request) in
       record {
-        code = same_code t t' keeps ∙ s.code;
+        code = ap (λ v. v.items) keeps.code ∙ s.code;
+        handler = ap (λ v. v.items) keeps.handler ∙ s.handler;
         input = keeps.input ∙ s.input;
         waits = subst (λ x. Waits holds t'.cache x t'.wait) to waits;
         counts = counts ∙ ap (λ (x : Machine). x.counts) to;

@@ -91,7 +91,8 @@ pub record KeepsProgram {C : Type 0} (p p' : Pipe C) : Type 0 where
 
 -- it stands for the program after the request bits
 pub record StandsFor {C : Type 0} (holds : C → List ℕ → Type 0) (t : Pipe C) (p : Program) (h : List Bool) : Type 0 where
-  pub code : code_of_pipe t ≡ p.code
+  pub code : t.code.items ≡ p.user_words
+  pub handler : t.handler.items ≡ p.handler_words
   pub input : t.board.input ≡ p.input
   pub waits : Waits holds t.cache (state_after p h) t.wait
   pub counts : t.counts ≡ (state_after p h).counts

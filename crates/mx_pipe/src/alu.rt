@@ -14,9 +14,10 @@ ghost use Rattle.mx_pipe.specs.Latched.{does};
 ghost use Rattle.mx_pipe.specs.Made.{allowed, md_behind, md_kept};
 
 use crate::Latch;
-use crate::stages::{address_of, number_of};
+use crate::fetching::address_of;
 use mx_isa::{Inst, Special, compute};
 use mx_pcchain::Chain;
+use mx_turn::{Decided, branches, goes_on, goes_to, number_of};
 
 // User code moves nothing from the saved fetches.
 fn allowed(user: bool, inst: Inst) -> Option<Inst>
@@ -82,47 +83,11 @@ pub fn make(rf: &Latch, a: u32, b: u32, md: u32, user: bool, chain: &Chain) -> L
     }
 }
 
-/// Where the word in ALU leads, if not to the next one; whether it cancels the two words behind it; whether it pops the
-/// chain in system mode, and brings back the other mode too.
-#[derive(Clone, Copy)]
-pub struct Decided {
-    pub target: Option<u32>,
-    pub cancels: bool,
-    pub pops: bool,
-    pub restores: bool,
-}
-
-// It leads to an address.
-fn goes_to(target: u32) -> Decided
-    ensures { result ≡ record { target = Some target; cancels = false; pops = false; restores = false } }
+// Whether a branch that made this number holds.
+fn is_one(number: u32) -> bool
+    ensures { (holds : Bool) → number ≡ (if holds then 1 else 0) → result ≡ holds }
 {
-    Decided {
-        target: Some(target),
-        cancels: false,
-        pops: false,
-        restores: false,
-    }
-}
-
-// A branch, by the number that it made: 1 where it holds.
-fn branches(number: u32, at: u32, squash: bool, by: i32) -> Decided
-    ensures goes { (holds : Bool) → number ≡ (if holds then 1 else 0)
-        → result.target ≡ (if holds then Some ((at + cast_unsigned w32 by) % 2 ^ 31) else None) }
-    ensures cancels { (holds : Bool) → number ≡ (if holds then 1 else 0) → result.cancels ≡ (if holds then false else squash) }
-    ensures code_address { IfSome result.target (λ a. a < 2 ^ 31) }
-    ensures pops { result.pops ≡ false }
-    ensures restores { result.restores ≡ false }
-{
-    if number != 0 {
-        goes_to(at.wrapping_add(by.cast_unsigned()) % (1 << 31))
-    } else {
-        Decided {
-            target: None,
-            cancels: squash,
-            pops: false,
-            restores: false,
-        }
-    }
+    number != 0
 }
 
 /// What the word in ALU decides, from its operand and the number that it made.
@@ -140,7 +105,7 @@ pub fn decide(alu: &Latch) -> Decided
 {
     match alu.inst {
         Some(Inst::Branch { squash, by, .. }) => {
-            branches(alu.result, address_of(alu.word), squash, by)
+            branches(is_one(alu.result), address_of(alu.word), squash, by)
         }
         Some(Inst::Jspci { imm, .. }) => {
             goes_to(alu.a.wrapping_add(imm.cast_unsigned()) % (1 << 31))
@@ -157,11 +122,6 @@ pub fn decide(alu: &Latch) -> Decided
             pops: true,
             restores: true,
         },
-        _ => Decided {
-            target: None,
-            cancels: false,
-            pops: false,
-            restores: false,
-        },
+        _ => goes_on(),
     }
 }

@@ -1,10 +1,10 @@
 //! The word that is fetched.
-ghost use Rattle.std.specs.Prelude.{◌≡◌, IfSome, Some, unwrap_or, slice_get, option_and_then};
+ghost use Rattle.std.specs.Prelude.{◌≡◌, ◌<◌, ◌^◌, IfSome, Some, unwrap_or, slice_get, option_and_then};
 ghost use Rattle.mx_code.specs.Decoding.{inst_of};
 ghost use Rattle.mx_code.specs.Delay.{code_from, idle};
 ghost use Rattle.mx_turn.specs.Decoded.{ShiftFits};
 ghost use Rattle.mx_turn.specs.Program.{code_with};
-ghost use Rattle.mx_turn.specs.Stages.{live};
+ghost use Rattle.mx_turn.specs.Stages.{live, address_of};
 ghost use Rattle.mx_pipe.specs.Latched.{does};
 
 use crate::Latch;
@@ -61,5 +61,24 @@ pub fn fetched(code: &[u32], handler: &[u32], next: Fetched) -> Latch
         b: 0,
         result: 0,
         md: 0,
+    }
+}
+
+/// The address of a fetch.
+pub fn address(fetched: Fetched) -> u32
+    ensures value { result ≡ fetched.address }
+    ensures code_address { result < 2 ^ 31 }
+{
+    fetched.address
+}
+
+/// The address of a stage, 0 where it is empty.
+pub fn address_of(stage: Option<Fetched>) -> u32
+    ensures value { result ≡ address_of stage }
+    ensures code_address { result < 2 ^ 31 }
+{
+    match stage {
+        Some(fetched) => address(fetched),
+        None => 0,
     }
 }

@@ -1,7 +1,7 @@
 //! Latches.
-use crate::stages::squash;
 use mx_isa::Inst;
 use mx_pcchain::Fetched;
+use mx_turn::squash;
 use std::marker::Model;
 
 /// What passes from one stage to the next: a fetch, with its squashed mark, if there is one that was not killed; what its

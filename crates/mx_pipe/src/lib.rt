@@ -5,11 +5,11 @@
 mod alu;
 mod fetching;
 mod latch;
+mod laws;
 mod machine;
 mod memory;
 mod operands;
 mod pipe;
-mod stages;
 
 pub use latch::Latch;
 pub use pipe::{Pipe, Wait};

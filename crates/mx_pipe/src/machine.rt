@@ -8,14 +8,13 @@ ghost use Rattle.mx_pipe.specs.declared.pipe.Wait.{Wait};
 ghost use Rattle.mx_pipe.specs.Kept.{code_of_pipe, IsMade, Holds, Commits, Waits, KeepsProgram, StandsFor};
 
 use crate::alu::{decide, make};
-use crate::fetching::fetched;
+use crate::fetching::{address, fetched};
 use crate::memory::reach;
 use crate::operands::{operands, read_operands, register_of, write_back};
-use crate::stages::{address, fetch_of, led, popped, restored, saved, stage_of};
 use crate::{Latch, Pipe, Wait};
 use mx_icache::FetchCache;
 use mx_isa::Reg;
-use mx_turn::{Counts, Cycled, Latches, Machine};
+use mx_turn::{Counts, Cycled, Latches, Machine, fetch_of, led, popped, restored, saved, stage_of};
 
 // What the word in ALU brought about.
 #[derive(Clone, Copy)]

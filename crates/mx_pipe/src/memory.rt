@@ -7,10 +7,10 @@ ghost use Rattle.mx_pipe.specs.Latched.{does};
 ghost use Rattle.mx_pipe.specs.Made.{reached, takes_byte, sends, md_kept, chain_kept};
 
 use crate::Latch;
-use crate::stages::move_to;
 use mx_board::Board;
 use mx_isa::Inst;
 use mx_pcchain::Chain;
+use mx_turn::move_to;
 
 /// The word of a latch is in MEM: a load finds its word, a store sends one, MD and the saved fetches are written. Answers
 /// the byte that goes to the console.
@@ -24,7 +24,8 @@ pub fn reach(
     memory: &mut Board,
 ) -> Option<u8>
     ensures result { latch.new ≡ record latch.old {
-        result = reached (does latch.old) latch.old.result ((board user memory.old.input).load (words_of memory.old) memory.old.taken) } }
+      result = reached (does latch.old) latch.old.result ((board user memory.old.input).load (words_of memory.old) memory.old.taken);
+    } }
     ensures md { md.new ≡ md_kept latch.old.inst latch.old.result latch.old.md md.old }
     ensures chain { chain.new ≡ chain_kept user (does latch.old) latch.old.result chain.old }
     ensures halted { halted.new ≡ is_halt (does latch.old) }

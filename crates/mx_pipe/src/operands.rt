@@ -2,19 +2,19 @@
 ghost use Rattle.std.specs.Prelude.{◌≡◌, cond, slice_index};
 ghost use Rattle.mx_isa.specs.Words.{Words, reg, write};
 ghost use Rattle.mx_isa.specs.Views.{sources, dest, is_load};
-ghost use Rattle.mx_turn.specs.System.{seen, slot_of};
+ghost use Rattle.mx_turn.specs.System.{seen, no_slot, slot_of};
 ghost use Rattle.mx_pipe.specs.Latched.{does};
 
 use crate::Latch;
-use crate::stages::{read, set, sources};
 use mx_isa::{Inst, Reg};
+use mx_turn::{read, set};
 
 // The registers that the word of a latch reads, r0 where it reads fewer than two.
 fn sources_of(latch: &Latch) -> (Reg, Reg)
     ensures { result ≡ sources (does latch.now) }
 {
     match &latch.inst {
-        Some(inst) => sources(inst),
+        Some(inst) => inst.sources(),
         None => (Reg::ZERO, Reg::ZERO),
     }
 }
@@ -24,12 +24,8 @@ fn dest_of(latch: &Latch) -> Reg
     ensures { result ≡ dest (does latch.now) }
 {
     match &latch.inst {
-        Some(Inst::Load { dest, .. }) => *dest,
-        Some(Inst::Compute { dest, .. }) => *dest,
-        Some(Inst::Addi { dest, .. }) => *dest,
-        Some(Inst::MoveFrom { dest, .. }) => *dest,
-        Some(Inst::Jspci { dest, .. }) => *dest,
-        _ => Reg::ZERO,
+        Some(inst) => inst.dest(),
+        None => Reg::ZERO,
     }
 }
 
@@ -56,7 +52,7 @@ fn reads(file: &[u32; 32], to: Reg, word: u32, r: Reg) -> u32
 // Of the two words that may have written it since, the one in MEM is the newer.
 fn bypassed(loads: bool, to: Reg, word: u32, r: Reg, before: u32) -> u32
     ensures { (regs : Words) → before ≡ reg regs r
-        → result ≡ reg (seen (cond loads (record { register = to; value = reg regs to }) (record { register = 0; value = 0 })) (write regs to word)) r }
+        → result ≡ reg (seen (cond loads (record { register = to; value = reg regs to }) no_slot) (write regs to word)) r }
 {
     let n = r.number();
     if n != 0 && n == to.number() && !loads {

@@ -8,13 +8,12 @@ ghost use Rattle.mx_turn.specs.Program.{program_of};
 ghost use Rattle.mx_pipe.specs.Kept.{StandsFor};
 
 use crate::Latch;
-use crate::stages::fetch_of;
 use mx_board::Board;
 use mx_code::Image;
 use mx_icache::FetchCache;
 use mx_io::Memory;
 use mx_pcchain::{Chain, Fetched, Psw};
-use mx_turn::{Counts, Latches, SHIPPED, Stage};
+use mx_turn::{Counts, Latches, SHIPPED, Stage, fetch_of};
 use std::alloc::Global;
 
 /// Whether the cache has been asked for the fetch of the coming turn, and the stalled cycles that are left where that

@@ -17,7 +17,7 @@ mod turns;
 pub use alu_stage::{Decided, branches, goes_on, goes_to};
 pub use counts::Counts;
 pub use latches::{Latches, Stage};
-pub use laws::one_user_turn;
+pub use laws::{one_user_turn, stages_are_a_window};
 pub use machine::{Cycled, Machine};
 pub use mem_stage::move_to;
 pub use registers::{read, set};

@@ -2,9 +2,7 @@ use Rattle.std.proofs.Common.{◌≡◌, refl, sym, ap, ◌∙◌, cond}
 use Rattle.std.specs.Prelude.{slice_index}
 use Rattle.mx_isa.specs.Words.{write}
 use Rattle.mx_isa.specs.Views.{dest}
-use Rattle.mx_code.specs.Decoding.{inst_of}
-use Rattle.mx_code.specs.Delay.{code_from, data_from}
-use Rattle.mx_turn.specs.Program.{code_with}
+use Rattle.mx_code.specs.Delay.{data_from}
 use Rattle.mx_turn.specs.System.{slot_of}
 use Rattle.mx_turn.proofs.Stands.{no_registers, none_resident}
 use Rattle.mx_pipe.specs.Latched.{does}
@@ -13,7 +11,8 @@ use Rattle.mx_pipe.proofs.pipe.Pipe.with.Goals as goal
 
 pub returns : goal.returns
 returns g c = record {
-  code = λ k. code_with (code_from inst_of 0 (c.in_ok-handler.ensures k)) (code_from inst_of 4096 ((c.in_ok-code.ensures ∙ c.deref.ensures.value) k));
+  code = c.in_ok-code.ensures ∙ c.deref.ensures.value;
+  handler = c.in_ok-handler.ensures;
   input = c.in_ok-board.ensures.input;
   waits = (c.requires.empty, λ k. cond (sym (none_resident 4096) k) 0 2);
   counts = c.none.ensures;
