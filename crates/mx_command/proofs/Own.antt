@@ -19,6 +19,7 @@ use Rattle.mx_isa.specs.declared.Place.{Place}
 use Rattle.mx_source.specs.SourceValue.{SourceValue}
 use Rattle.mx_source.specs.Meaning.{Mark}
 use Rattle.mx_source.specs.Meaning as meant
+use Rattle.mx_squash.specs.Copies.{Site}
 use Rattle.mx_layout.specs.Overlong.{Overlong}
 use Rattle.mx_link.specs.Origins.{from_target}
 use Rattle.mx_link.specs.Linked.{linked_code, linked_data}
@@ -30,8 +31,8 @@ use Rattle.mx_simulate.specs.Simulated.{program_answer}
 use Rattle.mx_simulate.specs.Machines.{Files, given, by_requests, requests_protocol, input_protocol, machine_protocol}
 use Rattle.mx_asked.specs.declared.Command.{Command as GivenCommand}
 use Rattle.mx_asked.specs.Seen.{seen_command}
-use Rattle.mx_asked.specs.Commands.{Command, Run, Meaning, Build, Exec, Listing, Gen, Soak, Migrate}
-use Rattle.mx_command.specs.Protocols.{unless_faulty, unless_overlong, unless_refused, migrated, Layouts, Linking, linked_protocol, run_protocol, build_protocol, linked_contents, list_protocol, protocol_of}
+use Rattle.mx_asked.specs.Commands.{Command, Run, Meaning, Build, Exec, Listing, Best, Gen, Soak, Migrate}
+use Rattle.mx_command.specs.Protocols.{unless_faulty, unless_overlong, unless_refused, migrated, measured, Layouts, Linking, linked_protocol, run_protocol, build_protocol, linked_contents, list_protocol, protocol_of}
 use Rattle.mx_command.specs.Replied.{is_answered, IsReplied}
 
 -- the answer to what was asked
@@ -101,6 +102,10 @@ answers_migrated : (target bytes : List ℕ) (refusal : Option ImageError) → I
 answers_migrated target bytes (Some error) = printed_answer _ _ refl
 answers_migrated target bytes None = written_answer target _
 
+pub answers_measured : (source : SourceValue) (sites : List Site) (found : Option (ℕ × Fault)) → IsAnswer (measured source sites found)
+answers_measured source sites (Some found) = printed_answer _ _ refl
+answers_measured source sites None = printed_answer _ _ refl
+
 pub has_answers : (layout_of : Layouts) (asked : Command) → HasAnswers (protocol_of layout_of (Some asked))
 has_answers layout_of (Run source files limits) =
     answers_linked layout_of (run_protocol files limits)
@@ -109,6 +114,7 @@ has_answers layout_of (Meaning source steps input) = λ text. answers_faulty (te
 has_answers layout_of (Build source target) = answers_linked layout_of (build_protocol target) (λ read. written_answer target (file_bytes (linked_contents read (layout_of read))))
 has_answers layout_of (Exec image files limits) = λ bytes. answers_refused (file_refusal bytes) _ (answers_machine files limits (file_in bytes).code (file_in bytes).user_data (file_in bytes).input)
 has_answers layout_of (Listing source) = answers_linked layout_of list_protocol (λ read. printed_answer Done (layout_listing read board (layout_of read)) refl)
+has_answers layout_of (Best source) = λ text. answers_measured (source_of 256 text) (layout_of (source_of 256 text)) (text_fault 256 65536 text)
 has_answers layout_of (Gen seed count) = printed_answer _ _ refl
 has_answers layout_of (Soak seed count) = printed_answer _ _ refl
 has_answers layout_of (Migrate image target) = λ bytes. answers_migrated target bytes (file_refusal bytes)

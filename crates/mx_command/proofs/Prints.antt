@@ -14,6 +14,7 @@ use Rattle.mx_asm.specs.declared.Fault.{Fault}
 use Rattle.mx_asm.specs.Texts.{source_of, text_fault}
 use Rattle.mx_source.specs.SourceValue.{SourceValue}
 use Rattle.mx_isa.specs.declared.Place.{Place}
+use Rattle.mx_squash.specs.Copies.{Site}
 use Rattle.mx_layout.specs.Overlong.{Overlong}
 use Rattle.mx_link.specs.Origins.{from_target}
 use Rattle.mx_link.specs.Linked.{linked_code, linked_data}
@@ -25,8 +26,8 @@ use Rattle.mx_schedule.specs.Schedule.{IsScheduler}
 use Rattle.mx_simulate.specs.declared.Limits.{Limits}
 use Rattle.mx_simulate.specs.Simulated.{program_answer}
 use Rattle.mx_simulate.specs.Machines.{Files, given, by_requests, requests_protocol, input_protocol, machine_protocol}
-use Rattle.mx_asked.specs.Commands.{Command, Run, Meaning, Build, Exec, Listing, Gen, Soak, Migrate}
-use Rattle.mx_command.specs.Protocols.{unless_faulty, unless_overlong, unless_refused, Layouts, Linking, linked_protocol, run_protocol, list_protocol, protocol_of}
+use Rattle.mx_asked.specs.Commands.{Command, Run, Meaning, Build, Exec, Listing, Best, Gen, Soak, Migrate}
+use Rattle.mx_command.specs.Protocols.{unless_faulty, unless_overlong, unless_refused, measured, Layouts, Linking, linked_protocol, run_protocol, list_protocol, protocol_of}
 use Rattle.mx_command.specs.Writing.{writes_a_file}
 
 program_prints : (p : Program) (code requests : List ℕ) (limits : Limits) → (program_answer p code requests limits).file ≡ None
@@ -68,6 +69,10 @@ refused_prints : (refusal : Option ImageError) (next : Protocol) → OnlyPrints 
 refused_prints (Some error) next prints = refl
 refused_prints None next prints = prints
 
+measured_prints : (source : SourceValue) (sites : List Site) (found : Option (ℕ × Fault)) → (measured source sites found).file ≡ None
+measured_prints source sites (Some found) = refl
+measured_prints source sites None = refl
+
 command_prints : (layout_of : Layouts) (asked : Command) → writes_a_file (Some asked) ≡ false → OnlyPrints (protocol_of layout_of (Some asked))
 command_prints layout_of (Run source files limits) only =
     linked_prints layout_of (run_protocol files limits)
@@ -78,6 +83,7 @@ command_prints layout_of (Build source target) only = absurd (cc)
 command_prints layout_of (Exec image files limits) only =
     λ bytes. refused_prints (file_refusal bytes) _ (machine_prints files limits (file_in bytes).code (file_in bytes).user_data (file_in bytes).input)
 command_prints layout_of (Listing source) only = linked_prints layout_of list_protocol (λ read. refl)
+command_prints layout_of (Best source) only = λ text. measured_prints (source_of 256 text) (layout_of (source_of 256 text)) (text_fault 256 65536 text)
 command_prints layout_of (Gen seed count) only = refl
 command_prints layout_of (Soak seed count) only = refl
 command_prints layout_of (Migrate image target) only = absurd (cc)
