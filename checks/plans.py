@@ -86,6 +86,23 @@ def valid(b,plan):
         if items[p] is not None and items[p+1] is not None and feeds(b.insts[items[p]],b.insts[items[p+1]]): return False
     if items and items[-1] is not None and b.insts[items[-1]].load: return False
     return place<=padded(b)[1]
+# The number of items of a shortest valid plan: each length in turn, every item at every place from the front, and the
+# conditions on the finished list. A place is only given up where what stands already breaks a condition.
+def shortest(b):
+    n=len(b.insts); tail={'falls':0,'halt':1}.get(b.end,3)
+    def finds(items,length):
+        if len(items)==length: return valid(b,(items,length-tail))
+        for k in [*range(n),None]:
+            if k is None:
+                if items.count(None)==length-n: continue
+            elif k in items: continue
+            elif any(j not in items and not independent(b.insts[j],b.insts[k],b.input) for j in range(k)): continue
+            elif items and items[-1] is not None and feeds(b.insts[items[-1]],b.insts[k]): continue
+            if finds(items+[k],length): return True
+        return False
+    length=max(n,tail)
+    while not finds([],length): length+=1
+    return length
 def backwards(b):
     items=list(reversed(range(b.body))); place=len(items)
     if b.end!='falls': items.append(len(b.insts)-1)
@@ -120,7 +137,8 @@ def answer(lines, insts, labelled, inp):
         pi,pp=padded(b); gi,gp=plans[n]
         assert valid(b,(pi,pp)) and valid(b,(gi,gp))
         fr,c,sq=copies(bs,plans,starts,n)
-        out.append('%d: padded %s at %d, greedy %s at %d, backwards %s, copies %s %d%s'%(b.first,show(pi),pp,show(gi),gp,'accepted' if valid(b,backwards(b)) else 'rejected',show(fr),c,' squash' if sq else ''))
+        best=str(shortest(b)) if len(b.insts)<=8 else '-'
+        out.append('%d: padded %s at %d, greedy %s at %d, best %s, backwards %s, copies %s %d%s'%(b.first,show(pi),pp,show(gi),gp,best,'accepted' if valid(b,backwards(b)) else 'rejected',show(fr),c,' squash' if sq else ''))
     return ' / '.join(lines)+' => '+' | '.join(out)
 # --- making sources
 def R(r): return 'r%d'%r
@@ -191,6 +209,13 @@ out.append(worked([A(0,1,2),L(256,0,1),H()],[('x',2)]))
 # blocks of exactly 64 statements, and one more
 for n in (64,65): out.append(worked([L(256+i%3,0,1+i%7) if i%4==0 else A(1+i%5,i,1+i%7) for i in range(n)],[]))
 out.append(worked([L(256+i,0,1+i%31) for i in range(64)],[]))
+# eight instructions in any order, and eight loads, of which none may stand last
+for end in ([],[H()]):
+    m=8-len(end)
+    out.append(worked([A(0,i,1+i) for i in range(m)]+end,[]))
+    out.append(worked([L(256+i,0,1+i) for i in range(m)]+end,[]))
+out.append(worked([A(0,i,1+i) for i in range(7)]+[Bc('bne',30,29,'L',0)],[('L',0)]))
+out.append(worked([L(256+i,0,1+i) for i in range(7)]+[Bc('bne',30,29,'L',0)],[('L',0)]))
 for c in range(300):
     inp=rnd.random()<.2
     out.append(case(rnd,rnd.randrange(1,15),inp,rnd.randrange(1,4),[0,1,2,3,4,5][:rnd.choice([4,6])]))

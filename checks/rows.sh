@@ -73,6 +73,32 @@ expect 'a displacement that fits' 0 halted
 { echo 'bne r0,r0,E'; yes 'ld 256[r0],r1' | head -n 16382; echo 'addi r0,#0,r2'; echo 'E: halt'; } >source
 mx run source
 expect 'a displacement that does not' 1 'line 1: displacement 32768 from 4096 to 36864'
+{ echo 'L: ld 256[r0],r1'; yes 'ld 256[r0],r1' | head -n 16383; echo 'bne r0,r0,L'; echo halt; } >source
+mx run source
+expect 'a displacement back that fits' 0 halted
+{ echo 'L: ld 256[r0],r1'; yes 'ld 256[r0],r1' | head -n 16383; echo 'addi r0,#0,r2'; echo 'bne r0,r0,L'; echo halt; } >source
+mx run source
+expect 'a displacement back that does not' 1 'line 16386: displacement -32769 from 36865 to 4096'
+# lists NAME LINE..: the listing of the source has each of these lines
+lists() {
+    local name=$1 line outcome=ok
+    shift
+    mx list source
+    for line in "$@"; do grep -aqx "$line" out || outcome="no line $line"; done
+    tell "$outcome" "$name"
+}
+
+{ echo 'call go,r31'; echo 'L: halt'; yes 'jr r2' | head -n 10922; echo 'addi r0,#0,r3'; echo 'go: b L'; } >source
+lists 'a branch back by 32768' '00009003 00008000 10926' 'copies 0'
+mx run source
+expect 'its run' 0 halted
+{ echo 'b E'; yes 'jr r2' | head -n 10921; echo 'addi r0,#0,r3'; echo 'E: addi r0,#5,r4'; echo halt; } >source
+lists 'a branch ahead by 32767, too far for a copy' '00001000 00007fff 1' 'copies 0'
+{ echo 'b E'; yes 'jr r2' | head -n 10921; echo 'E: addi r0,#5,r4'; echo halt; } >source
+lists 'a branch ahead by 32767 behind a copy' '00001000 00007fff 1' 'copies 1'
+{ echo 'call f,r31'; yes 'ld 256[r0],r1' | head -n 16400; echo 'f: halt'; } >source
+mx run source
+expect 'a call reaches farther' 0 halted
 { yes nop | head -n 19999; echo halt; } >source
 mx run source
 expect '20,000 statements' 0 halted

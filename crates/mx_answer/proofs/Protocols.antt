@@ -8,7 +8,7 @@ use Rattle.mx_answer.specs.declared.status.Status.{Status}
 use Rattle.mx_answer.specs.declared.status.Status.TheVariants.{ReadFault, Done}
 use Rattle.mx_answer.specs.Files.{limit_of}
 use Rattle.mx_answer.specs.Answer.{Answer, failed_answer, too_long_answer, is_own}
-use Rattle.mx_answer.specs.Protocol.{Protocol, Answers, Reads, Given, Failed, TooLong, reading_of, answered, resolved, Told, Counts, IsRead, IsGiven, IsFailed, IsTooLong, IsFault, Performed, Faulted, HasOwnAnswers}
+use Rattle.mx_answer.specs.Protocol.{Protocol, Answers, Reads, Given, Failed, TooLong, reading_of, answered, resolved, Told, Counts, IsRead, IsGiven, IsFailed, IsTooLong, IsFault, Performed, Faulted, HasOwnAnswers, OnlyPrints}
 
 pub rose_before : (x y z : ℕ) → x ≤ y → Rose y z → Rose x z
 rose_before x y z h (inl r) = inl (omega arith)
@@ -60,9 +60,9 @@ pub fault_of_file : (shelf : Told) (p : Protocol) (before after : Counts) (given
 fault_of_file shelf (Answers answer) before after given own (same, is) fault =
     let bad : true ≡ false = sym own.status ∙ ap (λ a. is_own a.status) (sym is) ∙ ap is_own fault in absurd (cc)
 fault_of_file shelf (Reads kind name next) before after given own (between, read, inl (same, faulty)) fault =
-    inl (ap (λ c. c.reads) same ∙ read.reads, subst (λ c. IsFault shelf kind name before c given) (sym same) faulty)
+    inl (subst (IsRead before) (sym same) read, subst (λ c. IsFault shelf kind name before c given) (sym same) faulty)
 fault_of_file shelf (Reads kind name next) before after given own (between, read, inr (bytes, found, rest)) fault =
-    inr (between, read.reads, bytes, found, fault_of_file shelf (next bytes) between after given (own bytes) rest fault)
+    inr (between, read, bytes, found, fault_of_file shelf (next bytes) between after given (own bytes) rest fault)
 
 -- the answer to a fault of a file is no want of memory and no fault of writing
 fault_status : (shelf : Told) (kind : FileKind) (name : List ℕ) (before after : Counts) (given : Answer) → IsFault shelf kind name before after given → given.status ≡ ReadFault
@@ -86,3 +86,10 @@ file_is_done shelf (Reads kind name next) before after given own (between, read,
     let bad : true ≡ false = sym file ∙ ap (λ a. is_some a.file) is in absurd (cc)
 file_is_done shelf (Reads kind name next) before after given own (between, read, inr (bytes, found, rest)) file =
     file_is_done shelf (next bytes) between after given (own bytes) rest file
+
+-- a command that only prints answers with no file
+pub no_file : (shelf : Told) (p : Protocol) (before after : Counts) (given : Answer) → OnlyPrints p → Performed shelf p before after given → given.file ≡ None
+no_file shelf (Answers answer) before after given prints (same, is) = ap (λ a. a.file) is ∙ prints
+no_file shelf (Reads kind name next) before after given prints (between, read, inl (same, inl (is, why))) = ap (λ a. a.file) is
+no_file shelf (Reads kind name next) before after given prints (between, read, inl (same, inr (is, why))) = ap (λ a. a.file) is
+no_file shelf (Reads kind name next) before after given prints (between, read, inr (bytes, found, rest)) = no_file shelf (next bytes) between after given (prints bytes) rest

@@ -78,12 +78,13 @@ Performed shelf (Reads kind name next) before after given =
     × (((after ≡ between) × IsFault shelf kind name before between given)
     ⊎ ((bytes : List ℕ) × IsGiven shelf kind name bytes × Performed shelf (next bytes) between after given))
 
--- A read fault: it is the fault of a file, after one read of each file up to it, and the files before it gave bytes that ask for it.
+-- A read fault: it is the fault of a file, after one read of each file up to it, and the files before it gave bytes that ask for it. The counts
+-- before a read are those after the read before it, so that no fault from before the command is its cause.
 abbrev pub Faulted : Told → Protocol → Counts → Counts → Answer → Type 0
 Faulted shelf (Answers answer) before after given = ⊥
 Faulted shelf (Reads kind name next) before after given =
-    ((after.reads ≡ one_more before.reads) × IsFault shelf kind name before after given)
-    ⊎ ((between : Counts) × (between.reads ≡ one_more before.reads) × (bytes : List ℕ) × IsGiven shelf kind name bytes × Faulted shelf (next bytes) between after given)
+    (IsRead before after × IsFault shelf kind name before after given)
+    ⊎ ((between : Counts) × IsRead before between × (bytes : List ℕ) × IsGiven shelf kind name bytes × Faulted shelf (next bytes) between after given)
 
 -- no answer of its own is a fault outside or want of memory, and one that writes a file is done
 pub record IsOwnAnswer (answer : Answer) : Type 0 where
@@ -93,3 +94,8 @@ pub record IsOwnAnswer (answer : Answer) : Type 0 where
 abbrev pub HasOwnAnswers : Protocol → Type 0
 HasOwnAnswers (Answers answer) = IsOwnAnswer answer
 HasOwnAnswers (Reads kind name next) = (bytes : List ℕ) → HasOwnAnswers (next bytes)
+
+-- no answer writes a file
+abbrev pub OnlyPrints : Protocol → Type 0
+OnlyPrints (Answers answer) = answer.file ≡ None
+OnlyPrints (Reads kind name next) = (bytes : List ℕ) → OnlyPrints (next bytes)

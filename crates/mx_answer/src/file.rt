@@ -6,18 +6,22 @@ ghost use Rattle.mx_answer.specs.Files.{limit_of, file_word};
 #[derive(Clone, Copy, Debug, PartialEq, Eq)]
 pub enum FileKind {
     Source,
+    /// The source of the first of two programs that share the machine.
+    First,
+    /// The source of the second.
+    Second,
     Image,
     Interrupts,
     Input,
 }
 
 impl FileKind {
-    /// How many bytes such a file may have: 4,194,304 for a source, 1,048,576 for the others.
+    /// How many bytes such a file may have: 4,194,304 for a source, be it one of two, 1,048,576 for the others.
     pub fn limit(self) -> usize
         ensures { result ≡ limit_of self }
     {
         match self {
-            FileKind::Source => 4_194_304,
+            FileKind::Source | FileKind::First | FileKind::Second => 4_194_304,
             _ => 1_048_576,
         }
     }
@@ -28,6 +32,8 @@ impl FileKind {
     {
         match self {
             FileKind::Source => "source",
+            FileKind::First => "program 1",
+            FileKind::Second => "program 2",
             FileKind::Image => "image",
             FileKind::Interrupts => "interrupts",
             FileKind::Input => "input",

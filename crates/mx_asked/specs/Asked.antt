@@ -1,11 +1,11 @@
 -- The command that the words after the program's name ask for.
-use Rattle.std.specs.Prelude.{ℕ, List, [], ◌∷◌, codes, Option, Some, None, option_map, option_and_then, if◌then◌else◌}
+use Rattle.std.specs.Prelude.{ℕ, List, [], ◌∷◌, codes, Option, Some, None, option_map, option_and_then, find}
 use Rattle.std.specs.Str.{bytes_eq}
 use Rattle.mx_words.specs.Reading.{asked}
 use Rattle.mx_report.specs.declared.Dump.{Dump}
 use Rattle.mx_simulate.specs.declared.Limits.{Limits}
 use Rattle.mx_asked.specs.Numbers.{number, number_or, optional}
-use Rattle.mx_asked.specs.Commands.{Command, Run, Meaning, Build, Exec, Listing, Gen, Soak, Migrate}
+use Rattle.mx_asked.specs.Commands.{Command, Run, Meaning, Build, Exec, Listing, Gen, Soak, Migrate, Share}
 
 -- the options of a run
 abbrev pub run_options : List (List ℕ)
@@ -67,15 +67,42 @@ abbrev pub migrate_of : Words → Option Command
 migrate_of (image ∷ target ∷ [], []) = Some (Migrate image target)
 migrate_of _ = None
 
--- the first word names the command, and the others are read by its options and the number of its names
+abbrev pub share_options : List (List ℕ)
+share_options = codes "budget" ∷ codes "interrupts" ∷ []
+
+abbrev pub share_of : Words → Option Command
+share_of (first ∷ second ∷ [], budget ∷ interrupts ∷ []) = option_map (Share first second interrupts) (number_or 1000000 0 100000000 budget)
+share_of _ = None
+
+-- a row of the table of commands: its first word, the names of its options, how few and how many names it takes, and
+-- what it reads of them
+pub record Row : Type 0 where
+  pub word : List ℕ
+  pub options : List (List ℕ)
+  pub fewest : ℕ
+  pub most : ℕ
+  pub reads : Words → Option Command
+
+-- the table of commands
+abbrev pub rows : List Row
+rows =
+    record { word = codes "run"; options = run_options; fewest = 1; most = 1; reads = run_of }
+    ∷ record { word = codes "meaning"; options = meaning_options; fewest = 1; most = 1; reads = meaning_of }
+    ∷ record { word = codes "build"; options = []; fewest = 2; most = 2; reads = build_of }
+    ∷ record { word = codes "exec"; options = run_options; fewest = 1; most = 1; reads = exec_of }
+    ∷ record { word = codes "list"; options = []; fewest = 1; most = 1; reads = list_of }
+    ∷ record { word = codes "gen"; options = []; fewest = 2; most = 2; reads = gen_of }
+    ∷ record { word = codes "soak"; options = []; fewest = 2; most = 2; reads = soak_of }
+    ∷ record { word = codes "migrate"; options = []; fewest = 2; most = 2; reads = migrate_of }
+    ∷ record { word = codes "share"; options = share_options; fewest = 2; most = 2; reads = share_of }
+    ∷ []
+
+-- the row of a first word, spelled exactly
+abbrev pub row_of : List ℕ → Option Row
+row_of first = find (λ row. bytes_eq row.word first) rows
+
+-- the first word names the command, and the others are read by its row
 abbrev pub command_of : List (List ℕ) → Option Command
 command_of [] = None
 command_of (first ∷ words) =
-    if bytes_eq first (codes "run") then option_and_then run_of (asked run_options 1 words)
-    else (if bytes_eq first (codes "meaning") then option_and_then meaning_of (asked meaning_options 1 words)
-    else (if bytes_eq first (codes "build") then option_and_then build_of (asked [] 2 words)
-    else (if bytes_eq first (codes "exec") then option_and_then exec_of (asked run_options 1 words)
-    else (if bytes_eq first (codes "list") then option_and_then list_of (asked [] 1 words)
-    else (if bytes_eq first (codes "gen") then option_and_then gen_of (asked [] 2 words)
-    else (if bytes_eq first (codes "soak") then option_and_then soak_of (asked [] 2 words)
-    else (if bytes_eq first (codes "migrate") then option_and_then migrate_of (asked [] 2 words) else None)))))))
+    option_and_then (λ row. option_and_then row.reads (asked row.options row.fewest row.most words)) (row_of first)

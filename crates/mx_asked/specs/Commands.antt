@@ -20,3 +20,5 @@ pub data Command : Type 0 where
   Soak : (seed : ℕ) → (count : ℕ) → Command
   -- writes an image file in the newest version
   Migrate : (image : List ℕ) → (target : List ℕ) → Command
+  -- runs two sources that share the machine
+  Share : (first : List ℕ) → (second : List ℕ) → (interrupts : Option (List ℕ)) → (budget : ℕ) → Command

@@ -2,3 +2,4 @@ pub mod Numbers
 pub mod Commands
 pub mod Asked
 pub mod Seen
+pub mod Rows

@@ -1,5 +1,5 @@
 -- Numbers among the words of a command.
-use Rattle.std.specs.Prelude.{ℕ, ◌&&◌, Bool, cond, leb, ltb, List, [], ◌∷◌, length, Option, Some, None, option_map}
+use Rattle.std.specs.Prelude.{ℕ, ◌&&◌, Bool, cond, leb, ltb, List, length, Option, Some, None, option_map}
 use Rattle.std.specs.List.{list_all}
 use Rattle.std.specs.Char.{digit_value}
 use Rattle.std.specs.Str.Parse.{digits_value, without_leading_plus}

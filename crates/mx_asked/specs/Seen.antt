@@ -19,6 +19,7 @@ seen_command (given.Listing source) = asked.Listing source.now
 seen_command (given.Gen seed count) = asked.Gen seed count
 seen_command (given.Soak seed count) = asked.Soak seed count
 seen_command (given.Migrate image target) = asked.Migrate image.now target.now
+seen_command (given.Share first second interrupts budget) = asked.Share first.now second.now (option_map (λ s. s.now) interrupts) budget
 
 -- at most 4,000 items are generated
 abbrev pub IsAllowed : Command → Type 0

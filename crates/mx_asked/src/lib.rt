@@ -3,5 +3,6 @@
 
 mod command;
 mod numbers;
+mod readers;
 
 pub use command::{Command, read_command};

@@ -13,7 +13,6 @@ use Rattle.mx_layout.specs.Layout.{IsLayout, blocks_in}
 use Rattle.mx_layout.specs.Overlong.{overlong}
 use Rattle.mx_reorg.specs.Greedy.{IsGreedy}
 use Rattle.mx_schedule.specs.Schedule.{IsScheduler}
-use Rattle.mx_schedule.proofs.Layouts.{layout_exists}
 use Rattle.mx_link.specs.Origins.{from_target}
 use Rattle.mx_link.specs.Linked.{linked_code, linked_data}
 use Rattle.mx_answer.specs.declared.FileKind.{FileKind}
@@ -27,17 +26,17 @@ use Rattle.mx_answer.specs.Delivery.{Delivered}
 use Rattle.mx_simulate.specs.Simulated.{program_answer}
 use Rattle.mx_simulate.specs.Machines.{given, by_requests, requests_protocol, input_protocol}
 use Rattle.mx_asm.specs.Texts.{source_of}
-use Rattle.mx_asm.proofs.Sourced.{faultless_source}
 use Rattle.mx_meaning.specs.Boards.{board}
 use Rattle.mx_end_to_end.specs.EndToEnd.{source_program, MeansItsSource}
 use Rattle.mx_end_to_end.proofs.Accepted.{text_means}
 use Rattle.mx_asked.specs.Commands.{Command}
 use Rattle.mx_command.specs.Protocols.{unless_faulty, unless_overlong, Layouts, linked_protocol, run_protocol, protocol_of}
-use Rattle.mx_command.specs.Accepted.{Held, Holds, AreRequests, IsInput, Accepted, RunsAsMeant}
+use Rattle.mx_command.specs.Accepted.{Held, Holds, AreRequests, IsInput, Accepted}
+use Rattle.mx_command.specs.Headline.{Headline}
 
 module _ (held : Held) where
   -- a file that is held within its limit is read
-  read_is : (kind : FileKind) (name bytes : List ℕ) (next : List ℕ → Protocol) → Holds held kind name bytes → resolved (Reads kind name next) held ≡ resolved (next bytes) held
+  pub read_is : (kind : FileKind) (name bytes : List ℕ) (next : List ℕ → Protocol) → Holds held kind name bytes → resolved (Reads kind name next) held ≡ resolved (next bytes) held
   read_is kind name bytes next h =
       ap (λ o. answered kind (reading_of kind o) (λ b. resolved (next b) held)) h.there
       ∙ ap (λ (r : Reading). answered kind r (λ b. resolved (next b) held)) (cond-false (nat_lt (limit_of kind) (length bytes)) TooLong (Given bytes) (within (limit_of kind) (length bytes) h.within))
@@ -45,7 +44,7 @@ module _ (held : Held) where
       within : (m n : ℕ) → n ≤ m → nat_lt m n ≡ false
       within m n l = grind (arith, nat_tests)
 
-  requests_are : (name : Option (List ℕ)) (requests : List ℕ) (next : List ℕ → Protocol) → AreRequests held name requests → resolved (requests_protocol name next) held ≡ resolved (next requests) held
+  pub requests_are : (name : Option (List ℕ)) (requests : List ℕ) (next : List ℕ → Protocol) → AreRequests held name requests → resolved (requests_protocol name next) held ≡ resolved (next requests) held
   requests_are None requests next h = ap (λ r. resolved (next r) held) (sym h)
   requests_are (Some name) requests next h =
       read_is Interrupts name h.0 (λ b. by_requests (requests_of b) next) h.1 ∙ ap (λ r. resolved (by_requests r next) held) h.2
@@ -58,55 +57,51 @@ given_is : (line : Option ℕ) (bytes : List ℕ) → given (is_some line) bytes
 given_is None bytes = refl
 given_is (Some line) bytes = refl
 
-module _ (layout_of : Layouts) (asked : Option Command) (held : Held) (a : Accepted layout_of asked held) where
+module _ (asked : Option Command) (held : Held) (a : Accepted asked held) where
   abbrev source : SourceValue
   source = source_of 256 a.text
 
-  abbrev sites : List Site
-  sites = layout_of source
-
   abbrev code_words : List ℕ
-  code_words = linked_code from_target source board sites
+  code_words = linked_code from_target source board a.sites
 
   abbrev data_words : List ℕ
-  data_words = linked_data source board sites
+  data_words = linked_data source board a.sites
 
-  abbrev next : Protocol
-  next = run_protocol a.files a.limits source sites
+  abbrev next : List Site → Protocol
+  next sites = run_protocol a.files a.limits source sites
 
   -- what the files determine is the answer of the run
-  answer_is : resolved (protocol_of layout_of asked) held ≡ program_answer (source_program source sites a.input) code_words a.requests a.limits
-  answer_is =
+  answer_is : (layout_of : Layouts) → IsScheduler layout_of
+      → resolved (protocol_of layout_of asked) held ≡ program_answer (source_program source a.sites a.input) code_words a.requests a.limits
+  answer_is layout_of is =
       ap (λ o. resolved (protocol_of layout_of o) held) a.asks
       ∙ read_is held Source a.name a.text (linked_protocol layout_of (run_protocol a.files a.limits)) a.is_text
-      ∙ ap (λ f. resolved (unless_faulty f (unless_overlong (overlong source board (blocks_in sites)) next)) held) a.faultless
-      ∙ ap (λ o. resolved (unless_overlong o next) held) a.reach
+      ∙ ap (λ f. resolved (unless_faulty f (unless_overlong (overlong source board (blocks_in (layout_of source))) (next (layout_of source)))) held) a.faultless
+      ∙ ap (λ (s : List Site). resolved (unless_overlong (overlong source board (blocks_in s)) (next s)) held) (is source a.sites a.layout)
+      ∙ ap (λ o. resolved (unless_overlong o (next a.sites)) held) a.reach
       ∙ requests_are held a.files.interrupts a.requests _ a.are_requests
       ∙ input_is held a.files.input a.input _ a.is_input
       ∙ ap (λ i. program_answer (program_of shipped code_words data_words i) code_words a.requests a.limits) (given_is source.input a.input)
 
-  runs_as_meant : (result : Status) (tells : Bool) (before after : Option (List ℕ)) (held' : Held)
-      → MeansItsSource source sites a.requests a.input a.limits.budget
-      → Delivered (program_answer (source_program source sites a.input) code_words a.requests a.limits) result tells before after held held'
-      → RunsAsMeant layout_of asked held a result before after
+  means : MeansItsSource source a.sites a.requests a.input a.limits.budget
+  means = text_means a.text a.sites a.requests a.input a.limits.budget a.faultless a.layout a.reach
+
+  run_is_told : (result : Status) (tells : Bool) (before after : Option (List ℕ)) (held' : Held)
+      → Delivered (program_answer (source_program source a.sites a.input) code_words a.requests a.limits) result tells before after held held'
+      → Headline asked held a result before after
   unfolding program_answer
-  runs_as_meant result tells before after held' means d = record { status = d.status; output = d.output; means = means }
+  run_is_told result tells before after held' d = record {
+    status = d.status;
+    output = d.output;
+    sends_a_prefix = means.sent;
+    halts_as_meant = means.halts;
+    halts_in_time = means.ends;
+    sends_in_time = means.sends;
+  }
 
-  -- the layout is that by greedy plans
-  layout_is : IsScheduler layout_of → IsLayout IsGreedy source board sites
-  layout_is is =
-      let found = layout_exists source board (faultless_source 256 65536 a.text (omega arith) (omega arith) (omega arith) a.faultless) in
-      subst (λ (s : List Site). IsLayout IsGreedy source board s) (sym (is source found.0 found.1)) found.1
-
-  -- where the answer was delivered, the run does what its source means
-  pub delivered_means : IsScheduler layout_of → (result : Status) (tells : Bool) (before after : Option (List ℕ)) (held' : Held)
+  -- where the answer was delivered, the headline holds of it
+  pub delivered_is_headline : (layout_of : Layouts) → IsScheduler layout_of → (result : Status) (tells : Bool) (before after : Option (List ℕ)) (held' : Held)
       → Delivered (resolved (protocol_of layout_of asked) held) result tells before after held held'
-      → RunsAsMeant layout_of asked held a result before after
-  delivered_means is result tells before after held' d = runs_as_meant result tells before after held'
-      (text_means a.text sites a.requests a.input a.limits.budget a.faultless (layout_is is) a.reach)
-      (subst (λ (x : Answer). Delivered x result tells before after held held') answer_is d)
-
-  pub meant_or_memory : IsScheduler layout_of → (result : Status) (tells : Bool) (before after : Option (List ℕ)) (held' : Held)
-      → (result ≡ Memory) ⊎ Delivered (resolved (protocol_of layout_of asked) held) result tells before after held held'
-      → (result ≡ Memory) ⊎ RunsAsMeant layout_of asked held a result before after
-  meant_or_memory is result tells before after held' c = ⊎_elim (λ m. inl m) (λ d. inr (delivered_means is result tells before after held' d)) c
+      → Headline asked held a result before after
+  delivered_is_headline layout_of is result tells before after held' d = run_is_told result tells before after held'
+      (subst (λ (x : Answer). Delivered x result tells before after held held') (answer_is layout_of is) d)

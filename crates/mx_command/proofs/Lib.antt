@@ -3,3 +3,6 @@ pub mod Ended
 pub mod Links
 pub mod Laid
 pub mod Headline
+pub mod Prints
+pub mod Pairs
+pub mod PairHeadline

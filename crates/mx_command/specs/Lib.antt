@@ -1,3 +1,7 @@
 pub mod Protocols
 pub mod Replied
 pub mod Accepted
+pub mod Headline
+pub mod Writing
+pub mod Sharing
+pub mod Pairs

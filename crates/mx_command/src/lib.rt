@@ -4,6 +4,7 @@
 mod files;
 mod images;
 mod reply;
+mod shared;
 mod sourced;
 mod sources;
 mod top;

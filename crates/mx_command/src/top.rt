@@ -1,5 +1,5 @@
 //! The top call.
-ghost use Rattle.std.specs.Prelude.{◌≡◌, ◌≢◌, ◌⊎◌, true, map, string_bytes, List, ℕ, None};
+ghost use Rattle.std.specs.Prelude.{◌≡◌, ◌≢◌, ◌⊎◌, true, false, map, string_bytes, List, ℕ, None};
 ghost use Rattle.mx_io.specs.Counts.{Rose, with_more};
 ghost use Rattle.mx_answer.specs.declared.FileKind.{FileKind};
 ghost use Rattle.mx_answer.specs.Answer.{Answer, failed_answer};
@@ -8,7 +8,10 @@ ghost use Rattle.mx_answer.specs.Delivery.{Delivered, PutsPrefix};
 ghost use Rattle.mx_asked.specs.Asked.{command_of};
 ghost use Rattle.mx_schedule.specs.Schedule.{IsScheduler};
 ghost use Rattle.mx_command.specs.Protocols.{Layouts, protocol_of};
-ghost use Rattle.mx_command.specs.Accepted.{Accepted, RunsAsMeant};
+ghost use Rattle.mx_command.specs.Accepted.{Accepted};
+ghost use Rattle.mx_command.specs.Headline.{AreQuiet, IsNoFault, Headline};
+ghost use Rattle.mx_command.specs.Pairs.{AcceptedPair, PairHeadline};
+ghost use Rattle.mx_command.specs.Writing.{writes_a_file};
 
 use crate::reply::reply_to;
 use mx_answer::{Status, finish};
@@ -25,27 +28,28 @@ pub fn command<S: Shelf, W: Sink>(
     shelf: &mut S,
     out: &mut W,
 ) -> Status
-    // Where the shelf tells what it holds and no count of faults rises, the answer is that of the
-    // words and of what is held, or memory ran out.
+    // HEADLINE. Where the words ask for the run of a source that is accepted, the shelf tells what it holds, and no
+    // fault was counted or is answered: all that `Headline` says, or memory ran out.
+    ensures headline { S.tells shelf.old ≡ true
+        → AreQuiet (S.read_faults shelf.old) (S.read_faults shelf.new) (S.write_faults shelf.old) (S.write_faults shelf.new) (W.faults out.old) (W.faults out.new) ⊎ IsNoFault result
+        → (accepted : Accepted (command_of (map string_bytes words.now)) (S.held shelf.old))
+        → (result ≡ Status.Memory) ⊎ Headline (command_of (map string_bytes words.now)) (S.held shelf.old) accepted result (W.written out.old) (W.written out.new) }
+
+    // Where they ask so for two sources that share the machine: all that `PairHeadline` says, or memory ran out.
+    ensures pair { S.tells shelf.old ≡ true
+        → AreQuiet (S.read_faults shelf.old) (S.read_faults shelf.new) (S.write_faults shelf.old) (S.write_faults shelf.new) (W.faults out.old) (W.faults out.new) ⊎ IsNoFault result
+        → (accepted : AcceptedPair (command_of (map string_bytes words.now)) (S.held shelf.old))
+        → (result ≡ Status.Memory) ⊎ PairHeadline (command_of (map string_bytes words.now)) (S.held shelf.old) accepted result (W.written out.old) (W.written out.new) }
+
+    // ANSWERS, of every command. Where the shelf tells what it holds and no count of faults rises, the answer is that
+    // of the words and of what is held, or memory ran out.
     ensures complete { (layout_of : Layouts) → IsScheduler layout_of → S.tells shelf.old ≡ true
         → ¬ Rose (S.read_faults shelf.old) (S.read_faults shelf.new) → ¬ Rose (S.write_faults shelf.old) (S.write_faults shelf.new) → ¬ Rose (W.faults out.old) (W.faults out.new)
         → (result ≡ Status.Memory) ⊎ Delivered (resolved (protocol_of layout_of (command_of (map string_bytes words.now))) (S.held shelf.old)) result (S.tells shelf.old) (W.written out.old) (W.written out.new) (S.held shelf.old) (S.held shelf.new) }
 
-    // Where the words ask for the run of a source that is accepted, the status says how a run ended, exactly
-    // its trace and its report were put out, and it does what the source means.
-    ensures as_meant { (layout_of : Layouts) → IsScheduler layout_of → S.tells shelf.old ≡ true
-        → ¬ Rose (S.read_faults shelf.old) (S.read_faults shelf.new) → ¬ Rose (S.write_faults shelf.old) (S.write_faults shelf.new) → ¬ Rose (W.faults out.old) (W.faults out.new)
-        → (accepted : Accepted layout_of (command_of (map string_bytes words.now)) (S.held shelf.old))
-        → (result ≡ Status.Memory) ⊎ RunsAsMeant layout_of (command_of (map string_bytes words.now)) (S.held shelf.old) accepted result (W.written out.old) (W.written out.new) }
-
     // Whatever the counts do, every other status than these three is that of the same answer.
     ensures sound { (layout_of : Layouts) → IsScheduler layout_of → S.tells shelf.old ≡ true → result ≢ Status.ReadFault → result ≢ Status.WriteFault → result ≢ Status.Memory
         → Delivered (resolved (protocol_of layout_of (command_of (map string_bytes words.now))) (S.held shelf.old)) result (S.tells shelf.old) (W.written out.old) (W.written out.new) (S.held shelf.old) (S.held shelf.new) }
-
-    // So is that of the run of an accepted source, which does what the source means.
-    ensures means_its_source { (layout_of : Layouts) → IsScheduler layout_of → S.tells shelf.old ≡ true → result ≢ Status.ReadFault → result ≢ Status.WriteFault → result ≢ Status.Memory
-        → (accepted : Accepted layout_of (command_of (map string_bytes words.now)) (S.held shelf.old))
-        → RunsAsMeant layout_of (command_of (map string_bytes words.now)) (S.held shelf.old) accepted result (W.written out.old) (W.written out.new) }
 
     // Whatever the shelf tells, such a status is that of an answer which the words ask for, by files that
     // were read.
@@ -60,32 +64,31 @@ pub fn command<S: Shelf, W: Sink>(
     ensures asks_nothing { command_of (map string_bytes words.now) ≡ None
         → (result ≡ Status.Usage) ⊎ (result ≡ Status.WriteFault) ⊎ (result ≡ Status.Memory) }
 
-    // A read fault is that of one of the files, after one read of each file up to it. Exactly its
-    // line is put out.
+    // What the names hold changes only where the command is done, and only `build` and `migrate` write.
+    ensures kept { S.tells shelf.old ≡ true → result ≢ Status.Done → (n : List ℕ) → S.held shelf.new n ≡ S.held shelf.old n }
+    ensures unwritten { writes_a_file (command_of (map string_bytes words.now)) ≡ false → S.write_faults shelf.new ≡ S.write_faults shelf.old }
+
+    // FAULTS. A read fault is that of one of the files, after one read of each file up to it, each counted from the
+    // counts that the read before it left. Exactly its line is put out.
     ensures read_fault { (layout_of : Layouts) → IsScheduler layout_of → result ≡ Status.ReadFault → (answer : Answer)
         × Faulted (record { tells = S.tells shelf.old; held = S.held shelf.old }) (protocol_of layout_of (command_of (map string_bytes words.now)))
         (record { reads = S.reads shelf.old; taken = S.taken shelf.old; faults = S.read_faults shelf.old })
         (record { reads = S.reads shelf.new; taken = S.taken shelf.new; faults = S.read_faults shelf.new }) answer
         × (W.written out.new ≡ with_more (W.written out.old) answer.output) }
 
-    // A write fault is one of the sink, or of the shelf. What went out is a prefix of the answer's
-    // output, or of the line of a read fault that was counted.
-    ensures write_fault { result ≡ Status.WriteFault → Rose (W.faults out.old) (W.faults out.new) ⊎ Rose (S.write_faults shelf.old) (S.write_faults shelf.new) }
+    // A write fault is one of the sink, or of the shelf where the command writes a file. What went out is a prefix of
+    // the answer's output, or of the line of a read fault that was counted.
+    ensures write_fault { result ≡ Status.WriteFault → Rose (W.faults out.old) (W.faults out.new)
+        ⊎ ((writes_a_file (command_of (map string_bytes words.now)) ≡ true) × Rose (S.write_faults shelf.old) (S.write_faults shelf.new)) }
     ensures prefix { (layout_of : Layouts) → IsScheduler layout_of → result ≡ Status.WriteFault → S.tells shelf.old ≡ true
         → PutsPrefix (resolved (protocol_of layout_of (command_of (map string_bytes words.now))) (S.held shelf.old)) (W.written out.old) (W.written out.new)
         ⊎ (Rose (S.read_faults shelf.old) (S.read_faults shelf.new) × (kind : FileKind) × PutsPrefix (failed_answer kind) (W.written out.old) (W.written out.new)) }
 
     // Want of memory comes before anything is put out.
     ensures memory { result ≡ Status.Memory → W.written out.new ≡ W.written out.old }
-
-    // What the names hold changes only where the command is done.
-    ensures kept { S.tells shelf.old ≡ true → result ≢ Status.Done → (n : List ℕ) → S.held shelf.new n ≡ S.held shelf.old n }
 {
     let Ok(reply) = reply_to(alloc, words, shelf) else {
         return Status::Memory;
     };
     finish(reply, shelf, out)
 }
-
-#[cfg(test)]
-mod tests;

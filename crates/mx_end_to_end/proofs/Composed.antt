@@ -11,7 +11,7 @@ use Rattle.mx_link.specs.Linked.{linked_code, linked_data}
 use Rattle.mx_order.specs.Laws.{IsPrefix}
 use Rattle.mx_turn.specs.Handler.{shipped}
 use Rattle.mx_turn.specs.Cycle.{start as machine_start}
-use Rattle.mx_turn.specs.Program.{program_of}
+use Rattle.mx_turn.specs.Program.{program_of, memory_of}
 use Rattle.mx_turn.specs.Run.{Run, bits, bound}
 use Rattle.mx_turn.specs.OneTurn.{IsOnBoard}
 use Rattle.mx_interrupts.specs.Laws.{EndsAs, RunsAs}
@@ -58,7 +58,7 @@ module _ (source : SourceValue) (sites : List Site) (bytes : List ℕ) (laid : I
     passed : run.passed ≤ budget
     passed =
         let q = program_of shipped code_words data_words input in
-        let e = passed_few q (bits requests budget) (machine_start q.words) in
+        let e = passed_few q (bits requests budget) (machine_start (memory_of q)) in
         let f = length_bits requests budget in
         omega (arith, e, f)
 

@@ -11,7 +11,7 @@ use Rattle.mx_pcchain.specs.declared.psw.Mode.{Mode}
 use Rattle.mx_turn.specs.declared.latches.Latches.{Latches}
 use Rattle.mx_turn.specs.Counted.{Counted}
 use Rattle.mx_turn.specs.Stages.{fetch_of, saved}
-use Rattle.mx_turn.specs.declared.registers.Slot.{Slot}
+use Rattle.mx_turn.specs.System.{Slot}
 use Rattle.mx_turn.specs.Cycle.{Machine, entered, reached}
 use Rattle.mx_handler.specs.Returns.{with_shipped, turns, IsBack, HoldsFetch}
 

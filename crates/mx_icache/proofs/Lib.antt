@@ -5,3 +5,4 @@ pub mod Ring
 pub mod SetSteps
 pub mod CacheSteps
 pub mod PlainSteps
+pub mod Fetched

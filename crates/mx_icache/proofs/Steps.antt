@@ -23,7 +23,7 @@ allocated-cons : (a : ℕ) (past : List ℕ) (s : ℕ) → allocated (a ∷ past
 unfolding allocated
 allocated-cons a past s = refl
 
-missed_since-cons : (a : ℕ) (past : List ℕ) (b : ℕ) → missed_since (a ∷ past) b ≡ cond (not (is_held past (line_of a)) && eqb (line_of a) (line_of b)) ((not (is_held past (line_of a)) || not (missed_since past a)) && near a b) (((not (is_held past (line_of a)) || not (missed_since past a)) && near a b) || missed_since past b)
+pub missed_since-cons : (a : ℕ) (past : List ℕ) (b : ℕ) → missed_since (a ∷ past) b ≡ cond (not (is_held past (line_of a)) && eqb (line_of a) (line_of b)) ((not (is_held past (line_of a)) || not (missed_since past a)) && near a b) (((not (is_held past (line_of a)) || not (missed_since past a)) && near a b) || missed_since past b)
 unfolding missed_since
 missed_since-cons a past b = refl
 

@@ -7,8 +7,6 @@ mod line_set;
 mod mask;
 mod plain_cache;
 mod plain_set;
-#[cfg(test)]
-mod tests;
 
 pub use fetch_cache::FetchCache;
 pub use line_cache::LineCache;

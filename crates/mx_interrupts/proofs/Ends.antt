@@ -5,8 +5,10 @@ use Rattle.mx_isa.specs.declared.place.Place.{Place}
 use Rattle.mx_isa.specs.Words.{Words}
 use Rattle.mx_code.specs.Decoding.{inst_of}
 use Rattle.mx_code.specs.Delay.{Code, code_from, data_from, delay}
-use Rattle.mx_code.specs.Clean.{is_inside, IsClean, Watched, watch_start}
+use Rattle.mx_code.specs.Clean.{is_inside, Watched, watch_start}
 use Rattle.mx_turn.specs.Cycle.{Machine, start}
+use Rattle.mx_turn.specs.Handler.{shipped}
+use Rattle.mx_turn.specs.Program.{program_of}
 use Rattle.mx_turn.specs.Run.{Run, run_of, bits}
 use Rattle.mx_turn.specs.OneTurn.{IsOnBoard}
 use Rattle.mx_interrupts.specs.Laws.{RunsAs, IsCleanImage}
@@ -24,20 +26,30 @@ module _ (user : Code) (inside : ℕ → Bool) (p : Place) (input : Option (List
   ended_in_user m s n rest (pausing q) h = absurd (false≢true (sym q.goes ∙ h))
   ended_in_user m s n rest (over o) h = o.in_user
 
-module _ (user : Code) (inside : ℕ → Bool) (p : Place) (input : Option (List ℕ)) (words : Words) (at_board : IsOnBoard p) (at_code : p.code ≡ 4096) (low : words 0 ≡ 0) (requests : List ℕ) (budget : ℕ) (clean : IsClean user inside p input words budget) where
+module _ (user_words data_words : List ℕ) (p : Place) (input : Option (List ℕ)) (at_board : IsOnBoard p) (at_code : p.code ≡ 4096)
+    (requests : List ℕ) (budget : ℕ) (clean : IsCleanImage user_words data_words p input budget) where
+  abbrev user : Code
+  user = code_from inst_of 4096 user_words
+
+  abbrev inside : ℕ → Bool
+  inside = is_inside p (length user_words)
+
+  abbrev words : Words
+  words = data_from 256 data_words
+
   abbrev run : Run
-  run = run_of (program user inside p input words) requests budget
+  run = run_of (program user_words inside p input data_words) requests budget
 
   -- the steps that are done
   abbrev done : Watched
-  done = steps user inside p input words run.passed (watch_start p words)
+  done = steps user_words inside p input data_words run.passed (watch_start p words)
 
   few : run.passed ≤ budget
-  few = let e = passed_few (program user inside p input words) (bits requests budget) (start words) in let f = length_bits requests budget in omega (arith, e, f)
+  few = let e = passed_few (program user_words inside p input data_words) (bits requests budget) (start words) in let f = length_bits requests budget in omega (arith, e, f)
 
-  ran : Ran user inside p input words (bits requests budget) (start words) (watch_start p words) 0 0 0
-  ran = runs user inside p input words at_board at_code (bits requests budget) (start words) (watch_start p words) 0 0 0
-      (stands_start user inside p input words at_code low)
+  ran : Ran user_words inside p input data_words (bits requests budget) (start words) (watch_start p words) 0 0 0
+  ran = runs user_words inside p input data_words at_board at_code (bits requests budget) (start words) (watch_start p words) 0 0 0
+      (stands_start user inside p input words at_code refl)
       (clean_for_fewer user inside p input run.passed budget (watch_start p words) few clean)
 
   is_delay : done.at ≡ delay user p input words run.passed
@@ -66,23 +78,23 @@ pub runs_as : (code_words data_words : List ℕ) (input : Option (List ℕ)) (re
     → IsOnBoard p → p.code ≡ 4096 → IsCleanImage code_words data_words p input budget
     → let user = code_from inst_of 4096 code_words in
     let words = data_from 256 data_words in
-    let r = run_of (program user (is_inside p (length code_words)) p input words) requests budget in
+    let r = run_of (program_of shipped code_words data_words input) requests budget in
     RunsAs p r (delay user p input words r.passed)
 runs_as code_words data_words input requests budget p b c clean =
-    as_delay (code_from inst_of 4096 code_words) (is_inside p (length code_words)) p input (data_from 256 data_words) b c refl requests budget clean
+    as_delay code_words data_words p input b c requests budget clean
 
 pub gets_on : (code_words data_words : List ℕ) (input : Option (List ℕ)) (requests : List ℕ) (budget : ℕ) (p : Place)
     → IsOnBoard p → p.code ≡ 4096 → IsCleanImage code_words data_words p input budget
-    → let r = run_of (program (code_from inst_of 4096 code_words) (is_inside p (length code_words)) p input (data_from 256 data_words)) requests budget in
+    → let r = run_of (program_of shipped code_words data_words input) requests budget in
     (r.counts.interrupts ≤ length requests) × ((w : ℕ) → 3 * (w + 3) + 78 * length requests ≤ budget → (w ≤ r.passed) ⊎ (r.halted ≡ true))
 gets_on code_words data_words input requests budget p b c clean = (
-  few_taken (code_from inst_of 4096 code_words) (is_inside p (length code_words)) p input (data_from 256 data_words) b c refl requests budget clean,
-  passes_by (code_from inst_of 4096 code_words) (is_inside p (length code_words)) p input (data_from 256 data_words) b c refl requests budget clean,
+  few_taken code_words data_words p input b c requests budget clean,
+  passes_by code_words data_words p input b c requests budget clean,
 )
 
 pub undisturbed : (code_words data_words : List ℕ) (input : Option (List ℕ)) (budget : ℕ) (p : Place)
     → IsOnBoard p → p.code ≡ 4096 → IsCleanImage code_words data_words p input budget
-    → let r = run_of (program (code_from inst_of 4096 code_words) (is_inside p (length code_words)) p input (data_from 256 data_words)) [] budget in
+    → let r = run_of (program_of shipped code_words data_words input) [] budget in
     (w : ℕ) → 3 * (w + 3) ≤ budget → (w ≤ r.passed) ⊎ (r.halted ≡ true)
 undisturbed code_words data_words input budget p b c clean w h =
-    passes_by (code_from inst_of 4096 code_words) (is_inside p (length code_words)) p input (data_from 256 data_words) b c refl [] budget clean w (omega (arith, h))
+    passes_by code_words data_words p input b c [] budget clean w (omega (arith, h))

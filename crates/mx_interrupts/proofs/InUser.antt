@@ -14,10 +14,9 @@ use Rattle.mx_code.specs.Delay.{Code, next_of, idle, does, Delay, stepped, delay
 use Rattle.mx_code.specs.Clean.{is_lawful, loads_to, Watched}
 use Rattle.mx_pcchain.specs.Modes.{psw_restored}
 use Rattle.mx_board.specs.Data.{board}
-use Rattle.mx_turn.specs.declared.registers.Slot.{Slot}
 use Rattle.mx_turn.specs.Counted.{Counted}
 use Rattle.mx_turn.specs.Stages.{live}
-use Rattle.mx_turn.specs.System.{slot_of, pops, restores}
+use Rattle.mx_turn.specs.System.{Slot, slot_of, pops, restores}
 use Rattle.mx_turn.specs.Cycle.{Machine, shifted, mem_change, commit_byte, is_taken, entered, decided, turned, reached, ended}
 use Rattle.mx_turn.specs.OneTurn.{Follows, IsOnBoard, before_turn}
 use Rattle.mx_turn.proofs.OneTurn.{one_turn, nor_restored}

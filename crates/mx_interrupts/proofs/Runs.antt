@@ -3,14 +3,15 @@ use Rattle.std.proofs.Common.{◌≡◌, ℕ, zero, suc, ◌+◌, ◌≤◌, Boo
 use Rattle.std.specs.Prelude.{option_to_list}
 use Rattle.std.proofs.lemmas.Bool.Decides.{nat_tests}
 use Rattle.mx_isa.specs.declared.place.Place.{Place}
-use Rattle.mx_isa.specs.Words.{Words}
-use Rattle.mx_code.specs.Delay.{Code}
+use Rattle.mx_code.specs.Decoding.{inst_of}
+use Rattle.mx_code.specs.Delay.{Code, code_from}
 use Rattle.mx_code.specs.Clean.{Watched, watch_for}
 use Rattle.mx_icache.specs.Residency.{resident}
 use Rattle.mx_turn.specs.Counted.{one}
 use Rattle.mx_turn.specs.Cycle.{Machine, cycled, answer, after_bits}
-use Rattle.mx_turn.specs.Program.{Program}
+use Rattle.mx_turn.specs.Program.{Program, code_of, program_of}
 use Rattle.mx_turn.specs.Run.{is_requested, bits, bytes_on, passes, passed_on}
+use Rattle.mx_turn.specs.Handler.{shipped}
 use Rattle.mx_turn.specs.OneTurn.{IsOnBoard}
 use Rattle.mx_handler.specs.Returns.{with_shipped}
 use Rattle.mx_interrupts.proofs.Watched.{clean_first}
@@ -63,15 +64,18 @@ length_bits requests (suc n) = length-append (bits requests n) (is_requested req
 -- a word needs a cycle
 pub passed_few : (q : Program) (h : List Bool) (m : Machine) → passed_on q m h ≤ length h
 passed_few q [] m = omega arith
-passed_few q (b ∷ h) m = let e = passed_few q h (cycled resident q.code q.input m b) in let f = small (passes m) in omega (arith, e, f)
+passed_few q (b ∷ h) m = let e = passed_few q h (cycled resident (code_of q) q.input m b) in let f = small (passes m) in omega (arith, e, f)
   where
     small : (b : Bool) → one b ≤ 1
     small true = omega arith
     small false = omega arith
 
-module _ (user : Code) (inside : ℕ → Bool) (p : Place) (input : Option (List ℕ)) (words : Words) where
+module _ (user_words : List ℕ) (inside : ℕ → Bool) (p : Place) (input : Option (List ℕ)) (data_words : List ℕ) where
   abbrev pub program : Program
-  program = record { code = with_shipped user; words = words; input = input }
+  program = program_of shipped user_words data_words input
+
+  abbrev user : Code
+  user = code_from inst_of 4096 user_words
 
   abbrev pub steps : ℕ → Watched → Watched
   steps n s = watch_for user inside p input n s

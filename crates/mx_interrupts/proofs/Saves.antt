@@ -4,13 +4,14 @@ use Rattle.mx_isa.specs.declared.place.Place.{Place}
 use Rattle.mx_isa.specs.Words.{Words}
 use Rattle.mx_code.specs.Decoding.{inst_of}
 use Rattle.mx_code.specs.Delay.{Code, code_from, data_from, delay}
-use Rattle.mx_code.specs.Clean.{is_inside, IsClean, Watched, watch_start}
+use Rattle.mx_code.specs.Clean.{is_inside, Watched, watch_start}
 use Rattle.mx_icache.specs.Residency.{resident}
 use Rattle.mx_pcchain.specs.Chain.{chain_of}
 use Rattle.mx_turn.specs.Counted.{one}
 use Rattle.mx_turn.specs.Stages.{saved}
 use Rattle.mx_turn.specs.Cycle.{Machine, entered, start, cycled, after_bits}
-use Rattle.mx_turn.specs.Program.{Program}
+use Rattle.mx_turn.specs.Program.{Program, code_of, program_of}
+use Rattle.mx_turn.specs.Handler.{shipped}
 use Rattle.mx_turn.specs.Run.{is_requested, bits, passes, passed_on, run_of}
 use Rattle.mx_turn.specs.OneTurn.{IsOnBoard, Follows}
 use Rattle.mx_turn.proofs.Steps.{after_one_more}
@@ -29,9 +30,9 @@ after_append : (code : Code) (input : Option (List ℕ)) (g h : List Bool) (m : 
 after_append code input [] h m = refl
 after_append code input (b ∷ g) h m = after_append code input g h (cycled resident code input m b)
 
-passed_more : (q : Program) (g : List Bool) (b : Bool) (m : Machine) → passed_on q m (g ++ b ∷ []) ≡ passed_on q m g + one (passes (after_bits resident q.code q.input m g))
+pub passed_more : (q : Program) (g : List Bool) (b : Bool) (m : Machine) → passed_on q m (g ++ b ∷ []) ≡ passed_on q m g + one (passes (after_bits resident (code_of q) q.input m g))
 passed_more q [] b m = omega arith
-passed_more q (a ∷ g) b m = let e = passed_more q g b (cycled resident q.code q.input m a) in omega (arith, e)
+passed_more q (a ∷ g) b m = let e = passed_more q g b (cycled resident (code_of q) q.input m a) in omega (arith, e)
 
 -- the bits of later cycles
 bits_more : (requests : List ℕ) (n k : ℕ) → (g : List Bool) × (bits requests (k + n) ≡ bits requests n ++ g)
@@ -44,34 +45,44 @@ bits_more requests n (suc k) =
           ∙ append_assoc (bits requests n) r.0 (is_requested requests (k + n) ∷ []),
     )
 
-module _ (user : Code) (inside : ℕ → Bool) (p : Place) (input : Option (List ℕ)) (words : Words) (at_board : IsOnBoard p) (at_code : p.code ≡ 4096) (low : words 0 ≡ 0) (requests : List ℕ) (budget : ℕ) (clean : IsClean user inside p input words budget) where
-  abbrev q : Program
-  q = program user inside p input words
+module _ (user_words data_words : List ℕ) (p : Place) (input : Option (List ℕ)) (at_board : IsOnBoard p) (at_code : p.code ≡ 4096)
+    (requests : List ℕ) (budget : ℕ) (clean : IsCleanImage user_words data_words p input budget) where
+  abbrev user : Code
+  user = code_from inst_of 4096 user_words
 
-  abbrev passed : ℕ → ℕ
+  abbrev inside : ℕ → Bool
+  inside = is_inside p (length user_words)
+
+  abbrev words : Words
+  words = data_from 256 data_words
+
+  abbrev pub q : Program
+  q = program user_words inside p input data_words
+
+  abbrev pub passed : ℕ → ℕ
   passed n = passed_on q (start words) (bits requests n)
 
   -- the steps that are done before a cycle
-  abbrev done : ℕ → Watched
-  done n = steps user inside p input words (passed n) (watch_start p words)
+  abbrev pub done : ℕ → Watched
+  done n = steps user_words inside p input data_words (passed n) (watch_start p words)
 
   clean_at : (n : ℕ) → n ≤ budget → (done n).clean ≡ true
   clean_at n h =
       clean_for_fewer user inside p input (passed n) budget (watch_start p words)
       (let e = passed_few q (bits requests n) (start words) in let f = length_bits requests n in omega (arith, e, f, h)) clean
 
-  ran_at : (n : ℕ) → n ≤ budget → Ran user inside p input words (bits requests n) (start words) (watch_start p words) 0 0 0
+  pub ran_at : (n : ℕ) → n ≤ budget → Ran user_words inside p input data_words (bits requests n) (start words) (watch_start p words) 0 0 0
   ran_at n h =
-      runs user inside p input words at_board at_code (bits requests n) (start words) (watch_start p words) 0 0 0
-      (stands_start user inside p input words at_code low) (clean_at n h)
+      runs user_words inside p input data_words at_board at_code (bits requests n) (start words) (watch_start p words) 0 0 0
+      (stands_start user inside p input words at_code refl) (clean_at n h)
 
-  step_one : (b : Bool) (s : Watched) → steps user inside p input words (one b) s ≡ past user inside p input b s
+  step_one : (b : Bool) (s : Watched) → steps user_words inside p input data_words (one b) s ≡ past user inside p input b s
   step_one true s = refl
   step_one false s = refl
 
   done_next : (n : ℕ) → done (suc n) ≡ past user inside p input (passes (before_cycle q requests n)) (done n)
   done_next n =
-      ap (λ k. steps user inside p input words k (watch_start p words)) (passed_more q (bits requests n) (is_requested requests n) (start words))
+      ap (λ k. steps user_words inside p input data_words k (watch_start p words)) (passed_more q (bits requests n) (is_requested requests n) (start words))
       ∙ watched_more user inside p input (passed n) (one (passes (before_cycle q requests n))) (watch_start p words)
       ∙ step_one (passes (before_cycle q requests n)) (done n)
 
@@ -148,7 +159,7 @@ pub saves_all : (code_words data_words : List ℕ) (input : Option (List ℕ)) (
     → (n : ℕ) → n < budget
     → let user = code_from inst_of 4096 code_words in
     let words = data_from 256 data_words in
-    let r = program user (is_inside p (length code_words)) p input words in
+    let r = program_of shipped code_words data_words input in
     takes_in r requests n ≡ true
     → let m = before_cycle r requests (suc n) in
     let d = delay user p input words (run_of r requests (suc n)).passed in
@@ -156,4 +167,4 @@ pub saves_all : (code_words data_words : List ℕ) (input : Option (List ℕ)) (
     × ((j : ℕ) → n < j → IsTurn26 m (before_cycle r requests j)
     → Follows p (in_cycle r requests j) d × ((in_cycle r requests j).core.mem 0 ≡ (m.core.mem 0 + 1) % 2 ^ 32))
 saves_all code_words data_words input requests budget p b c clean n within taken =
-    interrupt_saves (code_from inst_of 4096 code_words) (is_inside p (length code_words)) p input (data_from 256 data_words) b c refl requests budget clean n within taken
+    interrupt_saves code_words data_words p input b c requests budget clean n within taken

@@ -6,7 +6,7 @@ use Rattle.mx_code.specs.Delay.{Delay, code_from, data_from, delay}
 use Rattle.mx_pcchain.specs.Chain.{chain_of}
 use Rattle.mx_turn.specs.Cycle.{Machine, reached, latched}
 use Rattle.mx_turn.specs.OneTurn.{as_fetch, UserSame, Follows, IsOnBoard}
-use Rattle.mx_turn.specs.Program.{Program, program_of, state_after, answer_after}
+use Rattle.mx_turn.specs.Program.{Program, program_of, code_of, state_after, answer_after}
 use Rattle.mx_turn.specs.Run.{is_requested, bits, run_of}
 use Rattle.mx_turn.specs.Handler.{shipped}
 use Rattle.mx_interrupts.specs.Laws.{IsCleanImage}
@@ -20,7 +20,7 @@ takes_in q requests n = (answer_after q (bits requests n) (is_requested requests
 
 -- the machine in a cycle in which a turn acts, once the word in MEM has committed
 abbrev pub in_cycle : Program → List ℕ → ℕ → Machine
-in_cycle q requests n = reached q.code q.input (latched (is_requested requests n) (before_cycle q requests n))
+in_cycle q requests n = reached (code_of q) q.input (latched (is_requested requests n) (before_cycle q requests n))
 
 -- after an interrupt: the chain is the queue with its marks; registers, MD, user data and the number of input bytes taken are equal
 pub record Saved (p : Place) (m : Machine) (d : Delay) : Type 0 where

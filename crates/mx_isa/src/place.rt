@@ -1,5 +1,5 @@
 //! Where a program stands.
-ghost use Rattle.std.specs.Prelude.{◌≡◌, ◌≢◌, ◌≤◌, ◌<◌};
+ghost use Rattle.std.specs.Prelude.{◌≢◌, ◌≤◌, ◌<◌};
 
 /// Where a program's code and data stand, as word addresses (this project's profile).
 ///
@@ -20,23 +20,4 @@ pub struct Place {
     ghost input_below: { input < user_data },
     ghost ordered: { user_data ≤ end },
     ghost within: { end ≤ 65536 },
-}
-
-impl Place {
-    /// The place of the board: code from 4096, user data from 256 to 65535, the console at 255, the input at 254.
-    pub fn board() -> Place
-        ensures code { result.code ≡ 4096 }
-        ensures user_data { result.user_data ≡ 256 }
-        ensures end { result.end ≡ 65536 }
-        ensures console { result.console ≡ 255 }
-        ensures input { result.input ≡ 254 }
-    {
-        Place {
-            code: 4096,
-            user_data: 256,
-            end: 65_536,
-            console: 255,
-            input: 254,
-        }
-    }
 }

@@ -9,6 +9,3 @@ mod reaching;
 
 pub use error::LinkError;
 pub use layout::{Layout, lay_out};
-
-#[cfg(test)]
-mod tests;

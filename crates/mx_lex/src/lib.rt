@@ -8,6 +8,3 @@ mod token;
 
 pub use lexer::Lexer;
 pub use token::{Kind, LexFault, Token};
-
-#[cfg(test)]
-mod tests;

@@ -10,6 +10,3 @@ mod origin;
 pub use linked::{Linked, Origin};
 pub use linking::{link, link_plain};
 pub use mx_layout::LinkError;
-
-#[cfg(test)]
-mod tests;

@@ -6,6 +6,3 @@ mod lines;
 
 pub use laws::layout_is_listed;
 pub use lines::listing;
-
-#[cfg(test)]
-mod tests;

@@ -8,6 +8,3 @@ mod told;
 pub use board::BOARD;
 pub use steps::{Ending, Progress, run_steps};
 pub use told::meaning_reply;
-
-#[cfg(test)]
-mod tests;

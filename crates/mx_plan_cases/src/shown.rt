@@ -5,6 +5,7 @@ ghost use Rattle.mx_squash.specs.Ordered.{AreOfOneSource};
 use crate::backwards::Backwards;
 use anyhow::{Context, Result, bail, ensure};
 use mx_asm::assemble;
+use mx_best::{MOST_SEARCHED, best};
 use mx_blocks::{Block, Item, Plan, blocks};
 use mx_reorg::ListProposer;
 use mx_source::Source;
@@ -37,6 +38,17 @@ fn plan_text(alloc: Global, plan: &Plan) -> Result<String, AllocError> {
     let place = format!(in alloc; "at {}", plan.place)?;
     text.push_str(&place)?;
     Ok(text)
+}
+
+/// How many items the shortest plan of a small block has, or `-`.
+fn best_text(alloc: Global, block: &Block) -> Result<String, AllocError> {
+    if block.insts.len() <= MOST_SEARCHED {
+        format!(in alloc; "{}", best(block).items.len())
+    } else {
+        let mut text = String::new(alloc);
+        text.push('-')?;
+        Ok(text)
+    }
 }
 
 /// What is said of a proposal.
@@ -125,10 +137,11 @@ fn block_text(
     let first = block.first;
     let padded = plan_text(alloc, &padded(block))?;
     let greedy = plan_text(alloc, &plans[branch])?;
+    let best = best_text(alloc, block)?;
     let backwards = verdict(block, &mut Backwards);
     let copies = copies_text(alloc, blocks, plans, starts, branch as u32)?;
     format!(in alloc;
-        "{first}: padded {padded}, greedy {greedy}, backwards {backwards}, copies {copies}"
+        "{first}: padded {padded}, greedy {greedy}, best {best}, backwards {backwards}, copies {copies}"
     )
 }
 

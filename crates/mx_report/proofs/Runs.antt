@@ -8,7 +8,7 @@ use Rattle.mx_code.specs.Delay.{Code}
 use Rattle.mx_icache.specs.Residency.{resident}
 use Rattle.mx_turn.specs.declared.Cycled.{Cycled}
 use Rattle.mx_turn.specs.Cycle.{Machine, start, is_taken, entered, decided, turned, ended, reached, latched, acted, cycled, answer, acted_answer, after_bits}
-use Rattle.mx_turn.specs.Program.{Program, state_after, answer_after}
+use Rattle.mx_turn.specs.Program.{Program, code_of, memory_of, state_after, answer_after}
 use Rattle.mx_turn.specs.Run.{is_requested, bits, bytes_on, console_after}
 use Rattle.mx_turn.proofs.Steps.{after_one_more}
 use Rattle.mx_report.specs.Trace.{trace_line}
@@ -41,11 +41,11 @@ answer_halted code input m request = ⊎_elim
     (cases_Bool m.halted)
 
 pub one_more_byte : (p : Program) (m : Machine) (h : List Bool) (request : Bool)
-    → bytes_on p m (h ++ request ∷ []) ≡ bytes_on p m h ++ option_to_list (answer p.code p.input (after_bits resident p.code p.input m h) request).byte
+    → bytes_on p m (h ++ request ∷ []) ≡ bytes_on p m h ++ option_to_list (answer (code_of p) p.input (after_bits resident (code_of p) p.input m h) request).byte
 one_more_byte p m [] request = grind (arith, common_steps)
 one_more_byte p m (b ∷ h) request =
-    ap (λ l. option_to_list (answer p.code p.input m b).byte ++ l) (one_more_byte p (cycled resident p.code p.input m b) h request)
-    ∙ sym (append_assoc (option_to_list (answer p.code p.input m b).byte) _ _)
+    ap (λ l. option_to_list (answer (code_of p) p.input m b).byte ++ l) (one_more_byte p (cycled resident (code_of p) p.input m b) h request)
+    ∙ sym (append_assoc (option_to_list (answer (code_of p) p.input m b).byte) _ _)
 
 module _ (p : Program) (requests : List ℕ) where
   -- the machine after the first n cycles
@@ -55,14 +55,14 @@ module _ (p : Program) (requests : List ℕ) where
   abbrev pub cycled_at : ℕ → Cycled
   cycled_at n = answer_after p (bits requests n) (is_requested requests n)
 
-  pub next_state : (n : ℕ) → state_at (suc n) ≡ cycled resident p.code p.input (state_at n) (is_requested requests n)
-  next_state n = after_one_more resident p.code p.input (start p.words) (bits requests n) (is_requested requests n)
+  pub next_state : (n : ℕ) → state_at (suc n) ≡ cycled resident (code_of p) p.input (state_at n) (is_requested requests n)
+  next_state n = after_one_more resident (code_of p) p.input (start (memory_of p)) (bits requests n) (is_requested requests n)
 
   pub next_console : (n : ℕ) → console_after p (bits requests (suc n)) ≡ console_after p (bits requests n) ++ option_to_list (cycled_at n).byte
-  next_console n = one_more_byte p (start p.words) (bits requests n) (is_requested requests n)
+  next_console n = one_more_byte p (start (memory_of p)) (bits requests n) (is_requested requests n)
 
   pub next_halted : (n : ℕ) → (cycled_at n).halted ≡ (state_at (suc n)).halted
-  next_halted n = answer_halted p.code p.input (state_at n) (is_requested requests n) ∙ ap (λ (m : Machine). m.halted) (sym (next_state n))
+  next_halted n = answer_halted (code_of p) p.input (state_at n) (is_requested requests n) ∙ ap (λ (m : Machine). m.halted) (sym (next_state n))
 
   abbrev pub shown_line : ℕ → List ℕ
   shown_line n = trace_line n (cycled_at n) (state_at (suc n)).shown
@@ -91,7 +91,7 @@ module _ (p : Program) (requests : List ℕ) where
     state_still zero le = let e : zero ≡ n = omega arith in ap state_at e
     state_still (suc m) le = ⊎_elim
         (λ lt. next_state m
-        ∙ ap (λ (s : Machine). cycled resident p.code p.input s (is_requested requests m)) (state_still m (omega (arith, lt)))
+        ∙ ap (λ (s : Machine). cycled resident (code_of p) p.input s (is_requested requests m)) (state_still m (omega (arith, lt)))
         ∙ cond-true (state_at n).halted (state_at n) _ halted)
         (λ ge. let e : suc m ≡ n = omega (arith, ge, le) in ap state_at e)
         (cases_lt n (suc m))

@@ -22,8 +22,8 @@ pub struct Driven {
     pub trace: Vec<u8>,
 }
 
-// Appends a byte, if there is one.
-fn push_byte(console: &mut Vec<u8>, byte: Option<u8>) -> Result<(), AllocError>
+/// Appends a byte, if there is one.
+pub fn push_byte(console: &mut Vec<u8>, byte: Option<u8>) -> Result<(), AllocError>
     ensures { OnOk result (console.new.items ≡ console.old.items ++ option_to_list byte) }
 {
     match byte {

@@ -30,8 +30,8 @@ fn noops(code: &[u32]) -> usize
     code.iter().filter(|word| **word == 0x4000_0000).count()
 }
 
-// Appends the counts of a machine.
-fn push_counts(alloc: Global, text: &mut Vec<u8>, counts: &Counts) -> Result<(), AllocError>
+/// Appends the counts of a machine, a line each.
+pub fn push_counts(alloc: Global, text: &mut Vec<u8>, counts: &Counts) -> Result<(), AllocError>
     ensures { OnOk result (text.new.items ≡ text.old.items ++ counts_text counts.now) }
 {
     push_count(alloc, text, "cycles", counts.cycles)?;

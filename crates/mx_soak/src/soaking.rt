@@ -19,13 +19,13 @@ use mx_code::Image;
 use mx_gen::generate;
 use mx_icache::LineCache;
 use mx_io::Memory;
+use mx_pipe::Pipe;
 use mx_link::{LinkError, Linked, link};
 use mx_meaning::{BOARD, run_steps};
 use mx_reorg::ListProposer;
 use mx_report::{Driven, drive};
 use mx_seq::Seq;
 use mx_source::Source;
-use mx_turn::Turns;
 use std::alloc::Global;
 
 /// The most instructions in which a generated source halts.
@@ -90,7 +90,7 @@ fn run_image(
     ensures counts { IfOk result (λ d. d.counts ≡ (run_of (program_of shipped image.now.code.items image.now.user_data.items None) requests.now budget).counts) }
     ensures console { IfOk result (λ d. d.console.items ≡ (run_of (program_of shipped image.now.code.items image.now.user_data.items None) requests.now budget).console) }
 {
-    let mut machine = Turns::new(alloc, image, None, LineCache::new())?;
+    let mut machine = Pipe::new(alloc, image, None, LineCache::new())?;
     drive(alloc, &mut machine, requests, budget, 0)
 }
 
@@ -111,19 +111,4 @@ pub fn soak(alloc: Global, seed: u32, count: u32) -> Result<Vec<u8>, Memory>
     let budget = 9 * steps + 96 * REQUESTS + 16;
     let driven = run_image(alloc, &linked.image, &requests, budget)?;
     text_of(alloc, steps, &driven, &linked)
-}
-
-#[cfg(test)]
-mod tests {
-    use super::*;
-    use std::test::Fail;
-
-    #[test]
-    fn a_source_of_one_item(rt: HostRuntime) -> Result<(), Fail> {
-        let text = soak(rt.alloc(), 1, 1)?;
-        let wanted =
-            b"steps 10\ncycles 27\nfetches 13\nmisses 7\nsquashes 0\ninterrupts 0\nwords 10\nnoops 0\nbytes 0\n";
-        assert_eq!(rt; text.as_slice(), wanted.as_slice());
-        Ok(())
-    }
 }

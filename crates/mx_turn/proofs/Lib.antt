@@ -1,4 +1,5 @@
 pub mod Going
+pub mod Fetches
 pub mod OneTurn
 mod Moves
 pub mod Steps

@@ -10,7 +10,7 @@ use Rattle.mx_isa.specs.Views.{is_md}
 use Rattle.mx_pcchain.specs.declared.chain.Chain.{Chain}
 use Rattle.mx_pcchain.specs.Chain.{special}
 use Rattle.mx_board.specs.Contents.{Contents}
-use Rattle.mx_turn.specs.declared.registers.Slot.{Slot}
+use Rattle.mx_turn.specs.System.{Slot}
 use Rattle.mx_turn.specs.Commits.{change_of}
 
 pub moves_from : (user : Bool) (c : Chain) (d : ℕ) (s : Special) (at : ℕ) (slot : Slot) (file : List ℕ) (md : ℕ) (b : Contents)

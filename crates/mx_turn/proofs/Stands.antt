@@ -7,7 +7,7 @@ use Rattle.mx_turn.specs.declared.machine.Cycled.{Cycled}
 use Rattle.mx_turn.specs.declared.turns.Turns.{Turns}
 use Rattle.mx_turn.specs.Decoded.{code_in}
 use Rattle.mx_turn.specs.Cycle.{Machine, cycled, answer}
-use Rattle.mx_turn.specs.Program.{Program, answer_after}
+use Rattle.mx_turn.specs.Program.{Program, code_of, answer_after}
 use Rattle.mx_turn.specs.Kept.{code_of_turns, machine_of, shown_of, KeepsProgram, StandsFor}
 use Rattle.mx_turn.proofs.Steps.{after_one_more}
 
@@ -31,7 +31,7 @@ module _ {C : Type 0} (holds : C → List ℕ → Type 0) (t : Turns C) (p : Pro
     state =
         e
         ∙ (λ k. cycled resident (s.code k) (s.input k) (s.state k) request)
-        ∙ sym (after_one_more resident p.code p.input _ h request);
+        ∙ sym (after_one_more resident (code_of p) p.input _ h request);
   }
 
 zeros : (k n : ℕ) → slice_index (replicate k 0) n ≡ 0

@@ -10,14 +10,13 @@ use Rattle.mx_pcchain.specs.declared.psw.Psw.{Psw}
 use Rattle.mx_pcchain.specs.Fetch.{Fetch}
 use Rattle.mx_pcchain.specs.Chain.{empty_chain, chain_of, fetch_from, pop}
 use Rattle.mx_pcchain.specs.Modes.{psw_at_start, psw_entered, psw_restored}
-use Rattle.mx_turn.specs.declared.registers.Slot.{Slot}
 use Rattle.mx_turn.specs.declared.latches.Stage.TheVariants.{Empty}
 use Rattle.mx_turn.specs.declared.latches.Latches.{Latches}
 use Rattle.mx_turn.specs.declared.machine.Cycled.{Cycled}
 use Rattle.mx_board.specs.Data.{board}
 use Rattle.mx_turn.specs.Counted.{Counted, no_counts, after_stall, after_turn}
 use Rattle.mx_turn.specs.Stages.{fetch_of, live, address_of, squash, saved, stage_of}
-use Rattle.mx_turn.specs.System.{system_change, moved, pops, restores, slot_of, seen, number_of}
+use Rattle.mx_turn.specs.System.{Slot, no_slot, system_change, moved, pops, restores, slot_of, seen, number_of}
 
 pub record Machine : Type 0 where
   -- what the coming turn fetches
@@ -206,7 +205,7 @@ start data_words = record {
   latch = false;
   core = record { regs = λ n. 0; md = 0; mem = data_words; taken = 0 };
   before = λ n. 0;
-  slot = record { register = 0; value = 0 };
+  slot = no_slot;
   chain = empty_chain;
   psw = psw_at_start;
   halted = false;

@@ -15,7 +15,7 @@ use Rattle.mx_turn.specs.Decoded.{code_in}
 use Rattle.mx_turn.specs.Stages.{fetch_of, live, address_of, squash, stage_of}
 use Rattle.mx_turn.specs.System.{seen, number_of}
 use Rattle.mx_turn.specs.Cycle.{Machine, shifted, committed, showing, waited, acted}
-use Rattle.mx_turn.specs.Program.{Program, state_after}
+use Rattle.mx_turn.specs.Program.{Program, code_of, state_after}
 
 abbrev pub code_of_turns : {C : Type 0} → Turns C → Code
 code_of_turns t = code_in t.code
@@ -73,7 +73,7 @@ pub record StandsFor {C : Type 0} (holds : C → List ℕ → Type 0) (t : Turns
   pub before : Words
   pub cache : holds t.cache (t.next.address ∷ past)
   pub missed : t.missed ≡ not (resident past t.next.address)
-  pub code : code_of_turns t ≡ p.code
+  pub code : code_of_turns t ≡ code_of p
   pub input : t.board.input ≡ p.input
   pub state : machine_of t past before (shown_of t) ≡ state_after p h
 

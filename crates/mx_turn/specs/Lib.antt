@@ -5,6 +5,7 @@ pub mod System
 pub mod Commits
 pub mod Cycle
 pub mod Program
+pub mod Fetches
 pub mod Run
 pub mod Handler
 pub mod OneTurn

@@ -7,28 +7,33 @@ use Rattle.mx_icache.specs.Residency.{resident}
 use Rattle.mx_turn.specs.declared.machine.Cycled.{Cycled}
 use Rattle.mx_turn.specs.Cycle.{Machine, answer, start, after_bits}
 
--- what every code address does, the data words, and the input, if there is one
+-- an image's code words, which stand from 4096 on, the words of a handler, from 0 on, the image's data words, from 256 on, and the input, if there is one
 pub record Program : Type 0 where
-  pub code : Code
-  pub words : Words
+  pub user_words : List ℕ
+  pub handler_words : List ℕ
+  pub data_words : List ℕ
   pub input : Option (List ℕ)
+
+-- the handler's words first
+abbrev pub program_of : List ℕ → List ℕ → List ℕ → Option (List ℕ) → Program
+program_of handler user data_words input = record { user_words = user; handler_words = handler; data_words = data_words; input = input }
 
 -- the handler's code below 4096, and the user's from there on
 abbrev pub code_with : Code → Code → Code
 code_with handler user a = cond (leb 4096 a) (user a) (handler a)
 
--- an image's code words from 4096 on and its data words from 256 on, with the words of a handler from 0 on, and an input or none
-abbrev pub program_of : List ℕ → List ℕ → List ℕ → Option (List ℕ) → Program
-program_of handler user data_words input = record {
-  code = code_with (code_from inst_of 0 handler) (code_from inst_of 4096 user);
-  words = data_from 256 data_words;
-  input = input;
-}
+-- what every code address does
+abbrev pub code_of : Program → Code
+code_of p = code_with (code_from inst_of 0 p.handler_words) (code_from inst_of 4096 p.user_words)
+
+-- the data words at the start
+abbrev pub memory_of : Program → Words
+memory_of p = data_from 256 p.data_words
 
 -- the machine after these request bits
 abbrev pub state_after : Program → List Bool → Machine
-state_after p h = after_bits resident p.code p.input (start p.words) h
+state_after p h = after_bits resident (code_of p) p.input (start (memory_of p)) h
 
 -- what the next cycle answers
 abbrev pub answer_after : Program → List Bool → Bool → Cycled
-answer_after p h request = answer p.code p.input (state_after p h) request
+answer_after p h request = answer (code_of p) p.input (state_after p h) request

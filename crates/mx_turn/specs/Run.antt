@@ -5,7 +5,7 @@ use Rattle.mx_pcchain.specs.Fetch.{Fetch}
 use Rattle.mx_icache.specs.Residency.{resident}
 use Rattle.mx_turn.specs.Counted.{Counted, one}
 use Rattle.mx_turn.specs.Cycle.{Machine, cycled, answer, start}
-use Rattle.mx_turn.specs.Program.{Program, state_after}
+use Rattle.mx_turn.specs.Program.{Program, code_of, memory_of, state_after}
 
 -- a request comes in this cycle
 abbrev pub is_requested : List ℕ → ℕ → Bool
@@ -20,11 +20,11 @@ bits requests (suc n) = bits requests n ++ is_requested requests n ∷ []
 abbrev pub bytes_on : Program → Machine → List Bool → List ℕ
 bytes_on p m [] = []
 bytes_on p m (request ∷ requests) =
-    option_to_list (answer p.code p.input m request).byte ++ bytes_on p (cycled resident p.code p.input m request) requests
+    option_to_list (answer (code_of p) p.input m request).byte ++ bytes_on p (cycled resident (code_of p) p.input m request) requests
 
 -- the console after these request bits
 abbrev pub console_after : Program → List Bool → List ℕ
-console_after p h = bytes_on p (start p.words) h
+console_after p h = bytes_on p (start (memory_of p)) h
 
 -- a fetch of user code, squashed or not, which no interrupt killed
 abbrev pub is_users : Option Fetch → Bool
@@ -38,7 +38,7 @@ passes m = not m.halted && (eqb m.stall 0 && is_users m.alu)
 -- how many fetches of user code reach MEM over these request bits
 abbrev pub passed_on : Program → Machine → List Bool → ℕ
 passed_on p m [] = 0
-passed_on p m (request ∷ requests) = one (passes m) + passed_on p (cycled resident p.code p.input m request) requests
+passed_on p m (request ∷ requests) = one (passes m) + passed_on p (cycled resident (code_of p) p.input m request) requests
 
 pub record Run : Type 0 where
   pub halted : Bool
@@ -55,7 +55,7 @@ run_of p requests budget =
       halted = (state_after p h).halted;
       counts = (state_after p h).counts;
       console = console_after p h;
-      passed = passed_on p (start p.words) h;
+      passed = passed_on p (start (memory_of p)) h;
       last = state_after p h;
     }
 

@@ -8,7 +8,6 @@ use Rattle.mx_isa.specs.Arithmetic.{word_of, result_of, condition_holds}
 use Rattle.mx_isa.specs.Words.{Words, reg, write}
 use Rattle.mx_isa.specs.Effect.{Found, Change, change, gives}
 use Rattle.mx_isa.specs.Views.{dest, is_load, is_md}
-use Rattle.mx_turn.specs.declared.registers.Slot.{Slot}
 use Rattle.mx_pcchain.specs.declared.chain.Chain.{Chain}
 use Rattle.mx_pcchain.specs.Chain.{special, with_special}
 
@@ -33,8 +32,16 @@ restores Jpcrs = true
 restores _ = false
 
 -- a load is not seen by the word directly behind it, which sees the old value of the register; register 0 for none
+pub record Slot : Type 0 where
+  pub register : ℕ
+  pub value : ℕ
+
+abbrev pub no_slot : Slot
+no_slot = record { register = 0; value = 0 }
+
+-- the slot of an instruction that commits, by the registers before it
 abbrev pub slot_of : Inst → Words → Slot
-slot_of i r = cond (is_load i) (record { register = dest i; value = reg r (dest i) }) (record { register = 0; value = 0 })
+slot_of i r = cond (is_load i) (record { register = dest i; value = reg r (dest i) }) no_slot
 
 -- the registers as the next word sees them
 abbrev pub seen : Slot → Words → Words

@@ -4,7 +4,7 @@ ghost use Rattle.std.specs.Int.{w32, cast_unsigned};
 ghost use Rattle.mx_isa.specs.Effect.{decides, offset_by};
 ghost use Rattle.mx_turn.specs.System.{pops, restores, seen};
 
-use crate::registers::{Slot, sees};
+use crate::registers::{LoadSlot, sees};
 use mx_isa::{Inst, Reg, holds};
 
 /// Where a word leads, if not to the next one; whether it cancels the two words behind it; whether it pops the chain in
@@ -17,8 +17,8 @@ pub struct Decided {
     pub restores: bool,
 }
 
-// It leads to the next word.
-fn goes_on() -> Decided
+/// It leads to the next word.
+pub fn goes_on() -> Decided
     ensures { result ≡ record { target = None; cancels = false; pops = false; restores = false } }
 {
     Decided {
@@ -29,8 +29,8 @@ fn goes_on() -> Decided
     }
 }
 
-// It leads to an address.
-fn goes_to(target: u32) -> Decided
+/// It leads to an address.
+pub fn goes_to(target: u32) -> Decided
     ensures { result ≡ record { target = Some target; cancels = false; pops = false; restores = false } }
 {
     Decided {
@@ -48,8 +48,8 @@ fn displaced(at: u32, by: i32) -> u32
     at.wrapping_add(by.cast_unsigned()) % (1 << 31)
 }
 
-// A branch, by whether it holds.
-fn branches(holds: bool, at: u32, squash: bool, by: i32) -> Decided
+/// A branch at an address, by whether it holds.
+pub fn branches(holds: bool, at: u32, squash: bool, by: i32) -> Decided
     ensures target { result.target ≡ (if holds then Some ((at + cast_unsigned w32 by) % 2 ^ 31) else None) }
     ensures cancels { result.cancels ≡ (if holds then false else squash) }
     ensures pops { result.pops ≡ false }
@@ -69,7 +69,7 @@ fn branches(holds: bool, at: u32, squash: bool, by: i32) -> Decided
 
 /// What the word in ALU, at an address, decides by the registers that it sees.
 #[inline(always)]
-pub fn decide(inst: &Inst, at: u32, slot: &Slot, file: &[u32; 32]) -> Decided
+pub fn decide(inst: &Inst, at: u32, slot: &LoadSlot, file: &[u32; 32]) -> Decided
     ensures target { result.target ≡ (decides inst.now at (seen slot.now (slice_index file.now))).target }
     ensures cancels { result.cancels ≡ (decides inst.now at (seen slot.now (slice_index file.now))).cancels }
     ensures code_address { IfSome result.target (λ a. a < 2 ^ 31) }

@@ -104,11 +104,20 @@ impl Model for Coming {
 }
 
 impl Coming {
-    /// The fetch that a word of a chain stands for.
-    pub fn from_entry(word: u32) -> Coming
-        ensures { result ≡ fetch_from word }
+    /// This fetch.
+    pub fn of(fetched: Fetched) -> Coming
+        ensures { result ≡ fetched }
     {
-        Coming { word }
+        Coming {
+            word: fetched.entry(),
+        }
+    }
+
+    /// The fetch.
+    pub fn fetched(&self) -> Fetched
+        ensures { result ≡ self.now }
+    {
+        Fetched::from_entry(self.word)
     }
 
     /// The fetch of an address below 2^31.

@@ -12,12 +12,15 @@ mod mem_stage;
 mod registers;
 mod shown;
 mod stages;
-#[cfg(test)]
-mod tests;
 mod turns;
 
+pub use alu_stage::{Decided, branches, goes_on, goes_to};
 pub use counts::Counts;
 pub use latches::{Latches, Stage};
-pub use laws::one_user_turn;
+pub use laws::{one_user_turn, stages_are_a_window};
 pub use machine::{Cycled, Machine};
+pub use mem_stage::move_to;
+pub use registers::{read, set};
+pub use shown::number_of;
+pub use stages::{fetch_of, led, popped, restored, saved, squash, stage_of};
 pub use turns::{SHIPPED, Turns};

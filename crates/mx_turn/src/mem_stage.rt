@@ -7,10 +7,10 @@ ghost use Rattle.mx_isa.specs.Views.{is_halt, is_md};
 ghost use Rattle.mx_pcchain.specs.Chain.{special, with_special};
 ghost use Rattle.mx_board.specs.Data.{board, words_of};
 ghost use Rattle.mx_turn.specs.Decoded.{ShiftFits};
-ghost use Rattle.mx_turn.specs.System.{moved, slot_of, seen};
+ghost use Rattle.mx_turn.specs.System.{moved, no_slot, slot_of, seen};
 ghost use Rattle.mx_turn.specs.Commits.{change_of};
 
-use crate::registers::{Slot, no_slot, read, sees, set};
+use crate::registers::{LoadSlot, no_slot, read, sees, set};
 use mx_board::Board;
 use mx_isa::{Inst, Op, Reg, Special, compute};
 use mx_pcchain::Chain;
@@ -23,16 +23,16 @@ pub struct Committed {
 }
 
 // A register and an offset.
-fn address_of(file: &[u32; 32], slot: &Slot, base: Reg, offset: i32) -> u32
+fn address_of(file: &[u32; 32], slot: &LoadSlot, base: Reg, offset: i32) -> u32
     ensures { result ≡ offset_by (seen slot.now (slice_index file.now)) base offset }
 {
     sees(file, slot, base).wrapping_add(offset.cast_unsigned())
 }
 
 // The word is no load, and nothing but its change is learned of it.
-fn plain(slot: &mut Slot) -> Committed
+fn plain(slot: &mut LoadSlot) -> Committed
     ensures answer { result ≡ record { byte = None; halted = false } }
-    ensures slot { slot.new ≡ record { register = 0; value = 0 } }
+    ensures slot { slot.new ≡ no_slot }
 {
     *slot = no_slot();
     Committed {
@@ -48,7 +48,7 @@ pub fn commit(
     inst: &Inst,
     at: u32,
     user: bool,
-    slot: &mut Slot,
+    slot: &mut LoadSlot,
     file: &mut [u32; 32],
     md: &mut u32,
     chain: &mut Chain,
@@ -77,7 +77,7 @@ pub fn commit(
             let value = read(file, *dest);
             let word = memory.load(address, user);
             set(file, *dest, word);
-            *slot = Slot {
+            *slot = LoadSlot {
                 register: *dest,
                 value,
             };
@@ -157,8 +157,8 @@ fn from_chain(dest: Reg, word: u32, user: bool, file: &mut [u32; 32])
     }
 }
 
-// MD takes a word, or a saved fetch does in system mode.
-fn move_to(word: u32, special: Special, user: bool, md: &mut u32, chain: &mut Chain)
+/// MD takes a word, or a saved fetch does in system mode.
+pub fn move_to(word: u32, special: Special, user: bool, md: &mut u32, chain: &mut Chain)
     ensures md { md.new ≡ (if is_md special then word else md.old) }
     ensures chain { chain.new ≡ (if user then chain.old else with_special chain.old special word) }
 {

@@ -1,22 +1,33 @@
 //! The register file, and what a word sees of it.
 ghost use Rattle.std.specs.Prelude.{◌≡◌, ◌==◌, slice_index, if◌then◌else◌};
 ghost use Rattle.mx_isa.specs.Words.{reg, write};
-ghost use Rattle.mx_turn.specs.System.{seen};
+ghost use Rattle.mx_turn.specs.System.{no_slot, seen};
 
 use mx_isa::Reg;
+use std::marker::Model;
 
 /// A register that the next word still sees with an old value, since a load has just written it; r0 for none.
 #[derive(Clone, Copy, Debug, PartialEq, Eq)]
-pub struct Slot {
+pub struct LoadSlot {
     pub register: Reg,
     pub value: u32,
 }
 
+impl Model for LoadSlot {
+    ghost use Rattle.mx_turn.specs.System.{Slot};
+
+    ghost Value = { Slot };
+
+    ghost view = { λ s. record { register = s.register; value = s.value } };
+
+    ghost inverse = { λ s. record { register = s.register; value = s.value } };
+}
+
 /// No register was loaded.
-pub fn no_slot() -> Slot
-    ensures { result ≡ record { register = 0; value = 0 } }
+pub fn no_slot() -> LoadSlot
+    ensures { result ≡ no_slot }
 {
-    Slot {
+    LoadSlot {
         register: Reg::ZERO,
         value: 0,
     }
@@ -41,7 +52,7 @@ pub fn set(file: &mut [u32; 32], r: Reg, value: u32)
 }
 
 /// A register as the next word sees it.
-pub fn sees(file: &[u32; 32], slot: &Slot, r: Reg) -> u32
+pub fn sees(file: &[u32; 32], slot: &LoadSlot, r: Reg) -> u32
     ensures { result ≡ reg (seen slot.now (slice_index file.now)) r }
 {
     if r.number() == slot.register.number() {
@@ -52,7 +63,7 @@ pub fn sees(file: &[u32; 32], slot: &Slot, r: Reg) -> u32
 }
 
 // The old value of the register in the slot.
-fn seen_slot(slot: &Slot) -> u32
+fn seen_slot(slot: &LoadSlot) -> u32
     ensures { result ≡ (if slot.now.register == 0 then 0 else slot.now.value) }
 {
     if slot.register.number() == 0 {

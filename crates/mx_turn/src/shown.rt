@@ -1,32 +1,16 @@
 //! What a trace shows of the word in ALU.
 ghost use Rattle.std.specs.Prelude.{◌≡◌, ◌<◌, ◌^◌, ℕ, if◌then◌else◌};
 ghost use Rattle.mx_isa.specs.Arithmetic.{condition_holds};
-ghost use Rattle.mx_isa.specs.Views.{sources};
 ghost use Rattle.mx_pcchain.specs.Chain.{special};
 ghost use Rattle.mx_turn.specs.Decoded.{ShiftFits};
 ghost use Rattle.mx_turn.specs.System.{number_of};
 
-use mx_isa::{Inst, Reg, Special, compute, holds};
+use mx_isa::{Inst, Special, compute, holds};
 use mx_pcchain::Chain;
 
-/// The registers that an instruction reads, r0 where it reads fewer than two.
-pub fn sources(inst: &Inst) -> (Reg, Reg)
-    ensures { result ≡ sources inst.now }
-{
-    match inst {
-        Inst::Load { base, .. } => (*base, Reg::ZERO),
-        Inst::Store { base, value, .. } => (*base, *value),
-        Inst::Branch { a, b, .. } => (*a, *b),
-        Inst::Compute { a, b, .. } => (*a, *b),
-        Inst::Addi { a, .. } => (*a, Reg::ZERO),
-        Inst::MoveTo { a, .. } => (*a, Reg::ZERO),
-        Inst::Jspci { a, .. } => (*a, Reg::ZERO),
-        _ => (Reg::ZERO, Reg::ZERO),
-    }
-}
-
-/// The number that it makes of its operands: an address, a sum, a result, 1 for a branch that holds, a link, or the word
-/// that it moves.
+/// The number that an instruction at an address makes of its operands: an address, a sum, a result, 1 for a branch that
+/// holds, a link, or the word that it moves.
+#[inline(always)]
 pub fn number_of(inst: &Inst, at: u32, a: u32, b: u32, md: u32, user: bool, chain: &Chain) -> u32
     requires fits { ShiftFits inst.now }
     requires code_address { at < 2 ^ 31 }

@@ -8,11 +8,10 @@ ghost use Rattle.mx_pcchain.specs.Modes.{psw_restored};
 ghost use Rattle.mx_turn.specs.Stages.{fetch_of, address_of, squash, saved, stage_of};
 
 use crate::Stage;
-use crate::held::Coming;
 use mx_pcchain::{Chain, Fetched, Psw};
 
-// The fetch of an address below 2^31.
-fn fetch_of(address: u32) -> Fetched
+/// The fetch of an address below 2^31.
+pub fn fetch_of(address: u32) -> Fetched
     requires { address < 2 ^ 31 }
     ensures { result ≡ fetch_of address }
 {
@@ -66,16 +65,16 @@ fn shown(fetched: &Fetched) -> Stage
 }
 
 /// What the next turn fetches: the first fetch of the chain, or by the decision.
-pub fn led(back: bool, chain: &Chain, target: Option<u32>, last: &Coming) -> Coming
+pub fn led(back: bool, chain: &Chain, target: Option<u32>, last: Fetched) -> Fetched
     requires { IfSome target (λ a. a < 2 ^ 31) }
-    ensures { result ≡ (if back then fetch_from chain.now.pc1 else fetch_of (next_of target last.now.address)) }
+    ensures { result ≡ (if back then fetch_from chain.now.pc1 else fetch_of (next_of target last.address)) }
 {
     if back {
-        return Coming::from_entry(chain.pc1);
+        return Fetched::from_entry(chain.pc1);
     }
     match target {
-        Some(target) => Coming::at(target),
-        None => last.following(),
+        Some(target) => fetch_of(target),
+        None => fetch_of(last.address.wrapping_add(1) % (1 << 31)),
     }
 }
 

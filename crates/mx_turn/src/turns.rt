@@ -17,8 +17,8 @@ use crate::alu_stage::{Decided, decide};
 use crate::decoded::Decoded;
 use crate::held::{Coming, Held};
 use crate::mem_stage::commit;
-use crate::registers::{Slot, no_slot, read, sees};
-use crate::shown::{number_of, sources};
+use crate::registers::{LoadSlot, no_slot, read, sees};
+use crate::shown::number_of;
 use crate::stages::{led, popped, restored, saved, squash, stage_of};
 use crate::{Counts, Cycled, Latches, Machine};
 use mx_board::Board;
@@ -89,7 +89,7 @@ pub struct Turns<C> {
     missed: bool,
     stall: u8,
     latch: bool,
-    slot: Slot,
+    slot: LoadSlot,
     chain: Chain,
     psw: Psw,
     halted: bool,
@@ -174,7 +174,7 @@ impl<C: FetchCache> Turns<C> {
         ensures { result ≡ shown_by self.now looked.now }
     {
         let inst = self.live(looked.alu);
-        let operands = sources(&inst);
+        let operands = inst.sources();
         let a = sees(&self.file, &self.slot, operands.0);
         let b = sees(&self.file, &self.slot, operands.1);
         let at = looked.alu.address();
@@ -222,7 +222,7 @@ impl<C: FetchCache> Turns<C> {
         ensures counts { self.new.counts ≡ self.old.counts }
     {
         self.looked = Some(self.look());
-        self.next = led(back, &self.chain, decided.target, &self.next);
+        self.next = Coming::of(led(back, &self.chain, decided.target, self.next.fetched()));
         self.fetch = Held::of(squash(decided.cancels, self.fetch.stage()));
         self.rf = Held::of(squash(decided.cancels, self.rf.stage()));
         self.chain = popped(back, self.chain);
@@ -244,7 +244,7 @@ impl<C: FetchCache> Turns<C> {
         let back = self.goes_back(&decided);
         // Most transfers cancel and pop nothing: for them, too, nothing but the next fetch is written.
         if !either(back, decided.cancels) {
-            self.next = led(false, &self.chain, decided.target, &self.next);
+            self.next = Coming::of(led(false, &self.chain, decided.target, self.next.fetched()));
             return false;
         }
         self.turn_aside(&decided, back);

@@ -1,4 +1,4 @@
-use Rattle.std.specs.Prelude.{ℕ, List, [], ◌∷◌, ◌++◌, Bool, false, not, ◌==◌, ◌&&◌, Option, Some, None, option_map, option_and_then, map, fold, find, length, if◌then◌else◌}
+use Rattle.std.specs.Prelude.{ℕ, List, [], ◌∷◌, ◌++◌, Bool, false, not, ◌==◌, ◌&&◌, leb, Option, Some, None, option_map, option_and_then, map, fold, find, length, if◌then◌else◌}
 use Rattle.std.specs.List.{list_any, before_first, after_first}
 use Rattle.std.specs.Str.{bytes_eq}
 
@@ -98,11 +98,15 @@ ended refused = None
 abbrev pub reading : List Text → List Text → Option Reading
 reading options words = ended (fold (after_word options) (ready nothing) words)
 
--- the names, and the value of each option in turn, where there are `count` names
-abbrev pub answer : List Text → ℕ → Reading → Option (List Text × List (Option Text))
-answer options count q =
-    if length q.names == count then Some (q.names, map (λ o. value_of o q.given) options) else None
+-- how many names a command takes
+abbrev pub is_between : ℕ → ℕ → ℕ → Bool
+is_between fewest most count = leb fewest count && leb count most
+
+-- the names, and the value of each option in turn, where there are `fewest` to `most` names
+abbrev pub answer : List Text → ℕ → ℕ → Reading → Option (List Text × List (Option Text))
+answer options fewest most q =
+    if is_between fewest most (length q.names) then Some (q.names, map (λ o. value_of o q.given) options) else None
 
 -- what the words ask of a command with these options and that many names
-abbrev pub asked : List Text → ℕ → List Text → Option (List Text × List (Option Text))
-asked options count words = option_and_then (answer options count) (reading options words)
+abbrev pub asked : List Text → ℕ → ℕ → List Text → Option (List Text × List (Option Text))
+asked options fewest most words = option_and_then (answer options fewest most) (reading options words)

@@ -7,8 +7,6 @@
 
 mod number;
 mod read;
-#[cfg(test)]
-mod tests;
 
 pub use number::number_within;
 pub use read::{Read, Shape, read_words};

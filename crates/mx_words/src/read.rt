@@ -1,8 +1,8 @@
 //! A command's words, read by one `clap` command.
-ghost use Rattle.std.specs.Prelude.{◌≡◌, IfOk, IfSome, IsTrue, false, not, [], map, length, vec_len, string_bytes, option_map, unwrap_or};
+ghost use Rattle.std.specs.Prelude.{◌≡◌, ◌≤◌, IfOk, IfSome, IsTrue, false, not, [], map, length, vec_len, string_bytes, option_map, unwrap_or};
 ghost use Rattle.clap.specs.Words.{app_of, rule_of, all_of, first_of, rows_of, found_of};
 ghost use Rattle.mx_words.specs.Command.{command_for, option_rule, names_id, texts, IsParse};
-ghost use Rattle.mx_words.specs.Reading.{asked, is_known};
+ghost use Rattle.mx_words.specs.Reading.{asked, is_between, is_known};
 ghost use Rattle.mx_words.specs.Read.{seen};
 
 use clap::error::ErrorKind;
@@ -18,8 +18,19 @@ const NAMES: &str = "NAMES";
 pub struct Shape<'a> {
     /// The names of its options, without the `--`.
     pub options: &'a [&'a str],
-    /// How many names it takes.
-    pub names: usize,
+    /// How few names it may take.
+    pub fewest: usize,
+    /// How many names it may take.
+    pub most: usize,
+}
+
+impl Shape<'_> {
+    /// Whether it may take that many names.
+    fn takes(&self, count: usize) -> bool
+        ensures { result ≡ is_between self.now.fewest self.now.most count }
+    {
+        self.fewest <= count && count <= self.most
+    }
 }
 
 /// What a command's words say.
@@ -120,8 +131,8 @@ pub fn read_words<'a>(
 ) -> Result<Option<Read<'a>>, Memory>
     requires { IsTrue (not (is_known (texts shape.now.options.now) names_id)) }
     ensures asked { IfOk result (λ r. option_map seen r
-        ≡ asked (texts shape.now.options.now) shape.now.names (map string_bytes words.entry.now)) }
-    ensures names { IfOk result (λ r. IfSome r (λ read. vec_len read.names ≡ shape.now.names)) }
+        ≡ asked (texts shape.now.options.now) shape.now.fewest shape.now.most (map string_bytes words.entry.now)) }
+    ensures names { IfOk result (λ r. IfSome r (λ read. (shape.now.fewest ≤ vec_len read.names) × (vec_len read.names ≤ shape.now.most))) }
     ensures values { IfOk result (λ r. IfSome r (λ read. vec_len read.values ≡ length shape.now.options.now)) }
 {
     let found = match parse(alloc, shape.options, words) {
@@ -132,7 +143,7 @@ pub fn read_words<'a>(
         return Ok(None);
     };
     let names = names_in(alloc, &matches)?;
-    if names.len() != shape.names {
+    if !shape.takes(names.len()) {
         return Ok(None);
     }
     let values = values_in(alloc, &matches, shape.options)?;

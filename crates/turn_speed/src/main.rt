@@ -1,12 +1,14 @@
-//! Drives the turn machine on a nested counting loop, for as many cycles as the first word says, and prints its counts.
+//! Drives both machines on a nested counting loop, for as many cycles as the first word says, and prints their counts; with
+//! a second word, `turns` or `pipe`, the one of this name alone.
 #![tactic(auto)]
 
 use anyhow::{Context, Result, bail};
 use mx_board::Requests;
 use mx_code::Image;
 use mx_icache::LineCache;
+use mx_pipe::Pipe;
 use mx_report::drive;
-use mx_turn::Turns;
+use mx_turn::{Counts, Turns};
 use std::alloc::Global;
 use std::env;
 
@@ -31,6 +33,38 @@ fn image(alloc: Global) -> Result<Image> {
     }
 }
 
+// Prints what a machine counted.
+fn show<R: Print + AllocGlobal>(rt: &R, counts: &Counts) -> Result<()> {
+    println!(rt; "cycles {}", counts.cycles)?;
+    println!(rt; "fetches {}", counts.fetches)?;
+    println!(rt; "misses {}", counts.misses)?;
+    Ok(())
+}
+
+// Drives the turn machine.
+fn turns(alloc: Global, image: &Image, cycles: u32) -> Result<Counts> {
+    let Ok(mut machine) = Turns::new(alloc, image, None, LineCache::new()) else {
+        bail!("out of memory")
+    };
+    let requests = Requests::none(alloc);
+    match drive(alloc, &mut machine, &requests, cycles, 0) {
+        Ok(driven) => Ok(driven.counts),
+        Err(_) => bail!("out of memory"),
+    }
+}
+
+// Drives the pipeline.
+fn pipe(alloc: Global, image: &Image, cycles: u32) -> Result<Counts> {
+    let Ok(mut machine) = Pipe::new(alloc, image, None, LineCache::new()) else {
+        bail!("out of memory")
+    };
+    let requests = Requests::none(alloc);
+    match drive(alloc, &mut machine, &requests, cycles, 0) {
+        Ok(driven) => Ok(driven.counts),
+        Err(_) => bail!("out of memory"),
+    }
+}
+
 fn main(rt: HostRuntime) -> Result<()> {
     let mut words = env::args(&rt)?;
     let _ = words.next();
@@ -38,16 +72,13 @@ fn main(rt: HostRuntime) -> Result<()> {
         bail!("how many cycles?")
     };
     let cycles = word.parse::<u32>().context("how many cycles?")?;
-    let Ok(mut machine) = Turns::new(rt.alloc(), &image(rt.alloc())?, None, LineCache::new()) else {
-        bail!("out of memory")
-    };
-    let requests = Requests::none(rt.alloc());
-    let Ok(driven) = drive(rt.alloc(), &mut machine, &requests, cycles, 0) else {
-        bail!("out of memory")
-    };
-    let counts = driven.counts;
-    println!(rt; "cycles {}", counts.cycles)?;
-    println!(rt; "fetches {}", counts.fetches)?;
-    println!(rt; "misses {}", counts.misses)?;
+    let name = words.next();
+    let image = image(rt.alloc())?;
+    if name.as_deref() != Some("pipe") {
+        show(&rt, &turns(rt.alloc(), &image, cycles)?)?;
+    }
+    if name.as_deref() != Some("turns") {
+        show(&rt, &pipe(rt.alloc(), &image, cycles)?)?;
+    }
     Ok(())
 }

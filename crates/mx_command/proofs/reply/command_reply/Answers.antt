@@ -71,3 +71,11 @@ returns-in_ok-reply-in-Migrate-clause-replied g c =
     let after : Counts = record { reads = g.S.Shelf.reads c.migrate_reply.new.shelf; taken = g.S.Shelf.taken c.migrate_reply.new.shelf; faults = g.S.Shelf.read_faults c.migrate_reply.new.shelf } in
     let layout_of : Layouts = λ source. [] in
     command_is_replied layout_of told before after (reply_answer c.in_ok-reply-in-Migrate.reply) (given.Migrate c.in-Migrate.image c.in-Migrate.target) c.in_ok-reply-in-Migrate.ensures.performed
+
+pub returns-in_ok-reply-in-Share-clause-performed : goal.returns-in_ok-reply-in-Share-clause-performed
+returns-in_ok-reply-in-Share-clause-performed g c = λ layout_of is.
+    let told : Told = record { tells = g.S.Shelf.tells c.args.shelf.now; held = g.S.Shelf.held c.args.shelf.now } in
+    let before : Counts = record { reads = g.S.Shelf.reads c.args.shelf.now; taken = g.S.Shelf.taken c.args.shelf.now; faults = g.S.Shelf.read_faults c.args.shelf.now } in
+    let after : Counts = record { reads = g.S.Shelf.reads c.share_reply.new.shelf; taken = g.S.Shelf.taken c.share_reply.new.shelf; faults = g.S.Shelf.read_faults c.share_reply.new.shelf } in
+    by_command layout_of told before after (reply_answer c.in_ok-reply-in-Share.reply) c.args.asked.now
+    (given.Share c.in-Share.first c.in-Share.second c.in-Share.interrupts c.in-Share.budget) c.in-Share.is (c.in_ok-reply-in-Share.ensures.performed layout_of is)

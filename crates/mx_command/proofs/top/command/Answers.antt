@@ -1,4 +1,5 @@
-use Rattle.std.proofs.Common.{◌≡◌, ◌≢◌, Option, map, string_bytes, refl, sym, ap, ◌∙◌, subst, ⊎_elim, inl, inr}
+use Rattle.std.proofs.Common.{◌≡◌, ◌≢◌, Bool, true, false, Option, map, string_bytes, refl, sym, ap, ◌∙◌, subst, ⊎_elim, inl, inr}
+use Rattle.std.specs.Prelude.{is_some}
 use Rattle.mx_answer.specs.declared.Status.{Status}
 use Rattle.mx_answer.specs.declared.Status.TheVariants.{Usage, WriteFault, Memory}
 use Rattle.mx_answer.specs.Answer.{Answer}
@@ -7,11 +8,20 @@ use Rattle.mx_answer.specs.Protocol.{Told, Counts, Performed}
 use Rattle.mx_answer.specs.Replies.{reply_answer}
 use Rattle.mx_asked.specs.Commands.{Command}
 use Rattle.mx_asked.specs.Asked.{command_of}
-use Rattle.mx_command.specs.Protocols.{protocol_of}
+use Rattle.mx_command.specs.Protocols.{Layouts, protocol_of}
 use Rattle.mx_answer.proofs.Commands.{status_cases}
 use Rattle.mx_command.proofs.Own.{own_answers, replied_status, replied_asks}
 use Rattle.mx_command.proofs.Ended.{ended}
-use Rattle.mx_command.proofs.Headline.{delivered_means, meant_or_memory}
+use Rattle.mx_command.proofs.Headline.{delivered_is_headline}
+use Rattle.mx_command.proofs.PairHeadline.{delivered_is_pair}
+use Rattle.mx_command.specs.Pairs.{PairHeadline}
+use Rattle.mx_command.proofs.Prints.{nothing_to_write}
+use Rattle.mx_command.specs.Headline.{Headline}
+use Rattle.mx_command.specs.Writing.{writes_a_file}
+use Rattle.mx_schedule.proofs.Scheduler.{scheduler}
+use Rattle.mx_schedule.specs.Schedule.{IsScheduler}
+use Rattle.mx_answer.specs.Delivery.{Delivered}
+use Rattle.mx_io.specs.Counts.{Rose}
 use Rattle.mx_command.proofs.top.command.Goals as goal
 
 usage_is_no_write_fault : (s : Status) → s ≡ Usage → s ≢ WriteFault
@@ -48,12 +58,6 @@ returns-clause-complete g c = λ layout_of is.
     c.finish.ensures.delivered c.finish.ensures.write_fault c.finish.ensures.prefix c.finish.ensures.memory c.finish.ensures.kept in
     whole.complete
 
-pub returns-clause-as_meant : goal.returns-clause-as_meant
-returns-clause-as_meant g c = λ layout_of is tells reads writes faults accepted.
-    meant_or_memory layout_of (command_of (map string_bytes c.args.words.now)) (g.S.Shelf.held c.args.shelf.now) accepted is c.finish.result (g.S.Shelf.tells c.args.shelf.now)
-    (g.W.Sink.written c.args.out.now) (g.W.Sink.written c.finish.new.out) (g.S.Shelf.held c.finish.new.shelf)
-    (returns-clause-complete g c layout_of is tells reads writes faults)
-
 pub returns-clause-sound : goal.returns-clause-sound
 returns-clause-sound g c = λ layout_of is.
     let asked : Option Command = command_of (map string_bytes c.args.words.now) in
@@ -74,11 +78,31 @@ returns-clause-sound g c = λ layout_of is.
     c.finish.ensures.delivered c.finish.ensures.write_fault c.finish.ensures.prefix c.finish.ensures.memory c.finish.ensures.kept in
     whole.sound
 
-pub returns-clause-means_its_source : goal.returns-clause-means_its_source
-returns-clause-means_its_source g c = λ layout_of is tells r w m accepted.
-    delivered_means layout_of (command_of (map string_bytes c.args.words.now)) (g.S.Shelf.held c.args.shelf.now) accepted is c.finish.result (g.S.Shelf.tells c.args.shelf.now)
-    (g.W.Sink.written c.args.out.now) (g.W.Sink.written c.finish.new.out) (g.S.Shelf.held c.finish.new.shelf)
-    (returns-clause-sound g c layout_of is tells r w m)
+pub returns-clause-headline : goal.returns-clause-headline
+returns-clause-headline g c = λ tells undisturbed accepted.
+    let told : (d : Delivered _ _ _ _ _ _ _) → Headline _ _ accepted _ _ _ =
+        delivered_is_headline (command_of (map string_bytes c.args.words.now)) (g.S.Shelf.held c.args.shelf.now) accepted scheduler.0 scheduler.1 c.finish.result
+        (g.S.Shelf.tells c.args.shelf.now) (g.W.Sink.written c.args.out.now) (g.W.Sink.written c.finish.new.out) (g.S.Shelf.held c.finish.new.shelf) in
+    ⊎_elim
+    (λ quiet. ⊎_elim (λ m. inl m) (λ d. inr (told d)) (returns-clause-complete g c scheduler.0 scheduler.1 tells quiet.reading quiet.writing quiet.putting))
+    (λ calm. ⊎_elim
+    (λ fault. ⊎_elim (λ w. absurd (calm.no_write_fault w)) (λ m. inl m) fault)
+    (λ other. inr (told (returns-clause-sound g c scheduler.0 scheduler.1 tells calm.no_read_fault other.0 other.1)))
+    (status_cases c.finish.result))
+    undisturbed
+
+pub returns-clause-pair : goal.returns-clause-pair
+returns-clause-pair g c = λ tells undisturbed accepted.
+    let told : (d : Delivered _ _ _ _ _ _ _) → PairHeadline _ _ accepted _ _ _ =
+        delivered_is_pair (command_of (map string_bytes c.args.words.now)) (g.S.Shelf.held c.args.shelf.now) accepted scheduler.0 scheduler.1 c.finish.result
+        (g.S.Shelf.tells c.args.shelf.now) (g.W.Sink.written c.args.out.now) (g.W.Sink.written c.finish.new.out) (g.S.Shelf.held c.finish.new.shelf) in
+    ⊎_elim
+    (λ quiet. ⊎_elim (λ m. inl m) (λ d. inr (told d)) (returns-clause-complete g c scheduler.0 scheduler.1 tells quiet.reading quiet.writing quiet.putting))
+    (λ calm. ⊎_elim
+    (λ fault. ⊎_elim (λ w. absurd (calm.no_write_fault w)) (λ m. inl m) fault)
+    (λ other. inr (told (returns-clause-sound g c scheduler.0 scheduler.1 tells calm.no_read_fault other.0 other.1)))
+    (status_cases c.finish.result))
+    undisturbed
 
 pub returns-clause-read_fault : goal.returns-clause-read_fault
 returns-clause-read_fault g c = λ layout_of is.
@@ -146,3 +170,28 @@ returns-clause-asks_nothing g c = λ nothing.
     (λ fault. inr fault)
     (λ other. inl ((c.finish.ensures.delivered other.0 other.1).status ∙ ap (λ a. a.status) (c.in-Ok.ensures.asks_nothing nothing)))
     (status_cases c.finish.result)
+
+-- only `build` and `migrate` have a file to write
+unfiled : (asked : Option Command) (shelf : Told) (before after : Counts) (answer : Answer)
+    → ((layout_of : Layouts) → IsScheduler layout_of → Performed shelf (protocol_of layout_of asked) before after answer)
+    → is_some answer.file ≡ true → writes_a_file asked ≡ true
+unfiled asked shelf before after answer performed filed = by (writes_a_file asked) refl
+  where
+    by : (b : Bool) → writes_a_file asked ≡ b → writes_a_file asked ≡ true
+    by true e = e
+    by false e = absurd (let none = nothing_to_write asked shelf before after answer e performed in let bad : false ≡ true = sym (ap is_some none) ∙ filed in cc)
+
+pub returns-clause-unwritten : goal.returns-clause-unwritten
+returns-clause-unwritten g c = λ only.
+    c.finish.ensures.unwritten (nothing_to_write (command_of (map string_bytes c.args.words.now)) _ _ _ (reply_answer c.in-Ok.reply) only c.in-Ok.ensures.performed)
+    ∙ c.in-Ok.ensures.writes_stay
+
+pub returns-clause-write_fault : goal.returns-clause-write_fault
+returns-clause-write_fault g c = λ is.
+    ⊎_elim
+    (λ sink. inl sink)
+    (λ shelf. inr (
+      unfiled (command_of (map string_bytes c.args.words.now)) _ _ _ (reply_answer c.in-Ok.reply) c.in-Ok.ensures.performed shelf.0,
+      subst (λ n. Rose n (g.S.Shelf.write_faults c.finish.new.shelf)) c.in-Ok.ensures.writes_stay shelf.1,
+    ))
+    (c.finish.ensures.write_fault is)

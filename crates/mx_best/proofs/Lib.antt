@@ -1,0 +1,4 @@
+pub mod Fewest
+pub mod Searching
+pub mod ValidDecided
+pub mod Visited

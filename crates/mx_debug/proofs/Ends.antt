@@ -1,0 +1,126 @@
+-- How a session ends.
+use Rattle.std.proofs.Common.{◌≡◌, ℕ, zero, suc, ◌+◌, ◌-◌, ◌<◌, ◌≤◌, Bool, true, false, cond, not, ◌&&◌, List, [], ◌∷◌, ◌++◌, length, map, take, refl, sym, ap, ◌∙◌, subst, arith, ⊎_elim, append_assoc}
+use Rattle.std.specs.Prelude.{leb, slice_index, get_or}
+use Rattle.std.proofs.lemmas.Bool.{cond-true, cond-false, cases_lt, le-leb}
+use Rattle.std.proofs.lemmas.Bool.Decides.{nat_tests}
+use Rattle.std.proofs.lemmas.List.{append-nil, length-append, take_at, get_or_at, get_or_append_left, take_all}
+use Rattle.mx_turn.specs.declared.Cycled.{Cycled}
+use Rattle.mx_turn.specs.Cycle.{Machine}
+use Rattle.mx_turn.specs.Program.{state_after}
+use Rattle.mx_turn.specs.Run.{bits, console_after}
+use Rattle.mx_report.proofs.Runs.{cycled_at, state_at, next_halted, state_still, console_still}
+use Rattle.mx_debug.specs.declared.stop.Ending.{Ending}
+use Rattle.mx_debug.specs.declared.stop.Ending.TheVariants.{Stopped, Halted, OutOfBudget}
+use Rattle.mx_debug.specs.Stops.{is_stop, stop_cycles, stop_at}
+use Rattle.mx_debug.specs.Sessions.{Session, all_stops, is_stopped, stops_of, cycles_of, ending_of, console_of, last_of}
+
+-- after n cycles the session has ended so
+pub record EndsSo (s : Session) (n : ℕ) (ending : Ending) : Type 0 where
+  pub ends : ending ≡ ending_of s
+  pub stops : map (stop_at s.program s.requests s.watch) (stop_cycles s.program s.requests s.address n) ≡ stops_of s
+  pub console : console_after s.program (bits s.requests n) ≡ console_of s
+  pub last : state_after s.program (bits s.requests n) ≡ last_of s
+
+halts_no_stop : (a b c d : Bool) → c ≡ true → (not a && (not b && not c)) && d ≡ false
+halts_no_stop a b c d e = grind arith
+
+one_at_most : (xs : List ℕ) (b : Bool) (n : ℕ) → length (xs ++ cond b (n ∷ []) []) ≤ suc (length xs)
+one_at_most xs true n = let e = length-append xs (n ∷ []) in omega (arith, e)
+one_at_most xs false n = let e = length-append xs [] in omega (arith, e)
+
+-- where a list has got longer, it has its new element at the end
+last_added : (xs : List ℕ) (b : Bool) (n : ℕ) → length xs < length (xs ++ cond b (n ∷ []) []) → get_or (xs ++ cond b (n ∷ []) []) (length xs) 0 ≡ n
+last_added xs true n less = get_or_at xs n [] 0 (length xs) refl
+last_added xs false n less = let e = length-append xs [] in absurd (omega (arith, e, less))
+
+not_leb : (m n : ℕ) → n < m → leb m n ≡ false
+not_leb m n less = grind (arith, nat_tests)
+
+module _ (s : Session) where
+  abbrev C : ℕ → List ℕ
+  C n = stop_cycles s.program s.requests s.address n
+
+  abbrev stopping : ℕ → Bool
+  stopping n = is_stop s.program s.requests s.address n
+
+  abbrev state : ℕ → Machine
+  state n = state_at s.program s.requests n
+
+  -- later cycles add stops behind those before them
+  later_stops : (n k : ℕ) → (rest : List ℕ) × (C (k + n) ≡ C n ++ rest)
+  later_stops n zero = ([], ap C (let e : zero + n ≡ n = omega arith in e) ∙ sym (append-nil (C n)))
+  later_stops n (suc k) =
+      let r = later_stops n k in (
+        r.0 ++ cond (stopping (k + n)) ((k + n) ∷ []) [],
+        ap C (let e : suc k + n ≡ suc (k + n) = omega arith in e)
+            ∙ ap (λ l. l ++ cond (stopping (k + n)) ((k + n) ∷ []) []) r.1
+            ∙ append_assoc (C n) r.0 (cond (stopping (k + n)) ((k + n) ∷ []) []),
+      )
+
+  all_later : (n : ℕ) → n ≤ s.budget → (rest : List ℕ) × (all_stops s ≡ C n ++ rest)
+  all_later n within = let r = later_stops n (s.budget - n) in (r.0, ap C (let e : s.budget ≡ s.budget - n + n = omega (arith, within) in e) ∙ r.1)
+
+  -- a cycle in which the machine halts is no stop
+  no_stop : (n : ℕ) → (state (suc n)).halted ≡ true → stopping n ≡ false
+  no_stop n halted =
+      let a : Cycled = cycled_at s.program s.requests n in
+      halts_no_stop a.stalled a.taken a.halted _ (next_halted s.program s.requests n ∙ halted)
+
+  -- nor is one after it
+  stops_still : (n : ℕ) → (state n).halted ≡ true → (m : ℕ) → n ≤ m → C m ≡ C n
+  stops_still n halted zero le = ap C (let e : zero ≡ n = omega (arith, le) in e)
+  stops_still n halted (suc m) le = ⊎_elim
+      (λ less.
+      ap (λ b. C m ++ cond b (m ∷ []) []) (no_stop m (ap (λ (x : Machine). x.halted) (state_still s.program s.requests n halted (suc m) le) ∙ halted))
+      ∙ append-nil (C m)
+      ∙ stops_still n halted m (omega (arith, less)))
+      (λ more. ap C (let e : suc m ≡ n = omega (arith, more, le) in e))
+      (cases_lt n (suc m))
+
+  -- not as many stops came
+  module _ (few : length (all_stops s) < s.limit) where
+    unstopped : is_stopped s ≡ false
+    unstopped = not_leb s.limit (length (all_stops s)) few
+
+    ends_later : (n : ℕ) (b : Bool) → (state s.budget).halted ≡ b → C n ≡ all_stops s → state n ≡ state s.budget
+        → console_after s.program (bits s.requests n) ≡ console_after s.program (bits s.requests s.budget) → EndsSo s n (cond b Halted OutOfBudget)
+    ends_later n b halted same last sent =
+        let whole : cycles_of s ≡ s.budget = cond-false (is_stopped s) _ s.budget unstopped in
+        record {
+          ends = ap (λ h. cond h Halted OutOfBudget) (sym halted) ∙ sym (cond-false (is_stopped s) Stopped _ unstopped);
+          stops = ap (map (stop_at s.program s.requests s.watch)) (same ∙ sym (take_all s.limit (all_stops s) (omega (arith, few))));
+          console = sent ∙ ap (λ k. console_after s.program (bits s.requests k)) (sym whole);
+          last = last ∙ ap state (sym whole);
+        }
+
+  pub ends_halted : (n : ℕ) → suc n ≤ s.budget → length (C n) < s.limit → (state (suc n)).halted ≡ true → EndsSo s (suc n) Halted
+  ends_halted n within few halted =
+      let same : C (suc n) ≡ C n = ap (λ b. C n ++ cond b (n ∷ []) []) (no_stop n halted) ∙ append-nil (C n) in
+      let all : all_stops s ≡ C (suc n) = stops_still (suc n) halted s.budget within in
+      let last = state_still s.program s.requests (suc n) halted s.budget within in
+      ends_later (subst (λ l. length l < s.limit) (sym (all ∙ same)) few) (suc n) true
+      (ap (λ (x : Machine). x.halted) last ∙ halted) (sym all) (sym last) (sym (console_still s.program s.requests (suc n) halted s.budget within))
+
+  pub ends_spent : length (all_stops s) < s.limit → (state s.budget).halted ≡ false → EndsSo s s.budget OutOfBudget
+  ends_spent few going = ends_later few s.budget false going refl refl refl
+
+  pub ends_stopped : (n : ℕ) → suc n ≤ s.budget → length (C n) < s.limit → length (C (suc n)) ≡ s.limit → EndsSo s (suc n) Stopped
+  ends_stopped n within few enough =
+      let r = all_later (suc n) within in
+      let longer = ap length r.1 ∙ length-append (C (suc n)) r.0 in
+      let stopped : is_stopped s ≡ true = le-leb s.limit (length (all_stops s)) (omega (arith, longer, enough)) in
+      let one_more = one_at_most (C n) (stopping n) n in
+      let place : s.limit - 1 ≡ length (C n) = omega (arith, one_more, few, enough) in
+      let least : length (C n) < length (C (suc n)) = omega (arith, few, enough) in
+      let at_end : slice_index (all_stops s) (s.limit - 1) ≡ n =
+      ap (λ l. get_or l (s.limit - 1) 0) r.1
+      ∙ ap (λ k. get_or (C (suc n) ++ r.0) k 0) place
+      ∙ get_or_append_left (C (suc n)) r.0 0 (length (C n)) least
+      ∙ last_added (C n) (stopping n) n least in
+      let cycles : cycles_of s ≡ suc n = cond-true (is_stopped s) _ s.budget stopped ∙ ap suc at_end in
+      record {
+        ends = sym (cond-true (is_stopped s) Stopped _ stopped);
+        stops = ap (map (stop_at s.program s.requests s.watch)) (sym (ap (take s.limit) r.1 ∙ take_at (C (suc n)) r.0 s.limit enough));
+        console = ap (λ k. console_after s.program (bits s.requests k)) (sym cycles);
+        last = ap state (sym cycles);
+      }

@@ -1,0 +1,8 @@
+//! Stops of a machine where a word of its code is about to take effect.
+#![tactic(auto)]
+
+mod stop;
+mod stopping;
+
+pub use stop::{Ending, Stop, Stopped};
+pub use stopping::stops;

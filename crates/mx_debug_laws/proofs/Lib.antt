@@ -1,0 +1,5 @@
+pub mod Counting
+pub mod Listed
+pub mod Arrivals
+pub mod Visits
+pub mod Whole

@@ -1,0 +1,3 @@
+mod Makes
+mod Decides
+mod Stands

@@ -1,0 +1,49 @@
+use Rattle.std.proofs.Common.{◌≡◌, refl, sym, ap, ◌∙◌, cond}
+use Rattle.std.specs.Prelude.{slice_index}
+use Rattle.mx_isa.specs.Words.{write}
+use Rattle.mx_isa.specs.Views.{dest}
+use Rattle.mx_code.specs.Delay.{data_from}
+use Rattle.mx_turn.specs.System.{slot_of}
+use Rattle.mx_turn.proofs.Stands.{no_registers, none_resident}
+use Rattle.mx_pipe.specs.Latched.{does}
+use Rattle.mx_pipe.specs.Made.{md_kept}
+use Rattle.mx_pipe.proofs.pipe.Pipe.with.Goals as goal
+
+pub returns : goal.returns
+returns g c = record {
+  code = c.in_ok-code.ensures ∙ c.deref.ensures.value;
+  handler = c.in_ok-handler.ensures;
+  input = c.in_ok-board.ensures.input;
+  waits = (c.requires.empty, λ k. cond (sym (none_resident 4096) k) 0 2);
+  counts = c.none.ensures;
+  tied = record {
+    fetch = record { word = λ k. (c.cleared.ensures k).word; inst = λ k. does (c.cleared.ensures k) };
+    rf = record { word = λ k. (c.cleared-2.ensures k).word; inst = λ k. does (c.cleared-2.ensures k); a = λ k. (c.cleared-2.ensures k).a; b = λ k. (c.cleared-2.ensures k).b };
+    alu = record {
+      word = λ k. (c.cleared-3.ensures k).word;
+      inst = λ k. does (c.cleared-3.ensures k);
+      a = λ k. (c.cleared-3.ensures k).a;
+      b = λ k. (c.cleared-3.ensures k).b;
+      result = λ k. (c.cleared-3.ensures k).result;
+      md = λ k. md_kept (c.cleared-3.ensures k).inst (c.cleared-3.ensures k).result (c.cleared-3.ensures k).md 0;
+    };
+    behind = record {
+      mem = λ k. (c.cleared-4.ensures k).word;
+      wb = λ k. (c.cleared-5.ensures k).word;
+      file = no_registers;
+      regs = λ k. write (no_registers k) (dest (does (c.cleared-4.ensures k))) (c.cleared-4.ensures k).result;
+      slot = λ k. slot_of (does (c.cleared-4.ensures k)) (no_registers k);
+    };
+    rest = record {
+      next = c.fetch_of.ensures;
+      md = refl;
+      words = c.in_ok-board.ensures.words ∙ ap (data_from 256) c.deref-2.ensures.value;
+      taken = c.in_ok-board.ensures.taken;
+      chain = c.new-2.ensures;
+      psw = c.start.ensures;
+      asked = refl;
+      halted = refl;
+      shown = c.nothing.ensures;
+    };
+  };
+}

@@ -1,0 +1,99 @@
+-- What the latches and the register file have to do with the definition's state.
+use Rattle.std.specs.Prelude.{◌≡◌, ℕ, Bool, false, cond, List, ◌∷◌, Option, Some, slice_index}
+use Rattle.mx_isa.specs.Words.{Words, reg, write}
+use Rattle.mx_isa.specs.Views.{sources, dest}
+use Rattle.mx_code.specs.Decoding.{inst_of}
+use Rattle.mx_code.specs.Delay.{Code, code_from}
+use Rattle.mx_icache.specs.Residency.{resident}
+use Rattle.mx_board.specs.Data.{words_of}
+use Rattle.mx_pcchain.specs.Fetch.{Fetch}
+use Rattle.mx_turn.specs.Stages.{live}
+use Rattle.mx_turn.specs.System.{slot_of}
+use Rattle.mx_turn.specs.Cycle.{Machine, first, second, number}
+use Rattle.mx_turn.specs.Program.{Program, code_with, state_after}
+use Rattle.mx_pipe.specs.declared.pipe.Pipe.{Pipe}
+use Rattle.mx_pipe.specs.declared.pipe.Wait.{Wait}
+use Rattle.mx_pipe.specs.declared.pipe.Wait.TheVariants.{NotAsked, Missed}
+use Rattle.mx_pipe.specs.Latched.{Latched, does}
+use Rattle.mx_pipe.specs.Made.{allowed, md_behind, md_kept}
+
+-- what each address of code does
+abbrev pub code_of_pipe : {C : Type 0} → Pipe C → Code
+code_of_pipe p = code_with (code_from inst_of 0 p.handler.items) (code_from inst_of 4096 p.code.items)
+
+-- a latch before the operands of its word are read
+pub record IsFetched (code : Code) (l : Latched) (stage : Option Fetch) : Type 0 where
+  pub word : l.word ≡ stage
+  pub inst : does l ≡ live code stage
+
+-- a latch with operands from these registers
+pub record IsRead (code : Code) (l : Latched) (stage : Option Fetch) (regs : Words) : Type 0 where
+  pub word : l.word ≡ stage
+  pub inst : does l ≡ live code stage
+  pub a : l.a ≡ reg regs (sources (live code stage)).0
+  pub b : l.b ≡ reg regs (sources (live code stage)).1
+
+-- a latch with what its word, which is in ALU, makes
+pub record IsMade (code : Code) (l : Latched) (m : Machine) : Type 0 where
+  pub word : l.word ≡ m.alu
+  pub inst : does l ≡ allowed m.psw.current.user (live code m.alu)
+  pub a : l.a ≡ first code m
+  pub b : l.b ≡ second code m
+  pub result : l.result ≡ number code m
+  pub md : md_kept l.inst l.result l.md m.core.md ≡ md_behind (live code m.alu) (first code m) (second code m) m.core.md
+
+-- the register file is one turn behind: the number of the word in MEM is written next
+pub record IsBehind {C : Type 0} (p : Pipe C) (m : Machine) : Type 0 where
+  pub mem : p.mem.word ≡ m.mem
+  pub wb : p.wb.word ≡ m.wb
+  pub file : slice_index p.file ≡ m.before
+  pub regs : write (slice_index p.file) (dest (does p.mem)) p.mem.result ≡ m.core.regs
+  pub slot : slot_of (does p.mem) (slice_index p.file) ≡ m.slot
+
+-- what does not pass through latches
+pub record SameRest {C : Type 0} (p : Pipe C) (m : Machine) : Type 0 where
+  pub next : p.next ≡ m.next
+  pub md : p.md ≡ m.core.md
+  pub words : words_of p.board ≡ m.core.mem
+  pub taken : p.board.taken ≡ m.core.taken
+  pub chain : p.chain ≡ m.chain
+  pub psw : p.psw ≡ m.psw
+  pub asked : p.asked ≡ m.latch
+  pub halted : p.halted ≡ m.halted
+  pub shown : p.shown ≡ m.shown
+
+-- between turns, and once the words of a turn have moved on and the one in MEM has committed
+pub record Holds {C : Type 0} (code : Code) (p : Pipe C) (m : Machine) : Type 0 where
+  pub fetch : IsFetched code p.fetch m.fetch
+  pub rf : IsRead code p.rf m.rf m.core.regs
+  pub alu : IsMade code p.alu m
+  pub behind : IsBehind p m
+  pub rest : SameRest p m
+
+-- once the word in MEM has committed, and before the others move on
+pub record Commits {C : Type 0} (code : Code) (p : Pipe C) (m : Machine) : Type 0 where
+  pub fetch : m.fetch ≡ Some m.next
+  pub rf : IsFetched code p.fetch m.rf
+  pub alu : IsRead code p.rf m.alu (slice_index p.file)
+  pub behind : IsBehind p m
+  pub rest : SameRest p m
+
+-- whether the cache was asked for the fetch of the coming turn, and the stalled cycles left
+abbrev pub Waits : {C : Type 0} → (C → List ℕ → Type 0) → C → Machine → Wait → Type 0
+Waits holds c m NotAsked = holds c m.past × m.stall ≡ cond (resident m.past m.next.address) 0 2
+Waits holds c m (Missed n) = holds c (m.next.address ∷ m.past) × m.stall ≡ n × resident m.past m.next.address ≡ false
+
+-- the code words and the input stay
+pub record KeepsProgram {C : Type 0} (p p' : Pipe C) : Type 0 where
+  pub code : p'.code ≡ p.code
+  pub handler : p'.handler ≡ p.handler
+  pub input : p'.board.input ≡ p.board.input
+
+-- it stands for the program after the request bits
+pub record StandsFor {C : Type 0} (holds : C → List ℕ → Type 0) (t : Pipe C) (p : Program) (h : List Bool) : Type 0 where
+  pub code : t.code.items ≡ p.user_words
+  pub handler : t.handler.items ≡ p.handler_words
+  pub input : t.board.input ≡ p.input
+  pub waits : Waits holds t.cache (state_after p h) t.wait
+  pub counts : t.counts ≡ (state_after p h).counts
+  pub tied : Holds (code_of_pipe t) t (state_after p h)

@@ -1,0 +1,4 @@
+pub mod Latched
+pub mod Made
+pub mod Kept
+pub mod Fields

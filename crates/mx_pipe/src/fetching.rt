@@ -1,0 +1,80 @@
+//! The word that is fetched.
+ghost use Rattle.std.specs.Prelude.{◌≡◌, ◌<◌, ◌^◌, IfSome, Some, unwrap_or, slice_get, option_and_then};
+ghost use Rattle.mx_code.specs.Decoding.{inst_of};
+ghost use Rattle.mx_code.specs.Delay.{code_from, idle};
+ghost use Rattle.mx_turn.specs.Decoded.{ShiftFits};
+ghost use Rattle.mx_turn.specs.Program.{code_with};
+ghost use Rattle.mx_turn.specs.Stages.{live, address_of};
+ghost use Rattle.mx_pipe.specs.Latched.{does};
+
+use crate::Latch;
+use mx_code::decode;
+use mx_isa::Inst;
+use mx_pcchain::Fetched;
+
+// What a word does, if it spells an instruction.
+fn decoded(word: u32) -> Option<Inst>
+    ensures what { result ≡ inst_of word }
+    ensures fits { IfSome result ShiftFits }
+{
+    match decode(word) {
+        Some(inst) => Some(inst),
+        None => None,
+    }
+}
+
+// What the word at a place does, if there is one.
+fn word_at(words: &[u32], place: usize) -> Option<Inst>
+    ensures what { result ≡ option_and_then inst_of (slice_get words.now place) }
+    ensures fits { IfSome result ShiftFits }
+{
+    match words.get(place) {
+        Some(word) => decoded(*word),
+        None => None,
+    }
+}
+
+// What the word at an address does: the user's words stand from 4,096 on, those of the handler from 0 on.
+fn inst_at(code: &[u32], handler: &[u32], address: u32) -> Option<Inst>
+    ensures what { unwrap_or result idle ≡ code_with (code_from inst_of 0 handler.now) (code_from inst_of 4096 code.now) address }
+    ensures fits { IfSome result ShiftFits }
+{
+    if address >= 4096 {
+        word_at(code, (address - 4096) as usize)
+    } else {
+        word_at(handler, address as usize)
+    }
+}
+
+/// The word of a fetch comes into a latch; one that is squashed does nothing.
+#[inline(always)]
+pub fn fetch(latch: &mut Latch, code: &[u32], handler: &[u32], next: Fetched)
+    ensures word { latch.new.word ≡ Some next }
+    ensures inst { does latch.new ≡ live (code_with (code_from inst_of 0 handler.now) (code_from inst_of 4096 code.now)) (Some next) }
+{
+    latch.word = Some(next);
+    latch.inst = if next.squashed {
+        None
+    } else {
+        inst_at(code, handler, next.address)
+    };
+}
+
+/// The address of a fetch.
+pub fn address(fetched: Fetched) -> u32
+    ensures value { result ≡ fetched.address }
+    ensures code_address { result < 2 ^ 31 }
+{
+    fetched.address
+}
+
+/// The address of a stage, 0 where it is empty.
+pub fn address_of(stage: Option<Fetched>) -> u32
+    ensures value { result ≡ address_of stage }
+    ensures code_address { result < 2 ^ 31 }
+{
+    match stage {
+        Some(fetched) => address(fetched),
+        None => 0,
+    }
+}
