@@ -4,3 +4,5 @@ pub mod Links
 pub mod Laid
 pub mod Headline
 pub mod Prints
+mod Labels
+mod StoppedSources

@@ -12,6 +12,7 @@ ghost use Rattle.mx_schedule.specs.Schedule.{IsScheduler};
 ghost use Rattle.mx_command.specs.Protocols.{Layouts, protocol_of};
 ghost use Rattle.mx_command.specs.Replied.{IsReplied};
 
+use crate::debugged::debug_reply;
 use crate::images::{exec_reply, migrate_reply};
 use crate::sourced::{build_reply, list_reply, run_reply, told_reply};
 use mx_answer::{Reply, Status, line_reply};
@@ -98,6 +99,15 @@ fn command_reply<S: Shelf>(alloc: Global, shelf: &mut S, asked: &Command) -> Res
         }
         Command::Migrate { image, target } => {
             let reply = migrate_reply(alloc, shelf, image, target)?;
+            Ok(reply)
+        }
+        Command::Debug {
+            source,
+            label,
+            ref files,
+            ref limits,
+        } => {
+            let reply = debug_reply(alloc, shelf, source, label, files, limits)?;
             Ok(reply)
         }
     }
