@@ -71,7 +71,7 @@ dot_fits P labels l name true known h new = h
 dot_fits P labels l name false true h new = h
 dot_fits P labels l name false false h new = All-push (λ p. P p.1) labels (name, l) h (new refl)
 
-define_fits : (P : Label → Type 0) (labels : Labels) (l : Label) (name : List ℕ) → All (λ p. P p.1) labels → (is_dotted name ≡ false → P l) → All (λ p. P p.1) (define labels l name)
+pub define_fits : (P : Label → Type 0) (labels : Labels) (l : Label) (name : List ℕ) → All (λ p. P p.1) labels → (is_dotted name ≡ false → P l) → All (λ p. P p.1) (define labels l name)
 unfolding define
 define_fits P labels l name h new = dot_fits P labels l name (is_dotted name) (is_some (label_named labels name)) h new
 
@@ -93,7 +93,7 @@ unfolding behind
 index_grows [] p = omega arith
 index_grows (line ∷ lines) p = omega (arith, index_grows lines (after p (line_words line)))
 
-address_grows : (p : Position) (ws : List Word) → 256 ≤ p.address → 256 ≤ (after p ws).address
+pub address_grows : (p : Position) (ws : List Word) → 256 ≤ p.address → 256 ≤ (after p ws).address
 unfolding behind
 address_grows p ws h = omega arith
 

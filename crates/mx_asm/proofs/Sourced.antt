@@ -1,6 +1,6 @@
 -- The source that a text without faults reads as keeps to what each source does.
 use Rattle.std.proofs.Common.{◌≡◌, ℕ, ◌+◌, ◌≤◌, ◌||◌, List, [], ◌∷◌, ◌++◌, length, cond, Bool, true, false, Option, Some, None, Result, Ok, Err, refl, sym, ap, ◌∙◌, subst, arith}
-use Rattle.std.specs.Prelude.{nat_lt}
+use Rattle.std.specs.Prelude.{nat_lt, All}
 use Rattle.std.proofs.lemmas.Bool.Decides.{nat_tests}
 use Rattle.std.proofs.lemmas.List.{append-nil}
 use Rattle.std.proofs.lemmas.List.Elements.{All-nil}
@@ -23,7 +23,7 @@ use Rattle.mx_asm.specs.Positions.{has_dotted_label, labels_from, line_words, wo
 use Rattle.mx_asm.specs.Faults.{first_fault, first_repeat, line_fault, words_fault, least_fault, layout_fault, is_full, stands_past, is_line}
 use Rattle.mx_asm.specs.Texts.{text_labels, text_effects, text_fault, source_of, effects_from, statements_in, lines_in, values_in, input_in, onto_statements, onto_lines, onto_values, onto_input}
 use Rattle.mx_asm.proofs.LabelBounds.{found_none, labels_fit}
-use Rattle.mx_asm.proofs.Listed.{Listed, this_fault, listed_step}
+use Rattle.mx_asm.proofs.Listed.{Listed, this_fault, listed_step, listed_none}
 use Rattle.mx_asm.proofs.Suits.{was_fit, effect_fits}
 use Rattle.mx_asm.proofs.Whole.{made}
 
@@ -67,12 +67,22 @@ module _ (labels : Labels) (end : ℕ) (p : Position) (repeated : Bool) (long : 
   read_line (Err fault) h = cc
   read_line (Ok words) h = by_effect words (effect_of labels p.section (statement_words words)) refl h
 
-module _ (labels : Labels) (low end : ℕ) (all : List (List ℕ)) (none : first_fault labels end (start low) [] 1 all ≡ None) (most : end ≤ 65536) where
+-- what lines without faults do, from a position on, fits in a source
+pub record LinesFit (labels : Labels) (end : ℕ) (from : Position) (all : List (List ℕ)) : Type 0 where
+  pub count : from.index + length (statements_in (effects_from labels from 1 all)) ≡ (position_at_end from all).index
+  pub each : length (lines_in (effects_from labels from 1 all)) ≡ length (statements_in (effects_from labels from 1 all))
+  pub words : from.address + length (values_in (effects_from labels from 1 all)) ≡ (position_at_end from all).address
+  pub few : (position_at_end from all).index ≤ 20000
+  pub within : (position_at_end from all).address ≤ end
+  pub statements_fit : (count : ℕ) → LabelsFit count labels → All (StatementFits (IsPlace labels count)) (statements_in (effects_from labels from 1 all))
+  pub values_fit : (count : ℕ) → LabelsFit count labels → All (ValueFits (IsPlace labels count)) (values_in (effects_from labels from 1 all))
+
+module _ (labels : Labels) (end : ℕ) (from : Position) (all : List (List ℕ)) (none : first_fault labels end from [] 1 all ≡ None) (most : end ≤ 65536) where
   abbrev repeated : Option ℕ
-  repeated = first_repeat (start low) [] 1 all
+  repeated = first_repeat from [] 1 all
 
   abbrev ListedTo : List Statement → List ℕ → List Value → Option ℕ → Position → ℕ → List (List ℕ) → Type 0
-  ListedTo = Listed labels end (start low) all repeated
+  ListedTo = Listed labels end from all repeated
 
   -- what all lines add
   pub record AllListed : Type 0 where
@@ -88,39 +98,40 @@ module _ (labels : Labels) (low end : ℕ) (all : List (List ℕ)) (none : first
   all_listed [] ss ns vs input p number h = record { ss = ss; ns = ns; vs = vs; input = input; p = p; number = number; listed = h }
   all_listed (line ∷ rest) ss ns vs input p number h =
       let here = found_none number (line_fault labels end p h.earlier line) _ (h.fault ∙ none) in
-      let clear : words_fault labels end p (is_line repeated number) (length line) (words_of line) ≡ None = sym (this_fault labels end (start low) all repeated ss ns vs input p number line rest h) ∙ here.0 in
+      let clear : words_fault labels end p (is_line repeated number) (length line) (words_of line) ≡ None = sym (this_fault labels end from all repeated ss ns vs input p number line rest h) ∙ here.0 in
       let read = read_line labels end p (is_line repeated number) (length line) (words_of line) clear in
       let words = statement_words (line_words line) in
       let fits = λ (count : ℕ) (fit : LabelsFit count labels). was_fit (EffectFits labels count) (effect_of labels p.section words) read.effect (effect_fits labels count fit p.section words) read.reads in
       all_listed rest
       (ss ++ onto_statements read.effect []) (ns ++ onto_lines number read.effect []) (vs ++ onto_values read.effect []) (first_input input (onto_input number read.effect None)) (after p (line_words line)) (number + 1)
-      (listed_step labels end (start low) all repeated ss ns vs input p number line rest h read.effect
+      (listed_step labels end from all repeated ss ns vs input p number line rest h read.effect
       (ss ++ onto_statements read.effect []) (ns ++ onto_lines number read.effect []) (vs ++ onto_values read.effect []) (first_input input (onto_input number read.effect None)) (after p (line_words line)) (number + 1)
       clear read.reads refl read.few read.within most fits refl refl refl refl refl)
 
-  pub whole : low ≤ end → AllListed
-  whole order = all_listed all [] [] [] None (start low) 1 (record {
-    earlier = [];
-    fault = refl;
-    repeat = refl;
-    statements = refl;
-    lines = refl;
-    values = refl;
-    inputs = refl;
-    last = refl;
-    count = refl;
-    each = refl;
-    words = omega arith;
-    few = omega arith;
-    within = order;
-    statements_fit = λ count fit. All-nil (StatementFits (IsPlace labels count));
-    values_fit = λ count fit. All-nil (ValueFits (IsPlace labels count));
-  })
+  pub whole : from.index ≤ 20000 → from.address ≤ end → AllListed
+  whole room order = all_listed all [] [] [] None from 1 (listed_none labels end from all repeated refl room order)
+
+  pub lines_fit : from.index ≤ 20000 → from.address ≤ end → LinesFit labels end from all
+  lines_fit room order =
+      let w = whole room order in
+      let l = w.listed in
+      let ss : w.ss ≡ statements_in (effects_from labels from 1 all) = sym (append-nil w.ss) ∙ l.statements in
+      let ns : w.ns ≡ lines_in (effects_from labels from 1 all) = sym (append-nil w.ns) ∙ l.lines in
+      let vs : w.vs ≡ values_in (effects_from labels from 1 all) = sym (append-nil w.vs) ∙ l.values in
+      record {
+        count = (let k = l.count in let n = ap length ss in let q = ap (λ (p : Position). p.index) l.last in omega (arith, k, n, q));
+        each = sym (ap length ns) ∙ l.each ∙ ap length ss;
+        words = (let k = l.words in let n = ap length vs in let q = ap (λ (p : Position). p.address) l.last in omega (arith, k, n, q));
+        few = subst (λ (p : Position). p.index ≤ 20000) l.last l.few;
+        within = subst (λ (p : Position). p.address ≤ end) l.last l.within;
+        statements_fit = λ count fit. subst (All (StatementFits (IsPlace labels count))) ss (l.statements_fit count fit);
+        values_fit = λ count fit. subst (All (ValueFits (IsPlace labels count))) vs (l.values_fit count fit);
+      }
 
 lines_make : (low end : ℕ) (all : List (List ℕ)) (labels : Labels) → labels ≡ labels_from (start low) [] all → 256 ≤ low → low ≤ end → end ≤ 65536 → first_fault labels end (start low) [] 1 all ≡ None
     → (let effects = effects_from labels (start low) 1 all in IsSource (made (statements_in effects) (lines_in effects) (values_in effects) labels (input_in effects)))
 lines_make low end all labels defined least order most none =
-    let w = whole labels low end all none most order in
+    let w = whole labels end (start low) all none most (omega arith) order in
     let l = w.listed in
     let effects = effects_from labels (start low) 1 all in
     let ended = labels_fit labels end all (start low) [] 1 most least none (All-nil (λ (p : List ℕ × Label). LabelFits (position_at_end (start low) all).index p.1)) in

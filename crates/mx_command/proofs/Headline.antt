@@ -36,7 +36,7 @@ use Rattle.mx_command.specs.Headline.{Headline}
 
 module _ (held : Held) where
   -- a file that is held within its limit is read
-  read_is : (kind : FileKind) (name bytes : List ℕ) (next : List ℕ → Protocol) → Holds held kind name bytes → resolved (Reads kind name next) held ≡ resolved (next bytes) held
+  pub read_is : (kind : FileKind) (name bytes : List ℕ) (next : List ℕ → Protocol) → Holds held kind name bytes → resolved (Reads kind name next) held ≡ resolved (next bytes) held
   read_is kind name bytes next h =
       ap (λ o. answered kind (reading_of kind o) (λ b. resolved (next b) held)) h.there
       ∙ ap (λ (r : Reading). answered kind r (λ b. resolved (next b) held)) (cond-false (nat_lt (limit_of kind) (length bytes)) TooLong (Given bytes) (within (limit_of kind) (length bytes) h.within))
@@ -44,7 +44,7 @@ module _ (held : Held) where
       within : (m n : ℕ) → n ≤ m → nat_lt m n ≡ false
       within m n l = grind (arith, nat_tests)
 
-  requests_are : (name : Option (List ℕ)) (requests : List ℕ) (next : List ℕ → Protocol) → AreRequests held name requests → resolved (requests_protocol name next) held ≡ resolved (next requests) held
+  pub requests_are : (name : Option (List ℕ)) (requests : List ℕ) (next : List ℕ → Protocol) → AreRequests held name requests → resolved (requests_protocol name next) held ≡ resolved (next requests) held
   requests_are None requests next h = ap (λ r. resolved (next r) held) (sym h)
   requests_are (Some name) requests next h =
       read_is Interrupts name h.0 (λ b. by_requests (requests_of b) next) h.1 ∙ ap (λ r. resolved (by_requests r next) held) h.2

@@ -4,5 +4,7 @@ pub mod Links
 pub mod Laid
 pub mod Headline
 pub mod Prints
+pub mod Pairs
+pub mod PairHeadline
 mod Labels
 mod StoppedSources

@@ -8,6 +8,7 @@ use Rattle.mx_image.specs.Files.{file_refusal, file_in, file_bytes}
 use Rattle.mx_turn.specs.Handler.{shipped}
 use Rattle.mx_turn.specs.Program.{Program, program_of}
 use Rattle.mx_answer.specs.declared.FileKind.{FileKind}
+use Rattle.mx_answer.specs.declared.FileKind.TheVariants.{Second}
 use Rattle.mx_answer.specs.declared.Status.{Status}
 use Rattle.mx_answer.specs.declared.Status.TheVariants.{Halted, Done, Refused, Usage, OutOfBudget, ReadFault, WriteFault, Memory, BadImage, BadEvents, Stuck}
 use Rattle.mx_answer.specs.Answer.{Answer, prints, writes, is_own}
@@ -19,19 +20,29 @@ use Rattle.mx_isa.specs.declared.Place.{Place}
 use Rattle.mx_source.specs.SourceValue.{SourceValue}
 use Rattle.mx_source.specs.Meaning.{Mark}
 use Rattle.mx_source.specs.Meaning as meant
-use Rattle.mx_layout.specs.Overlong.{Overlong}
-use Rattle.mx_link.specs.Origins.{from_target}
-use Rattle.mx_link.specs.Linked.{linked_code, linked_data}
+use Rattle.mx_layout.specs.Layout.{blocks_in}
+use Rattle.mx_layout.specs.Overlong.{Overlong, overlong}
+use Rattle.mx_link.specs.Origins.{from_target, from_nowhere}
+use Rattle.mx_link.specs.Linked.{link_map, linked_code, linked_data}
 use Rattle.mx_listing.specs.Listing.{layout_listing}
 use Rattle.mx_meaning.specs.Boards.{board}
 use Rattle.mx_meaning.specs.Told.{status_of, meaning_answer}
 use Rattle.mx_simulate.specs.declared.Limits.{Limits}
 use Rattle.mx_simulate.specs.Simulated.{program_answer}
 use Rattle.mx_simulate.specs.Machines.{Files, given, by_requests, requests_protocol, input_protocol, machine_protocol}
+use Rattle.mx_debug.specs.declared.Ending.{Ending}
+use Rattle.mx_debug.specs.declared.Ending.TheVariants as ending
+use Rattle.mx_debug.specs.Sessions.{Session, session}
+use Rattle.mx_sessions.specs.declared.SessionLimits.{SessionLimits}
+use Rattle.mx_sessions.specs.Sessions.{session_answer, session_protocol}
+use Rattle.mx_sessions.specs.Sessions as sessions
+use Rattle.mx_tasks.specs.Places.{lower, upper}
+use Rattle.mx_tasks.specs.Sharing.{shared}
+use Rattle.mx_sharing.specs.Runs.{shared_answer, sharing_protocol}
 use Rattle.mx_asked.specs.declared.Command.{Command as GivenCommand}
 use Rattle.mx_asked.specs.Seen.{seen_command}
-use Rattle.mx_asked.specs.Commands.{Command, Run, Meaning, Build, Exec, Listing, Gen, Soak, Migrate}
-use Rattle.mx_command.specs.Protocols.{unless_faulty, unless_overlong, unless_refused, migrated, Layouts, Linking, linked_protocol, run_protocol, build_protocol, linked_contents, list_protocol, protocol_of}
+use Rattle.mx_asked.specs.Commands.{Command, Run, Meaning, Build, Exec, Listing, Gen, Soak, Migrate, Share, Debug}
+use Rattle.mx_command.specs.Protocols.{unless_faulty, unless_overlong, unless_refused, migrated, Layouts, Linking, linked_protocol, run_protocol, build_protocol, linked_contents, list_protocol, unless_wrong, wrong_with, unless_far, upper_layout, pair_code, pair_data, pair_protocol, assembled_protocol, statement_named, unless_unlabelled, labelled_protocol, protocol_of}
 use Rattle.mx_command.specs.Replied.{is_answered, IsReplied}
 
 -- the answer to what was asked
@@ -101,6 +112,54 @@ answers_migrated : (target bytes : List ℕ) (refusal : Option ImageError) → I
 answers_migrated target bytes (Some error) = printed_answer _ _ refl
 answers_migrated target bytes None = written_answer target _
 
+answers_shared : (q : Program) (requests : List ℕ) (budget : ℕ) → IsAnswer (shared_answer q requests budget)
+unfolding shared_answer
+answers_shared q requests budget = printed_answer _ _ (answered_ending _)
+
+pub answers_sharing : (interrupts : Option (List ℕ)) (budget : ℕ) (code user_data : List ℕ) → HasAnswers (sharing_protocol interrupts budget code user_data)
+answers_sharing interrupts budget code user_data = answers_requests interrupts _ (λ requests. answers_shared (shared code user_data) requests budget)
+
+answers_far : (program : ℕ) (found : Option Overlong) (next : Protocol) → HasAnswers next → HasAnswers (unless_far program found next)
+answers_far program (Some found) next has = printed_answer _ _ refl
+answers_far program None next has = has
+
+answers_wrong : (program : ℕ) (cause : Option (List ℕ)) (next : Protocol) → HasAnswers next → HasAnswers (unless_wrong program cause next)
+answers_wrong program (Some cause) next has = printed_answer _ _ refl
+answers_wrong program None next has = has
+
+answers_pair : (layout_of : Layouts) (interrupts : Option (List ℕ)) (budget : ℕ) (first second : SourceValue) → HasAnswers (pair_protocol layout_of interrupts budget first second)
+answers_pair layout_of interrupts budget first second =
+    answers_far 1 (overlong first lower (blocks_in (layout_of first))) _
+    (answers_far 2 (overlong second upper (blocks_in (upper_layout layout_of second))) _
+    (answers_sharing interrupts budget (pair_code layout_of first second) (pair_data layout_of first second)))
+
+answers_assembled : (program : ℕ) (place : Place) (next : SourceValue → Protocol) → ((source : SourceValue) → HasAnswers (next source)) → (text : List ℕ) → HasAnswers (assembled_protocol program place next text)
+answers_assembled program place next has text = answers_wrong program (wrong_with place text) _ (has (source_of place.user_data text))
+
+answered_session : (e : Ending) → is_answered (sessions.status_of e) ≡ true
+answered_session ending.Stopped = refl
+answered_session ending.Halted = refl
+answered_session ending.OutOfBudget = refl
+
+answers_session : (s : Session) → IsAnswer (session_answer s)
+unfolding session_answer
+answers_session s = printed_answer _ _ (answered_session _)
+
+answers_stopped : (files : Files) (limits : SessionLimits) (code user_data : List ℕ) (asks : Bool) (address : ℕ) → HasAnswers (session_protocol files limits code user_data asks address)
+answers_stopped files limits code user_data asks address =
+    answers_requests files.interrupts _ (λ requests. answers_input files.input _ (λ bytes.
+    answers_session (session (program_of shipped code user_data (given asks bytes)) requests address limits.stops limits.watch limits.budget)))
+
+answers_unlabelled : (name : List ℕ) (found : Option ℕ) (next : ℕ → Protocol) → ((index : ℕ) → HasAnswers (next index)) → HasAnswers (unless_unlabelled name found next)
+answers_unlabelled name None next has = printed_answer _ _ refl
+answers_unlabelled name (Some index) next has = has index
+
+answers_labelled : (layout_of : Layouts) (label : List ℕ) (files : Files) (limits : SessionLimits) (source : SourceValue) → HasAnswers (labelled_protocol layout_of label files limits source)
+answers_labelled layout_of label files limits source =
+    answers_unlabelled label (statement_named source label) _ (λ index. answers_overlong _ _
+    (answers_stopped files limits (linked_code from_nowhere source board (layout_of source)) (linked_data source board (layout_of source)) (is_some source.input)
+    (link_map board (layout_of source) index)))
+
 pub has_answers : (layout_of : Layouts) (asked : Command) → HasAnswers (protocol_of layout_of (Some asked))
 has_answers layout_of (Run source files limits) =
     answers_linked layout_of (run_protocol files limits)
@@ -112,6 +171,11 @@ has_answers layout_of (Listing source) = answers_linked layout_of list_protocol 
 has_answers layout_of (Gen seed count) = printed_answer _ _ refl
 has_answers layout_of (Soak seed count) = printed_answer _ _ refl
 has_answers layout_of (Migrate image target) = λ bytes. answers_migrated target bytes (file_refusal bytes)
+has_answers layout_of (Share first second interrupts budget) =
+    answers_assembled 1 lower (λ one. Reads Second second (assembled_protocol 2 upper (pair_protocol layout_of interrupts budget one)))
+    (λ one. answers_assembled 2 upper (pair_protocol layout_of interrupts budget one) (answers_pair layout_of interrupts budget one))
+has_answers layout_of (Debug source label files limits) =
+    λ text. answers_faulty (text_fault 256 65536 text) _ (answers_labelled layout_of label files limits (source_of 256 text))
 
 own_status : (status : Status) → is_answered status ≡ true → is_own status ≡ true
 own_status Halted is = refl

@@ -7,6 +7,7 @@ use Rattle.mx_image.specs.declared.ImageError.{ImageError}
 use Rattle.mx_image.specs.Files.{file_refusal, file_in}
 use Rattle.mx_turn.specs.Handler.{shipped}
 use Rattle.mx_turn.specs.Program.{Program, program_of}
+use Rattle.mx_answer.specs.declared.FileKind.TheVariants.{Second}
 use Rattle.mx_answer.specs.Answer.{Answer}
 use Rattle.mx_answer.specs.Protocol.{Protocol, Answers, Reads, Told, Counts, Performed, OnlyPrints}
 use Rattle.mx_answer.proofs.Protocols.{no_file}
@@ -14,9 +15,10 @@ use Rattle.mx_asm.specs.declared.Fault.{Fault}
 use Rattle.mx_asm.specs.Texts.{source_of, text_fault}
 use Rattle.mx_source.specs.SourceValue.{SourceValue}
 use Rattle.mx_isa.specs.declared.Place.{Place}
-use Rattle.mx_layout.specs.Overlong.{Overlong}
-use Rattle.mx_link.specs.Origins.{from_target}
-use Rattle.mx_link.specs.Linked.{linked_code, linked_data}
+use Rattle.mx_layout.specs.Layout.{blocks_in}
+use Rattle.mx_layout.specs.Overlong.{Overlong, overlong}
+use Rattle.mx_link.specs.Origins.{from_target, from_nowhere}
+use Rattle.mx_link.specs.Linked.{link_map, linked_code, linked_data}
 use Rattle.mx_listing.specs.Listing.{layout_listing}
 use Rattle.mx_meaning.specs.Boards.{board}
 use Rattle.mx_meaning.specs.Told.{meaning_answer}
@@ -25,8 +27,14 @@ use Rattle.mx_schedule.specs.Schedule.{IsScheduler}
 use Rattle.mx_simulate.specs.declared.Limits.{Limits}
 use Rattle.mx_simulate.specs.Simulated.{program_answer}
 use Rattle.mx_simulate.specs.Machines.{Files, given, by_requests, requests_protocol, input_protocol, machine_protocol}
-use Rattle.mx_asked.specs.Commands.{Command, Run, Meaning, Build, Exec, Listing, Gen, Soak, Migrate}
-use Rattle.mx_command.specs.Protocols.{unless_faulty, unless_overlong, unless_refused, Layouts, Linking, linked_protocol, run_protocol, list_protocol, protocol_of}
+use Rattle.mx_debug.specs.Sessions.{Session, session}
+use Rattle.mx_sessions.specs.declared.SessionLimits.{SessionLimits}
+use Rattle.mx_sessions.specs.Sessions.{session_answer, session_protocol}
+use Rattle.mx_tasks.specs.Places.{lower, upper}
+use Rattle.mx_tasks.specs.Sharing.{shared}
+use Rattle.mx_sharing.specs.Runs.{shared_answer}
+use Rattle.mx_asked.specs.Commands.{Command, Run, Meaning, Build, Exec, Listing, Gen, Soak, Migrate, Share, Debug}
+use Rattle.mx_command.specs.Protocols.{unless_faulty, unless_overlong, unless_refused, unless_wrong, wrong_with, unless_far, upper_layout, pair_code, pair_data, pair_protocol, assembled_protocol, statement_named, unless_unlabelled, labelled_protocol, Layouts, Linking, linked_protocol, run_protocol, list_protocol, protocol_of}
 use Rattle.mx_command.specs.Writing.{writes_a_file}
 
 program_prints : (p : Program) (code requests : List ℕ) (limits : Limits) → (program_answer p code requests limits).file ≡ None
@@ -68,6 +76,46 @@ refused_prints : (refusal : Option ImageError) (next : Protocol) → OnlyPrints 
 refused_prints (Some error) next prints = refl
 refused_prints None next prints = prints
 
+shared_prints : (q : Program) (requests : List ℕ) (budget : ℕ) → (shared_answer q requests budget).file ≡ None
+unfolding shared_answer
+shared_prints q requests budget = refl
+
+far_prints : (program : ℕ) (found : Option Overlong) (next : Protocol) → OnlyPrints next → OnlyPrints (unless_far program found next)
+far_prints program (Some found) next prints = refl
+far_prints program None next prints = prints
+
+wrong_prints : (program : ℕ) (cause : Option (List ℕ)) (next : Protocol) → OnlyPrints next → OnlyPrints (unless_wrong program cause next)
+wrong_prints program (Some cause) next prints = refl
+wrong_prints program None next prints = prints
+
+pair_prints : (layout_of : Layouts) (interrupts : Option (List ℕ)) (budget : ℕ) (first second : SourceValue) → OnlyPrints (pair_protocol layout_of interrupts budget first second)
+pair_prints layout_of interrupts budget first second =
+    far_prints 1 (overlong first lower (blocks_in (layout_of first))) _
+    (far_prints 2 (overlong second upper (blocks_in (upper_layout layout_of second))) _
+    (files_print interrupts _ (λ requests. shared_prints (shared (pair_code layout_of first second) (pair_data layout_of first second)) requests budget)))
+
+assembled_prints : (program : ℕ) (place : Place) (next : SourceValue → Protocol) → ((source : SourceValue) → OnlyPrints (next source)) → (text : List ℕ) → OnlyPrints (assembled_protocol program place next text)
+assembled_prints program place next prints text = wrong_prints program (wrong_with place text) _ (prints (source_of place.user_data text))
+
+session_prints : (s : Session) → (session_answer s).file ≡ None
+unfolding session_answer
+session_prints s = refl
+
+stopped_prints : (files : Files) (limits : SessionLimits) (code user_data : List ℕ) (asks : Bool) (address : ℕ) → OnlyPrints (session_protocol files limits code user_data asks address)
+stopped_prints files limits code user_data asks address =
+    files_print files.interrupts _ (λ requests. input_prints files.input _ (λ bytes.
+    session_prints (session (program_of shipped code user_data (given asks bytes)) requests address limits.stops limits.watch limits.budget)))
+
+unlabelled_prints : (name : List ℕ) (found : Option ℕ) (next : ℕ → Protocol) → ((index : ℕ) → OnlyPrints (next index)) → OnlyPrints (unless_unlabelled name found next)
+unlabelled_prints name None next prints = refl
+unlabelled_prints name (Some index) next prints = prints index
+
+labelled_prints : (layout_of : Layouts) (label : List ℕ) (files : Files) (limits : SessionLimits) (source : SourceValue) → OnlyPrints (labelled_protocol layout_of label files limits source)
+labelled_prints layout_of label files limits source =
+    unlabelled_prints label (statement_named source label) _ (λ index. overlong_prints _ _
+    (stopped_prints files limits (linked_code from_nowhere source board (layout_of source)) (linked_data source board (layout_of source)) (is_some source.input)
+    (link_map board (layout_of source) index)))
+
 command_prints : (layout_of : Layouts) (asked : Command) → writes_a_file (Some asked) ≡ false → OnlyPrints (protocol_of layout_of (Some asked))
 command_prints layout_of (Run source files limits) only =
     linked_prints layout_of (run_protocol files limits)
@@ -81,6 +129,11 @@ command_prints layout_of (Listing source) only = linked_prints layout_of list_pr
 command_prints layout_of (Gen seed count) only = refl
 command_prints layout_of (Soak seed count) only = refl
 command_prints layout_of (Migrate image target) only = absurd (cc)
+command_prints layout_of (Share first second interrupts budget) only =
+    assembled_prints 1 lower (λ one. Reads Second second (assembled_protocol 2 upper (pair_protocol layout_of interrupts budget one)))
+    (λ one. assembled_prints 2 upper (pair_protocol layout_of interrupts budget one) (pair_prints layout_of interrupts budget one))
+command_prints layout_of (Debug source label files limits) only =
+    λ text. faulty_prints (text_fault 256 65536 text) _ (labelled_prints layout_of label files limits (source_of 256 text))
 
 only_prints : (layout_of : Layouts) (asked : Option Command) → writes_a_file asked ≡ false → OnlyPrints (protocol_of layout_of asked)
 only_prints layout_of None only = refl

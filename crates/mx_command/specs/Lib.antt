@@ -3,3 +3,5 @@ pub mod Replied
 pub mod Accepted
 pub mod Headline
 pub mod Writing
+pub mod Sharing
+pub mod Pairs

@@ -1,6 +1,7 @@
 -- What each command reads and answers, in the order in which it is refused.
-use Rattle.std.specs.Prelude.{ℕ, ◌++◌, [], codes, List, cond, ltb, length, Option, Some, None, is_some, option_and_then, ℤ, pos, ◌-ℤ◌}
+use Rattle.std.specs.Prelude.{◌≡◌, ℕ, ◌+◌, ◌++◌, [], codes, List, map, cond, ltb, length, slice_get, Option, Some, None, is_some, option_and_then, ℤ, pos, ◌-ℤ◌}
 use Rattle.std.specs.Fmt.{decimal, signed_decimal}
+use Rattle.mx_isa.specs.declared.Place.{Place}
 use Rattle.mx_source.specs.declared.Label.{Label}
 use Rattle.mx_source.specs.declared.Label.TheVariants.{Code, Data}
 use Rattle.mx_source.specs.SourceValue.{SourceValue}
@@ -17,7 +18,7 @@ use Rattle.mx_image.specs.declared.ImageError.{ImageError}
 use Rattle.mx_image.specs.declared.ImageError.TheVariants as image
 use Rattle.mx_image.specs.Contents.{Contents}
 use Rattle.mx_image.specs.Files.{file_refusal, file_in, file_bytes}
-use Rattle.mx_answer.specs.declared.FileKind.TheVariants.{Source, Image}
+use Rattle.mx_answer.specs.declared.FileKind.TheVariants.{Source, First, Second, Image}
 use Rattle.mx_answer.specs.declared.Status.TheVariants.{Done, Refused, BadImage}
 use Rattle.mx_answer.specs.Answer.{Answer, prints, writes, text_line, usage}
 use Rattle.mx_answer.specs.Protocol.{Protocol, Answers, Reads}
@@ -31,7 +32,10 @@ use Rattle.mx_meaning.specs.Boards.{board}
 use Rattle.mx_meaning.specs.Told.{meaning_answer}
 use Rattle.mx_sessions.specs.declared.SessionLimits.{SessionLimits}
 use Rattle.mx_sessions.specs.Sessions.{session_protocol}
-use Rattle.mx_asked.specs.Commands.{Command, Run, Meaning, Build, Exec, Listing, Gen, Soak, Migrate, Debug}
+use Rattle.mx_tasks.specs.Places.{lower, upper}
+use Rattle.mx_tasks.specs.Images.{shared_code, shared_data}
+use Rattle.mx_sharing.specs.Runs.{sharing_protocol}
+use Rattle.mx_asked.specs.Commands.{Command, Run, Meaning, Build, Exec, Listing, Gen, Soak, Migrate, Share, Debug}
 
 abbrev pub fault_text : Fault → List ℕ
 fault_text fault.BadByte = codes "F1 BadByte"
@@ -148,6 +152,70 @@ migrated target bytes None = writes target (file_bytes (file_in bytes))
 abbrev pub migrate_answer : List ℕ → List ℕ → Answer
 migrate_answer target bytes = migrated target bytes (file_refusal bytes)
 
+-- what is said of program 1 or 2
+abbrev pub of_program : ℕ → List ℕ → List ℕ
+of_program program text = codes "program " ++ decimal program ++ codes " " ++ text
+
+abbrev pub line_cause : ℕ → List ℕ → List ℕ
+line_cause line cause = codes "line " ++ decimal line ++ codes ": " ++ cause
+
+-- what is wrong with a source that is to share the machine: its first fault, its first input, or its 10,001st statement, by their lines
+abbrev pub wrong_by : Option (ℕ × Fault) → Option ℕ → Option ℕ → Option (List ℕ)
+wrong_by (Some found) input many = Some (line_cause found.0 (fault_text found.1))
+wrong_by None (Some line) many = Some (line_cause line (codes "input"))
+wrong_by None None (Some line) = Some (line_cause line (codes "too many instructions"))
+wrong_by None None None = None
+
+abbrev pub wrong_with : Place → List ℕ → Option (List ℕ)
+wrong_with place text =
+    let source = source_of place.user_data text in
+    wrong_by (text_fault place.user_data place.end text) source.input (slice_get source.lines 10000)
+
+-- the text of a program: refused by what is wrong with it, or what follows its source
+abbrev pub unless_wrong : ℕ → Option (List ℕ) → Protocol → Protocol
+unless_wrong program (Some cause) next = Answers (prints Refused (text_line (of_program program cause)))
+unless_wrong program None next = next
+
+abbrev pub assembled_protocol : ℕ → Place → (SourceValue → Protocol) → List ℕ → Protocol
+assembled_protocol program place next text = unless_wrong program (wrong_with place text) (next (source_of place.user_data text))
+
+-- a program: refused by its first branch that does not reach its target, or what follows
+abbrev pub unless_far : ℕ → Option Overlong → Protocol → Protocol
+unless_far program (Some found) next =
+    Answers (prints Refused (text_line (of_program program (overlong_text found.line (pos found.to -ℤ pos found.from) found.from found.to))))
+unless_far program None next = next
+
+-- a layout that begins so many words later
+abbrev pub moved : ℕ → List Site → List Site
+moved by sites = map (λ (s : Site). record { block = s.block; plan = s.plan; start = by + s.start }) sites
+
+-- the layout of the second program, whose code begins 30,000 words behind that of a program alone
+abbrev pub upper_layout : Layouts → SourceValue → List Site
+upper_layout layout_of source = moved 30000 (layout_of source)
+
+-- the code words and the data words of two sources in one image
+abbrev pub pair_code : Layouts → SourceValue → SourceValue → List ℕ
+pair_code layout_of first second =
+    shared_code (linked_code from_target first lower (layout_of first)) (linked_code from_target second upper (upper_layout layout_of second))
+
+abbrev pub pair_data : Layouts → SourceValue → SourceValue → List ℕ
+pair_data layout_of first second =
+    shared_data (linked_data first lower (layout_of first)) (linked_data second upper (upper_layout layout_of second))
+
+-- two sources, which are linked into one image: refused by a displacement of the first, then of the second, or their run
+abbrev pub pair_protocol : Layouts → Option (List ℕ) → ℕ → SourceValue → SourceValue → Protocol
+pair_protocol layout_of interrupts budget first second =
+    unless_far 1 (overlong first lower (blocks_in (layout_of first)))
+    (unless_far 2 (overlong second upper (blocks_in (upper_layout layout_of second)))
+    (sharing_protocol interrupts budget (pair_code layout_of first second) (pair_data layout_of first second)))
+
+-- two programs that share the machine: the second is read where nothing is wrong with the first
+abbrev pub share_protocol : Layouts → List ℕ → List ℕ → Option (List ℕ) → ℕ → Protocol
+share_protocol layout_of first second interrupts budget =
+    Reads First first (assembled_protocol 1 lower (λ one.
+    Reads Second second (assembled_protocol 2 upper (λ two.
+    pair_protocol layout_of interrupts budget one two))))
+
 -- the statement of a source of so many at which a label stands, if it is a code label and one stands there
 abbrev pub statement_at : ℕ → Label → Option ℕ
 statement_at count (Code i) = cond (ltb i count) (Some i) None
@@ -193,4 +261,5 @@ protocol_of layout_of (Some (Listing source)) = Reads Source source (linked_prot
 protocol_of layout_of (Some (Gen seed count)) = Answers (prints Done (printed (generated seed count)))
 protocol_of layout_of (Some (Soak seed count)) = Answers (prints Done (soak_text layout_of seed count))
 protocol_of layout_of (Some (Migrate image target)) = Reads Image image (λ bytes. Answers (migrate_answer target bytes))
+protocol_of layout_of (Some (Share first second interrupts budget)) = share_protocol layout_of first second interrupts budget
 protocol_of layout_of (Some (Debug source label files limits)) = Reads Source source (debug_protocol layout_of label files limits)

@@ -5,6 +5,7 @@ mod debugged;
 mod files;
 mod images;
 mod reply;
+mod shared;
 mod sourced;
 mod sources;
 mod top;

@@ -14,6 +14,7 @@ ghost use Rattle.mx_command.specs.Replied.{IsReplied};
 
 use crate::debugged::debug_reply;
 use crate::images::{exec_reply, migrate_reply};
+use crate::shared::share_reply;
 use crate::sourced::{build_reply, list_reply, run_reply, told_reply};
 use mx_answer::{Reply, Status, line_reply};
 use mx_asked::{Command, read_command};
@@ -99,6 +100,15 @@ fn command_reply<S: Shelf>(alloc: Global, shelf: &mut S, asked: &Command) -> Res
         }
         Command::Migrate { image, target } => {
             let reply = migrate_reply(alloc, shelf, image, target)?;
+            Ok(reply)
+        }
+        Command::Share {
+            first,
+            second,
+            interrupts,
+            budget,
+        } => {
+            let reply = share_reply(alloc, shelf, first, second, interrupts, budget)?;
             Ok(reply)
         }
         Command::Debug {

@@ -31,8 +31,8 @@ pub struct Program {
     pub linked: Linked,
 }
 
-// The text of a fault.
-fn fault_text(fault: Fault) -> &'static str
+/// The text of a fault.
+pub fn fault_text(fault: Fault) -> &'static str
     ensures { result.now ≡ fault_text fault }
 {
     match fault {
@@ -94,8 +94,8 @@ fn span_text(alloc: Global, from: u32, to: u32) -> Result<String, AllocError>
     Ok(text)
 }
 
-// The text of a branch with this displacement, at one address, which does not reach another.
-fn overlong_text(
+/// The text of a branch with this displacement, at one address, which does not reach another.
+pub fn overlong_text(
     alloc: Global,
     line: u32,
     displacement: i64,

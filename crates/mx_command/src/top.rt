@@ -10,6 +10,7 @@ ghost use Rattle.mx_schedule.specs.Schedule.{IsScheduler};
 ghost use Rattle.mx_command.specs.Protocols.{Layouts, protocol_of};
 ghost use Rattle.mx_command.specs.Accepted.{Accepted};
 ghost use Rattle.mx_command.specs.Headline.{AreQuiet, IsNoFault, Headline};
+ghost use Rattle.mx_command.specs.Pairs.{AcceptedPair, PairHeadline};
 ghost use Rattle.mx_command.specs.Writing.{writes_a_file};
 
 use crate::reply::reply_to;
@@ -33,6 +34,12 @@ pub fn command<S: Shelf, W: Sink>(
         → AreQuiet (S.read_faults shelf.old) (S.read_faults shelf.new) (S.write_faults shelf.old) (S.write_faults shelf.new) (W.faults out.old) (W.faults out.new) ⊎ IsNoFault result
         → (accepted : Accepted (command_of (map string_bytes words.now)) (S.held shelf.old))
         → (result ≡ Status.Memory) ⊎ Headline (command_of (map string_bytes words.now)) (S.held shelf.old) accepted result (W.written out.old) (W.written out.new) }
+
+    // Where they ask so for two sources that share the machine: all that `PairHeadline` says, or memory ran out.
+    ensures pair { S.tells shelf.old ≡ true
+        → AreQuiet (S.read_faults shelf.old) (S.read_faults shelf.new) (S.write_faults shelf.old) (S.write_faults shelf.new) (W.faults out.old) (W.faults out.new) ⊎ IsNoFault result
+        → (accepted : AcceptedPair (command_of (map string_bytes words.now)) (S.held shelf.old))
+        → (result ≡ Status.Memory) ⊎ PairHeadline (command_of (map string_bytes words.now)) (S.held shelf.old) accepted result (W.written out.old) (W.written out.new) }
 
     // ANSWERS, of every command. Where the shelf tells what it holds and no count of faults rises, the answer is that
     // of the words and of what is held, or memory ran out.

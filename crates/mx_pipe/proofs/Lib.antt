@@ -1,2 +1,3 @@
 mod Makes
+mod Decides
 mod Stands

@@ -1,5 +1,5 @@
 -- What the stages make of an instruction is what the definition does.
-use Rattle.std.proofs.Common.{◌≡◌, ℕ, Bool, true, false, cond, ◌&&◌, Option, Some, None, refl, sym, ap, ◌∙◌}
+use Rattle.std.proofs.Common.{◌≡◌, ℕ, Bool, true, false, cond, ◌&&◌, ◌||◌, true≢false, Option, Some, None, refl, sym, ap, ◌∙◌}
 use Rattle.mx_isa.specs.declared.inst.Special.TheVariants.{Md, Pc1, Pc2, Pc3}
 use Rattle.mx_isa.specs.declared.inst.Op.{Op}
 use Rattle.mx_isa.specs.declared.inst.Op.TheVariants.{Add, Sub, Subnc, And, Or, Xor, Bic, Not, Rotlb, Mstart, Mstep, Dstep, Asr, Sh}
@@ -271,3 +271,12 @@ module _ (code : Code) (l : Latched) (m : Machine) (h : IsMade code l m) where
 
   pub decision_is : decides (does l) (address_of l.word) sees ≡ decision code m
   decision_is = (λ k. decides (h.inst k) (address_of (h.word k)) sees) ∙ decides_is m.psw.current.user (live code m.alu) (address_of m.alu) sees
+
+-- neither of two
+pub neither : (a b : Bool) → (a || b) ≡ false → (a ≡ false) × (b ≡ false)
+neither false b e = (refl, e)
+neither true b e = absurd (true≢false e)
+
+pub and_false : (b : Bool) → (b && false) ≡ false
+and_false true = refl
+and_false false = refl

@@ -1,5 +1,5 @@
 //! What the word in ALU makes and decides.
-ghost use Rattle.std.specs.Prelude.{◌≡◌, ◌<◌, ◌+◌, ◌%◌, ◌^◌, ℕ, Bool, IfSome, Some, None, false, unwrap_or, if◌then◌else◌};
+ghost use Rattle.std.specs.Prelude.{◌≡◌, ◌<◌, ◌+◌, ◌%◌, ◌^◌, ℕ, Bool, IfSome, Some, None, true, false, unwrap_or, if◌then◌else◌};
 ghost use Rattle.std.specs.Int.{w32, cast_unsigned};
 ghost use Rattle.mx_isa.specs.declared.inst.Inst.{Inst};
 ghost use Rattle.mx_isa.specs.Words.{Words, reg};
@@ -19,26 +19,20 @@ use mx_isa::{Inst, Special, compute};
 use mx_pcchain::Chain;
 use mx_turn::{Decided, branches, goes_on, goes_to, number_of};
 
-// User code moves nothing from the saved fetches.
-fn allowed(user: bool, inst: Inst) -> Option<Inst>
-    requires { ShiftFits inst }
-    ensures inst { unwrap_or result idle ≡ allowed user inst }
-    ensures md { (number : ℕ) (made : ℕ) (md : ℕ) → md_kept result number made md ≡ md_kept (Some inst) number made md }
-    ensures fits { IfSome result ShiftFits }
+// Whether user code may not do what an instruction does: it moves nothing from the saved fetches.
+fn is_refused(user: bool, inst: &Inst) -> bool
+    ensures refused { result ≡ true → allowed user inst.now ≡ idle }
+    ensures kept { (number : ℕ) (made : ℕ) (md : ℕ) → result ≡ true → md_kept (Some inst.now) number made md ≡ md }
+    ensures fine { result ≡ false → allowed user inst.now ≡ inst.now }
 {
     match inst {
-        Inst::MoveFrom { special, .. } => {
-            if user && special != Special::Md {
-                None
-            } else {
-                Some(inst)
-            }
-        }
-        _ => Some(inst),
+        Inst::MoveFrom { special, .. } => user && *special != Special::Md,
+        _ => false,
     }
 }
 
 // The number that an instruction makes of its operands, and the MD.
+#[inline(always)]
 fn makes(inst: &Inst, at: u32, a: u32, b: u32, md: u32, user: bool, chain: &Chain) -> (u32, u32)
     requires fits { ShiftFits inst.now }
     requires code_address { at < 2 ^ 31 }
@@ -51,35 +45,32 @@ fn makes(inst: &Inst, at: u32, a: u32, b: u32, md: u32, user: bool, chain: &Chai
     }
 }
 
-/// The word of the latch behind RF is in ALU: it makes its number of these operands.
-pub fn make(rf: &Latch, a: u32, b: u32, md: u32, user: bool, chain: &Chain) -> Latch
-    ensures word { result.word ≡ rf.now.word }
-    ensures inst { does result ≡ allowed user (does rf.now) }
-    ensures a { result.a ≡ a }
-    ensures b { result.b ≡ b }
-    ensures number { result.result ≡ number_of user chain.now (does rf.now) (address_of rf.now.word) a b md }
-    ensures md { md_kept result.inst result.result result.md md ≡ md_behind (does rf.now) a b md }
+/// The word that comes into ALU makes its number of its operands.
+#[inline(always)]
+pub fn make(alu: &mut Latch, md: u32, user: bool, chain: &Chain)
+    ensures word { alu.new.word ≡ alu.old.word }
+    ensures inst { does alu.new ≡ allowed user (does alu.old) }
+    ensures a { alu.new.a ≡ alu.old.a }
+    ensures b { alu.new.b ≡ alu.old.b }
+    ensures number { alu.new.result ≡ number_of user chain.now (does alu.old) (address_of alu.old.word) alu.old.a alu.old.b md }
+    ensures md { md_kept alu.new.inst alu.new.result alu.new.md md ≡ md_behind (does alu.old) alu.old.a alu.old.b md }
 {
-    match rf.inst {
+    match alu.inst {
         Some(inst) => {
-            let (number, made) = makes(&inst, address_of(rf.word), a, b, md, user, chain);
-            Latch {
-                word: rf.word,
-                inst: allowed(user, inst),
-                a,
-                b,
-                result: number,
-                md: made,
+            (alu.result, alu.md) = makes(
+                &inst,
+                address_of(alu.word),
+                alu.a,
+                alu.b,
+                md,
+                user,
+                chain,
+            );
+            if is_refused(user, &inst) {
+                alu.inst = None;
             }
         }
-        None => Latch {
-            word: rf.word,
-            inst: None,
-            a,
-            b,
-            result: a.wrapping_add(b),
-            md: 0,
-        },
+        None => alu.result = alu.a.wrapping_add(alu.b),
     }
 }
 

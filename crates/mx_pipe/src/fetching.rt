@@ -46,22 +46,18 @@ fn inst_at(code: &[u32], handler: &[u32], address: u32) -> Option<Inst>
     }
 }
 
-/// The latch of a fetch; one that is squashed does nothing.
-pub fn fetched(code: &[u32], handler: &[u32], next: Fetched) -> Latch
-    ensures word { result.word ≡ Some next }
-    ensures inst { does result ≡ live (code_with (code_from inst_of 0 handler.now) (code_from inst_of 4096 code.now)) (Some next) }
+/// The word of a fetch comes into a latch; one that is squashed does nothing.
+#[inline(always)]
+pub fn fetch(latch: &mut Latch, code: &[u32], handler: &[u32], next: Fetched)
+    ensures word { latch.new.word ≡ Some next }
+    ensures inst { does latch.new ≡ live (code_with (code_from inst_of 0 handler.now) (code_from inst_of 4096 code.now)) (Some next) }
 {
-    if next.squashed {
-        return Latch::cleared(Some(next));
-    }
-    Latch {
-        word: Some(next),
-        inst: inst_at(code, handler, next.address),
-        a: 0,
-        b: 0,
-        result: 0,
-        md: 0,
-    }
+    latch.word = Some(next);
+    latch.inst = if next.squashed {
+        None
+    } else {
+        inst_at(code, handler, next.address)
+    };
 }
 
 /// The address of a fetch.

@@ -1,20 +1,26 @@
 //! The pipeline, cycle by cycle.
 ghost use Rattle.std.specs.Prelude.{◌≡◌, ◌<◌, ◌+◌, ◌^◌, ℕ, Bool, false, not, ◌&&◌, ◌||◌, List, [], ◌∷◌, Some, None, slice_index, if◌then◌else◌};
 ghost use Rattle.mx_isa.specs.Words.{Words};
+ghost use Rattle.mx_isa.specs.Views.{dest, is_load};
+ghost use Rattle.mx_pcchain.specs.Chain.{pop};
+ghost use Rattle.mx_pcchain.specs.Modes.{psw_restored};
 ghost use Rattle.mx_code.specs.Delay.{Code};
 ghost use Rattle.mx_icache.specs.Residency.{resident};
 ghost use Rattle.mx_turn.specs.Cycle.{Machine as State, shifted, committed, commit_byte, showing, entered, decided, decision, turned, latched, is_taken, reached, ended, takes, squashes, counts_after, acted_answer};
 ghost use Rattle.mx_pipe.specs.declared.pipe.Wait.{Wait};
+ghost use Rattle.mx_pipe.specs.Latched.{does, squashed_if};
 ghost use Rattle.mx_pipe.specs.Kept.{code_of_pipe, IsMade, Holds, Commits, Waits, KeepsProgram, StandsFor};
 
 use crate::alu::{decide, make};
-use crate::fetching::{address, fetched};
+use crate::fetching::{address, fetch};
 use crate::memory::reach;
-use crate::operands::{operands, read_operands, register_of, write_back};
+use crate::operands::{Written, read_operands, register_of, take_operands, write_back, write_of};
 use crate::{Latch, Pipe, Wait};
 use mx_icache::FetchCache;
 use mx_isa::Reg;
-use mx_turn::{Counts, Cycled, Latches, Machine, fetch_of, led, popped, restored, saved, stage_of};
+use mx_turn::{
+    Counts, Cycled, Decided, Latches, Machine, fetch_of, led, popped, restored, saved, stage_of,
+};
 
 // What the word in ALU brought about.
 #[derive(Clone, Copy)]
@@ -47,11 +53,14 @@ impl<C: FetchCache> Pipe<C> {
     }
 
     // The word in RF comes into ALU, with operands from the bypass.
-    fn compute(&self) -> Latch
-        ensures { (code : Code) (m : State) → Commits code self.now m → IsMade code result m }
+    fn compute(&mut self, mem: &Written)
+        requires { mem.now ≡ record { to = dest (does self.old.mem); loads = is_load (does self.old.mem); word = self.old.mem.result } }
+        ensures made { (code : Code) (m : State) → Commits code self.old m → IsMade code self.new.alu m }
+        ensures rest { self.new ≡ record self.old { alu = self.new.alu } }
     {
-        let (a, b) = operands(&self.rf, &self.mem);
-        make(&self.rf, a, b, self.md, self.psw.current.user, &self.chain)
+        self.alu = self.rf;
+        take_operands(&mut self.alu, mem);
+        make(&mut self.alu, self.md, self.psw.current.user, &self.chain);
     }
 
     // The words in IF, RF and ALU move on.
@@ -61,9 +70,11 @@ impl<C: FetchCache> Pipe<C> {
         ensures counts { self.new.counts ≡ self.old.counts }
         ensures cache { self.new.cache ≡ self.old.cache }
     {
-        self.alu = self.compute();
-        self.rf = read_operands(&self.fetch, &self.mem, &self.file);
-        self.fetch = fetched(&self.code, &self.handler, self.next);
+        let mem = write_of(&self.mem);
+        self.compute(&mem);
+        self.rf = self.fetch;
+        read_operands(&mut self.rf, &mem, &self.file);
+        fetch(&mut self.fetch, &self.code, &self.handler, self.next);
     }
 
     // What the turn shows is kept.
@@ -85,6 +96,23 @@ impl<C: FetchCache> Pipe<C> {
         };
     }
 
+    // A transfer cancels the two words behind it, or pops the chain.
+    // Few do: a call of its own keeps the way of the others short.
+    #[inline(never)]
+    fn turn_aside(&mut self, decided: &Decided, back: bool)
+        ensures { self.new ≡ record self.old {
+          fetch = squashed_if decided.now.cancels self.old.fetch;
+          rf = squashed_if decided.now.cancels self.old.rf;
+          chain = (if back then pop self.old.chain else self.old.chain);
+          psw = (if decided.now.restores && back then psw_restored self.old.psw else self.old.psw);
+        } }
+    {
+        self.fetch.squash(decided.cancels);
+        self.rf.squash(decided.cancels);
+        self.chain = popped(back, self.chain);
+        self.psw = restored(both(decided.restores, back), self.psw);
+    }
+
     // The word in ALU decides. Answers whether it cancels the two words behind it.
     fn decide(&mut self) -> bool
         ensures squashed { (code : Code) (m : State) → Holds code self.old m → result ≡ (decision code m).cancels }
@@ -96,11 +124,11 @@ impl<C: FetchCache> Pipe<C> {
         let decided = decide(&self.alu);
         let back = goes_back(decided.pops, self.psw.current.user);
         self.next = led(back, &self.chain, decided.target, self.next);
-        self.fetch.squash(decided.cancels);
-        self.rf.squash(decided.cancels);
-        self.chain = popped(back, self.chain);
-        self.psw = restored(both(decided.restores, back), self.psw);
-        decided.cancels
+        if either(back, decided.cancels) {
+            self.turn_aside(&decided, back);
+            return decided.cancels;
+        }
+        false
     }
 
     // The interrupt is taken.

@@ -29,11 +29,35 @@ fn dest_of(latch: &Latch) -> Reg
     }
 }
 
-// Whether it is a load.
-fn is_load(latch: &Latch) -> bool
-    ensures { result ≡ is_load (does latch.now) }
+/// What the word in MEM writes: to which register, r0 for none; whether it has just been loaded; and the number.
+#[derive(Clone, Copy)]
+pub struct Written {
+    pub to: Reg,
+    pub loads: bool,
+    pub word: u32,
+}
+
+/// What the word of the latch behind MEM writes.
+pub fn write_of(mem: &Latch) -> Written
+    ensures { result ≡ record { to = dest (does mem.now); loads = is_load (does mem.now); word = mem.now.result } }
 {
-    matches!(latch.inst, Some(Inst::Load { .. }))
+    match &mem.inst {
+        Some(Inst::Load { dest, .. }) => Written {
+            to: *dest,
+            loads: true,
+            word: mem.result,
+        },
+        Some(inst) => Written {
+            to: inst.dest(),
+            loads: false,
+            word: mem.result,
+        },
+        None => Written {
+            to: Reg::ZERO,
+            loads: false,
+            word: mem.result,
+        },
+    }
 }
 
 // A register in RF: what the word in MEM writes to it, else what stands in the file.
@@ -76,34 +100,26 @@ pub fn register_of(file: &[u32; 32], mem: &Latch, r: Reg) -> u32
     reads(file, dest_of(mem), mem.result, r)
 }
 
-/// The fetched word comes into RF, and reads its operands.
-pub fn read_operands(fetch: &Latch, mem: &Latch, file: &[u32; 32]) -> Latch
-    ensures { let regs = write (slice_index file.now) (dest (does mem.now)) mem.now.result in
-        result ≡ record fetch.now { a = reg regs (sources (does fetch.now)).0; b = reg regs (sources (does fetch.now)).1 } }
-{
-    let (first, second) = sources_of(fetch);
-    let to = dest_of(mem);
-    Latch {
-        word: fetch.word,
-        inst: fetch.inst,
-        a: reads(file, to, mem.result, first),
-        b: reads(file, to, mem.result, second),
-        result: fetch.result,
-        md: fetch.md,
-    }
-}
-
-/// The operands of the word that comes into ALU: those that it read in RF, or newer ones from MEM.
-pub fn operands(rf: &Latch, mem: &Latch) -> (u32, u32)
-    ensures first { (regs : Words) → rf.now.a ≡ reg regs (sources (does rf.now)).0
-        → result.0 ≡ reg (seen (slot_of (does mem.now) regs) (write regs (dest (does mem.now)) mem.now.result)) (sources (does rf.now)).0 }
-    ensures second { (regs : Words) → rf.now.b ≡ reg regs (sources (does rf.now)).1
-        → result.1 ≡ reg (seen (slot_of (does mem.now) regs) (write regs (dest (does mem.now)) mem.now.result)) (sources (does rf.now)).1 }
+/// The word that comes into RF reads its operands.
+pub fn read_operands(rf: &mut Latch, mem: &Written, file: &[u32; 32])
+    ensures { let regs = write (slice_index file.now) mem.now.to mem.now.word in
+        rf.new ≡ record rf.old { a = reg regs (sources (does rf.old)).0; b = reg regs (sources (does rf.old)).1 } }
 {
     let (first, second) = sources_of(rf);
-    let loads = is_load(mem);
-    let to = dest_of(mem);
-    let a = bypassed(loads, to, mem.result, first, rf.a);
-    let b = bypassed(loads, to, mem.result, second, rf.b);
-    (a, b)
+    rf.a = reads(file, mem.to, mem.word, first);
+    rf.b = reads(file, mem.to, mem.word, second);
+}
+
+/// The word that comes into ALU takes its operands: those that it read in RF, or newer ones from MEM.
+pub fn take_operands(alu: &mut Latch, mem: &Written)
+    ensures first { (regs : Words) → alu.old.a ≡ reg regs (sources (does alu.old)).0
+        → alu.new.a ≡ reg (seen (cond mem.now.loads (record { register = mem.now.to; value = reg regs mem.now.to }) no_slot) (write regs mem.now.to mem.now.word)) (sources (does alu.old)).0 }
+    ensures second { (regs : Words) → alu.old.b ≡ reg regs (sources (does alu.old)).1
+        → alu.new.b ≡ reg (seen (cond mem.now.loads (record { register = mem.now.to; value = reg regs mem.now.to }) no_slot) (write regs mem.now.to mem.now.word)) (sources (does alu.old)).1 }
+    ensures word { alu.new.word ≡ alu.old.word }
+    ensures inst { alu.new.inst ≡ alu.old.inst }
+{
+    let (first, second) = sources_of(alu);
+    alu.a = bypassed(mem.loads, mem.to, mem.word, first, alu.a);
+    alu.b = bypassed(mem.loads, mem.to, mem.word, second, alu.b);
 }

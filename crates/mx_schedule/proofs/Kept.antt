@@ -18,15 +18,15 @@ use Rattle.mx_reorg.proofs.ValidPlans.{greedy_valid}
 use Rattle.mx_reorg.proofs.ExistsItems.{height_of}
 
 -- no proposal is rejected, and each plan is greedy
-record AreGreedy (n : ℕ) (sites : List Site) : Type 0 where
-  none : n ≡ 0
-  plans : All (λ (s : Site). IsGreedy s.block s.plan) sites
+pub record AreGreedy (n : ℕ) (sites : List Site) : Type 0 where
+  pub none : n ≡ 0
+  pub plans : All (λ (s : Site). IsGreedy s.block s.plan) sites
 
 one_more : (s : Site) (sites : List Site) → IsGreedy s.block s.plan → All (λ (s : Site). IsGreedy s.block s.plan) sites → All (λ (s : Site). IsGreedy s.block s.plan) (s ∷ sites)
 one_more s sites g all zero d l = g
 one_more s sites g all (suc k) d l = all k d (omega arith)
 
-kept_greedy : (n : ℕ) (sites : List Site) (proposals : List Plan) → AreKept IsGreedy n sites proposals → AreGreedy n sites
+pub kept_greedy : (n : ℕ) (sites : List Site) (proposals : List Plan) → AreKept IsGreedy n sites proposals → AreGreedy n sites
 kept_greedy n [] [] kept = record { none = kept; plans = λ k d l. absurd (omega arith) }
 kept_greedy n (s ∷ sites) (proposal ∷ proposals) kept = ⊎_elim
     (λ valid.

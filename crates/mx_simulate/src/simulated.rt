@@ -10,8 +10,8 @@ use mx_board::Requests;
 use mx_code::Image;
 use mx_icache::LineCache;
 use mx_io::Memory;
+use mx_pipe::Pipe;
 use mx_report::{Dump, drive, report};
-use mx_turn::Turns;
 use std::alloc::Global;
 
 /// What is asked of a run: how many cycles it may take, how many of them are traced, and which data words are printed.
@@ -44,7 +44,7 @@ pub fn simulate(
     requires { bytes_in (option_copied input) ≤ 1048576 }
     ensures { IfOk result (λ r. reply_answer r ≡ image_answer image.now.code.items image.now.user_data.items (option_copied input.entry) requests.now limits.now) }
 {
-    let mut machine = Turns::new(alloc, image, input, LineCache::new())?;
+    let mut machine = Pipe::new(alloc, image, input, LineCache::new())?;
     let driven = drive(alloc, &mut machine, requests, limits.budget, limits.trace)?;
     let output = report(alloc, &driven, &machine, image, limits.dump)?;
     let status = status_of(driven.halted);

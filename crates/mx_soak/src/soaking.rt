@@ -19,13 +19,13 @@ use mx_code::Image;
 use mx_gen::generate;
 use mx_icache::LineCache;
 use mx_io::Memory;
+use mx_pipe::Pipe;
 use mx_link::{LinkError, Linked, link};
 use mx_meaning::{BOARD, run_steps};
 use mx_reorg::ListProposer;
 use mx_report::{Driven, drive};
 use mx_seq::Seq;
 use mx_source::Source;
-use mx_turn::Turns;
 use std::alloc::Global;
 
 /// The most instructions in which a generated source halts.
@@ -90,7 +90,7 @@ fn run_image(
     ensures counts { IfOk result (λ d. d.counts ≡ (run_of (program_of shipped image.now.code.items image.now.user_data.items None) requests.now budget).counts) }
     ensures console { IfOk result (λ d. d.console.items ≡ (run_of (program_of shipped image.now.code.items image.now.user_data.items None) requests.now budget).console) }
 {
-    let mut machine = Turns::new(alloc, image, None, LineCache::new())?;
+    let mut machine = Pipe::new(alloc, image, None, LineCache::new())?;
     drive(alloc, &mut machine, requests, budget, 0)
 }
 

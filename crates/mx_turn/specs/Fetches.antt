@@ -16,7 +16,7 @@ use Rattle.mx_turn.specs.declared.latches.Stage.TheVariants.{Empty}
 use Rattle.mx_turn.specs.declared.latches.Latches.{Latches}
 use Rattle.mx_turn.specs.declared.machine.Cycled.{Cycled}
 use Rattle.mx_turn.specs.Counted.{Counted, no_counts, after_stall, after_turn}
-use Rattle.mx_turn.specs.Stages.{fetch_of, live, address_of, saved, stage_of}
+use Rattle.mx_turn.specs.Stages.{fetch_of, live, address_of, stage_of}
 use Rattle.mx_turn.specs.System.{system_change, moved, pops, restores, slot_of, seen, number_of}
 use Rattle.mx_turn.specs.Cycle.{Machine, led}
 use Rattle.mx_turn.specs.Program.{Program, code_of, memory_of, state_after, answer_after}
@@ -82,14 +82,18 @@ word code n s = live code (stage n s)
 abbrev pub behind : Code → ℕ → FetchState → Words
 behind code n s = seen (slot_of (word code n s) s.before) s.core.regs
 
--- F[t] itself
+-- the newest of some fetches, without the mark killed
 abbrev pub newest : List Marked → Fetch
 newest [] = fetch_of 0
 newest (f ∷ earlier) = record { address = f.address; squashed = f.squashed }
 
+-- F[t-n], killed or not
+abbrev pub ago : ℕ → FetchState → Fetch
+ago n s = newest (drop n s.fetches)
+
 -- F[t] was not resident after the fetches before it
 abbrev pub missed : FetchState → Bool
-missed s = not (resident (addresses (drop 1 s.fetches)) (newest s.fetches).address)
+missed s = not (resident (addresses (drop 1 s.fetches)) (ago 0 s).address)
 
 -- 1. The latch takes the request. A stalled cycle that is left is used up, and nothing else happens.
 abbrev pub asked : Bool → FetchState → FetchState
@@ -116,23 +120,7 @@ commit code input s = record s {
 abbrev pub byte_of : Code → Option (List ℕ) → FetchState → Option ℕ
 byte_of code input s = sent (board s.psw.current.user input) (change_by code input s).stores
 
--- what is shown of the turn: the stages with their marks as it began, and what F[t-2] reads and makes after the commit
-abbrev pub show : Code → FetchState → FetchState
-show code s =
-    let a = reg (behind code 3 s) (sources (word code 2 s)).0 in
-    let b = reg (behind code 3 s) (sources (word code 2 s)).1 in
-    record s {
-      shown = record {
-        fetch = stage_of (stage 0 s);
-        rf = stage_of (stage 1 s);
-        alu = stage_of (stage 2 s);
-        mem = stage_of (stage 3 s);
-        wb = stage_of (stage 4 s);
-        a = a;
-        b = b;
-        result = number_of s.psw.current.user s.chain (word code 2 s) (address_of (stage 2 s)) a b s.core.md;
-      };
-    }
+-- 3. Where F[t-3] is a live halt, the run ends with this cycle: see `finish`.
 
 -- 4. An interrupt is taken where a request is latched, interrupts are on, and F[t-2] exists and is not killed.
 abbrev pub interrupted : FetchState → Bool
@@ -143,7 +131,7 @@ abbrev pub enter : FetchState → FetchState
 enter s = record s {
   fetches = mark_first kill 3 s.fetches;
   latch = false;
-  chain = chain_of (saved (stage 2 s)) (saved (stage 1 s)) (saved (stage 0 s));
+  chain = chain_of (ago 2 s) (ago 1 s) (ago 0 s);
   psw = psw_entered s.psw;
 }
 
@@ -165,17 +153,35 @@ decide code s = record s {
 
 -- the next fetch: address 0 for an interrupt, a saved fetch, a target, or the address behind F[t]
 abbrev pub next_fetch : Bool → Code → FetchState → Fetch
-next_fetch taken code s = cond taken (fetch_of 0) (led (goes_back code s) s.chain (decided_in code s) (newest s.fetches))
+next_fetch taken code s = cond taken (fetch_of 0) (led (goes_back code s) s.chain (decided_in code s) (ago 0 s))
 
 -- 6. The next fetch joins F. Two stalled cycles come before it acts where it is not resident.
 abbrev pub join : Fetch → FetchState → FetchState
 join f s = record s { fetches = unkilled f ∷ s.fetches; stall = cond (resident (addresses s.fetches) f.address) 0 2 }
 
+-- what is shown of the turn: the stages with their marks as it began, and what F[t-2] reads and makes after the commit
+abbrev pub show : Code → FetchState → FetchState
+show code s =
+    let a = reg (behind code 3 s) (sources (word code 2 s)).0 in
+    let b = reg (behind code 3 s) (sources (word code 2 s)).1 in
+    record s {
+      shown = record {
+        fetch = stage_of (stage 0 s);
+        rf = stage_of (stage 1 s);
+        alu = stage_of (stage 2 s);
+        mem = stage_of (stage 3 s);
+        wb = stage_of (stage 4 s);
+        a = a;
+        b = b;
+        result = number_of s.psw.current.user s.chain (word code 2 s) (address_of (stage 2 s)) a b s.core.md;
+      };
+    }
+
 -- a turn up to its commit, with what it shows
 abbrev pub begun : Code → Option (List ℕ) → FetchState → FetchState
 begun code input s = show code (commit code input s)
 
--- 3. Where F[t-3] is a live halt, the run ends with this cycle.
+-- the end of a turn, by whether it committed a halt, and whether an interrupt is taken; behind a halt nothing takes effect
 abbrev pub finish : Bool → Bool → Code → Counted → FetchState → FetchState
 finish halted taken code counts s =
     cond halted
@@ -241,7 +247,7 @@ fetches_after p h = fetches_from (code_of p) p.input (fetches_start (memory_of p
 -- The stages of a turn as a window onto F: those of turn t for n = 0, and of the one before it for n = 1.
 abbrev pub window_at : ℕ → Code → FetchState → Machine
 window_at n code s = record {
-  next = newest s.fetches;
+  next = ago 0 s;
   fetch = stage n s;
   rf = stage (n + 1) s;
   alu = stage (n + 2) s;

@@ -10,6 +10,7 @@ use mx_pcchain::Chain;
 
 /// The number that an instruction at an address makes of its operands: an address, a sum, a result, 1 for a branch that
 /// holds, a link, or the word that it moves.
+#[inline(always)]
 pub fn number_of(inst: &Inst, at: u32, a: u32, b: u32, md: u32, user: bool, chain: &Chain) -> u32
     requires fits { ShiftFits inst.now }
     requires code_address { at < 2 ^ 31 }

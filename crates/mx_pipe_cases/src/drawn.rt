@@ -1,0 +1,174 @@
+//! Images of drawn words.
+ghost use Rattle.std.specs.Prelude.{◌<◌};
+
+use crate::sides::{Program, differ, told};
+use anyhow::{Context, Result, bail};
+use mx_code::Image;
+use mx_turn::SHIPPED;
+use std::alloc::Global;
+
+/// Numbers that look like any, the same for the same seed.
+#[derive(Drop)]
+struct Draw {
+    state: u32,
+}
+
+/// How the words of an image are drawn, and when requests come.
+#[derive(Clone, Copy)]
+enum Sort {
+    /// Any words, under the shipped handler.
+    Noise,
+    /// Instructions over four registers, so that nearly each reads what one before it writes.
+    Hazards,
+    /// The same, in the handler too, which returns at its end.
+    Handlers,
+}
+
+impl Draw {
+    fn next(&mut self) -> u32 {
+        let mut x = self.state;
+        x ^= x << 13;
+        x ^= x >> 17;
+        x ^= x << 5;
+        self.state = x;
+        x
+    }
+
+    // A number below this one.
+    fn below(&mut self, n: u32) -> u32
+        requires { 0 < n }
+        ensures { result < n }
+    {
+        self.next() % n
+    }
+
+    // The type and opcode of a word, and two registers.
+    fn front(&mut self, kind: u32, op: u32) -> u32 {
+        let first = self.below(4);
+        let second = self.below(4);
+        kind << 30 | op << 27 | first << 22 | second << 17
+    }
+
+    // A word that reaches near the console, seldom by a register.
+    fn access(&mut self, op: u32) -> u32 {
+        let front = match self.below(4) {
+            0 => self.front(2, op),
+            _ => 2 << 30 | op << 27 | self.below(4) << 17,
+        };
+        front | 250 + self.below(12)
+    }
+
+    // An instruction, or near one.
+    fn instruction(&mut self) -> u32 {
+        match self.below(24) {
+            0..=3 => self.access(0),
+            4..=6 => self.access(1),
+            7..=10 => {
+                let op = self.below(6);
+                let front = self.front(0, op);
+                front | self.below(2) << 16 | (65_532 + self.below(12)) % 65_536
+            }
+            11..=13 => self.front(1, 0) | self.below(4) << 12 | self.below(12),
+            14 => self.front(1, 1) | self.below(4) << 12 | self.below(32) + 256 * self.below(2),
+            15..=16 => 1 << 30 | 2 << 27 | self.below(4) << 12 | self.below(4),
+            17 => 1 << 30 | 3 << 27 | self.below(4) << 22 | self.below(4),
+            18..=21 => self.front(3, 0) | (131_068 + self.below(16)) % 131_072,
+            22 => self.front(3, 1) | 4_096 + self.below(48),
+            _ => self.seldom(),
+        }
+    }
+
+    // A return, a halt, or any word.
+    fn seldom(&mut self) -> u32 {
+        match self.below(4) {
+            0 => 0xd000_0000,
+            1 => 0xd800_0000,
+            2 => 0xe000_0000,
+            _ => self.next(),
+        }
+    }
+
+    fn word(&mut self, sort: Sort) -> u32 {
+        match sort {
+            Sort::Noise => self.next(),
+            Sort::Hazards | Sort::Handlers => self.instruction(),
+        }
+    }
+
+    fn words(&mut self, alloc: Global, sort: Sort, count: u32) -> Result<Vec<u32>> {
+        let mut words = Vec::new(alloc);
+        for _ in 0..count {
+            words.push(self.word(sort))?;
+        }
+        Ok(words)
+    }
+
+    // The cycles in which a request comes: each, or one in 2 to 64.
+    fn requests(&mut self, alloc: Global, cycles: u32) -> Result<Vec<u32>> {
+        let one_in = 1 << self.below(7);
+        let mut requests = Vec::new(alloc);
+        for cycle in 0..cycles {
+            if self.next() % one_in == 0 {
+                requests.push(cycle)?;
+            }
+        }
+        Ok(requests)
+    }
+}
+
+// The words of a handler of this sort.
+fn handler(alloc: Global, draw: &mut Draw, sort: Sort) -> Result<Vec<u32>> {
+    match sort {
+        Sort::Noise | Sort::Hazards => Ok(Vec::from_slice(alloc, &SHIPPED)?),
+        Sort::Handlers => {
+            let mut words = draw.words(alloc, sort, 12)?;
+            words.extend_from_slice([0xd000_0000, 0xd000_0000, 0xd800_0000].as_slice())?;
+            Ok(words)
+        }
+    }
+}
+
+// How the machines compare on the next image.
+fn compared(alloc: Global, draw: &mut Draw, sort: Sort, cycles: u32) -> Result<Option<u32>> {
+    let code = draw.words(alloc, sort, 40)?;
+    let user_data = draw.words(alloc, Sort::Noise, 8)?;
+    let handler = handler(alloc, draw, sort)?;
+    let requests = draw.requests(alloc, cycles)?;
+    let image = Image::new(code, user_data).context("too many words")?;
+    let input = Some(b"input".as_slice());
+    let program = Program {
+        image: &image,
+        handler: handler.as_slice(),
+        input,
+        requests: requests.as_slice(),
+    };
+    differ(alloc, &program, cycles)
+}
+
+fn sort_of(name: &str) -> Result<Sort> {
+    match name {
+        "noise" => Ok(Sort::Noise),
+        "hazards" => Ok(Sort::Hazards),
+        "handlers" => Ok(Sort::Handlers),
+        _ => bail!("no such sort"),
+    }
+}
+
+/// How the machines compare on so many drawn images, for the case `SORT SEED COUNT CYCLES: ANSWER`.
+pub fn alike(alloc: Global, line: &str) -> Result<String> {
+    let (case, _) = line.split_once(": ").context("no answer")?;
+    let mut words = case.split(' ');
+    let sort = sort_of(words.next().context("no sort")?)?;
+    let state = words.next().context("no seed")?.parse::<u32>()?;
+    let count = words.next().context("no count")?.parse::<u32>()?;
+    let cycles = words.next().context("no cycles")?.parse::<u32>()?;
+    let mut draw = Draw { state };
+    for number in 0..count {
+        let difference = compared(alloc, &mut draw, sort, cycles)?;
+        if difference.is_some() {
+            let answer = told(alloc, difference)?;
+            return Ok(format!(in alloc; "{case}: image {number}, {answer}")?);
+        }
+    }
+    Ok(format!(in alloc; "{case}: alike")?)
+}
