@@ -8,3 +8,4 @@ pub mod Pairs
 pub mod PairHeadline
 mod Labels
 mod StoppedSources
+mod StopsHeadline
