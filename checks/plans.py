@@ -1,7 +1,8 @@
 #!/usr/bin/env python3
 # A slow second reading of the rules on blocks, plans and copies, as conditions on finished lists. It prints
 # crates/mx_plan_cases/data/plans.txt, always the same: checks/plans.py | cmp - crates/mx_plan_cases/data/plans.txt
-import random
+# `checks/plans.py figures` prints instead how often the greedy plan of a drawn block is longer than a shortest one.
+import random, sys
 from itertools import combinations
 MD = 32
 class I:
@@ -184,6 +185,20 @@ def case(rnd,n,inp,nl,regs):
         lines.append(x.text)
     if n in at: lines.append('L%d:'%n)
     return answer(lines,insts,set(at),inp)
+def figures(count=1000):
+    rnd=random.Random(8); drawn=[]
+    while len(drawn)<count:
+        labels=[('L0',0)]; n=rnd.randrange(8,40)
+        insts=[draw(rnd,labels,False,[0,1,2,3,4,5]) for _ in range(n)]
+        drawn+=[b for b in blocks(insts,{0},False) if 2<=len(b.insts)<=8]
+    drawn=drawn[:count]; by={}; longer=0; pad=list_=best=0
+    for b in drawn:
+        g,s=len(greedy(b)[0]),shortest(b); pad+=len(padded(b)[0]); list_+=g; best+=s
+        by[g-s]=by.get(g-s,0)+1
+    print('%d blocks of 2 to 8 statements, %d statements'%(count,sum(len(b.insts) for b in drawn)))
+    for d in sorted(by): print('longer by %d: %d'%(d,by[d]))
+    print('padded %d\nlist %d\nbest %d'%(pad,list_,best))
+if sys.argv[1:]==['figures']: figures(); sys.exit()
 def lit(*xs): return xs
 rnd=random.Random(20261127)
 out=[]

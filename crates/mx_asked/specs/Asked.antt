@@ -6,7 +6,7 @@ use Rattle.mx_report.specs.declared.Dump.{Dump}
 use Rattle.mx_simulate.specs.declared.Limits.{Limits}
 use Rattle.mx_sessions.specs.declared.SessionLimits.{SessionLimits}
 use Rattle.mx_asked.specs.Numbers.{number, number_or, optional}
-use Rattle.mx_asked.specs.Commands.{Command, Run, Meaning, Build, Exec, Listing, Gen, Soak, Migrate, Share, Debug}
+use Rattle.mx_asked.specs.Commands.{Command, Run, Meaning, Build, Exec, Listing, Gen, Soak, Migrate, Share, Debug, Best}
 
 -- the options of a run
 abbrev pub run_options : List (List ℕ)
@@ -55,6 +55,10 @@ exec_of _ = None
 abbrev pub list_of : Words → Option Command
 list_of (source ∷ [], []) = Some (Listing source)
 list_of _ = None
+
+abbrev pub best_of : Words → Option Command
+best_of (source ∷ [], []) = Some (Best source)
+best_of _ = None
 
 abbrev pub gen_of : Words → Option Command
 gen_of (seed ∷ count ∷ [], []) = option_and_then (λ s. option_map (Gen s) (number 0 4000 count)) (number 0 4294967295 seed)
@@ -110,6 +114,7 @@ rows =
     ∷ record { word = codes "build"; options = []; fewest = 2; most = 2; reads = build_of }
     ∷ record { word = codes "exec"; options = run_options; fewest = 1; most = 1; reads = exec_of }
     ∷ record { word = codes "list"; options = []; fewest = 1; most = 1; reads = list_of }
+    ∷ record { word = codes "best"; options = []; fewest = 1; most = 1; reads = best_of }
     ∷ record { word = codes "gen"; options = []; fewest = 2; most = 2; reads = gen_of }
     ∷ record { word = codes "soak"; options = []; fewest = 2; most = 2; reads = soak_of }
     ∷ record { word = codes "migrate"; options = []; fewest = 2; most = 2; reads = migrate_of }

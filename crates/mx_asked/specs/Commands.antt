@@ -15,6 +15,8 @@ pub data Command : Type 0 where
   Exec : (image : List ℕ) → (files : Files) → (limits : Limits) → Command
   -- lists the words of a linked source
   Listing : (source : List ℕ) → Command
+  -- tells how long the plans of each block of a source are
+  Best : (source : List ℕ) → Command
   -- prints a generated source
   Gen : (seed : ℕ) → (count : ℕ) → Command
   -- runs a generated source under many interrupts

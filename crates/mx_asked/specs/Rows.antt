@@ -6,7 +6,7 @@ use Rattle.mx_asked.specs.declared.command.Form.{Form}
 use Rattle.mx_asked.specs.declared.command.Form.TheVariants as form
 use Rattle.mx_asked.specs.Commands.{Command}
 use Rattle.mx_asked.specs.Asked as asked
-use Rattle.mx_asked.specs.Asked.{Words, run_of, meaning_of, build_of, exec_of, list_of, gen_of, soak_of, migrate_of, share_of, debug_of}
+use Rattle.mx_asked.specs.Asked.{Words, run_of, meaning_of, build_of, exec_of, list_of, gen_of, soak_of, migrate_of, share_of, debug_of, best_of}
 
 -- what is made of the words that were read
 abbrev pub reads_of : Form → Words → Option Command
@@ -15,6 +15,7 @@ reads_of form.Meaning = meaning_of
 reads_of form.Build = build_of
 reads_of form.Exec = exec_of
 reads_of form.List = list_of
+reads_of form.Best = best_of
 reads_of form.Gen = gen_of
 reads_of form.Soak = soak_of
 reads_of form.Migrate = migrate_of

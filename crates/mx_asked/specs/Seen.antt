@@ -17,6 +17,7 @@ seen_command (given.Meaning source steps input) = asked.Meaning source.now steps
 seen_command (given.Build source target) = asked.Build source.now target.now
 seen_command (given.Exec image files limits) = asked.Exec image.now (seen_files files) limits
 seen_command (given.Listing source) = asked.Listing source.now
+seen_command (given.Best source) = asked.Best source.now
 seen_command (given.Gen seed count) = asked.Gen seed count
 seen_command (given.Soak seed count) = asked.Soak seed count
 seen_command (given.Migrate image target) = asked.Migrate image.now target.now

@@ -9,7 +9,7 @@ ghost use Rattle.mx_asked.specs.Rows.{seen_row, reads_of};
 ghost use Rattle.mx_asked.specs.Seen.{seen_command, IsAllowed};
 
 use crate::readers::{
-    build_read, debug_read, exec_read, gen_read, list_read, meaning_read, migrate_read, run_read,
+    best_read, build_read, debug_read, exec_read, gen_read, list_read, meaning_read, migrate_read, run_read,
     share_read, soak_read,
 };
 use mx_io::Memory;
@@ -41,6 +41,9 @@ pub enum Command<'a> {
         limits: Limits,
     },
     Listing {
+        source: &'a str,
+    },
+    Best {
         source: &'a str,
     },
     Gen {
@@ -85,6 +88,7 @@ enum Form {
     Build,
     Exec,
     List,
+    Best,
     Gen,
     Soak,
     Migrate,
@@ -115,6 +119,7 @@ const ROWS: &[Row] = &[
     Row { word: "build", options: &[], fewest: 2, most: 2, form: Form::Build },
     Row { word: "exec", options: &RUN_OPTIONS, fewest: 1, most: 1, form: Form::Exec },
     Row { word: "list", options: &[], fewest: 1, most: 1, form: Form::List },
+    Row { word: "best", options: &[], fewest: 1, most: 1, form: Form::Best },
     Row { word: "gen", options: &[], fewest: 2, most: 2, form: Form::Gen },
     Row { word: "soak", options: &[], fewest: 2, most: 2, form: Form::Soak },
     Row { word: "migrate", options: &[], fewest: 2, most: 2, form: Form::Migrate },
@@ -153,6 +158,7 @@ fn command_in<'a>(form: Form, read: Read<'a>) -> Option<Command<'a>>
         Form::Build => build_read(&read),
         Form::Exec => exec_read(&read),
         Form::List => list_read(&read),
+        Form::Best => best_read(&read),
         Form::Gen => gen_read(&read),
         Form::Soak => soak_read(&read),
         Form::Migrate => migrate_read(&read),

@@ -1,7 +1,7 @@
 //! What is made of the words of each command, once they are read.
 ghost use Rattle.std.specs.Prelude.{◌≡◌, IfSome, option_map};
 ghost use Rattle.mx_words.specs.Read.{seen};
-ghost use Rattle.mx_asked.specs.Asked.{dump_of, limits_of, run_of, meaning_of, build_of, exec_of, list_of, gen_of, soak_of, migrate_of, share_of, session_limits_of, debug_of};
+ghost use Rattle.mx_asked.specs.Asked.{dump_of, limits_of, run_of, meaning_of, build_of, exec_of, list_of, gen_of, soak_of, migrate_of, share_of, session_limits_of, debug_of, best_of};
 ghost use Rattle.mx_sessions.specs.Sessions.{IsAsked};
 ghost use Rattle.mx_asked.specs.Seen.{seen_command, IsAllowed};
 
@@ -125,6 +125,17 @@ pub fn list_read<'a>(read: &Read<'a>) -> Option<Command<'a>>
 {
     match (read.names.as_slice(), read.values.as_slice()) {
         ([source], []) => Some(Command::Listing { source: *source }),
+        _ => None,
+    }
+}
+
+/// What was read of `best`.
+pub fn best_read<'a>(read: &Read<'a>) -> Option<Command<'a>>
+    ensures command { option_map seen_command result ≡ best_of (seen read.entry.now) }
+    ensures allowed { IfSome result IsAllowed }
+{
+    match (read.names.as_slice(), read.values.as_slice()) {
+        ([source], []) => Some(Command::Best { source: *source }),
         _ => None,
     }
 }

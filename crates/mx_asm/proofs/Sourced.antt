@@ -160,7 +160,7 @@ faultless_source low end text least order most none = lines_make low end (lines_
 pub faultless_words : (low end : ℕ) (text : List ℕ) → low ≤ end → end ≤ 65536 → text_fault low end text ≡ None → low + length (source_of low text).user_data ≤ end
 unfolding source_of text_fault text_labels text_effects
 faultless_words low end text order most none =
-    let l = (whole (text_labels low text) low end (lines_of text) none most order).listed in
+    let l = (whole (text_labels low text) end (start low) (lines_of text) none most (omega arith) order).listed in
     let words = l.words in
     let within = l.within in
     let values = ap length (sym (append-nil _) ∙ l.values) in

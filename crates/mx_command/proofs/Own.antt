@@ -22,6 +22,7 @@ use Rattle.mx_source.specs.Meaning.{Mark}
 use Rattle.mx_source.specs.Meaning as meant
 use Rattle.mx_layout.specs.Layout.{blocks_in}
 use Rattle.mx_layout.specs.Overlong.{Overlong, overlong}
+use Rattle.mx_squash.specs.Copies.{Site}
 use Rattle.mx_link.specs.Origins.{from_target, from_nowhere}
 use Rattle.mx_link.specs.Linked.{link_map, linked_code, linked_data}
 use Rattle.mx_listing.specs.Listing.{layout_listing}
@@ -41,8 +42,8 @@ use Rattle.mx_tasks.specs.Sharing.{shared}
 use Rattle.mx_sharing.specs.Runs.{shared_answer, sharing_protocol}
 use Rattle.mx_asked.specs.declared.Command.{Command as GivenCommand}
 use Rattle.mx_asked.specs.Seen.{seen_command}
-use Rattle.mx_asked.specs.Commands.{Command, Run, Meaning, Build, Exec, Listing, Gen, Soak, Migrate, Share, Debug}
-use Rattle.mx_command.specs.Protocols.{unless_faulty, unless_overlong, unless_refused, migrated, Layouts, Linking, linked_protocol, run_protocol, build_protocol, linked_contents, list_protocol, unless_wrong, wrong_with, unless_far, upper_layout, pair_code, pair_data, pair_protocol, assembled_protocol, statement_named, unless_unlabelled, labelled_protocol, protocol_of}
+use Rattle.mx_asked.specs.Commands.{Command, Run, Meaning, Build, Exec, Listing, Gen, Soak, Migrate, Share, Debug, Best}
+use Rattle.mx_command.specs.Protocols.{unless_faulty, unless_overlong, unless_refused, migrated, Layouts, Linking, linked_protocol, run_protocol, build_protocol, linked_contents, list_protocol, unless_wrong, wrong_with, unless_far, upper_layout, pair_code, pair_data, pair_protocol, assembled_protocol, statement_named, unless_unlabelled, labelled_protocol, protocol_of, measured}
 use Rattle.mx_command.specs.Replied.{is_answered, IsReplied}
 
 -- the answer to what was asked
@@ -136,6 +137,10 @@ answers_pair layout_of interrupts budget first second =
 answers_assembled : (program : ℕ) (place : Place) (next : SourceValue → Protocol) → ((source : SourceValue) → HasAnswers (next source)) → (text : List ℕ) → HasAnswers (assembled_protocol program place next text)
 answers_assembled program place next has text = answers_wrong program (wrong_with place text) _ (has (source_of place.user_data text))
 
+pub answers_measured : (source : SourceValue) (sites : List Site) (found : Option (ℕ × Fault)) → IsAnswer (measured source sites found)
+answers_measured source sites (Some found) = printed_answer _ _ refl
+answers_measured source sites None = printed_answer _ _ refl
+
 answered_session : (e : Ending) → is_answered (sessions.status_of e) ≡ true
 answered_session ending.Stopped = refl
 answered_session ending.Halted = refl
@@ -168,6 +173,7 @@ has_answers layout_of (Meaning source steps input) = λ text. answers_faulty (te
 has_answers layout_of (Build source target) = answers_linked layout_of (build_protocol target) (λ read. written_answer target (file_bytes (linked_contents read (layout_of read))))
 has_answers layout_of (Exec image files limits) = λ bytes. answers_refused (file_refusal bytes) _ (answers_machine files limits (file_in bytes).code (file_in bytes).user_data (file_in bytes).input)
 has_answers layout_of (Listing source) = answers_linked layout_of list_protocol (λ read. printed_answer Done (layout_listing read board (layout_of read)) refl)
+has_answers layout_of (Best source) = λ text. answers_measured (source_of 256 text) (layout_of (source_of 256 text)) (text_fault 256 65536 text)
 has_answers layout_of (Gen seed count) = printed_answer _ _ refl
 has_answers layout_of (Soak seed count) = printed_answer _ _ refl
 has_answers layout_of (Migrate image target) = λ bytes. answers_migrated target bytes (file_refusal bytes)

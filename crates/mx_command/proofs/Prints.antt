@@ -17,6 +17,7 @@ use Rattle.mx_source.specs.SourceValue.{SourceValue}
 use Rattle.mx_isa.specs.declared.Place.{Place}
 use Rattle.mx_layout.specs.Layout.{blocks_in}
 use Rattle.mx_layout.specs.Overlong.{Overlong, overlong}
+use Rattle.mx_squash.specs.Copies.{Site}
 use Rattle.mx_link.specs.Origins.{from_target, from_nowhere}
 use Rattle.mx_link.specs.Linked.{link_map, linked_code, linked_data}
 use Rattle.mx_listing.specs.Listing.{layout_listing}
@@ -33,8 +34,8 @@ use Rattle.mx_sessions.specs.Sessions.{session_answer, session_protocol}
 use Rattle.mx_tasks.specs.Places.{lower, upper}
 use Rattle.mx_tasks.specs.Sharing.{shared}
 use Rattle.mx_sharing.specs.Runs.{shared_answer}
-use Rattle.mx_asked.specs.Commands.{Command, Run, Meaning, Build, Exec, Listing, Gen, Soak, Migrate, Share, Debug}
-use Rattle.mx_command.specs.Protocols.{unless_faulty, unless_overlong, unless_refused, unless_wrong, wrong_with, unless_far, upper_layout, pair_code, pair_data, pair_protocol, assembled_protocol, statement_named, unless_unlabelled, labelled_protocol, Layouts, Linking, linked_protocol, run_protocol, list_protocol, protocol_of}
+use Rattle.mx_asked.specs.Commands.{Command, Run, Meaning, Build, Exec, Listing, Gen, Soak, Migrate, Share, Debug, Best}
+use Rattle.mx_command.specs.Protocols.{unless_faulty, unless_overlong, unless_refused, unless_wrong, wrong_with, unless_far, upper_layout, pair_code, pair_data, pair_protocol, assembled_protocol, statement_named, unless_unlabelled, labelled_protocol, Layouts, Linking, linked_protocol, run_protocol, list_protocol, protocol_of, measured}
 use Rattle.mx_command.specs.Writing.{writes_a_file}
 
 program_prints : (p : Program) (code requests : List ℕ) (limits : Limits) → (program_answer p code requests limits).file ≡ None
@@ -97,6 +98,10 @@ pair_prints layout_of interrupts budget first second =
 assembled_prints : (program : ℕ) (place : Place) (next : SourceValue → Protocol) → ((source : SourceValue) → OnlyPrints (next source)) → (text : List ℕ) → OnlyPrints (assembled_protocol program place next text)
 assembled_prints program place next prints text = wrong_prints program (wrong_with place text) _ (prints (source_of place.user_data text))
 
+measured_prints : (source : SourceValue) (sites : List Site) (found : Option (ℕ × Fault)) → (measured source sites found).file ≡ None
+measured_prints source sites (Some found) = refl
+measured_prints source sites None = refl
+
 session_prints : (s : Session) → (session_answer s).file ≡ None
 unfolding session_answer
 session_prints s = refl
@@ -126,6 +131,7 @@ command_prints layout_of (Build source target) only = absurd (cc)
 command_prints layout_of (Exec image files limits) only =
     λ bytes. refused_prints (file_refusal bytes) _ (machine_prints files limits (file_in bytes).code (file_in bytes).user_data (file_in bytes).input)
 command_prints layout_of (Listing source) only = linked_prints layout_of list_protocol (λ read. refl)
+command_prints layout_of (Best source) only = λ text. measured_prints (source_of 256 text) (layout_of (source_of 256 text)) (text_fault 256 65536 text)
 command_prints layout_of (Gen seed count) only = refl
 command_prints layout_of (Soak seed count) only = refl
 command_prints layout_of (Migrate image target) only = absurd (cc)

@@ -13,6 +13,7 @@ use Rattle.mx_layout.specs.Overlong.{Overlong, overlong}
 use Rattle.mx_link.specs.Origins.{from_target, from_nowhere}
 use Rattle.mx_link.specs.Linked.{link_map, linked_code, linked_data, links_of}
 use Rattle.mx_listing.specs.Listing.{layout_listing}
+use Rattle.mx_lengths.specs.Lengths.{lengths_text}
 use Rattle.mx_soak.specs.Soak.{soak_text}
 use Rattle.mx_image.specs.declared.ImageError.{ImageError}
 use Rattle.mx_image.specs.declared.ImageError.TheVariants as image
@@ -35,7 +36,7 @@ use Rattle.mx_sessions.specs.Sessions.{session_protocol}
 use Rattle.mx_tasks.specs.Places.{lower, upper}
 use Rattle.mx_tasks.specs.Images.{shared_code, shared_data}
 use Rattle.mx_sharing.specs.Runs.{sharing_protocol}
-use Rattle.mx_asked.specs.Commands.{Command, Run, Meaning, Build, Exec, Listing, Gen, Soak, Migrate, Share, Debug}
+use Rattle.mx_asked.specs.Commands.{Command, Run, Meaning, Build, Exec, Listing, Gen, Soak, Migrate, Share, Debug, Best}
 
 abbrev pub fault_text : Fault → List ℕ
 fault_text fault.BadByte = codes "F1 BadByte"
@@ -122,6 +123,14 @@ build_protocol target source sites = Answers (writes target (file_bytes (linked_
 -- the listing of a source
 abbrev pub list_protocol : Linking
 list_protocol source sites = Answers (prints Done (layout_listing source board sites))
+
+-- how long the plans of each block of a source are; whether a branch reaches its target is not asked
+abbrev pub measured : SourceValue → List Site → Option (ℕ × Fault) → Answer
+measured source sites (Some found) = prints Refused (fault_line found.0 found.1)
+measured source sites None = prints Done (lengths_text source (blocks_in sites))
+
+abbrev pub best_answer : Layouts → List ℕ → Answer
+best_answer layout_of text = let source = source_of 256 text in measured source (layout_of source) (text_fault 256 65536 text)
 
 abbrev pub image_text : ℕ → List ℕ → List ℕ
 image_text at cause = text_line (codes "image: " ++ cause ++ codes " at " ++ decimal at)
@@ -258,6 +267,7 @@ protocol_of layout_of (Some (Meaning source steps input)) = Reads Source source 
 protocol_of layout_of (Some (Build source target)) = Reads Source source (linked_protocol layout_of (build_protocol target))
 protocol_of layout_of (Some (Exec image files limits)) = Reads Image image (exec_protocol files limits)
 protocol_of layout_of (Some (Listing source)) = Reads Source source (linked_protocol layout_of list_protocol)
+protocol_of layout_of (Some (Best source)) = Reads Source source (λ text. Answers (best_answer layout_of text))
 protocol_of layout_of (Some (Gen seed count)) = Answers (prints Done (printed (generated seed count)))
 protocol_of layout_of (Some (Soak seed count)) = Answers (prints Done (soak_text layout_of seed count))
 protocol_of layout_of (Some (Migrate image target)) = Reads Image image (λ bytes. Answers (migrate_answer target bytes))

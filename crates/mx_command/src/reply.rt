@@ -15,7 +15,7 @@ ghost use Rattle.mx_command.specs.Replied.{IsReplied};
 use crate::debugged::debug_reply;
 use crate::images::{exec_reply, migrate_reply};
 use crate::shared::share_reply;
-use crate::sourced::{build_reply, list_reply, run_reply, told_reply};
+use crate::sourced::{build_reply, list_reply, run_reply, told_reply, best_reply};
 use mx_answer::{Reply, Status, line_reply};
 use mx_asked::{Command, read_command};
 use mx_gen::generate;
@@ -88,6 +88,10 @@ fn command_reply<S: Shelf>(alloc: Global, shelf: &mut S, asked: &Command) -> Res
         }
         Command::Listing { source } => {
             let reply = list_reply(alloc, shelf, source)?;
+            Ok(reply)
+        }
+        Command::Best { source } => {
+            let reply = best_reply(alloc, shelf, source)?;
             Ok(reply)
         }
         Command::Gen { seed, count } => {

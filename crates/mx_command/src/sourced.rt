@@ -10,7 +10,7 @@ ghost use Rattle.mx_answer.specs.Protocol.{Answers, Reads, Counts, Performed};
 ghost use Rattle.mx_answer.specs.Replies.{reply_answer};
 ghost use Rattle.mx_asked.specs.Seen.{seen_files};
 ghost use Rattle.mx_schedule.specs.Schedule.{IsScheduler};
-ghost use Rattle.mx_command.specs.Protocols.{Layouts, linked_protocol, run_protocol, meaning_protocol, build_protocol, list_protocol};
+ghost use Rattle.mx_command.specs.Protocols.{Layouts, linked_protocol, run_protocol, meaning_protocol, build_protocol, list_protocol, best_answer};
 ghost use Rattle.mx_command.specs.Replied.{IsReplied};
 
 use crate::files::read_named;
@@ -18,6 +18,7 @@ use crate::sources::{Program, assembled, read_program};
 use mx_answer::{FileKind, Reply, Status};
 use mx_image::{ImageFile, write_file};
 use mx_io::{Memory, Shelf};
+use mx_lengths::lengths_text;
 use mx_link::Linked;
 use mx_listing::listing;
 use mx_meaning::meaning_reply;
@@ -168,4 +169,37 @@ pub fn list_reply<S: Shelf>(alloc: Global, shelf: &mut S, source: &str) -> Resul
     let output = listing(alloc, &program.source, &program.linked)?;
     let status = Status::Done;
     Ok(Reply::Prints { status, output })
+}
+
+// The reply of `best` to the text of its source.
+fn best_text(alloc: Global, text: &[u8]) -> Result<Reply, Memory>
+    requires { length text.now ≤ 4194304 }
+    ensures { (layout_of : Layouts) → IsScheduler layout_of → IfOk result (λ r. reply_answer r ≡ best_answer layout_of text.now) }
+{
+    let source = match assembled(alloc, text)? {
+        Ok(source) => source,
+        Err(reply) => return Ok(reply),
+    };
+    let _statements = source.statements();
+    let output = lengths_text(alloc, &source)?;
+    let status = Status::Done;
+    Ok(Reply::Prints { status, output })
+}
+
+/// The reply to `best SOURCE`.
+pub fn best_reply<S: Shelf>(alloc: Global, shelf: &mut S, source: &str) -> Result<Reply, Memory>
+    ensures performed { (layout_of : Layouts) → IsScheduler layout_of → IfOk result (λ r. Performed (record { tells = S.tells shelf.old; held = S.held shelf.old })
+        (Reads FileKind.Source source.now (λ text. Answers (best_answer layout_of text)))
+        (record { reads = S.reads shelf.old; taken = S.taken shelf.old; faults = S.read_faults shelf.old })
+        (record { reads = S.reads shelf.new; taken = S.taken shelf.new; faults = S.read_faults shelf.new }) (reply_answer r)) }
+    ensures tells_stay { S.tells shelf.new ≡ S.tells shelf.old }
+    ensures held_stays { (n : List ℕ) → S.held shelf.new n ≡ S.held shelf.old n }
+    ensures writes_stay { S.write_faults shelf.new ≡ S.write_faults shelf.old }
+{
+    let text = match read_named(alloc, shelf, FileKind::Source, source)? {
+        Ok(text) => text,
+        Err(reply) => return Ok(reply),
+    };
+    let reply = best_text(alloc, text.as_slice())?;
+    Ok(reply)
 }

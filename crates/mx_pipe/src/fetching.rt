@@ -1,5 +1,5 @@
 //! The word that is fetched.
-ghost use Rattle.std.specs.Prelude.{◌≡◌, ◌<◌, ◌^◌, IfSome, Some, unwrap_or, slice_get, option_and_then};
+ghost use Rattle.std.specs.Prelude.{◌≡◌, ◌<◌, ◌^◌, ◌-◌, IfSome, Some, unwrap_or, slice_get, option_and_then, leb, if◌then◌else◌};
 ghost use Rattle.mx_code.specs.Decoding.{inst_of};
 ghost use Rattle.mx_code.specs.Delay.{code_from, idle};
 ghost use Rattle.mx_turn.specs.Decoded.{ShiftFits};
@@ -13,37 +13,45 @@ use mx_isa::Inst;
 use mx_pcchain::Fetched;
 
 // What a word does, if it spells an instruction.
-fn decoded(word: u32) -> Option<Inst>
-    ensures what { result ≡ inst_of word }
+#[inline(always)]
+fn decoded(word: Option<u32>) -> Option<Inst>
+    ensures what { result ≡ option_and_then inst_of word }
     ensures fits { IfSome result ShiftFits }
 {
-    match decode(word) {
-        Some(inst) => Some(inst),
+    match word {
+        Some(word) => decode(word),
         None => None,
     }
 }
 
-// What the word at a place does, if there is one.
-fn word_at(words: &[u32], place: usize) -> Option<Inst>
-    ensures what { result ≡ option_and_then inst_of (slice_get words.now place) }
-    ensures fits { IfSome result ShiftFits }
+// The word at a place, if there is one.
+fn word_at(words: &[u32], place: usize) -> Option<u32>
+    ensures { result ≡ slice_get words.now place }
 {
     match words.get(place) {
-        Some(word) => decoded(*word),
+        Some(word) => Some(*word),
         None => None,
     }
 }
 
-// What the word at an address does: the user's words stand from 4,096 on, those of the handler from 0 on.
-fn inst_at(code: &[u32], handler: &[u32], address: u32) -> Option<Inst>
-    ensures what { unwrap_or result idle ≡ code_with (code_from inst_of 0 handler.now) (code_from inst_of 4096 code.now) address }
-    ensures fits { IfSome result ShiftFits }
+// The word at an address, if there is one: the user's words stand from 4,096 on, those of the handler from 0 on.
+fn word_of(code: &[u32], handler: &[u32], address: u32) -> Option<u32>
+    ensures { result ≡ (if leb 4096 address then slice_get code.now (address - 4096) else slice_get handler.now address) }
 {
     if address >= 4096 {
         word_at(code, (address - 4096) as usize)
     } else {
         word_at(handler, address as usize)
     }
+}
+
+// What the word at an address does.
+#[inline(always)]
+fn inst_at(code: &[u32], handler: &[u32], address: u32) -> Option<Inst>
+    ensures what { unwrap_or result idle ≡ code_with (code_from inst_of 0 handler.now) (code_from inst_of 4096 code.now) address }
+    ensures fits { IfSome result ShiftFits }
+{
+    decoded(word_of(code, handler, address))
 }
 
 /// The word of a fetch comes into a latch; one that is squashed does nothing.

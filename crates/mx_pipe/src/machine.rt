@@ -13,8 +13,8 @@ ghost use Rattle.mx_pipe.specs.Kept.{code_of_pipe, IsMade, Holds, Commits, Waits
 
 use crate::alu::{decide, make};
 use crate::fetching::{address, fetch};
-use crate::memory::reach;
-use crate::operands::{Written, read_operands, register_of, take_operands, write_back, write_of};
+use crate::memory::{Reached, reach};
+use crate::operands::{Written, read_operands, register_of, take_operands, write_back};
 use crate::{Latch, Pipe, Wait};
 use mx_icache::FetchCache;
 use mx_isa::Reg;
@@ -31,9 +31,10 @@ struct Ended {
 
 impl<C: FetchCache> Pipe<C> {
     // WB writes the file, and the word in ALU comes into MEM.
-    fn commit(&mut self) -> Option<u8>
+    fn commit(&mut self) -> Reached
         ensures state { (code : Code) (m : State) → Holds code self.old m → Commits code self.new (committed code self.old.board.input (shifted m)) }
-        ensures byte { (code : Code) (m : State) → Holds code self.old m → result ≡ commit_byte code self.old.board.input (shifted m) }
+        ensures byte { (code : Code) (m : State) → Holds code self.old m → result.byte ≡ commit_byte code self.old.board.input (shifted m) }
+        ensures write { result.write ≡ record { to = dest (does self.new.mem); loads = is_load (does self.new.mem); word = self.new.mem.result } }
         ensures program { KeepsProgram self.old self.new }
         ensures counts { self.new.counts ≡ self.old.counts }
         ensures cache { self.new.cache ≡ self.old.cache }
@@ -64,16 +65,16 @@ impl<C: FetchCache> Pipe<C> {
     }
 
     // The words in IF, RF and ALU move on.
-    fn advance(&mut self)
+    fn advance(&mut self, mem: &Written)
+        requires { mem.now ≡ record { to = dest (does self.old.mem); loads = is_load (does self.old.mem); word = self.old.mem.result } }
         ensures state { (m : State) → Commits (code_of_pipe self.old) self.old m → Holds (code_of_pipe self.old) self.new m }
         ensures program { KeepsProgram self.old self.new }
         ensures counts { self.new.counts ≡ self.old.counts }
         ensures cache { self.new.cache ≡ self.old.cache }
     {
-        let mem = write_of(&self.mem);
-        self.compute(&mem);
+        self.compute(mem);
         self.rf = self.fetch;
-        read_operands(&mut self.rf, &mem, &self.file);
+        read_operands(&mut self.rf, mem, &self.file);
         fetch(&mut self.fetch, &self.code, &self.handler, self.next);
     }
 
@@ -190,14 +191,14 @@ impl<C: FetchCache> Pipe<C> {
         ensures counts { self.new.counts ≡ self.old.counts }
         ensures cache { self.new.cache ≡ self.old.cache }
     {
-        if self.halted {
-            Ended {
+        let over = self.halted;
+        if over {
+            return Ended {
                 taken: false,
                 squashed: false,
-            }
-        } else {
-            self.turn()
+            };
         }
+        self.turn()
     }
 
     // A turn acts.
@@ -213,15 +214,15 @@ impl<C: FetchCache> Pipe<C> {
         ensures program { KeepsProgram self.old self.new }
         ensures cache { self.new.cache ≡ self.old.cache }
     {
-        let byte = self.commit();
-        self.advance();
+        let reached = self.commit();
+        self.advance(&reached.write);
         self.show();
         let halted = self.halted;
         let ended = self.end();
         self.wait = Wait::NotAsked;
         self.counts.turned(missed, ended.squashed, ended.taken);
         Cycled {
-            byte,
+            byte: reached.byte,
             taken: ended.taken,
             halted,
             stalled: false,

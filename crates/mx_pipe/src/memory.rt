@@ -1,19 +1,41 @@
 //! What the word in MEM does.
-ghost use Rattle.std.specs.Prelude.{◌≡◌, cond, suc};
+ghost use Rattle.std.specs.Prelude.{◌≡◌, cond, suc, None, false};
 ghost use Rattle.mx_isa.specs.Effect.{stored, sent};
-ghost use Rattle.mx_isa.specs.Views.{is_halt};
+ghost use Rattle.mx_isa.specs.Views.{dest, is_load, is_halt};
 ghost use Rattle.mx_board.specs.Data.{board, words_of};
 ghost use Rattle.mx_pipe.specs.Latched.{does};
 ghost use Rattle.mx_pipe.specs.Made.{reached, takes_byte, sends, md_kept, chain_kept};
 
 use crate::Latch;
+use crate::operands::Written;
 use mx_board::Board;
-use mx_isa::Inst;
+use mx_isa::{Inst, Reg};
 use mx_pcchain::Chain;
 use mx_turn::move_to;
 
-/// The word of a latch is in MEM: a load finds its word, a store sends one, MD and the saved fetches are written. Answers
-/// the byte that goes to the console.
+/// What the machine learns of the word in MEM: the byte that it sends, and what it writes.
+#[derive(Clone, Copy)]
+pub struct Reached {
+    pub byte: Option<u8>,
+    pub write: Written,
+}
+
+// It sends nothing, and writes its number to a register, or to none.
+fn writes(to: Reg, word: u32) -> Reached
+    ensures { result ≡ record { byte = None; write = record { to = to; loads = false; word = word } } }
+{
+    Reached {
+        byte: None,
+        write: Written {
+            to,
+            loads: false,
+            word,
+        },
+    }
+}
+
+/// The word of a latch is in MEM: a load finds its word, a store sends one, MD and the saved fetches are written.
+// One match, since each costs a jump in every cycle.
 #[inline(always)]
 pub fn reach(
     latch: &mut Latch,
@@ -22,7 +44,7 @@ pub fn reach(
     chain: &mut Chain,
     halted: &mut bool,
     memory: &mut Board,
-) -> Option<u8>
+) -> Reached
     ensures result { latch.new ≡ record latch.old {
       result = reached (does latch.old) latch.old.result ((board user memory.old.input).load (words_of memory.old) memory.old.taken);
     } }
@@ -33,27 +55,47 @@ pub fn reach(
     ensures input { memory.new.input ≡ memory.old.input }
     ensures taken { let find = (board user memory.old.input).load (words_of memory.old) memory.old.taken in
         memory.new.taken ≡ cond (takes_byte (does latch.old) latch.old.result find) (suc memory.old.taken) memory.old.taken }
-    ensures byte { result ≡ sent (board user memory.old.input) (sends (does latch.old) latch.old.result latch.old.b) }
+    ensures byte { result.byte ≡ sent (board user memory.old.input) (sends (does latch.old) latch.old.result latch.old.b) }
+    ensures write { result.write ≡ record { to = dest (does latch.old); loads = is_load (does latch.old); word = latch.new.result } }
 {
     *halted = false;
-    match latch.inst {
-        Some(Inst::Load { .. }) => {
-            latch.result = memory.load(latch.result, user);
-            None
+    let inst = latch.inst;
+    match &inst {
+        Some(Inst::Load { dest, .. }) => {
+            let word = memory.load(latch.result, user);
+            latch.result = word;
+            Reached {
+                byte: None,
+                write: Written {
+                    to: *dest,
+                    loads: true,
+                    word,
+                },
+            }
         }
-        Some(Inst::Store { .. }) => memory.store(latch.result, latch.b, user),
-        Some(Inst::Compute { .. }) => {
+        Some(Inst::Store { .. }) => Reached {
+            byte: memory.store(latch.result, latch.b, user),
+            write: Written {
+                to: Reg::ZERO,
+                loads: false,
+                word: latch.result,
+            },
+        },
+        Some(Inst::Compute { dest, .. }) => {
             *md = latch.md;
-            None
+            writes(*dest, latch.result)
         }
+        Some(Inst::Addi { dest, .. }) => writes(*dest, latch.result),
+        Some(Inst::MoveFrom { dest, .. }) => writes(*dest, latch.result),
+        Some(Inst::Jspci { dest, .. }) => writes(*dest, latch.result),
         Some(Inst::MoveTo { special, .. }) => {
-            move_to(latch.result, special, user, md, chain);
-            None
+            move_to(latch.result, *special, user, md, chain);
+            writes(Reg::ZERO, latch.result)
         }
         Some(Inst::Halt) => {
             *halted = true;
-            None
+            writes(Reg::ZERO, latch.result)
         }
-        _ => None,
+        _ => writes(Reg::ZERO, latch.result),
     }
 }

@@ -37,29 +37,6 @@ pub struct Written {
     pub word: u32,
 }
 
-/// What the word of the latch behind MEM writes.
-pub fn write_of(mem: &Latch) -> Written
-    ensures { result ≡ record { to = dest (does mem.now); loads = is_load (does mem.now); word = mem.now.result } }
-{
-    match &mem.inst {
-        Some(Inst::Load { dest, .. }) => Written {
-            to: *dest,
-            loads: true,
-            word: mem.result,
-        },
-        Some(inst) => Written {
-            to: inst.dest(),
-            loads: false,
-            word: mem.result,
-        },
-        None => Written {
-            to: Reg::ZERO,
-            loads: false,
-            word: mem.result,
-        },
-    }
-}
-
 // A register in RF: what the word in MEM writes to it, else what stands in the file.
 fn reads(file: &[u32; 32], to: Reg, word: u32, r: Reg) -> u32
     ensures { result ≡ reg (write (slice_index file.now) to word) r }

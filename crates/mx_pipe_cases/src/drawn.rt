@@ -135,14 +135,12 @@ fn compared(alloc: Global, draw: &mut Draw, sort: Sort, cycles: u32) -> Result<O
     let handler = handler(alloc, draw, sort)?;
     let requests = draw.requests(alloc, cycles)?;
     let image = Image::new(code, user_data).context("too many words")?;
-    let input = Some(b"input".as_slice());
     let program = Program {
         image: &image,
         handler: handler.as_slice(),
-        input,
         requests: requests.as_slice(),
     };
-    differ(alloc, &program, cycles)
+    differ(alloc, &program, Some(b"input".as_slice()), cycles)
 }
 
 fn sort_of(name: &str) -> Result<Sort> {

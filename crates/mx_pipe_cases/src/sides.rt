@@ -20,7 +20,6 @@ const WORDS: u32 = 512;
 pub struct Program<'a> {
     pub image: &'a Image,
     pub handler: &'a [u32],
-    pub input: Option<&'a [u8]>,
     /// The cycles in which a request comes.
     pub requests: &'a [u32],
 }
@@ -76,11 +75,16 @@ fn first_difference<A: Machine, B: Machine>(
 
 /// The first cycle in which the two machines differ on a program, None where they do not; the number of cycles where their
 /// data words do.
-pub fn differ(alloc: Global, program: &Program, cycles: u32) -> Result<Option<u32>> {
+pub fn differ(
+    alloc: Global,
+    program: &Program,
+    input: Option<&[u8]>,
+    cycles: u32,
+) -> Result<Option<u32>> {
     if program.handler.len() > 4_096 {
         bail!("the handler is too long")
     }
-    let input = match program.input {
+    let input = match input {
         Some(bytes) if bytes.len() > 1_048_576 => bail!("the input is too long"),
         input => input,
     };
@@ -140,13 +144,14 @@ pub fn worked(alloc: Global, line: &str) -> Result<String> {
     let user_data = numbers(alloc, user_data, 16)?;
     let requests = numbers(alloc, requests, 10)?;
     let image = Image::new(code, user_data).context("too many words")?;
-    let input: Option<&[u8]> = None;
     let program = Program {
         image: &image,
         handler: SHIPPED.as_slice(),
-        input,
         requests: requests.as_slice(),
     };
-    let answer = told(alloc, differ(alloc, &program, cycles.parse::<u32>()?)?)?;
+    let answer = told(
+        alloc,
+        differ(alloc, &program, None, cycles.parse::<u32>()?)?,
+    )?;
     Ok(format!(in alloc; "{case}: {answer}")?)
 }

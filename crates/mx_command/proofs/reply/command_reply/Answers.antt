@@ -2,6 +2,7 @@ use Rattle.std.proofs.Common.{[]}
 use Rattle.mx_asked.specs.declared.Command.TheVariants as given
 use Rattle.mx_answer.specs.Protocol.{Told, Counts}
 use Rattle.mx_answer.specs.Replies.{reply_answer}
+use Rattle.mx_schedule.proofs.Scheduler.{scheduler}
 use Rattle.mx_command.specs.Protocols.{Layouts}
 use Rattle.mx_schedule.proofs.Scheduler.{scheduler}
 use Rattle.mx_command.proofs.Own.{by_command, command_is_replied}
@@ -57,6 +58,20 @@ returns-in_ok-reply-in-Listing-clause-performed g c = λ layout_of is.
     let before : Counts = record { reads = g.S.Shelf.reads c.args.shelf.now; taken = g.S.Shelf.taken c.args.shelf.now; faults = g.S.Shelf.read_faults c.args.shelf.now } in
     let after : Counts = record { reads = g.S.Shelf.reads c.list_reply.new.shelf; taken = g.S.Shelf.taken c.list_reply.new.shelf; faults = g.S.Shelf.read_faults c.list_reply.new.shelf } in
     by_command layout_of told before after (reply_answer c.in_ok-reply-in-Listing.reply) c.args.asked.now (given.Listing c.in-Listing.source) c.in-Listing.is (c.in_ok-reply-in-Listing.ensures.performed layout_of is)
+
+pub returns-in_ok-reply-in-Best-clause-performed : goal.returns-in_ok-reply-in-Best-clause-performed
+returns-in_ok-reply-in-Best-clause-performed g c = λ layout_of is.
+    let told : Told = record { tells = g.S.Shelf.tells c.args.shelf.now; held = g.S.Shelf.held c.args.shelf.now } in
+    let before : Counts = record { reads = g.S.Shelf.reads c.args.shelf.now; taken = g.S.Shelf.taken c.args.shelf.now; faults = g.S.Shelf.read_faults c.args.shelf.now } in
+    let after : Counts = record { reads = g.S.Shelf.reads c.best_reply.new.shelf; taken = g.S.Shelf.taken c.best_reply.new.shelf; faults = g.S.Shelf.read_faults c.best_reply.new.shelf } in
+    by_command layout_of told before after (reply_answer c.in_ok-reply-in-Best.reply) c.args.asked.now (given.Best c.in-Best.source) c.in-Best.is (c.in_ok-reply-in-Best.ensures.performed layout_of is)
+
+pub returns-in_ok-reply-in-Best-clause-replied : goal.returns-in_ok-reply-in-Best-clause-replied
+returns-in_ok-reply-in-Best-clause-replied g c =
+    let told : Told = record { tells = g.S.Shelf.tells c.args.shelf.now; held = g.S.Shelf.held c.args.shelf.now } in
+    let before : Counts = record { reads = g.S.Shelf.reads c.args.shelf.now; taken = g.S.Shelf.taken c.args.shelf.now; faults = g.S.Shelf.read_faults c.args.shelf.now } in
+    let after : Counts = record { reads = g.S.Shelf.reads c.best_reply.new.shelf; taken = g.S.Shelf.taken c.best_reply.new.shelf; faults = g.S.Shelf.read_faults c.best_reply.new.shelf } in
+    command_is_replied scheduler.0 told before after (reply_answer c.in_ok-reply-in-Best.reply) (given.Best c.in-Best.source) (c.in_ok-reply-in-Best.ensures.performed scheduler.0 scheduler.1)
 
 pub returns-in_ok-reply-in-Migrate-clause-performed : goal.returns-in_ok-reply-in-Migrate-clause-performed
 returns-in_ok-reply-in-Migrate-clause-performed g c = λ layout_of is.

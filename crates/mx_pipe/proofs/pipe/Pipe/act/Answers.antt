@@ -22,13 +22,13 @@ module _ (g : given.Over) (c : After-turned g) (m : Machine) (h : Holds (code_of
   abbrev n : Machine
   n = committed code p.board.input (shifted m)
 
-  same : code_of_pipe c.commit-byte.new.self ≡ code
-  same = same_code p c.commit-byte.new.self c.commit-byte.ensures.program
+  same : code_of_pipe c.commit-reached.new.self ≡ code
+  same = same_code p c.commit-reached.new.self c.commit-reached.ensures.program
 
   moved : Holds code c.advance.new.self n
   moved =
       subst (λ x. Holds x c.advance.new.self n) same
-      (c.advance.ensures.state n (subst (λ x. Commits x c.commit-byte.new.self n) (sym same) (c.commit-byte.ensures.state code m h)))
+      (c.advance.ensures.state n (subst (λ x. Commits x c.commit-reached.new.self n) (sym same) (c.commit-reached.ensures.state code m h)))
 
   shown : Holds code c.show.new.self (reached code p.board.input m)
   shown = c.show.ensures.state code n moved
@@ -43,7 +43,7 @@ returns-clause-state g c = λ m h.
 
 pub returns-clause-answer : goal.returns-clause-answer
 returns-clause-answer g c = λ m h k. record {
-  byte = c.commit-byte.ensures.byte (code g c m h) m h k;
+  byte = c.commit-reached.ensures.byte (code g c m h) m h k;
   taken = c.end-ended.ensures.taken (code g c m h) (reached (code g c m h) c.args.self.now.board.input m) (shown g c m h) k;
   halted = (shown g c m h).rest.halted k;
   stalled = false;
@@ -55,4 +55,4 @@ returns-clause-counts g c = λ m h d.
     let r : Machine = reached code' c.args.self.now.board.input m in
     c.turned.ensures
     ∙ (λ k. after_turn c.args.missed (c.end-ended.ensures.squashed code' r (shown g c m h) k) (c.end-ended.ensures.taken code' r (shown g c m h) k)
-    ((c.end-ended.ensures.counts ∙ c.show.ensures.counts ∙ c.advance.ensures.counts ∙ c.commit-byte.ensures.counts ∙ d) k))
+    ((c.end-ended.ensures.counts ∙ c.show.ensures.counts ∙ c.advance.ensures.counts ∙ c.commit-reached.ensures.counts ∙ d) k))

@@ -1,0 +1,30 @@
+use Rattle.std.proofs.Common.{◌≡◌, ℕ, List, IfOk, IfErr, refl, subst, ap, ◌∙◌}
+use Rattle.mx_answer.specs.declared.FileKind.TheVariants.{Source}
+use Rattle.mx_answer.specs.Answer.{Answer}
+use Rattle.mx_answer.specs.Protocol.{Protocol, Answers, Reads, Told, Counts, Performed}
+use Rattle.mx_answer.specs.Replies.{reply_answer}
+use Rattle.mx_command.specs.Protocols.{best_answer}
+use Rattle.mx_command.proofs.sourced.best_reply.Goals as goal
+
+pub returns-in-Err-clause-performed : goal.returns-in-Err-clause-performed
+returns-in-Err-clause-performed g c = λ layout_of is.
+    let told : Told = record { tells = g.S.Shelf.tells c.args.shelf.now; held = g.S.Shelf.held c.args.shelf.now } in
+    let before : Counts = record { reads = g.S.Shelf.reads c.args.shelf.now; taken = g.S.Shelf.taken c.args.shelf.now; faults = g.S.Shelf.read_faults c.args.shelf.now } in
+    let between : Counts = record { reads = g.S.Shelf.reads c.read_named.new.shelf; taken = g.S.Shelf.taken c.read_named.new.shelf; faults = g.S.Shelf.read_faults c.read_named.new.shelf } in
+    let next : List ℕ → Protocol = λ text. Answers (best_answer layout_of text) in
+    subst
+    (λ r. IfErr r (λ reply. (next : List ℕ → Protocol) → Performed told (Reads Source c.args.source.now next) before between (reply_answer reply)))
+    c.in-Err.is c.in_ok-text.ensures.refused next
+
+pub returns-clause-performed : goal.returns-clause-performed
+returns-clause-performed g c = λ layout_of is.
+    let told : Told = record { tells = g.S.Shelf.tells c.args.shelf.now; held = g.S.Shelf.held c.args.shelf.now } in
+    let before : Counts = record { reads = g.S.Shelf.reads c.args.shelf.now; taken = g.S.Shelf.taken c.args.shelf.now; faults = g.S.Shelf.read_faults c.args.shelf.now } in
+    let between : Counts = record { reads = g.S.Shelf.reads c.read_named.new.shelf; taken = g.S.Shelf.taken c.read_named.new.shelf; faults = g.S.Shelf.read_faults c.read_named.new.shelf } in
+    let next : List ℕ → Protocol = λ text. Answers (best_answer layout_of text) in
+    let by_text = subst
+    (λ r. IfOk r (λ bytes. (next : List ℕ → Protocol) (after : Counts) (answer : Answer) → Performed told (next bytes.items) between after answer → Performed told (Reads Source c.args.source.now next) before after answer))
+    c.in-Ok.is c.in_ok-text.ensures.given in
+    let answered : reply_answer c.in_ok-reply.reply ≡ best_answer layout_of c.in-Ok.text.items =
+    c.in_ok-reply.ensures layout_of is ∙ ap (λ text. best_answer layout_of text) c.as_slice.ensures.value in
+    by_text next between (reply_answer c.in_ok-reply.reply) (refl, answered)

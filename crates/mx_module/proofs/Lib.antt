@@ -1,0 +1,9 @@
+pub mod Parted
+pub mod Apart
+pub mod Chained
+pub mod Appended
+pub mod Renamed
+pub mod Exported
+pub mod Sounded
+pub mod Wholes
+pub mod Joining

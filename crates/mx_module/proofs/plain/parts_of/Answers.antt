@@ -1,0 +1,40 @@
+use Rattle.std.proofs.Common.{◌≡◌, ◌+◌, ◌++◌, ◌∷◌, [], List, ℕ, Bor, map, drop, get_or, sym, ap, ◌∙◌, append_assoc, arith}
+use Rattle.std.proofs.lemmas.List.{at_drop_more, map-append}
+use Rattle.mx_asm.specs.Shapes.{word}
+use Rattle.mx_asm.specs.Words.{texts}
+use Rattle.mx_asm.specs.Positions.{line_words, statement_words}
+use Rattle.mx_module.specs.Links.{links_from, plain_line, kind_of, with_link}
+use Rattle.mx_module.specs.ModuleView.{link_value}
+use Rattle.mx_module.proofs.Parted.{link_before}
+use Rattle.mx_module.proofs.plain.parts_of.Goals as goal
+
+-- what stands past the end of the lines
+past : Bor (List ℕ)
+past = record { ref_ptr = (0, 0); now = [] }
+
+pub loop-line-preserved : goal.loop-line-preserved
+unfolding past
+loop-line-preserved c =
+    let lines = c.args.lines.now in
+    let i = c.loop-line.line-index in
+    let line = (get_or lines i past).now in
+    let words = line_words line in
+    let later = texts (drop (i + 1) lines) in
+    let kept = ap (map word) c.deref-in-loop-line.ensures.value ∙ c.in_ok-words.ensures in
+    record {
+      number = omega arith;
+      lines =
+          ap (λ ls. texts ls ++ map plain_line later) c.in_ok-push.ensures.items
+          ∙ ap (λ ls. ls ++ map plain_line later) (map-append (λ (l : Bor (List ℕ)). l.now) c.loop-line.plain.items (c.plain_line.result ∷ []))
+          ∙ append_assoc (texts c.loop-line.plain.items) (c.plain_line.result.now ∷ []) (map plain_line later)
+          ∙ ap (λ l. texts c.loop-line.plain.items ++ l ∷ map plain_line later) c.plain_line.ensures
+          ∙ sym (at_drop_more (λ ls. texts c.loop-line.plain.items ++ map plain_line (texts ls)) lines i past (omega arith))
+          ∙ c.loop-line.invariant.lines;
+      links =
+          ap (λ ls. ls ++ links_from (c.loop-line.number + 1) later) c.in_ok-add_link.ensures
+          ∙ ap (λ ws. (map link_value c.loop-line.links.items ++ with_link c.loop-line.number (kind_of (statement_words ws)) ws []) ++ links_from (c.loop-line.number + 1) later) kept
+          ∙ append_assoc (map link_value c.loop-line.links.items) _ (links_from (c.loop-line.number + 1) later)
+          ∙ ap (λ ls. map link_value c.loop-line.links.items ++ ls) (link_before c.loop-line.number _ _ (links_from (c.loop-line.number + 1) later))
+          ∙ sym (at_drop_more (λ ls. map link_value c.loop-line.links.items ++ links_from c.loop-line.number (texts ls)) lines i past (omega arith))
+          ∙ c.loop-line.invariant.links;
+    }

@@ -1,0 +1,165 @@
+//! The modules of a program.
+ghost use Rattle.std.specs.Prelude.{◌≡◌, ◌≤◌, All, length, map, replicate, IfOk};
+ghost use Rattle.mx_module.specs.Modules;
+ghost use Rattle.mx_module.specs.ModuleView.{text_bytes, IsShort};
+
+use crate::exports::Exports;
+use crate::link::Link;
+use crate::plain::{Parts, parts_of};
+use indexmap::IndexMap;
+use mx_asm::{
+    AsmError, Definitions, Labels, Listing, Position, Section, define_all, lines_of, read_lines,
+};
+use mx_source::{Label, Name};
+use std::alloc::{AllocError, Global};
+use std::marker::Model;
+
+/// A module: where it begins, its lines as the assembler reads them, its imports and exports and its labels.
+#[derive(Drop)]
+pub struct Module<'a> {
+    start: Position,
+    lines: Vec<&'a [u8]>,
+    links: Vec<Link<'a>>,
+    labels: Labels<'a>,
+    named: IndexMap<Name, Label>,
+    repeated: Option<u32>,
+    exports: Exports<'a>,
+}
+
+impl<'a> Model for Module<'a> {
+    ghost use Rattle.mx_module.specs.Modules.{ModuleValue};
+    ghost use Rattle.mx_module.specs.ModuleView.{module_value, IsKept};
+
+    ghost Value = { ModuleValue };
+
+    ghost view = { module_value };
+
+    ghost invariant = { IsKept };
+}
+
+impl<'a> Module<'a> {
+    ghost use Rattle.std.specs.Prelude.{◌≡◌, ◌+◌, ◌≤◌, ◌<◌, ◌^◌, [], length, map, replicate, IfOk, IfErr, IfSome, Option};
+    ghost use Rattle.mx_source.specs.Names.{named_labels};
+    ghost use Rattle.mx_asm.specs.Faults.{first_fault};
+    ghost use Rattle.mx_asm.specs.LabelTable.{IsNear};
+    ghost use Rattle.mx_asm.specs.Listings.{IsListingOf, IsRefusal};
+    ghost use Rattle.mx_asm.specs.Operands.{label_named};
+    ghost use Rattle.mx_module.specs.ExportTable.{export_line};
+    ghost use Rattle.mx_module.specs.Modules.{module_at, behind_text, exports_of};
+    ghost use Rattle.mx_module.specs.ModuleView.{link_value};
+
+    /// The module of a text that begins here, and where the next one begins; `blanks` are 256 blanks.
+    pub fn read(
+        alloc: Global,
+        text: &'a [u8],
+        blanks: &'a [u8],
+        start: Position,
+    ) -> Result<(Module<'a>, Position), AllocError>
+        requires short { length text.now ≤ 4194304 }
+        requires blank { blanks.now ≡ replicate 256 32 }
+        requires room { start.index + length text.now < 2 ^ 32 }
+        requires near { start.address ≤ 65537 }
+        ensures module { IfOk result (λ r. r.0 ≡ module_at start text.now) }
+        ensures next { IfOk result (λ r. r.1 ≡ behind_text start text.now) }
+        ensures index { IfOk result (λ r. r.1.index ≤ start.index + length text.now) }
+        ensures address { IfOk result (λ r. r.1.address ≤ 65537) }
+    {
+        let Parts { lines, links } = parts_of(alloc, &lines_of(alloc, text)?, blanks)?;
+        let exports = Exports::of(alloc, &links)?;
+        let Definitions {
+            labels,
+            named,
+            repeated,
+            last,
+        } = define_all(alloc, &lines, start)?;
+        let next = Position {
+            section: Section::Code,
+            index: last.index,
+            address: last.address,
+        };
+        let module = Module {
+            start,
+            lines,
+            links,
+            labels,
+            named,
+            repeated,
+            exports,
+        };
+        Ok((module, next))
+    }
+
+    /// Its imports and exports.
+    pub fn links(&self) -> &[Link<'a>]
+        ensures { map link_value result.now ≡ self.now.links }
+    {
+        self.links.as_slice()
+    }
+
+    /// The line of the first export of a name.
+    pub fn export_line(&self, name: &[u8]) -> Option<u32>
+        ensures { result ≡ export_line (exports_of self.now) name.now }
+    {
+        self.exports.line(name)
+    }
+
+    /// Its label of this name.
+    pub fn label(&self, name: &[u8]) -> Option<Label>
+        ensures value { result ≡ label_named self.now.labels name.now }
+        ensures near { IfSome result IsNear }
+    {
+        self.labels.find(name)
+    }
+
+    /// Its labels, under names of their own.
+    pub fn named(&self) -> &IndexMap<Name, Label>
+        ensures { named_labels result.now.entries ≡ self.now.labels }
+    {
+        &self.named
+    }
+
+    /// A table of its labels.
+    pub fn labels(&self, alloc: Global) -> Result<Labels<'a>, AllocError>
+        ensures { IfOk result (λ l. l ≡ self.now.labels) }
+    {
+        self.labels.copied(alloc)
+    }
+
+    /// Where it begins.
+    pub fn start(&self) -> Position
+        ensures { result ≡ self.now.start }
+    {
+        self.start
+    }
+
+    /// What its lines do, or the first faulty one, where a name stands for what it names among `seen`.
+    pub fn read_lines(&self, alloc: Global, seen: &Labels) -> Result<Listing, AsmError>
+        requires room { self.now.start.index ≤ 20000 }
+        requires order { self.now.start.address ≤ 65536 }
+        ensures read { IfOk result (IsListingOf seen.now 65536 self.now.start self.now.lines) }
+        ensures refused { IfErr result (IsRefusal (first_fault seen.now 65536 self.now.start [] 1 self.now.lines)) }
+    {
+        read_lines(alloc, seen, self.repeated, &self.lines, self.start, 65536)
+    }
+}
+
+/// The modules of texts; `blanks` are 256 blanks.
+pub fn modules_of<'a>(
+    alloc: Global,
+    texts: &'a [Vec<u8>],
+    blanks: &'a [u8],
+) -> Result<Vec<Module<'a>>, AllocError>
+    requires few { length texts.now ≤ 16 }
+    requires short { All IsShort texts.now }
+    requires blank { blanks.now ≡ replicate 256 32 }
+    ensures { IfOk result (λ v. v.items ≡ Modules.modules_of (map text_bytes texts.now)) }
+{
+    let mut modules = Vec::new(alloc);
+    let mut start = Position::start(256);
+    for text in texts {
+        let (module, next) = Module::read(alloc, text.as_slice(), blanks, start)?;
+        modules.push(module)?;
+        start = next;
+    }
+    Ok(modules)
+}
