@@ -9,8 +9,8 @@ ghost use Rattle.mx_asked.specs.Rows.{seen_row, reads_of};
 ghost use Rattle.mx_asked.specs.Seen.{seen_command, IsAllowed};
 
 use crate::readers::{
-    best_read, build_read, debug_read, exec_read, gen_read, list_read, meaning_read, migrate_read, run_read,
-    share_read, soak_read,
+    best_read, build_read, debug_read, exec_read, gen_read, list_read, meaning_read, migrate_read,
+    run_read, share_read, soak_read,
 };
 use mx_io::Memory;
 use mx_sessions::SessionLimits;

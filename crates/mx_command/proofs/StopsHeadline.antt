@@ -1,6 +1,6 @@
 -- The answer of an accepted session tells the visits of the meaning.
-use Rattle.std.proofs.Common.{◌≡◌, ℕ, suc, ◌+◌, ◌*◌, ◌<◌, ◌≤◌, ◌||◌, Bool, true, false, cond, List, [], ◌∷◌, length, Option, Some, None, refl, sym, ap, ◌∙◌, subst, ⊎_elim, arith}
-use Rattle.std.specs.Prelude.{eqb, ltb, is_some, option_and_then}
+use Rattle.std.proofs.Common.{◌≡◌, ℕ, zero, suc, ◌+◌, ◌*◌, ◌<◌, ◌≤◌, ◌||◌, Bool, true, false, cond, List, [], ◌∷◌, length, Option, Some, None, refl, sym, ap, ◌∙◌, subst, ⊎_elim, arith}
+use Rattle.std.specs.Prelude.{eqb, ltb, slice_get, is_some, option_and_then}
 use Rattle.std.specs.Str.{bytes_eq}
 use Rattle.std.proofs.lemmas.Bool.{cases_Bool, cond-true, cond-false}
 use Rattle.std.proofs.lemmas.Bool.Decides.{nat_tests}
@@ -9,7 +9,7 @@ use Rattle.mx_source.specs.declared.Label.{Label}
 use Rattle.mx_source.specs.declared.Label.TheVariants.{Code, Data}
 use Rattle.mx_source.specs.Labels.{names_index, is_labelled}
 use Rattle.mx_source.specs.SourceValue.{SourceValue}
-use Rattle.mx_blocks.specs.Leaders.{gap, is_leader}
+use Rattle.mx_blocks.specs.Leaders.{gap, ends_there, is_leader}
 use Rattle.mx_squash.specs.Copies.{Site}
 use Rattle.mx_layout.specs.Layout.{blocks_in}
 use Rattle.mx_layout.specs.Overlong.{overlong}
@@ -76,8 +76,8 @@ found_by labels name count i (Some (Code j)) e h =
 
 -- a labelled statement is a leader
 labelled_leads : (source : SourceValue) (i : ℕ) → is_labelled source.labels i ≡ true → is_leader source i ≡ true
-labelled_leads source 0 h = refl
-labelled_leads source (suc i) h = ap (λ b. eqb (cond (b || _) 0 _) 0) h
+labelled_leads source zero h = refl
+labelled_leads source (suc i) h = ap (λ b. eqb (cond (b || (ends_there (slice_get source.statements i) || eqb (gap (is_labelled source.labels) source.statements i) 63)) 0 (suc (gap (is_labelled source.labels) source.statements i))) 0) h
 
 user_word : (a : ℕ) → 256 ≤ a → a ≤ 65535 → is_user board a ≡ true
 user_word a low high = grind (arith, nat_tests)

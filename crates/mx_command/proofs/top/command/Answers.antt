@@ -109,8 +109,8 @@ returns-clause-pair g c = λ tells undisturbed accepted.
 pub returns-clause-stops : goal.returns-clause-stops
 returns-clause-stops g c = λ tells undisturbed accepted.
     let told : (d : Delivered _ _ _ _ _ _ _) → StopsHeadline _ _ accepted _ _ _ =
-        delivered_is_stops (command_of (map string_bytes c.args.words.now)) (g.S.Shelf.held c.args.shelf.now) accepted scheduler.0 scheduler.1 c.finish.result
-        (g.S.Shelf.tells c.args.shelf.now) (g.W.Sink.written c.args.out.now) (g.W.Sink.written c.finish.new.out) (g.S.Shelf.held c.finish.new.shelf) in
+    delivered_is_stops (command_of (map string_bytes c.args.words.now)) (g.S.Shelf.held c.args.shelf.now) accepted scheduler.0 scheduler.1 c.finish.result
+    (g.S.Shelf.tells c.args.shelf.now) (g.W.Sink.written c.args.out.now) (g.W.Sink.written c.finish.new.out) (g.S.Shelf.held c.finish.new.shelf) in
     ⊎_elim
     (λ quiet. ⊎_elim (λ m. inl m) (λ d. inr (told d)) (returns-clause-complete g c scheduler.0 scheduler.1 tells quiet.reading quiet.writing quiet.putting))
     (λ calm. ⊎_elim
