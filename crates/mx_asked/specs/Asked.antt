@@ -4,8 +4,9 @@ use Rattle.std.specs.Str.{bytes_eq}
 use Rattle.mx_words.specs.Reading.{asked}
 use Rattle.mx_report.specs.declared.Dump.{Dump}
 use Rattle.mx_simulate.specs.declared.Limits.{Limits}
+use Rattle.mx_sessions.specs.declared.SessionLimits.{SessionLimits}
 use Rattle.mx_asked.specs.Numbers.{number, number_or, optional}
-use Rattle.mx_asked.specs.Commands.{Command, Run, Meaning, Build, Exec, Listing, Best, Gen, Soak, Migrate, Share}
+use Rattle.mx_asked.specs.Commands.{Command, Run, Meaning, Build, Exec, Listing, Gen, Soak, Migrate, Share, Debug, Best}
 
 -- the options of a run
 abbrev pub run_options : List (List ℕ)
@@ -78,6 +79,24 @@ abbrev pub share_of : Words → Option Command
 share_of (first ∷ second ∷ [], budget ∷ interrupts ∷ []) = option_map (Share first second interrupts) (number_or 1000000 0 100000000 budget)
 share_of _ = None
 
+abbrev pub debug_options : List (List ℕ)
+debug_options = codes "stops" ∷ codes "watch" ∷ codes "budget" ∷ codes "interrupts" ∷ codes "input" ∷ []
+
+-- the limits of a session, by the values of `--stops`, `--watch` and `--budget`; none where a number is faulty
+abbrev pub session_limits_of : Option (List ℕ) → Option (List ℕ) → Option (List ℕ) → Option SessionLimits
+session_limits_of stops watch budget =
+    option_and_then (λ s.
+    option_and_then (λ w.
+    option_map (λ b. record { stops = s; watch = w; budget = b })
+    (number_or 1000000 0 100000000 budget))
+    (number_or 256 256 65535 watch))
+    (number_or 1 1 1000 stops)
+
+abbrev pub debug_of : Words → Option Command
+debug_of (source ∷ label ∷ [], stops ∷ watch ∷ budget ∷ interrupts ∷ input ∷ []) =
+    option_map (Debug source label (record { interrupts = interrupts; input = input })) (session_limits_of stops watch budget)
+debug_of _ = None
+
 -- a row of the table of commands: its first word, the names of its options, how few and how many names it takes, and
 -- what it reads of them
 pub record Row : Type 0 where
@@ -100,6 +119,7 @@ rows =
     ∷ record { word = codes "soak"; options = []; fewest = 2; most = 2; reads = soak_of }
     ∷ record { word = codes "migrate"; options = []; fewest = 2; most = 2; reads = migrate_of }
     ∷ record { word = codes "share"; options = share_options; fewest = 2; most = 2; reads = share_of }
+    ∷ record { word = codes "debug"; options = debug_options; fewest = 2; most = 2; reads = debug_of }
     ∷ []
 
 -- the row of a first word, spelled exactly

@@ -2,6 +2,7 @@
 use Rattle.std.specs.Prelude.{ℕ, List, Option}
 use Rattle.mx_simulate.specs.declared.Limits.{Limits}
 use Rattle.mx_simulate.specs.Machines.{Files}
+use Rattle.mx_sessions.specs.declared.SessionLimits.{SessionLimits}
 
 pub data Command : Type 0 where
   -- runs a source
@@ -24,3 +25,5 @@ pub data Command : Type 0 where
   Migrate : (image : List ℕ) → (target : List ℕ) → Command
   -- runs two sources that share the machine
   Share : (first : List ℕ) → (second : List ℕ) → (interrupts : Option (List ℕ)) → (budget : ℕ) → Command
+  -- runs a source and tells its stops at a label
+  Debug : (source : List ℕ) → (label : List ℕ) → (files : Files) → (limits : SessionLimits) → Command

@@ -1,6 +1,7 @@
 use Rattle.std.specs.Prelude.{◌≤◌, option_map}
 use Rattle.mx_simulate.specs.declared.RunFiles.{RunFiles}
 use Rattle.mx_simulate.specs.Machines.{Files}
+use Rattle.mx_sessions.specs.Sessions.{IsAsked}
 use Rattle.mx_asked.specs.declared.command.Command.{Command}
 use Rattle.mx_asked.specs.declared.command.Command.TheVariants as given
 use Rattle.mx_asked.specs.Commands as asked
@@ -21,9 +22,11 @@ seen_command (given.Gen seed count) = asked.Gen seed count
 seen_command (given.Soak seed count) = asked.Soak seed count
 seen_command (given.Migrate image target) = asked.Migrate image.now target.now
 seen_command (given.Share first second interrupts budget) = asked.Share first.now second.now (option_map (λ s. s.now) interrupts) budget
+seen_command (given.Debug source label files limits) = asked.Debug source.now label.now (seen_files files) limits
 
--- at most 4,000 items are generated
+-- at most 4,000 items are generated, and the limits of a session are in their ranges
 abbrev pub IsAllowed : Command → Type 0
 IsAllowed (given.Gen seed count) = count ≤ 4000
 IsAllowed (given.Soak seed count) = count ≤ 4000
+IsAllowed (given.Debug source label files limits) = IsAsked limits
 IsAllowed _ = Unit {0}

@@ -9,10 +9,11 @@ ghost use Rattle.mx_asked.specs.Rows.{seen_row, reads_of};
 ghost use Rattle.mx_asked.specs.Seen.{seen_command, IsAllowed};
 
 use crate::readers::{
-    best_read, build_read, exec_read, gen_read, list_read, meaning_read, migrate_read, run_read,
-    share_read, soak_read,
+    best_read, build_read, debug_read, exec_read, gen_read, list_read, meaning_read, migrate_read,
+    run_read, share_read, soak_read,
 };
 use mx_io::Memory;
+use mx_sessions::SessionLimits;
 use mx_simulate::{Limits, RunFiles};
 use mx_words::{Read, Shape, read_words};
 use std::alloc::Global;
@@ -63,6 +64,12 @@ pub enum Command<'a> {
         interrupts: Option<&'a str>,
         budget: u32,
     },
+    Debug {
+        source: &'a str,
+        label: &'a str,
+        files: RunFiles<'a>,
+        limits: SessionLimits,
+    },
 }
 
 const MEANING_OPTIONS: [&str; 2] = ["steps", "input"];
@@ -70,6 +77,8 @@ const MEANING_OPTIONS: [&str; 2] = ["steps", "input"];
 const SHARE_OPTIONS: [&str; 2] = ["budget", "interrupts"];
 
 const RUN_OPTIONS: [&str; 6] = ["budget", "trace", "dump", "count", "interrupts", "input"];
+
+const DEBUG_OPTIONS: [&str; 5] = ["stops", "watch", "budget", "interrupts", "input"];
 
 /// Which function reads what stands after the first word.
 #[derive(Clone, Copy)]
@@ -84,6 +93,7 @@ enum Form {
     Soak,
     Migrate,
     Share,
+    Debug,
 }
 
 /// A row of the table of commands.
@@ -114,6 +124,7 @@ const ROWS: &[Row] = &[
     Row { word: "soak", options: &[], fewest: 2, most: 2, form: Form::Soak },
     Row { word: "migrate", options: &[], fewest: 2, most: 2, form: Form::Migrate },
     Row { word: "share", options: &SHARE_OPTIONS, fewest: 2, most: 2, form: Form::Share },
+    Row { word: "debug", options: &DEBUG_OPTIONS, fewest: 2, most: 2, form: Form::Debug },
 ];
 
 // The row of a first word in a table, if there is one.
@@ -152,6 +163,7 @@ fn command_in<'a>(form: Form, read: Read<'a>) -> Option<Command<'a>>
         Form::Soak => soak_read(&read),
         Form::Migrate => migrate_read(&read),
         Form::Share => share_read(&read),
+        Form::Debug => debug_read(&read),
     }
 }
 

@@ -1,19 +1,21 @@
 //! Numbers among the words of a command.
-ghost use Rattle.std.specs.Prelude.{◌≡◌, option_map};
+ghost use Rattle.std.specs.Prelude.{◌≡◌, ◌≤◌, IfSome, option_map};
 ghost use Rattle.mx_asked.specs.Numbers.{number, number_or, optional};
 
 use mx_words::number_within;
 
 /// The number that a text spells, where it is `low` to `high`.
 pub fn number(text: &str, low: u32, high: u32) -> Option<u32>
-    ensures { result ≡ number low high text.now }
+    ensures number { result ≡ number low high text.now }
+    ensures range { IfSome result (λ n. (low ≤ n) × (n ≤ high)) }
 {
     number_within(text, low, high)
 }
 
 /// The number of an option, or its default where it is not given; None where it is faulty.
 pub fn number_or(text: Option<&str>, default: u32, low: u32, high: u32) -> Option<u32>
-    ensures { result ≡ number_or default low high (option_map (λ s. s.now) text.entry) }
+    ensures number { result ≡ number_or default low high (option_map (λ s. s.now) text.entry) }
+    ensures range { low ≤ default → default ≤ high → IfSome result (λ n. (low ≤ n) × (n ≤ high)) }
 {
     match text {
         Some(text) => number(text, low, high),

@@ -1,12 +1,14 @@
 //! What is made of the words of each command, once they are read.
 ghost use Rattle.std.specs.Prelude.{◌≡◌, IfSome, option_map};
 ghost use Rattle.mx_words.specs.Read.{seen};
-ghost use Rattle.mx_asked.specs.Asked.{dump_of, limits_of, run_of, meaning_of, build_of, exec_of, list_of, best_of, gen_of, soak_of, migrate_of, share_of};
+ghost use Rattle.mx_asked.specs.Asked.{dump_of, limits_of, run_of, meaning_of, build_of, exec_of, list_of, gen_of, soak_of, migrate_of, share_of, session_limits_of, debug_of, best_of};
+ghost use Rattle.mx_sessions.specs.Sessions.{IsAsked};
 ghost use Rattle.mx_asked.specs.Seen.{seen_command, IsAllowed};
 
 use crate::command::Command;
 use crate::numbers::{number, number_or, optional};
 use mx_report::Dump;
+use mx_sessions::SessionLimits;
 use mx_simulate::{Limits, RunFiles};
 use mx_words::Read;
 
@@ -195,6 +197,48 @@ pub fn share_read<'a>(read: &Read<'a>) -> Option<Command<'a>>
                 second: *second,
                 interrupts: *interrupts,
                 budget,
+            })
+        }
+        _ => None,
+    }
+}
+
+// The limits of a session that three options give; None where a number is faulty.
+fn session_limits_of(
+    stops: Option<&str>,
+    watch: Option<&str>,
+    budget: Option<&str>,
+) -> Option<SessionLimits>
+    ensures limits { result ≡ session_limits_of (option_map (λ s. s.now) stops.entry) (option_map (λ s. s.now) watch.entry) (option_map (λ s. s.now) budget.entry) }
+    ensures asked { IfSome result IsAsked }
+{
+    let stops = number_or(stops, 1, 1, 1_000)?;
+    let watch = number_or(watch, 256, 256, 65_535)?;
+    let budget = number_or(budget, 1_000_000, 0, 100_000_000)?;
+    Some(SessionLimits {
+        stops,
+        watch,
+        budget,
+    })
+}
+
+/// What was read of `debug`.
+pub fn debug_read<'a>(read: &Read<'a>) -> Option<Command<'a>>
+    ensures command { option_map seen_command result ≡ debug_of (seen read.entry.now) }
+    ensures allowed { IfSome result IsAllowed }
+{
+    match (read.names.as_slice(), read.values.as_slice()) {
+        ([source, label], [stops, watch, budget, interrupts, input]) => {
+            let limits = session_limits_of(*stops, *watch, *budget)?;
+            let files = RunFiles {
+                interrupts: *interrupts,
+                input: *input,
+            };
+            Some(Command::Debug {
+                source: *source,
+                label: *label,
+                files,
+                limits,
             })
         }
         _ => None,

@@ -49,11 +49,11 @@ module _ (held : Held) where
   requests_are (Some name) requests next h =
       read_is Interrupts name h.0 (λ b. by_requests (requests_of b) next) h.1 ∙ ap (λ r. resolved (by_requests r next) held) h.2
 
-  input_is : (name : Option (List ℕ)) (bytes : List ℕ) (next : List ℕ → Protocol) → IsInput held name bytes → resolved (input_protocol name next) held ≡ resolved (next bytes) held
+  pub input_is : (name : Option (List ℕ)) (bytes : List ℕ) (next : List ℕ → Protocol) → IsInput held name bytes → resolved (input_protocol name next) held ≡ resolved (next bytes) held
   input_is None bytes next h = ap (λ r. resolved (next r) held) (sym h)
   input_is (Some name) bytes next h = read_is Input name bytes next h
 
-given_is : (line : Option ℕ) (bytes : List ℕ) → given (is_some line) bytes ≡ meant.given line bytes
+pub given_is : (line : Option ℕ) (bytes : List ℕ) → given (is_some line) bytes ≡ meant.given line bytes
 given_is None bytes = refl
 given_is (Some line) bytes = refl
 

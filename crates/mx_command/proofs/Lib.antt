@@ -6,3 +6,6 @@ pub mod Headline
 pub mod Prints
 pub mod Pairs
 pub mod PairHeadline
+mod Labels
+mod StoppedSources
+mod StopsHeadline

@@ -20,7 +20,7 @@ use Rattle.mx_image.specs.Contents.{IsLink, LinksFit}
 use Rattle.mx_meaning.specs.Boards.{board}
 
 -- how many words these plans have
-total : List Site → ℕ
+pub total : List Site → ℕ
 total [] = 0
 total (s ∷ sites) = plan_size s.plan + total sites
 
@@ -38,7 +38,7 @@ flat_count words each [] = refl
 flat_count words each (s ∷ sites) =
     length-append (words s) (flat_map words sites) ∙ ap (λ n. n + length (flat_map words sites)) (each s) ∙ ap (λ n. plan_size s.plan + n) (flat_count words each sites)
 
-code_count : (filling : Filling) (source : SourceValue) (sites : List Site) → length (linked_code filling source board sites) ≡ total sites
+pub code_count : (filling : Filling) (source : SourceValue) (sites : List Site) → length (linked_code filling source board sites) ≡ total sites
 code_count filling source sites =
     length-map (insts_of filling (link_map board sites) source.statements sites) word_of_row
     ∙ flat_count (λ s. insts_from (link_map board sites) source.statements (filling sites s) s.start (origins_at s (filling sites s)))
@@ -52,7 +52,7 @@ either : (b : Bool) (low high x y : ℕ) → Between low high x → Between low 
 either true low high x y first second = first
 either false low high x y first second = second
 
-link_between : (at : ℕ) (sites : List Site) (i : ℕ) → Between at (at + total sites) (link_of at sites i)
+pub link_between : (at : ℕ) (sites : List Site) (i : ℕ) → Between at (at + total sites) (link_of at sites i)
 unfolding total
 link_between at [] i = (omega arith, omega arith)
 link_between at (s ∷ sites) i =
@@ -61,7 +61,7 @@ link_between at (s ∷ sites) i =
     (omega arith, omega arith)
     (omega (arith, rest.0), omega (arith, rest.1))
 
-links_count : (link : ℕ → ℕ) (i n : ℕ) → length (links_from link i n) ≡ n
+pub links_count : (link : ℕ → ℕ) (i n : ℕ) → length (links_from link i n) ≡ n
 links_count link i zero = refl
 links_count link i (suc n) = ap suc (links_count link (suc i) n)
 

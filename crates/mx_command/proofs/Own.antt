@@ -23,21 +23,27 @@ use Rattle.mx_source.specs.Meaning as meant
 use Rattle.mx_layout.specs.Layout.{blocks_in}
 use Rattle.mx_layout.specs.Overlong.{Overlong, overlong}
 use Rattle.mx_squash.specs.Copies.{Site}
-use Rattle.mx_link.specs.Origins.{from_target}
-use Rattle.mx_link.specs.Linked.{linked_code, linked_data}
+use Rattle.mx_link.specs.Origins.{from_target, from_nowhere}
+use Rattle.mx_link.specs.Linked.{link_map, linked_code, linked_data}
 use Rattle.mx_listing.specs.Listing.{layout_listing}
 use Rattle.mx_meaning.specs.Boards.{board}
 use Rattle.mx_meaning.specs.Told.{status_of, meaning_answer}
 use Rattle.mx_simulate.specs.declared.Limits.{Limits}
 use Rattle.mx_simulate.specs.Simulated.{program_answer}
 use Rattle.mx_simulate.specs.Machines.{Files, given, by_requests, requests_protocol, input_protocol, machine_protocol}
+use Rattle.mx_debug.specs.declared.Ending.{Ending}
+use Rattle.mx_debug.specs.declared.Ending.TheVariants as ending
+use Rattle.mx_debug.specs.Sessions.{Session, session}
+use Rattle.mx_sessions.specs.declared.SessionLimits.{SessionLimits}
+use Rattle.mx_sessions.specs.Sessions.{session_answer, session_protocol}
+use Rattle.mx_sessions.specs.Sessions as sessions
 use Rattle.mx_tasks.specs.Places.{lower, upper}
 use Rattle.mx_tasks.specs.Sharing.{shared}
 use Rattle.mx_sharing.specs.Runs.{shared_answer, sharing_protocol}
 use Rattle.mx_asked.specs.declared.Command.{Command as GivenCommand}
 use Rattle.mx_asked.specs.Seen.{seen_command}
-use Rattle.mx_asked.specs.Commands.{Command, Run, Meaning, Build, Exec, Listing, Gen, Soak, Migrate, Share, Best}
-use Rattle.mx_command.specs.Protocols.{unless_faulty, unless_overlong, unless_refused, migrated, Layouts, Linking, linked_protocol, run_protocol, build_protocol, linked_contents, list_protocol, unless_wrong, wrong_with, unless_far, upper_layout, pair_code, pair_data, pair_protocol, assembled_protocol, protocol_of, measured}
+use Rattle.mx_asked.specs.Commands.{Command, Run, Meaning, Build, Exec, Listing, Gen, Soak, Migrate, Share, Debug, Best}
+use Rattle.mx_command.specs.Protocols.{unless_faulty, unless_overlong, unless_refused, migrated, Layouts, Linking, linked_protocol, run_protocol, build_protocol, linked_contents, list_protocol, unless_wrong, wrong_with, unless_far, upper_layout, pair_code, pair_data, pair_protocol, assembled_protocol, statement_named, unless_unlabelled, labelled_protocol, protocol_of, measured}
 use Rattle.mx_command.specs.Replied.{is_answered, IsReplied}
 
 -- the answer to what was asked
@@ -135,6 +141,30 @@ pub answers_measured : (source : SourceValue) (sites : List Site) (found : Optio
 answers_measured source sites (Some found) = printed_answer _ _ refl
 answers_measured source sites None = printed_answer _ _ refl
 
+answered_session : (e : Ending) → is_answered (sessions.status_of e) ≡ true
+answered_session ending.Stopped = refl
+answered_session ending.Halted = refl
+answered_session ending.OutOfBudget = refl
+
+answers_session : (s : Session) → IsAnswer (session_answer s)
+unfolding session_answer
+answers_session s = printed_answer _ _ (answered_session _)
+
+answers_stopped : (files : Files) (limits : SessionLimits) (code user_data : List ℕ) (asks : Bool) (address : ℕ) → HasAnswers (session_protocol files limits code user_data asks address)
+answers_stopped files limits code user_data asks address =
+    answers_requests files.interrupts _ (λ requests. answers_input files.input _ (λ bytes.
+    answers_session (session (program_of shipped code user_data (given asks bytes)) requests address limits.stops limits.watch limits.budget)))
+
+answers_unlabelled : (name : List ℕ) (found : Option ℕ) (next : ℕ → Protocol) → ((index : ℕ) → HasAnswers (next index)) → HasAnswers (unless_unlabelled name found next)
+answers_unlabelled name None next has = printed_answer _ _ refl
+answers_unlabelled name (Some index) next has = has index
+
+answers_labelled : (layout_of : Layouts) (label : List ℕ) (files : Files) (limits : SessionLimits) (source : SourceValue) → HasAnswers (labelled_protocol layout_of label files limits source)
+answers_labelled layout_of label files limits source =
+    answers_unlabelled label (statement_named source label) _ (λ index. answers_overlong _ _
+    (answers_stopped files limits (linked_code from_nowhere source board (layout_of source)) (linked_data source board (layout_of source)) (is_some source.input)
+    (link_map board (layout_of source) index)))
+
 pub has_answers : (layout_of : Layouts) (asked : Command) → HasAnswers (protocol_of layout_of (Some asked))
 has_answers layout_of (Run source files limits) =
     answers_linked layout_of (run_protocol files limits)
@@ -150,6 +180,8 @@ has_answers layout_of (Migrate image target) = λ bytes. answers_migrated target
 has_answers layout_of (Share first second interrupts budget) =
     answers_assembled 1 lower (λ one. Reads Second second (assembled_protocol 2 upper (pair_protocol layout_of interrupts budget one)))
     (λ one. answers_assembled 2 upper (pair_protocol layout_of interrupts budget one) (answers_pair layout_of interrupts budget one))
+has_answers layout_of (Debug source label files limits) =
+    λ text. answers_faulty (text_fault 256 65536 text) _ (answers_labelled layout_of label files limits (source_of 256 text))
 
 own_status : (status : Status) → is_answered status ≡ true → is_own status ≡ true
 own_status Halted is = refl

@@ -18,8 +18,8 @@ use Rattle.mx_isa.specs.declared.Place.{Place}
 use Rattle.mx_layout.specs.Layout.{blocks_in}
 use Rattle.mx_layout.specs.Overlong.{Overlong, overlong}
 use Rattle.mx_squash.specs.Copies.{Site}
-use Rattle.mx_link.specs.Origins.{from_target}
-use Rattle.mx_link.specs.Linked.{linked_code, linked_data}
+use Rattle.mx_link.specs.Origins.{from_target, from_nowhere}
+use Rattle.mx_link.specs.Linked.{link_map, linked_code, linked_data}
 use Rattle.mx_listing.specs.Listing.{layout_listing}
 use Rattle.mx_meaning.specs.Boards.{board}
 use Rattle.mx_meaning.specs.Told.{meaning_answer}
@@ -28,11 +28,14 @@ use Rattle.mx_schedule.specs.Schedule.{IsScheduler}
 use Rattle.mx_simulate.specs.declared.Limits.{Limits}
 use Rattle.mx_simulate.specs.Simulated.{program_answer}
 use Rattle.mx_simulate.specs.Machines.{Files, given, by_requests, requests_protocol, input_protocol, machine_protocol}
+use Rattle.mx_debug.specs.Sessions.{Session, session}
+use Rattle.mx_sessions.specs.declared.SessionLimits.{SessionLimits}
+use Rattle.mx_sessions.specs.Sessions.{session_answer, session_protocol}
 use Rattle.mx_tasks.specs.Places.{lower, upper}
 use Rattle.mx_tasks.specs.Sharing.{shared}
 use Rattle.mx_sharing.specs.Runs.{shared_answer}
-use Rattle.mx_asked.specs.Commands.{Command, Run, Meaning, Build, Exec, Listing, Gen, Soak, Migrate, Share, Best}
-use Rattle.mx_command.specs.Protocols.{unless_faulty, unless_overlong, unless_refused, unless_wrong, wrong_with, unless_far, upper_layout, pair_code, pair_data, pair_protocol, assembled_protocol, Layouts, Linking, linked_protocol, run_protocol, list_protocol, protocol_of, measured}
+use Rattle.mx_asked.specs.Commands.{Command, Run, Meaning, Build, Exec, Listing, Gen, Soak, Migrate, Share, Debug, Best}
+use Rattle.mx_command.specs.Protocols.{unless_faulty, unless_overlong, unless_refused, unless_wrong, wrong_with, unless_far, upper_layout, pair_code, pair_data, pair_protocol, assembled_protocol, statement_named, unless_unlabelled, labelled_protocol, Layouts, Linking, linked_protocol, run_protocol, list_protocol, protocol_of, measured}
 use Rattle.mx_command.specs.Writing.{writes_a_file}
 
 program_prints : (p : Program) (code requests : List ℕ) (limits : Limits) → (program_answer p code requests limits).file ≡ None
@@ -99,6 +102,25 @@ measured_prints : (source : SourceValue) (sites : List Site) (found : Option (�
 measured_prints source sites (Some found) = refl
 measured_prints source sites None = refl
 
+session_prints : (s : Session) → (session_answer s).file ≡ None
+unfolding session_answer
+session_prints s = refl
+
+stopped_prints : (files : Files) (limits : SessionLimits) (code user_data : List ℕ) (asks : Bool) (address : ℕ) → OnlyPrints (session_protocol files limits code user_data asks address)
+stopped_prints files limits code user_data asks address =
+    files_print files.interrupts _ (λ requests. input_prints files.input _ (λ bytes.
+    session_prints (session (program_of shipped code user_data (given asks bytes)) requests address limits.stops limits.watch limits.budget)))
+
+unlabelled_prints : (name : List ℕ) (found : Option ℕ) (next : ℕ → Protocol) → ((index : ℕ) → OnlyPrints (next index)) → OnlyPrints (unless_unlabelled name found next)
+unlabelled_prints name None next prints = refl
+unlabelled_prints name (Some index) next prints = prints index
+
+labelled_prints : (layout_of : Layouts) (label : List ℕ) (files : Files) (limits : SessionLimits) (source : SourceValue) → OnlyPrints (labelled_protocol layout_of label files limits source)
+labelled_prints layout_of label files limits source =
+    unlabelled_prints label (statement_named source label) _ (λ index. overlong_prints _ _
+    (stopped_prints files limits (linked_code from_nowhere source board (layout_of source)) (linked_data source board (layout_of source)) (is_some source.input)
+    (link_map board (layout_of source) index)))
+
 command_prints : (layout_of : Layouts) (asked : Command) → writes_a_file (Some asked) ≡ false → OnlyPrints (protocol_of layout_of (Some asked))
 command_prints layout_of (Run source files limits) only =
     linked_prints layout_of (run_protocol files limits)
@@ -116,6 +138,8 @@ command_prints layout_of (Migrate image target) only = absurd (cc)
 command_prints layout_of (Share first second interrupts budget) only =
     assembled_prints 1 lower (λ one. Reads Second second (assembled_protocol 2 upper (pair_protocol layout_of interrupts budget one)))
     (λ one. assembled_prints 2 upper (pair_protocol layout_of interrupts budget one) (pair_prints layout_of interrupts budget one))
+command_prints layout_of (Debug source label files limits) only =
+    λ text. faulty_prints (text_fault 256 65536 text) _ (labelled_prints layout_of label files limits (source_of 256 text))
 
 only_prints : (layout_of : Layouts) (asked : Option Command) → writes_a_file asked ≡ false → OnlyPrints (protocol_of layout_of asked)
 only_prints layout_of None only = refl

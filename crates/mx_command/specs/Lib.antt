@@ -5,3 +5,4 @@ pub mod Headline
 pub mod Writing
 pub mod Sharing
 pub mod Pairs
+pub mod Stops

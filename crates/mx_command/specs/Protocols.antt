@@ -1,15 +1,17 @@
 -- What each command reads and answers, in the order in which it is refused.
-use Rattle.std.specs.Prelude.{◌≡◌, ℕ, ◌+◌, ◌++◌, [], codes, List, map, slice_get, Option, Some, None, is_some, ℤ, pos, ◌-ℤ◌}
+use Rattle.std.specs.Prelude.{◌≡◌, ℕ, ◌+◌, ◌++◌, [], codes, List, map, cond, ltb, length, slice_get, Option, Some, None, is_some, option_and_then, ℤ, pos, ◌-ℤ◌}
 use Rattle.std.specs.Fmt.{decimal, signed_decimal}
 use Rattle.mx_isa.specs.declared.Place.{Place}
+use Rattle.mx_source.specs.declared.Label.{Label}
+use Rattle.mx_source.specs.declared.Label.TheVariants.{Code, Data}
 use Rattle.mx_source.specs.SourceValue.{SourceValue}
 use Rattle.mx_source.specs.Printed.{printed}
 use Rattle.mx_gen.specs.Generated.{generated}
 use Rattle.mx_squash.specs.Copies.{Site}
 use Rattle.mx_layout.specs.Layout.{blocks_in}
 use Rattle.mx_layout.specs.Overlong.{Overlong, overlong}
-use Rattle.mx_link.specs.Origins.{from_target}
-use Rattle.mx_link.specs.Linked.{linked_code, linked_data, links_of}
+use Rattle.mx_link.specs.Origins.{from_target, from_nowhere}
+use Rattle.mx_link.specs.Linked.{link_map, linked_code, linked_data, links_of}
 use Rattle.mx_listing.specs.Listing.{layout_listing}
 use Rattle.mx_lengths.specs.Lengths.{lengths_text}
 use Rattle.mx_soak.specs.Soak.{soak_text}
@@ -25,13 +27,16 @@ use Rattle.mx_simulate.specs.declared.Limits.{Limits}
 use Rattle.mx_simulate.specs.Machines.{Files, input_protocol, machine_protocol}
 use Rattle.mx_asm.specs.declared.Fault.{Fault}
 use Rattle.mx_asm.specs.declared.Fault.TheVariants as fault
+use Rattle.mx_asm.specs.Operands.{label_named}
 use Rattle.mx_asm.specs.Texts.{source_of, text_fault}
 use Rattle.mx_meaning.specs.Boards.{board}
 use Rattle.mx_meaning.specs.Told.{meaning_answer}
+use Rattle.mx_sessions.specs.declared.SessionLimits.{SessionLimits}
+use Rattle.mx_sessions.specs.Sessions.{session_protocol}
 use Rattle.mx_tasks.specs.Places.{lower, upper}
 use Rattle.mx_tasks.specs.Images.{shared_code, shared_data}
 use Rattle.mx_sharing.specs.Runs.{sharing_protocol}
-use Rattle.mx_asked.specs.Commands.{Command, Run, Meaning, Build, Exec, Listing, Gen, Soak, Migrate, Share, Best}
+use Rattle.mx_asked.specs.Commands.{Command, Run, Meaning, Build, Exec, Listing, Gen, Soak, Migrate, Share, Debug, Best}
 
 abbrev pub fault_text : Fault → List ℕ
 fault_text fault.BadByte = codes "F1 BadByte"
@@ -220,6 +225,40 @@ share_protocol layout_of first second interrupts budget =
     Reads Second second (assembled_protocol 2 upper (λ two.
     pair_protocol layout_of interrupts budget one two))))
 
+-- the statement of a source of so many at which a label stands, if it is a code label and one stands there
+abbrev pub statement_at : ℕ → Label → Option ℕ
+statement_at count (Code i) = cond (ltb i count) (Some i) None
+statement_at count (Data a) = None
+
+-- the statement at the code label of this name
+abbrev pub statement_named : SourceValue → List ℕ → Option ℕ
+statement_named source name = option_and_then (statement_at (length source.statements)) (label_named source.labels name)
+
+abbrev pub no_label_line : List ℕ → List ℕ
+no_label_line name = text_line (codes "no code label " ++ name)
+
+-- a source without a fault: refused where no statement stands at such a label, or what follows
+abbrev pub unless_unlabelled : List ℕ → Option ℕ → (ℕ → Protocol) → Protocol
+unless_unlabelled name None next = Answers (prints Refused (no_label_line name))
+unless_unlabelled name (Some index) next = next index
+
+-- the session of a source that is linked without copies, stopped where a block begins
+abbrev pub stopped_protocol : Files → SessionLimits → ℕ → Linking
+stopped_protocol files limits index source sites =
+    session_protocol files limits (linked_code from_nowhere source board sites) (linked_data source board sites) (is_some source.input) (link_map board sites index)
+
+-- the session of a source at a label: refused by its label, then by a displacement
+abbrev pub labelled_protocol : Layouts → List ℕ → Files → SessionLimits → SourceValue → Protocol
+labelled_protocol layout_of label files limits source =
+    let sites = layout_of source in
+    unless_unlabelled label (statement_named source label) (λ index.
+    unless_overlong (overlong source board (blocks_in sites)) (stopped_protocol files limits index source sites))
+
+-- of a text, which is refused by its first fault before
+abbrev pub debug_protocol : Layouts → List ℕ → Files → SessionLimits → List ℕ → Protocol
+debug_protocol layout_of label files limits text =
+    unless_faulty (text_fault 256 65536 text) (labelled_protocol layout_of label files limits (source_of 256 text))
+
 -- what a command reads and answers, where this is the layout of each source
 abbrev pub protocol_of : Layouts → Option Command → Protocol
 protocol_of layout_of None = Answers usage
@@ -233,3 +272,4 @@ protocol_of layout_of (Some (Gen seed count)) = Answers (prints Done (printed (g
 protocol_of layout_of (Some (Soak seed count)) = Answers (prints Done (soak_text layout_of seed count))
 protocol_of layout_of (Some (Migrate image target)) = Reads Image image (λ bytes. Answers (migrate_answer target bytes))
 protocol_of layout_of (Some (Share first second interrupts budget)) = share_protocol layout_of first second interrupts budget
+protocol_of layout_of (Some (Debug source label files limits)) = Reads Source source (debug_protocol layout_of label files limits)

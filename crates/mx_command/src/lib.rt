@@ -1,6 +1,7 @@
 //! The commands as one call: what the words of a command line ask for, done over any shelf and any sink.
 #![tactic(auto)]
 
+mod debugged;
 mod files;
 mod images;
 mod reply;

@@ -12,9 +12,10 @@ ghost use Rattle.mx_schedule.specs.Schedule.{IsScheduler};
 ghost use Rattle.mx_command.specs.Protocols.{Layouts, protocol_of};
 ghost use Rattle.mx_command.specs.Replied.{IsReplied};
 
+use crate::debugged::debug_reply;
 use crate::images::{exec_reply, migrate_reply};
 use crate::shared::share_reply;
-use crate::sourced::{build_reply, list_reply, run_reply, told_reply, best_reply};
+use crate::sourced::{best_reply, build_reply, list_reply, run_reply, told_reply};
 use mx_answer::{Reply, Status, line_reply};
 use mx_asked::{Command, read_command};
 use mx_gen::generate;
@@ -112,6 +113,15 @@ fn command_reply<S: Shelf>(alloc: Global, shelf: &mut S, asked: &Command) -> Res
             budget,
         } => {
             let reply = share_reply(alloc, shelf, first, second, interrupts, budget)?;
+            Ok(reply)
+        }
+        Command::Debug {
+            source,
+            label,
+            ref files,
+            ref limits,
+        } => {
+            let reply = debug_reply(alloc, shelf, source, label, files, limits)?;
             Ok(reply)
         }
     }

@@ -110,8 +110,8 @@ pub fn overlong_text(
     Ok(text)
 }
 
-// The reply to a branch that does not reach its target.
-fn overlong_reply(alloc: Global, line: u32, from: u32, to: u32) -> Result<Reply, Memory>
+/// The reply to a branch that does not reach its target.
+pub fn overlong_reply(alloc: Global, line: u32, from: u32, to: u32) -> Result<Reply, Memory>
     ensures { IfOk result (λ r. reply_answer r ≡ prints Status.Refused (overlong_line line from to)) }
 {
     let displacement = i64::from(to) - i64::from(from);

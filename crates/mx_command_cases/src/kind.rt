@@ -13,16 +13,18 @@ pub enum Kind {
     Images,
     Fronts,
     Long,
+    Stops,
 }
 
 impl Kind {
-    pub const ALL: [Kind; 6] = [
+    pub const ALL: [Kind; 7] = [
         Kind::Runs,
         Kind::Failing,
         Kind::Built,
         Kind::Images,
         Kind::Fronts,
         Kind::Long,
+        Kind::Stops,
     ];
 }
 
@@ -35,6 +37,7 @@ impl Cases for Kind {
             Kind::Images => "images.txt",
             Kind::Fronts => "fronts.txt",
             Kind::Long => "long.txt",
+            Kind::Stops => "stops.txt",
         }
     }
 
@@ -47,6 +50,7 @@ impl Cases for Kind {
             Kind::Images => images::image(alloc, before(line, " -> ")?),
             Kind::Fronts => images::fronts(rt, before(line, " ")?),
             Kind::Long => images::long(alloc, before(line, " -> ")?),
+            Kind::Stops => runs::stops(rt, line),
         }
     }
 }

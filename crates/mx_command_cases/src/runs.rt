@@ -1,6 +1,7 @@
 //! Cases of whole commands over stored files.
 use crate::case::{Case, bytes_of};
 use anyhow::{Context, Result};
+use mx_case_files::before;
 use mx_command::Status;
 use std::fs;
 use std::rt::Files;
@@ -67,4 +68,28 @@ pub fn built<R: Files + AllocGlobal>(rt: &R, line: &str) -> Result<String> {
     let same = ended.status == wanted.status && ended.output.written() == wanted.output.written();
     let note = if same { "" } else { ", otherwise" };
     Ok(format!(in alloc; "{line}{note}")?)
+}
+
+/// The value behind a name, where a line is `NAME VALUE`.
+fn value_of<'a>(line: &'a str, name: &str) -> Option<&'a str> {
+    let (found, value) = line.split_once(" ")?;
+    if found == name { Some(value) } else { None }
+}
+
+/// What the stops that `debug` tells show under a name, in order, for the case `WORDS -> NAME VALUES`.
+pub fn stops<R: Files + AllocGlobal>(rt: &R, line: &str) -> Result<String> {
+    let alloc = rt.alloc();
+    let (words, told) = line.split_once(" -> ").context("no name")?;
+    let name = before(told, " ")?;
+    let mut case = Case::stored(rt, words)?;
+    let ended = case.run(alloc)?;
+    let text = str::from_utf8(ended.output.written())?;
+    let mut answer = format!(in alloc; "{words} -> {name}")?;
+    for line in text.lines() {
+        if let Some(value) = value_of(line, name) {
+            answer.push_str(" ")?;
+            answer.push_str(value)?;
+        }
+    }
+    Ok(answer)
 }

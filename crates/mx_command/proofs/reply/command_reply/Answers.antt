@@ -4,6 +4,7 @@ use Rattle.mx_answer.specs.Protocol.{Told, Counts}
 use Rattle.mx_answer.specs.Replies.{reply_answer}
 use Rattle.mx_schedule.proofs.Scheduler.{scheduler}
 use Rattle.mx_command.specs.Protocols.{Layouts}
+use Rattle.mx_schedule.proofs.Scheduler.{scheduler}
 use Rattle.mx_command.proofs.Own.{by_command, command_is_replied}
 use Rattle.mx_command.proofs.reply.command_reply.Goals as goal
 
@@ -94,3 +95,19 @@ returns-in_ok-reply-in-Share-clause-performed g c = λ layout_of is.
     let after : Counts = record { reads = g.S.Shelf.reads c.share_reply.new.shelf; taken = g.S.Shelf.taken c.share_reply.new.shelf; faults = g.S.Shelf.read_faults c.share_reply.new.shelf } in
     by_command layout_of told before after (reply_answer c.in_ok-reply-in-Share.reply) c.args.asked.now
     (given.Share c.in-Share.first c.in-Share.second c.in-Share.interrupts c.in-Share.budget) c.in-Share.is (c.in_ok-reply-in-Share.ensures.performed layout_of is)
+
+pub returns-in_ok-reply-in-Debug-clause-performed : goal.returns-in_ok-reply-in-Debug-clause-performed
+returns-in_ok-reply-in-Debug-clause-performed g c = λ layout_of is.
+    let told : Told = record { tells = g.S.Shelf.tells c.args.shelf.now; held = g.S.Shelf.held c.args.shelf.now } in
+    let before : Counts = record { reads = g.S.Shelf.reads c.args.shelf.now; taken = g.S.Shelf.taken c.args.shelf.now; faults = g.S.Shelf.read_faults c.args.shelf.now } in
+    let after : Counts = record { reads = g.S.Shelf.reads c.debug_reply.new.shelf; taken = g.S.Shelf.taken c.debug_reply.new.shelf; faults = g.S.Shelf.read_faults c.debug_reply.new.shelf } in
+    by_command layout_of told before after (reply_answer c.in_ok-reply-in-Debug.reply) c.args.asked.now
+    (given.Debug c.in-Debug.source c.in-Debug.label c.in-Debug.files c.in-Debug.limits) c.in-Debug.is (c.in_ok-reply-in-Debug.ensures.performed layout_of is)
+
+pub returns-in_ok-reply-in-Debug-clause-replied : goal.returns-in_ok-reply-in-Debug-clause-replied
+returns-in_ok-reply-in-Debug-clause-replied g c =
+    let told : Told = record { tells = g.S.Shelf.tells c.args.shelf.now; held = g.S.Shelf.held c.args.shelf.now } in
+    let before : Counts = record { reads = g.S.Shelf.reads c.args.shelf.now; taken = g.S.Shelf.taken c.args.shelf.now; faults = g.S.Shelf.read_faults c.args.shelf.now } in
+    let after : Counts = record { reads = g.S.Shelf.reads c.debug_reply.new.shelf; taken = g.S.Shelf.taken c.debug_reply.new.shelf; faults = g.S.Shelf.read_faults c.debug_reply.new.shelf } in
+    command_is_replied scheduler.0 told before after (reply_answer c.in_ok-reply-in-Debug.reply)
+    (given.Debug c.in-Debug.source c.in-Debug.label c.in-Debug.files c.in-Debug.limits) (c.in_ok-reply-in-Debug.ensures.performed scheduler.0 scheduler.1)

@@ -1,0 +1,3 @@
+halt
+.data
+here: .word 7
