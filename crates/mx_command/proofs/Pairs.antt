@@ -44,10 +44,10 @@ moved_blocks by (s ∷ sites) = ap (λ (l : List Block). s.block ∷ l) (moved_b
 moved_stand : (by at : ℕ) (sites : List Site) → StandFrom at sites → StandFrom (by + at) (moved by sites)
 moved_stand by at [] stand = tt
 moved_stand by at (s ∷ sites) stand = (
-    ap (λ n. by + n) stand.0,
-    subst (λ n. StandFrom n (moved by sites)) (let e : by + (at + plan_size s.plan) ≡ by + at + plan_size s.plan = omega arith in e)
-        (moved_stand by (at + plan_size s.plan) sites stand.1),
-  )
+  ap (λ n. by + n) stand.0,
+  subst (λ n. StandFrom n (moved by sites)) (let e : by + (at + plan_size s.plan) ≡ by + at + plan_size s.plan = omega arith in e)
+      (moved_stand by (at + plan_size s.plan) sites stand.1),
+)
 
 moved_plans : (by : ℕ) (sites : List Site) → All Greedy sites → All Greedy (moved by sites)
 moved_plans by [] all = All-nil Greedy

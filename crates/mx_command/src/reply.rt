@@ -14,7 +14,7 @@ ghost use Rattle.mx_command.specs.Replied.{IsReplied};
 
 use crate::images::{exec_reply, migrate_reply};
 use crate::shared::share_reply;
-use crate::sourced::{build_reply, list_reply, run_reply, told_reply, best_reply};
+use crate::sourced::{best_reply, build_reply, list_reply, run_reply, told_reply};
 use mx_answer::{Reply, Status, line_reply};
 use mx_asked::{Command, read_command};
 use mx_gen::generate;

@@ -51,13 +51,7 @@ fn line_wrong(alloc: Global, program: u32, line: u32, cause: &str) -> Result<Rep
 }
 
 // The reply to a branch of it that does not reach its target.
-fn far_reply(
-    alloc: Global,
-    program: u32,
-    line: u32,
-    from: u32,
-    to: u32,
-) -> Result<Reply, Memory>
+fn far_reply(alloc: Global, program: u32, line: u32, from: u32, to: u32) -> Result<Reply, Memory>
     ensures { IfOk result (λ r. reply_answer r ≡ prints Status.Refused (text_line (of_program program (overlong_text line (pos to -ℤ pos from) from to)))) }
 {
     let displacement = i64::from(to) - i64::from(from);
@@ -153,12 +147,14 @@ fn joined_image(
             let Shared { image, .. } = shared;
             Ok(Ok(image))
         }
-        Err(ShareError::Displacement {
-            program,
-            line,
-            from,
-            to,
-        }) => {
+        Err(
+            ShareError::Displacement {
+                program,
+                line,
+                from,
+                to,
+            },
+        ) => {
             let reply = far_reply(alloc, program, line, from, to)?;
             Ok(Err(reply))
         }

@@ -31,7 +31,7 @@ module _ (q : Program) (requests : List ℕ) where
       × ((is_first : Bool) → task_console q requests is_first (suc n)
       ≡ task_console q requests is_first n ++ cond (is_current q requests is_first n) (sent_in q requests n) [])
   of_current n = (
-      one_more_byte q (start (memory_of q)) (bits requests n) (is_requested requests n),
-      λ is_first. next_sent q requests is_first n
-          ∙ ap (λ b. task_console q requests is_first n ++ cond b (sent_in q requests n) []) (current_in q requests is_first n),
-    )
+    one_more_byte q (start (memory_of q)) (bits requests n) (is_requested requests n),
+    λ is_first. next_sent q requests is_first n
+        ∙ ap (λ b. task_console q requests is_first n ++ cond b (sent_in q requests n) []) (current_in q requests is_first n),
+  )

@@ -38,6 +38,7 @@ const NO_OP: u32 = 0x4000_0000;
 
 /// How many code words, and data words, the first program's place has.
 const LOWER_CODE: usize = 30_000;
+
 const LOWER_DATA: usize = 32_512;
 
 /// Two linked programs in one image, the first at `LOWER` and the second at `UPPER`: for each, the addresses of its

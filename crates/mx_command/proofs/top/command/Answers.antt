@@ -81,8 +81,8 @@ returns-clause-sound g c = λ layout_of is.
 pub returns-clause-headline : goal.returns-clause-headline
 returns-clause-headline g c = λ tells undisturbed accepted.
     let told : (d : Delivered _ _ _ _ _ _ _) → Headline _ _ accepted _ _ _ =
-        delivered_is_headline (command_of (map string_bytes c.args.words.now)) (g.S.Shelf.held c.args.shelf.now) accepted scheduler.0 scheduler.1 c.finish.result
-        (g.S.Shelf.tells c.args.shelf.now) (g.W.Sink.written c.args.out.now) (g.W.Sink.written c.finish.new.out) (g.S.Shelf.held c.finish.new.shelf) in
+    delivered_is_headline (command_of (map string_bytes c.args.words.now)) (g.S.Shelf.held c.args.shelf.now) accepted scheduler.0 scheduler.1 c.finish.result
+    (g.S.Shelf.tells c.args.shelf.now) (g.W.Sink.written c.args.out.now) (g.W.Sink.written c.finish.new.out) (g.S.Shelf.held c.finish.new.shelf) in
     ⊎_elim
     (λ quiet. ⊎_elim (λ m. inl m) (λ d. inr (told d)) (returns-clause-complete g c scheduler.0 scheduler.1 tells quiet.reading quiet.writing quiet.putting))
     (λ calm. ⊎_elim
@@ -94,8 +94,8 @@ returns-clause-headline g c = λ tells undisturbed accepted.
 pub returns-clause-pair : goal.returns-clause-pair
 returns-clause-pair g c = λ tells undisturbed accepted.
     let told : (d : Delivered _ _ _ _ _ _ _) → PairHeadline _ _ accepted _ _ _ =
-        delivered_is_pair (command_of (map string_bytes c.args.words.now)) (g.S.Shelf.held c.args.shelf.now) accepted scheduler.0 scheduler.1 c.finish.result
-        (g.S.Shelf.tells c.args.shelf.now) (g.W.Sink.written c.args.out.now) (g.W.Sink.written c.finish.new.out) (g.S.Shelf.held c.finish.new.shelf) in
+    delivered_is_pair (command_of (map string_bytes c.args.words.now)) (g.S.Shelf.held c.args.shelf.now) accepted scheduler.0 scheduler.1 c.finish.result
+    (g.S.Shelf.tells c.args.shelf.now) (g.W.Sink.written c.args.out.now) (g.W.Sink.written c.finish.new.out) (g.S.Shelf.held c.finish.new.shelf) in
     ⊎_elim
     (λ quiet. ⊎_elim (λ m. inl m) (λ d. inr (told d)) (returns-clause-complete g c scheduler.0 scheduler.1 tells quiet.reading quiet.writing quiet.putting))
     (λ calm. ⊎_elim
