@@ -10,11 +10,11 @@ use mx_board::Requests;
 use mx_code::Image;
 use mx_icache::LineCache;
 use mx_io::{Memory, Shelf};
+use mx_pipe::Pipe;
 use mx_report::push_counts;
 use mx_simulate::read_requests;
 use mx_tasks::{SWITCH, SharedRun, drive_shared};
 use mx_text::{push_count, push_line};
-use mx_turn::Turns;
 use std::alloc::{AllocError, Global};
 
 // Appends the lines of a program's console.
@@ -71,7 +71,7 @@ fn simulate_shared(
 ) -> Result<Reply, Memory>
     ensures { IfOk result (λ r. reply_answer r ≡ shared_answer (shared image.now.code.items image.now.user_data.items) requests.now budget) }
 {
-    let mut machine = Turns::with(alloc, image, &SWITCH, None, LineCache::new())?;
+    let mut machine = Pipe::with(alloc, image, &SWITCH, None, LineCache::new())?;
     let run = drive_shared(alloc, &mut machine, requests, budget)?;
     let Ok(output) = text_of(alloc, &run) else {
         return Err(Memory);

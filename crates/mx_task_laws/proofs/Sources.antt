@@ -1,5 +1,5 @@
 -- Two sources that were linked into one image.
-use Rattle.std.proofs.Common.{◌≡◌, ℕ, ◌+◌, ◌*◌, ◌≤◌, List, length, None, refl, sym, subst, arith, inl}
+use Rattle.std.proofs.Common.{◌≡◌, ℕ, ◌+◌, ◌≤◌, List, length, None, refl, sym, subst, arith, inl}
 use Rattle.std.proofs.lemmas.List.{length-map}
 use Rattle.mx_isa.specs.declared.Place.{Place}
 use Rattle.mx_source.specs.SourceValue.{SourceValue}
@@ -8,8 +8,7 @@ use Rattle.mx_blocks.specs.declared.Plan.{Plan}
 use Rattle.mx_squash.specs.Copies.{Site}
 use Rattle.mx_link.specs.Words.{value_word}
 use Rattle.mx_link.specs.Linked.{link_map}
-use Rattle.mx_turn.specs.Program.{Program}
-use Rattle.mx_link_laws.specs.Runs.{Linking, IsLinking, IsLaid}
+use Rattle.mx_link_laws.specs.Runs.{Linking, IsLaid}
 use Rattle.mx_tasks.specs.Sharing.{shared}
 use Rattle.mx_tasks.specs.Places.{lower, upper}
 use Rattle.mx_tasks.specs.declared.sharing.Shared.{Shared}

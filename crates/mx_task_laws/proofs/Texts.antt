@@ -1,5 +1,5 @@
 -- Two texts that share the machine.
-use Rattle.std.proofs.Common.{◌≡◌, ℕ, ◌+◌, ◌≤◌, List, length, None, arith}
+use Rattle.std.proofs.Common.{ℕ, ◌+◌, ◌≤◌, List, arith}
 use Rattle.mx_isa.specs.declared.Place.{Place}
 use Rattle.mx_source.specs.SourceValue.{SourceValue}
 use Rattle.mx_squash.specs.Copies.{Site}
@@ -11,7 +11,7 @@ use Rattle.mx_tasks.specs.Places.{lower, upper}
 use Rattle.mx_task_laws.specs.Meant.{MeanTheirSources, shared_program}
 use Rattle.mx_task_laws.specs.Sources.{IsUnstuckAt, IsSharingText, linked_text}
 use Rattle.mx_task_laws.proofs.Meant.{means}
-use Rattle.mx_task_laws.proofs.Sources.{AreLaid, are_shared}
+use Rattle.mx_task_laws.proofs.Sources.{are_shared}
 
 laid : (place : Place) (text : List ℕ) (sites : List Site) → 256 ≤ place.user_data → place.code ≤ 34096 → IsSharingText place text sites → IsLaid (source_of place.user_data text) place sites
 laid place text sites least short is =

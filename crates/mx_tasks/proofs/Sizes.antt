@@ -1,5 +1,5 @@
 -- How many words a linked source has.
-use Rattle.std.proofs.Common.{◌≡◌, ℕ, ◌*◌, ◌≤◌, List, length, arith}
+use Rattle.std.proofs.Common.{◌*◌, ◌≤◌, List, length, arith}
 use Rattle.mx_isa.specs.declared.Place.{Place}
 use Rattle.mx_source.specs.SourceValue.{SourceValue}
 use Rattle.mx_validate.specs.Validity.{Valid}

@@ -1,4 +1,4 @@
-use Rattle.std.proofs.Common.{◌≡◌, ◌++◌, List, cond, codes, ap, ◌∙◌}
+use Rattle.std.proofs.Common.{◌++◌, codes, ap, ◌∙◌}
 use Rattle.mx_text.specs.Text.{line}
 use Rattle.mx_report.specs.Report.{counts_text}
 use Rattle.mx_sharing.specs.Runs.{console_of, shared_text}
