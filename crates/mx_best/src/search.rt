@@ -129,7 +129,7 @@ fn is_followed(block: &Block, behind: &[Item], k: usize) -> bool
 {
     let count = block.insts.len();
     for y in k + 1..count {
-        if !are_independent(block, k, y) && !stands(behind, y) {
+        if !stands(behind, y) && !are_independent(block, k, y) {
             return false;
         }
     }

@@ -1,0 +1,7 @@
+; Prints `a`, `b` and so on, and begins again after `z`: the first of two programs that print in turns, with pong.s.
+begin: addi r0,#97,r1
+addi r0,#123,r2
+next: st 255[r0],r1
+addi r1,#1,r1
+bne r1,r2,next
+b begin
