@@ -14,8 +14,8 @@ use mx_code::Image;
 use mx_debug::{Ending, stops};
 use mx_icache::LineCache;
 use mx_io::{Memory, Shelf};
+use mx_pipe::Pipe;
 use mx_simulate::{RunFiles, read_input, read_requests};
-use mx_turn::Turns;
 use std::alloc::Global;
 
 /// What is asked of a session: after how many stops it ends, which data word is watched, and how many cycles it may take.
@@ -58,7 +58,7 @@ fn debug(
     requires asked { IsAsked limits.now }
     ensures { IfOk result (λ r. reply_answer r ≡ image_answer image.now.code.items image.now.user_data.items (option_copied input.entry) requests.now address limits.now) }
 {
-    let mut machine = Turns::new(alloc, image, input, LineCache::new())?;
+    let mut machine = Pipe::new(alloc, image, input, LineCache::new())?;
     let stopped = stops(
         alloc,
         &mut machine,
