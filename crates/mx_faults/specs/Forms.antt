@@ -1,7 +1,7 @@
 -- The forms of a statement, and what stands in the places of its operands.
-use Rattle.std.specs.Prelude.{ℕ, Bool, true, false, ◌&&◌, not, is_none, List, [], ◌∷◌, zip, Option, Some, None, if◌then◌else◌}
+use Rattle.std.specs.Prelude.{ℕ, Bool, true, false, ◌&&◌, not, is_none, List, [], ◌∷◌, zip, Option, Some, if◌then◌else◌}
 use Rattle.mx_isa.specs.declared.inst.Special.{Special}
-use Rattle.mx_isa.specs.declared.inst.Special.TheVariants.{Md, Pc1, Pc2, Pc3}
+use Rattle.mx_isa.specs.declared.inst.Special.TheVariants.{Pc1, Pc2, Pc3}
 use Rattle.mx_asm.specs.declared.position.Section.{Section}
 use Rattle.mx_asm.specs.declared.position.Section.TheVariants as section
 use Rattle.mx_asm.specs.declared.directive.Directive.{Directive}

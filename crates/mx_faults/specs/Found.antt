@@ -1,12 +1,11 @@
 -- The faulty lines of a text, and what it means that a fault is the least.
-use Rattle.std.specs.Prelude.{◌≡◌, ℕ, ◌+◌, ◌<◌, ◌≤◌, Bool, true, false, List, [], ◌∷◌, length, take, get_or, filter_map, option_map, Option, Some, None}
+use Rattle.std.specs.Prelude.{◌≡◌, ℕ, ◌+◌, ◌<◌, true, false, List, [], ◌∷◌, length, take, get_or, filter_map, option_map, Option, Some, None}
 use Rattle.std.specs.List.{range_with_len}
 use Rattle.mx_lex.specs.Lines.{lines_of}
 use Rattle.mx_asm.specs.declared.fault.Fault.{Fault}
 use Rattle.mx_asm.specs.declared.fault.Fault.TheVariants as faults
-use Rattle.mx_asm.specs.declared.position.Position.{Position}
 use Rattle.mx_asm.specs.Positions.{start, position_at_end, labels_from}
-use Rattle.mx_asm.specs.Texts.{text_labels, text_fault}
+use Rattle.mx_asm.specs.Texts.{text_labels}
 use Rattle.mx_asm.specs.Faults.{line_fault}
 use Rattle.mx_faults.specs.declared.line_fault.LineFault.{LineFault}
 use Rattle.mx_faults.specs.Holding.{LineInText, line_at, holds, least_of}

@@ -12,7 +12,7 @@ use Rattle.mx_asm.specs.declared.fault.Fault.TheVariants as faults
 use Rattle.mx_asm.specs.Directives.{is_dotted}
 use Rattle.mx_asm.specs.Faults.{is_data}
 use Rattle.mx_asm.specs.Positions.{front_names, line_words, has_label}
-use Rattle.mx_faults.specs.Forms.{Form, Empty, Nameless, AnInstruction, ADirective, form, shape, directive_shape, has_shape, operands, is_no_register, is_outside, is_undefined, is_wrong_kind, moves_chain}
+use Rattle.mx_faults.specs.Forms.{Form, Nameless, AnInstruction, ADirective, form, shape, directive_shape, has_shape, operands, is_no_register, is_outside, is_undefined, is_wrong_kind, moves_chain}
 use Rattle.mx_faults.specs.Before.{statement, section_behind, front_labels, defines, kind_in, has_twice, instructions, data_words}
 
 -- a line within the text whose data words stand from one address to before another
