@@ -1,5 +1,5 @@
 //! The lines of a text.
-ghost use Rattle.std.specs.Prelude.{◌≡◌, ◌+◌, ◌≤◌, length, drop, vec_len, IfOk};
+ghost use Rattle.std.specs.Prelude.{◌≡◌, ◌+◌, ◌≤◌, ◌<◌, ◌∷◌, length, drop, vec_len, IfOk};
 ghost use Rattle.mx_lex.specs.Lines;
 ghost use Rattle.mx_asm.specs.Words.{texts};
 
@@ -18,6 +18,16 @@ pub fn lines_of(alloc: Global, text: &[u8]) -> Result<Vec<&[u8]>, AllocError>
         rest = behind(rest, end);
     }
     Ok(lines)
+}
+
+/// The first line of a text, without its line end, and what stands behind it.
+pub(crate) fn split_line(text: &[u8]) -> (&[u8], &[u8])
+    requires { 0 < length text.now }
+    ensures lines { Lines.lines_of text.entry.now ≡ result.0.now ∷ Lines.lines_of result.1.now }
+    ensures shorter { length result.1.now < length text.entry.now }
+{
+    let end = line_end(text);
+    (without_return(&text[..end]), behind(text, end))
 }
 
 /// How many bytes stand before the first LF.
