@@ -44,9 +44,10 @@ pub fn read_lines(
     let mut listing = Listing::new(alloc);
     let mut position = from;
     let mut number = 1u32;
+    let mut words = Vec::new(alloc);
     for line in lines {
         let again = is_line(repeated, number);
-        let read = match read_line(alloc, labels, end, &position, again, line) {
+        let read = match read_line(alloc, &mut words, labels, end, &position, again, line) {
             Ok(read) => read,
             Err(error) => return Err(refusal(number, error)),
         };
@@ -77,11 +78,12 @@ fn read_text(
     let mut listing = Listing::new(alloc);
     let mut position = from;
     let mut number = 1u32;
+    let mut words = Vec::new(alloc);
     let mut rest = text;
     while !rest.is_empty() {
         let (line, behind) = split_line(rest);
         let again = is_line(repeated, number);
-        let read = match read_line(alloc, labels, end, &position, again, line) {
+        let read = match read_line(alloc, &mut words, labels, end, &position, again, line) {
             Ok(read) => read,
             Err(error) => return Err(refusal(number, error)),
         };

@@ -1,5 +1,5 @@
 //! The labels of a text.
-ghost use Rattle.std.specs.Prelude.{◌≡◌, ◌+◌, ◌^◌, ◌≤◌, ◌<◌, [], map, length, IfOk};
+ghost use Rattle.std.specs.Prelude.{◌≡◌, ◌+◌, ◌^◌, ◌≤◌, ◌<◌, [], map, length, IfOk, OnOk};
 ghost use Rattle.mx_lex.specs.Lines.{lines_of};
 ghost use Rattle.mx_source.specs.Names.{named_labels};
 ghost use Rattle.mx_asm.specs.Faults.{first_repeat};
@@ -14,7 +14,7 @@ use crate::front::{define_front, statement_words};
 use crate::labels::Labels;
 use crate::lines::split_line;
 use crate::position::Position;
-use crate::word::{Word, words_of};
+use crate::word::{Word, read_words};
 use indexmap::IndexMap;
 use mx_source::{Label, Name};
 use std::alloc::{AllocError, Global};
@@ -85,10 +85,11 @@ pub(crate) fn define_text<'a>(
     let mut repeated = None;
     let mut position = from;
     let mut number = 1u32;
+    let mut words = Vec::new(alloc);
     let mut rest = text;
     while !rest.is_empty() {
         let (line, behind) = split_line(rest);
-        let words = line_words(alloc, line)?;
+        words_or_none(&mut words, line)?;
         let label = position.label();
         let again = define_front(alloc, &mut labels, &mut named, label, &words)?;
         repeated = first_line(repeated, again, number);
@@ -108,9 +109,21 @@ pub(crate) fn define_text<'a>(
 pub fn line_words(alloc: Global, line: &[u8]) -> Result<Vec<Word<'_>>, AllocError>
     ensures { IfOk result (λ v. map word v.items ≡ Positions.line_words line.now) }
 {
-    match words_of(alloc, line) {
-        Ok(words) => Ok(words),
-        Err(LineError::Fault(_)) => Ok(Vec::new(alloc)),
+    let mut words = Vec::new(alloc);
+    words_or_none(&mut words, line)?;
+    Ok(words)
+}
+
+/// The words of a line in the place of those before, none where it does not split into tokens.
+fn words_or_none<'a>(words: &mut Vec<Word<'a>>, line: &'a [u8]) -> Result<(), AllocError>
+    ensures { OnOk result (map word words.new.items ≡ Positions.line_words line.entry.now) }
+{
+    match read_words(words, line) {
+        Ok(()) => Ok(()),
+        Err(LineError::Fault(_)) => {
+            words.clear();
+            Ok(())
+        }
         Err(LineError::Memory) => Err(AllocError),
     }
 }

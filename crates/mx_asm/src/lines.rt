@@ -3,6 +3,7 @@ ghost use Rattle.std.specs.Prelude.{◌≡◌, ◌+◌, ◌≤◌, ◌<◌, ◌�
 ghost use Rattle.mx_lex.specs.Lines;
 ghost use Rattle.mx_asm.specs.Words.{texts};
 
+use memchr::memchr;
 use std::alloc::{AllocError, Global};
 
 /// The lines of a text, each without its line end.
@@ -35,11 +36,10 @@ fn line_end(text: &[u8]) -> usize
     ensures end { result ≡ Lines.line_len text.now }
     ensures within { result ≤ length text.now }
 {
-    let mut end = 0;
-    while end < text.len() && text[end] != b'\n' {
-        end += 1;
+    match memchr(b'\n', text) {
+        Some(end) => end,
+        None => text.len(),
     }
-    end
 }
 
 /// What stands behind the LF of a line.
