@@ -1,3 +1,4 @@
+pub mod Clean
 pub mod Copies
 pub mod Counts
 pub mod Fits

@@ -1,7 +1,8 @@
 //! The words of a line.
-ghost use Rattle.std.specs.Prelude.{◌≡◌, ◌≤◌, length, map};
+ghost use Rattle.std.specs.Prelude.{◌≡◌, ◌≤◌, length, map, if◌then◌else◌};
 ghost use Rattle.mx_lex.specs.Bytes;
 ghost use Rattle.mx_lex.specs.Tokens;
+ghost use Rattle.mx_asm.specs.declared.fault.Fault.TheVariants.{BadByte, BadToken};
 ghost use Rattle.mx_asm.specs.Reading.{Gives};
 ghost use Rattle.mx_asm.specs.Words;
 ghost use Rattle.mx_asm.specs.Shapes.{word};
@@ -38,18 +39,26 @@ pub fn read_words<'a>(words: &mut Vec<Word<'a>>, line: &'a [u8]) -> Result<(), L
     ensures { Gives (λ _. map word words.new.items) result (Words.words_of line.entry.now) }
 {
     words.clear();
-    if has_bad_byte(line) {
-        return Err(LineError::Fault(Fault::BadByte));
-    }
     let mut lexer = Lexer::new(line);
     'tokens: loop {
         let Ok(token) = lexer.next() else {
-            return Err(LineError::Fault(Fault::BadToken));
+            return Err(LineError::Fault(token_fault(line)));
         };
         if is_end(&token.kind) {
             return Ok(());
         }
         words.push(word_at(line, &token))?;
+    }
+}
+
+/// The fault of a line that does not split into tokens.
+fn token_fault(line: &[u8]) -> Fault
+    ensures { result ≡ if Words.has_bad_byte line.now then BadByte else BadToken }
+{
+    if has_bad_byte(line) {
+        Fault::BadByte
+    } else {
+        Fault::BadToken
     }
 }
 
