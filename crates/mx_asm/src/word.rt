@@ -24,21 +24,30 @@ pub enum Word<'a> {
 }
 
 /// The words of a line, or why there are none.
-#[tactic(auto, unfolding(crate::specs::Words::words_of))]
 pub fn words_of(alloc: Global, line: &[u8]) -> Result<Vec<Word<'_>>, LineError>
     ensures { Gives (λ v. map word v.items) result (Words.words_of line.now) }
 {
+    let mut words = Vec::new(alloc);
+    read_words(&mut words, line)?;
+    Ok(words)
+}
+
+/// The words of a line in the place of those before, or why there are none.
+#[tactic(auto, unfolding(crate::specs::Words::words_of))]
+pub fn read_words<'a>(words: &mut Vec<Word<'a>>, line: &'a [u8]) -> Result<(), LineError>
+    ensures { Gives (λ _. map word words.new.items) result (Words.words_of line.entry.now) }
+{
+    words.clear();
     if has_bad_byte(line) {
         return Err(LineError::Fault(Fault::BadByte));
     }
-    let mut words = Vec::new(alloc);
     let mut lexer = Lexer::new(line);
     'tokens: loop {
         let Ok(token) = lexer.next() else {
             return Err(LineError::Fault(Fault::BadToken));
         };
         if is_end(&token.kind) {
-            return Ok(words);
+            return Ok(());
         }
         words.push(word_at(line, &token))?;
     }

@@ -4,13 +4,13 @@ use Rattle.mx_lex.specs.Tokens.{next_token}
 use Rattle.mx_lex.specs.Reading.{IsSpan}
 use Rattle.mx_asm.specs.Shapes.{word}
 use Rattle.mx_asm.proofs.LineWords.{Reads, reads_none, reads_push, reads_end, reads_fault, no_bad_byte, not_end}
-use Rattle.mx_asm.proofs.word.words_of.Goals as goal
+use Rattle.mx_asm.proofs.word.read_words.Goals as goal
 
 pub tokens-init : goal.tokens-init
 tokens-init c = record {
   line = ap (λ r. r.line) c.new-lexer.ensures;
   reads =
-      subst (λ ws. Reads c.args.line.now ws c.new-lexer.result.at) (ap (map word) (sym c.new-words.ensures.items))
+      subst (λ ws. Reads c.args.line.now ws c.new-lexer.result.at) (ap (map word) (sym c.clear.ensures.items))
       (subst (Reads c.args.line.now []) (ap (λ r. r.at) (sym c.new-lexer.ensures)) (reads_none c.args.line.now));
 }
 
