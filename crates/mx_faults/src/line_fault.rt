@@ -3,7 +3,7 @@
 use mx_asm::Fault;
 
 /// A faulty line, counted from 1, with its least fault, and the bytes of the line that show it: where they start and
-/// how many they are. There are 0 where no one token shows it.
+/// how many they are. No token is looked for yet, so there are 0 of them.
 #[derive(Clone, Copy, Debug, PartialEq, Eq)]
 pub struct LineFault {
     pub line: u32,
