@@ -6,3 +6,4 @@ pub mod Writing
 pub mod Sharing
 pub mod Pairs
 pub mod Stops
+pub mod Joins

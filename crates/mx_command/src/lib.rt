@@ -4,6 +4,7 @@
 mod debugged;
 mod files;
 mod images;
+mod joined;
 mod reply;
 mod shared;
 mod sourced;
