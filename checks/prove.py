@@ -3,24 +3,25 @@
 
 usage: checks/prove.py CRATE LOG
 
-What rt prints goes to the file LOG. Standard error tells each crate as it begins, and how long it took. The exit
-status is 0 where all are proved, and 1 after the first that is not.
+Only one rt works in a crate at a time, and it holds the crates below too. So a single one, `rt all`, proves a copy of just these
+crates, which has the folders out/ of the repository's own as long as it lasts. What rt prints goes to the file LOG. Standard
+error tells each crate that is done. The exit status is 0 where all are proved, else 1.
 """
 import os
+import shutil
 import subprocess
 import sys
+import tempfile
 import time
-from concurrent.futures import FIRST_COMPLETED, ThreadPoolExecutor, wait
 
 TOP = os.path.dirname(os.path.dirname(os.path.abspath(__file__)))
 
 
 def read_crates():
-    """Returns for each crate of crates.txt the crates of the repository that it names."""
+    """Returns for each crate of crates.txt its line, and the crates of the repository that it names."""
     with open(f"{TOP}/crates.txt", encoding="utf-8") as lines:
-        rows = [line.split("#")[0].split(":") for line in lines if ":" in line.split("#")[0]]
-    named = {row[0].split()[0]: row[1].split() for row in rows}
-    return {crate: [it for it in below if it in named] for crate, below in named.items()}
+        rows = {line.split(":")[0].split()[0]: line for line in lines if ":" in line.split("#")[0]}
+    return rows, {crate: [it for it in line.split(":")[1].split() if it in rows] for crate, line in rows.items()}
 
 
 def crates_below(crate, named):
@@ -32,43 +33,51 @@ def crates_below(crate, named):
         if it not in found:
             found.add(it)
             left += named[it]
-    return found
+    return sorted(found)
 
 
-def text_length(crate):
-    """Returns how much text a check of the crate reads: the longer ones begin first."""
-    folders = [f"{TOP}/crates/{crate}/{part}" for part in ("src", "specs", "proofs")]
-    return sum(os.path.getsize(f"{at}/{name}") for top in folders for at, _, names in os.walk(top) for name in names)
+def move_out(crates, source, target):
+    """Moves what was proved of the crates from one copy of them to another."""
+    for it in crates:
+        if os.path.isdir(f"{source}/crates/{it}/out"):
+            shutil.rmtree(f"{target}/crates/{it}/out", ignore_errors=True)
+            shutil.move(f"{source}/crates/{it}/out", f"{target}/crates/{it}/out")
 
 
-def prove(crate, log):
-    began = time.monotonic()
-    with open(log, "ab") as out:
-        status = subprocess.call(["rt", "lib"], cwd=f"{TOP}/crates/{crate}", stdout=out, stderr=out, stdin=subprocess.DEVNULL)
-    return crate, status, time.monotonic() - began
+def prove(folder, whole, log):
+    """Proves all crates of the folder, and tells each that is done."""
+    # (a crate that waits for another one holds a place)
+    places = (os.cpu_count() or 1) + 2
+    began, done = time.monotonic(), 0
+    with subprocess.Popen(["rt", "all", "check", "--jobs", str(places)], cwd=folder, stdin=subprocess.DEVNULL,
+                          stdout=subprocess.PIPE, stderr=subprocess.STDOUT, text=True, errors="replace") as run:
+        for line in run.stdout:
+            log.write(line)
+            if line.startswith("== "):
+                done += 1
+                print(f"mx: {line[3:].strip()} is done, {done} of {whole}, after {time.monotonic() - began:.0f} s", file=sys.stderr, flush=True)
+    return run.returncode
 
 
-def main(crate, log):
-    named = read_crates()
-    left = crates_below(crate, named)
-    whole = len(left)
-    done, running = set(), set()
-    with ThreadPoolExecutor(max_workers=os.cpu_count() or 1) as workers:
-        while left or running:
-            ready = sorted((it for it in left if done.issuperset(named[it])), key=text_length, reverse=True)
-            for it in ready[: (os.cpu_count() or 1) - len(running)]:
-                print(f"mx: proving {it}", file=sys.stderr, flush=True)
-                left.remove(it)
-                running.add(workers.submit(prove, it, log))
-            ended, running = wait(running, return_when=FIRST_COMPLETED)
-            for it in ended:
-                name, status, seconds = it.result()
-                if status != 0:
-                    print(f"mx: {name} is not proved", file=sys.stderr, flush=True)
-                    return 1
-                done.add(name)
-                print(f"mx: {name} is proved, {len(done)} of {whole}, in {seconds:.0f} s", file=sys.stderr, flush=True)
-    return 0
+def main(crate, log_name):
+    rows, named = read_crates()
+    below = crates_below(crate, named)
+    # on the same disk as the repository, where that has a folder that nothing else reads
+    room = f"{TOP}/.git" if os.path.isdir(f"{TOP}/.git") else None
+    folder = tempfile.mkdtemp(prefix="mx-prove-", dir=room)
+    try:
+        with open(f"{folder}/crates.txt", "w", encoding="utf-8") as it:
+            it.writelines(rows[name] for name in below)
+        shutil.copy(f"{TOP}/HANDLES", folder)
+        for name in below:
+            shutil.copytree(f"{TOP}/crates/{name}", f"{folder}/crates/{name}", ignore=shutil.ignore_patterns("out"))
+        move_out(below, TOP, folder)
+        print(f"mx: {len(below)} crates stand below {crate}", file=sys.stderr, flush=True)
+        with open(log_name, "a", encoding="utf-8") as log:
+            return 1 if prove(folder, len(below), log) else 0
+    finally:
+        move_out(below, folder, TOP)
+        shutil.rmtree(folder, ignore_errors=True)
 
 
 if __name__ == "__main__":

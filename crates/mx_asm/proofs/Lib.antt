@@ -1,6 +1,8 @@
+pub mod Clean
 pub mod Copies
 pub mod Counts
 pub mod Fits
+pub mod LineEnds
 pub mod LineWords
 pub mod Fronts
 pub mod LabelBounds

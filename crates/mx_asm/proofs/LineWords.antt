@@ -1,5 +1,5 @@
 -- A loop that reads the words of a line.
-use Rattle.std.proofs.Common.{◌≡◌, ℕ, suc, ◌+◌, ◌-◌, ◌≤◌, ◌<◌, List, [], ◌∷◌, ◌++◌, length, map, Result, Ok, Err, false, refl, ap, sym, ◌∙◌, append_assoc, length-append, arith, true, ◌≢◌, subst, true≢false}
+use Rattle.std.proofs.Common.{◌≡◌, ℕ, suc, ◌+◌, ◌-◌, ◌≤◌, ◌<◌, List, [], ◌∷◌, ◌++◌, length, map, Result, Ok, Err, Bool, cond, false, refl, ap, sym, ◌∙◌, append_assoc, length-append, arith, true, ◌≢◌, subst, true≢false}
 use Rattle.mx_lex.specs.Tokens.{next_token, tokens_within, tokens_of, before, is_end}
 use Rattle.mx_lex.specs.Reading.{IsSpan}
 use Rattle.mx_lex.specs.declared.token.Kind.{Kind}
@@ -7,7 +7,7 @@ use Rattle.mx_lex.specs.declared.token.Kind.TheVariants.{End}
 use Rattle.mx_lex.specs.declared.token.Token.{Token}
 use Rattle.mx_lex.specs.declared.token.LexFault.{LexFault}
 use Rattle.mx_asm.specs.declared.fault.Fault.{Fault}
-use Rattle.mx_asm.specs.declared.fault.Fault.TheVariants.{BadToken}
+use Rattle.mx_asm.specs.declared.fault.Fault.TheVariants.{BadByte, BadToken}
 use Rattle.std.proofs.lemmas.List.{append-nil}
 use Rattle.mx_asm.specs.Words.{Word, word_at, words_at, words_of, has_bad_byte}
 
@@ -92,6 +92,15 @@ not_end kind goes p = true≢false (sym (ap is_end p) ∙ goes)
 pub no_bad_byte : (line : List ℕ) → has_bad_byte line ≡ false → words_of line ≡ words_at line (tokens_of line)
 unfolding words_of
 no_bad_byte line h = rw h refl
+
+no_words : (bad : Bool) (read : Result (List Word) Fault) → read ≡ Err BadToken → cond bad (Err BadByte) read ≡ Err (cond bad BadByte BadToken)
+no_words true read h = refl
+no_words false read h = h
+
+-- a line that does not split into tokens has one of two faults
+pub splits_not : (line : List ℕ) → words_at line (tokens_of line) ≡ Err BadToken → words_of line ≡ Err (cond (has_bad_byte line) BadByte BadToken)
+unfolding words_of
+splits_not line h = no_words (has_bad_byte line) (words_at line (tokens_of line)) h
 
 -- the loop's step, where the token and its word have names of their own
 pub reads_push : (line : List ℕ) (front front' : List Word) (at at' : ℕ) (t : Token) (w : Word) → Reads line front at → next_token line at ≡ Ok t → is_end t.kind ≡ false

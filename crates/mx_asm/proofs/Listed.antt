@@ -15,7 +15,8 @@ use Rattle.mx_asm.specs.Instructions.{Labels}
 use Rattle.mx_asm.specs.Fitting.{LabelsFit}
 use Rattle.mx_asm.specs.Directives.{Effect, Nothing, Instruction, Data, Input, effect_of}
 use Rattle.mx_asm.specs.Effects.{EffectFits, first_input, IsFaultOf}
-use Rattle.mx_asm.specs.Listings.{IsRefusal, refusal}
+use Rattle.mx_asm.specs.declared.listing.Listing.{Listing}
+use Rattle.mx_asm.specs.Listings.{IsListingOf, IsRefusal, refusal}
 use Rattle.mx_asm.specs.declared.fault.LineError.{LineError}
 use Rattle.mx_asm.specs.declared.fault.LineError.TheVariants as errors
 use Rattle.mx_asm.specs.Positions.{line_words, statement_words, after, behind, with_labels, position_at_end, instruction_count, word_count}
@@ -201,4 +202,26 @@ listed_none labels end from all repeated h room le = record {
   within = le;
   statements_fit = λ count fit. All-nil (StatementFits (IsPlace labels count));
   values_fit = λ count fit. All-nil (ValueFits (IsPlace labels count));
+}
+
+no_later_input : (input : Option ℕ) → first_input input None ≡ input
+no_later_input (Some line) = refl
+no_later_input None = refl
+
+-- a listing to which no line is left to add is that of all lines
+pub listed_all : (labels : Labels) (end : ℕ) (from : Position) (all : List (List ℕ)) (repeated : Option ℕ) (l : Listing) (p : Position) (number : ℕ)
+    → Listed labels end from all repeated l.statements.items l.lines.items l.user_data.items l.input p number [] → IsListingOf labels end from all l
+listed_all labels end from all repeated l p number h = record {
+  faultless = sym h.fault;
+  statements = sym (append-nil l.statements.items) ∙ h.statements;
+  lines = sym (append-nil l.lines.items) ∙ h.lines;
+  user_data = sym (append-nil l.user_data.items) ∙ h.values;
+  input = sym (no_later_input l.input) ∙ h.inputs;
+  count = h.count ∙ ap (λ (q : Position). q.index) h.last;
+  each = h.each;
+  words = h.words ∙ ap (λ (q : Position). q.address) h.last;
+  few = subst (λ (q : Position). q.index ≤ 20000) h.last h.few;
+  within = subst (λ (q : Position). q.address ≤ end) h.last h.within;
+  statements_fit = h.statements_fit;
+  values_fit = h.values_fit;
 }

@@ -35,3 +35,17 @@ pub lines_end : (done : List (Bor (List ℕ))) (rest text : List ℕ) → length
 unfolding lines_of
 lines_end done [] text h same = sym (append-nil (texts done)) ∙ same
 lines_end done (b ∷ rest) text h same = absurd (omega (arith, h))
+
+-- the first line of a text that is not empty, and the lines behind it
+pub first_line : (text line rest : List ℕ) → 0 < length text → line ≡ without_return (take (line_len text) text) → rest ≡ drop (line_len text + 1) text → lines_of text ≡ line ∷ lines_of rest
+unfolding lines_of
+first_line text line rest some here left =
+    ap (map without_return) (first_piece text some)
+    ∙ ap (λ l. l ∷ map without_return (pieces (drop (line_len text + 1) text))) (sym here)
+    ∙ ap (λ r. line ∷ map without_return (pieces r)) (sym left)
+
+-- no bytes have no lines
+pub no_lines : (text : List ℕ) → length text ≡ 0 → lines_of text ≡ []
+unfolding lines_of
+no_lines [] h = refl
+no_lines (b ∷ text) h = absurd (omega (arith, h))

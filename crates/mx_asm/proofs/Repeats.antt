@@ -1,5 +1,5 @@
 -- The first line that defines a label again.
-use Rattle.std.proofs.Common.{◌≡◌, ℕ, ◌+◌, ◌<◌, List, length, drop, get_or, Bool, true, false, cond, Option, Some, None, Bor, refl, ap, sym, ◌∙◌}
+use Rattle.std.proofs.Common.{◌≡◌, ℕ, ◌+◌, ◌<◌, List, ◌∷◌, length, drop, get_or, Bool, true, false, cond, Option, Some, None, Bor, refl, ap, sym, ◌∙◌}
 use Rattle.std.proofs.lemmas.List.{at_drop_more}
 use Rattle.mx_asm.specs.declared.position.Position.{Position}
 use Rattle.mx_asm.specs.Words.{texts}
@@ -34,3 +34,14 @@ repeat_step lines i d p labels found number lt =
     ap (or_later found) (at_drop_more (λ ls. first_repeat p labels number (texts ls)) lines i d lt)
     ∙ sym (earlier_or_later found (repeats p labels (line_words (get_or lines i d).now)) number
     (first_repeat (after p (line_words (get_or lines i d).now)) (with_labels p labels (line_words (get_or lines i d).now)) (number + 1) (texts (drop (i + 1) lines))))
+
+-- the same of a line and the lines behind it
+pub repeat_next : (line : List ℕ) (lines : List (List ℕ)) (p : Position) (labels : Labels) (found : Option ℕ) (number : ℕ)
+    → or_later (earlier_line found (repeats p labels (line_words line)) number) (first_repeat (after p (line_words line)) (with_labels p labels (line_words line)) (number + 1) lines)
+    ≡ or_later found (first_repeat p labels number (line ∷ lines))
+repeat_next line lines p labels found number =
+    earlier_or_later found (repeats p labels (line_words line)) number (first_repeat (after p (line_words line)) (with_labels p labels (line_words line)) (number + 1) lines)
+
+pub none_later : (found : Option ℕ) → or_later found None ≡ found
+none_later (Some line) = refl
+none_later None = refl

@@ -1,5 +1,6 @@
 //! The assembler.
 ghost use Rattle.std.specs.Prelude.{◌≡◌, ◌≤◌, [], length, IfOk, IfErr};
+ghost use Rattle.mx_lex.specs.Lines.{lines_of};
 ghost use Rattle.mx_asm.specs.Faults.{first_fault, first_repeat};
 ghost use Rattle.mx_asm.specs.Faults;
 ghost use Rattle.mx_asm.specs.Listings;
@@ -10,11 +11,11 @@ ghost use Rattle.mx_asm.specs.Words.{texts};
 ghost use Rattle.mx_source.specs.Names.{named_labels};
 ghost use Rattle.mx_source.specs.SourceValue.{IsSource, source_of};
 
-use crate::definitions::{Definitions, define_all};
+use crate::definitions::{Definitions, define_text};
 use crate::fault::{AsmError, LineError};
 use crate::labels::Labels;
 use crate::line::read_line;
-use crate::lines::lines_of;
+use crate::lines::split_line;
 use crate::listing::{Listing, add};
 use crate::position::Position;
 use indexmap::IndexMap;
@@ -43,15 +44,53 @@ pub fn read_lines(
     let mut listing = Listing::new(alloc);
     let mut position = from;
     let mut number = 1u32;
+    let mut words = Vec::new(alloc);
     for line in lines {
         let again = is_line(repeated, number);
-        let read = match read_line(alloc, labels, end, &position, again, line) {
+        let read = match read_line(alloc, &mut words, labels, end, &position, again, line) {
             Ok(read) => read,
             Err(error) => return Err(refusal(number, error)),
         };
         position = read.next;
         add(&mut listing, number, read.effect)?;
         number += 1;
+    }
+    Ok(listing)
+}
+
+/// What the lines of a text do from a position on, or the first faulty one.
+fn read_text(
+    alloc: Global,
+    labels: &Labels,
+    repeated: Option<u32>,
+    text: &[u8],
+    from: Position,
+    end: u32,
+) -> Result<Listing, AsmError>
+    requires short { length text.now ≤ 4194304 }
+    requires room { from.index ≤ 20000 }
+    requires order { from.address ≤ end }
+    requires within { end ≤ 65536 }
+    requires repeated { first_repeat from [] 1 (lines_of text.now) ≡ repeated }
+    ensures read { IfOk result (IsListingOf labels.now end from (lines_of text.now)) }
+    ensures refused { IfErr result (IsRefusal (first_fault labels.now end from [] 1 (lines_of text.now))) }
+{
+    let mut listing = Listing::new(alloc);
+    let mut position = from;
+    let mut number = 1u32;
+    let mut words = Vec::new(alloc);
+    let mut rest = text;
+    while !rest.is_empty() {
+        let (line, behind) = split_line(rest);
+        let again = is_line(repeated, number);
+        let read = match read_line(alloc, &mut words, labels, end, &position, again, line) {
+            Ok(read) => read,
+            Err(error) => return Err(refusal(number, error)),
+        };
+        position = read.next;
+        add(&mut listing, number, read.effect)?;
+        number += 1;
+        rest = behind;
     }
     Ok(listing)
 }
@@ -105,15 +144,14 @@ pub fn assemble_at(alloc: Global, text: &[u8], user_data: u32, end: u32) -> Resu
     ensures source { IfOk result (ReadsAs user_data end text.now) }
     ensures refused { IfErr result (IsRefusal (text_fault user_data end text.now)) }
 {
-    let lines = lines_of(alloc, text)?;
     let start = Position::start(user_data);
     let Definitions {
         labels,
         named,
         repeated,
         last: _,
-    } = define_all(alloc, &lines, start)?;
-    match read_lines(alloc, &labels, repeated, &lines, start, end) {
+    } = define_text(alloc, text, start)?;
+    match read_text(alloc, &labels, repeated, text, start, end) {
         Ok(listing) => Ok(listed_source(listing, named)),
         Err(error) => Err(error),
     }

@@ -1,5 +1,6 @@
 //! The labels of a text.
-ghost use Rattle.std.specs.Prelude.{◌≡◌, ◌+◌, ◌^◌, ◌≤◌, ◌<◌, [], map, length, IfOk};
+ghost use Rattle.std.specs.Prelude.{◌≡◌, ◌+◌, ◌^◌, ◌≤◌, ◌<◌, [], map, length, IfOk, OnOk};
+ghost use Rattle.mx_lex.specs.Lines.{lines_of};
 ghost use Rattle.mx_source.specs.Names.{named_labels};
 ghost use Rattle.mx_asm.specs.Faults.{first_repeat};
 ghost use Rattle.mx_asm.specs.Faults;
@@ -11,8 +12,9 @@ ghost use Rattle.mx_asm.specs.Words.{texts};
 use crate::fault::LineError;
 use crate::front::{define_front, statement_words};
 use crate::labels::Labels;
+use crate::lines::split_line;
 use crate::position::Position;
-use crate::word::{Word, words_of};
+use crate::word::{Word, read_words};
 use indexmap::IndexMap;
 use mx_source::{Label, Name};
 use std::alloc::{AllocError, Global};
@@ -65,13 +67,63 @@ pub fn define_all<'a>(
     })
 }
 
+/// The definitions of a text that begins at a position, whatever is wrong with it.
+pub(crate) fn define_text<'a>(
+    alloc: Global,
+    text: &'a [u8],
+    from: Position,
+) -> Result<Definitions<'a>, AllocError>
+    requires short { length text.now ≤ 4194304 }
+    requires room { from.index + length text.now < 2 ^ 32 }
+    requires near { from.address ≤ 65537 }
+    ensures labels { IfOk result (λ d. d.labels ≡ labels_from from [] (lines_of text.entry.now)) }
+    ensures named { IfOk result (λ d. named_labels d.named.entries ≡ d.labels) }
+    ensures repeated { IfOk result (λ d. d.repeated ≡ first_repeat from [] 1 (lines_of text.entry.now)) }
+{
+    let mut labels = Labels::new(alloc);
+    let mut named = IndexMap::new(alloc);
+    let mut repeated = None;
+    let mut position = from;
+    let mut number = 1u32;
+    let mut words = Vec::new(alloc);
+    let mut rest = text;
+    while !rest.is_empty() {
+        let (line, behind) = split_line(rest);
+        words_or_none(&mut words, line)?;
+        let label = position.label();
+        let again = define_front(alloc, &mut labels, &mut named, label, &words)?;
+        repeated = first_line(repeated, again, number);
+        position = position.after(statement_words(&words));
+        number += 1;
+        rest = behind;
+    }
+    Ok(Definitions {
+        labels,
+        named,
+        repeated,
+        last: position,
+    })
+}
+
 /// The words of a line, none where it does not split into tokens.
 pub fn line_words(alloc: Global, line: &[u8]) -> Result<Vec<Word<'_>>, AllocError>
     ensures { IfOk result (λ v. map word v.items ≡ Positions.line_words line.now) }
 {
-    match words_of(alloc, line) {
-        Ok(words) => Ok(words),
-        Err(LineError::Fault(_)) => Ok(Vec::new(alloc)),
+    let mut words = Vec::new(alloc);
+    words_or_none(&mut words, line)?;
+    Ok(words)
+}
+
+/// The words of a line in the place of those before, none where it does not split into tokens.
+fn words_or_none<'a>(words: &mut Vec<Word<'a>>, line: &'a [u8]) -> Result<(), AllocError>
+    ensures { OnOk result (map word words.new.items ≡ Positions.line_words line.entry.now) }
+{
+    match read_words(words, line) {
+        Ok(()) => Ok(()),
+        Err(LineError::Fault(_)) => {
+            words.clear();
+            Ok(())
+        }
         Err(LineError::Memory) => Err(AllocError),
     }
 }

@@ -14,7 +14,7 @@ use crate::fault::{Fault, LineError};
 use crate::front::{has_dotted_label, has_label, statement_words};
 use crate::labels::Labels;
 use crate::position::{Position, Section};
-use crate::word::{Word, words_of};
+use crate::word::{Word, read_words};
 use std::alloc::Global;
 
 /// What a line does, and where the next one stands.
@@ -91,26 +91,29 @@ fn is_data(section: &Section) -> bool
 }
 
 /// What a line does that stands here, or its fault.
-pub fn read_line(
+///
+/// `words` are those of a line before, and of this one from then on.
+pub fn read_line<'a>(
     alloc: Global,
+    words: &mut Vec<Word<'a>>,
     labels: &Labels,
     end: u32,
     position: &Position,
     repeated: bool,
-    line: &[u8],
+    line: &'a [u8],
 ) -> Result<Line, LineError>
     requires room { position.now.index < 2 ^ 32 - 1 }
     requires near { position.now.address ≤ 65537 }
-    ensures faultless { IfOk result (λ r. Faults.words_fault labels.now end position.now repeated (length line.now) (words_of line.now) ≡ None) }
-    ensures effect { IfOk result (λ r. effect_of labels.now position.now.section (Positions.statement_words (line_words line.now)) ≡ Ok (effect r.effect)) }
-    ensures next { IfOk result (λ r. r.next ≡ Positions.after position.now (line_words line.now)) }
+    ensures faultless { IfOk result (λ r. Faults.words_fault labels.now end position.now repeated (length line.entry.now) (words_of line.entry.now) ≡ None) }
+    ensures effect { IfOk result (λ r. effect_of labels.now position.now.section (Positions.statement_words (line_words line.entry.now)) ≡ Ok (effect r.effect)) }
+    ensures next { IfOk result (λ r. r.next ≡ Positions.after position.now (line_words line.entry.now)) }
     ensures few { IfOk result (λ r. r.next.index ≤ 20000) }
     ensures within { IfOk result (λ r. r.next.address ≤ end) }
     ensures fits { (count : ℕ) → LabelsFit count labels.now → IfOk result (λ r. EffectFits labels.now count (effect r.effect)) }
-    ensures fault { IfErr result (IsFaultOf (Faults.words_fault labels.now end position.now repeated (length line.now) (words_of line.now))) }
+    ensures fault { IfErr result (IsFaultOf (Faults.words_fault labels.now end position.now repeated (length line.entry.now) (words_of line.entry.now))) }
 {
-    let words = words_of(alloc, line)?;
-    let statement = statement_words(&words);
+    read_words(words, line)?;
+    let statement = statement_words(words);
     let effect = match effect_of(alloc, labels, position.section, statement) {
         Ok(effect) => effect,
         Err(LineError::Fault(fault)) => {
@@ -122,7 +125,7 @@ pub fn read_line(
         return Err(LineError::Fault(Fault::DuplicateLabel));
     }
     let next = position.after(statement);
-    match layout_fault(end, position, &next, line.len(), &words) {
+    match layout_fault(end, position, &next, line.len(), words) {
         Some(fault) => Err(LineError::Fault(fault)),
         None => Ok(Line { effect, next }),
     }

@@ -1,8 +1,9 @@
 //! The lines of a text.
-ghost use Rattle.std.specs.Prelude.{◌≡◌, ◌+◌, ◌≤◌, length, drop, vec_len, IfOk};
+ghost use Rattle.std.specs.Prelude.{◌≡◌, ◌+◌, ◌≤◌, ◌<◌, ◌∷◌, length, drop, vec_len, IfOk};
 ghost use Rattle.mx_lex.specs.Lines;
 ghost use Rattle.mx_asm.specs.Words.{texts};
 
+use memchr::memchr;
 use std::alloc::{AllocError, Global};
 
 /// The lines of a text, each without its line end.
@@ -20,16 +21,25 @@ pub fn lines_of(alloc: Global, text: &[u8]) -> Result<Vec<&[u8]>, AllocError>
     Ok(lines)
 }
 
+/// The first line of a text, without its line end, and what stands behind it.
+pub(crate) fn split_line(text: &[u8]) -> (&[u8], &[u8])
+    requires { 0 < length text.now }
+    ensures lines { Lines.lines_of text.entry.now ≡ result.0.now ∷ Lines.lines_of result.1.now }
+    ensures shorter { length result.1.now < length text.entry.now }
+{
+    let end = line_end(text);
+    (without_return(&text[..end]), behind(text, end))
+}
+
 /// How many bytes stand before the first LF.
 fn line_end(text: &[u8]) -> usize
     ensures end { result ≡ Lines.line_len text.now }
     ensures within { result ≤ length text.now }
 {
-    let mut end = 0;
-    while end < text.len() && text[end] != b'\n' {
-        end += 1;
+    match memchr(b'\n', text) {
+        Some(end) => end,
+        None => text.len(),
     }
-    end
 }
 
 /// What stands behind the LF of a line.

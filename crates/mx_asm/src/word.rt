@@ -1,7 +1,8 @@
 //! The words of a line.
-ghost use Rattle.std.specs.Prelude.{◌≡◌, ◌≤◌, length, map};
+ghost use Rattle.std.specs.Prelude.{◌≡◌, ◌≤◌, length, map, if◌then◌else◌};
 ghost use Rattle.mx_lex.specs.Bytes;
 ghost use Rattle.mx_lex.specs.Tokens;
+ghost use Rattle.mx_asm.specs.declared.fault.Fault.TheVariants.{BadByte, BadToken};
 ghost use Rattle.mx_asm.specs.Reading.{Gives};
 ghost use Rattle.mx_asm.specs.Words;
 ghost use Rattle.mx_asm.specs.Shapes.{word};
@@ -24,23 +25,40 @@ pub enum Word<'a> {
 }
 
 /// The words of a line, or why there are none.
-#[tactic(auto, unfolding(crate::specs::Words::words_of))]
 pub fn words_of(alloc: Global, line: &[u8]) -> Result<Vec<Word<'_>>, LineError>
     ensures { Gives (λ v. map word v.items) result (Words.words_of line.now) }
 {
-    if has_bad_byte(line) {
-        return Err(LineError::Fault(Fault::BadByte));
-    }
     let mut words = Vec::new(alloc);
+    read_words(&mut words, line)?;
+    Ok(words)
+}
+
+/// The words of a line in the place of those before, or why there are none.
+#[tactic(auto, unfolding(crate::specs::Words::words_of))]
+pub fn read_words<'a>(words: &mut Vec<Word<'a>>, line: &'a [u8]) -> Result<(), LineError>
+    ensures { Gives (λ _. map word words.new.items) result (Words.words_of line.entry.now) }
+{
+    words.clear();
     let mut lexer = Lexer::new(line);
     'tokens: loop {
         let Ok(token) = lexer.next() else {
-            return Err(LineError::Fault(Fault::BadToken));
+            return Err(LineError::Fault(token_fault(line)));
         };
         if is_end(&token.kind) {
-            return Ok(words);
+            return Ok(());
         }
         words.push(word_at(line, &token))?;
+    }
+}
+
+/// The fault of a line that does not split into tokens.
+fn token_fault(line: &[u8]) -> Fault
+    ensures { result ≡ if Words.has_bad_byte line.now then BadByte else BadToken }
+{
+    if has_bad_byte(line) {
+        Fault::BadByte
+    } else {
+        Fault::BadToken
     }
 }
 

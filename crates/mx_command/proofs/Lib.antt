@@ -1,5 +1,6 @@
 pub mod Own
 pub mod Ended
+pub mod GreedyLayouts
 pub mod Links
 pub mod Laid
 pub mod Headline

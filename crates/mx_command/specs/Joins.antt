@@ -41,4 +41,5 @@ module _ (asked : Option Command) (held : Held) (a : AcceptedModules asked held)
     -- that text has no fault, and reads as the same program
     pub reads_back : WhereShort (ReadsBack (joined a.texts))
     -- so it means what the modules mean together, with any input and after any number of steps
-    pub means : WhereShort ((bytes : List ℕ) (n : ℕ) → meaning (source_of 256 (printed (joined a.texts))) board bytes n ≡ meaning (joined a.texts) board bytes n)
+    pub means : WhereShort ((bytes : List ℕ) (n : ℕ)
+        → meaning (source_of 256 (printed (joined a.texts))) board bytes n ≡ meaning (joined a.texts) board bytes n)

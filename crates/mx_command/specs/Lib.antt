@@ -7,3 +7,4 @@ pub mod Sharing
 pub mod Pairs
 pub mod Stops
 pub mod Joins
+pub mod Layouts

@@ -5,11 +5,13 @@ mod debugged;
 mod files;
 mod images;
 mod joined;
+mod laws;
 mod reply;
 mod shared;
 mod sourced;
 mod sources;
 mod top;
 
+pub use laws::greedy_layout_is;
 pub use mx_answer::Status;
 pub use top::command;

@@ -6,8 +6,7 @@ ghost use Rattle.mx_answer.specs.Answer.{Answer, failed_answer};
 ghost use Rattle.mx_answer.specs.Protocol.{resolved, Performed, Faulted};
 ghost use Rattle.mx_answer.specs.Delivery.{Delivered, PutsPrefix};
 ghost use Rattle.mx_asked.specs.Asked.{command_of};
-ghost use Rattle.mx_schedule.specs.Schedule.{IsScheduler};
-ghost use Rattle.mx_command.specs.Protocols.{Layouts, protocol_of};
+ghost use Rattle.mx_command.specs.Layouts.{command_protocol};
 ghost use Rattle.mx_command.specs.Accepted.{Accepted};
 ghost use Rattle.mx_command.specs.Headline.{AreQuiet, IsNoFault, Headline};
 ghost use Rattle.mx_command.specs.Pairs.{AcceptedPair, PairHeadline};
@@ -23,7 +22,7 @@ use std::alloc::Global;
 /// Runs the command that the words, those after the program's name, ask for. It reads files from
 /// the shelf, puts all that it prints into the sink, and answers how it ended.
 ///
-/// What it answers is said by the greedy layout of each source, whatever function gives these.
+/// What it answers is said by the one greedy layout of each source (`greedy_layout_is`).
 pub fn command<S: Shelf, W: Sink>(
     alloc: Global,
     words: &[String],
@@ -33,42 +32,55 @@ pub fn command<S: Shelf, W: Sink>(
     // HEADLINE. Where the words ask for the run of a source that is accepted, the shelf tells what it holds, and no
     // fault was counted or is answered: all that `Headline` says, or memory ran out.
     ensures headline { S.tells shelf.old ≡ true
-        → AreQuiet (S.read_faults shelf.old) (S.read_faults shelf.new) (S.write_faults shelf.old) (S.write_faults shelf.new) (W.faults out.old) (W.faults out.new) ⊎ IsNoFault result
+        → AreQuiet (S.read_faults shelf.old) (S.read_faults shelf.new) (S.write_faults shelf.old) (S.write_faults shelf.new)
+        (W.faults out.old) (W.faults out.new) ⊎ IsNoFault result
         → (accepted : Accepted (command_of (map string_bytes words.now)) (S.held shelf.old))
-        → (result ≡ Status.Memory) ⊎ Headline (command_of (map string_bytes words.now)) (S.held shelf.old) accepted result (W.written out.old) (W.written out.new) }
+        → (result ≡ Status.Memory)
+        ⊎ Headline (command_of (map string_bytes words.now)) (S.held shelf.old) accepted result (W.written out.old) (W.written out.new) }
 
     // Where they ask so for two sources that share the machine: all that `PairHeadline` says, or memory ran out.
     ensures pair { S.tells shelf.old ≡ true
-        → AreQuiet (S.read_faults shelf.old) (S.read_faults shelf.new) (S.write_faults shelf.old) (S.write_faults shelf.new) (W.faults out.old) (W.faults out.new) ⊎ IsNoFault result
+        → AreQuiet (S.read_faults shelf.old) (S.read_faults shelf.new) (S.write_faults shelf.old) (S.write_faults shelf.new)
+        (W.faults out.old) (W.faults out.new) ⊎ IsNoFault result
         → (accepted : AcceptedPair (command_of (map string_bytes words.now)) (S.held shelf.old))
-        → (result ≡ Status.Memory) ⊎ PairHeadline (command_of (map string_bytes words.now)) (S.held shelf.old) accepted result (W.written out.old) (W.written out.new) }
+        → (result ≡ Status.Memory)
+        ⊎ PairHeadline (command_of (map string_bytes words.now)) (S.held shelf.old) accepted result (W.written out.old) (W.written out.new) }
 
     // Where they ask so for the stops of a source at a label: all that `StopsHeadline` says, or memory ran out.
     ensures stops { S.tells shelf.old ≡ true
-        → AreQuiet (S.read_faults shelf.old) (S.read_faults shelf.new) (S.write_faults shelf.old) (S.write_faults shelf.new) (W.faults out.old) (W.faults out.new) ⊎ IsNoFault result
+        → AreQuiet (S.read_faults shelf.old) (S.read_faults shelf.new) (S.write_faults shelf.old) (S.write_faults shelf.new)
+        (W.faults out.old) (W.faults out.new) ⊎ IsNoFault result
         → (accepted : AcceptedStops (command_of (map string_bytes words.now)) (S.held shelf.old))
-        → (result ≡ Status.Memory) ⊎ StopsHeadline (command_of (map string_bytes words.now)) (S.held shelf.old) accepted result (W.written out.old) (W.written out.new) }
+        → (result ≡ Status.Memory)
+        ⊎ StopsHeadline (command_of (map string_bytes words.now)) (S.held shelf.old) accepted result (W.written out.old) (W.written out.new) }
 
     // Where they ask for the join of modules without faults: all that `JoinHeadline` says, or memory ran out.
     ensures modules { S.tells shelf.old ≡ true
-        → AreQuiet (S.read_faults shelf.old) (S.read_faults shelf.new) (S.write_faults shelf.old) (S.write_faults shelf.new) (W.faults out.old) (W.faults out.new) ⊎ IsNoFault result
+        → AreQuiet (S.read_faults shelf.old) (S.read_faults shelf.new) (S.write_faults shelf.old) (S.write_faults shelf.new)
+        (W.faults out.old) (W.faults out.new) ⊎ IsNoFault result
         → (accepted : AcceptedModules (command_of (map string_bytes words.now)) (S.held shelf.old))
-        → (result ≡ Status.Memory) ⊎ JoinHeadline (command_of (map string_bytes words.now)) (S.held shelf.old) accepted result (W.written out.old) (W.written out.new) }
+        → (result ≡ Status.Memory)
+        ⊎ JoinHeadline (command_of (map string_bytes words.now)) (S.held shelf.old) accepted result (W.written out.old) (W.written out.new) }
 
     // ANSWERS, of every command. Where the shelf tells what it holds and no count of faults rises, the answer is that
     // of the words and of what is held, or memory ran out.
-    ensures complete { (layout_of : Layouts) → IsScheduler layout_of → S.tells shelf.old ≡ true
-        → ¬ Rose (S.read_faults shelf.old) (S.read_faults shelf.new) → ¬ Rose (S.write_faults shelf.old) (S.write_faults shelf.new) → ¬ Rose (W.faults out.old) (W.faults out.new)
-        → (result ≡ Status.Memory) ⊎ Delivered (resolved (protocol_of layout_of (command_of (map string_bytes words.now))) (S.held shelf.old)) result (S.tells shelf.old) (W.written out.old) (W.written out.new) (S.held shelf.old) (S.held shelf.new) }
+    ensures complete { S.tells shelf.old ≡ true
+        → ¬ Rose (S.read_faults shelf.old) (S.read_faults shelf.new) → ¬ Rose (S.write_faults shelf.old) (S.write_faults shelf.new)
+        → ¬ Rose (W.faults out.old) (W.faults out.new)
+        → (result ≡ Status.Memory)
+        ⊎ Delivered (resolved (command_protocol (command_of (map string_bytes words.now))) (S.held shelf.old)) result (S.tells shelf.old)
+        (W.written out.old) (W.written out.new) (S.held shelf.old) (S.held shelf.new) }
 
     // Whatever the counts do, every other status than these three is that of the same answer.
-    ensures sound { (layout_of : Layouts) → IsScheduler layout_of → S.tells shelf.old ≡ true → result ≢ Status.ReadFault → result ≢ Status.WriteFault → result ≢ Status.Memory
-        → Delivered (resolved (protocol_of layout_of (command_of (map string_bytes words.now))) (S.held shelf.old)) result (S.tells shelf.old) (W.written out.old) (W.written out.new) (S.held shelf.old) (S.held shelf.new) }
+    ensures sound { S.tells shelf.old ≡ true → result ≢ Status.ReadFault → result ≢ Status.WriteFault → result ≢ Status.Memory
+        → Delivered (resolved (command_protocol (command_of (map string_bytes words.now))) (S.held shelf.old)) result (S.tells shelf.old)
+        (W.written out.old) (W.written out.new) (S.held shelf.old) (S.held shelf.new) }
 
     // Whatever the shelf tells, such a status is that of an answer which the words ask for, by files that
     // were read.
-    ensures performed { (layout_of : Layouts) → IsScheduler layout_of → result ≢ Status.ReadFault → result ≢ Status.WriteFault → result ≢ Status.Memory
-        → (answer : Answer) × Performed (record { tells = S.tells shelf.old; held = S.held shelf.old }) (protocol_of layout_of (command_of (map string_bytes words.now)))
+    ensures performed { result ≢ Status.ReadFault → result ≢ Status.WriteFault → result ≢ Status.Memory
+        → (answer : Answer)
+        × Performed (record { tells = S.tells shelf.old; held = S.held shelf.old }) (command_protocol (command_of (map string_bytes words.now)))
         (record { reads = S.reads shelf.old; taken = S.taken shelf.old; faults = S.read_faults shelf.old })
         (record { reads = S.reads shelf.new; taken = S.taken shelf.new; faults = S.read_faults shelf.new }) answer
         × (result ≡ answer.status) × (W.written out.new ≡ with_more (W.written out.old) answer.output) }
@@ -84,8 +96,8 @@ pub fn command<S: Shelf, W: Sink>(
 
     // FAULTS. A read fault is that of one of the files, after one read of each file up to it, each counted from the
     // counts that the read before it left. Exactly its line is put out.
-    ensures read_fault { (layout_of : Layouts) → IsScheduler layout_of → result ≡ Status.ReadFault → (answer : Answer)
-        × Faulted (record { tells = S.tells shelf.old; held = S.held shelf.old }) (protocol_of layout_of (command_of (map string_bytes words.now)))
+    ensures read_fault { result ≡ Status.ReadFault → (answer : Answer)
+        × Faulted (record { tells = S.tells shelf.old; held = S.held shelf.old }) (command_protocol (command_of (map string_bytes words.now)))
         (record { reads = S.reads shelf.old; taken = S.taken shelf.old; faults = S.read_faults shelf.old })
         (record { reads = S.reads shelf.new; taken = S.taken shelf.new; faults = S.read_faults shelf.new }) answer
         × (W.written out.new ≡ with_more (W.written out.old) answer.output) }
@@ -94,9 +106,10 @@ pub fn command<S: Shelf, W: Sink>(
     // the answer's output, or of the line of a read fault that was counted.
     ensures write_fault { result ≡ Status.WriteFault → Rose (W.faults out.old) (W.faults out.new)
         ⊎ ((writes_a_file (command_of (map string_bytes words.now)) ≡ true) × Rose (S.write_faults shelf.old) (S.write_faults shelf.new)) }
-    ensures prefix { (layout_of : Layouts) → IsScheduler layout_of → result ≡ Status.WriteFault → S.tells shelf.old ≡ true
-        → PutsPrefix (resolved (protocol_of layout_of (command_of (map string_bytes words.now))) (S.held shelf.old)) (W.written out.old) (W.written out.new)
-        ⊎ (Rose (S.read_faults shelf.old) (S.read_faults shelf.new) × (kind : FileKind) × PutsPrefix (failed_answer kind) (W.written out.old) (W.written out.new)) }
+    ensures prefix { result ≡ Status.WriteFault → S.tells shelf.old ≡ true
+        → PutsPrefix (resolved (command_protocol (command_of (map string_bytes words.now))) (S.held shelf.old)) (W.written out.old) (W.written out.new)
+        ⊎ (Rose (S.read_faults shelf.old) (S.read_faults shelf.new) × (kind : FileKind)
+        × PutsPrefix (failed_answer kind) (W.written out.old) (W.written out.new)) }
 
     // Want of memory comes before anything is put out.
     ensures memory { result ≡ Status.Memory → W.written out.new ≡ W.written out.old }

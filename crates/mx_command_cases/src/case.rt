@@ -7,7 +7,7 @@ use std::fs;
 use std::rt::Files;
 
 /// The most bytes that a case prints.
-const ROOM: usize = 65_536;
+const ROOM: usize = 1_048_576;
 
 /// The most bytes of a file that are read back.
 const LIMIT: usize = 2_097_152;
@@ -75,11 +75,16 @@ impl Case {
         Ok(())
     }
 
+    /// Runs the command over this sink.
+    pub fn put_into(&mut self, alloc: Global, mut output: MemorySink) -> Ended {
+        let status = command(alloc, self.words.as_slice(), &mut self.shelf, &mut output);
+        Ended { status, output }
+    }
+
     /// Runs the command.
     pub fn run(&mut self, alloc: Global) -> Result<Ended> {
-        let mut output = MemorySink::new(alloc, 64, ROOM)?;
-        let status = command(alloc, self.words.as_slice(), &mut self.shelf, &mut output);
-        Ok(Ended { status, output })
+        let output = MemorySink::new(alloc, 64, ROOM)?;
+        Ok(self.put_into(alloc, output))
     }
 
     /// Each file holds what it held when the command began.

@@ -1,5 +1,5 @@
 //! Kinds of cases.
-use crate::{images, runs};
+use crate::{images, puts, repeated, runs};
 use anyhow::Result;
 use mx_case_files::{Cases, before, behind};
 use std::rt::Files;
@@ -14,10 +14,13 @@ pub enum Kind {
     Fronts,
     Long,
     Stops,
+    Puts,
+    Repeated,
+    Listed,
 }
 
 impl Kind {
-    pub const ALL: [Kind; 7] = [
+    pub const ALL: [Kind; 10] = [
         Kind::Runs,
         Kind::Failing,
         Kind::Built,
@@ -25,6 +28,9 @@ impl Kind {
         Kind::Fronts,
         Kind::Long,
         Kind::Stops,
+        Kind::Puts,
+        Kind::Repeated,
+        Kind::Listed,
     ];
 }
 
@@ -38,6 +44,9 @@ impl Cases for Kind {
             Kind::Fronts => "fronts.txt",
             Kind::Long => "long.txt",
             Kind::Stops => "stops.txt",
+            Kind::Puts => "puts.txt",
+            Kind::Repeated => "repeated.txt",
+            Kind::Listed => "listed.txt",
         }
     }
 
@@ -51,6 +60,9 @@ impl Cases for Kind {
             Kind::Fronts => images::fronts(rt, before(line, " ")?),
             Kind::Long => images::long(alloc, before(line, " -> ")?),
             Kind::Stops => runs::stops(rt, line),
+            Kind::Puts => puts::puts(rt, line),
+            Kind::Repeated => repeated::repeated(alloc, before(line, " -> ")?),
+            Kind::Listed => repeated::listed(alloc, line),
         }
     }
 }

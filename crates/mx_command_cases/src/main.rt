@@ -5,6 +5,8 @@
 mod case;
 mod images;
 mod kind;
+mod puts;
+mod repeated;
 mod runs;
 
 use anyhow::Result;

@@ -14,6 +14,7 @@ use Rattle.mx_turn.specs.declared.Cycled.{Cycled}
 use Rattle.mx_turn.specs.Counted.{one}
 use Rattle.mx_turn.specs.Stages.{stage_of}
 use Rattle.mx_turn.specs.Cycle.{Machine, is_taken, entered, decided, turned, reached, ended, takes, latched, acted, acted_answer, cycled, answer, start}
+use Rattle.mx_turn.specs.Handler.{shipped}
 use Rattle.mx_turn.specs.Program.{Program, code_of}
 use Rattle.mx_turn.specs.Run.{is_requested, bits, console_after, is_users, passes}
 use Rattle.mx_turn.specs.OneTurn.{as_fetch, UserSame, IsOnBoard}
@@ -23,7 +24,7 @@ use Rattle.mx_interrupts.specs.Laws.{IsCleanImage}
 use Rattle.mx_interrupts.specs.Saves.{before_cycle}
 use Rattle.mx_interrupts.proofs.Watched.{watched_at}
 use Rattle.mx_interrupts.proofs.InUser.{goes_on as keeps_on}
-use Rattle.mx_interrupts.proofs.Pauses.{erased}
+use Rattle.mx_interrupts.proofs.Pauses.{erased, shipped_code}
 use Rattle.mx_interrupts.proofs.Phases.{State, going, pausing, over}
 use Rattle.mx_interrupts.proofs.Runs.{Ran, passed_few, length_bits}
 use Rattle.mx_interrupts.proofs.Saves.{q, passed, done, ran_at, passed_more}
@@ -190,14 +191,14 @@ module _ (user_words data_words : List ℕ) (p : Place) (input : Option (List �
   abbrev watched : ℕ → Watched
   watched n = done user_words data_words p input at_board at_code requests budget clean n
 
-  ran : (n : ℕ) → n ≤ budget → Ran user_words inside p input data_words (bits requests n) (start words) (watch_start p words) 0 0 0
+  ran : (n : ℕ) → n ≤ budget → Ran shipped user_words inside p input data_words (bits requests n) (start words) (watch_start p words) 0 0 0
   ran n h = ran_at user_words data_words p input at_board at_code requests budget clean n h
 
   is_delay : (n : ℕ) → (watched n).at ≡ D (past n)
   is_delay n = watched_at user inside p input (past n) (watch_start p words)
 
   abbrev Phase : ℕ → ℕ → Type 0
-  Phase n rest = State user inside p input (erased (state n)) (watched n) (state n).counts.interrupts rest
+  Phase n rest = State shipped_code user inside p input (erased (state n)) (watched n) (state n).counts.interrupts rest
 
   -- in user code the fetch in ALU is the next step's
   record InStep (n : ℕ) : Type 0 where

@@ -13,9 +13,10 @@ use Rattle.mx_turn.specs.Counted.{one, after_stall}
 use Rattle.mx_turn.specs.Cycle.{Machine, is_taken, entered, decided, turned, reached, ended, takes, latched, acted, cycled, answer, acted_answer, start}
 use Rattle.mx_turn.specs.Run.{is_users, passes}
 use Rattle.mx_turn.specs.OneTurn.{IsOnBoard}
-use Rattle.mx_handler.specs.Returns.{with_shipped}
-use Rattle.mx_interrupts.proofs.Pauses.{erased}
-use Rattle.mx_interrupts.proofs.Phases.{past, State, Turned, turn, at_start}
+use Rattle.mx_turn.specs.Program.{code_with}
+use Rattle.mx_interrupts.proofs.Watched.{past}
+use Rattle.mx_interrupts.proofs.Pauses.{erased, Handled}
+use Rattle.mx_interrupts.proofs.Phases.{State, Turned, turn, at_start}
 
 -- a latched request is taken once
 taken_once : (code : Code) (c : Machine) → one (takes c) + one (ended code c).latch ≤ one c.latch
@@ -43,11 +44,11 @@ short_wait : (b : Bool) → cond b 0 2 ≤ 2
 short_wait true = omega arith
 short_wait false = omega arith
 
-module _ (user : Code) (inside : ℕ → Bool) (p : Place) (input : Option (List ℕ)) where
+module _ (handler user : Code) (inside : ℕ → Bool) (p : Place) (input : Option (List ℕ)) where
   -- a machine after so many cycles and requests, when w words of the user have passed and these steps are done
   pub record Stands (m : Machine) (s : Watched) (w cycles asked : ℕ) : Type 0 where
     pub rest : ℕ
-    pub state : State user inside p input (erased m) s m.counts.interrupts rest
+    pub state : State handler user inside p input (erased m) s m.counts.interrupts rest
     pub turns : m.counts.fetches + rest ≡ w + 3 + 26 * m.counts.interrupts
     pub within : m.counts.cycles + m.stall ≤ 3 * m.counts.fetches + 2
     pub taken : m.counts.interrupts + one m.latch ≤ asked
@@ -56,7 +57,7 @@ module _ (user : Code) (inside : ℕ → Bool) (p : Place) (input : Option (List
   pub stands_start : (words : Words) → p.code ≡ 4096 → words 0 ≡ 0 → Stands (start words) (watch_start p words) 0 0 0
   stands_start words at_code low = record {
     rest = 3;
-    state = at_start user inside p input words at_code low;
+    state = at_start handler user inside p input words at_code low;
     turns = refl;
     within = omega arith;
     taken = omega arith;
@@ -68,9 +69,10 @@ module _ (user : Code) (inside : ℕ → Bool) (p : Place) (input : Option (List
     pub sends : s.at.console ++ option_to_list byte ≡ (past user inside p input passed s).at.console
     pub stands : Stands n (past user inside p input passed s) (w + one passed) (cycles + 1) (asked + one request)
 
-  module _ (at_board : IsOnBoard p) (at_code : p.code ≡ 4096) (m : Machine) (request : Bool) (s : Watched) (w cycles asked : ℕ) (st : Stands m s w cycles asked) where
+  module _ (at_board : IsOnBoard p) (at_code : p.code ≡ 4096) (m : Machine) (request : Bool) (s : Watched) (w cycles asked : ℕ)
+      (handled : 1 ≤ asked + one request → Handled handler user inside p input) (st : Stands m s w cycles asked) where
     abbrev code : Code
-    code = with_shipped user
+    code = code_with handler user
 
     halted_cycle : m.halted ≡ true → Cycled m m None false request s w cycles asked
     halted_cycle h = record {
@@ -122,8 +124,10 @@ module _ (user : Code) (inside : ℕ → Bool) (p : Place) (input : Option (List
       };
     }
       where
-        t : Turned user inside p input (erased m) c s m.counts.interrupts st.rest
-        t = turn user inside p input at_board at_code (erased m) s m.counts.interrupts st.rest m.stall (m.latch || request) m.counts st.state on clean
+        t : Turned handler user inside p input (erased m) c s m.counts.interrupts st.rest
+        t = turn handler user inside p input at_board at_code (erased m) s m.counts.interrupts st.rest m.stall (m.latch || request) m.counts
+            (λ e. handled (let f = st.taken in let g = one_or m.latch request in let k : one (m.latch || request) ≡ 1 = ap one e in omega (arith, f, g, k)))
+            st.state on clean
 
     -- any cycle
     pub a_cycle : (past user inside p input (passes m) s).clean ≡ true

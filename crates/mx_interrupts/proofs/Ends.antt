@@ -14,20 +14,24 @@ use Rattle.mx_turn.specs.OneTurn.{IsOnBoard}
 use Rattle.mx_interrupts.specs.Laws.{RunsAs, IsCleanImage}
 use Rattle.mx_interrupts.proofs.Watched.{watched_at, clean_for_fewer}
 use Rattle.mx_interrupts.proofs.InUser.{InUser}
-use Rattle.mx_interrupts.proofs.Pauses.{erased}
+use Rattle.mx_interrupts.proofs.Pauses.{erased, Handled, shipped_handled}
 use Rattle.mx_interrupts.proofs.Phases.{State, going, pausing, over, halted_alike}
 use Rattle.mx_interrupts.proofs.Cycles.{stands_start}
 use Rattle.mx_interrupts.proofs.Runs.{program, steps, Ran, runs, passed_few, length_bits, asked_few}
 
-module _ (user : Code) (inside : ℕ → Bool) (p : Place) (input : Option (List ℕ)) where
+module _ (handler user : Code) (inside : ℕ → Bool) (p : Place) (input : Option (List ℕ)) where
   -- where it halted, it did so in user code
-  ended_in_user : (m : Machine) (s : Watched) (n rest : ℕ) → State user inside p input m s n rest → m.halted ≡ true → InUser user inside p input m s n
-  ended_in_user m s n rest (going g) h = absurd (false≢true (sym g.goes ∙ g.in_user.follows.halted ∙ sym (halted_alike user inside p input m s n rest (going g)) ∙ h))
+  ended_in_user : (m : Machine) (s : Watched) (n rest : ℕ) → State handler user inside p input m s n rest → m.halted ≡ true → InUser handler user inside p input m s n
+  ended_in_user m s n rest (going g) h = absurd (false≢true (sym g.goes ∙ g.in_user.follows.halted ∙ sym (halted_alike handler user inside p input m s n rest (going g)) ∙ h))
   ended_in_user m s n rest (pausing q) h = absurd (false≢true (sym q.goes ∙ h))
   ended_in_user m s n rest (over o) h = o.in_user
 
-module _ (user_words data_words : List ℕ) (p : Place) (input : Option (List ℕ)) (at_board : IsOnBoard p) (at_code : p.code ≡ 4096)
-    (requests : List ℕ) (budget : ℕ) (clean : IsCleanImage user_words data_words p input budget) where
+module _ (handler_words user_words data_words : List ℕ) (p : Place) (input : Option (List ℕ)) (at_board : IsOnBoard p) (at_code : p.code ≡ 4096)
+    (requests : List ℕ) (budget : ℕ) (clean : IsCleanImage user_words data_words p input budget)
+    (handled : 1 ≤ length requests → Handled (code_from inst_of 0 handler_words) (code_from inst_of 4096 user_words) (is_inside p (length user_words)) p input) where
+  abbrev handler : Code
+  handler = code_from inst_of 0 handler_words
+
   abbrev user : Code
   user = code_from inst_of 4096 user_words
 
@@ -38,18 +42,18 @@ module _ (user_words data_words : List ℕ) (p : Place) (input : Option (List �
   words = data_from 256 data_words
 
   abbrev run : Run
-  run = run_of (program user_words inside p input data_words) requests budget
+  run = run_of (program handler_words user_words inside p input data_words) requests budget
 
   -- the steps that are done
   abbrev done : Watched
-  done = steps user_words inside p input data_words run.passed (watch_start p words)
+  done = steps handler_words user_words inside p input data_words run.passed (watch_start p words)
 
   few : run.passed ≤ budget
-  few = let e = passed_few (program user_words inside p input data_words) (bits requests budget) (start words) in let f = length_bits requests budget in omega (arith, e, f)
+  few = let e = passed_few (program handler_words user_words inside p input data_words) (bits requests budget) (start words) in let f = length_bits requests budget in omega (arith, e, f)
 
-  ran : Ran user_words inside p input data_words (bits requests budget) (start words) (watch_start p words) 0 0 0
-  ran = runs user_words inside p input data_words at_board at_code (bits requests budget) (start words) (watch_start p words) 0 0 0
-      (stands_start user inside p input words at_code refl)
+  ran : Ran handler_words user_words inside p input data_words (bits requests budget) (start words) (watch_start p words) 0 0 0
+  ran = runs handler_words user_words inside p input data_words at_board at_code (length requests) handled (bits requests budget) (start words) (watch_start p words) 0 0 0
+      (let e = asked_few requests budget in omega (arith, e)) (stands_start handler user inside p input words at_code refl)
       (clean_for_fewer user inside p input run.passed budget (watch_start p words) few clean)
 
   is_delay : done.at ≡ delay user p input words run.passed
@@ -58,9 +62,9 @@ module _ (user_words data_words : List ℕ) (p : Place) (input : Option (List �
   pub as_delay : RunsAs p run (delay user p input words run.passed)
   as_delay = subst (RunsAs p run) is_delay (record {
     console = ran.console;
-    halted = halted_alike user inside p input (erased run.last) done run.counts.interrupts ran.stands.rest ran.stands.state;
+    halted = halted_alike handler user inside p input (erased run.last) done run.counts.interrupts ran.stands.rest ran.stands.state;
     ends = λ h.
-        let u = ended_in_user user inside p input (erased run.last) done run.counts.interrupts ran.stands.rest ran.stands.state h in
+        let u = ended_in_user handler user inside p input (erased run.last) done run.counts.interrupts ran.stands.rest ran.stands.state h in
         let f = u.follows in
         record { regs = f.regs; md = f.md; mem = f.mem; taken = f.taken; counted = u.counted };
   })
@@ -74,6 +78,11 @@ module _ (user_words data_words : List ℕ) (p : Place) (input : Option (List �
       (λ k. inl (let a = ran.stands.all k in let b = ran.stands.within in let c = ran.stands.turns in let d = few_taken in let e = length_bits requests budget in omega (arith, h, a, b, c, d, e)))
       (cases_Bool run.halted)
 
+-- requests under the shipped handler
+shipped_handles : (code_words : List ℕ) (p : Place) (input : Option (List ℕ)) → IsOnBoard p
+    → Handled (code_from inst_of 0 shipped) (code_from inst_of 4096 code_words) (is_inside p (length code_words)) p input
+shipped_handles code_words p input b = shipped_handled (code_from inst_of 4096 code_words) (is_inside p (length code_words)) p input b
+
 pub runs_as : (code_words data_words : List ℕ) (input : Option (List ℕ)) (requests : List ℕ) (budget : ℕ) (p : Place)
     → IsOnBoard p → p.code ≡ 4096 → IsCleanImage code_words data_words p input budget
     → let user = code_from inst_of 4096 code_words in
@@ -81,20 +90,31 @@ pub runs_as : (code_words data_words : List ℕ) (input : Option (List ℕ)) (re
     let r = run_of (program_of shipped code_words data_words input) requests budget in
     RunsAs p r (delay user p input words r.passed)
 runs_as code_words data_words input requests budget p b c clean =
-    as_delay code_words data_words p input b c requests budget clean
+    as_delay shipped code_words data_words p input b c requests budget clean (λ e. shipped_handles code_words p input b)
 
 pub gets_on : (code_words data_words : List ℕ) (input : Option (List ℕ)) (requests : List ℕ) (budget : ℕ) (p : Place)
     → IsOnBoard p → p.code ≡ 4096 → IsCleanImage code_words data_words p input budget
     → let r = run_of (program_of shipped code_words data_words input) requests budget in
     (r.counts.interrupts ≤ length requests) × ((w : ℕ) → 3 * (w + 3) + 78 * length requests ≤ budget → (w ≤ r.passed) ⊎ (r.halted ≡ true))
 gets_on code_words data_words input requests budget p b c clean = (
-  few_taken code_words data_words p input b c requests budget clean,
-  passes_by code_words data_words p input b c requests budget clean,
+  few_taken shipped code_words data_words p input b c requests budget clean (λ e. shipped_handles code_words p input b),
+  passes_by shipped code_words data_words p input b c requests budget clean (λ e. shipped_handles code_words p input b),
 )
 
-pub undisturbed : (code_words data_words : List ℕ) (input : Option (List ℕ)) (budget : ℕ) (p : Place)
+-- without requests no handler runs
+unasked : {A : Type 0} → 1 ≤ length {A = ℕ} [] → A
+unasked h = absurd (omega (arith, h))
+
+pub undisturbed_as : (handler_words code_words data_words : List ℕ) (input : Option (List ℕ)) (budget : ℕ) (p : Place)
     → IsOnBoard p → p.code ≡ 4096 → IsCleanImage code_words data_words p input budget
-    → let r = run_of (program_of shipped code_words data_words input) [] budget in
+    → let r = run_of (program_of handler_words code_words data_words input) [] budget in
+    RunsAs p r (delay (code_from inst_of 4096 code_words) p input (data_from 256 data_words) r.passed)
+undisturbed_as handler_words code_words data_words input budget p b c clean =
+    as_delay handler_words code_words data_words p input b c [] budget clean (λ h. unasked h)
+
+pub undisturbed : (handler_words code_words data_words : List ℕ) (input : Option (List ℕ)) (budget : ℕ) (p : Place)
+    → IsOnBoard p → p.code ≡ 4096 → IsCleanImage code_words data_words p input budget
+    → let r = run_of (program_of handler_words code_words data_words input) [] budget in
     (w : ℕ) → 3 * (w + 3) ≤ budget → (w ≤ r.passed) ⊎ (r.halted ≡ true)
-undisturbed code_words data_words input budget p b c clean w h =
-    passes_by code_words data_words p input b c [] budget clean w (omega (arith, h))
+undisturbed handler_words code_words data_words input budget p b c clean w h =
+    passes_by handler_words code_words data_words p input b c [] budget clean (λ e. unasked e) w (omega (arith, h))

@@ -19,8 +19,8 @@ use Rattle.mx_turn.specs.Stages.{live}
 use Rattle.mx_turn.specs.System.{Slot, slot_of, pops, restores}
 use Rattle.mx_turn.specs.Cycle.{Machine, shifted, mem_change, commit_byte, is_taken, entered, decided, turned, reached, ended}
 use Rattle.mx_turn.specs.OneTurn.{Follows, IsOnBoard, before_turn}
+use Rattle.mx_turn.specs.Program.{code_with}
 use Rattle.mx_turn.proofs.OneTurn.{one_turn, nor_restored}
-use Rattle.mx_handler.specs.Returns.{with_shipped}
 use Rattle.mx_interrupts.proofs.Watched.{next, CleanStep, clean_step}
 
 -- a code address from the user's on
@@ -50,9 +50,9 @@ slot_register false d v = refl
 pub goes_on : (code : Code) (c : Machine) → c.halted ≡ false → is_taken c ≡ false → ended code c ≡ decided code c
 goes_on code c goes quiet = cond-false _ c (turned code c) goes ∙ cond-false _ (entered c) (decided code c) quiet
 
-module _ (user : Code) (inside : ℕ → Bool) (p : Place) (input : Option (List ℕ)) where
+module _ (handler user : Code) (inside : ℕ → Bool) (p : Place) (input : Option (List ℕ)) where
   abbrev pub code : Code
-  code = with_shipped user
+  code = code_with handler user
 
   -- once the word in MEM has committed in a turn of user code after n interrupts: the machine follows, and no load is seen late but the last word's
   pub record InUser (c : Machine) (s : Watched) (n : ℕ) : Type 0 where

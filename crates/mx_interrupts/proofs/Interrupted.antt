@@ -11,20 +11,21 @@ use Rattle.mx_turn.specs.Run.{is_users, passes}
 use Rattle.mx_turn.specs.OneTurn.{IsOnBoard, before_turn}
 use Rattle.mx_handler.specs.Returns.{with_shipped}
 use Rattle.mx_interrupts.proofs.InUser.{InUser, in_user_before, goes_on}
-use Rattle.mx_interrupts.proofs.Pauses.{erased, later, Still, still_turn, Pause}
-use Rattle.mx_interrupts.proofs.Phases.{past, Turned, turn}
+use Rattle.mx_interrupts.proofs.Watched.{past}
+use Rattle.mx_interrupts.proofs.Pauses.{erased, later, Still, still_turn, Pause, shipped_code, shipped_handled}
+use Rattle.mx_interrupts.proofs.Phases.{Turned, turn}
 use Rattle.mx_interrupts.proofs.Cycles.{Stands}
 
 module _ (user : Code) (inside : ℕ → Bool) (p : Place) (input : Option (List ℕ)) where
   -- the interrupt was taken in user code, after n others
   pub record Interrupted (m : Machine) (s : Watched) (n : ℕ) : Type 0 where
     pub c : Machine
-    pub in_user : InUser user inside p input c s n
+    pub in_user : InUser shipped_code user inside p input c s n
     pub goes : c.halted ≡ false
     pub is : erased m ≡ erased (entered c)
 
   -- it is taken in this cycle
-  module _ (at_board : IsOnBoard p) (at_code : p.code ≡ 4096) (m : Machine) (request : Bool) (s : Watched) (w cycles asked : ℕ) (st : Stands user inside p input m s w cycles asked) (taken : (answer (with_shipped user) input m request).taken ≡ true) (clean : (past user inside p input (passes m) s).clean ≡ true) where
+  module _ (at_board : IsOnBoard p) (at_code : p.code ≡ 4096) (m : Machine) (request : Bool) (s : Watched) (w cycles asked : ℕ) (st : Stands shipped_code user inside p input m s w cycles asked) (taken : (answer (with_shipped user) input m request).taken ≡ true) (clean : (past user inside p input (passes m) s).clean ≡ true) where
     abbrev code : Code
     code = with_shipped user
 
@@ -34,7 +35,7 @@ module _ (user : Code) (inside : ℕ → Bool) (p : Place) (input : Option (List
     acts : m.halted ≡ false → eqb m.stall 0 ≡ true → Interrupted (cycled resident code input m request) (past user inside p input (passes m) s) m.counts.interrupts
     acts on z = record {
       c = c;
-      in_user = subst (λ b. InUser user inside p input c (past user inside p input b s) m.counts.interrupts) (sym passed) (t.taken is_now);
+      in_user = subst (λ b. InUser shipped_code user inside p input c (past user inside p input b s) m.counts.interrupts) (sym passed) (t.taken is_now);
       goes = on_after c.halted parts.0;
       is =
           ap (λ x. erased x) (cond-false _ m _ on ∙ cond-true _ _ _ z)
@@ -53,8 +54,8 @@ module _ (user : Code) (inside : ℕ → Bool) (p : Place) (input : Option (List
         on_after : (b : Bool) → not b ≡ true → b ≡ false
         on_after b h = grind arith
 
-        t : Turned user inside p input (erased m) c s m.counts.interrupts st.rest
-        t = turn user inside p input at_board at_code (erased m) s m.counts.interrupts st.rest m.stall (m.latch || request) m.counts st.state on
+        t : Turned shipped_code user inside p input (erased m) c s m.counts.interrupts st.rest
+        t = turn shipped_code user inside p input at_board at_code (erased m) s m.counts.interrupts st.rest m.stall (m.latch || request) m.counts (λ e. shipped_handled user inside p input at_board) st.state on
             (sym (ap (λ b. (past user inside p input b s).clean) passed) ∙ clean)
 
     pub interrupted : Interrupted (cycled resident code input m request) (past user inside p input (passes m) s) m.counts.interrupts
@@ -87,11 +88,11 @@ module _ (user : Code) (inside : ℕ → Bool) (p : Place) (input : Option (List
   grows (b ∷ g) m = let e = grow m b in let f = grows g (advance m b) in omega (arith, e, f)
 
   -- a pause, from its beginning on
-  module _ (base : Machine) (last : ℕ) (s : Watched) (n : ℕ) (pause : Pause user inside p input base last s n) where
+  module _ (base : Machine) (last : ℕ) (s : Watched) (n : ℕ) (pause : Pause shipped_code user inside p input base last s n) where
     -- a machine k turns into it
     pub record InPause (m : Machine) (k : ℕ) : Type 0 where
       pub goes : m.halted ≡ false
-      pub is : erased m ≡ erased (later user inside p input k base)
+      pub is : erased m ≡ erased (later shipped_code user inside p input k base)
 
     stalled_on : (m : Machine) (b : Bool) (k : ℕ) → InPause m k → eqb m.stall 0 ≡ false → InPause (advance m b) k
     stalled_on m b k h z =
@@ -113,16 +114,16 @@ module _ (user : Code) (inside : ℕ → Bool) (p : Place) (input : Option (List
       is =
           ap (λ x. erased x) e
           ∙ ap (λ x. erased (ended (with_shipped user) (reached (with_shipped user) input (before_turn m.stall (m.latch || b) m.counts x)))) h.is
-          ∙ still_turn user inside p input t m.stall (m.latch || b) m.counts still;
+          ∙ still_turn shipped_code user inside p input t m.stall (m.latch || b) m.counts still;
     }
       where
         t : Machine
-        t = later user inside p input k base
+        t = later shipped_code user inside p input k base
 
         c : Machine
         c = reached (with_shipped user) input (latched b m)
 
-        still : Still user inside p input t
+        still : Still shipped_code user inside p input t
         still = pause.still k early
 
         e : advance m b ≡ acted resident (with_shipped user) input (latched b m)
@@ -151,7 +152,7 @@ module _ (user : Code) (inside : ℕ → Bool) (p : Place) (input : Option (List
         (cases_Bool (eqb m.stall 0))
 
     -- at its end the machine is in user code
-    pub pause_ends : (m : Machine) (b : Bool) → InPause m last → InUser user inside p input (reached (with_shipped user) input (latched b m)) s n
+    pub pause_ends : (m : Machine) (b : Bool) → InPause m last → InUser shipped_code user inside p input (reached (with_shipped user) input (latched b m)) s n
     pause_ends m b h =
-        subst (λ x. InUser user inside p input (reached (with_shipped user) input (before_turn m.stall (m.latch || b) m.counts x)) s n) (sym h.is)
-        (in_user_before user inside p input (later user inside p input last base) s n m.stall (m.latch || b) m.counts pause.back)
+        subst (λ x. InUser shipped_code user inside p input (reached (with_shipped user) input (before_turn m.stall (m.latch || b) m.counts x)) s n) (sym h.is)
+        (in_user_before shipped_code user inside p input (later shipped_code user inside p input last base) s n m.stall (m.latch || b) m.counts pause.back)

@@ -18,12 +18,11 @@ use Rattle.mx_turn.proofs.Steps.{after_one_more}
 use Rattle.mx_handler.specs.Returns.{with_shipped}
 use Rattle.mx_interrupts.specs.Laws.{IsCleanImage}
 use Rattle.mx_interrupts.specs.Saves.{before_cycle, takes_in, in_cycle, Saved, IsTurn26}
-use Rattle.mx_interrupts.proofs.Watched.{watched_at, watched_more, clean_for_fewer}
+use Rattle.mx_interrupts.proofs.Watched.{past, watched_at, watched_more, clean_for_fewer}
 use Rattle.mx_interrupts.proofs.InUser.{InUser}
-use Rattle.mx_interrupts.proofs.Pauses.{Pause, handler_pause}
-use Rattle.mx_interrupts.proofs.Phases.{past}
+use Rattle.mx_interrupts.proofs.Pauses.{Pause, shipped_code, handler_pause, shipped_handled}
 use Rattle.mx_interrupts.proofs.Cycles.{stands_start}
-use Rattle.mx_interrupts.proofs.Runs.{program, steps, Ran, runs, passed_few, length_bits}
+use Rattle.mx_interrupts.proofs.Runs.{program, steps, Ran, runs, passed_few, length_bits, asked_few}
 use Rattle.mx_interrupts.proofs.Interrupted.{Interrupted, interrupted, InPause, pause_goes, pause_ends}
 
 after_append : (code : Code) (input : Option (List ℕ)) (g h : List Bool) (m : Machine) → after_bits resident code input m (g ++ h) ≡ after_bits resident code input (after_bits resident code input m g) h
@@ -57,32 +56,32 @@ module _ (user_words data_words : List ℕ) (p : Place) (input : Option (List �
   words = data_from 256 data_words
 
   abbrev pub q : Program
-  q = program user_words inside p input data_words
+  q = program shipped user_words inside p input data_words
 
   abbrev pub passed : ℕ → ℕ
   passed n = passed_on q (start words) (bits requests n)
 
   -- the steps that are done before a cycle
   abbrev pub done : ℕ → Watched
-  done n = steps user_words inside p input data_words (passed n) (watch_start p words)
+  done n = steps shipped user_words inside p input data_words (passed n) (watch_start p words)
 
   clean_at : (n : ℕ) → n ≤ budget → (done n).clean ≡ true
   clean_at n h =
       clean_for_fewer user inside p input (passed n) budget (watch_start p words)
       (let e = passed_few q (bits requests n) (start words) in let f = length_bits requests n in omega (arith, e, f, h)) clean
 
-  pub ran_at : (n : ℕ) → n ≤ budget → Ran user_words inside p input data_words (bits requests n) (start words) (watch_start p words) 0 0 0
+  pub ran_at : (n : ℕ) → n ≤ budget → Ran shipped user_words inside p input data_words (bits requests n) (start words) (watch_start p words) 0 0 0
   ran_at n h =
-      runs user_words inside p input data_words at_board at_code (bits requests n) (start words) (watch_start p words) 0 0 0
-      (stands_start user inside p input words at_code refl) (clean_at n h)
+      runs shipped user_words inside p input data_words at_board at_code (length requests) (λ e. shipped_handled user inside p input at_board) (bits requests n) (start words) (watch_start p words) 0 0 0
+      (let e = asked_few requests n in omega (arith, e)) (stands_start shipped_code user inside p input words at_code refl) (clean_at n h)
 
-  step_one : (b : Bool) (s : Watched) → steps user_words inside p input data_words (one b) s ≡ past user inside p input b s
+  step_one : (b : Bool) (s : Watched) → steps shipped user_words inside p input data_words (one b) s ≡ past user inside p input b s
   step_one true s = refl
   step_one false s = refl
 
   done_next : (n : ℕ) → done (suc n) ≡ past user inside p input (passes (before_cycle q requests n)) (done n)
   done_next n =
-      ap (λ k. steps user_words inside p input data_words k (watch_start p words)) (passed_more q (bits requests n) (is_requested requests n) (start words))
+      ap (λ k. steps shipped user_words inside p input data_words k (watch_start p words)) (passed_more q (bits requests n) (is_requested requests n) (start words))
       ∙ watched_more user inside p input (passed n) (one (passes (before_cycle q requests n))) (watch_start p words)
       ∙ step_one (passes (before_cycle q requests n)) (done n)
 
@@ -112,7 +111,7 @@ module _ (user_words data_words : List ℕ) (p : Place) (input : Option (List �
       taken = ap (λ (x : Machine). x.core.taken) was.is ∙ f.taken;
     }
 
-    pause : Pause user inside p input (entered was.c) 25 (done (suc n)) (m.counts.interrupts + 1)
+    pause : Pause shipped_code user inside p input (entered was.c) 25 (done (suc n)) (m.counts.interrupts + 1)
     pause = handler_pause user inside p input was.c (done (suc n)) m.counts.interrupts at_board was.in_user was.goes
 
     begins : InPause user inside p input (entered was.c) 25 (done (suc n)) (m.counts.interrupts + 1) pause m' 0
@@ -134,7 +133,7 @@ module _ (user_words data_words : List ℕ) (p : Place) (input : Option (List �
           (pause_goes user inside p input (entered was.c) 25 (done (suc n)) (m.counts.interrupts + 1) pause g m' 0 25 begins
           (sym (ap (λ (x : Machine). x.counts.fetches) reaches) ∙ turn.turns) (omega arith))
 
-      again : InUser user inside p input (in_cycle q requests j) (done (suc n)) (m.counts.interrupts + 1)
+      again : InUser shipped_code user inside p input (in_cycle q requests j) (done (suc n)) (m.counts.interrupts + 1)
       again = pause_ends user inside p input (entered was.c) 25 (done (suc n)) (m.counts.interrupts + 1) pause (before_cycle q requests j) (is_requested requests j) at_end
 
       counted : (in_cycle q requests j).core.mem 0 ≡ (m'.core.mem 0 + 1) % 2 ^ 32

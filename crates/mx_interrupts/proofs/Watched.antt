@@ -1,5 +1,5 @@
 -- Watched runs of the machine with delay slots.
-use Rattle.std.proofs.Common.{◌≡◌, ℕ, zero, suc, ◌+◌, ◌-◌, ◌≤◌, Bool, true, false, not, ◌&&◌, List, Option, refl, sym, ap, ◌∙◌, arith, ⊎_elim}
+use Rattle.std.proofs.Common.{◌≡◌, ℕ, zero, suc, ◌+◌, ◌-◌, ◌≤◌, Bool, true, false, cond, not, ◌&&◌, List, Option, refl, sym, ap, ◌∙◌, arith, ⊎_elim}
 use Rattle.std.proofs.lemmas.Bool.{cond-true, cond-false, cases_Bool, and_parts}
 use Rattle.mx_isa.specs.declared.place.Place.{Place}
 use Rattle.mx_isa.specs.Views.{reads}
@@ -9,6 +9,10 @@ use Rattle.mx_code.specs.Clean.{is_clean_step, loads_to, Watched, watch, watch_f
 module _ (code : Code) (inside : ℕ → Bool) (p : Place) (input : Option (List ℕ)) where
   abbrev pub next : Watched → Watched
   next s = watch code inside p input s
+
+  -- the steps that are done where a word of the user passes
+  abbrev pub past : Bool → Watched → Watched
+  past b s = cond b (next s) s
 
   -- one step that is watched, where the run has not halted
   abbrev stepped : Watched → Watched

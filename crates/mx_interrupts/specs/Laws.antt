@@ -50,12 +50,22 @@ RunGetsOn =
     (run.counts.interrupts ≤ length requests)
     × ((w : ℕ) → 3 * (w + 3) + 78 * length requests ≤ budget → (w ≤ run.passed) ⊎ (run.halted ≡ true))
 
--- Without requests three cycles for each word and three more words are enough.
-abbrev pub UndisturbedRunGetsOn : Type 0
-UndisturbedRunGetsOn =
-    (code_words data_words : List ℕ) (input : Option (List ℕ)) (budget : ℕ) (p : Place)
+-- Without requests it is so whatever handler stands below: no word of it takes effect.
+abbrev pub UndisturbedRunIsDelay : Type 0
+UndisturbedRunIsDelay =
+    (handler_words code_words data_words : List ℕ) (input : Option (List ℕ)) (budget : ℕ) (p : Place)
     → IsOnBoard p
     → p.code ≡ 4096
     → IsCleanImage code_words data_words p input budget
-    → let run = run_of (program_of shipped code_words data_words input) [] budget in
+    → let run = run_of (program_of handler_words code_words data_words input) [] budget in
+    RunsAs p run (delay (code_from inst_of 4096 code_words) p input (data_from 256 data_words) run.passed)
+
+-- And three cycles for each word and three more words are enough.
+abbrev pub UndisturbedRunGetsOn : Type 0
+UndisturbedRunGetsOn =
+    (handler_words code_words data_words : List ℕ) (input : Option (List ℕ)) (budget : ℕ) (p : Place)
+    → IsOnBoard p
+    → p.code ≡ 4096
+    → IsCleanImage code_words data_words p input budget
+    → let run = run_of (program_of handler_words code_words data_words input) [] budget in
     (w : ℕ) → 3 * (w + 3) ≤ budget → (w ≤ run.passed) ⊎ (run.halted ≡ true)

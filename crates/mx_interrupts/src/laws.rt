@@ -1,5 +1,5 @@
 //! Laws over the definitions.
-ghost use Rattle.mx_interrupts.specs.Laws.{RunIsDelay, RunGetsOn, UndisturbedRunGetsOn};
+ghost use Rattle.mx_interrupts.specs.Laws.{RunIsDelay, RunGetsOn, UndisturbedRunIsDelay, UndisturbedRunGetsOn};
 ghost use Rattle.mx_interrupts.specs.Saves.{InterruptSaves};
 
 /// Whatever interrupts come, a run of clean code has the console of the machine with delay slots after as many steps as words
@@ -15,7 +15,12 @@ pub fn run_gets_on()
     ensures { RunGetsOn }
 {}
 
-/// Without requests the words of clean code pass within 3 cycles each, and 9 more.
+/// Without requests a run of clean code does so whatever handler words stand below it.
+pub fn undisturbed_run_is_delay()
+    ensures { UndisturbedRunIsDelay }
+{}
+
+/// Without requests the words of clean code pass within 3 cycles each, and 9 more, whatever handler words stand below it.
 pub fn undisturbed_run_gets_on()
     ensures { UndisturbedRunGetsOn }
 {}

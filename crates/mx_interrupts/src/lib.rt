@@ -3,4 +3,6 @@
 
 mod laws;
 
-pub use laws::{interrupt_saves, run_gets_on, run_is_delay, undisturbed_run_gets_on};
+pub use laws::{
+    interrupt_saves, run_gets_on, run_is_delay, undisturbed_run_gets_on, undisturbed_run_is_delay,
+};

@@ -48,7 +48,7 @@ pub all_append : (is js : List Inst) → AllSpelled is → AllSpelled js → All
 all_append [] js h k = k
 all_append (i ∷ is) js h k = (h.0, all_append is js h.1 k)
 
-spelled_at : (insts : List Inst) (k : ℕ) (x : Inst) → AllSpelled insts → slice_get insts k ≡ Some x → Spelled x
+pub spelled_at : (insts : List Inst) (k : ℕ) (x : Inst) → AllSpelled insts → slice_get insts k ≡ Some x → Spelled x
 spelled_at [] k x h e = absurd (cc)
 spelled_at (i ∷ insts) zero x h e = let same : i ≡ x = cc in subst Spelled same h.0
 spelled_at (i ∷ insts) (suc k) x h e = spelled_at insts k x h.1 e
@@ -66,25 +66,30 @@ stands_all code inside b (i ∷ insts) h =
       stands_all code inside (b + 1) insts (λ k x e. let r = h (suc k) x e in let on : b + 1 + k ≡ b + suc k = omega arith in (ap code on ∙ r.0, ap inside on ∙ r.1)),
     )
 
+-- the word of an instruction that has one stands at its address
+pub code_there : (base : ℕ) (insts : List Inst) (k : ℕ) (x : Inst) → Spelled x → slice_get insts k ≡ Some x → code_from inst_of base (map word_of_row insts) (base + k) ≡ x
+code_there base insts k x h e =
+    let index : base + k - base ≡ k = omega arith in
+    let word : slice_get (map word_of_row insts) (base + k - base) ≡ Some (word_of_row x) = ap (slice_get (map word_of_row insts)) index ∙ slice_get-map word_of_row insts k ∙ ap (option_map word_of_row) e in
+    ap (λ b. cond b (unwrap_or (option_and_then inst_of (slice_get (map word_of_row insts) (base + k - base))) idle) idle) above
+    ∙ ap (λ o. unwrap_or (option_and_then inst_of o) idle) word
+    ∙ ap (λ o. unwrap_or o idle) (word_spells x h)
+  where
+    above : leb base (base + k) ≡ true
+    above = grind (arith, nat_tests)
+
 -- the words of instructions that have words spell them
 pub words_stand : (p : Place) (insts : List Inst) → AllSpelled insts → Stands (code_from inst_of p.code (map word_of_row insts)) (is_inside p (length (map word_of_row insts))) p.code insts
 words_stand p insts h = stands_all (code_from inst_of p.code (map word_of_row insts)) (is_inside p (length (map word_of_row insts))) p.code insts there
   where
-    above : (k : ℕ) → leb p.code (p.code + k) ≡ true
-    above k = grind (arith, nat_tests)
-
     within : (k n : ℕ) → k < n → (leb p.code (p.code + k) && ltb (p.code + k) (p.code + n)) ≡ true
     within k n l = grind (arith, nat_tests)
 
     there : (k : ℕ) (x : Inst) → slice_get insts k ≡ Some x → (code_from inst_of p.code (map word_of_row insts) (p.code + k) ≡ x) × (is_inside p (length (map word_of_row insts)) (p.code + k) ≡ true)
     there k x e =
         let low : k < length insts = slice_get_within insts k x e in
-        let long : length (map word_of_row insts) ≡ length insts = length-map insts word_of_row in
-        let index : p.code + k - p.code ≡ k = omega arith in
-        let word : slice_get (map word_of_row insts) (p.code + k - p.code) ≡ Some (word_of_row x) = ap (slice_get (map word_of_row insts)) index ∙ slice_get-map word_of_row insts k ∙ ap (option_map word_of_row) e in (
-          ap (λ b. cond b (unwrap_or (option_and_then inst_of (slice_get (map word_of_row insts) (p.code + k - p.code))) idle) idle) (above k)
-              ∙ ap (λ o. unwrap_or (option_and_then inst_of o) idle) word
-              ∙ ap (λ o. unwrap_or o idle) (word_spells x (spelled_at insts k x h e)),
+        let long : length (map word_of_row insts) ≡ length insts = length-map insts word_of_row in (
+          code_there p.code insts k x (spelled_at insts k x h e) e,
           within k (length (map word_of_row insts)) (omega arith),
         )
 
@@ -95,7 +100,7 @@ sites_stand code inside piece long at (s ∷ list) h st zero d l = subst (λ n. 
 sites_stand code inside piece long at (s ∷ list) h st (suc k) d l =
     sites_stand code inside piece long (at + plan_size s.plan) list h.1 (subst (λ n. Stands code inside (at + n) (flat_map piece list)) (long s) (stands_right code inside at (piece s) (flat_map piece list) st)) k d (omega arith)
 
-pieces_spelled : (piece : Site → List Inst) (list : List Site) → All (λ (s : Site). AllSpelled (piece s)) list → AllSpelled (flat_map piece list)
+pub pieces_spelled : (piece : Site → List Inst) (list : List Site) → All (λ (s : Site). AllSpelled (piece s)) list → AllSpelled (flat_map piece list)
 pieces_spelled piece [] h = tt
 pieces_spelled piece (s ∷ list) h = all_append (piece s) (flat_map piece list) (All-head (λ (s : Site). AllSpelled (piece s)) s list h) (pieces_spelled piece list (All-tail (λ (s : Site). AllSpelled (piece s)) s list h))
 

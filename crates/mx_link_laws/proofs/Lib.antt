@@ -13,3 +13,4 @@ pub mod Layouts
 pub mod Slots
 pub mod Placing
 pub mod Shown
+pub mod Results

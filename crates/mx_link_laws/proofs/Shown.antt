@@ -112,13 +112,13 @@ is_prefix : (xs ys : List ℕ) → Prefix xs ys → IsPrefix xs ys
 is_prefix xs ys h = record { rest = h.0; whole = h.1 }
 
 module _ (l : Linking) (laid : IsLaid l.source l.place l.sites) where
-  registers : (i : ℕ) (s : Statement) → slice_get l.source.statements i ≡ Some s → HasRegisters (statement_inst s)
+  pub registers : (i : ℕ) (s : Statement) → slice_get l.source.statements i ≡ Some s → HasRegisters (statement_inst s)
   registers i s e = subst (λ (x : Statement). HasRegisters (statement_inst x)) (get_or_from_slice_get l.source.statements i s s e) (laid.registers i s (slice_get_within l.source.statements i s e))
 
-  abbrev Filled : Type 0
+  abbrev pub Filled : Type 0
   Filled = Fills l.source laid.well_formed registers l.place l.sites laid.layout laid.room laid.reach l.filling
 
-  filled_from : IsFilling l.filling → Filled
+  pub filled_from : IsFilling l.filling → Filled
   filled_from h = ⊎_elim
       (λ e. (false, λ s. inr (refl, ap (λ (f : Filling). f l.sites s) e)))
       (λ e. (true, λ s. inl (ap (λ (f : Filling). f l.sites s) e)))

@@ -1,6 +1,15 @@
 //! Laws over the definitions: a source that is laid out with valid plans and branches in reach, with its slots
 //! filled from their targets or not at all, at any place and with any input.
 ghost use Rattle.mx_link_laws.specs.Laws.{LinkedCodeIsClean, LinkedCodeHalts, LinkedCodeHaltsOnly, LinkedCodeSends, LinkedBlocksStart, LaterBlocksStartLater, FetchesStartBlocks};
+ghost use Rattle.mx_link_laws.specs.Results.{ResultsAreLinked};
+
+use mx_validate::Proposer;
+
+/// What `link` or `link_plain` gives is linked code of its source, whatever was proposed: its image has the words and the data
+/// of a layout, its links are the link map, and each word spells the instruction that stands there. So each law below holds of it.
+pub fn results_are_linked<P: Proposer>()
+    ensures { ResultsAreLinked P.proposes }
+{}
 
 /// Where the meaning is not stuck within j + 64 statements, the first j steps of linked code are clean, and
 /// what they send is a prefix of what those statements send.

@@ -15,3 +15,4 @@ pub mod Driven
 pub mod Times
 pub mod Current
 pub mod Sizes
+pub mod Near

@@ -1,5 +1,5 @@
 -- Two linked programs in one image.
-use Rattle.std.specs.Prelude.{◌≡◌, ℕ, List, None, ◌⊎◌}
+use Rattle.std.specs.Prelude.{◌≡◌, ℕ, ◌≤◌, List, length, None, ◌⊎◌}
 use Rattle.mx_isa.specs.declared.Place.{Place}
 use Rattle.mx_source.specs.SourceValue.{SourceValue}
 use Rattle.mx_blocks.specs.declared.Block.{Block}
@@ -8,7 +8,7 @@ use Rattle.mx_validate.specs.Validity.{Valid}
 use Rattle.mx_squash.specs.Copies.{Site}
 use Rattle.mx_layout.specs.Layout.{IsLayout, blocks_in}
 use Rattle.mx_layout.specs.Kept.{AreKept}
-use Rattle.mx_layout.specs.Overlong.{overlong, IsTooLong}
+use Rattle.mx_layout.specs.Overlong.{Overlong, overlong, IsTooLong}
 use Rattle.mx_link.specs.Origins.{from_target}
 use Rattle.mx_link.specs.Linked.{links_of, linked_code, linked_data}
 use Rattle.mx_tasks.specs.Images.{shared_code, shared_data}
@@ -41,3 +41,8 @@ IsShareRefusal Proposes first second (Displacement program line from to) =
     ⊎ ((program ≡ 2) × ((proposals : List Plan) × IsPlaced Proposes first lower proposals)
     × IsTooLong Proposes second upper (record { line = line; from = from; to = to }))
 IsShareRefusal Proposes first second Memory = Unit {0}
+
+-- But none of their branches is overlong: 10,000 statements are 30,000 words at most, and a branch reaches further.
+abbrev pub ShortSourcesReach : (Block → Plan → Type 0) → Type 0
+ShortSourcesReach Proposes =
+    (source : SourceValue) (place : Place) (found : Overlong) → length source.statements ≤ 10000 → ¬ IsTooLong Proposes source place found

@@ -16,8 +16,6 @@ mod chain;
 #[cfg(test)]
 mod code;
 #[cfg(test)]
-mod command;
-#[cfg(test)]
 mod generator;
 #[cfg(test)]
 mod icache;

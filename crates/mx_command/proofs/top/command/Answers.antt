@@ -22,7 +22,8 @@ use Rattle.mx_command.specs.Joins.{JoinHeadline}
 use Rattle.mx_command.proofs.Prints.{nothing_to_write}
 use Rattle.mx_command.specs.Headline.{Headline}
 use Rattle.mx_command.specs.Writing.{writes_a_file}
-use Rattle.mx_schedule.proofs.Scheduler.{scheduler}
+use Rattle.mx_command.specs.Layouts.{greedy_layout, command_protocol}
+use Rattle.mx_command.proofs.GreedyLayouts.{greedy_is}
 use Rattle.mx_schedule.specs.Schedule.{IsScheduler}
 use Rattle.mx_answer.specs.Delivery.{Delivered}
 use Rattle.mx_io.specs.Counts.{Rose}
@@ -43,7 +44,7 @@ finish-requires g c =
     c.in-Ok.ensures.replied
 
 pub returns-clause-complete : goal.returns-clause-complete
-returns-clause-complete g c = λ layout_of is.
+returns-clause-complete g c =
     let asked : Option Command = command_of (map string_bytes c.args.words.now) in
     let first = c.args.shelf.now in
     let second = c.reply_to.new.shelf in
@@ -53,17 +54,17 @@ returns-clause-complete g c = λ layout_of is.
     let after : Counts = record { reads = g.S.Shelf.reads third; taken = g.S.Shelf.taken third; faults = g.S.Shelf.read_faults third } in
     let unread = c.finish.ensures.unread in
     let same : after ≡ between = λ k. record { reads = unread.0 k; taken = unread.1 k; faults = unread.2 k } in
-    let whole = ended (protocol_of layout_of asked) (reply_answer c.in-Ok.reply) c.finish.result
+    let whole = ended (command_protocol asked) (reply_answer c.in-Ok.reply) c.finish.result
     (g.S.Shelf.tells first) (g.S.Shelf.tells second) (g.S.Shelf.held first) (g.S.Shelf.held second) (g.S.Shelf.held third)
     before between after
     (g.S.Shelf.write_faults first) (g.S.Shelf.write_faults second) (g.S.Shelf.write_faults third)
     (g.W.Sink.faults c.args.out.now) (g.W.Sink.faults c.finish.new.out) (g.W.Sink.written c.args.out.now) (g.W.Sink.written c.finish.new.out)
-    (own_answers layout_of asked) (c.in-Ok.ensures.performed layout_of is) c.in-Ok.ensures.tells_stay c.in-Ok.ensures.held_stays c.in-Ok.ensures.writes_stay same
+    (own_answers greedy_layout asked) (c.in-Ok.ensures.performed greedy_layout greedy_is) c.in-Ok.ensures.tells_stay c.in-Ok.ensures.held_stays c.in-Ok.ensures.writes_stay same
     c.finish.ensures.delivered c.finish.ensures.write_fault c.finish.ensures.prefix c.finish.ensures.memory c.finish.ensures.kept in
     whole.complete
 
 pub returns-clause-sound : goal.returns-clause-sound
-returns-clause-sound g c = λ layout_of is.
+returns-clause-sound g c =
     let asked : Option Command = command_of (map string_bytes c.args.words.now) in
     let first = c.args.shelf.now in
     let second = c.reply_to.new.shelf in
@@ -73,69 +74,69 @@ returns-clause-sound g c = λ layout_of is.
     let after : Counts = record { reads = g.S.Shelf.reads third; taken = g.S.Shelf.taken third; faults = g.S.Shelf.read_faults third } in
     let unread = c.finish.ensures.unread in
     let same : after ≡ between = λ k. record { reads = unread.0 k; taken = unread.1 k; faults = unread.2 k } in
-    let whole = ended (protocol_of layout_of asked) (reply_answer c.in-Ok.reply) c.finish.result
+    let whole = ended (command_protocol asked) (reply_answer c.in-Ok.reply) c.finish.result
     (g.S.Shelf.tells first) (g.S.Shelf.tells second) (g.S.Shelf.held first) (g.S.Shelf.held second) (g.S.Shelf.held third)
     before between after
     (g.S.Shelf.write_faults first) (g.S.Shelf.write_faults second) (g.S.Shelf.write_faults third)
     (g.W.Sink.faults c.args.out.now) (g.W.Sink.faults c.finish.new.out) (g.W.Sink.written c.args.out.now) (g.W.Sink.written c.finish.new.out)
-    (own_answers layout_of asked) (c.in-Ok.ensures.performed layout_of is) c.in-Ok.ensures.tells_stay c.in-Ok.ensures.held_stays c.in-Ok.ensures.writes_stay same
+    (own_answers greedy_layout asked) (c.in-Ok.ensures.performed greedy_layout greedy_is) c.in-Ok.ensures.tells_stay c.in-Ok.ensures.held_stays c.in-Ok.ensures.writes_stay same
     c.finish.ensures.delivered c.finish.ensures.write_fault c.finish.ensures.prefix c.finish.ensures.memory c.finish.ensures.kept in
     whole.sound
 
 pub returns-clause-headline : goal.returns-clause-headline
 returns-clause-headline g c = λ tells undisturbed accepted.
     let told : (d : Delivered _ _ _ _ _ _ _) → Headline _ _ accepted _ _ _ =
-    delivered_is_headline (command_of (map string_bytes c.args.words.now)) (g.S.Shelf.held c.args.shelf.now) accepted scheduler.0 scheduler.1 c.finish.result
+    delivered_is_headline (command_of (map string_bytes c.args.words.now)) (g.S.Shelf.held c.args.shelf.now) accepted greedy_layout greedy_is c.finish.result
     (g.S.Shelf.tells c.args.shelf.now) (g.W.Sink.written c.args.out.now) (g.W.Sink.written c.finish.new.out) (g.S.Shelf.held c.finish.new.shelf) in
     ⊎_elim
-    (λ quiet. ⊎_elim (λ m. inl m) (λ d. inr (told d)) (returns-clause-complete g c scheduler.0 scheduler.1 tells quiet.reading quiet.writing quiet.putting))
+    (λ quiet. ⊎_elim (λ m. inl m) (λ d. inr (told d)) (returns-clause-complete g c tells quiet.reading quiet.writing quiet.putting))
     (λ calm. ⊎_elim
     (λ fault. ⊎_elim (λ w. absurd (calm.no_write_fault w)) (λ m. inl m) fault)
-    (λ other. inr (told (returns-clause-sound g c scheduler.0 scheduler.1 tells calm.no_read_fault other.0 other.1)))
+    (λ other. inr (told (returns-clause-sound g c tells calm.no_read_fault other.0 other.1)))
     (status_cases c.finish.result))
     undisturbed
 
 pub returns-clause-pair : goal.returns-clause-pair
 returns-clause-pair g c = λ tells undisturbed accepted.
     let told : (d : Delivered _ _ _ _ _ _ _) → PairHeadline _ _ accepted _ _ _ =
-    delivered_is_pair (command_of (map string_bytes c.args.words.now)) (g.S.Shelf.held c.args.shelf.now) accepted scheduler.0 scheduler.1 c.finish.result
+    delivered_is_pair (command_of (map string_bytes c.args.words.now)) (g.S.Shelf.held c.args.shelf.now) accepted greedy_layout greedy_is c.finish.result
     (g.S.Shelf.tells c.args.shelf.now) (g.W.Sink.written c.args.out.now) (g.W.Sink.written c.finish.new.out) (g.S.Shelf.held c.finish.new.shelf) in
     ⊎_elim
-    (λ quiet. ⊎_elim (λ m. inl m) (λ d. inr (told d)) (returns-clause-complete g c scheduler.0 scheduler.1 tells quiet.reading quiet.writing quiet.putting))
+    (λ quiet. ⊎_elim (λ m. inl m) (λ d. inr (told d)) (returns-clause-complete g c tells quiet.reading quiet.writing quiet.putting))
     (λ calm. ⊎_elim
     (λ fault. ⊎_elim (λ w. absurd (calm.no_write_fault w)) (λ m. inl m) fault)
-    (λ other. inr (told (returns-clause-sound g c scheduler.0 scheduler.1 tells calm.no_read_fault other.0 other.1)))
+    (λ other. inr (told (returns-clause-sound g c tells calm.no_read_fault other.0 other.1)))
     (status_cases c.finish.result))
     undisturbed
 
 pub returns-clause-stops : goal.returns-clause-stops
 returns-clause-stops g c = λ tells undisturbed accepted.
     let told : (d : Delivered _ _ _ _ _ _ _) → StopsHeadline _ _ accepted _ _ _ =
-    delivered_is_stops (command_of (map string_bytes c.args.words.now)) (g.S.Shelf.held c.args.shelf.now) accepted scheduler.0 scheduler.1 c.finish.result
+    delivered_is_stops (command_of (map string_bytes c.args.words.now)) (g.S.Shelf.held c.args.shelf.now) accepted greedy_layout greedy_is c.finish.result
     (g.S.Shelf.tells c.args.shelf.now) (g.W.Sink.written c.args.out.now) (g.W.Sink.written c.finish.new.out) (g.S.Shelf.held c.finish.new.shelf) in
     ⊎_elim
-    (λ quiet. ⊎_elim (λ m. inl m) (λ d. inr (told d)) (returns-clause-complete g c scheduler.0 scheduler.1 tells quiet.reading quiet.writing quiet.putting))
+    (λ quiet. ⊎_elim (λ m. inl m) (λ d. inr (told d)) (returns-clause-complete g c tells quiet.reading quiet.writing quiet.putting))
     (λ calm. ⊎_elim
     (λ fault. ⊎_elim (λ w. absurd (calm.no_write_fault w)) (λ m. inl m) fault)
-    (λ other. inr (told (returns-clause-sound g c scheduler.0 scheduler.1 tells calm.no_read_fault other.0 other.1)))
+    (λ other. inr (told (returns-clause-sound g c tells calm.no_read_fault other.0 other.1)))
     (status_cases c.finish.result))
     undisturbed
 
 pub returns-clause-modules : goal.returns-clause-modules
 returns-clause-modules g c = λ tells undisturbed accepted.
     let told : (d : Delivered _ _ _ _ _ _ _) → JoinHeadline _ _ accepted _ _ _ =
-    delivered_is_joined (command_of (map string_bytes c.args.words.now)) (g.S.Shelf.held c.args.shelf.now) accepted scheduler.0 c.finish.result
+    delivered_is_joined (command_of (map string_bytes c.args.words.now)) (g.S.Shelf.held c.args.shelf.now) accepted greedy_layout c.finish.result
     (g.S.Shelf.tells c.args.shelf.now) (g.W.Sink.written c.args.out.now) (g.W.Sink.written c.finish.new.out) (g.S.Shelf.held c.finish.new.shelf) in
     ⊎_elim
-    (λ quiet. ⊎_elim (λ m. inl m) (λ d. inr (told d)) (returns-clause-complete g c scheduler.0 scheduler.1 tells quiet.reading quiet.writing quiet.putting))
+    (λ quiet. ⊎_elim (λ m. inl m) (λ d. inr (told d)) (returns-clause-complete g c tells quiet.reading quiet.writing quiet.putting))
     (λ calm. ⊎_elim
     (λ fault. ⊎_elim (λ w. absurd (calm.no_write_fault w)) (λ m. inl m) fault)
-    (λ other. inr (told (returns-clause-sound g c scheduler.0 scheduler.1 tells calm.no_read_fault other.0 other.1)))
+    (λ other. inr (told (returns-clause-sound g c tells calm.no_read_fault other.0 other.1)))
     (status_cases c.finish.result))
     undisturbed
 
 pub returns-clause-read_fault : goal.returns-clause-read_fault
-returns-clause-read_fault g c = λ layout_of is.
+returns-clause-read_fault g c =
     let asked : Option Command = command_of (map string_bytes c.args.words.now) in
     let first = c.args.shelf.now in
     let second = c.reply_to.new.shelf in
@@ -145,17 +146,17 @@ returns-clause-read_fault g c = λ layout_of is.
     let after : Counts = record { reads = g.S.Shelf.reads third; taken = g.S.Shelf.taken third; faults = g.S.Shelf.read_faults third } in
     let unread = c.finish.ensures.unread in
     let same : after ≡ between = λ k. record { reads = unread.0 k; taken = unread.1 k; faults = unread.2 k } in
-    let whole = ended (protocol_of layout_of asked) (reply_answer c.in-Ok.reply) c.finish.result
+    let whole = ended (command_protocol asked) (reply_answer c.in-Ok.reply) c.finish.result
     (g.S.Shelf.tells first) (g.S.Shelf.tells second) (g.S.Shelf.held first) (g.S.Shelf.held second) (g.S.Shelf.held third)
     before between after
     (g.S.Shelf.write_faults first) (g.S.Shelf.write_faults second) (g.S.Shelf.write_faults third)
     (g.W.Sink.faults c.args.out.now) (g.W.Sink.faults c.finish.new.out) (g.W.Sink.written c.args.out.now) (g.W.Sink.written c.finish.new.out)
-    (own_answers layout_of asked) (c.in-Ok.ensures.performed layout_of is) c.in-Ok.ensures.tells_stay c.in-Ok.ensures.held_stays c.in-Ok.ensures.writes_stay same
+    (own_answers greedy_layout asked) (c.in-Ok.ensures.performed greedy_layout greedy_is) c.in-Ok.ensures.tells_stay c.in-Ok.ensures.held_stays c.in-Ok.ensures.writes_stay same
     c.finish.ensures.delivered c.finish.ensures.write_fault c.finish.ensures.prefix c.finish.ensures.memory c.finish.ensures.kept in
     whole.read_fault
 
 pub returns-clause-prefix : goal.returns-clause-prefix
-returns-clause-prefix g c = λ layout_of is.
+returns-clause-prefix g c =
     let asked : Option Command = command_of (map string_bytes c.args.words.now) in
     let first = c.args.shelf.now in
     let second = c.reply_to.new.shelf in
@@ -165,17 +166,17 @@ returns-clause-prefix g c = λ layout_of is.
     let after : Counts = record { reads = g.S.Shelf.reads third; taken = g.S.Shelf.taken third; faults = g.S.Shelf.read_faults third } in
     let unread = c.finish.ensures.unread in
     let same : after ≡ between = λ k. record { reads = unread.0 k; taken = unread.1 k; faults = unread.2 k } in
-    let whole = ended (protocol_of layout_of asked) (reply_answer c.in-Ok.reply) c.finish.result
+    let whole = ended (command_protocol asked) (reply_answer c.in-Ok.reply) c.finish.result
     (g.S.Shelf.tells first) (g.S.Shelf.tells second) (g.S.Shelf.held first) (g.S.Shelf.held second) (g.S.Shelf.held third)
     before between after
     (g.S.Shelf.write_faults first) (g.S.Shelf.write_faults second) (g.S.Shelf.write_faults third)
     (g.W.Sink.faults c.args.out.now) (g.W.Sink.faults c.finish.new.out) (g.W.Sink.written c.args.out.now) (g.W.Sink.written c.finish.new.out)
-    (own_answers layout_of asked) (c.in-Ok.ensures.performed layout_of is) c.in-Ok.ensures.tells_stay c.in-Ok.ensures.held_stays c.in-Ok.ensures.writes_stay same
+    (own_answers greedy_layout asked) (c.in-Ok.ensures.performed greedy_layout greedy_is) c.in-Ok.ensures.tells_stay c.in-Ok.ensures.held_stays c.in-Ok.ensures.writes_stay same
     c.finish.ensures.delivered c.finish.ensures.write_fault c.finish.ensures.prefix c.finish.ensures.memory c.finish.ensures.kept in
     whole.put_out
 
 pub returns-clause-performed : goal.returns-clause-performed
-returns-clause-performed g c = λ layout_of is r w m.
+returns-clause-performed g c = λ r w m.
     let asked : Option Command = command_of (map string_bytes c.args.words.now) in
     let told : Told = record { tells = g.S.Shelf.tells c.args.shelf.now; held = g.S.Shelf.held c.args.shelf.now } in
     let before : Counts = record { reads = g.S.Shelf.reads c.args.shelf.now; taken = g.S.Shelf.taken c.args.shelf.now; faults = g.S.Shelf.read_faults c.args.shelf.now } in
@@ -184,7 +185,7 @@ returns-clause-performed g c = λ layout_of is r w m.
     let unread = c.finish.ensures.unread in
     let same : after ≡ between = λ k. record { reads = unread.0 k; taken = unread.1 k; faults = unread.2 k } in
     let delivered = c.finish.ensures.delivered w m in
-    (reply_answer c.in-Ok.reply, subst (λ (n : Counts). Performed told (protocol_of layout_of asked) before n (reply_answer c.in-Ok.reply)) (sym same) (c.in-Ok.ensures.performed layout_of is), delivered.status, delivered.output)
+    (reply_answer c.in-Ok.reply, subst (λ (n : Counts). Performed told (command_protocol asked) before n (reply_answer c.in-Ok.reply)) (sym same) (c.in-Ok.ensures.performed greedy_layout greedy_is), delivered.status, delivered.output)
 
 pub returns-clause-usage : goal.returns-clause-usage
 returns-clause-usage g c = λ is.

@@ -1,0 +1,47 @@
+#!/usr/bin/env python3
+"""Tells which must-fail edits cannot be applied, since what they change is not there once: in a second, and for all crates.
+
+usage: checks/edits.py
+
+`rt ci` tells so only at its end. The exit status is 0 where all can be applied, else 1.
+"""
+import glob
+import os
+import sys
+
+TOP = os.path.dirname(os.path.dirname(os.path.abspath(__file__)))
+
+
+def fault_of(edit):
+    """Returns why the edit cannot be applied, or None."""
+    crate = os.path.dirname(os.path.dirname(edit))
+    path, old, texts = None, None, {}
+    with open(edit, encoding="utf-8") as lines:
+        for line in lines.read().split("\n"):
+            if line.startswith("file: "):
+                path = line[len("file: "):].strip()
+            elif line.startswith("old: "):
+                old = line[len("old: "):]
+            elif line.startswith("new:"):
+                if path not in texts:
+                    if not os.path.isfile(f"{crate}/{path}"):
+                        return f"there is no {path}"
+                    with open(f"{crate}/{path}", encoding="utf-8") as it:
+                        texts[path] = it.read()
+                if texts[path].count(old) != 1:
+                    return f"{path} has its text {texts[path].count(old)} times"
+                texts[path] = texts[path].replace(old, line[len("new:"):].removeprefix(" "))
+    return None if texts else "it changes nothing"
+
+
+def main():
+    faults = {edit: fault_of(edit) for edit in sorted(glob.glob(f"{TOP}/crates/*/must-fail/*.edit"))}
+    for edit, fault in faults.items():
+        if fault:
+            print(f"{os.path.relpath(edit, TOP)}: {fault}")
+    print(f"{sum(not it for it in faults.values())} of {len(faults)} edits can be applied")
+    return 1 if any(faults.values()) else 0
+
+
+if __name__ == "__main__":
+    sys.exit(main())

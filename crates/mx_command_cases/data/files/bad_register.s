@@ -1,0 +1,2 @@
+halt
+add r1,r2,r32

@@ -1,0 +1,5 @@
+pub mod Cuts
+pub mod Greedy
+pub mod Kept
+pub mod Rules
+pub mod Numbered

@@ -1,0 +1,6 @@
+pub mod Marks
+pub mod Files
+pub mod Props
+pub mod Says
+pub mod Rules
+pub mod Printed

@@ -1,0 +1,19 @@
+//! Plans from a file: what its lines say, which of them are valid, and the program that is linked by them.
+#![tactic(auto)]
+
+mod file;
+mod keeping;
+mod laws;
+mod linking;
+mod mark;
+mod pieces;
+mod printing;
+mod proposer;
+mod rule;
+
+pub use file::{PlanError, PlanLine, read_plans};
+pub use laws::{greedy_plan_is_printed, rules_are_of_valid_plans};
+pub use linking::link_planned;
+pub use mark::Mark;
+pub use printing::print_plans;
+pub use rule::{Rule, first_broken_rule};

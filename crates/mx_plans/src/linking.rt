@@ -1,0 +1,72 @@
+//! Linking by the plans of a file.
+ghost use Rattle.std.specs.Prelude.{◌≡◌, ◌≤◌, ◌+◌, ◌*◌, IfOk, IfErr, OnOk, length, map};
+ghost use Rattle.mx_blocks.specs.declared.Block.{Block};
+ghost use Rattle.mx_layout.specs.Overlong.{IsRefusal};
+ghost use Rattle.mx_link.specs.Origins.{from_target};
+ghost use Rattle.mx_link.specs.Parts.{HaveRegisters};
+ghost use Rattle.mx_link.specs.Linked.{IsLinked};
+ghost use Rattle.mx_plans.specs.Files.{marks_of_lines};
+ghost use Rattle.mx_plans.specs.Says.{Proposes, IsProposed, number_below, line_at};
+
+use crate::file::PlanLine;
+use crate::proposer::{FileProposer, Lines};
+use mx_blocks::{Block, blocks};
+use mx_isa::Place;
+use mx_link::{LinkError, Linked, link};
+use mx_source::Source;
+use std::alloc::{AllocError, Global};
+use std::marker::{Brand, PhantomData};
+
+/// The first statement of each block.
+fn firsts_of(alloc: Global, blocks: &[Block]) -> Result<Vec<u32>, AllocError>
+    ensures { IfOk result (λ firsts. firsts.items ≡ map (λ (b : Block). b.first) blocks.now) }
+{
+    let mut firsts = Vec::new(alloc);
+    for block in blocks {
+        firsts.push(block.first)?;
+    }
+    Ok(firsts)
+}
+
+/// Links a source at a place by the plans that are proposed.
+fn link_by<L: Lines>(
+    alloc: Global,
+    source: &Source,
+    place: Place,
+    firsts: &[u32],
+    lines: &[PlanLine],
+) -> Result<Linked, LinkError>
+    requires room { place.code + 3 * length source.now.statements ≤ 65535 }
+    requires tells { (block : Block) → line_at (marks_of_lines lines.now) (number_below firsts.now block.first) ≡ L.marks block }
+    ensures linked { IfOk result (IsLinked (λ block plan. Proposes (L.marks block) block plan) from_target source.now place) }
+    ensures registers { OnOk result (HaveRegisters source.now.statements) }
+    ensures refused { IfErr result (IsRefusal (λ block plan. Proposes (L.marks block) block plan) source.now place) }
+{
+    let mut proposer: FileProposer<L> = FileProposer {
+        firsts,
+        lines,
+        of: PhantomData,
+    };
+    link(alloc, source, place, &mut proposer)
+}
+
+/// Links a source at a place as `link` does, by the plans that the lines of a file say.
+///
+/// # Errors
+///
+/// Those of `link`.
+pub fn link_planned(
+    alloc: Global,
+    source: &Source,
+    place: Place,
+    lines: &[PlanLine],
+) -> Result<Linked, LinkError>
+    requires { place.code + 3 * length source.now.statements ≤ 65535 }
+    ensures linked { IfOk result (IsLinked (IsProposed source.now (marks_of_lines lines.now)) from_target source.now place) }
+    ensures registers { OnOk result (HaveRegisters source.now.statements) }
+    ensures refused { IfErr result (IsRefusal (IsProposed source.now (marks_of_lines lines.now)) source.now place) }
+{
+    let blocks = blocks(alloc, source)?;
+    let firsts = firsts_of(alloc, blocks.as_slice())?;
+    link_by::<Brand>(alloc, source, place, firsts.as_slice(), lines)
+}

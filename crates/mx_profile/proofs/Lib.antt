@@ -1,0 +1,5 @@
+pub mod Sums
+pub mod Counted
+pub mod Totals
+pub mod Charged
+pub mod Still
