@@ -1,0 +1,4 @@
+mod Fetched
+mod Shown
+mod Cells
+mod Recorded

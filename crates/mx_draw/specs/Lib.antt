@@ -1,0 +1,4 @@
+pub mod Cells
+pub mod Frames
+pub mod Stages
+pub mod Rows
