@@ -117,7 +117,14 @@ mx soak 7 4000
 [ "$status" -eq 0 ] && cmp -s out first && outcome=ok || outcome="status $status"
 tell "$outcome" 'the same run twice'
 
+mx join "$top/examples/letters.s" "$top/examples/emit.s"
+cp out source
+mx run source
+[ "$(grep -a -A 1 '^console' out | tr '\n' ' ')" = 'console 2 Hi ' ] || status=1
+expect 'two modules that are joined' 0 halted
+
 for example in "$top"/examples/*.s; do
+    grep -q '^ *\.\(import\|export\)' "$example" && continue # a module, which is no whole program
     printf ab >input
     seq 5 40 900 >requests
     mx run "$example" --input input --interrupts requests

@@ -38,7 +38,9 @@ pub fn read_file<S: Shelf>(
 fn fault_reply(alloc: Global, kind: FileKind, fault: &str) -> Result<Reply, Memory>
     ensures { IfOk result (λ r. reply_answer r ≡ prints ReadFault (text_line (codes "read fault: " ++ file_word kind ++ fault.now))) }
 {
-    let word = kind.word();
+    let Ok(word) = kind.word(alloc) else {
+        return Err(Memory);
+    };
     match format!(in alloc; "read fault: {word}{fault}") {
         Ok(text) => line_reply(alloc, Status::ReadFault, text.as_str()),
         Err(_) => Err(Memory),

@@ -1,12 +1,12 @@
 -- The command that the words after the program's name ask for.
-use Rattle.std.specs.Prelude.{ℕ, List, [], ◌∷◌, codes, Option, Some, None, option_map, option_and_then, find}
+use Rattle.std.specs.Prelude.{ℕ, List, [], ◌∷◌, codes, Option, Some, None, option_map, option_and_then, find, length, if◌then◌else◌}
 use Rattle.std.specs.Str.{bytes_eq}
-use Rattle.mx_words.specs.Reading.{asked}
+use Rattle.mx_words.specs.Reading.{asked, is_between}
 use Rattle.mx_report.specs.declared.Dump.{Dump}
 use Rattle.mx_simulate.specs.declared.Limits.{Limits}
 use Rattle.mx_sessions.specs.declared.SessionLimits.{SessionLimits}
 use Rattle.mx_asked.specs.Numbers.{number, number_or, optional}
-use Rattle.mx_asked.specs.Commands.{Command, Run, Meaning, Build, Exec, Listing, Gen, Soak, Migrate, Share, Debug, Best}
+use Rattle.mx_asked.specs.Commands.{Command, Run, Meaning, Build, Exec, Listing, Gen, Soak, Migrate, Share, Debug, Best, Join}
 
 -- the options of a run
 abbrev pub run_options : List (List ℕ)
@@ -97,6 +97,10 @@ debug_of (source ∷ label ∷ [], stops ∷ watch ∷ budget ∷ interrupts ∷
     option_map (Debug source label (record { interrupts = interrupts; input = input })) (session_limits_of stops watch budget)
 debug_of _ = None
 
+-- two to sixteen modules
+abbrev pub join_of : Words → Option Command
+join_of (names, values) = if is_between 2 16 (length names) then Some (Join names) else None
+
 -- a row of the table of commands: its first word, the names of its options, how few and how many names it takes, and
 -- what it reads of them
 pub record Row : Type 0 where
@@ -120,6 +124,7 @@ rows =
     ∷ record { word = codes "migrate"; options = []; fewest = 2; most = 2; reads = migrate_of }
     ∷ record { word = codes "share"; options = share_options; fewest = 2; most = 2; reads = share_of }
     ∷ record { word = codes "debug"; options = debug_options; fewest = 2; most = 2; reads = debug_of }
+    ∷ record { word = codes "join"; options = []; fewest = 2; most = 16; reads = join_of }
     ∷ []
 
 -- the row of a first word, spelled exactly

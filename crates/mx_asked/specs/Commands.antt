@@ -27,3 +27,5 @@ pub data Command : Type 0 where
   Share : (first : List ℕ) → (second : List ℕ) → (interrupts : Option (List ℕ)) → (budget : ℕ) → Command
   -- runs a source and tells its stops at a label
   Debug : (source : List ℕ) → (label : List ℕ) → (files : Files) → (limits : SessionLimits) → Command
+  -- joins modules to one source
+  Join : (names : List (List ℕ)) → Command

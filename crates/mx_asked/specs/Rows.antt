@@ -6,7 +6,7 @@ use Rattle.mx_asked.specs.declared.command.Form.{Form}
 use Rattle.mx_asked.specs.declared.command.Form.TheVariants as form
 use Rattle.mx_asked.specs.Commands.{Command}
 use Rattle.mx_asked.specs.Asked as asked
-use Rattle.mx_asked.specs.Asked.{Words, run_of, meaning_of, build_of, exec_of, list_of, gen_of, soak_of, migrate_of, share_of, debug_of, best_of}
+use Rattle.mx_asked.specs.Asked.{Words, run_of, meaning_of, build_of, exec_of, list_of, gen_of, soak_of, migrate_of, share_of, debug_of, best_of, join_of}
 
 -- what is made of the words that were read
 abbrev pub reads_of : Form → Words → Option Command
@@ -21,6 +21,7 @@ reads_of form.Soak = soak_of
 reads_of form.Migrate = migrate_of
 reads_of form.Share = share_of
 reads_of form.Debug = debug_of
+reads_of form.Join = join_of
 
 abbrev pub seen_row : Row → asked.Row
 seen_row row = record { word = row.word.now; options = texts row.options.now; fewest = row.fewest; most = row.most; reads = reads_of row.form }

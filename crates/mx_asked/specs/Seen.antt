@@ -1,4 +1,5 @@
-use Rattle.std.specs.Prelude.{◌≤◌, option_map}
+use Rattle.std.specs.Prelude.{◌≤◌, option_map, vec_len}
+use Rattle.mx_words.specs.Command.{texts}
 use Rattle.mx_simulate.specs.declared.RunFiles.{RunFiles}
 use Rattle.mx_simulate.specs.Machines.{Files}
 use Rattle.mx_sessions.specs.Sessions.{IsAsked}
@@ -23,10 +24,12 @@ seen_command (given.Soak seed count) = asked.Soak seed count
 seen_command (given.Migrate image target) = asked.Migrate image.now target.now
 seen_command (given.Share first second interrupts budget) = asked.Share first.now second.now (option_map (λ s. s.now) interrupts) budget
 seen_command (given.Debug source label files limits) = asked.Debug source.now label.now (seen_files files) limits
+seen_command (given.Join names) = asked.Join (texts names.items)
 
--- at most 4,000 items are generated, and the limits of a session are in their ranges
+-- at most 4,000 items are generated, the limits of a session are in their ranges, and 2 to 16 modules are joined
 abbrev pub IsAllowed : Command → Type 0
 IsAllowed (given.Gen seed count) = count ≤ 4000
 IsAllowed (given.Soak seed count) = count ≤ 4000
 IsAllowed (given.Debug source label files limits) = IsAsked limits
+IsAllowed (given.Join names) = (2 ≤ vec_len names) × (vec_len names ≤ 16)
 IsAllowed _ = Unit {0}

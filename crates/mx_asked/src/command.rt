@@ -9,8 +9,8 @@ ghost use Rattle.mx_asked.specs.Rows.{seen_row, reads_of};
 ghost use Rattle.mx_asked.specs.Seen.{seen_command, IsAllowed};
 
 use crate::readers::{
-    best_read, build_read, debug_read, exec_read, gen_read, list_read, meaning_read, migrate_read,
-    run_read, share_read, soak_read,
+    best_read, build_read, debug_read, exec_read, gen_read, join_read, list_read, meaning_read,
+    migrate_read, run_read, share_read, soak_read,
 };
 use mx_io::Memory;
 use mx_sessions::SessionLimits;
@@ -70,6 +70,9 @@ pub enum Command<'a> {
         files: RunFiles<'a>,
         limits: SessionLimits,
     },
+    Join {
+        names: Vec<&'a str>,
+    },
 }
 
 const MEANING_OPTIONS: [&str; 2] = ["steps", "input"];
@@ -79,6 +82,12 @@ const SHARE_OPTIONS: [&str; 2] = ["budget", "interrupts"];
 const RUN_OPTIONS: [&str; 6] = ["budget", "trace", "dump", "count", "interrupts", "input"];
 
 const DEBUG_OPTIONS: [&str; 5] = ["stops", "watch", "budget", "interrupts", "input"];
+
+/// How few modules are joined.
+pub const FEWEST_MODULES: usize = 2;
+
+/// How many modules are joined.
+pub const MOST_MODULES: usize = 16;
 
 /// Which function reads what stands after the first word.
 #[derive(Clone, Copy)]
@@ -94,6 +103,7 @@ enum Form {
     Migrate,
     Share,
     Debug,
+    Join,
 }
 
 /// A row of the table of commands.
@@ -125,6 +135,7 @@ const ROWS: &[Row] = &[
     Row { word: "migrate", options: &[], fewest: 2, most: 2, form: Form::Migrate },
     Row { word: "share", options: &SHARE_OPTIONS, fewest: 2, most: 2, form: Form::Share },
     Row { word: "debug", options: &DEBUG_OPTIONS, fewest: 2, most: 2, form: Form::Debug },
+    Row { word: "join", options: &[], fewest: FEWEST_MODULES, most: MOST_MODULES, form: Form::Join },
 ];
 
 // The row of a first word in a table, if there is one.
@@ -164,6 +175,7 @@ fn command_in<'a>(form: Form, read: Read<'a>) -> Option<Command<'a>>
         Form::Migrate => migrate_read(&read),
         Form::Share => share_read(&read),
         Form::Debug => debug_read(&read),
+        Form::Join => join_read(read),
     }
 }
 

@@ -1,11 +1,11 @@
 //! What is made of the words of each command, once they are read.
 ghost use Rattle.std.specs.Prelude.{◌≡◌, IfSome, option_map};
 ghost use Rattle.mx_words.specs.Read.{seen};
-ghost use Rattle.mx_asked.specs.Asked.{dump_of, limits_of, run_of, meaning_of, build_of, exec_of, list_of, gen_of, soak_of, migrate_of, share_of, session_limits_of, debug_of, best_of};
+ghost use Rattle.mx_asked.specs.Asked.{dump_of, limits_of, run_of, meaning_of, build_of, exec_of, list_of, gen_of, soak_of, migrate_of, share_of, session_limits_of, debug_of, best_of, join_of};
 ghost use Rattle.mx_sessions.specs.Sessions.{IsAsked};
 ghost use Rattle.mx_asked.specs.Seen.{seen_command, IsAllowed};
 
-use crate::command::Command;
+use crate::command::{Command, FEWEST_MODULES, MOST_MODULES};
 use crate::numbers::{number, number_or, optional};
 use mx_report::Dump;
 use mx_sessions::SessionLimits;
@@ -242,5 +242,18 @@ pub fn debug_read<'a>(read: &Read<'a>) -> Option<Command<'a>>
             })
         }
         _ => None,
+    }
+}
+
+/// What was read of `join`.
+pub fn join_read<'a>(read: Read<'a>) -> Option<Command<'a>>
+    ensures command { option_map seen_command result ≡ join_of (seen read.entry) }
+    ensures allowed { IfSome result IsAllowed }
+{
+    let count = read.names.len();
+    if FEWEST_MODULES <= count && count <= MOST_MODULES {
+        Some(Command::Join { names: read.names })
+    } else {
+        None
     }
 }

@@ -5,8 +5,10 @@ pub mod Links
 pub mod Laid
 pub mod Headline
 pub mod Prints
+pub mod Modules
 pub mod Pairs
 pub mod PairHeadline
+pub mod JoinHeadline
 mod Labels
 mod StoppedSources
 mod StopsHeadline

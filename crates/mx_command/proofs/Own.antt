@@ -1,5 +1,5 @@
 -- Each command answers with a status of its own, and only an answer that is done writes a file.
-use Rattle.std.proofs.Common.{◌≡◌, ℕ, List, Bool, true, false, cond, Option, Some, None, Result, Ok, Err, inl, inr, refl, sym, ap, ◌∙◌, subst}
+use Rattle.std.proofs.Common.{◌≡◌, ℕ, ◌++◌, List, [], ◌∷◌, Bool, true, false, cond, Option, Some, None, Result, Ok, Err, inl, inr, refl, sym, ap, ◌∙◌, subst}
 use Rattle.std.specs.Prelude.{is_some}
 use Rattle.mx_board.specs.declared.EventError.{EventError}
 use Rattle.mx_board.specs.RequestFile.{requests_of}
@@ -28,6 +28,8 @@ use Rattle.mx_link.specs.Linked.{link_map, linked_code, linked_data}
 use Rattle.mx_listing.specs.Listing.{layout_listing}
 use Rattle.mx_meaning.specs.Boards.{board}
 use Rattle.mx_meaning.specs.Told.{status_of, meaning_answer}
+use Rattle.mx_module.specs.LinkFaults.{Refusal}
+use Rattle.mx_module.specs.Joined.{joined, join_fault}
 use Rattle.mx_simulate.specs.declared.Limits.{Limits}
 use Rattle.mx_simulate.specs.Simulated.{program_answer}
 use Rattle.mx_simulate.specs.Machines.{Files, given, by_requests, requests_protocol, input_protocol, machine_protocol}
@@ -42,8 +44,8 @@ use Rattle.mx_tasks.specs.Sharing.{shared}
 use Rattle.mx_sharing.specs.Runs.{shared_answer, sharing_protocol}
 use Rattle.mx_asked.specs.declared.Command.{Command as GivenCommand}
 use Rattle.mx_asked.specs.Seen.{seen_command}
-use Rattle.mx_asked.specs.Commands.{Command, Run, Meaning, Build, Exec, Listing, Gen, Soak, Migrate, Share, Debug, Best}
-use Rattle.mx_command.specs.Protocols.{unless_faulty, unless_overlong, unless_refused, migrated, Layouts, Linking, linked_protocol, run_protocol, build_protocol, linked_contents, list_protocol, unless_wrong, wrong_with, unless_far, upper_layout, pair_code, pair_data, pair_protocol, assembled_protocol, statement_named, unless_unlabelled, labelled_protocol, protocol_of, measured}
+use Rattle.mx_asked.specs.Commands.{Command, Run, Meaning, Build, Exec, Listing, Gen, Soak, Migrate, Share, Debug, Best, Join}
+use Rattle.mx_command.specs.Protocols.{unless_faulty, unless_overlong, unless_refused, migrated, Layouts, Linking, linked_protocol, run_protocol, build_protocol, linked_contents, list_protocol, unless_wrong, wrong_with, unless_far, upper_layout, pair_code, pair_data, pair_protocol, assembled_protocol, statement_named, unless_unlabelled, labelled_protocol, protocol_of, measured, printed_unless, modules_protocol}
 use Rattle.mx_command.specs.Replied.{is_answered, IsReplied}
 
 -- the answer to what was asked
@@ -165,6 +167,14 @@ answers_labelled layout_of label files limits source =
     (answers_stopped files limits (linked_code from_nowhere source board (layout_of source)) (linked_data source board (layout_of source)) (is_some source.input)
     (link_map board (layout_of source) index)))
 
+answers_printed : (found : Option Refusal) (source : SourceValue) → IsAnswer (printed_unless found source)
+answers_printed (Some found) source = printed_answer _ _ refl
+answers_printed None source = printed_answer _ _ refl
+
+pub answers_modules : (names texts : List (List ℕ)) → HasAnswers (modules_protocol names texts)
+answers_modules [] texts = answers_printed (join_fault texts) (joined texts)
+answers_modules (name ∷ names) texts = λ text. answers_modules names (texts ++ text ∷ [])
+
 pub has_answers : (layout_of : Layouts) (asked : Command) → HasAnswers (protocol_of layout_of (Some asked))
 has_answers layout_of (Run source files limits) =
     answers_linked layout_of (run_protocol files limits)
@@ -182,6 +192,7 @@ has_answers layout_of (Share first second interrupts budget) =
     (λ one. answers_assembled 2 upper (pair_protocol layout_of interrupts budget one) (answers_pair layout_of interrupts budget one))
 has_answers layout_of (Debug source label files limits) =
     λ text. answers_faulty (text_fault 256 65536 text) _ (answers_labelled layout_of label files limits (source_of 256 text))
+has_answers layout_of (Join names) = answers_modules names []
 
 own_status : (status : Status) → is_answered status ≡ true → is_own status ≡ true
 own_status Halted is = refl

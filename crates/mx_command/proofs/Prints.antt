@@ -1,5 +1,5 @@
 -- Every command but `build` and `migrate` only prints.
-use Rattle.std.proofs.Common.{◌≡◌, ℕ, List, Bool, true, false, Option, Some, None, Result, Ok, Err, refl, sym, ◌∙◌}
+use Rattle.std.proofs.Common.{◌≡◌, ℕ, ◌++◌, List, [], ◌∷◌, Bool, true, false, Option, Some, None, Result, Ok, Err, refl, sym, ◌∙◌}
 use Rattle.std.specs.Prelude.{is_some}
 use Rattle.mx_board.specs.declared.EventError.{EventError}
 use Rattle.mx_board.specs.RequestFile.{requests_of}
@@ -25,6 +25,8 @@ use Rattle.mx_meaning.specs.Boards.{board}
 use Rattle.mx_meaning.specs.Told.{meaning_answer}
 use Rattle.mx_schedule.proofs.Scheduler.{scheduler}
 use Rattle.mx_schedule.specs.Schedule.{IsScheduler}
+use Rattle.mx_module.specs.LinkFaults.{Refusal}
+use Rattle.mx_module.specs.Joined.{joined, join_fault}
 use Rattle.mx_simulate.specs.declared.Limits.{Limits}
 use Rattle.mx_simulate.specs.Simulated.{program_answer}
 use Rattle.mx_simulate.specs.Machines.{Files, given, by_requests, requests_protocol, input_protocol, machine_protocol}
@@ -34,8 +36,8 @@ use Rattle.mx_sessions.specs.Sessions.{session_answer, session_protocol}
 use Rattle.mx_tasks.specs.Places.{lower, upper}
 use Rattle.mx_tasks.specs.Sharing.{shared}
 use Rattle.mx_sharing.specs.Runs.{shared_answer}
-use Rattle.mx_asked.specs.Commands.{Command, Run, Meaning, Build, Exec, Listing, Gen, Soak, Migrate, Share, Debug, Best}
-use Rattle.mx_command.specs.Protocols.{unless_faulty, unless_overlong, unless_refused, unless_wrong, wrong_with, unless_far, upper_layout, pair_code, pair_data, pair_protocol, assembled_protocol, statement_named, unless_unlabelled, labelled_protocol, Layouts, Linking, linked_protocol, run_protocol, list_protocol, protocol_of, measured}
+use Rattle.mx_asked.specs.Commands.{Command, Run, Meaning, Build, Exec, Listing, Gen, Soak, Migrate, Share, Debug, Best, Join}
+use Rattle.mx_command.specs.Protocols.{unless_faulty, unless_overlong, unless_refused, unless_wrong, wrong_with, unless_far, upper_layout, pair_code, pair_data, pair_protocol, assembled_protocol, statement_named, unless_unlabelled, labelled_protocol, Layouts, Linking, linked_protocol, run_protocol, list_protocol, protocol_of, measured, printed_unless, modules_protocol}
 use Rattle.mx_command.specs.Writing.{writes_a_file}
 
 program_prints : (p : Program) (code requests : List ℕ) (limits : Limits) → (program_answer p code requests limits).file ≡ None
@@ -121,6 +123,14 @@ labelled_prints layout_of label files limits source =
     (stopped_prints files limits (linked_code from_nowhere source board (layout_of source)) (linked_data source board (layout_of source)) (is_some source.input)
     (link_map board (layout_of source) index)))
 
+unless_prints : (found : Option Refusal) (source : SourceValue) → (printed_unless found source).file ≡ None
+unless_prints (Some found) source = refl
+unless_prints None source = refl
+
+modules_print : (names texts : List (List ℕ)) → OnlyPrints (modules_protocol names texts)
+modules_print [] texts = unless_prints (join_fault texts) (joined texts)
+modules_print (name ∷ names) texts = λ text. modules_print names (texts ++ text ∷ [])
+
 command_prints : (layout_of : Layouts) (asked : Command) → writes_a_file (Some asked) ≡ false → OnlyPrints (protocol_of layout_of (Some asked))
 command_prints layout_of (Run source files limits) only =
     linked_prints layout_of (run_protocol files limits)
@@ -140,6 +150,7 @@ command_prints layout_of (Share first second interrupts budget) only =
     (λ one. assembled_prints 2 upper (pair_protocol layout_of interrupts budget one) (pair_prints layout_of interrupts budget one))
 command_prints layout_of (Debug source label files limits) only =
     λ text. faulty_prints (text_fault 256 65536 text) _ (labelled_prints layout_of label files limits (source_of 256 text))
+command_prints layout_of (Join names) only = modules_print names []
 
 only_prints : (layout_of : Layouts) (asked : Option Command) → writes_a_file asked ≡ false → OnlyPrints (protocol_of layout_of asked)
 only_prints layout_of None only = refl

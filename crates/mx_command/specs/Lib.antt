@@ -6,4 +6,5 @@ pub mod Writing
 pub mod Sharing
 pub mod Pairs
 pub mod Stops
+pub mod Joins
 pub mod Layouts

@@ -1,5 +1,5 @@
 -- What each command reads and answers, in the order in which it is refused.
-use Rattle.std.specs.Prelude.{◌≡◌, ℕ, ◌+◌, ◌++◌, [], codes, List, map, cond, ltb, length, slice_get, Option, Some, None, is_some, option_and_then, ℤ, pos, ◌-ℤ◌}
+use Rattle.std.specs.Prelude.{◌≡◌, ℕ, ◌+◌, ◌++◌, [], ◌∷◌, codes, List, map, cond, ltb, length, slice_get, Option, Some, None, is_some, option_and_then, ℤ, pos, ◌-ℤ◌}
 use Rattle.std.specs.Fmt.{decimal, signed_decimal}
 use Rattle.mx_isa.specs.declared.Place.{Place}
 use Rattle.mx_source.specs.declared.Label.{Label}
@@ -19,7 +19,7 @@ use Rattle.mx_image.specs.declared.ImageError.{ImageError}
 use Rattle.mx_image.specs.declared.ImageError.TheVariants as image
 use Rattle.mx_image.specs.Contents.{Contents}
 use Rattle.mx_image.specs.Files.{file_refusal, file_in, file_bytes}
-use Rattle.mx_answer.specs.declared.FileKind.TheVariants.{Source, First, Second, Image}
+use Rattle.mx_answer.specs.declared.FileKind.TheVariants.{Source, First, Second, Module, Image}
 use Rattle.mx_answer.specs.declared.Status.TheVariants.{Done, Refused, BadImage}
 use Rattle.mx_answer.specs.Answer.{Answer, prints, writes, text_line, usage}
 use Rattle.mx_answer.specs.Protocol.{Protocol, Answers, Reads}
@@ -29,6 +29,10 @@ use Rattle.mx_asm.specs.declared.Fault.{Fault}
 use Rattle.mx_asm.specs.declared.Fault.TheVariants as fault
 use Rattle.mx_asm.specs.Operands.{label_named}
 use Rattle.mx_asm.specs.Texts.{source_of, text_fault}
+use Rattle.mx_module.specs.declared.JoinFault.{JoinFault}
+use Rattle.mx_module.specs.declared.JoinFault.TheVariants.{BadName, NotDefined, DuplicateExport, NoExport, LocalClash, Line}
+use Rattle.mx_module.specs.LinkFaults.{Refusal}
+use Rattle.mx_module.specs.Joined.{joined, join_fault}
 use Rattle.mx_meaning.specs.Boards.{board}
 use Rattle.mx_meaning.specs.Told.{meaning_answer}
 use Rattle.mx_sessions.specs.declared.SessionLimits.{SessionLimits}
@@ -36,7 +40,7 @@ use Rattle.mx_sessions.specs.Sessions.{session_protocol}
 use Rattle.mx_tasks.specs.Places.{lower, upper}
 use Rattle.mx_tasks.specs.Images.{shared_code, shared_data}
 use Rattle.mx_sharing.specs.Runs.{sharing_protocol}
-use Rattle.mx_asked.specs.Commands.{Command, Run, Meaning, Build, Exec, Listing, Gen, Soak, Migrate, Share, Debug, Best}
+use Rattle.mx_asked.specs.Commands.{Command, Run, Meaning, Build, Exec, Listing, Gen, Soak, Migrate, Share, Debug, Best, Join}
 
 abbrev pub fault_text : Fault → List ℕ
 fault_text fault.BadByte = codes "F1 BadByte"
@@ -259,6 +263,33 @@ abbrev pub debug_protocol : Layouts → List ℕ → Files → SessionLimits →
 debug_protocol layout_of label files limits text =
     unless_faulty (text_fault 256 65536 text) (labelled_protocol layout_of label files limits (source_of 256 text))
 
+-- the fault of a module's line
+abbrev pub join_fault_text : JoinFault → List ℕ
+join_fault_text BadName = codes "G1 BadName"
+join_fault_text NotDefined = codes "G2 NotDefined"
+join_fault_text DuplicateExport = codes "G3 DuplicateExport"
+join_fault_text NoExport = codes "G4 NoExport"
+join_fault_text LocalClash = codes "G5 LocalClash"
+join_fault_text (Line f) = fault_text f
+
+-- the line of modules that are refused: the module, its line and the fault
+abbrev pub refusal_line : Refusal → List ℕ
+refusal_line found = text_line (codes "module " ++ decimal found.0 ++ codes " line " ++ decimal found.1 ++ codes ": " ++ join_fault_text found.2)
+
+-- refused by the first fault, or the canonical text of a source
+abbrev pub printed_unless : Option Refusal → SourceValue → Answer
+printed_unless (Some found) source = prints Refused (refusal_line found)
+printed_unless None source = prints Done (printed source)
+
+-- the texts of modules: refused by their first fault, or the canonical text of the source that they join as
+abbrev pub join_answer : List (List ℕ) → Answer
+join_answer texts = printed_unless (join_fault texts) (joined texts)
+
+-- the files of modules are read, in order, behind these texts of the modules before them; then all texts are judged
+abbrev pub modules_protocol : List (List ℕ) → List (List ℕ) → Protocol
+modules_protocol [] texts = Answers (join_answer texts)
+modules_protocol (name ∷ names) texts = Reads (Module (length texts + 1)) name (λ text. modules_protocol names (texts ++ text ∷ []))
+
 -- what a command reads and answers, where this is the layout of each source
 abbrev pub protocol_of : Layouts → Option Command → Protocol
 protocol_of layout_of None = Answers usage
@@ -273,3 +304,4 @@ protocol_of layout_of (Some (Soak seed count)) = Answers (prints Done (soak_text
 protocol_of layout_of (Some (Migrate image target)) = Reads Image image (λ bytes. Answers (migrate_answer target bytes))
 protocol_of layout_of (Some (Share first second interrupts budget)) = share_protocol layout_of first second interrupts budget
 protocol_of layout_of (Some (Debug source label files limits)) = Reads Source source (debug_protocol layout_of label files limits)
+protocol_of layout_of (Some (Join names)) = modules_protocol names []

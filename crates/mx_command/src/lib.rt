@@ -4,6 +4,7 @@
 mod debugged;
 mod files;
 mod images;
+mod joined;
 mod laws;
 mod reply;
 mod shared;

@@ -14,6 +14,7 @@ ghost use Rattle.mx_command.specs.Replied.{IsReplied};
 
 use crate::debugged::debug_reply;
 use crate::images::{exec_reply, migrate_reply};
+use crate::joined::join_reply;
 use crate::shared::share_reply;
 use crate::sourced::{best_reply, build_reply, list_reply, run_reply, told_reply};
 use mx_answer::{Reply, Status, line_reply};
@@ -122,6 +123,10 @@ fn command_reply<S: Shelf>(alloc: Global, shelf: &mut S, asked: &Command) -> Res
             ref limits,
         } => {
             let reply = debug_reply(alloc, shelf, source, label, files, limits)?;
+            Ok(reply)
+        }
+        Command::Join { ref names } => {
+            let reply = join_reply(alloc, shelf, names.as_slice())?;
             Ok(reply)
         }
     }

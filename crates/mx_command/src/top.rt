@@ -11,6 +11,7 @@ ghost use Rattle.mx_command.specs.Accepted.{Accepted};
 ghost use Rattle.mx_command.specs.Headline.{AreQuiet, IsNoFault, Headline};
 ghost use Rattle.mx_command.specs.Pairs.{AcceptedPair, PairHeadline};
 ghost use Rattle.mx_command.specs.Stops.{AcceptedStops, StopsHeadline};
+ghost use Rattle.mx_command.specs.Joins.{AcceptedModules, JoinHeadline};
 ghost use Rattle.mx_command.specs.Writing.{writes_a_file};
 
 use crate::reply::reply_to;
@@ -52,6 +53,14 @@ pub fn command<S: Shelf, W: Sink>(
         → (accepted : AcceptedStops (command_of (map string_bytes words.now)) (S.held shelf.old))
         → (result ≡ Status.Memory)
         ⊎ StopsHeadline (command_of (map string_bytes words.now)) (S.held shelf.old) accepted result (W.written out.old) (W.written out.new) }
+
+    // Where they ask for the join of modules without faults: all that `JoinHeadline` says, or memory ran out.
+    ensures modules { S.tells shelf.old ≡ true
+        → AreQuiet (S.read_faults shelf.old) (S.read_faults shelf.new) (S.write_faults shelf.old) (S.write_faults shelf.new)
+        (W.faults out.old) (W.faults out.new) ⊎ IsNoFault result
+        → (accepted : AcceptedModules (command_of (map string_bytes words.now)) (S.held shelf.old))
+        → (result ≡ Status.Memory)
+        ⊎ JoinHeadline (command_of (map string_bytes words.now)) (S.held shelf.old) accepted result (W.written out.old) (W.written out.new) }
 
     // ANSWERS, of every command. Where the shelf tells what it holds and no count of faults rises, the answer is that
     // of the words and of what is held, or memory ran out.

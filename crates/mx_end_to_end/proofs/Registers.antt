@@ -312,6 +312,9 @@ module _ (labels : Labels) where
       onto_has (effect_of labels p.section words) (statements_in (effects_from labels (after p (line_words line)) (number + 1) lines)) (effect_has p.section words)
       (lines_have (after p (line_words line)) (number + 1) lines)
 
+pub lines_registers : (labels : Labels) (p : Position) (number : ℕ) (lines : List (List ℕ)) → All (λ (s : Statement). HasRegisters (inst_of s)) (statements_in (effects_from labels p number lines))
+lines_registers labels p number lines = lines_have labels p number lines
+
 pub text_registers : (low : ℕ) (text : List ℕ) → All (λ (s : Statement). HasRegisters (inst_of s)) (source_of low text).statements
 unfolding source_of text_effects
-text_registers low text = lines_have (text_labels low text) (start low) 1 (lines_of text)
+text_registers low text = lines_registers (text_labels low text) (start low) 1 (lines_of text)

@@ -49,7 +49,7 @@ value_more : (P Q : ℕ → Type 0) → ((i : ℕ) → P i → Q i) → (v : Val
 value_more P Q f (Int word) h = tt
 value_more P Q f (Code i) h = f i h
 
-all_more : {A : Type 0} (P Q : A → Type 0) → ((x : A) → P x → Q x) → (xs : List A) → All P xs → All Q xs
+pub all_more : {A : Type 0} (P Q : A → Type 0) → ((x : A) → P x → Q x) → (xs : List A) → All P xs → All Q xs
 all_more P Q f xs h = λ k d lt. f _ (h k d lt)
 
 label_more : (n k : ℕ) → n ≤ k → (l : Label) → LabelFits n l → LabelFits k l
@@ -57,7 +57,7 @@ label_more n k le (label.Code i) h = omega (arith, le, h)
 label_more n k le (label.Data a) h = h
 
 -- what holds of each label of modules
-abbrev AllLabels : (Label → Type 0) → List ModuleValue → Type 0
+abbrev pub AllLabels : (Label → Type 0) → List ModuleValue → Type 0
 AllLabels P [] = Unit {0}
 AllLabels P (m ∷ ms) = All (λ (p : List ℕ × Label). P p.1) m.labels × AllLabels P ms
 
@@ -99,7 +99,7 @@ module _ (P : Label → Type 0) where
     import_has labels Import None h = h
     import_has labels Export name h = h
 
-    imports_have : (links : List Link) (labels : Labels) → All (λ (p : List ℕ × Label). P p.1) labels → All (λ (p : List ℕ × Label). P p.1) (with_imports all place labels links)
+    pub imports_have : (links : List Link) (labels : Labels) → All (λ (p : List ℕ × Label). P p.1) labels → All (λ (p : List ℕ × Label). P p.1) (with_imports all place labels links)
     imports_have [] labels h = h
     imports_have (l ∷ links) labels h = imports_have links (with_import all place labels l.kind l.name) (import_has labels l.kind l.name h)
 
@@ -121,7 +121,7 @@ record Fit (all : List ModuleValue) (place : ℕ) (rest : List ModuleValue) (fro
   statements : (Place : ℕ → Type 0) → Covers Place last.index all place rest → All (StatementFits Place) (statements_in (effects_in all place rest))
   values : (Place : ℕ → Type 0) → Covers Place last.index all place rest → All (ValueFits Place) (values_in (effects_in all place rest))
 
-line_none : (place : ℕ) (f : Option (ℕ × Fault)) → line_of place f ≡ None → f ≡ None
+pub line_none : (place : ℕ) (f : Option (ℕ × Fault)) → line_of place f ≡ None → f ≡ None
 line_none place None h = refl
 line_none place (Some found) h = cc
 

@@ -1,9 +1,11 @@
-use Rattle.std.proofs.Common.{[]}
+use Rattle.std.proofs.Common.{ℕ, List, [], subst}
+use Rattle.std.specs.Borrow.{Bor}
+use Rattle.mx_words.specs.Command.{texts}
 use Rattle.mx_asked.specs.declared.Command.TheVariants as given
-use Rattle.mx_answer.specs.Protocol.{Told, Counts}
+use Rattle.mx_answer.specs.Protocol.{Told, Counts, Performed}
 use Rattle.mx_answer.specs.Replies.{reply_answer}
 use Rattle.mx_schedule.proofs.Scheduler.{scheduler}
-use Rattle.mx_command.specs.Protocols.{Layouts}
+use Rattle.mx_command.specs.Protocols.{Layouts, modules_protocol}
 use Rattle.mx_schedule.proofs.Scheduler.{scheduler}
 use Rattle.mx_command.proofs.Own.{by_command, command_is_replied}
 use Rattle.mx_command.proofs.reply.command_reply.Goals as goal
@@ -111,3 +113,11 @@ returns-in_ok-reply-in-Debug-clause-replied g c =
     let after : Counts = record { reads = g.S.Shelf.reads c.debug_reply.new.shelf; taken = g.S.Shelf.taken c.debug_reply.new.shelf; faults = g.S.Shelf.read_faults c.debug_reply.new.shelf } in
     command_is_replied scheduler.0 told before after (reply_answer c.in_ok-reply-in-Debug.reply)
     (given.Debug c.in-Debug.source c.in-Debug.label c.in-Debug.files c.in-Debug.limits) (c.in_ok-reply-in-Debug.ensures.performed scheduler.0 scheduler.1)
+
+pub returns-in_ok-reply-in-Join-clause-performed : goal.returns-in_ok-reply-in-Join-clause-performed
+returns-in_ok-reply-in-Join-clause-performed g c = λ layout_of is.
+    let told : Told = record { tells = g.S.Shelf.tells c.args.shelf.now; held = g.S.Shelf.held c.args.shelf.now } in
+    let before : Counts = record { reads = g.S.Shelf.reads c.args.shelf.now; taken = g.S.Shelf.taken c.args.shelf.now; faults = g.S.Shelf.read_faults c.args.shelf.now } in
+    let after : Counts = record { reads = g.S.Shelf.reads c.join_reply.new.shelf; taken = g.S.Shelf.taken c.join_reply.new.shelf; faults = g.S.Shelf.read_faults c.join_reply.new.shelf } in
+    by_command layout_of told before after (reply_answer c.in_ok-reply-in-Join.reply) c.args.asked.now (given.Join c.in-Join.names) c.in-Join.is
+    (subst (λ (names : List (Bor (List ℕ))). Performed told (modules_protocol (texts names) []) before after (reply_answer c.in_ok-reply-in-Join.reply)) c.as_slice.ensures.value c.in_ok-reply-in-Join.ensures.performed)

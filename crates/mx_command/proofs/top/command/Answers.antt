@@ -17,6 +17,8 @@ use Rattle.mx_command.proofs.PairHeadline.{delivered_is_pair}
 use Rattle.mx_command.specs.Pairs.{PairHeadline}
 use Rattle.mx_command.proofs.StopsHeadline.{delivered_is_stops}
 use Rattle.mx_command.specs.Stops.{StopsHeadline}
+use Rattle.mx_command.proofs.JoinHeadline.{delivered_is_joined}
+use Rattle.mx_command.specs.Joins.{JoinHeadline}
 use Rattle.mx_command.proofs.Prints.{nothing_to_write}
 use Rattle.mx_command.specs.Headline.{Headline}
 use Rattle.mx_command.specs.Writing.{writes_a_file}
@@ -111,6 +113,19 @@ pub returns-clause-stops : goal.returns-clause-stops
 returns-clause-stops g c = λ tells undisturbed accepted.
     let told : (d : Delivered _ _ _ _ _ _ _) → StopsHeadline _ _ accepted _ _ _ =
     delivered_is_stops (command_of (map string_bytes c.args.words.now)) (g.S.Shelf.held c.args.shelf.now) accepted greedy_layout greedy_is c.finish.result
+    (g.S.Shelf.tells c.args.shelf.now) (g.W.Sink.written c.args.out.now) (g.W.Sink.written c.finish.new.out) (g.S.Shelf.held c.finish.new.shelf) in
+    ⊎_elim
+    (λ quiet. ⊎_elim (λ m. inl m) (λ d. inr (told d)) (returns-clause-complete g c tells quiet.reading quiet.writing quiet.putting))
+    (λ calm. ⊎_elim
+    (λ fault. ⊎_elim (λ w. absurd (calm.no_write_fault w)) (λ m. inl m) fault)
+    (λ other. inr (told (returns-clause-sound g c tells calm.no_read_fault other.0 other.1)))
+    (status_cases c.finish.result))
+    undisturbed
+
+pub returns-clause-modules : goal.returns-clause-modules
+returns-clause-modules g c = λ tells undisturbed accepted.
+    let told : (d : Delivered _ _ _ _ _ _ _) → JoinHeadline _ _ accepted _ _ _ =
+    delivered_is_joined (command_of (map string_bytes c.args.words.now)) (g.S.Shelf.held c.args.shelf.now) accepted greedy_layout c.finish.result
     (g.S.Shelf.tells c.args.shelf.now) (g.W.Sink.written c.args.out.now) (g.W.Sink.written c.finish.new.out) (g.S.Shelf.held c.finish.new.shelf) in
     ⊎_elim
     (λ quiet. ⊎_elim (λ m. inl m) (λ d. inr (told d)) (returns-clause-complete g c tells quiet.reading quiet.writing quiet.putting))

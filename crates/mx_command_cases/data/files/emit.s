@@ -1,0 +1,3 @@
+.export emit
+emit: st 255[r0],r1
+x: jr r31

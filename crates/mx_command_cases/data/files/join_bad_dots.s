@@ -1,0 +1,2 @@
+a..b: nop
+.export a..b

@@ -1,0 +1,2 @@
+nop
+.export .x

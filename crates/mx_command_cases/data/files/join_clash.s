@@ -1,0 +1,2 @@
+first: nop
+.import first

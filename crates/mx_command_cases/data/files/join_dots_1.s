@@ -1,0 +1,2 @@
+x..2: halt
+x: halt

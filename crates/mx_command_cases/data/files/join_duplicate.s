@@ -1,0 +1,2 @@
+.export first
+first: nop

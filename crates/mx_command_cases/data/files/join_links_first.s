@@ -1,0 +1,2 @@
+bad bad
+.import nowhere

@@ -1,0 +1,3 @@
+; the name is nowhere
+.export second
+nop

@@ -1,0 +1,3 @@
+.export second
+.EXPORT second
+second: nop

@@ -1,0 +1,3 @@
+second: nop
+.export second
+.import second

@@ -1,0 +1,3 @@
+halt
+.data
+a: .word 1

@@ -1,0 +1,4 @@
+nop
+.input
+.data
+a: .word 2

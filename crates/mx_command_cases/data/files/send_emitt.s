@@ -1,0 +1,4 @@
+.import emitt
+addi r0,#72,r1
+call emit,r31
+halt
