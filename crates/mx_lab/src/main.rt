@@ -1,0 +1,33 @@
+//! Runs the command for people that the words of its command line ask for, on the system's files and its standard output.
+#![tactic(auto)]
+
+use mx_io::{RealShelf, RealSink};
+use mx_laboratory::lab;
+use std::env;
+use std::io::ErrorKind;
+use std::process::ExitCode;
+
+fn main(rt: HostRuntime) -> ExitCode {
+    let alloc = rt.alloc();
+    let args = match env::args(&rt) {
+        Ok(args) => args,
+        Err(error) => {
+            let code = if error.kind() == ErrorKind::OutOfMemory {
+                6
+            } else {
+                10
+            };
+            return ExitCode::from(code);
+        }
+    };
+    let mut words = Vec::new(alloc);
+    for word in args.skip(1) {
+        if words.push(word).is_err() {
+            return ExitCode::from(6);
+        }
+    }
+    let mut shelf = RealShelf::new(&rt);
+    let mut out = RealSink::new(&rt);
+    let status = lab(alloc, words.as_slice(), &mut shelf, &mut out);
+    ExitCode::from(status.number())
+}

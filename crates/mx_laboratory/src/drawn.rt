@@ -1,0 +1,117 @@
+//! The reply of `draw`.
+ghost use Rattle.std.specs.Prelude.{◌≤◌, ◌<◌, ◌+◌, ◌^◌, length, IfOk};
+ghost use Rattle.std.specs.Option.{option_copied};
+ghost use Rattle.mx_board.specs.Contents.{bytes_in};
+ghost use Rattle.mx_turn.specs.Handler.{shipped};
+ghost use Rattle.mx_turn.specs.Program.{program_of};
+ghost use Rattle.mx_draw.specs.Frames.{IsDrawing};
+
+use crate::given::{number_given, word_given};
+use crate::linked::{LinkedSource, read_linked};
+use clap::ArgMatches;
+use mx_answer::{Reply, Status};
+use mx_board::Requests;
+use mx_code::Image;
+use mx_draw::{Drawing, draw, rows_of};
+use mx_icache::LineCache;
+use mx_io::{Memory, Shelf};
+use mx_pictures::{Subject, html, kanata, svg, text, vcd};
+use mx_pipe::Pipe;
+use mx_simulate::{read_input, read_requests};
+use std::alloc::Global;
+
+// Which cycles are drawn: the first one, and how many.
+#[derive(Clone, Copy)]
+struct Span {
+    from: u32,
+    count: u32,
+}
+
+// The cycles that the words ask for, within the budget.
+fn span_given(matches: &ArgMatches) -> Span
+    ensures { result.from + result.count < 2 ^ 32 }
+{
+    let budget = number_given(matches, "budget");
+    let from = number_given(matches, "from").min(budget);
+    let count = number_given(matches, "cycles").min(budget - from);
+    Span { from, count }
+}
+
+// The input of a program that asks for one.
+fn given(asks: bool, bytes: &[u8]) -> Option<&[u8]>
+    requires { length bytes.now ≤ 1048576 }
+    ensures { bytes_in (option_copied result) ≤ 1048576 }
+{
+    if asks { Some(bytes) } else { None }
+}
+
+// Draws cycles of the run of an image, under the shipped handler.
+fn drawing_of(
+    alloc: Global,
+    image: &Image,
+    input: Option<&[u8]>,
+    requests: &Requests,
+    span: Span,
+) -> Result<Drawing, Memory>
+    requires bytes { bytes_in (option_copied input) ≤ 1048576 }
+    requires span { span.from + span.count < 2 ^ 32 }
+    ensures { IfOk result (λ d. IsDrawing (program_of shipped image.now.code.items image.now.user_data.items (option_copied input.entry)) requests.now span.from span.count d) }
+{
+    let mut machine = Pipe::new(alloc, image, input, LineCache::new())?;
+    let drawing = draw(alloc, &mut machine, requests, span.from, span.count)?;
+    Ok(drawing)
+}
+
+// The picture of a drawing, in a form.
+fn picture(alloc: Global, form: &str, subject: &Subject) -> Result<Vec<u8>, Memory> {
+    let rows = rows_of(alloc, subject.drawing.frames.as_slice())?;
+    let rows = rows.as_slice();
+    match form {
+        "svg" => svg(alloc, subject, rows),
+        "html" => html(alloc, subject, rows),
+        "kanata" => kanata(alloc, subject, rows),
+        "vcd" => vcd(alloc, subject),
+        _ => text(alloc, subject, rows),
+    }
+}
+
+/// The reply to `draw SOURCE`.
+pub fn draw_reply<S: Shelf>(
+    alloc: Global,
+    shelf: &mut S,
+    matches: &ArgMatches,
+) -> Result<Reply, Memory> {
+    let program = match read_linked(alloc, shelf, word_given(matches, "SOURCE"))? {
+        Ok(program) => program,
+        Err(reply) => return Ok(reply),
+    };
+    let requests = match read_requests(alloc, shelf, matches.get_str("interrupts"))? {
+        Ok(requests) => requests,
+        Err(reply) => return Ok(reply),
+    };
+    let input = match read_input(alloc, shelf, matches.get_str("input"))? {
+        Ok(input) => input,
+        Err(reply) => return Ok(reply),
+    };
+    let span = span_given(matches);
+    let asks = program.source.input().is_some();
+    let drawing = drawing_of(
+        alloc,
+        &program.linked.image,
+        given(asks, input.as_slice()),
+        &requests,
+        span,
+    )?;
+    let subject = Subject {
+        text: program.text.as_slice(),
+        lines: program.source.lines(),
+        linked: &program.linked,
+        from: span.from,
+        drawing: &drawing,
+    };
+    let output = picture(alloc, word_given(matches, "as"), &subject)?;
+    Ok(Reply::Prints {
+        status: Status::Done,
+        output,
+    })
+}

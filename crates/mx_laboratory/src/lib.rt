@@ -1,0 +1,11 @@
+//! The commands for people who look: pictures of a run. What their words are, and how each is answered.
+#![tactic(auto)]
+
+mod drawn;
+mod given;
+mod linked;
+mod top;
+mod words;
+
+pub use mx_answer::Status;
+pub use top::lab;

@@ -1,0 +1,75 @@
+//! The label of a row.
+use crate::assembly::push_instruction;
+use crate::subject::{Standing, Subject};
+use mx_code::decode;
+use mx_link::Origin;
+use std::alloc::{AllocError, Global};
+
+/// The words of a row's label.
+#[derive(Drop)]
+pub struct Label {
+    /// The address, in hexadecimal.
+    pub address: String,
+    /// The word there, in assembly language.
+    pub word: String,
+    /// Where it comes from: a line, `+` and a line for a copy, `-` for a no-op that was put in, `h` for the handler.
+    pub origin: String,
+}
+
+// Appends a word of an address.
+fn push_code_word(text: &mut String, address: u32, word: u32) -> Result<(), AllocError> {
+    match decode(word) {
+        Some(inst) => push_instruction(text, address, &inst),
+        None => write!(text, "{word:08x}"),
+    }
+}
+
+// Appends where a code word comes from.
+fn push_origin(text: &mut String, subject: &Subject, origin: Origin) -> Result<(), AllocError> {
+    match origin {
+        Origin::Own(statement) => {
+            let line = subject.line_of(statement);
+            write!(text, "{line}")
+        }
+        Origin::Copy(statement) => {
+            let line = subject.line_of(statement);
+            write!(text, "+{line}")
+        }
+        Origin::Pad => text.push_str("-"),
+    }
+}
+
+/// The label of an address; dashes where the frames end before it is known.
+pub fn label_of(
+    alloc: Global,
+    subject: &Subject,
+    address: Option<u32>,
+) -> Result<Label, AllocError> {
+    let mut word = String::new(alloc);
+    let mut origin = String::new(alloc);
+    let Some(address) = address else {
+        let address = String::from_str(alloc, "--------")?;
+        return Ok(Label {
+            address,
+            word,
+            origin,
+        });
+    };
+    match subject.standing(address) {
+        Standing::Handler(stands) => {
+            push_code_word(&mut word, address, stands)?;
+            origin.push_str("h")?;
+        }
+        Standing::Code(stands, from) => {
+            push_code_word(&mut word, address, stands)?;
+            push_origin(&mut origin, subject, from)?;
+        }
+        Standing::Outside => {}
+    }
+    let address = format!(in alloc; "{address:08x}")?;
+    Ok(Label {
+        address,
+        word,
+        origin,
+    })
+}
