@@ -1,0 +1,9 @@
+pub mod Least
+pub mod Statements
+pub mod Directives
+pub mod Walks
+pub mod Lines
+pub mod Texts
+pub mod Settled
+pub mod Registers
+pub mod Printing

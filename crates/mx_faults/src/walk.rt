@@ -1,0 +1,140 @@
+//! All faulty lines of a text.
+ghost use Rattle.std.specs.Prelude.{◌≡◌, ◌≤◌, ◌<◌, ◌+◌, ◌-◌, ◌^◌, ◌++◌, [], map, length, take, IfOk, OnOk};
+ghost use Rattle.std.specs.List.{cons_option};
+ghost use Rattle.mx_asm.specs.Faults;
+ghost use Rattle.mx_asm.specs.Positions;
+ghost use Rattle.mx_asm.specs.Texts.{text_fault};
+ghost use Rattle.mx_asm.specs.Words.{texts};
+ghost use Rattle.mx_faults.specs.Found.{faults_in, first, numbered};
+ghost use Rattle.mx_faults.specs.Walking.{walked, with_number};
+
+use crate::front::define_front;
+use crate::line::{Bounds, fault_alone, place_fault, settled};
+use crate::line_fault::LineFault;
+use mx_asm::{Fault, Labels, Position, define_all, line_words, lines_of, statement_words};
+use mx_io::Memory;
+use std::alloc::{AllocError, Global};
+
+/// The fault of a line, and where the next one stands.
+#[derive(Drop)]
+struct Seen {
+    fault: Option<Fault>,
+    next: Position,
+}
+
+/// Sees a line that stands here, and defines its labels.
+fn see<'a>(
+    alloc: Global,
+    labels: &Labels,
+    bounds: &Bounds,
+    earlier: &mut Labels<'a>,
+    position: &Position,
+    line: &'a [u8],
+) -> Result<Seen, AllocError>
+    requires room { position.now.index < 2 ^ 32 - 1 }
+    requires near { position.now.address ≤ 65537 }
+    requires order { bounds.now.data_start ≤ bounds.now.end }
+    requires within { bounds.now.end ≤ 65536 }
+    ensures fault { IfOk result (λ s. s.fault ≡ Faults.line_fault labels.now bounds.now.end position.now earlier.old line.entry.now) }
+    ensures next { IfOk result (λ s. s.next ≡ Positions.after position.now (Positions.line_words line.entry.now)) }
+    ensures index { IfOk result (λ s. s.next.index ≤ position.now.index + 1) }
+    ensures near { IfOk result (λ s. s.next.address ≤ 65537) }
+    ensures earlier { OnOk result (earlier.new ≡ Positions.with_labels position.now earlier.old (Positions.line_words line.entry.now)) }
+{
+    let words = line_words(alloc, line)?;
+    let repeated = define_front(earlier, position.label(), &words)?;
+    let next = position.after(statement_words(&words));
+    let alone = fault_alone(alloc, labels, bounds, position.section, line)?;
+    let placed = place_fault(bounds.end, position, &next, line.len(), &words);
+    Ok(Seen {
+        fault: settled(alone, repeated, placed),
+        next,
+    })
+}
+
+/// Adds a line, if it has a fault.
+fn push_fault(found: &mut Vec<LineFault>, line: u32, fault: Option<Fault>) -> Result<(), AllocError>
+    ensures found { OnOk result (map numbered found.new.items ≡ map numbered found.old.items ++ cons_option (with_number line fault) []) }
+    ensures few { OnOk result (length found.new.items ≤ length found.old.items + 1) }
+{
+    if let Some(fault) = fault {
+        found.push(LineFault {
+            line,
+            fault,
+            start: 0,
+            length: 0,
+        })?;
+    }
+    Ok(())
+}
+
+/// The faulty lines among lines, up to so many.
+fn walk(
+    alloc: Global,
+    labels: &Labels,
+    bounds: &Bounds,
+    lines: &[&[u8]],
+    at_most: u32,
+) -> Result<Vec<LineFault>, AllocError>
+    requires few { length lines.now ≤ 4194304 }
+    requires order { bounds.now.data_start ≤ bounds.now.end }
+    requires within { bounds.now.end ≤ 65536 }
+    ensures { IfOk result (λ v. map numbered v.items ≡ take at_most (walked labels.now bounds.now.end (Positions.start bounds.now.data_start) [] 1 (texts lines.now))) }
+{
+    let mut found = Vec::new(alloc);
+    let mut earlier = Labels::new(alloc);
+    let mut position = Position::start(bounds.data_start);
+    let mut number = 1u32;
+    for line in lines {
+        if found.len() >= at_most as usize {
+            return Ok(found);
+        }
+        let seen = see(alloc, labels, bounds, &mut earlier, &position, line)?;
+        push_fault(&mut found, number, seen.fault)?;
+        position = seen.next;
+        number += 1;
+    }
+    Ok(found)
+}
+
+/// The faulty lines of a text, up to so many.
+fn found_in(
+    alloc: Global,
+    bounds: &Bounds,
+    text: &[u8],
+    at_most: u32,
+) -> Result<Vec<LineFault>, AllocError>
+    requires order { bounds.now.data_start ≤ bounds.now.end }
+    requires within { bounds.now.end ≤ 65536 }
+    requires short { length text.now ≤ 4194304 }
+    ensures { IfOk result (λ v. map numbered v.items ≡ take at_most (faults_in bounds.now.data_start bounds.now.end text.now)) }
+{
+    let lines = lines_of(alloc, text)?;
+    let definitions = define_all(alloc, &lines, Position::start(bounds.data_start))?;
+    walk(alloc, &definitions.labels, bounds, &lines, at_most)
+}
+
+/// The faulty lines of a text, each with its least fault, in order, up to so many of them. Data words and data labels
+/// stand from one address to before another.
+///
+/// # Errors
+///
+/// `Memory` where there is no room for them.
+pub fn assemble_all(
+    alloc: Global,
+    data_start: u32,
+    end: u32,
+    text: &[u8],
+    at_most: u32,
+) -> Result<Vec<LineFault>, Memory>
+    requires order { data_start ≤ end }
+    requires within { end ≤ 65536 }
+    requires short { length text.now ≤ 4194304 }
+    ensures faults { IfOk result (λ v. map numbered v.items ≡ take at_most (faults_in data_start end text.now)) }
+    ensures first { 0 < at_most → IfOk result (λ v. first (map numbered v.items) ≡ text_fault data_start end text.now) }
+{
+    match found_in(alloc, &Bounds { data_start, end }, text, at_most) {
+        Ok(found) => Ok(found),
+        Err(_) => Err(Memory),
+    }
+}
