@@ -1,13 +1,12 @@
--- A label is looked for from the first on, and a linked source has the address of each statement.
-use Rattle.std.proofs.Common.{◌≡◌, ℕ, zero, suc, ◌+◌, ◌<◌, ◌≤◌, true, false, List, ◌∷◌, drop, get_or, length, Some, None, sym, ap, ◌∙◌, arith}
-use Rattle.std.specs.Prelude.{slice_get, slice_index_or}
+-- A label is looked for from the first on.
+use Rattle.std.proofs.Common.{◌≡◌, ℕ, ◌+◌, ◌≤◌, true, false, List, ◌∷◌, drop, length, Some, None, ap, ◌∙◌}
+use Rattle.std.specs.Prelude.{slice_get}
 use Rattle.std.specs.Str.{bytes_eq}
 use Rattle.std.proofs.lemmas.Bool.{cond-true, cond-false}
 use Rattle.std.proofs.lemmas.List.{at_drop_more, drop_all}
 use Rattle.std.proofs.lemmas.Option.{slice_get_within, get_or_from_slice_get}
 use Rattle.mx_source.specs.declared.Label.{Label}
 use Rattle.mx_asm.specs.Operands.{label_named}
-use Rattle.mx_link.specs.Linked.{links_from}
 
 module _ (labels : List (List ℕ × Label)) (name : List ℕ) (i : ℕ) where
   abbrev pub from_here : List (List ℕ × Label) → Type 0
@@ -27,8 +26,3 @@ module _ (labels : List (List ℕ × Label)) (name : List ℕ) (i : ℕ) where
 
   pub none_named : length labels ≤ i → label_named (drop i labels) name ≡ None
   none_named past = ap (λ l. label_named l name) (drop_all i labels past)
-
-pub link_at : (link : ℕ → ℕ) (i n j d : ℕ) → j < n → slice_index_or (links_from link i n) j d ≡ link (i + j)
-link_at link i zero j d less = absurd (omega (arith, less))
-link_at link i (suc n) zero d less = ap link (let e : i ≡ i + 0 = omega arith in e)
-link_at link i (suc n) (suc j) d less = link_at link (suc i) n j d (omega (arith, less)) ∙ ap link (let e : suc i + j ≡ i + suc j = omega arith in e)

@@ -1,5 +1,5 @@
 //! Drives both machines on a nested counting loop, for as many cycles as the first word says, and prints their counts; with
-//! a second word, `turns` or `pipe`, the one of this name alone.
+//! a second word, `turns` or `pipe`, the one of this name alone; with a third, so many interrupt requests come at even distances.
 #![tactic(auto)]
 
 use anyhow::{Context, Result, bail};
@@ -38,28 +38,43 @@ fn show<R: Print + AllocGlobal>(rt: &R, counts: &Counts) -> Result<()> {
     println!(rt; "cycles {}", counts.cycles)?;
     println!(rt; "fetches {}", counts.fetches)?;
     println!(rt; "misses {}", counts.misses)?;
+    println!(rt; "interrupts {}", counts.interrupts)?;
     Ok(())
 }
 
+// So many requests at even distances, the first in cycle 0.
+fn requests(alloc: Global, cycles: u32, count: u32) -> Result<Requests> {
+    let mut text = String::new(alloc);
+    for number in 0..count {
+        let cycle = u64::from(number) * u64::from(cycles / count);
+        text.push_str(&format!(in alloc; "{cycle}\n")?)?;
+    }
+    if text.len() > 1_048_576 {
+        bail!("too many requests")
+    }
+    match Requests::parse(alloc, text.as_bytes()) {
+        Ok(requests) => Ok(requests),
+        Err(_) => bail!("too many requests"),
+    }
+}
+
 // Drives the turn machine.
-fn turns(alloc: Global, image: &Image, cycles: u32) -> Result<Counts> {
+fn turns(alloc: Global, image: &Image, requests: &Requests, cycles: u32) -> Result<Counts> {
     let Ok(mut machine) = Turns::new(alloc, image, None, LineCache::new()) else {
         bail!("out of memory")
     };
-    let requests = Requests::none(alloc);
-    match drive(alloc, &mut machine, &requests, cycles, 0) {
+    match drive(alloc, &mut machine, requests, cycles, 0) {
         Ok(driven) => Ok(driven.counts),
         Err(_) => bail!("out of memory"),
     }
 }
 
 // Drives the pipeline.
-fn pipe(alloc: Global, image: &Image, cycles: u32) -> Result<Counts> {
+fn pipe(alloc: Global, image: &Image, requests: &Requests, cycles: u32) -> Result<Counts> {
     let Ok(mut machine) = Pipe::new(alloc, image, None, LineCache::new()) else {
         bail!("out of memory")
     };
-    let requests = Requests::none(alloc);
-    match drive(alloc, &mut machine, &requests, cycles, 0) {
+    match drive(alloc, &mut machine, requests, cycles, 0) {
         Ok(driven) => Ok(driven.counts),
         Err(_) => bail!("out of memory"),
     }
@@ -73,12 +88,17 @@ fn main(rt: HostRuntime) -> Result<()> {
     };
     let cycles = word.parse::<u32>().context("how many cycles?")?;
     let name = words.next();
+    let count = match words.next() {
+        Some(word) => word.parse::<u32>().context("how many requests?")?,
+        None => 0,
+    };
     let image = image(rt.alloc())?;
+    let requests = requests(rt.alloc(), cycles, count)?;
     if name.as_deref() != Some("pipe") {
-        show(&rt, &turns(rt.alloc(), &image, cycles)?)?;
+        show(&rt, &turns(rt.alloc(), &image, &requests, cycles)?)?;
     }
     if name.as_deref() != Some("turns") {
-        show(&rt, &pipe(rt.alloc(), &image, cycles)?)?;
+        show(&rt, &pipe(rt.alloc(), &image, &requests, cycles)?)?;
     }
     Ok(())
 }
