@@ -66,7 +66,7 @@ returns c =
       no_read_fault = λ finds e.
           let fault = told.read_fault e in
           finds_no_fault (held_in before) (command_protocol asked) (record { reads = reads_of before; taken = taken_of before; faults = 0 })
-          (record { reads = reads_of after; taken = taken_of after; faults = 0 }) fault.0 refl finds fault.1.0;
+          (record { reads = reads_of after; taken = taken_of after; faults = 0 }) fault.0 refl finds fault.1;
     } in
     let same : held_in before ≡ held_by c.args.call.now = λ i n. c.in_ok-shelf.ensures n i in
     subst (λ (a : Option Command). Answered a (held_by c.args.call.now) status text written) (ap command_of c.requires)
