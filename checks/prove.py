@@ -44,8 +44,8 @@ def move_out(crates, source, target):
             shutil.move(f"{source}/crates/{it}/out", f"{target}/crates/{it}/out")
 
 
-def prove(folder, whole, log):
-    """Proves all crates of the folder, and tells each that is done."""
+def prove(folder, below, log):
+    """Proves these crates, all of the folder, and tells each that is done."""
     # (a crate that waits for another one holds a place)
     places = (os.cpu_count() or 1) + 2
     began, done = time.monotonic(), 0
@@ -53,9 +53,9 @@ def prove(folder, whole, log):
                           stdout=subprocess.PIPE, stderr=subprocess.STDOUT, text=True, errors="replace") as run:
         for line in run.stdout:
             log.write(line)
-            if line.startswith("== "):
+            if line.startswith("== ") and line[3:].strip() in below:
                 done += 1
-                print(f"mx: {line[3:].strip()} is done, {done} of {whole}, after {time.monotonic() - began:.0f} s", file=sys.stderr, flush=True)
+                print(f"mx: {line[3:].strip()} is done, {done} of {len(below)}, after {time.monotonic() - began:.0f} s", file=sys.stderr, flush=True)
     return run.returncode
 
 
@@ -74,7 +74,7 @@ def main(crate, log_name):
         move_out(below, TOP, folder)
         print(f"mx: {len(below)} crates stand below {crate}", file=sys.stderr, flush=True)
         with open(log_name, "a", encoding="utf-8") as log:
-            return 1 if prove(folder, len(below), log) else 0
+            return 1 if prove(folder, below, log) else 0
     finally:
         move_out(below, folder, TOP)
         shutil.rmtree(folder, ignore_errors=True)
