@@ -11,7 +11,6 @@ pub enum Kind {
     Compute,
     Conditions,
     Faults,
-    EveryFault,
     Meanings,
     Statements,
     Generated,
@@ -20,12 +19,11 @@ pub enum Kind {
 }
 
 impl Kind {
-    pub const ALL: [Kind; 10] = [
+    pub const ALL: [Kind; 9] = [
         Kind::Words,
         Kind::Compute,
         Kind::Conditions,
         Kind::Faults,
-        Kind::EveryFault,
         Kind::Meanings,
         Kind::Statements,
         Kind::Generated,
@@ -41,7 +39,6 @@ impl Cases for Kind {
             Kind::Compute => "compute.txt",
             Kind::Conditions => "conditions.txt",
             Kind::Faults => "faults.txt",
-            Kind::EveryFault => "every_fault.txt",
             Kind::Meanings => "meanings.txt",
             Kind::Statements => "statements.txt",
             Kind::Generated => "generated.txt",
@@ -57,7 +54,6 @@ impl Cases for Kind {
             Kind::Compute => numbers::computed(alloc, line),
             Kind::Conditions => numbers::held(alloc, line),
             Kind::Faults => texts::fault(rt, before(line, " ")?),
-            Kind::EveryFault => texts::every_fault(rt, before(line, " -> ")?),
             Kind::Meanings => texts::meaning(rt, behind(line, " ")?),
             Kind::Statements => texts::statement(alloc, before(line, " -> ")?),
             Kind::Generated => texts::generated(alloc, before(line, ":")?),

@@ -3,7 +3,6 @@ use crate::spelling;
 use anyhow::{Context, Result, bail, ensure};
 use mx_answer::Reply;
 use mx_asm::{AsmError, assemble};
-use mx_faults::assemble_all;
 use mx_gen::generate;
 use mx_meaning::meaning_reply;
 use mx_source::Source;
@@ -53,44 +52,14 @@ fn reads_back(alloc: Global, source: &Source) -> Result<bool> {
     Ok(same && printed.as_slice() == text.as_slice())
 }
 
-/// The first fault of the text `faults/NAME.s`, for the case `NAME line N: FAULT`, which is also that of its first faulty
-/// line.
+/// The first fault of the text `faults/NAME.s`, for the case `NAME line N: FAULT`.
 pub fn fault<R: Files + AllocGlobal>(rt: &R, name: &str) -> Result<String> {
     let alloc = rt.alloc();
     let text = fs::read(rt, format!(in alloc; "faults/{name}.s")?)?;
-    let Assembled::Refused { line, fault } = assemble_text(alloc, text.as_slice())? else {
-        return Ok(format!(in alloc; "{name} no fault")?);
-    };
-    let refused = format!(in alloc; "{line} {fault}")?;
-    let first = faulty_lines(alloc, text.as_slice(), 1)?;
-    ensure!(
-        first.as_str() == refused.as_str(),
-        "the first faulty line is another"
-    );
-    Ok(format!(in alloc; "{name} line {line}: {fault}")?)
-}
-
-/// The faulty lines of a text, up to so many, each with its least fault.
-fn faulty_lines(alloc: Global, text: &[u8], at_most: u32) -> Result<String> {
-    ensure!(text.len() <= 4_194_304, "the text is too long");
-    let mut lines = String::new(alloc);
-    for found in &assemble_all(alloc, 256, 65536, text, at_most)? {
-        if !lines.is_empty() {
-            lines.push_str(", ")?;
-        }
-        let line = found.line;
-        let fault = found.fault;
-        lines.push_str(format!(in alloc; "{line} {fault}")?.as_str())?;
+    match assemble_text(alloc, text.as_slice())? {
+        Assembled::Source(_) => Ok(format!(in alloc; "{name} no fault")?),
+        Assembled::Refused { line, fault } => Ok(format!(in alloc; "{name} line {line}: {fault}")?),
     }
-    Ok(lines)
-}
-
-/// All faulty lines of the text `faults/NAME.s`, for the case `NAME -> LINE FAULT, LINE FAULT` and so on.
-pub fn every_fault<R: Files + AllocGlobal>(rt: &R, name: &str) -> Result<String> {
-    let alloc = rt.alloc();
-    let text = fs::read(rt, format!(in alloc; "faults/{name}.s")?)?;
-    let lines = faulty_lines(alloc, text.as_slice(), 100)?;
-    Ok(format!(in alloc; "{name} -> {lines}")?)
 }
 
 /// How the meaning of `meanings/NAME.s` ends, for the case `STATUS NAME` or `STATUS NAME INPUT`. What it prints
