@@ -1,9 +1,9 @@
 -- Every instruction has one word, and every word at most one instruction.
-use Rattle.std.proofs.Common.{◌≡◌, ℕ, ◌+◌, ◌-◌, ◌*◌, ◌/◌, ◌%◌, ◌≤◌, ◌<◌, ◌^◌, Bool, true, false, suc, arith, refl, sym, ◌∙◌, ap, cond, nat_lt, nat_eq, Some, None, Option, IfSome, subst, ⊎_elim}
+use Rattle.std.proofs.Common.{◌≡◌, ◌↔◌, ℕ, ◌+◌, ◌-◌, ◌*◌, ◌/◌, ◌%◌, ◌≤◌, ◌<◌, ◌^◌, Bool, true, false, suc, arith, refl, sym, ◌∙◌, ap, cond, nat_lt, nat_eq, Some, None, Option, IfSome, subst, ⊎_elim}
 use Rattle.std.specs.Prelude.{ℤ, pos, negsuc, nat_le, ◌==◌, ◌&&◌}
 use Rattle.std.proofs.lemmas.Bool.{cases_Bool}
 use Rattle.std.proofs.lemmas.Bool.Decides.{nat_tests}
-use Rattle.mx_isa.specs.Fields.{IsSignedField, OpFits}
+use Rattle.mx_isa.specs.Fields.{InstFits, IsSignedField, OpFits}
 use Rattle.mx_isa.specs.declared.inst.Cond.{Cond}
 use Rattle.mx_isa.specs.declared.inst.Cond.TheVariants.{Eq, Ne, Lt, Ge, Lo, Hs}
 use Rattle.mx_isa.specs.declared.inst.Special.{Special}
@@ -12,7 +12,7 @@ use Rattle.mx_isa.specs.declared.inst.Op.{Op}
 use Rattle.mx_isa.specs.declared.inst.Op.TheVariants.{Add, Sub, Subnc, And, Or, Xor, Bic, Not, Rotlb, Mstart, Mstep, Dstep, Asr, Sh}
 use Rattle.mx_isa.specs.declared.inst.Inst.{Inst}
 use Rattle.mx_isa.specs.declared.inst.Inst.TheVariants.{Load, Store, Branch, Compute, Addi, MoveFrom, MoveTo, Jspci, Jpc, Jpcrs, Halt}
-use Rattle.mx_code.specs.Codes.{Codes, assembled, signed_bits, number_of_cond, number_of_special, opcode_of, function_of, squash_bit}
+use Rattle.mx_code.specs.Codes.{Codes, HasRegisters, word_of_row, assembled, signed_bits, number_of_cond, number_of_special, opcode_of, function_of, squash_bit}
 use Rattle.mx_code.specs.Decoding.{field, signed_of, memory_row, immediate_row, cond_row, special_row, plain_op_row, shift_row, branch_row, compute_row, row_of, branch_with, compute_with, from_with, to_with, inst_of}
 
 -- an opcode, two registers and a rest within their widths
@@ -381,3 +381,11 @@ pub spells : (w : ℕ) → IfSome (inst_of w) (λ i. Codes i w)
 spells w =
     subst (λ v. IfSome (inst_of w) (λ i. Codes i v)) (assembled_fields w)
     (row_found (w / 2 ^ 30) (field 27 3 w) (field 22 5 w) (field 17 5 w) (field 0 17 w) (record { op = omega arith; first = omega arith; second = omega arith; rest = omega arith }))
+
+-- a word codes exactly the instruction to which it is decoded
+pub coded : (i : Inst) (w : ℕ) → Codes i w ↔ (inst_of w ≡ Some i)
+coded i w = (spelled i w, λ e. subst (λ o. IfSome o (λ j. Codes j w)) e (spells w))
+
+-- and the word of each instruction that fits is decoded to it
+pub read_back : (i : Inst) → InstFits i → HasRegisters i → inst_of (word_of_row i) ≡ Some i
+read_back i fits registers = spelled i (word_of_row i) (record { fits = fits; registers = registers; word_is = refl })
