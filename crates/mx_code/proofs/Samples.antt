@@ -3,7 +3,7 @@ use Rattle.std.proofs.Common.{◌≡◌, Some, refl}
 use Rattle.std.specs.Prelude.{pos, negsuc, true, false}
 use Rattle.mx_isa.specs.declared.inst.Cond.TheVariants.{Ne, Eq}
 use Rattle.mx_isa.specs.declared.inst.Special.TheVariants.{Pc2}
-use Rattle.mx_isa.specs.declared.inst.Inst.TheVariants.{Load, Branch, MoveFrom, MoveTo, Addi, Jpcrs}
+use Rattle.mx_isa.specs.declared.inst.Inst.TheVariants.{Branch, MoveFrom, Jpcrs}
 use Rattle.mx_code.specs.Decoding.{inst_of}
 
 branches : inst_of 0x08450000 ≡ Some (Branch 1 2 Ne true (pos 0))
