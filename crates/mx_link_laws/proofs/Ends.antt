@@ -11,22 +11,26 @@ use Rattle.mx_isa.specs.Views.{reads, access, is_halt}
 use Rattle.mx_code.specs.Delay.{Code, idle, Queued, queued, squash, next_of, stepped}
 use Rattle.mx_code.specs.Clean.{is_lawful, loads_to, Watched, watch}
 use Rattle.mx_link_laws.proofs.Going.{Did, IsPlain, ArePlain, Stands, stands_left, stands_right, still_inside, did, did_all, did_anywhere, queue, starts, for, for_add, word, plain_word, cancelled, goes, Keeps}
+use Rattle.mx_link_laws.proofs.Setting.{Machine}
+use Rattle.mx_link_laws.proofs.Going.{once}
 
-module _ (code : Code) (inside : ℕ → Bool) (p : Place) (input : Option (List ℕ)) where
+module _ (machine : Machine) where
+  open machine use {code, inside, place as p, input}
+
   abbrev doing : ℕ → Inst → Did → Did
-  doing = did code inside p input
+  doing = did machine
 
   abbrev doing_all : ℕ → List Inst → Did → Did
-  doing_all = did_all code inside p input
+  doing_all = did_all machine
 
   abbrev line : Queued → Queued → ℕ → Did → Watched
-  line = queue code inside p input
+  line = queue machine
 
   abbrev begins : ℕ → Did → Watched
-  begins = starts code inside p input
+  begins = starts machine
 
   abbrev steps : ℕ → Watched → Watched
-  steps = for code inside p input
+  steps = for machine
 
   -- the words of a stretch, then those behind them
   pub append_did : (a : ℕ) (is js : List Inst) (s : Did) → doing_all a (is ++ js) s ≡ doing_all (a + length is) js (doing_all a is s)
@@ -36,8 +40,8 @@ module _ (code : Code) (inside : ℕ → Bool) (p : Place) (input : Option (List
   -- two words after one another in a queue
   two_words : (a b z : ℕ) (s : Did) (i j : Inst) → code a ≡ i → inside a ≡ true → IsPlain i → code b ≡ j → inside b ≡ true → IsPlain j → p.code ≤ z → z + 2 < 2 ^ 31 → steps 2 (line (queued a) (queued b) z s) ≡ begins z (doing b j (doing a i s))
   two_words a b z s i j ci ii pi cj ij pj low h =
-      ap (watch code inside p input) (sym (plain_word code inside p input a (queued b) z s i ci ii pi low (omega arith)))
-      ∙ sym (plain_word code inside p input b (queued z) (z + 1) (doing a i s) j cj ij pj (omega arith) (omega arith))
+      ap (once machine) (sym (plain_word machine a (queued b) z s i ci ii pi low (omega arith)))
+      ∙ sym (plain_word machine b (queued z) (z + 1) (doing a i s) j cj ij pj (omega arith) (omega arith))
       ∙ (λ k. line (queued z) (queued (z + 1)) (two k) (doing b j (doing a i s)))
     where
       two : z + 1 + 1 ≡ z + 2
@@ -48,8 +52,8 @@ module _ (code : Code) (inside : ℕ → Bool) (p : Place) (input : Option (List
 
   two_dead : (a b z : ℕ) (s : Did) → inside a ≡ true → inside b ≡ true → p.code ≤ z → z + 2 < 2 ^ 31 → steps 2 (line (dead a) (dead b) z s) ≡ begins z (doing b idle (doing a idle s))
   two_dead a b z s ia ib low h =
-      ap (watch code inside p input) (sym (cancelled code inside p input a (dead b) z s ia low (omega arith)))
-      ∙ sym (cancelled code inside p input b (queued z) (z + 1) (doing a idle s) ib (omega arith) (omega arith))
+      ap (once machine) (sym (cancelled machine a (dead b) z s ia low (omega arith)))
+      ∙ sym (cancelled machine b (queued z) (z + 1) (doing a idle s) ib (omega arith) (omega arith))
       ∙ (λ k. line (queued z) (queued (z + 1)) (two k) (doing b idle (doing a idle s)))
     where
       two : z + 1 + 1 ≡ z + 2
@@ -85,32 +89,32 @@ module _ (code : Code) (inside : ℕ → Bool) (p : Place) (input : Option (List
 
     pub past_transfer : (c : Bool) (z : ℕ) → d.cancels ≡ c → next_of d.target (q + 2) ≡ z → p.code ≤ z → steps (length pre + 1) (begins b s) ≡ line (squash c (queued (q + 1))) (squash c (queued (q + 2))) z s1
     past_transfer c z is_c is_z low_z =
-        for_add code inside p input (length pre) 1 (begins b s)
-        ∙ ap (watch code inside p input) (goes code inside p input pre b s (stands_left code inside b pre (t ∷ f ∷ g ∷ []) at) plain low (omega arith))
-        ∙ sym (word code inside p input q (queued (q + 1)) (q + 2) s0 t d rest.0 rest.1 refl on (omega arith))
+        for_add machine (length pre) 1 (begins b s)
+        ∙ ap (once machine) (goes machine pre b s (stands_left code inside b pre (t ∷ f ∷ g ∷ []) at) plain low (omega arith))
+        ∙ sym (word machine q (queued (q + 1)) (q + 2) s0 t d rest.0 rest.1 refl on (omega arith))
         ∙ ap (λ (x : Bool). line (squash x (queued (q + 1))) (squash x (queued (q + 2))) (next_of d.target (q + 2)) s1) is_c
         ∙ ap (λ n. line (squash c (queued (q + 1))) (squash c (queued (q + 2))) n s1) is_z
 
     -- both slots are taken
     pub slots_taken : (z : ℕ) → d.cancels ≡ false → next_of d.target (q + 2) ≡ z → p.code ≤ z → z + 2 < 2 ^ 31 → steps (length pre + 1 + 2) (begins b s) ≡ begins z (doing (q + 2) g (doing (q + 1) f s1))
     slots_taken z is_c is_z low_z k =
-        for_add code inside p input (length pre + 1) 2 (begins b s)
+        for_add machine (length pre + 1) 2 (begins b s)
         ∙ ap (steps 2) (past_transfer false z is_c is_z low_z)
         ∙ two_words (q + 1) (q + 2) z s1 f g rest.2.0 rest.2.1 plain_f at_g in_g plain_g low_z k
 
     -- both slots are squashed
     pub slots_cancelled : (z : ℕ) → d.cancels ≡ true → next_of d.target (q + 2) ≡ z → p.code ≤ z → z + 2 < 2 ^ 31 → steps (length pre + 1 + 2) (begins b s) ≡ begins z (doing (q + 2) idle (doing (q + 1) idle s1))
     slots_cancelled z is_c is_z low_z k =
-        for_add code inside p input (length pre + 1) 2 (begins b s)
+        for_add machine (length pre + 1) 2 (begins b s)
         ∙ ap (steps 2) (past_transfer true z is_c is_z low_z)
         ∙ two_dead (q + 1) (q + 2) z s1 rest.2.1 in_g low_z k
 
     -- the first slot is done
     pub one_taken : (z : ℕ) → d.cancels ≡ false → next_of d.target (q + 2) ≡ z → p.code ≤ z → z + 2 < 2 ^ 31 → steps (length pre + 1 + 1) (begins b s) ≡ line (queued (q + 2)) (queued z) (z + 1) (doing (q + 1) f s1)
     one_taken z is_c is_z low_z k =
-        for_add code inside p input (length pre + 1) 1 (begins b s)
+        for_add machine (length pre + 1) 1 (begins b s)
         ∙ ap (steps 1) (past_transfer false z is_c is_z low_z)
-        ∙ sym (plain_word code inside p input (q + 1) (queued (q + 2)) z s1 f rest.2.0 rest.2.1 plain_f low_z (omega arith))
+        ∙ sym (plain_word machine (q + 1) (queued (q + 2)) z s1 f rest.2.0 rest.2.1 plain_f low_z (omega arith))
 
   -- a halt
   abbrev halted_at : ℕ → Did → Watched
@@ -127,7 +131,7 @@ module _ (code : Code) (inside : ℕ → Bool) (p : Place) (input : Option (List
     loaded = loads_to j;
   }
 
-  halting : (q : ℕ) (r : Did) → code q ≡ Halt → inside q ≡ true → p.code ≤ q → q + 3 < 2 ^ 31 → halted_at q r ≡ watch code inside p input (begins q r)
+  halting : (q : ℕ) (r : Did) → code q ≡ Halt → inside q ≡ true → p.code ≤ q → q + 3 < 2 ^ 31 → halted_at q r ≡ once machine (begins q r)
   halting q r at within low h =
       (λ k. record {
         at = (halted_at q r).at;
@@ -150,8 +154,8 @@ module _ (code : Code) (inside : ℕ → Bool) (p : Place) (input : Option (List
       let r : Did = doing_all b pre s in
       let rest : Stands code inside (b + length pre) (Halt ∷ []) = stands_right code inside b pre (Halt ∷ []) at in
       let e : steps (length pre + 1) (begins b s) ≡ halted_at (b + length pre) r =
-      for_add code inside p input (length pre) 1 (begins b s)
-      ∙ ap (watch code inside p input) (goes code inside p input pre b s (stands_left code inside b pre (Halt ∷ []) at) plain low (omega arith))
+      for_add machine (length pre) 1 (begins b s)
+      ∙ ap (once machine) (goes machine pre b s (stands_left code inside b pre (Halt ∷ []) at) plain low (omega arith))
       ∙ sym (halting (b + length pre) r rest.0 rest.1 (omega arith) h) in
       record {
         core = ap (λ (x : Watched). x.at.core) e;
@@ -176,7 +180,7 @@ module _ (code : Code) (inside : ℕ → Bool) (p : Place) (input : Option (List
     clean = (and_parts d.clean (is_lawful p input (access idle) d.core.regs && not (reads idle d.loaded)) (ap (λ (x : Did). x.clean) h ∙ c)).0;
   }
 
-  pub keeps_idle : (z a : ℕ) (e : Did) → Keeps code inside p input (begins z (doing a idle e)) (begins z e)
+  pub keeps_idle : (z a : ℕ) (e : Did) → Keeps machine (begins z (doing a idle e)) (begins z e)
   keeps_idle z a e = record {
     at = (λ k. record { first = queued z; second = queued (z + 1); third = queued (z + 2); core = e.core; console = append-nil e.console k; halted = false });
     clean = λ h. still e.clean (reads idle e.loaded) h (reads_idle e.loaded);
@@ -186,9 +190,9 @@ module _ (code : Code) (inside : ℕ → Bool) (p : Place) (input : Option (List
       still : (a b : Bool) → a ≡ true → b ≡ false → (a && (true && not b)) ≡ true
       still a b h k = grind arith
 
-  pub keeps_head : (x : Inst) (z a b : ℕ) (d e : Did) → IsPlain x → Same3 d e → reads x d.loaded ≡ false → Keeps code inside p input (begins z (doing a x d)) (begins z (doing b x e))
+  pub keeps_head : (x : Inst) (z a b : ℕ) (d e : Did) → IsPlain x → Same3 d e → reads x d.loaded ≡ false → Keeps machine (begins z (doing a x d)) (begins z (doing b x e))
   keeps_head x z a b d e plain s r =
-      let c : doing a x (record { core = e.core; console = e.console; clean = true; loaded = 0 }) ≡ doing b x (record { core = e.core; console = e.console; clean = true; loaded = 0 }) = did_anywhere code inside p input a b x (record { core = e.core; console = e.console; clean = true; loaded = 0 }) plain.stays in
+      let c : doing a x (record { core = e.core; console = e.console; clean = true; loaded = 0 }) ≡ doing b x (record { core = e.core; console = e.console; clean = true; loaded = 0 }) = did_anywhere machine a b x (record { core = e.core; console = e.console; clean = true; loaded = 0 }) plain.stays in
       record {
         at = ap (λ (c : Core). let t : Did = record { core = c; console = d.console; clean = true; loaded = 0 } in (begins z (doing a x t)).at) s.core
             ∙ ap (λ (l : List ℕ). let t : Did = record { core = e.core; console = l; clean = true; loaded = 0 } in (begins z (doing a x t)).at) s.console

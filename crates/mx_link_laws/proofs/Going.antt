@@ -1,4 +1,3 @@
--- The watched machine with delay slots goes through a stretch of words.
 use Rattle.std.proofs.Common.{◌≡◌, ℕ, zero, suc, ◌+◌, ◌^◌, ◌<◌, ◌≤◌, Bool, true, false, cond, leb, not, ◌&&◌, List, [], ◌∷◌, ◌++◌, ◌⊎◌, length, Option, None, option_to_list, append_assoc, refl, sym, ap, ◌∙◌, subst, arith, ⊎_elim, inl, inr}
 use Rattle.std.proofs.lemmas.Bool.{and_parts}
 use Rattle.std.proofs.lemmas.Bool.Decides.{nat_tests}
@@ -11,6 +10,7 @@ use Rattle.mx_isa.specs.UserBus.{user_bus}
 use Rattle.mx_isa.proofs.Frame.{decides_anywhere, change_anywhere}
 use Rattle.mx_code.specs.Delay.{Code, idle, Queued, queued, squash, does, next_of, Delay, user_byte, stepped, delay_step}
 use Rattle.mx_code.specs.Clean.{is_lawful, is_clean_step, loads_to, Watched, watch, watch_for}
+use Rattle.mx_link_laws.proofs.Setting.{Machine}
 
 -- what the words so far did
 pub record Did : Type 0 where
@@ -50,7 +50,12 @@ did_same d e f g h k = λ j. record { core = f j; console = g j; clean = h j; lo
 pub still_inside : (x y b l r : Bool) → b ≡ true → l ≡ true → (x && (y && not r)) ≡ (x && ((b && (y && l)) && not r))
 still_inside x y b l r e f = grind arith
 
-module _ (code : Code) (inside : ℕ → Bool) (p : Place) (input : Option (List ℕ)) where
+module _ (machine : Machine) where
+  open machine use {code, inside, place as p, input}
+
+  abbrev pub once : Watched → Watched
+  once = watch code inside p input
+
   -- a word within the image, at an address
   abbrev pub did : ℕ → Inst → Did → Did
   did a i s = record {
@@ -91,7 +96,7 @@ module _ (code : Code) (inside : ℕ → Bool) (p : Place) (input : Option (List
 
   pub for_add : (m n : ℕ) (s : Watched) → for (m + n) s ≡ for n (for m s)
   for_add zero n s = for_same (zero + n) n s (omega arith)
-  for_add (suc m) n s = for_same (suc m + n) (suc (m + n)) s (omega arith) ∙ for_add m n (watch code inside p input s)
+  for_add (suc m) n s = for_same (suc m + n) (suc (m + n)) s (omega arith) ∙ for_add m n (once s)
 
   -- a step by a word that decides, inside the image or not
   abbrev made : ℕ → Queued → ℕ → Did → Inst → Decision → Bool → Watched
@@ -102,7 +107,7 @@ module _ (code : Code) (inside : ℕ → Bool) (p : Place) (input : Option (List
   }
 
   -- a word at the front of a queue, with what it decides
-  pub word : (a : ℕ) (y : Queued) (z : ℕ) (s : Did) (i : Inst) (d : Decision) → code a ≡ i → inside a ≡ true → d ≡ decides i a s.core.regs → is_halt i ≡ false → p.code ≤ next_of d.target z → queue (squash d.cancels y) (squash d.cancels (queued z)) (next_of d.target z) (did a i s) ≡ watch code inside p input (queue (queued a) y z s)
+  pub word : (a : ℕ) (y : Queued) (z : ℕ) (s : Did) (i : Inst) (d : Decision) → code a ≡ i → inside a ≡ true → d ≡ decides i a s.core.regs → is_halt i ≡ false → p.code ≤ next_of d.target z → queue (squash d.cancels y) (squash d.cancels (queued z)) (next_of d.target z) (did a i s) ≡ once (queue (queued a) y z s)
   word a y z s i d at within is_d on low =
       (λ k. record {
         at = record { first = squash d.cancels y; second = squash d.cancels (queued z); third = queued (next_of d.target z); core = (did a i s).core; console = (did a i s).console; halted = sym on k };
@@ -115,7 +120,7 @@ module _ (code : Code) (inside : ℕ → Bool) (p : Place) (input : Option (List
       above : leb p.code (next_of d.target z) ≡ true
       above = grind (arith, nat_tests)
 
-  pub plain_word : (a : ℕ) (y : Queued) (z : ℕ) (s : Did) (i : Inst) → code a ≡ i → inside a ≡ true → IsPlain i → p.code ≤ z → z + 1 < 2 ^ 31 → queue y (queued z) (z + 1) (did a i s) ≡ watch code inside p input (queue (queued a) y z s)
+  pub plain_word : (a : ℕ) (y : Queued) (z : ℕ) (s : Did) (i : Inst) → code a ≡ i → inside a ≡ true → IsPlain i → p.code ≤ z → z + 1 < 2 ^ 31 → queue y (queued z) (z + 1) (did a i s) ≡ once (queue (queued a) y z s)
   plain_word a y z s i at within plain low h =
       ap (λ n. queue y (queued z) n (did a i s)) next
       ∙ word a y z s i goes_on at within (sym (decides_anywhere i a s.core.regs plain.stays)) plain.runs_on (let e = next in omega arith)
@@ -124,7 +129,7 @@ module _ (code : Code) (inside : ℕ → Bool) (p : Place) (input : Option (List
       next = omega arith
 
   -- a squashed word
-  pub cancelled : (a : ℕ) (y : Queued) (z : ℕ) (s : Did) → inside a ≡ true → p.code ≤ z → z + 1 < 2 ^ 31 → queue y (queued z) (z + 1) (did a idle s) ≡ watch code inside p input (queue (squash true (queued a)) y z s)
+  pub cancelled : (a : ℕ) (y : Queued) (z : ℕ) (s : Did) → inside a ≡ true → p.code ≤ z → z + 1 < 2 ^ 31 → queue y (queued z) (z + 1) (did a idle s) ≡ once (queue (squash true (queued a)) y z s)
   cancelled a y z s within low h =
       (λ k. record {
         at = record { first = y; second = queued z; third = queued (next k); core = (did a idle s).core; console = (did a idle s).console; halted = false };
@@ -195,14 +200,14 @@ module _ (code : Code) (inside : ℕ → Bool) (p : Place) (input : Option (List
   keeps_on t true a b l m f e = record { at = refl; clean = f; loaded = e }
   keeps_on t false a b l m f e = record { at = refl; clean = still_clean t a b l m f e; loaded = inl refl }
 
-  keeps_step : (x y : Watched) → Keeps x y → Keeps (watch code inside p input x) (watch code inside p input y)
+  keeps_step : (x y : Watched) → Keeps x y → Keeps (once x) (once y)
   keeps_step x y k =
-      subst (λ (t : Delay). let z : Watched = record { at = t; clean = x.clean; loaded = x.loaded } in Keeps (watch code inside p input z) (watch code inside p input y)) (sym k.at)
+      subst (λ (t : Delay). let z : Watched = record { at = t; clean = x.clean; loaded = x.loaded } in Keeps (once z) (once y)) (sym k.at)
       (keeps_on y.at y.at.halted x.clean y.clean x.loaded y.loaded k.clean k.loaded)
 
   pub keeps_for : (n : ℕ) (x y : Watched) → Keeps x y → Keeps (for n x) (for n y)
   keeps_for zero x y k = k
-  keeps_for (suc n) x y k = keeps_for n (watch code inside p input x) (watch code inside p input y) (keeps_step x y k)
+  keeps_for (suc n) x y k = keeps_for n (once x) (once y) (keeps_step x y k)
 
   -- what only grows, and what only falls
   pub record Grows (x y : Watched) : Type 0 where
@@ -224,7 +229,7 @@ module _ (code : Code) (inside : ℕ → Bool) (p : Place) (input : Option (List
       true_false : true ≡ false → ⊥
       true_false e = grind arith
 
-  grows_step : (s : Watched) → Grows s (watch code inside p input s)
+  grows_step : (s : Watched) → Grows s (once s)
   grows_step s = grows_on s s.at.halted refl
 
   pub grows_then : (x y z : Watched) → Grows x y → Grows y z → Grows x z
@@ -236,7 +241,7 @@ module _ (code : Code) (inside : ℕ → Bool) (p : Place) (input : Option (List
 
   pub grows_for : (n : ℕ) (s : Watched) → Grows s (for n s)
   grows_for zero s = record { bytes = ([], sym (append-nil s.at.console)); clean = λ h. h; halted = λ h. h }
-  grows_for (suc n) s = grows_then s (watch code inside p input s) (for (suc n) s) (grows_step s) (grows_for n (watch code inside p input s))
+  grows_for (suc n) s = grows_then s (once s) (for (suc n) s) (grows_step s) (grows_for n (once s))
 
   pub halted_for : (n : ℕ) (s : Watched) → s.at.halted ≡ true → for n s ≡ s
   halted_for zero s h = refl

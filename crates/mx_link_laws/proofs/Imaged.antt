@@ -114,7 +114,23 @@ linked_registers link c at (CallReg a d) h = h
 linked_registers link c at (JumpReg a) h = h
 linked_registers link c at Halt h = h
 
-module _ (source : SourceValue) (registers : (i : ℕ) (s : Statement) → slice_get source.statements i ≡ Some s → HasRegisters (statement_inst s)) (link : ℕ → ℕ) where
+-- the registers of each statement are 0 to 31
+abbrev pub RegistersOf : SourceValue → Type 0
+RegistersOf source = (i : ℕ) (s : Statement) → slice_get source.statements i ≡ Some s → HasRegisters (statement_inst s)
+
+module _ (source : SourceValue) (link : ℕ → ℕ) where
+  abbrev pub piece : Filling → List Site → Site → List Inst
+  piece filling all s = insts_from link source.statements (filling all s) s.start (origins_at s (filling all s))
+
+  pub piece_length : (filling : Filling) (all : List Site) (s : Site) → length (piece filling all s) ≡ plan_size s.plan
+  piece_length filling all s =
+      length-insts_from link source.statements (filling all s) s.start (origins_at s (filling all s))
+      ∙ length-origins_from s (filling all s) 0 (items_of s.plan)
+
+module _ (source : SourceValue) (registers : RegistersOf source) (link : ℕ → ℕ) where
+  abbrev piece_of : Filling → List Site → Site → List Inst
+  piece_of = piece source link
+
   statement_registers : (c : Copied) (at i : ℕ) → HasRegisters (linked_statement link c at (slice_get source.statements i))
   statement_registers c at i = by_statement (slice_get source.statements i) refl
     where
@@ -139,24 +155,16 @@ module _ (source : SourceValue) (registers : (i : ℕ) (s : Statement) → slice
         items_spelled s c (suc p) (suc a) items (omega arith) (λ k x f. let on : p + suc k ≡ suc p + k = omega arith in subst (λ n. InstFits (inst_at link source.statements c (s.start + n) (origin_at s c n x))) on (h (suc k) x f)),
       )
 
-  abbrev pub piece : Filling → List Site → Site → List Inst
-  piece filling all s = insts_from link source.statements (filling all s) s.start (origins_at s (filling all s))
-
-  pub piece_length : (filling : Filling) (all : List Site) (s : Site) → length (piece filling all s) ≡ plan_size s.plan
-  piece_length filling all s =
-      length-insts_from link source.statements (filling all s) s.start (origins_at s (filling all s))
-      ∙ length-origins_from s (filling all s) 0 (items_of s.plan)
-
-  pub piece_spelled : IsSource source → (filling : Filling) (all : List Site) (s : Site) → IsBlockOf source s.block → Valid s.block s.plan → Goes source link s (filling all s) → AllSpelled (piece filling all s)
+  pub piece_spelled : IsSource source → (filling : Filling) (all : List Site) (s : Site) → IsBlockOf source s.block → Valid s.block s.plan → Goes source link s (filling all s) → AllSpelled (piece_of filling all s)
   piece_spelled is filling all s b v g =
       items_spelled s (filling all s) 0 s.start (items_of s.plan) (omega arith) (λ k item e.
       let on : k ≡ 0 + k = omega arith in
       subst (λ n. InstFits (inst_at link source.statements (filling all s) (s.start + n) (origin_at s (filling all s) n item))) on (has_words source link s (filling all s) is b v g k item e))
 
   -- the code of a layout stands, each site's words from its start on
-  pub code_stands : (filling : Filling) (p : Place) (all : List Site) → StandFrom p.code all → All (λ (s : Site). AllSpelled (piece filling all s)) all
-      → (let code = code_of filling link source.statements all in All (λ (s : Site). Stands (code_from inst_of p.code code) (is_inside p (length code)) s.start (piece filling all s)) all)
+  pub code_stands : (filling : Filling) (p : Place) (all : List Site) → StandFrom p.code all → All (λ (s : Site). AllSpelled (piece_of filling all s)) all
+      → (let code = code_of filling link source.statements all in All (λ (s : Site). Stands (code_from inst_of p.code code) (is_inside p (length code)) s.start (piece_of filling all s)) all)
   code_stands filling p all h spelled =
-      let insts = flat_map (piece filling all) all in
-      sites_stand (code_from inst_of p.code (map word_of_row insts)) (is_inside p (length (map word_of_row insts))) (piece filling all) (piece_length filling all) p.code all h
-      (words_stand p insts (pieces_spelled (piece filling all) all spelled))
+      let insts = flat_map (piece_of filling all) all in
+      sites_stand (code_from inst_of p.code (map word_of_row insts)) (is_inside p (length (map word_of_row insts))) (piece_of filling all) (piece_length source link filling all) p.code all h
+      (words_stand p insts (pieces_spelled (piece_of filling all) all spelled))

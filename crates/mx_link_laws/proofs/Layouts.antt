@@ -32,6 +32,12 @@ use Rattle.mx_link.proofs.Slots.{copied_op, copied_none, count_cases, count_smal
 use Rattle.mx_link.proofs.Linkable.{Goes}
 use Rattle.mx_link_laws.proofs.Going.{Stands}
 use Rattle.mx_link_laws.proofs.Imaged.{piece, piece_spelled, code_stands}
+use Rattle.mx_link_laws.proofs.Setting.{Known, Setting}
+use Rattle.mx_link_laws.proofs.Imaged.{RegistersOf}
+use Rattle.mx_link_laws.specs.Laws.{plan_words}
+use Rattle.mx_source.specs.Meaning.{program}
+use Rattle.std.proofs.lemmas.Option.{slice_get_within, get_or_from_slice_get}
+use Rattle.std.proofs.Common.{cond}
 
 false_true : false ≡ true → ⊥
 false_true e = grind arith
@@ -45,7 +51,17 @@ goal_first (Branches target) b h = equal b.first target h
 goal_first (Calls target) b h = equal b.first target h
 goal_first _ b h = absurd (false_true h)
 
-module _ (source : SourceValue) (is : IsSource source) (registers : (i : ℕ) (s : Statement) → slice_get source.statements i ≡ Some s → HasRegisters (statement_inst s)) (place : Place) (all : List Site) (h : IsLayout Valid source place all) (room : place.code + 3 * length source.statements ≤ 65535) (reach : overlong source place (blocks_in all) ≡ None) where
+-- the places before the terminator of a site that was found
+abbrev pub place_in : Option Site → ℕ
+place_in None = 0
+place_in (Some s) = s.plan.place
+
+module _ (known : Known) where
+  open known use {linking.{filling, source, place, sites as all, bytes}, laid.{well_formed as is, room, layout as h, reach}, bare, fills}
+
+  pub registers : RegistersOf source
+  registers i s e = subst (λ (x : Statement). HasRegisters (statement_inst x)) (get_or_from_slice_get source.statements i s s e) (known.laid.registers i s (slice_get_within source.statements i s e))
+
   abbrev pub link : ℕ → ℕ
   link = link_of place.code all
 
@@ -130,51 +146,60 @@ module _ (source : SourceValue) (is : IsSource source) (registers : (i : ℕ) (s
   goes_any s f None e = goes_plain s f
   goes_any s f (Some g) e = goes_copied s g f (goal_is s g e)
 
-  -- nothing is copied, or the first words of the target are, unless all is bare
-  abbrev pub Fills : Filling → Type 0
-  Fills filling = (bare : Bool) × ((s : Site) → (filling all s ≡ copied s None) ⊎ ((bare ≡ false) × (filling all s ≡ copied s (site_of (is_target s.block.end) all))))
+  pub goes : (s : Site) → Facts s → Goes source link s (filling all s)
+  goes s f = ⊎_elim
+      (λ e. subst (λ (c : Copied). Goes source link s c) (sym e) (goes_plain s f))
+      (λ e. subst (λ (c : Copied). Goes source link s c) (sym e.1) (goes_any s f (site_of (is_target s.block.end) all) refl))
+      (fills s)
 
-  module _ (filling : Filling) (fills : Fills filling) where
-    pub goes : (s : Site) → Facts s → Goes source link s (filling all s)
-    goes s f = ⊎_elim
-        (λ e. subst (λ (c : Copied). Goes source link s c) (sym e) (goes_plain s f))
-        (λ e. subst (λ (c : Copied). Goes source link s c) (sym e.1) (goes_any s f (site_of (is_target s.block.end) all) refl))
-        (fills.1 s)
+  abbrev pub words : List ℕ
+  words = code_of filling link source.statements all
 
-    abbrev pub words : List ℕ
-    words = code_of filling link source.statements all
+  abbrev pub code : Code
+  code = code_from inst_of place.code words
 
-    abbrev pub code : Code
-    code = code_from inst_of place.code words
+  abbrev pub inside : ℕ → Bool
+  inside = is_inside place (length words)
 
-    abbrev pub inside : ℕ → Bool
-    inside = is_inside place (length words)
+  abbrev pub piece_of : Site → List Inst
+  piece_of s = piece source link filling all s
 
-    abbrev pub piece_of : Site → List Inst
-    piece_of s = piece source registers link filling all s
+  stand : All (λ (s : Site). Stands code inside s.start (piece_of s)) all
+  stand = code_stands source registers link filling place all h.stand (λ k d l.
+      let s = slice_index_or all k d in
+      let f : Facts s = facts k d l in
+      piece_spelled source registers link is filling all s f.block f.valid (goes s f))
 
-    stand : All (λ (s : Site). Stands code inside s.start (piece_of s)) all
-    stand = code_stands source registers link filling place all h.stand (λ k d l.
-        let s = slice_index_or all k d in
-        let f : Facts s = facts k d l in
-        piece_spelled source registers link is filling all s f.block f.valid (goes s f))
+  pub record Standing (s : Site) : Type 0 where
+    pub of : Facts s
+    pub stands : Stands code inside s.start (piece_of s)
 
-    pub record Standing (s : Site) : Type 0 where
-      pub of : Facts s
-      pub stands : Stands code inside s.start (piece_of s)
+  pub standing : All Standing all
+  standing k d l = record { of = facts k d l; stands = stand k d l }
 
-    pub standing : All Standing all
-    standing k d l = record { of = facts k d l; stands = stand k d l }
+  -- the site of the block that begins at a leader
+  pub record Begins (t : ℕ) : Type 0 where
+    pub site : Site
+    pub found : site_of (λ b. eqb b.first t) all ≡ Some site
+    pub first : site.block.first ≡ t
+    pub standing : Standing site
 
-    -- the site of the block that begins at a leader
-    pub record Begins (t : ℕ) : Type 0 where
-      pub site : Site
-      pub found : site_of (λ b. eqb b.first t) all ≡ Some site
-      pub first : site.block.first ≡ t
-      pub standing : Standing site
+  pub begins : (t : ℕ) → is_leader source t ≡ true → t < length source.statements → Begins t
+  begins t e l =
+      let f = leader_site Valid source place all t h e l in
+      let s = site_found Standing (λ b. eqb b.first t) all f.0 standing f.1 in
+      record { site = f.0; found = f.1; first = equal f.0.block.first t s.1; standing = s.0 }
 
-    pub begins : (t : ℕ) → is_leader source t ≡ true → t < length source.statements → Begins t
-    begins t e l =
-        let f = leader_site Valid source place all t h e l in
-        let s = site_found Standing (λ b. eqb b.first t) all f.0 standing f.1 in
-        record { site = f.0; found = f.1; first = equal f.0.block.first t s.1; standing = s.0 }
+  -- what its runs see of it
+  abbrev pub setting : Setting
+  setting = record {
+    program = program source place bytes;
+    code = code;
+    inside = inside;
+    link = link;
+    leader = is_leader source;
+    place_of = λ t. cond bare 0 (place_in (site_of (λ b. eqb b.first t) all));
+    len_of = λ t. plan_words (site_of (λ b. eqb b.first t) all);
+    small = small;
+    low = low;
+  }

@@ -1,3 +1,4 @@
+pub mod Setting
 pub mod Going
 pub mod Ends
 pub mod Matching

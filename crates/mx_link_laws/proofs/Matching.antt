@@ -61,7 +61,7 @@ no_code_sent true true user h e = absurd (some_none CodeToConsole h)
 no_code_sent true false user h e = refl
 no_code_sent false code user h e = absurd (false_true e)
 
-module _ (link : ℕ → ℕ) (short : (i : ℕ) → link i < 2 ^ 32) where
+module _ (link : ℕ → ℕ) where
   abbrev pub linked : Value → ℕ
   linked v = value_word link v
 
@@ -141,7 +141,7 @@ module _ (link : ℕ → ℕ) (short : (i : ℕ) → link i < 2 ^ 32) where
     byte = ap (λ (x : Change). sent bus x.stores) e;
   }
 
-  module _ (p : Program) where
+  module _ (p : Program) (short : (i : ℕ) → link i < 2 ^ 32) where
     abbrev bus : Bus
     bus = user_bus p.place p.input
 

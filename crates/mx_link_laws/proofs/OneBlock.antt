@@ -31,6 +31,8 @@ use Rattle.mx_link_laws.proofs.Ends.{append_did, past_transfer, slots_taken, slo
 use Rattle.mx_link_laws.proofs.Matching.{core_of}
 use Rattle.mx_link_laws.proofs.Saying.{said, step_is, not_stuck_before, run_same, run_add, run_one_more, AreBody, all_plain, ran_at, BodyRun, body_run}
 use Rattle.mx_link_laws.proofs.Planned.{ran_of, all_ran, all_loaded, bodies, pre, last, bodies_length, pre_length, plain_body, plain_pre, size_ends, falls_run, words_are, ends_run, decides_there, apart_all, apart_pre, end_loaded}
+use Rattle.mx_link_laws.proofs.Setting.{Machine, Setting, machine_of, short}
+use Rattle.mx_link_laws.proofs.Going.{once}
 
 false_true : false ≡ true → ⊥
 false_true e = grind arith
@@ -72,9 +74,14 @@ onward sq = record { target = None; cancels = sq }
 abbrev pub away : ℕ → Decision
 away z = record { target = Some z; cancels = false }
 
-module _ (link : ℕ → ℕ) (p : Program) (small : (i : ℕ) → link i + 8 < 2 ^ 31) (low : (i : ℕ) → p.place.code ≤ link i) (code : Code) (inside : ℕ → Bool) (leader : ℕ → Bool) (place_of : ℕ → ℕ) where
-  pub short : (i : ℕ) → link i < 2 ^ 32
-  short i = let s = small i in omega arith
+module _ (setting : Setting) where
+  open setting use {link, program as p, code, inside, leader, place_of, small, low}
+
+  abbrev machine : Machine
+  machine = machine_of setting
+
+  abbrev shorts : (i : ℕ) → link i < 2 ^ 32
+  shorts = short setting
 
   -- a leader, or the end of the source
   abbrev pub Leads : ℕ → Type 0
@@ -99,29 +106,29 @@ module _ (link : ℕ → ℕ) (p : Program) (small : (i : ℕ) → link i + 8 < 
     InBoth : (two : count ≡ 2) → (set : sure ≡ false → sq ≡ true) → (no_first : f ≡ Nop) → (no_second : g ≡ Nop) → (head : Head t 0 x) → (other : Head t 1 y) → (leads : leader t ≡ true) → Filled t count sq sure insts f g x y
 
   abbrev pub did_of : Run → Did
-  did_of r = record { core = core_of link short r.state; console = r.console; clean = true; loaded = 0 }
+  did_of r = record { core = core_of link r.state; console = r.console; clean = true; loaded = 0 }
 
   abbrev pub begins : ℕ → Did → Watched
-  begins = starts code inside p.place p.input
+  begins = starts machine
 
   abbrev pub steps : ℕ → Watched → Watched
-  steps = for code inside p.place p.input
+  steps = for machine
 
   abbrev pub doing : ℕ → Inst → Did → Did
-  doing = did code inside p.place p.input
+  doing = did machine
 
   abbrev pub doing_all : ℕ → List Inst → Did → Did
-  doing_all = did_all code inside p.place p.input
+  doing_all = did_all machine
 
   abbrev pub StandsAt : ℕ → List Inst → Type 0
   StandsAt = Stands code inside
 
   abbrev pub Keeping : Watched → Watched → Type 0
-  Keeping = Keeps code inside p.place p.input
+  Keeping = Keeps machine
 
   -- the state shows what the meaning says
   pub record IsAt (x : Watched) (r : Run) : Type 0 where
-    pub core : x.at.core ≡ core_of link short r.state
+    pub core : x.at.core ≡ core_of link r.state
     pub console : x.at.console ≡ r.console
     pub clean : x.clean ≡ true
 
@@ -167,7 +174,7 @@ module _ (link : ℕ → ℕ) (p : Program) (small : (i : ℕ) → link i + 8 < 
     pub parts : Parts block plan
     pub some : 1 ≤ length (insts_of block)
     pub few : length (insts_of block) ≤ 64
-    pub body : AreBody link short p.statements i (bodies block plan insts p.input laid parts some)
+    pub body : AreBody link p.statements i (bodies block plan insts p.input laid parts some)
     pub next : link (i + length (insts_of block)) ≡ link i + length (items_of plan)
     pub lead : Leads (i + length (insts_of block))
 
@@ -203,7 +210,7 @@ module _ (link : ℕ → ℕ) (p : Program) (small : (i : ℕ) → link i + 8 < 
     d0 = did_of r
 
     abbrev R0 : Ran
-    R0 = ran_at link short p r true nowhere
+    R0 = ran_at link r true nowhere
 
     -- behind the body
     abbrev r1 : Run
@@ -227,24 +234,24 @@ module _ (link : ℕ → ℕ) (p : Program) (small : (i : ℕ) → link i + 8 < 
     len_all : length all ≡ len
     len_all = length-map (items_of w.plan) (item_inst w.insts)
 
-    body_done : (k : ℕ) → n ≡ length inner + k → BodyRun link short p i at inner r true nowhere
-    body_done k e = body_run link short p i at inner r true nowhere going here w.body
+    body_done : (k : ℕ) → n ≡ length inner + k → BodyRun link p i at inner r true nowhere
+    body_done k e = body_run link p shorts i at inner r true nowhere going here w.body
         (not_stuck_before p k r1 (ap (λ (u : Run). is_stuck u.state.mark) (sym (run_add p (length inner) k r) ∙ run_same p (length inner + k) n r (sym e)) ∙ safe))
 
     inner_plain : ArePlain inner
-    inner_plain = all_plain link short p.statements i inner w.body
+    inner_plain = all_plain link p.statements i inner w.body
 
     front_plain : ArePlain front
     front_plain = plain_pre w.block w.plan w.insts p.input w.laid w.parts w.some inner_plain
 
-    did_is : (d : Did) (u : Run) (x : Ran) (l : Decision) → ran_of code inside p.place p.input d l ≡ x → x.core ≡ core_of link short u.state → x.bytes ≡ u.console → x.clean ≡ true → d.loaded ≡ 0 → d ≡ did_of u
+    did_is : (d : Did) (u : Run) (x : Ran) (l : Decision) → ran_of d l ≡ x → x.core ≡ core_of link u.state → x.bytes ≡ u.console → x.clean ≡ true → d.loaded ≡ 0 → d ≡ did_of u
     did_is d u x l e c b k m = did_same d (did_of u) (ap (λ (y : Ran). y.core) e ∙ c) (ap (λ (y : Ran). y.bytes) e ∙ b) (ap (λ (y : Ran). y.clean) e ∙ k) m
 
-    all_made : ran_of code inside p.place p.input (doing_all base all d0) (run_along p.place p.input base all R0).leads ≡ run_along p.place p.input base all R0
-    all_made = all_ran code inside p.place p.input base all d0 nowhere (apart_all w.block w.plan w.insts p.input w.laid w.parts w.some)
+    all_made : ran_of (doing_all base all d0) (run_along p.place p.input base all R0).leads ≡ run_along p.place p.input base all R0
+    all_made = all_ran machine base all d0 nowhere (apart_all w.block w.plan w.insts p.input w.laid w.parts w.some)
 
     all_free : (doing_all base all d0).loaded ≡ 0
-    all_free = all_loaded code inside p.place p.input base all d0 ∙ end_loaded w.block w.plan w.insts p.input w.laid w.parts w.some
+    all_free = all_loaded machine base all d0 ∙ end_loaded w.block w.plan w.insts p.input w.laid w.parts w.some
 
     -- a block that falls through
     pub falls_on : falls w.block.end ≡ true → w.parts.back ≡ [] → StandsAt base all → GoesOn i n len place r
@@ -253,7 +260,7 @@ module _ (link : ℕ → ℕ) (p : Program) (small : (i : ℕ) → link i + 8 < 
         let run = body_done 0 (omega arith) in
         let to_size : r2 ≡ r1 = run_same p n (length inner) r size_is in
         let whole = all_made ∙ falls_run w.block w.plan w.insts p.input w.laid w.parts w.some p.place base at R0 f none ∙ run.ran in
-        let d_is : doing_all base all d0 ≡ did_of r2 = did_is (doing_all base all d0) r1 (ran_at link short p r1 true nowhere) (run_along p.place p.input base all R0).leads whole refl refl refl all_free ∙ ap did_of (sym to_size) in
+        let d_is : doing_all base all d0 ≡ did_of r2 = did_is (doing_all base all d0) r1 (ran_at link r1 true nowhere) (run_along p.place p.input base all R0).leads whole refl refl refl all_free ∙ ap did_of (sym to_size) in
         let no_items : length w.parts.back ≡ 0 = ap length none in
         let lp = len_parts in
         let la = len_all in
@@ -261,8 +268,8 @@ module _ (link : ℕ → ℕ) (p : Program) (small : (i : ℕ) → link i + 8 < 
         let sm = small (i + n) in
         let nx = w.next in
         let go : steps len (begins base d0) ≡ begins (link (i + n)) (did_of r2) =
-        for_same code inside p.place p.input len (length all) (begins base d0) (sym la)
-        ∙ goes code inside p.place p.input all base d0 st wp (low i) (omega arith)
+        for_same machine len (length all) (begins base d0) (sym la)
+        ∙ goes machine all base d0 st wp (low i) (omega arith)
         ∙ (λ k. begins ((ap (λ m. base + m) la ∙ sym nx) k) (d_is k)) in
         let ix : r2.state.index ≡ i + n = ap (λ (u : Run). u.state.index) to_size ∙ run.index ∙ ap (λ m. i + m) (sym size_is) in
         let go2 : steps len (begins base d0) ≡ begins (link r2.state.index) (did_of r2) = go ∙ ap (λ m. begins (link m) (did_of r2)) (sym ix) in
@@ -282,7 +289,7 @@ module _ (link : ℕ → ℕ) (p : Program) (small : (i : ℕ) → link i + 8 < 
           bare = λ e. refl;
           mark = ap (λ (u : Run). u.state.mark) to_size ∙ run.mark;
           lead = (⊎_elim (λ l. inl (ap leader ix ∙ l)) (λ l. inr (ix ∙ l)) w.lead, (let q : 0 ≤ place_of r2.state.index = omega arith in q));
-          reaches = keeps_self code inside p.place p.input (steps len (begins base d0)) (begins (link r2.state.index) (did_of r2)) go2;
+          reaches = keeps_self machine (steps len (begins base d0)) (begins (link r2.state.index) (did_of r2)) go2;
           shown = subst (λ (x : Watched). IsAt x r2) (sym go) (is_at_did (did_of r2) r2 (link (i + n)) refl);
           runs_on = ap (λ (x : Watched). x.at.halted) go;
         }
@@ -300,15 +307,15 @@ module _ (link : ℕ → ℕ) (p : Program) (small : (i : ℕ) → link i + 8 < 
         let fl = front_is in
         let sm = small (i + n) in
         let nx = w.next in
-        let h = halts code inside p.place p.input front base d0 st2 front_plain (low i) (omega arith) in
-        let go = goes code inside p.place p.input front base d0 (stands_left code inside base front (HaltInst ∷ []) st2) front_plain (low i) (omega arith) in
-        let all_is : doing_all base all d0 ≡ doing at HaltInst (doing_all base front d0) = ap (λ l. doing_all base l d0) words_is ∙ append_did code inside p.place p.input base front (HaltInst ∷ []) d0 in
-        let whole : ran_of code inside p.place p.input (doing_all base all d0) (run_along p.place p.input base all R0).leads ≡ run_one p.place p.input at HaltInst (ran_at link short p r1 true nowhere) =
+        let h = halts machine front base d0 st2 front_plain (low i) (omega arith) in
+        let go = goes machine front base d0 (stands_left code inside base front (HaltInst ∷ []) st2) front_plain (low i) (omega arith) in
+        let all_is : doing_all base all d0 ≡ doing at HaltInst (doing_all base front d0) = ap (λ l. doing_all base l d0) words_is ∙ append_did machine base front (HaltInst ∷ []) d0 in
+        let whole : ran_of (doing_all base all d0) (run_along p.place p.input base all R0).leads ≡ run_one p.place p.input at HaltInst (ran_at link r1 true nowhere) =
         all_made
         ∙ ends_run w.block w.plan w.insts p.input w.laid w.parts w.some p.place base R0 [] f one tt
         ∙ ap (run_one p.place p.input at ender) run.ran
-        ∙ ap (λ j. run_one p.place p.input at j (ran_at link short p r1 true nowhere)) is_halt_there in
-        let to_place = for_same code inside p.place p.input (length front + 1) (place + 1) (begins base d0) (ap (λ m. m + 1) fl) in
+        ∙ ap (λ j. run_one p.place p.input at j (ran_at link r1 true nowhere)) is_halt_there in
+        let to_place = for_same machine (length front + 1) (place + 1) (begins base d0) (ap (λ m. m + 1) fl) in
         let sized = size_ops in
         let ol = ops_length (items_of w.plan) in
         let room = w.parts.room in
@@ -320,10 +327,10 @@ module _ (link : ℕ → ℕ) (p : Program) (small : (i : ℕ) → link i + 8 < 
           short_len = omega arith;
           before = run.mark;
           mark = ap (λ (u : Run). u.state.mark) end_is;
-          runs_on = ap (λ (x : Watched). x.at.halted) (for_same code inside p.place p.input place (length front) (begins base d0) (sym fl) ∙ go);
+          runs_on = ap (λ (x : Watched). x.at.halted) (for_same machine place (length front) (begins base d0) (sym fl) ∙ go);
           halted = ap (λ (x : Watched). x.at.halted) (sym to_place) ∙ h.halted;
           shown = subst (λ (x : Watched). IsAt x r2) to_place (record {
-            core = h.core ∙ ap (λ (d : Did). d.core) (sym all_is) ∙ ap (λ (y : Ran). y.core) whole ∙ ap (λ (u : Run). core_of link short u.state) (sym end_is);
+            core = h.core ∙ ap (λ (d : Did). d.core) (sym all_is) ∙ ap (λ (y : Ran). y.core) whole ∙ ap (λ (u : Run). core_of link u.state) (sym end_is);
             console = h.console ∙ ap (λ (d : Did). d.console) (sym all_is) ∙ ap (λ (y : Ran). y.bytes) whole ∙ ap (λ (u : Run). u.console) (sym end_is);
             clean = h.clean ∙ ap (λ (d : Did). d.clean) (sym all_is) ∙ ap (λ (y : Ran). y.clean) whole;
           });
@@ -344,12 +351,12 @@ module _ (link : ℕ → ℕ) (p : Program) (small : (i : ℕ) → link i + 8 < 
       D1 = doing at ender D0
 
       abbrev R1 : Ran
-      R1 = run_one p.place p.input at ender (ran_at link short p r1 true nowhere)
+      R1 = run_one p.place p.input at ender (ran_at link r1 true nowhere)
 
       size_is : n ≡ suc (length inner)
       size_is = size_ends w.block w.plan w.insts p.input w.laid w.parts w.some f_not ∙ ap (λ m. suc m) (sym inner_is)
 
-      pub run_b : BodyRun link short p i at inner r true nowhere
+      pub run_b : BodyRun link p i at inner r true nowhere
       run_b = body_done 1 (let s = size_is in omega arith)
 
       pub to_end : r2 ≡ run_step p r1
@@ -364,16 +371,16 @@ module _ (link : ℕ → ℕ) (p : Program) (small : (i : ℕ) → link i + 8 < 
       did_are : doing_all base all d0 ≡ doing (at + 2) gw (doing (at + 1) fw D1)
       did_are =
           ap (λ l. doing_all base l d0) all_are
-          ∙ append_did code inside p.place p.input base front (ender ∷ fw ∷ gw ∷ []) d0
+          ∙ append_did machine base front (ender ∷ fw ∷ gw ∷ []) d0
           ∙ ap (λ m. doing m gw (doing (at + 1) fw D1)) (let e : at + 1 + 1 ≡ at + 2 = omega arith in e)
 
       ran_end : run_along p.place p.input base all R0 ≡ R1
       ran_end = ends_run w.block w.plan w.insts p.input w.laid w.parts w.some p.place base R0 (f ∷ g ∷ []) f_not three below ∙ ap (run_one p.place p.input at ender) run_b.ran
 
       -- the transfer decides in its place as at the end of the block
-      pub decision : decides ender at D0.core.regs ≡ decides ender at (core_of link short r1.state).regs
+      pub decision : decides ender at D0.core.regs ≡ decides ender at (core_of link r1.state).regs
       decision =
-          ap (λ (y : Ran). decides ender at y.core.regs) (all_ran code inside p.place p.input base front d0 nowhere (apart_pre w.block w.plan w.insts p.input w.laid w.parts w.some))
+          ap (λ (y : Ran). decides ender at y.core.regs) (all_ran machine base front d0 nowhere (apart_pre w.block w.plan w.insts p.input w.laid w.parts w.some))
           ∙ decides_there w.block w.plan w.insts p.input w.laid w.parts w.some p.place base R0
           ∙ ap (λ (y : Ran). decides ender at y.core.regs) run_b.ran
 
@@ -381,13 +388,13 @@ module _ (link : ℕ → ℕ) (p : Program) (small : (i : ℕ) → link i + 8 < 
       pub record Landed (j : ℕ) : Type 0 where
         pub index : r2.state.index ≡ j
         pub mark : r2.state.mark ≡ Going
-        pub core : R1.core ≡ core_of link short r2.state
+        pub core : R1.core ≡ core_of link r2.state
         pub bytes : R1.bytes ≡ r2.console
 
       transfer_clean : R1.clean ≡ true
       transfer_clean = lawful_none (access ender) (no_access_moves ender moves)
         where
-          lawful_none : (o : Option Access) → o ≡ None → (true && is_lawful p.place p.input o (core_of link short r1.state).regs) ≡ true
+          lawful_none : (o : Option Access) → o ≡ None → (true && is_lawful p.place p.input o (core_of link r1.state).regs) ≡ true
           lawful_none None e = refl
           lawful_none (Some a) e = absurd (some_none a e)
 
@@ -447,14 +454,14 @@ module _ (link : ℕ → ℕ) (p : Program) (small : (i : ℕ) → link i + 8 < 
           let fl = front_is in
           let l3 = len3 in
           let same : steps len (begins base d0) ≡ begins (link j) (did_of r2) =
-          for_same code inside p.place p.input len (length front + 1 + 2) (begins base d0) (omega arith) ∙ go ∙ ap (begins (link j)) (ended j m) in
+          for_same machine len (length front + 1 + 2) (begins base d0) (omega arith) ∙ go ∙ ap (begins (link j)) (ended j m) in
           goes_on_at j m len 0 0 (let q : len + 0 ≡ len = omega arith in q)
           (let a = size_ops in let b = ops_length (items_of w.plan) in omega arith)
           (omega arith)
           (let q : 0 ≤ 0 = omega arith in q)
           (λ e. refl)
           (lead, (let q : 0 ≤ place_of j = omega arith in q))
-          (keeps_self code inside p.place p.input (steps len (begins base d0)) (begins (link j) (did_of r2)) same)
+          (keeps_self machine (steps len (begins base d0)) (begins (link j) (did_of r2)) same)
           (subst (λ (x : Watched). IsAt x r2) (sym same) (is_at_did (did_of r2) r2 (link j) refl))
           (ap (λ (x : Watched). x.at.halted) same)
 
@@ -467,13 +474,13 @@ module _ (link : ℕ → ℕ) (p : Program) (small : (i : ℕ) → link i + 8 < 
           next_none (at + 2) (omega arith) ∙ (let q : at + 2 + 1 ≡ link (i + n) = omega arith in q)
 
       abbrev Decides : Decision → Type 0
-      Decides d = decides ender at (core_of link short r1.state).regs ≡ d
+      Decides d = decides ender at (core_of link r1.state).regs ≡ d
 
       -- not taken, the slots being its own
       passes_own : (sq : Bool) (x y : Inst) → Decides (onward sq) → Landed (i + n) → sq ≡ false → x ≡ fw → y ≡ gw → StandsAt base (front ++ ender ∷ x ∷ y ∷ []) → GoesOn i n len place r
       passes_own sq x y e m clear x_is y_is st =
           all_done (i + n) m w.lead
-          (slots_taken code inside p.place p.input front ender fw gw base d0 (subst (StandsAt base) (λ k. front ++ ender ∷ x_is k ∷ y_is k ∷ []) st) front_plain plain_f plain_g on (low i) bound (link (i + n))
+          (slots_taken machine front ender fw gw base d0 (subst (StandsAt base) (λ k. front ++ ender ∷ x_is k ∷ y_is k ∷ []) st) front_plain plain_f plain_g on (low i) bound (link (i + n))
           (ap (λ (d : Decision). d.cancels) (decision ∙ e) ∙ clear)
           (ap (λ (d : Decision). next_of d.target (at + 2)) (decision ∙ e) ∙ after_it)
           (low (i + n))
@@ -483,7 +490,7 @@ module _ (link : ℕ → ℕ) (p : Program) (small : (i : ℕ) → link i + 8 < 
       passes_squashed : (sq : Bool) (x y : Inst) → Decides (onward sq) → Landed (i + n) → sq ≡ true → IsPlain x → IsPlain y → f ≡ Nop → g ≡ Nop → StandsAt base (front ++ ender ∷ x ∷ y ∷ []) → GoesOn i n len place r
       passes_squashed sq x y e m set px py nf ng st =
           all_done (i + n) m w.lead
-          (slots_cancelled code inside p.place p.input front ender x y base d0 st front_plain px py on (low i) bound (link (i + n))
+          (slots_cancelled machine front ender x y base d0 st front_plain px py on (low i) bound (link (i + n))
           (ap (λ (d : Decision). d.cancels) (decision ∙ e) ∙ set)
           (ap (λ (d : Decision). next_of d.target (at + 2)) (decision ∙ e) ∙ after_it)
           (low (i + n))
@@ -502,7 +509,7 @@ module _ (link : ℕ → ℕ) (p : Program) (small : (i : ℕ) → link i + 8 < 
         takes_own : (x y : Inst) → count ≡ 0 → Leads t → x ≡ fw → y ≡ gw → StandsAt base (front ++ ender ∷ x ∷ y ∷ []) → GoesOn i n len place r
         takes_own x y none lead x_is y_is st =
             all_done t m lead
-            (slots_taken code inside p.place p.input front ender fw gw base d0 (subst (StandsAt base) (λ k. front ++ ender ∷ x_is k ∷ y_is k ∷ []) st) front_plain plain_f plain_g on (low i) bound (link t)
+            (slots_taken machine front ender fw gw base d0 (subst (StandsAt base) (λ k. front ++ ender ∷ x_is k ∷ y_is k ∷ []) st) front_plain plain_f plain_g on (low i) bound (link t)
             not_cancelled
             (to_target ∙ (let q : link t + count ≡ link t = omega arith in q))
             (low t)
@@ -514,7 +521,7 @@ module _ (link : ℕ → ℕ) (p : Program) (small : (i : ℕ) → link i + 8 < 
         one_head : (x : Inst) → Head t 0 x → steps 1 (begins (link t) S) ≡ begins (link t + 1) (doing (link t) x S)
         one_head x h =
             let sm = small t in
-            goes code inside p.place p.input (x ∷ []) (link t) S (subst (λ q. code q ≡ x) plus_zero h.at, subst (λ q. inside q ≡ true) plus_zero h.within, tt) (h.plain, tt) (low t) (omega arith)
+            goes machine (x ∷ []) (link t) S (subst (λ q. code q ≡ x) plus_zero h.at, subst (λ q. inside q ≡ true) plus_zero h.within, tt) (h.plain, tt) (low t) (omega arith)
           where
             plus_zero : link t + 0 ≡ link t
             plus_zero = omega arith
@@ -522,7 +529,7 @@ module _ (link : ℕ → ℕ) (p : Program) (small : (i : ℕ) → link i + 8 < 
         two_heads : (x y : Inst) → Head t 0 x → Head t 1 y → steps 2 (begins (link t) S) ≡ begins (link t + 2) (doing (link t + 1) y (doing (link t) x S))
         two_heads x y h k =
             let sm = small t in
-            goes code inside p.place p.input (x ∷ y ∷ []) (link t) S (subst (λ q. code q ≡ x) plus_zero h.at, subst (λ q. inside q ≡ true) plus_zero h.within, (k.at, k.within, tt)) (h.plain, (k.plain, tt)) (low t) (omega arith)
+            goes machine (x ∷ y ∷ []) (link t) S (subst (λ q. code q ≡ x) plus_zero h.at, subst (λ q. inside q ≡ true) plus_zero h.within, (k.at, k.within, tt)) (h.plain, (k.plain, tt)) (low t) (omega arith)
           where
             plus_zero : link t + 0 ≡ link t
             plus_zero = omega arith
@@ -530,8 +537,8 @@ module _ (link : ℕ → ℕ) (p : Program) (small : (i : ℕ) → link i + 8 < 
         both_nops : f ≡ Nop → g ≡ Nop → D1 ≡ S
         both_nops nf ng =
             let two : doing (at + 2) idle (doing (at + 1) idle D1) ≡ S = (λ k. doing (at + 2) (item_inst w.insts (sym ng k)) (doing (at + 1) (item_inst w.insts (sym nf k)) D1)) ∙ ended t m in
-            let a = undo code inside p.place p.input (at + 2) (doing (at + 1) idle D1) S two refl in
-            let b = undo code inside p.place p.input (at + 1) D1 (doing (at + 1) idle D1) refl a.clean in
+            let a = undo machine (at + 2) (doing (at + 1) idle D1) S two refl in
+            let b = undo machine (at + 1) D1 (doing (at + 1) idle D1) refl a.clean in
             did_same D1 S (b.core ∙ a.core) (b.console ∙ a.console) b.clean (cond-false (is_load ender) (dest ender) 0 no_load)
 
         no_ops : f ≡ Nop → g ≡ Nop → length (ops (f ∷ g ∷ [])) ≤ 0
@@ -555,9 +562,9 @@ module _ (link : ℕ → ℕ) (p : Program) (small : (i : ℕ) → link i + 8 < 
         after_transfer : (x y : Inst) → StandsAt base (front ++ ender ∷ x ∷ y ∷ []) → IsPlain x → IsPlain y → D1 ≡ S → Shown (place + 1)
         after_transfer x y st px py d_is =
             let fl = front_is in
-            let run : steps (place + 1) (begins base d0) ≡ queue code inside p.place p.input (queued (at + 1)) (queued (at + 2)) (link t + count) D1 =
-            for_same code inside p.place p.input (place + 1) (length front + 1) (begins base d0) (omega arith)
-            ∙ past_transfer code inside p.place p.input front ender x y base d0 st front_plain px py on (low i) bound false (link t + count) not_cancelled to_target (low_on count) in
+            let run : steps (place + 1) (begins base d0) ≡ queue machine (queued (at + 1)) (queued (at + 2)) (link t + count) D1 =
+            for_same machine (place + 1) (length front + 1) (begins base d0) (omega arith)
+            ∙ past_transfer machine front ender x y base d0 st front_plain px py on (low i) bound false (link t + count) not_cancelled to_target (low_on count) in
             record {
               shown = record {
                 core = ap (λ (u : Watched). u.at.core) run ∙ ap (λ (d : Did). d.core) d_is;
@@ -578,12 +585,12 @@ module _ (link : ℕ → ℕ) (p : Program) (small : (i : ℕ) → link i + 8 < 
             let own = after_transfer x y st hx.plain hy.plain done in
             let b = hy.before in
             goes_on_at t m (place + 1) 2 2 (omega arith) (let q = many_by 0 (no_ops nf ng) in omega arith) (omega arith) (let q : 2 ≤ 2 = omega arith in q) (λ e. e) (inl lead, (let q : 2 ≤ place_of t = omega arith in q))
-            (keeps_self code inside p.place p.input (steps len (begins base d0)) (steps 2 (begins (link t) S))
-            (for_same code inside p.place p.input len (length front + 1 + 2) (begins base d0) (omega arith)
-            ∙ slots_taken code inside p.place p.input front ender x y base d0 st front_plain hx.plain hy.plain on (low i) bound (link t + 2) not_cancelled (to_target ∙ z_is) (low_on 2) (omega arith)
+            (keeps_self machine (steps len (begins base d0)) (steps 2 (begins (link t) S))
+            (for_same machine len (length front + 1 + 2) (begins base d0) (omega arith)
+            ∙ slots_taken machine front ender x y base d0 st front_plain hx.plain hy.plain on (low i) bound (link t + 2) not_cancelled (to_target ∙ z_is) (low_on 2) (omega arith)
             ∙ ap (λ d. begins (link t + 2) (doing (at + 2) y (doing (at + 1) x d))) done
-            ∙ ap (λ d. begins (link t + 2) (doing (at + 2) y d)) (did_anywhere code inside p.place p.input (at + 1) (link t) x S hx.plain.stays)
-            ∙ ap (begins (link t + 2)) (did_anywhere code inside p.place p.input (at + 2) (link t + 1) y (doing (link t) x S) hy.plain.stays)
+            ∙ ap (λ d. begins (link t + 2) (doing (at + 2) y d)) (did_anywhere machine (at + 1) (link t) x S hx.plain.stays)
+            ∙ ap (begins (link t + 2)) (did_anywhere machine (at + 2) (link t + 1) y (doing (link t) x S) hy.plain.stays)
             ∙ sym (two_heads x y hx hy)))
             own.shown own.runs_on
 
@@ -600,14 +607,14 @@ module _ (link : ℕ → ℕ) (p : Program) (small : (i : ℕ) → link i + 8 < 
             let b = hx.before in
             let last = doing (at + 2) idle (doing (link t) x S) in
             let go : steps len (begins base d0) ≡ begins (link t + 1) last =
-            for_same code inside p.place p.input len (length front + 1 + 2) (begins base d0) (omega arith)
-            ∙ slots_taken code inside p.place p.input front ender x idle base d0 st front_plain hx.plain idle_plain on (low i) bound (link t + 1) not_cancelled (to_target ∙ z_is) (low_on 1) (omega arith)
+            for_same machine len (length front + 1 + 2) (begins base d0) (omega arith)
+            ∙ slots_taken machine front ender x idle base d0 st front_plain hx.plain idle_plain on (low i) bound (link t + 1) not_cancelled (to_target ∙ z_is) (low_on 1) (omega arith)
             ∙ ap (λ d. begins (link t + 1) (doing (at + 2) idle (doing (at + 1) x d))) done
-            ∙ ap (λ d. begins (link t + 1) (doing (at + 2) idle d)) (did_anywhere code inside p.place p.input (at + 1) (link t) x S hx.plain.stays) in
+            ∙ ap (λ d. begins (link t + 1) (doing (at + 2) idle d)) (did_anywhere machine (at + 1) (link t) x S hx.plain.stays) in
             goes_on_at t m (place + 1) 2 1 (omega arith) (let q = many_by 0 (no_ops nf ng) in omega arith) (omega arith) (let q : 1 ≤ 2 = omega arith in q) (λ e. absurd (omega arith)) (inl lead, (let q : 1 ≤ place_of t = omega arith in q))
-            (keeps_then code inside p.place p.input (steps len (begins base d0)) (begins (link t + 1) last) (steps 1 (begins (link t) S))
-            (keeps_self code inside p.place p.input (steps len (begins base d0)) (begins (link t + 1) last) go)
-            (subst (λ (u : Watched). Keeping (begins (link t + 1) last) u) (sym (one_head x hx)) (keeps_idle code inside p.place p.input (link t + 1) (at + 2) (doing (link t) x S))))
+            (keeps_then machine (steps len (begins base d0)) (begins (link t + 1) last) (steps 1 (begins (link t) S))
+            (keeps_self machine (steps len (begins base d0)) (begins (link t + 1) last) go)
+            (subst (λ (u : Watched). Keeping (begins (link t + 1) last) u) (sym (one_head x hx)) (keeps_idle machine (link t + 1) (at + 2) (doing (link t) x S))))
             own.shown own.runs_on
 
         -- the second slot holds a word of the target
@@ -617,28 +624,28 @@ module _ (link : ℕ → ℕ) (p : Program) (small : (i : ℕ) → link i + 8 < 
             let free : reads y (loads_to fw) ≡ false = subst (λ j. reads y (loads_to j) ≡ false) x_is free0 in
             let D2 = doing (at + 1) fw D1 in
             let idle_is : doing (at + 2) idle D2 ≡ S = (λ k. doing (at + 2) (item_inst w.insts (sym ng k)) D2) ∙ ended t m in
-            let done = undo code inside p.place p.input (at + 2) D2 S idle_is refl in
+            let done = undo machine (at + 2) D2 S idle_is refl in
             let l3 = len3 in
             let fl = front_is in
             let sm = small t in
             let b = hy.before in
             let z = link t + 1 in
             let z_is : link t + count ≡ link t + 1 = omega arith in
-            let own_run : steps (place + 2) (begins base d0) ≡ queue code inside p.place p.input (queued (at + 2)) (queued z) (z + 1) D2 =
-            for_same code inside p.place p.input (place + 2) (length front + 1 + 1) (begins base d0) (omega arith)
-            ∙ one_taken code inside p.place p.input front ender fw y base d0 st front_plain plain_f hy.plain on (low i) bound z not_cancelled (to_target ∙ z_is) (low_on 1) (omega arith) in
-            let last : queue code inside p.place p.input (queued z) (queued (z + 1)) (z + 1 + 1) (doing (at + 2) y D2) ≡ watch code inside p.place p.input (queue code inside p.place p.input (queued (at + 2)) (queued z) (z + 1) D2) =
-            plain_word code inside p.place p.input (at + 2) (queued z) (z + 1) D2 y (at_g code inside p.place p.input front ender fw y base d0 st front_plain plain_f hy.plain on (low i) bound) (in_g code inside p.place p.input front ender fw y base d0 st front_plain plain_f hy.plain on (low i) bound) hy.plain (let q = low_on 2 in omega arith) (omega arith) in
+            let own_run : steps (place + 2) (begins base d0) ≡ queue machine (queued (at + 2)) (queued z) (z + 1) D2 =
+            for_same machine (place + 2) (length front + 1 + 1) (begins base d0) (omega arith)
+            ∙ one_taken machine front ender fw y base d0 st front_plain plain_f hy.plain on (low i) bound z not_cancelled (to_target ∙ z_is) (low_on 1) (omega arith) in
+            let last : queue machine (queued z) (queued (z + 1)) (z + 1 + 1) (doing (at + 2) y D2) ≡ once machine (queue machine (queued (at + 2)) (queued z) (z + 1) D2) =
+            plain_word machine (at + 2) (queued z) (z + 1) D2 y (at_g machine front ender fw y base d0 st front_plain plain_f hy.plain on (low i) bound) (in_g machine front ender fw y base d0 st front_plain plain_f hy.plain on (low i) bound) hy.plain (let q = low_on 2 in omega arith) (omega arith) in
             let go : steps len (begins base d0) ≡ begins z (doing (at + 2) y D2) =
-            for_same code inside p.place p.input len (place + 2 + 1) (begins base d0) (omega arith)
-            ∙ for_add code inside p.place p.input (place + 2) 1 (begins base d0)
-            ∙ ap (watch code inside p.place p.input) own_run
+            for_same machine len (place + 2 + 1) (begins base d0) (omega arith)
+            ∙ for_add machine (place + 2) 1 (begins base d0)
+            ∙ ap (once machine) own_run
             ∙ sym last
-            ∙ ap (λ q. queue code inside p.place p.input (queued z) (queued (z + 1)) q (doing (at + 2) y D2)) (let q : z + 1 + 1 ≡ z + 2 = omega arith in q) in
+            ∙ ap (λ q. queue machine (queued z) (queued (z + 1)) q (doing (at + 2) y D2)) (let q : z + 1 + 1 ≡ z + 2 = omega arith in q) in
             goes_on_at t m (place + 2) 1 1 (omega arith) (let q = many_by 1 (one_op ng) in omega arith) (omega arith) (let q : 1 ≤ 1 = omega arith in q) (λ e. e) (inl lead, (let q : 1 ≤ place_of t = omega arith in q))
-            (keeps_then code inside p.place p.input (steps len (begins base d0)) (begins z (doing (at + 2) y D2)) (steps 1 (begins (link t) S))
-            (keeps_self code inside p.place p.input (steps len (begins base d0)) (begins z (doing (at + 2) y D2)) go)
-            (subst (λ (u : Watched). Keeping (begins z (doing (at + 2) y D2)) u) (sym (one_head y hy)) (keeps_head code inside p.place p.input y z (at + 2) (link t) D2 S hy.plain done free)))
+            (keeps_then machine (steps len (begins base d0)) (begins z (doing (at + 2) y D2)) (steps 1 (begins (link t) S))
+            (keeps_self machine (steps len (begins base d0)) (begins z (doing (at + 2) y D2)) go)
+            (subst (λ (u : Watched). Keeping (begins z (doing (at + 2) y D2)) u) (sym (one_head y hy)) (keeps_head machine y z (at + 2) (link t) D2 S hy.plain done free)))
             (record {
               core = ap (λ (u : Watched). u.at.core) own_run ∙ done.core;
               console = ap (λ (u : Watched). u.at.console) own_run ∙ done.console;

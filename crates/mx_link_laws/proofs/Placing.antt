@@ -51,10 +51,11 @@ use Rattle.mx_link_laws.proofs.Planned.{bodies_length, size_ends}
 use Rattle.mx_link_laws.proofs.Codes.{place_leads, statement_fits}
 use Rattle.mx_link_laws.proofs.Sited.{body, there, inst_there, words_from, plain_word_at, end_word}
 use Rattle.mx_layout.proofs.Links.{site_found}
-use Rattle.mx_link_laws.proofs.Layouts.{Fills, goes, begins, end_low}
-use Rattle.mx_link_laws.proofs.Slots.{never, lk, p, smaller, lower, cd, ins, place_of, place_in, Stood, shorter, insts_at, laid_at, parts_stand, x, y, filled_there, own_slots}
+use Rattle.mx_link_laws.proofs.Layouts.{place_in, goes, begins, end_low, setting}
+use Rattle.mx_link_laws.proofs.Slots.{never, Stood, linked_site, insts_at, laid_at, parts_stand, Slotted, x, y, filled_there, own_slots}
 use Rattle.mx_link_laws.proofs.Transfers.{Lay, Kind, Branches, Calls, Transfers, EndOf, Falls, Stops, Moves, Jumps}
 use Rattle.mx_link_laws.proofs.Whole.{Placed}
+use Rattle.mx_link_laws.proofs.Setting.{Known}
 
 false_true : false ≡ true → ⊥
 false_true e = grind arith
@@ -138,31 +139,21 @@ always_holds a b Eq f e =
     (λ k. condition_holds Eq (reg f (za k)) (reg f (zb k)))
 always_holds a b _ f e = absurd (false_true e)
 
--- the number of words of the plan of the block that begins at a statement
-abbrev pub len_of : List Site → ℕ → ℕ
-len_of all t = plan_words (site_of (λ b. eqb b.first t) all)
-
-module _ (source : SourceValue) (is : IsSource source) (registers : (i : ℕ) (s : Statement) → slice_get source.statements i ≡ Some s → HasRegisters (statement_inst s)) (place : Place) (all : List Site) (h : IsLayout Valid source place all) (room' : place.code + 3 * length source.statements ≤ 65535) (reach : overlong source place (blocks_in all) ≡ None) (filling : Filling) (fills : Fills source is registers place all h room' reach filling) (bytes : List ℕ) where
-  abbrev pub link : ℕ → ℕ
-  link = lk source is registers place all h room' reach filling fills bytes
-
-  abbrev pub small : (i : ℕ) → link i + 8 < 2 ^ 31
-  small = smaller source is registers place all h room' reach filling fills bytes
-
-  abbrev pub above : (i : ℕ) → place.code ≤ link i
-  above = lower source is registers place all h room' reach filling fills bytes
+module _ (known : Known) where
+  open known use {linking.{filling, source, place, sites as all}, laid.{well_formed as is, layout as h}, bare}
+  open setting known use {program as p, link, code as cd, inside as ins, place_of, len_of}
 
   abbrev pub PlacedAt : ℕ → Type 0
-  PlacedAt t = Placed link (p source is registers place all h room' reach filling fills bytes) small above (cd source is registers place all h room' reach filling fills bytes) (ins source is registers place all h room' reach filling fills bytes) (is_leader source) (place_of source is registers place all h room' reach filling fills bytes) (len_of all) t
+  PlacedAt t = Placed (setting known) t
 
   abbrev pub LayAt : ℕ → Type 0
-  LayAt t = Lay link (p source is registers place all h room' reach filling fills bytes) small above (cd source is registers place all h room' reach filling fills bytes) (ins source is registers place all h room' reach filling fills bytes) (is_leader source) (place_of source is registers place all h room' reach filling fills bytes) t
+  LayAt t = Lay (setting known) t
 
   abbrev pub EndAt : (t : ℕ) → LayAt t → Type 0
-  EndAt t w = EndOf link (p source is registers place all h room' reach filling fills bytes) small above (cd source is registers place all h room' reach filling fills bytes) (ins source is registers place all h room' reach filling fills bytes) (is_leader source) (place_of source is registers place all h room' reach filling fills bytes) t w
+  EndAt t w = EndOf (setting known) t w
 
   abbrev StoodAt : Site → Type 0
-  StoodAt s = Stood source is registers place all h room' reach filling fills bytes s
+  StoodAt s = Stood known s
 
   module _ (s : Site) (st : StoodAt s) (next_is : link (s.block.first + size s.block) ≡ s.start + plan_size s.plan) where
     abbrev c : Copied
@@ -175,7 +166,7 @@ module _ (source : SourceValue) (is : IsSource source) (registers : (i : ℕ) (s
     n = body_count s.block
 
     abbrev list : List Inst
-    list = insts_at source is registers place all h room' reach filling fills bytes s st
+    list = insts_at known s st
 
     abbrev parts : Parts s.block s.plan
     parts = has_parts s.block s.plan st.of.valid
@@ -191,11 +182,11 @@ module _ (source : SourceValue) (is : IsSource source) (registers : (i : ℕ) (s
       block = s.block;
       plan = s.plan;
       insts = list;
-      laid = laid_at source is registers place all h room' reach filling fills bytes s st;
+      laid = laid_at known s st;
       parts = parts;
       some = st.of.block.some;
       few = few_statements source s.block st.of.block;
-      body = body source is link (shorter source is registers place all h room' reach filling fills bytes) s c st.of.block st.of.valid (goes source is registers place all h room' reach filling fills s st.of);
+      body = body (linked_site known s st);
       next = next_is ∙ ap (λ a. a + plan_size s.plan) (sym st.of.start);
       lead = st.of.block.next;
     }
@@ -208,36 +199,36 @@ module _ (source : SourceValue) (is : IsSource source) (registers : (i : ℕ) (s
     seen a item = inst_at link source.statements c a (own first item)
 
     goes_here : Goes source link s c
-    goes_here = goes source is registers place all h room' reach filling fills s st.of
+    goes_here = goes known s st.of
 
     place_is : s.plan.place ≡ length front
     place_is = parts.place
 
     inner_is : length (take n list) ≡ n
-    inner_is = bodies_length s.block s.plan list _ (laid_at source is registers place all h room' reach filling fills bytes s st) parts st.of.block.some
+    inner_is = bodies_length s.block s.plan list _ (laid_at known s st) parts st.of.block.some
 
     last_is : falls s.block.end ≡ false → n ≡ final
-    last_is f = let e = size_ends s.block s.plan list _ (laid_at source is registers place all h room' reach filling fills bytes s st) parts st.of.block.some f in let b = st.of.block.some in omega arith
+    last_is f = let e = size_ends s.block s.plan list _ (laid_at known s st) parts st.of.block.some f in let b = st.of.block.some in omega arith
 
     -- the words from the terminator's place on
     abbrev tail_words : List Item → List Inst
-    tail_words items = words_from source is link (shorter source is registers place all h room' reach filling fills bytes) s c st.of.block st.of.valid (goes source is registers place all h room' reach filling fills s st.of) (length front) items
+    tail_words items = words_from (linked_site known s st) (length front) items
 
     abbrev StandsHere : ℕ → List Inst → Type 0
-    StandsHere = Stands (cd source is registers place all h room' reach filling fills bytes) (ins source is registers place all h room' reach filling fills bytes)
+    StandsHere = Stands cd ins
 
     stands_here : (items : List Item) (tail : List Inst) → back ≡ items → tail_words items ≡ tail → StandsHere (link first) (words list front ++ tail)
     stands_here items tail e f =
         subst (λ a. StandsHere a (words list front ++ tail)) (sym st.of.start)
         (subst (λ l. StandsHere s.start (words list front ++ l)) (ap tail_words e ∙ f)
-        (parts_stand source is registers place all h room' reach filling fills bytes s st parts))
+        (parts_stand known s st parts))
 
     -- the terminator's word
     ender_word : n < size s.block → inst_at link source.statements c (s.start + length front) (origin_at s c (length front) (Op n)) ≡ inst_number list n
     ender_word l =
         (λ k. inst_at link source.statements c (s.start + sym place_is k) (origin_at s c (sym place_is k) (Op n)))
-        ∙ plain_word_at source is link (shorter source is registers place all h room' reach filling fills bytes) s c st.of.block st.of.valid goes_here s.plan.place (Op n) (omega arith)
-        ∙ end_word source is link (shorter source is registers place all h room' reach filling fills bytes) s c st.of.block st.of.valid goes_here n l
+        ∙ plain_word_at (linked_site known s st) s.plan.place (Op n) (omega arith)
+        ∙ end_word (linked_site known s st) n l
 
     words_all : (items : List Item) → back ≡ items → words list (items_of s.plan) ≡ words list front ++ words list items
     words_all items e = ap (words list) (parts.whole ∙ ap (λ l. front ++ l) e) ∙ map-append (item_inst list) front items
@@ -259,9 +250,9 @@ module _ (source : SourceValue) (is : IsSource source) (registers : (i : ℕ) (s
         let b = last_is f in
         let some = st.of.block.some in
         let w : n < size s.block = omega arith in
-        let t = there source is link (shorter source is registers place all h room' reach filling fills bytes) s c st.of.block st.of.valid goes_here n w in
+        let t = there (linked_site known s st) n w in
         let on : first + n ≡ first + final = omega arith in
-        inst_there source is link (shorter source is registers place all h room' reach filling fills bytes) s c st.of.block st.of.valid goes_here n w
+        inst_there (linked_site known s st) n w
         ∙ ap (linked_inst link c (s.start + s.plan.place)) (same_Some t.statement z (sym t.is_there ∙ ap (slice_get source.statements) on ∙ l.at))
 
     falls_end : (z : Statement) → Last z → end_of z ≡ FallsEnd → EndAt first lay
@@ -282,10 +273,10 @@ module _ (source : SourceValue) (is : IsSource source) (registers : (i : ℕ) (s
         (stands_here (Op n ∷ []) (inst_number list n ∷ []) one (λ k. ender_word w k ∷ [])))
 
     abbrev TransfersHere : Type 0
-    TransfersHere = Transfers link (p source is registers place all h room' reach filling fills bytes) small above (cd source is registers place all h room' reach filling fills bytes) (ins source is registers place all h room' reach filling fills bytes) (is_leader source) (place_of source is registers place all h room' reach filling fills bytes) first lay
+    TransfersHere = Transfers (setting known) first lay
 
     abbrev KindHere : Type 0
-    KindHere = Kind link (p source is registers place all h room' reach filling fills bytes) small above (cd source is registers place all h room' reach filling fills bytes) (ins source is registers place all h room' reach filling fills bytes) (is_leader source) (place_of source is registers place all h room' reach filling fills bytes) first lay (goal_of s.block.end) c.count c.squash (not (may_stay s.block))
+    KindHere = Kind (setting known) first lay (goal_of s.block.end) c.count c.squash (not (may_stay s.block))
 
     -- a transfer and its slots
     module _ (f_not : falls s.block.end ≡ false) (t : IsTransfer n back) where
@@ -298,11 +289,14 @@ module _ (source : SourceValue) (is : IsSource source) (registers : (i : ℕ) (s
       abbrev transfers : TransfersHere
       transfers = record { f_not = f_not; f = t.first; g = t.second; three = t.is; below = t.slots }
 
+      abbrev slotted : Slotted known
+      slotted = record { site = s; standing = st; parts = parts; f = t.first; g = t.second; three = t.is; below_f = below_f; below_g = below_g }
+
       abbrev first_slot : Inst
-      first_slot = x source is registers place all h room' reach filling fills bytes s st parts t.first t.second t.is below_f below_g
+      first_slot = x known slotted
 
       abbrev second_slot : Inst
-      second_slot = y source is registers place all h room' reach filling fills bytes s st parts t.first t.second t.is below_f below_g
+      second_slot = y known slotted
 
       three_words : n < size s.block → tail_words (Op n ∷ t.first ∷ t.second ∷ []) ≡ inst_number list n ∷ first_slot ∷ second_slot ∷ []
       three_words l =
@@ -331,23 +325,23 @@ module _ (source : SourceValue) (is : IsSource source) (registers : (i : ℕ) (s
       moves : KindHere → is_leader source (goal_of s.block.end) ≡ true → EndAt first lay
       moves kind lead =
           Moves transfers (goal_of s.block.end) c.count c.squash (not (may_stay s.block)) first_slot second_slot kind
-          (filled_there source is registers place all h room' reach filling fills bytes s st parts t.first t.second t.is below_f below_g)
+          (filled_there known slotted)
           (inl lead)
           stand_three
 
       -- by a register
-      jumps_end : s.block.end ≡ JumpsEnd → (a d : ℕ) (z : Statement) → Last z → ((u : State) → execute (p source is registers place all h room' reach filling fills bytes) (Some z) u ≡ jumps (value_in u.regs a) d u) → inst_number list n ≡ Jspci a d (pos 0) → EndAt first lay
+      jumps_end : s.block.end ≡ JumpsEnd → (a d : ℕ) (z : Statement) → Last z → ((u : State) → execute p (Some z) u ≡ jumps (value_in u.regs a) d u) → inst_number list n ≡ Jspci a d (pos 0) → EndAt first lay
       jumps_end e a d z l means ender =
-          let own = own_slots source is registers place all h room' reach filling fills bytes s st parts t.first t.second t.is below_f below_g (ap (λ q. site_of (is_target q) all) e ∙ never all) in
+          let own = own_slots known slotted (ap (λ q. site_of (is_target q) all) e ∙ never all) in
           Jumps transfers a d
-          (λ u. ap (λ o. execute (p source is registers place all h room' reach filling fills bytes) o u) (behind_body z l f_not) ∙ means u)
+          (λ u. ap (λ o. execute p o u) (behind_body z l f_not) ∙ means u)
           ender
           (subst (StandsHere (link first)) (λ k. words list front ++ inst_number list n ∷ own.first k ∷ own.second k ∷ []) stand_three)
 
     at_low : s.start + s.plan.place < 2 ^ 31
     at_low =
         let b = st.of.below in
-        let e = end_low source is registers place all h room' reach in
+        let e = end_low known in
         let t = st.of.valid.tail in
         omega arith
 
@@ -379,7 +373,7 @@ module _ (source : SourceValue) (is : IsSource source) (registers : (i : ℕ) (s
             let q = at_low in
             let r : to ≤ s.start + s.plan.place + 32767 = under to (s.start + s.plan.place + 32767) parts.0 in
             let b = st.of.below in
-            let m = end_low source is registers place all h room' reach in
+            let m = end_low known in
             let v = st.of.valid.tail in
             omega arith
           where
@@ -428,8 +422,8 @@ module _ (source : SourceValue) (is : IsSource source) (registers : (i : ℕ) (s
             there_on : slice_get source.statements (first + size s.block - 1) ≡ slice_get source.statements (first + final)
             there_on = let some = st.of.block.some in let q : first + size s.block - 1 ≡ first + final = omega arith in ap (slice_get source.statements) q
 
-    place_most : (u : ℕ) → place_of source is registers place all h room' reach filling fills bytes u ≤ place_in (site_of (λ b. eqb b.first u) all)
-    place_most u = at_most fills.0 (place_in (site_of (λ b. eqb b.first u) all))
+    place_most : (u : ℕ) → place_of u ≤ place_in (site_of (λ b. eqb b.first u) all)
+    place_most u = at_most bare (place_in (site_of (λ b. eqb b.first u) all))
       where
         at_most : (b : Bool) (m : ℕ) → cond b 0 m ≤ m
         at_most true m = omega arith
@@ -441,13 +435,13 @@ module _ (source : SourceValue) (is : IsSource source) (registers : (i : ℕ) (s
           lay = lay;
           end = end;
           place = (let q = place_most first in let r = place_is in let x = ap (λ u. place_in (site_of (λ b. eqb b.first u) all)) e ∙ ap place_in found in omega arith);
-          long = ap (len_of all) e ∙ ap plan_words found;
+          long = ap len_of e ∙ ap plan_words found;
           inner = st.of.block.inner;
         })
 
   -- the block of each leader
   pub placed : (t : ℕ) → is_leader source t ≡ true → t < length source.statements → PlacedAt t
   placed t e l =
-      let b = begins source is registers place all h room' reach filling fills t e l in
+      let b = begins known t e l in
       let next = site_found (λ (s : Site). link (s.block.first + size s.block) ≡ s.start + plan_size s.plan) (λ b. eqb b.first t) all b.site (next_links source 0 (length source.statements) place.code all h.blocks h.stand) b.found in
       placed_first b.site b.standing next.0 t b.first b.found

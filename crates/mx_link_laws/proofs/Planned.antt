@@ -22,6 +22,7 @@ use Rattle.mx_order.proofs.Order.{same_length, keeps_effect}
 use Rattle.mx_order.proofs.Split.{body_within, run_source_append, decides_alike, body_stays}
 use Rattle.mx_order.proofs.Words.{item_inst, words, run_words, run_along, AllStay, run_along_stays, run_along_once, words_stay, AreApart, last_loaded, words_apart, words_end}
 use Rattle.mx_link_laws.proofs.Going.{Did, IsPlain, ArePlain, idle_plain, did, did_all}
+use Rattle.mx_link_laws.proofs.Setting.{Machine}
 
 pub apart_left : (l : ℕ) (is js : List Inst) → AreApart l (is ++ js) → AreApart l is
 apart_left l [] js h = tt
@@ -40,29 +41,31 @@ plain_words insts n (Nop ∷ items) b h = (idle_plain, plain_words insts n items
 and_not : (a b c : Bool) → c ≡ false → (a && (b && not c)) ≡ (a && b)
 and_not a b c e = grind arith
 
-module _ (code : ℕ → Inst) (inside : ℕ → Bool) (p : Place) (input : Option (List ℕ)) where
-  -- what the words so far did, as a run of instructions
-  abbrev pub ran_of : Did → Decision → Ran
-  ran_of d l = record { core = d.core; bytes = d.console; clean = d.clean; leads = l }
+-- what the words so far did, as a run of instructions
+abbrev pub ran_of : Did → Decision → Ran
+ran_of d l = record { core = d.core; bytes = d.console; clean = d.clean; leads = l }
 
-  one_ran : (a : ℕ) (i : Inst) (d : Did) (l : Decision) → reads i d.loaded ≡ false → ran_of (did code inside p input a i d) (run_one p input a i (ran_of d l)).leads ≡ run_one p input a i (ran_of d l)
+module _ (machine : Machine) where
+  open machine use {place as p, input}
+
+  one_ran : (a : ℕ) (i : Inst) (d : Did) (l : Decision) → reads i d.loaded ≡ false → ran_of (did machine a i d) (run_one p input a i (ran_of d l)).leads ≡ run_one p input a i (ran_of d l)
   one_ran a i d l h = λ k. record {
-    core = (did code inside p input a i d).core;
-    bytes = (did code inside p input a i d).console;
+    core = (did machine a i d).core;
+    bytes = (did machine a i d).console;
     clean = and_not d.clean (is_lawful p input (access i) d.core.regs) (reads i d.loaded) h k;
     leads = cond (is_transfer i) (decides i a d.core.regs) l;
   }
 
-  pub all_ran : (a : ℕ) (insts : List Inst) (d : Did) (l : Decision) → AreApart d.loaded insts → ran_of (did_all code inside p input a insts d) (run_along p input a insts (ran_of d l)).leads ≡ run_along p input a insts (ran_of d l)
+  pub all_ran : (a : ℕ) (insts : List Inst) (d : Did) (l : Decision) → AreApart d.loaded insts → ran_of (did_all machine a insts d) (run_along p input a insts (ran_of d l)).leads ≡ run_along p input a insts (ran_of d l)
   all_ran a [] d l h = refl
   all_ran a (i ∷ insts) d l h =
-      subst (λ (r : Ran). ran_of (did_all code inside p input (a + 1) insts (did code inside p input a i d)) (run_along p input (a + 1) insts r).leads ≡ run_along p input (a + 1) insts r)
+      subst (λ (r : Ran). ran_of (did_all machine (a + 1) insts (did machine a i d)) (run_along p input (a + 1) insts r).leads ≡ run_along p input (a + 1) insts r)
       (one_ran a i d l h.0)
-      (all_ran (a + 1) insts (did code inside p input a i d) (run_one p input a i (ran_of d l)).leads h.1)
+      (all_ran (a + 1) insts (did machine a i d) (run_one p input a i (ran_of d l)).leads h.1)
 
-  pub all_loaded : (a : ℕ) (insts : List Inst) (d : Did) → (did_all code inside p input a insts d).loaded ≡ last_loaded d.loaded insts
+  pub all_loaded : (a : ℕ) (insts : List Inst) (d : Did) → (did_all machine a insts d).loaded ≡ last_loaded d.loaded insts
   all_loaded a [] d = refl
-  all_loaded a (i ∷ insts) d = all_loaded (a + 1) insts (did code inside p input a i d)
+  all_loaded a (i ∷ insts) d = all_loaded (a + 1) insts (did machine a i d)
 
 module _ (block : Block) (plan : Plan) (insts : List Inst) (input : Option (List ℕ)) (laid : IsLaidOut block plan insts input) (parts : Parts block plan) (some : 1 ≤ length (insts_of block)) where
   abbrev pub body : ℕ

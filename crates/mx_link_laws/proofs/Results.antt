@@ -16,8 +16,8 @@ use Rattle.mx_link.specs.Linked.{links_from, link_map}
 use Rattle.mx_link_laws.specs.Runs.{Linking, IsLinking}
 use Rattle.mx_link_laws.specs.Results.{ResultsAreLinked, linking_of, insts_in, IsWord}
 use Rattle.mx_link_laws.proofs.Imaged.{AllSpelled, piece, piece_spelled, pieces_spelled, spelled_at, code_there}
-use Rattle.mx_link_laws.proofs.Layouts.{facts, goes}
-use Rattle.mx_link_laws.proofs.Shown.{registers, Filled, filled_from}
+use Rattle.mx_link_laws.proofs.Layouts.{registers, facts, goes}
+use Rattle.mx_link_laws.proofs.Shown.{known_of}
 
 -- a list of links has the link of each index
 pub link_at : (link : ℕ → ℕ) (i n j d : ℕ) → j < n → slice_index_or (links_from link i n) j d ≡ link (i + j)
@@ -28,13 +28,12 @@ link_at link i (suc n) (suc j) d less = link_at link (suc i) n j d (omega (arith
 module _ (l : Linking) (is : IsLinking l) where
   spelled_all : AllSpelled (insts_in l)
   spelled_all =
-      let regs = registers l is.laid in
-      let fills : Filled l is.laid = filled_from l is.laid is.filled in
-      pieces_spelled (piece l.source regs (link_of l.place.code l.sites) l.filling l.sites) l.sites (λ k d low.
+      let known = known_of l is in
+      let link = link_of l.place.code l.sites in
+      pieces_spelled (piece l.source link l.filling l.sites) l.sites (λ k d low.
       let s = slice_index_or l.sites k d in
-      let f = facts l.source is.laid.well_formed regs l.place l.sites is.laid.layout is.laid.room is.laid.reach k d low in
-      piece_spelled l.source regs (link_of l.place.code l.sites) is.laid.well_formed l.filling l.sites s f.block f.valid
-      (goes l.source is.laid.well_formed regs l.place l.sites is.laid.layout is.laid.room is.laid.reach l.filling fills s f))
+      let f = facts known k d low in
+      piece_spelled l.source (registers known) link is.laid.well_formed l.filling l.sites s f.block f.valid (goes known s f))
 
   module _ (r : Linked) (words : r.image.code.items ≡ map word_of_row (insts_in l)) where
     word_there : (n : ℕ) (inst : Inst) → slice_get (insts_in l) n ≡ Some inst → IsWord l.place r n inst

@@ -111,7 +111,7 @@ plain_stays _ h = absurd h
 and_true : (b c : Bool) → c ≡ true → (b && c) ≡ b
 and_true b c e = grind arith
 
-module _ (link : ℕ → ℕ) (short : (i : ℕ) → link i < 2 ^ 32) where
+module _ (link : ℕ → ℕ) where
   -- a statement of a body, and its instruction
   abbrev pub IsBodyOf : Option Statement → Inst → Type 0
   IsBodyOf (Some (Plain i)) x = IsPlainStatement i × (x ≡ i)
@@ -132,72 +132,16 @@ module _ (link : ℕ → ℕ) (short : (i : ℕ) → link i < 2 ^ 32) where
   all_plain statements i [] h = tt
   all_plain statements i (x ∷ insts) h = (body_plain (slice_get statements i) x h.0, all_plain statements (suc i) insts h.1)
 
-  module _ (p : Program) where
-    -- the state of a run as words
-    abbrev pub ran_at : Run → Bool → Decision → Ran
-    ran_at r b d = record { core = core_of link short r.state; bytes = r.console; clean = b; leads = d }
+  -- the state of a run as words
+  abbrev pub ran_at : Run → Bool → Decision → Ran
+  ran_at r b d = record { core = core_of link r.state; bytes = r.console; clean = b; leads = d }
 
+  module _ (p : Program) where
     -- the step is what the instruction does, and goes on
     pub record Did1 (r t : Run) (i : Inst) (b : Bool) (at : ℕ) (d : Decision) : Type 0 where
       pub ran : run_one p.place p.input at i (ran_at r b d) ≡ ran_at t b d
       pub index : t.state.index ≡ suc r.state.index
       pub mark : t.state.mark ≡ Going
-
-    plain_did : (i : Inst) (r : Run) (b : Bool) (at : ℕ) (d : Decision) → IsPlainStatement i → why_plain p i r.state.regs ≡ None → r.state.mark ≡ Going
-        → (let t : Run = record { state = (done p i r.state).after; console = r.console ++ option_to_list (done p i r.state).byte } in Did1 r t i b at d)
-    plain_did i r b at d body h g =
-        let one = body_step link short p i r.state body h in
-        let plain = plain_stays i body in
-        let here : run_one p.place p.input 0 i (ran_at r b d) ≡ (let t : Run = record { state = (done p i r.state).after; console = r.console ++ option_to_list (done p i r.state).byte } in ran_at t b d) =
-        (λ k. record {
-          core = sym one.core k;
-          bytes = r.console ++ option_to_list (sym one.byte k);
-          clean = and_true b (is_lawful p.place p.input (access i) (core_of link short r.state).regs) one.lawful k;
-          leads = stay (is_transfer i) plain.stays k;
-        }) in
-        record {
-          ran = run_anywhere p.place p.input at 0 i (ran_at r b d) plain.stays ∙ here;
-          index = refl;
-          mark = g;
-        }
-      where
-        stay : (t : Bool) → t ≡ false → cond t (decides i 0 (core_of link short r.state).regs) d ≡ d
-        stay true e = absurd (false_true (sym e))
-        stay false e = refl
-
-    abbrev plain_said : Inst → Run → Option Why → Run
-    plain_said i r o = record { state = (unless_stuck o (done p i r.state) r.state).after; console = r.console ++ option_to_list (unless_stuck o (done p i r.state) r.state).byte }
-
-    pub one_body : (r : Run) (o : Option Statement) (x : Inst) (b : Bool) (at : ℕ) (d : Decision) → r.state.mark ≡ Going → slice_get p.statements r.state.index ≡ o → IsBodyOf o x → is_stuck (run_step p r).state.mark ≡ false → Did1 r (run_step p r) x b at d
-    one_body r (Some (Plain i)) x b at d g e body h =
-        let is = step_is p r (Some (Plain i)) g e in
-        let none = mark_none (why_plain p i r.state.regs) (done p i r.state) r.state (ap (λ (t : Run). is_stuck t.state.mark) (sym is) ∙ h) in
-        subst (λ (y : Inst). Did1 r (run_step p r) y b at d) (sym body.1)
-        (subst (λ (t : Run). Did1 r t i b at d) (ap (plain_said i r) (sym none) ∙ sym is) (plain_did i r b at d body.0 none g))
-    one_body r (Some (LaCode t n)) x b at d g e body h =
-        subst (λ (y : Inst). Did1 r (run_step p r) y b at d) (sym body)
-        (subst (λ (u : Run). Did1 r u (Addi 0 t (pos (link n))) b at d) (sym (step_is p r (Some (LaCode t n)) g e)) la)
-      where
-        value : word_of (0 + cast_unsigned w32 (pos (link n))) ≡ link n
-        value = let q = short n in omega arith
-
-        la : Did1 r (said p (Some (LaCode t n)) r) (Addi 0 t (pos (link n))) b at d
-        la = record {
-          ran = (λ k. record {
-            core = record {
-              regs = ((λ j. write (core_of link short r.state).regs t (value j)) ∙ sym (linked_write link short r.state.regs t (Code n))) k;
-              md = r.state.md;
-              mem = (core_of link short r.state).mem;
-              taken = r.state.taken;
-            };
-            bytes = r.console ++ [];
-            clean = and_true b true refl k;
-            leads = d;
-          });
-          index = refl;
-          mark = g;
-        }
-    one_body r _ x b at d g e body h = absurd body
 
     -- statements of a body, one after another
     pub record BodyRun (i at : ℕ) (insts : List Inst) (r : Run) (b : Bool) (d : Decision) : Type 0 where
@@ -205,13 +149,70 @@ module _ (link : ℕ → ℕ) (short : (i : ℕ) → link i < 2 ^ 32) where
       pub index : (run_for p (length insts) r).state.index ≡ i + length insts
       pub mark : (run_for p (length insts) r).state.mark ≡ Going
 
-    pub body_run : (i at : ℕ) (insts : List Inst) (r : Run) (b : Bool) (d : Decision) → r.state.mark ≡ Going → r.state.index ≡ i → AreBody p.statements i insts → is_stuck (run_for p (length insts) r).state.mark ≡ false → BodyRun i at insts r b d
-    body_run i at [] r b d g e h k = record { ran = refl; index = e ∙ (let q : i ≡ i + 0 = omega arith in q); mark = g }
-    body_run i at (x ∷ insts) r b d g e h k =
-        let one = one_body r (slice_get p.statements i) x b at d g (ap (slice_get p.statements) e) h.0 (not_stuck_before p (length insts) (run_step p r) k) in
-        let more = body_run (suc i) at insts (run_step p r) b d one.mark (one.index ∙ ap (λ m. suc m) e) h.1 k in
-        record {
-          ran = ap (run_source p.place p.input at insts) one.ran ∙ more.ran;
-          index = more.index ∙ (let q : suc i + length insts ≡ i + suc (length insts) = omega arith in q);
-          mark = more.mark;
-        }
+    module _ (short : (i : ℕ) → link i < 2 ^ 32) where
+      plain_did : (i : Inst) (r : Run) (b : Bool) (at : ℕ) (d : Decision) → IsPlainStatement i → why_plain p i r.state.regs ≡ None → r.state.mark ≡ Going
+          → (let t : Run = record { state = (done p i r.state).after; console = r.console ++ option_to_list (done p i r.state).byte } in Did1 r t i b at d)
+      plain_did i r b at d body h g =
+          let one = body_step link p short i r.state body h in
+          let plain = plain_stays i body in
+          let here : run_one p.place p.input 0 i (ran_at r b d) ≡ (let t : Run = record { state = (done p i r.state).after; console = r.console ++ option_to_list (done p i r.state).byte } in ran_at t b d) =
+          (λ k. record {
+            core = sym one.core k;
+            bytes = r.console ++ option_to_list (sym one.byte k);
+            clean = and_true b (is_lawful p.place p.input (access i) (core_of link r.state).regs) one.lawful k;
+            leads = stay (is_transfer i) plain.stays k;
+          }) in
+          record {
+            ran = run_anywhere p.place p.input at 0 i (ran_at r b d) plain.stays ∙ here;
+            index = refl;
+            mark = g;
+          }
+        where
+          stay : (t : Bool) → t ≡ false → cond t (decides i 0 (core_of link r.state).regs) d ≡ d
+          stay true e = absurd (false_true (sym e))
+          stay false e = refl
+
+      abbrev plain_said : Inst → Run → Option Why → Run
+      plain_said i r o = record { state = (unless_stuck o (done p i r.state) r.state).after; console = r.console ++ option_to_list (unless_stuck o (done p i r.state) r.state).byte }
+
+      pub one_body : (r : Run) (o : Option Statement) (x : Inst) (b : Bool) (at : ℕ) (d : Decision) → r.state.mark ≡ Going → slice_get p.statements r.state.index ≡ o → IsBodyOf o x → is_stuck (run_step p r).state.mark ≡ false → Did1 r (run_step p r) x b at d
+      one_body r (Some (Plain i)) x b at d g e body h =
+          let is = step_is p r (Some (Plain i)) g e in
+          let none = mark_none (why_plain p i r.state.regs) (done p i r.state) r.state (ap (λ (t : Run). is_stuck t.state.mark) (sym is) ∙ h) in
+          subst (λ (y : Inst). Did1 r (run_step p r) y b at d) (sym body.1)
+          (subst (λ (t : Run). Did1 r t i b at d) (ap (plain_said i r) (sym none) ∙ sym is) (plain_did i r b at d body.0 none g))
+      one_body r (Some (LaCode t n)) x b at d g e body h =
+          subst (λ (y : Inst). Did1 r (run_step p r) y b at d) (sym body)
+          (subst (λ (u : Run). Did1 r u (Addi 0 t (pos (link n))) b at d) (sym (step_is p r (Some (LaCode t n)) g e)) la)
+        where
+          value : word_of (0 + cast_unsigned w32 (pos (link n))) ≡ link n
+          value = let q = short n in omega arith
+
+          la : Did1 r (said p (Some (LaCode t n)) r) (Addi 0 t (pos (link n))) b at d
+          la = record {
+            ran = (λ k. record {
+              core = record {
+                regs = ((λ j. write (core_of link r.state).regs t (value j)) ∙ sym (linked_write link r.state.regs t (Code n))) k;
+                md = r.state.md;
+                mem = (core_of link r.state).mem;
+                taken = r.state.taken;
+              };
+              bytes = r.console ++ [];
+              clean = and_true b true refl k;
+              leads = d;
+            });
+            index = refl;
+            mark = g;
+          }
+      one_body r _ x b at d g e body h = absurd body
+
+      pub body_run : (i at : ℕ) (insts : List Inst) (r : Run) (b : Bool) (d : Decision) → r.state.mark ≡ Going → r.state.index ≡ i → AreBody p.statements i insts → is_stuck (run_for p (length insts) r).state.mark ≡ false → BodyRun i at insts r b d
+      body_run i at [] r b d g e h k = record { ran = refl; index = e ∙ (let q : i ≡ i + 0 = omega arith in q); mark = g }
+      body_run i at (x ∷ insts) r b d g e h k =
+          let one = one_body r (slice_get p.statements i) x b at d g (ap (slice_get p.statements) e) h.0 (not_stuck_before p (length insts) (run_step p r) k) in
+          let more = body_run (suc i) at insts (run_step p r) b d one.mark (one.index ∙ ap (λ m. suc m) e) h.1 k in
+          record {
+            ran = ap (run_source p.place p.input at insts) one.ran ∙ more.ran;
+            index = more.index ∙ (let q : suc i + length insts ≡ i + suc (length insts) = omega arith in q);
+            mark = more.mark;
+          }

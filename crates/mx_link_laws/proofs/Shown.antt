@@ -25,17 +25,16 @@ use Rattle.mx_layout.proofs.Links.{link_within}
 use Rattle.mx_link.specs.Origins.{Filling, from_nowhere}
 use Rattle.mx_link.specs.Words.{value_word}
 use Rattle.mx_order.specs.Laws.{IsPrefix}
-use Rattle.mx_link_laws.specs.Runs.{IsLaid, IsFilling, Linking, code_in, inside, data_in, linked_run, RunsClean}
+use Rattle.mx_link_laws.specs.Runs.{IsFilling, Linking, IsLinking, code_in, inside, data_in, linked_run, RunsClean}
 use Rattle.mx_link_laws.specs.Laws.{meant, IsSafe, LinkedCodeIsClean, Shows, HaltsSoon, LinkedCodeHalts, HaltedBefore, LinkedCodeHaltsOnly, LinkedCodeSends, block_words, planned_words, IsBlockStart, StartsBlock, LinkedBlocksStart, LaterBlocksStartLater, ComesFrom, FetchesStartBlocks}
 use Rattle.mx_link_laws.proofs.Saying.{Prefix, is_going}
 use Rattle.mx_link_laws.proofs.Matching.{core_of}
 use Rattle.mx_link_laws.proofs.Codes.{registers_lead}
-use Rattle.mx_link_laws.proofs.OneBlock.{short, LeadsAt, IsAt}
-use Rattle.mx_link_laws.proofs.Transfers.{CodesLead}
-use Rattle.mx_link_laws.proofs.Layouts.{Fills}
-use Rattle.mx_link_laws.proofs.Slots.{place_of}
-use Rattle.mx_link_laws.proofs.Placing.{small, above, len_of, placed}
-use Rattle.mx_link_laws.proofs.Whole.{Placed, D, from, M_stays, runs_clean, halts_soon as soon_halted, halted_back, sent_soon, sum_of_plans, block_starts, sum_grows, some_words, block_at_fetch}
+use Rattle.mx_link_laws.proofs.OneBlock.{IsAt}
+use Rattle.mx_link_laws.proofs.Layouts.{setting}
+use Rattle.mx_link_laws.proofs.Placing.{placed}
+use Rattle.mx_link_laws.proofs.Whole.{Placed, Begun, D, from, M_stays, runs_clean, halts_soon as soon_halted, halted_back, sent_soon, sum_of_plans, block_starts, sum_grows, some_words, block_at_fetch}
+use Rattle.mx_link_laws.proofs.Setting.{FillsSo, Known, Setting}
 
 false_true : false ≡ true → ⊥
 false_true e = grind arith
@@ -111,67 +110,51 @@ data_linked link place words = same_words _ _ (λ a. by_test (leb place.user_dat
 is_prefix : (xs ys : List ℕ) → Prefix xs ys → IsPrefix xs ys
 is_prefix xs ys h = record { rest = h.0; whole = h.1 }
 
-module _ (l : Linking) (laid : IsLaid l.source l.place l.sites) where
-  pub registers : (i : ℕ) (s : Statement) → slice_get l.source.statements i ≡ Some s → HasRegisters (statement_inst s)
-  registers i s e = subst (λ (x : Statement). HasRegisters (statement_inst x)) (get_or_from_slice_get l.source.statements i s s e) (laid.registers i s (slice_get_within l.source.statements i s e))
+abbrev filled_from : (l : Linking) → IsFilling l.filling → (bare : Bool) × ((s : Site) → FillsSo l bare s)
+filled_from l h = ⊎_elim
+    (λ e. (false, λ s. inr (refl, ap (λ (f : Filling). f l.sites s) e)))
+    (λ e. (true, λ s. inl (ap (λ (f : Filling). f l.sites s) e)))
+    h
 
-  abbrev pub Filled : Type 0
-  Filled = Fills l.source laid.well_formed registers l.place l.sites laid.layout laid.room laid.reach l.filling
+-- linked code with what is known of it
+abbrev pub known_of : (l : Linking) → IsLinking l → Known
+known_of l h = let f = filled_from l h.filled in record { linking = l; laid = h.laid; bare = f.0; fills = f.1 }
 
-  pub filled_from : IsFilling l.filling → Filled
-  filled_from h = ⊎_elim
-      (λ e. (false, λ s. inr (refl, ap (λ (f : Filling). f l.sites s) e)))
-      (λ e. (true, λ s. inl (ap (λ (f : Filling). f l.sites s) e)))
-      h
+-- without copies
+abbrev bare_of : (l : Linking) → IsLinking l → l.filling ≡ from_nowhere → Known
+bare_of l h e = record { linking = l; laid = h.laid; bare = true; fills = λ s. inl (ap (λ (f : Filling). f l.sites s) e) }
 
-  abbrev filled_bare : l.filling ≡ from_nowhere → Filled
-  filled_bare e = (true, λ s. inl (ap (λ (f : Filling). f l.sites s) e))
+module _ (known : Known) where
+  open known use {linking as l, linking.{source, sites as all}, laid}
 
-module _ (l : Linking) (laid : IsLaid l.source l.place l.sites) (fills : Filled l laid) where
-  abbrev source : SourceValue
-  source = l.source
+  abbrev seen : Setting
+  seen = setting known
 
-  abbrev all : List Site
-  all = l.sites
-
-  abbrev p : Program
-  p = program source l.place l.bytes
+  open seen use {program as p, link as lk, place_of as places}
 
   abbrev input : Option (List ℕ)
   input = given source.input l.bytes
 
-  abbrev lk : ℕ → ℕ
-  lk = link_of l.place.code all
-
   abbrev r0 : Run
   r0 = record { state = start source l.place; console = [] }
 
-  abbrev smalls : (i : ℕ) → lk i + 8 < 2 ^ 31
-  smalls = small source laid.well_formed (registers l laid) l.place all laid.layout laid.room laid.reach l.filling fills l.bytes
+  abbrev begun : Begun seen
+  begun = record {
+    placed = placed known;
+    r0 = r0;
+    going = refl;
+    leads = (inl refl, (let q : 0 ≤ places 0 = omega arith in q));
+    codes = λ m n t e. inl (registers_lead source laid.well_formed l.place l.bytes m n t e);
+  }
 
-  abbrev lows : (i : ℕ) → l.place.code ≤ lk i
-  lows = above source laid.well_formed (registers l laid) l.place all laid.layout laid.room laid.reach l.filling fills l.bytes
-
-  abbrev places : ℕ → ℕ
-  places = place_of source laid.well_formed (registers l laid) l.place all laid.layout laid.room laid.reach l.filling fills l.bytes
-
-  abbrev blocks : (t : ℕ) → is_leader source t ≡ true → t < length source.statements → Placed lk p smalls lows (code_in l) (inside l) (is_leader source) places (len_of all) t
-  blocks = placed source laid.well_formed (registers l laid) l.place all laid.layout laid.room laid.reach l.filling fills l.bytes
-
-  leads0 : LeadsAt lk p smalls lows (code_in l) (inside l) (is_leader source) places 0 0
-  leads0 = (inl refl, (let q : 0 ≤ places 0 = omega arith in q))
-
-  codes : (m : ℕ) → CodesLead lk p smalls lows (code_in l) (inside l) (is_leader source) places (run_for p m r0)
-  codes m n t e = inl (registers_lead source laid.well_formed l.place l.bytes m n t e)
+  abbrev blocks : (t : ℕ) → is_leader source t ≡ true → t < length source.statements → Placed seen t
+  blocks = placed known
 
   abbrev Linked : ℕ → Watched
-  Linked j = D lk p smalls lows (code_in l) (inside l) (is_leader source) places (len_of all) blocks r0 refl leads0 codes j
-
-  abbrev shorts : (i : ℕ) → lk i < 2 ^ 32
-  shorts = short lk p smalls lows (code_in l) (inside l) (is_leader source) places
+  Linked j = D seen begun j
 
   -- the run begins as the machine starts
-  begins_so : from lk p smalls lows (code_in l) (inside l) (is_leader source) places (len_of all) blocks r0 refl leads0 codes r0 ≡ watch_start l.place (data_in l)
+  begins_so : from seen begun r0 ≡ watch_start l.place (data_in l)
   begins_so = λ k. record {
     at = record {
       first = record { address = start_at k; squashed = false };
@@ -196,15 +179,15 @@ module _ (l : Linking) (laid : IsLaid l.source l.place l.sites) (fills : Filled 
 
   clean_so : (j : ℕ) → IsSafe l (j + 64) → RunsClean l j × IsPrefix (linked_run l j).console (meant l (j + 64)).console
   clean_so j safe =
-      let c = runs_clean lk p smalls lows (code_in l) (inside l) (is_leader source) places (len_of all) blocks r0 refl leads0 codes j safe in (
+      let c = runs_clean seen begun j safe in (
         sym (ap (λ (x : Watched). x.clean) (watched_so j)) ∙ c.clean,
         subst (λ (x : Delay). IsPrefix x.console (meant l (j + 64)).console) (runs_so j) (is_prefix (Linked j).at.console (meant l (j + 64)).console c.console),
       )
 
   abbrev AtNow : Watched → Run → Type 0
-  AtNow x r = IsAt lk p smalls lows (code_in l) (inside l) (is_leader source) places x r
+  AtNow x r = IsAt seen x r
 
-  shows_by : (j n : ℕ) → (linked_run l j).core ≡ core_of lk shorts (meant l n).state → (linked_run l j).console ≡ (meant l n).console → Shows l j n
+  shows_by : (j n : ℕ) → (linked_run l j).core ≡ core_of lk (meant l n).state → (linked_run l j).console ≡ (meant l n).console → Shows l j n
   shows_by j n core console = record {
     console = console;
     state = record {
@@ -220,7 +203,7 @@ module _ (l : Linking) (laid : IsLaid l.source l.place l.sites) (fills : Filled 
 
   halts_so : (n : ℕ) → (meant l n).state.mark ≡ Halted → HaltsSoon l n
   halts_so n e =
-      let s = soon_halted lk p smalls lows (code_in l) (inside l) (is_leader source) places (len_of all) blocks r0 refl leads0 codes n e in
+      let s = soon_halted seen begun n e in
       record {
         steps = s.e;
         soon = s.soon;
@@ -234,12 +217,12 @@ module _ (l : Linking) (laid : IsLaid l.source l.place l.sites) (fills : Filled 
     where
       by_mark : (k : Mark) → (meant l m).state.mark ≡ k → (meant l m).state.mark ≡ Going
       by_mark Going q = q
-      by_mark Halted q = absurd (false_true (sym (ap is_going q) ∙ sym (ap (λ (r : Run). is_going r.state.mark) (M_stays lk p smalls lows (code_in l) (inside l) (is_leader source) places (len_of all) blocks r0 refl leads0 codes m last le (ap is_going q))) ∙ ap is_going e))
-      by_mark (Stuck why) q = absurd (false_true (sym (ap is_going q) ∙ sym (ap (λ (r : Run). is_going r.state.mark) (M_stays lk p smalls lows (code_in l) (inside l) (is_leader source) places (len_of all) blocks r0 refl leads0 codes m last le (ap is_going q))) ∙ ap is_going e))
+      by_mark Halted q = absurd (false_true (sym (ap is_going q) ∙ sym (ap (λ (r : Run). is_going r.state.mark) (M_stays seen begun m last le (ap is_going q))) ∙ ap is_going e))
+      by_mark (Stuck why) q = absurd (false_true (sym (ap is_going q) ∙ sym (ap (λ (r : Run). is_going r.state.mark) (M_stays seen begun m last le (ap is_going q))) ∙ ap is_going e))
 
   halted_so : (j : ℕ) → IsSafe l (j + 64) → (linked_run l j).halted ≡ true → HaltedBefore l j
   halted_so j safe e =
-      let b = halted_back lk p smalls lows (code_in l) (inside l) (is_leader source) places (len_of all) blocks r0 refl leads0 codes j safe (ap (λ (x : Delay). x.halted) (runs_so j) ∙ e) in
+      let b = halted_back seen begun j safe (ap (λ (x : Delay). x.halted) (runs_so j) ∙ e) in
       record {
         statements = b.n;
         few = b.few;
@@ -250,11 +233,11 @@ module _ (l : Linking) (laid : IsLaid l.source l.place l.sites) (fills : Filled 
   sent_so : (m : ℕ) → IsSafe l (m + 64) → IsPrefix (meant l m).console (linked_run l (3 * (m + 64))).console
   sent_so m safe =
       subst (λ (x : Delay). IsPrefix (meant l m).console x.console) (runs_so (3 * (m + 64)))
-      (is_prefix (meant l m).console (Linked (3 * (m + 64))).at.console (sent_soon lk p smalls lows (code_in l) (inside l) (is_leader source) places (len_of all) blocks r0 refl leads0 codes m safe))
+      (is_prefix (meant l m).console (Linked (3 * (m + 64))).at.console (sent_soon seen begun m safe))
 
   -- the words of the plans so far
   abbrev Sum : ℕ → ℕ
-  Sum m = sum_of_plans lk p smalls lows (code_in l) (inside l) (is_leader source) places (len_of all) blocks r0 refl leads0 codes m
+  Sum m = sum_of_plans seen begun m
 
   sums : (m : ℕ) → Sum m ≡ planned_words l m
   sums zero = refl
@@ -262,8 +245,8 @@ module _ (l : Linking) (laid : IsLaid l.source l.place l.sites) (fills : Filled 
 
   start_so : ((t : ℕ) → places t ≡ 0) → (m : ℕ) → IsBlockStart l m → StartsBlock l m
   start_so bare m s =
-      let b = block_starts lk p smalls lows (code_in l) (inside l) (is_leader source) places (len_of all) blocks r0 refl leads0 codes bare m s.going s.leads in
-      let at_is : linked_run l (planned_words l m) ≡ (from lk p smalls lows (code_in l) (inside l) (is_leader source) places (len_of all) blocks r0 refl leads0 codes (meant l m)).at = ap (linked_run l) (sym (sums m)) ∙ sym (runs_so (Sum m)) ∙ b.state in
+      let b = block_starts seen begun bare m s.going s.leads in
+      let at_is : linked_run l (planned_words l m) ≡ (from seen begun (meant l m)).at = ap (linked_run l) (sym (sums m)) ∙ sym (runs_so (Sum m)) ∙ b.state in
       let sum = sums m in
       record {
         no_fewer = (let q = b.low_sum in omega arith);
@@ -277,13 +260,13 @@ module _ (l : Linking) (laid : IsLaid l.source l.place l.sites) (fills : Filled 
 
   later_so : (m n : ℕ) → IsBlockStart l m → IsBlockStart l n → m < n → planned_words l m < planned_words l n
   later_so m n s t less =
-      let g = sum_grows lk p smalls lows (code_in l) (inside l) (is_leader source) places (len_of all) blocks r0 refl leads0 codes m n s.going s.leads t.going less in
+      let g = sum_grows seen begun m n s.going s.leads t.going less in
       let a = sums m in
       let b = sums n in
       omega arith
 
   abbrev PlacedHere : ℕ → Type 0
-  PlacedHere = Placed lk p smalls lows (code_in l) (inside l) (is_leader source) places (len_of all)
+  PlacedHere = Placed seen
 
   -- the next leader is behind the block
   behind : (i j : ℕ) (w : PlacedHere i) → i < j → is_leader source j ≡ true → i + length (insts_of w.lay.block) ≤ j
@@ -301,7 +284,7 @@ module _ (l : Linking) (laid : IsLaid l.source l.place l.sites) (fills : Filled 
   only i j k li hi w lj hj few e = ⊎_elim
       (λ (q : i < j).
       let wi = blocks i li hi in
-      let some = some_words lk p smalls lows (code_in l) (inside l) (is_leader source) places (len_of all) blocks r0 refl leads0 codes i wi in
+      let some = some_words seen begun i wi in
       let next = wi.lay.next in
       let above = no_later (i + length (insts_of wi.lay.block)) j (behind i j wi q lj) in
       absurd (omega arith))
@@ -316,7 +299,7 @@ module _ (l : Linking) (laid : IsLaid l.source l.place l.sites) (fills : Filled 
 
   fetch_so : ((t : ℕ) → places t ≡ 0) → (d i : ℕ) → IsSafe l (d + 64) → (linked_run l d).halted ≡ false → is_leader source i ≡ true → i < length source.statements → (linked_run l d).first.address ≡ lk i → ComesFrom l d i
   fetch_so bare d i safe on lead within here =
-      let b = block_at_fetch lk p smalls lows (code_in l) (inside l) (is_leader source) places (len_of all) blocks r0 refl leads0 codes bare only d safe (ap (λ (x : Delay). x.halted) (runs_so d) ∙ on) i lead within (ap (λ (x : Delay). x.first.address) (runs_so d) ∙ here) in
+      let b = block_at_fetch seen begun bare only d safe (ap (λ (x : Delay). x.halted) (runs_so d) ∙ on) i lead within (ap (λ (x : Delay). x.first.address) (runs_so d) ∙ here) in
       record {
         statements = b.m;
         start = record { going = b.going; leads = ap (is_leader source) b.index ∙ lead };
@@ -325,22 +308,22 @@ module _ (l : Linking) (laid : IsLaid l.source l.place l.sites) (fills : Filled 
       }
 
 pub is_clean : LinkedCodeIsClean
-is_clean l j h safe = clean_so l h.laid (filled_from l h.laid h.filled) j safe
+is_clean l j h safe = clean_so (known_of l h) j safe
 
 pub halts : LinkedCodeHalts
-halts l n h e = halts_so l h.laid (filled_from l h.laid h.filled) n e.halted
+halts l n h e = halts_so (known_of l h) n e.halted
 
 pub halts_only : LinkedCodeHaltsOnly
-halts_only l j h safe e = halted_so l h.laid (filled_from l h.laid h.filled) j safe e
+halts_only l j h safe e = halted_so (known_of l h) j safe e
 
 pub sends : LinkedCodeSends
-sends l m h safe = sent_so l h.laid (filled_from l h.laid h.filled) m safe
+sends l m h safe = sent_so (known_of l h) m safe
 
 pub blocks_start : LinkedBlocksStart
-blocks_start l m h e s = start_so l h.laid (filled_bare l h.laid e) (λ t. refl) m s
+blocks_start l m h e s = start_so (bare_of l h e) (λ t. refl) m s
 
 pub later : LaterBlocksStartLater
-later l m n h s t less = later_so l h.laid (filled_from l h.laid h.filled) m n s t less
+later l m n h s t less = later_so (known_of l h) m n s t less
 
 pub fetches : FetchesStartBlocks
-fetches l d i h e safe on lead within here = fetch_so l h.laid (filled_bare l h.laid e) (λ t. refl) d i safe on lead within here
+fetches l d i h e safe on lead within here = fetch_so (bare_of l h e) (λ t. refl) d i safe on lead within here

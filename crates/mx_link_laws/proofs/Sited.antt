@@ -36,6 +36,7 @@ use Rattle.mx_order.specs.Parts.{AreBelow}
 use Rattle.mx_order.proofs.Split.{body_within, body_goes_on}
 use Rattle.mx_order.proofs.Words.{item_inst, words}
 use Rattle.mx_link_laws.proofs.Saying.{IsBodyOf, AreBody}
+use Rattle.mx_link_laws.proofs.Setting.{LinkedSite}
 
 false_true : false ≡ true → ⊥
 false_true e = grind arith
@@ -64,20 +65,20 @@ linked_anywhere link c c' at at' (CallReg a d) h = absurd (false_true (sym h))
 linked_anywhere link c c' at at' (JumpReg a) h = absurd (false_true (sym h))
 linked_anywhere link c c' at at' Halt h = absurd (false_true (sym h))
 
-body_of : (link : ℕ → ℕ) (short : (i : ℕ) → link i < 2 ^ 32) (P : ℕ → Type 0) (c : Copied) (at : ℕ) (s : Statement) → StatementFits P s → is_last (inst_of s) ≡ false → IsBodyOf link short (Some s) (linked_inst link c at s)
-body_of link short P c at (Plain i) f h = (f.0, refl)
-body_of link short P c at (LaCode d t) f h = refl
-body_of link short P c at (Branch a b condition t) f h = absurd (false_true (sym h))
-body_of link short P c at (Call d t) f h = absurd (false_true (sym h))
-body_of link short P c at (CallReg a d) f h = absurd (false_true (sym h))
-body_of link short P c at (JumpReg a) f h = absurd (false_true (sym h))
-body_of link short P c at Halt f h = absurd (false_true (sym h))
+body_of : (link : ℕ → ℕ) (P : ℕ → Type 0) (c : Copied) (at : ℕ) (s : Statement) → StatementFits P s → is_last (inst_of s) ≡ false → IsBodyOf link (Some s) (linked_inst link c at s)
+body_of link P c at (Plain i) f h = (f.0, refl)
+body_of link P c at (LaCode d t) f h = refl
+body_of link P c at (Branch a b condition t) f h = absurd (false_true (sym h))
+body_of link P c at (Call d t) f h = absurd (false_true (sym h))
+body_of link P c at (CallReg a d) f h = absurd (false_true (sym h))
+body_of link P c at (JumpReg a) f h = absurd (false_true (sym h))
+body_of link P c at Halt f h = absurd (false_true (sym h))
 
-are_body : (link : ℕ → ℕ) (short : (i : ℕ) → link i < 2 ^ 32) (statements : List Statement) (i : ℕ) (xs : List Inst) → ((k : ℕ) → k < length xs → IsBodyOf link short (slice_get statements (i + k)) (inst_number xs k)) → AreBody link short statements i xs
-are_body link short statements i [] h = tt
-are_body link short statements i (x ∷ xs) h = (
-  subst (λ n. IsBodyOf link short (slice_get statements n) x) (let e : i + 0 ≡ i = omega arith in e) (h 0 (omega arith)),
-  are_body link short statements (suc i) xs (λ k l. let on : i + suc k ≡ suc i + k = omega arith in subst (λ n. IsBodyOf link short (slice_get statements n) (inst_number xs k)) on (h (suc k) (omega arith))),
+are_body : (link : ℕ → ℕ) (statements : List Statement) (i : ℕ) (xs : List Inst) → ((k : ℕ) → k < length xs → IsBodyOf link (slice_get statements (i + k)) (inst_number xs k)) → AreBody link statements i xs
+are_body link statements i [] h = tt
+are_body link statements i (x ∷ xs) h = (
+  subst (λ n. IsBodyOf link (slice_get statements n) x) (let e : i + 0 ≡ i = omega arith in e) (h 0 (omega arith)),
+  are_body link statements (suc i) xs (λ k l. let on : i + suc k ≡ suc i + k = omega arith in subst (λ n. IsBodyOf link (slice_get statements n) (inst_number xs k)) on (h (suc k) (omega arith))),
 )
 
 -- items one behind the other
@@ -97,7 +98,9 @@ origins_length : (s : Site) (c : Copied) (p : ℕ) (items : List Item) → lengt
 origins_length s c p [] = refl
 origins_length s c p (x ∷ items) = ap (λ n. suc n) (origins_length s c (suc p) items)
 
-module _ (source : SourceValue) (is : IsSource source) (link : ℕ → ℕ) (shorter : (i : ℕ) → link i < 2 ^ 32) (s : Site) (c : Copied) (b : IsBlockOf source s.block) (v : Valid s.block s.plan) (g : Goes source link s c) where
+module _ (here : LinkedSite) where
+  open here use {source, well_formed as is, link, site as s, copied as c, block as b, valid as v, goes as g}
+
   -- where the terminator stands
   abbrev pub at : ℕ
   at = s.start + s.plan.place
@@ -172,17 +175,17 @@ module _ (source : SourceValue) (is : IsSource source) (link : ℕ → ℕ) (sho
       let low : k < size s.block = (let w = body_within s.block in omega arith) in
       ap is_last (sym (get_or_from_slice_get (insts_of s.block) k (inst_of x) HaltInst (inst_is source s.block b k x low e))) ∙ body_goes_on s.block k l
 
-  pub body : AreBody link shorter source.statements s.block.first (take (body_count s.block) insts)
-  body = are_body link shorter source.statements s.block.first (take (body_count s.block) insts) (λ k l.
+  pub body : AreBody link source.statements s.block.first (take (body_count s.block) insts)
+  body = are_body link source.statements s.block.first (take (body_count s.block) insts) (λ k l.
       let w = body_within s.block in
       let n = count in
       let t = length-take-le (body_count s.block) insts (omega arith) in
       let low : k < body_count s.block = omega arith in
       let within : k < size s.block = omega arith in
       let x = there k within in
-      subst (λ o. IsBodyOf link shorter o (inst_number (take (body_count s.block) insts) k)) (sym x.is_there)
-      (subst (λ i. IsBodyOf link shorter (Some x.statement) i) (sym (get_or-take (body_count s.block) insts k HaltInst low ∙ inst_there k within))
-      (body_of link shorter (IsPlace source.labels (length source.statements)) c at x.statement (fits_there k x.statement x.is_there) (goes_on k x.statement low x.is_there))))
+      subst (λ o. IsBodyOf link o (inst_number (take (body_count s.block) insts) k)) (sym x.is_there)
+      (subst (λ i. IsBodyOf link (Some x.statement) i) (sym (get_or-take (body_count s.block) insts k HaltInst low ∙ inst_there k within))
+      (body_of link (IsPlace source.labels (length source.statements)) c at x.statement (fits_there k x.statement x.is_there) (goes_on k x.statement low x.is_there))))
 
   -- the word of one of the block's own items, at an address
   abbrev pub own_word : ℕ → Item → Inst

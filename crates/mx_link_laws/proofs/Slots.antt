@@ -42,16 +42,12 @@ use Rattle.mx_link_laws.proofs.Saying.{all_plain}
 use Rattle.mx_link_laws.proofs.Planned.{plain_body}
 use Rattle.mx_link_laws.proofs.OneBlock.{Head, Filled, Own, InSecond, InFirst, InBoth}
 use Rattle.mx_link_laws.proofs.Sited.{insts, laid, body, there, inst_there, linked_anywhere, goes_on, body_word, words_from, words_append, front_words}
-use Rattle.mx_link_laws.proofs.Layouts.{link_low, small, low, Goal, goal_is, Fills, goes, code, inside, Standing, standing}
+use Rattle.mx_link_laws.proofs.Layouts.{place_in, Goal, goal_is, goes, Standing, standing, setting}
 use Rattle.mx_layout.proofs.Links.{site_found}
+use Rattle.mx_link_laws.proofs.Setting.{Known, LinkedSite}
 
 false_true : false ≡ true → ⊥
 false_true e = grind arith
-
--- the places before the terminator of a site that was found
-abbrev pub place_in : Option Site → ℕ
-place_in None = 0
-place_in (Some s) = s.plan.place
 
 get_left : (xs ys : List Item) (k : ℕ) (x : Item) → k < length xs → slice_get (xs ++ ys) k ≡ Some x → slice_get xs k ≡ Some x
 get_left [] ys k x l e = absurd (omega arith)
@@ -89,69 +85,60 @@ get_front : (xs : List Item) (y f g : Item) (k : ℕ) → slice_get (xs ++ y ∷
 get_front [] y f g k = ap (slice_get (y ∷ f ∷ g ∷ [])) (let e : 0 + suc k ≡ suc k = omega arith in e)
 get_front (x ∷ xs) y f g k = ap (slice_get (x ∷ (xs ++ y ∷ f ∷ g ∷ []))) (let e : suc (length xs) + suc k ≡ suc (length xs + suc k) = omega arith in e) ∙ get_front xs y f g k
 
-module _ (source : SourceValue) (is : IsSource source) (registers : (i : ℕ) (s : Statement) → slice_get source.statements i ≡ Some s → HasRegisters (statement_inst s)) (place : Place) (all : List Site) (h : IsLayout Valid source place all) (room' : place.code + 3 * length source.statements ≤ 65535) (reach : overlong source place (blocks_in all) ≡ None) (filling : Filling) (fills : Fills source is registers place all h room' reach filling) (bytes : List ℕ) where
-  abbrev pub lk : ℕ → ℕ
-  lk = link_of place.code all
-
-  abbrev pub p : Program
-  p = program source place bytes
-
-  abbrev pub smaller : (i : ℕ) → lk i + 8 < 2 ^ 31
-  smaller = small source is registers place all h room' reach
-
-  abbrev pub lower : (i : ℕ) → place.code ≤ lk i
-  lower = low source is registers place all h room' reach
-
-  abbrev pub cd : Code
-  cd = code source is registers place all h room' reach filling fills
-
-  abbrev pub ins : ℕ → Bool
-  ins = inside source is registers place all h room' reach filling fills
-
-  abbrev pub place_of : ℕ → ℕ
-  place_of t = cond fills.0 0 (place_in (site_of (λ b. eqb b.first t) all))
+module _ (known : Known) where
+  open known use {linking.{filling, source, sites as all, bytes}, laid.{well_formed as is}}
+  open setting known use {link as lk, code as cd, inside as ins, program as p, place_of}
 
   abbrev pub Stood : Site → Type 0
-  Stood s = Standing source is registers place all h room' reach filling fills s
+  Stood s = Standing known s
 
-  pub shorter : (i : ℕ) → lk i < 2 ^ 32
-  shorter i = let l = link_low source is registers place all h room' reach i in omega arith
+  abbrev pub linked_site : (s : Site) → Stood s → LinkedSite
+  linked_site s st = record {
+    source = source;
+    well_formed = is;
+    link = lk;
+    site = s;
+    copied = filling all s;
+    block = st.of.block;
+    valid = st.of.valid;
+    goes = goes known s st.of;
+  }
 
   -- the instructions of a site's block
   abbrev pub insts_at : (s : Site) → Stood s → List Inst
-  insts_at s st = insts source is lk shorter s (filling all s) st.of.block st.of.valid (goes source is registers place all h room' reach filling fills s st.of)
+  insts_at s st = insts (linked_site s st)
 
   abbrev pub laid_at : (s : Site) (st : Stood s) → IsLaidOut s.block s.plan (insts_at s st) p.input
-  laid_at s st = laid source is lk shorter s (filling all s) st.of.block st.of.valid (goes source is registers place all h room' reach filling fills s st.of) bytes
+  laid_at s st = laid (linked_site s st) bytes
 
   -- the words of a site stand as those of its parts
-  pub parts_stand : (s : Site) (st : Stood s) (parts : Parts s.block s.plan) → Stands cd ins s.start (words (insts_at s st) parts.front ++ words_from source is lk shorter s (filling all s) st.of.block st.of.valid (goes source is registers place all h room' reach filling fills s st.of) (length parts.front) parts.back)
+  pub parts_stand : (s : Site) (st : Stood s) (parts : Parts s.block s.plan) → Stands cd ins s.start (words (insts_at s st) parts.front ++ words_from (linked_site s st) (length parts.front) parts.back)
   parts_stand s st parts =
       let c = filling all s in
       let b = st.of.block in
       let v = st.of.valid in
-      let g = goes source is registers place all h room' reach filling fills s st.of in
+      let g = goes known s st.of in
       let place_is = parts.place in
       let on : s.start ≡ s.start + 0 = omega arith in
       subst (Stands cd ins s.start)
       ((λ k. insts_from lk source.statements c (on k) (origins_at s c))
-      ∙ ap (words_from source is lk shorter s c b v g 0) parts.whole
-      ∙ words_append source is lk shorter s c b v g parts.front parts.back
-      ∙ ap (λ l. l ++ words_from source is lk shorter s c b v g (length parts.front) parts.back) (front_words source is lk shorter s c b v g 0 parts.front (omega arith) parts.body))
+      ∙ ap (words_from (linked_site s st) 0) parts.whole
+      ∙ words_append (linked_site s st) parts.front parts.back
+      ∙ ap (λ l. l ++ words_from (linked_site s st) (length parts.front) parts.back) (front_words (linked_site s st) 0 parts.front (omega arith) parts.body))
       st.stands
 
   pub body_plain : (s : Site) (st : Stood s) (parts : Parts s.block s.plan) (k : ℕ) → k < body_count s.block → IsPlain (inst_number (insts_at s st) k)
   body_plain s st parts k l =
-      let g = goes source is registers place all h room' reach filling fills s st.of in
+      let g = goes known s st.of in
       plain_body s.block s.plan (insts_at s st) p.input (laid_at s st) parts st.of.block.some
-      (all_plain lk shorter source.statements s.block.first (take (body_count s.block) (insts_at s st)) (body source is lk shorter s (filling all s) st.of.block st.of.valid g)) k l
+      (all_plain lk source.statements s.block.first (take (body_count s.block) (insts_at s st)) (body (linked_site s st))) k l
 
   pub item_plain : (s : Site) (st : Stood s) (parts : Parts s.block s.plan) (x : Item) → AreBelow (body_count s.block) (x ∷ []) → IsPlain (item_inst (insts_at s st) x)
   item_plain s st parts Nop b = idle_plain
   item_plain s st parts (Op k) b = body_plain s st parts k b.0
 
   abbrev pub HeadOf : ℕ → ℕ → Inst → Type 0
-  HeadOf t k x = Head lk p smaller lower cd ins (is_leader source) place_of t k x
+  HeadOf t k x = Head (setting known) t k x
 
   -- an item before the terminator's place of a target
   pub record IsHead (t : ℕ) (g : Site) (st : Stood g) (k : ℕ) (x : Item) : Type 0 where
@@ -174,15 +161,15 @@ module _ (source : SourceValue) (is : IsSource source) (registers : (i : ℕ) (s
   pub copy_word : (s g : Site) (st : Stood g) → g.block.first ≡ goal_of s.block.end → (c : Copied) (a : ℕ) (x own' : Item) → AreBelow (body_count g.block) (x ∷ []) → is_op (Some x) ≡ true → inst_at lk source.statements c a (over (goal_of s.block.end) x (own s.block.first own')) ≡ item_inst (insts_at g st) x
   copy_word s g st first c a Nop own' b e = absurd (false_true e)
   copy_word s g st first c a (Op k) own' b e =
-      let go = goes source is registers place all h room' reach filling fills g st.of in
+      let go = goes known g st.of in
       let w = body_within g.block in
       let l = b.0 in
       let within : k < size g.block = omega arith in
-      let x = there source is lk shorter g (filling all g) st.of.block st.of.valid go k within in
+      let x = there (linked_site g st) k within in
       ap (λ n. linked_statement lk no_copies a (slice_get source.statements (n + k))) (sym first)
       ∙ ap (linked_statement lk no_copies a) x.is_there
-      ∙ linked_anywhere lk no_copies (filling all g) a (g.start + g.plan.place) x.statement (goes_on source is lk shorter g (filling all g) st.of.block st.of.valid go k x.statement l x.is_there)
-      ∙ sym (inst_there source is lk shorter g (filling all g) st.of.block st.of.valid go k within)
+      ∙ linked_anywhere lk no_copies (filling all g) a (g.start + g.plan.place) x.statement (goes_on (linked_site g st) k x.statement l x.is_there)
+      ∙ sym (inst_there (linked_site g st) k within)
 
 pub never : (list : List Site) → site_of (λ b. false) list ≡ None
 never [] = refl
@@ -276,216 +263,230 @@ from_first free n x y e f = cond-false (eqb n 0) _ _ (grind (arith, nat_tests)) 
 from_both : (free n : ℕ) (x y : Item) → free ≡ 2 → n ≡ 2 → filled free n x y ≡ x ∷ y ∷ []
 from_both free n x y e f = cond-false (eqb n 0) _ _ (grind (arith, nat_tests)) ∙ cond-false (eqb free 1) _ _ (grind (arith, nat_tests)) ∙ cond-false (eqb n 1) _ _ (grind (arith, nat_tests))
 
-module _ (source : SourceValue) (is : IsSource source) (registers : (i : ℕ) (s : Statement) → slice_get source.statements i ≡ Some s → HasRegisters (statement_inst s)) (place : Place) (all : List Site) (h : IsLayout Valid source place all) (room' : place.code + 3 * length source.statements ≤ 65535) (reach : overlong source place (blocks_in all) ≡ None) (filling : Filling) (fills : Fills source is registers place all h room' reach filling) (bytes : List ℕ) where
+-- a site that ends with a transfer, and the two items behind it
+pub record Slotted (known : Known) : Type 0 where
+  pub site : Site
+  pub standing : Standing known site
+  pub parts : Parts site.block site.plan
+  pub f : Item
+  pub g : Item
+  pub three : parts.back ≡ Op (body_count site.block) ∷ f ∷ g ∷ []
+  pub below_f : AreBelow (body_count site.block) (f ∷ [])
+  pub below_g : AreBelow (body_count site.block) (g ∷ [])
+
+module _ (known : Known) (here : Slotted known) where
+  open known use {linking.{filling, source, sites as all}, bare, fills}
+  open here use {site as s, standing as st, parts, f, g, three, below_f, below_g}
+  open setting known use {link as lk, place_of}
+
   abbrev StoodAt : Site → Type 0
-  StoodAt s = Stood source is registers place all h room' reach filling fills bytes s
+  StoodAt s = Stood known s
 
   abbrev insts_of_site : (s : Site) → StoodAt s → List Inst
-  insts_of_site s st = insts_at source is registers place all h room' reach filling fills bytes s st
+  insts_of_site s st = insts_at known s st
 
-  module _ (s : Site) (st : StoodAt s) (parts : Parts s.block s.plan) (f g : Item) (three : parts.back ≡ Op (body_count s.block) ∷ f ∷ g ∷ []) (below_f : AreBelow (body_count s.block) (f ∷ [])) (below_g : AreBelow (body_count s.block) (g ∷ [])) where
-    abbrev c : Copied
-    c = filling all s
+  abbrev c : Copied
+  c = filling all s
 
-    abbrev sure : Bool
-    sure = not (may_stay s.block)
+  abbrev sure : Bool
+  sure = not (may_stay s.block)
 
-    abbrev goal : ℕ
-    goal = goal_of s.block.end
+  abbrev goal : ℕ
+  goal = goal_of s.block.end
 
-    -- the word in a slot, by what is copied to it
-    abbrev pub slot_word : ℕ → Item → Item → Inst
-    slot_word q copy item = inst_at (lk source is registers place all h room' reach filling fills bytes) source.statements c (s.start + (s.plan.place + q)) (over goal copy (own s.block.first item))
+  -- the word in a slot, by what is copied to it
+  abbrev pub slot_word : ℕ → Item → Item → Inst
+  slot_word q copy item = inst_at lk source.statements c (s.start + (s.plan.place + q)) (over goal copy (own s.block.first item))
 
-    abbrev pub x : Inst
-    x = slot_word 1 (copied_to c s.plan.place (s.plan.place + 1)) f
+  abbrev pub x : Inst
+  x = slot_word 1 (copied_to c s.plan.place (s.plan.place + 1)) f
 
-    abbrev pub y : Inst
-    y = slot_word 2 (copied_to c s.plan.place (s.plan.place + 2)) g
+  abbrev pub y : Inst
+  y = slot_word 2 (copied_to c s.plan.place (s.plan.place + 2)) g
 
-    slot_one : copied_to c s.plan.place (s.plan.place + 1) ≡ slice_index_or c.from 0 Nop
-    slot_one = cond-true (eqb (s.plan.place + 1) (s.plan.place + 1)) _ _ (grind (arith, nat_tests))
+  slot_one : copied_to c s.plan.place (s.plan.place + 1) ≡ slice_index_or c.from 0 Nop
+  slot_one = cond-true (eqb (s.plan.place + 1) (s.plan.place + 1)) _ _ (grind (arith, nat_tests))
 
-    slot_two : copied_to c s.plan.place (s.plan.place + 2) ≡ slice_index_or c.from 1 Nop
-    slot_two = cond-false (eqb (s.plan.place + 2) (s.plan.place + 1)) _ _ (grind (arith, nat_tests)) ∙ cond-true (eqb (s.plan.place + 2) (s.plan.place + 2)) _ _ (grind (arith, nat_tests))
+  slot_two : copied_to c s.plan.place (s.plan.place + 2) ≡ slice_index_or c.from 1 Nop
+  slot_two = cond-false (eqb (s.plan.place + 2) (s.plan.place + 1)) _ _ (grind (arith, nat_tests)) ∙ cond-true (eqb (s.plan.place + 2) (s.plan.place + 2)) _ _ (grind (arith, nat_tests))
 
-    x_is : (i : Item) → slice_index_or c.from 0 Nop ≡ i → x ≡ slot_word 1 i f
-    x_is i e = ap (λ j. slot_word 1 j f) (slot_one ∙ e)
+  x_is : (i : Item) → slice_index_or c.from 0 Nop ≡ i → x ≡ slot_word 1 i f
+  x_is i e = ap (λ j. slot_word 1 j f) (slot_one ∙ e)
 
-    y_is : (i : Item) → slice_index_or c.from 1 Nop ≡ i → y ≡ slot_word 2 i g
-    y_is i e = ap (λ j. slot_word 2 j g) (slot_two ∙ e)
+  y_is : (i : Item) → slice_index_or c.from 1 Nop ≡ i → y ≡ slot_word 2 i g
+  y_is i e = ap (λ j. slot_word 2 j g) (slot_two ∙ e)
 
-    own_item : (q : ℕ) (item : Item) → AreBelow (body_count s.block) (item ∷ []) → slot_word q Nop item ≡ item_inst (insts_of_site s st) item
-    own_item q item b = body_word source is (lk source is registers place all h room' reach filling fills bytes) (shorter source is registers place all h room' reach filling fills bytes) s c st.of.block st.of.valid (goes source is registers place all h room' reach filling fills s st.of) (s.start + (s.plan.place + q)) item b
+  own_item : (q : ℕ) (item : Item) → AreBelow (body_count s.block) (item ∷ []) → slot_word q Nop item ≡ item_inst (insts_of_site s st) item
+  own_item q item b = body_word (linked_site known s st) (s.start + (s.plan.place + q)) item b
 
-    abbrev FilledHere : ℕ → Bool → Type 0
-    FilledHere n sq = Filled (lk source is registers place all h room' reach filling fills bytes) (p source is registers place all h room' reach filling fills bytes) (smaller source is registers place all h room' reach filling fills bytes) (lower source is registers place all h room' reach filling fills bytes) (cd source is registers place all h room' reach filling fills bytes) (ins source is registers place all h room' reach filling fills bytes) (is_leader source) (place_of source is registers place all h room' reach filling fills bytes) goal n sq sure (insts_of_site s st) f g x y
+  abbrev FilledHere : ℕ → Bool → Type 0
+  FilledHere n sq = Filled (setting known) goal n sq sure (insts_of_site s st) f g x y
 
-    all_own : c.count ≡ 0 → c.squash ≡ false → c.from ≡ Nop ∷ Nop ∷ [] → FilledHere c.count c.squash
-    all_own n sq e = Own n sq
-        (x_is Nop (ap (λ l. slice_index_or l 0 Nop) e) ∙ own_item 1 f below_f)
-        (y_is Nop (ap (λ l. slice_index_or l 1 Nop) e) ∙ own_item 2 g below_g)
+  all_own : c.count ≡ 0 → c.squash ≡ false → c.from ≡ Nop ∷ Nop ∷ [] → FilledHere c.count c.squash
+  all_own n sq e = Own n sq
+      (x_is Nop (ap (λ l. slice_index_or l 0 Nop) e) ∙ own_item 1 f below_f)
+      (y_is Nop (ap (λ l. slice_index_or l 1 Nop) e) ∙ own_item 2 g below_g)
 
-    items_are : items_of s.plan ≡ parts.front ++ Op (body_count s.block) ∷ f ∷ g ∷ []
-    items_are = parts.whole ∙ ap (λ l. parts.front ++ l) three
+  items_are : items_of s.plan ≡ parts.front ++ Op (body_count s.block) ∷ f ∷ g ∷ []
+  items_are = parts.whole ∙ ap (λ l. parts.front ++ l) three
 
-    slot_f : slot s.plan 1 ≡ Some f
-    slot_f = (λ k. slice_get (items_are k) (parts.place k + 1)) ∙ get_front parts.front (Op (body_count s.block)) f g 0
+  slot_f : slot s.plan 1 ≡ Some f
+  slot_f = (λ k. slice_get (items_are k) (parts.place k + 1)) ∙ get_front parts.front (Op (body_count s.block)) f g 0
 
-    slot_g : slot s.plan 2 ≡ Some g
-    slot_g = (λ k. slice_get (items_are k) (parts.place k + 2)) ∙ get_front parts.front (Op (body_count s.block)) f g 1
+  slot_g : slot s.plan 2 ≡ Some g
+  slot_g = (λ k. slice_get (items_are k) (parts.place k + 2)) ∙ get_front parts.front (Op (body_count s.block)) f g 1
 
-    -- copies from a target
-    module _ (gs : Site) (found : site_of (is_target s.block.end) all ≡ Some gs) (is_c : c ≡ copied s (Some gs)) (copying : fills.0 ≡ false) where
-      goal_facts : Goal source is registers place all h room' reach s gs
-      goal_facts = goal_is source is registers place all h room' reach s gs found
+  -- copies from a target
+  module _ (gs : Site) (found : site_of (is_target s.block.end) all ≡ Some gs) (is_c : c ≡ copied s (Some gs)) (copying : bare ≡ false) where
+    goal_facts : Goal known s gs
+    goal_facts = goal_is known s gs found
 
-      gst : StoodAt gs
-      gst = (site_found StoodAt (is_target s.block.end) all gs (standing source is registers place all h room' reach filling fills) found).0
+    gst : StoodAt gs
+    gst = (site_found StoodAt (is_target s.block.end) all gs (standing known) found).0
 
-      goal_place : place_of source is registers place all h room' reach filling fills bytes goal ≡ gs.plan.place
-      goal_place = ap (λ b. cond b 0 (place_in (site_of (λ b. eqb b.first goal) all))) copying ∙ ap place_in (target_test s.block.end all gs found)
+    goal_place : place_of goal ≡ gs.plan.place
+    goal_place = ap (λ b. cond b 0 (place_in (site_of (λ b. eqb b.first goal) all))) copying ∙ ap place_in (target_test s.block.end all gs found)
 
-      goal_leads : is_leader source goal ≡ true
-      goal_leads = ap (is_leader source) (sym goal_facts.first) ∙ gst.of.block.leader
+    goal_leads : is_leader source goal ≡ true
+    goal_leads = ap (is_leader source) (sym goal_facts.first) ∙ gst.of.block.leader
 
-      headed : (k : ℕ) (w : Copyable gs.plan k) → IsHead source is registers place all h room' reach filling fills bytes goal gs gst k w.item
-      headed k w = is_head source is registers place all h room' reach filling fills bytes goal gs gst (has_parts gs.block gs.plan gst.of.valid) goal_facts.found goal_place k w.item w.there w.before
+    headed : (k : ℕ) (w : Copyable gs.plan k) → IsHead known goal gs gst k w.item
+    headed k w = is_head known goal gs gst (has_parts gs.block gs.plan gst.of.valid) goal_facts.found goal_place k w.item w.there w.before
 
-      copied_in : (q k : ℕ) (w : Copyable gs.plan k) (item : Item) → slot_word q w.item item ≡ item_inst (insts_of_site gs gst) w.item
-      copied_in q k w item = copy_word source is registers place all h room' reach filling fills bytes s gs gst goal_facts.first c (s.start + (s.plan.place + q)) w.item item (headed k w).below w.op
+    copied_in : (q k : ℕ) (w : Copyable gs.plan k) (item : Item) → slot_word q w.item item ≡ item_inst (insts_of_site gs gst) w.item
+    copied_in q k w item = copy_word known s gs gst goal_facts.first c (s.start + (s.plan.place + q)) w.item item (headed k w).below w.op
 
-      abbrev n : ℕ
-      n = count s gs
+    abbrev n : ℕ
+    n = count s gs
 
-      count_is : c.count ≡ n
-      count_is = ap (λ (d : Copied). d.count) is_c
+    count_is : c.count ≡ n
+    count_is = ap (λ (d : Copied). d.count) is_c
 
-      from_is : c.from ≡ filled (room s.block s.plan) n (item_at gs.plan 0) (item_at gs.plan 1)
-      from_is = ap (λ (d : Copied). d.from) is_c
+    from_is : c.from ≡ filled (room s.block s.plan) n (item_at gs.plan 0) (item_at gs.plan 1)
+    from_is = ap (λ (d : Copied). d.from) is_c
 
-      squash_is : c.squash ≡ (ltb 0 n && may_stay s.block)
-      squash_is = ap (λ (d : Copied). d.squash) is_c
+    squash_is : c.squash ≡ (ltb 0 n && may_stay s.block)
+    squash_is = ap (λ (d : Copied). d.squash) is_c
 
-      -- where words are copied, the branch squashes unless it always goes
-      set : 1 ≤ n → sure ≡ false → c.squash ≡ true
-      set some e = squash_is ∙ both (ltb 0 n) (may_stay s.block) (grind (arith, nat_tests)) e
-        where
-          both : (a b : Bool) → a ≡ true → not b ≡ false → (a && b) ≡ true
-          both a b h k = grind arith
+    -- where words are copied, the branch squashes unless it always goes
+    set : 1 ≤ n → sure ≡ false → c.squash ≡ true
+    set some e = squash_is ∙ both (ltb 0 n) (may_stay s.block) (grind (arith, nat_tests)) e
+      where
+        both : (a b : Bool) → a ≡ true → not b ≡ false → (a && b) ≡ true
+        both a b h k = grind arith
 
-      stays_not : is_branch_end s.block.end ≡ false → may_stay s.block ≡ false
-      stays_not e = ap (λ b. b && not (always_goes (terminator s.block))) e
+    stays_not : is_branch_end s.block.end ≡ false → may_stay s.block ≡ false
+    stays_not e = ap (λ b. b && not (always_goes (terminator s.block))) e
 
-      -- a load in slot 1 does not feed the word in slot 2
-      free : (w : Copyable gs.plan 0) → room s.block s.plan ≡ 1 → is_fed s gs ≡ false → (xi : Item) → f ≡ xi → AreBelow (body_count s.block) (xi ∷ []) → reads (item_inst (insts_of_site gs gst) w.item) (loads_to (item_inst (insts_of_site s st) xi)) ≡ false
-      free w one fed Nop e b = reads_none (item_inst (insts_of_site gs gst) w.item)
-      free w one fed (Op k) e b = by_item w.item (w.there) w.op (headed 0 w).below
-        where
-          no_hazard : is_hazard s.block s.plan gs.block gs.plan ≡ false
-          no_hazard = second (eqb (room s.block s.plan) 1) (is_hazard s.block s.plan gs.block gs.plan) (grind (arith, nat_tests)) fed
-            where
-              second : (a b : Bool) → a ≡ true → (a && b) ≡ false → b ≡ false
-              second a b h k = grind arith
+    -- a load in slot 1 does not feed the word in slot 2
+    free : (w : Copyable gs.plan 0) → room s.block s.plan ≡ 1 → is_fed s gs ≡ false → (xi : Item) → f ≡ xi → AreBelow (body_count s.block) (xi ∷ []) → reads (item_inst (insts_of_site gs gst) w.item) (loads_to (item_inst (insts_of_site s st) xi)) ≡ false
+    free w one fed Nop e b = reads_none (item_inst (insts_of_site gs gst) w.item)
+    free w one fed (Op k) e b = by_item w.item (w.there) w.op (headed 0 w).below
+      where
+        no_hazard : is_hazard s.block s.plan gs.block gs.plan ≡ false
+        no_hazard = second (eqb (room s.block s.plan) 1) (is_hazard s.block s.plan gs.block gs.plan) (grind (arith, nat_tests)) fed
+          where
+            second : (a b : Bool) → a ≡ true → (a && b) ≡ false → b ≡ false
+            second a b h k = grind arith
 
-          by_item : (wi : Item) → slice_get (items_of gs.plan) 0 ≡ Some wi → is_op (Some wi) ≡ true → AreBelow (body_count gs.block) (wi ∷ []) → reads (item_inst (insts_of_site gs gst) wi) (loads_to (inst_number (insts_of_site s st) k)) ≡ false
-          by_item Nop there op bw = absurd (false_true op)
-          by_item (Op j) there op bw =
-              let ws = body_within s.block in
-              let wg = body_within gs.block in
-              let lk' = b.0 in
-              let lj = bw.0 in
-              let own_k : slice_get (insts_of s.block) k ≡ Some (inst_number (insts_of s.block) k) = slice_get-get_or (insts_of s.block) k HaltInst (omega arith) in
-              let own_j : slice_get (insts_of gs.block) j ≡ Some (inst_number (insts_of gs.block) j) = slice_get-get_or (insts_of gs.block) j HaltInst (omega arith) in
-              let fed : feeds (inst_number (insts_of s.block) k) (inst_number (insts_of gs.block) j) ≡ false =
-              sym (ap (λ o. feeds_any (block_item s.block o) (block_item gs.block (slice_get (items_of gs.plan) 0))) (slot_f ∙ ap (λ i. Some i) e)
-              ∙ ap (λ o. feeds_any (slice_get (insts_of s.block) k) (block_item gs.block o)) there
-              ∙ ap (λ o. feeds_any o (slice_get (insts_of gs.block) j)) own_k
-              ∙ ap (λ o. feeds_any (Some (inst_number (insts_of s.block) k)) o) own_j) ∙ no_hazard in
-              let lay_s = laid_at source is registers place all h room' reach filling fills bytes s st in
-              let lay_g = laid_at source is registers place all h room' reach filling fills bytes gs gst in
-              let vs : SameViews (inst_number (insts_of s.block) k) (inst_number (insts_of_site s st) k) = laid_out_views (insts_of s.block) (insts_of_site s st) k (sym lay_s.filled) in
-              let vg : SameViews (inst_number (insts_of gs.block) j) (inst_number (insts_of_site gs gst) j) = laid_out_views (insts_of gs.block) (insts_of_site gs gst) j (sym lay_g.filled) in
-              ap (λ (r : ℕ → Bool). r (loads_to (inst_number (insts_of_site s st) k))) (sym vg.reads)
-              ∙ ap (λ t. reads (inst_number (insts_of gs.block) j) (cond t (dest (inst_number (insts_of_site s st) k)) 0)) (sym vs.load)
-              ∙ ap (λ d. reads (inst_number (insts_of gs.block) j) (cond (is_load (inst_number (insts_of s.block) k)) d 0)) (sym vs.dest)
-              ∙ not_fed (inst_number (insts_of gs.block) j) (is_load (inst_number (insts_of s.block) k)) (dest (inst_number (insts_of s.block) k)) fed
-            where
-              not_fed : (i : Inst) (t : Bool) (d : ℕ) → (t && reads i d) ≡ false → reads i (cond t d 0) ≡ false
-              not_fed i true d e = e
-              not_fed i false d e = reads_none i
+        by_item : (wi : Item) → slice_get (items_of gs.plan) 0 ≡ Some wi → is_op (Some wi) ≡ true → AreBelow (body_count gs.block) (wi ∷ []) → reads (item_inst (insts_of_site gs gst) wi) (loads_to (inst_number (insts_of_site s st) k)) ≡ false
+        by_item Nop there op bw = absurd (false_true op)
+        by_item (Op j) there op bw =
+            let ws = body_within s.block in
+            let wg = body_within gs.block in
+            let lk' = b.0 in
+            let lj = bw.0 in
+            let own_k : slice_get (insts_of s.block) k ≡ Some (inst_number (insts_of s.block) k) = slice_get-get_or (insts_of s.block) k HaltInst (omega arith) in
+            let own_j : slice_get (insts_of gs.block) j ≡ Some (inst_number (insts_of gs.block) j) = slice_get-get_or (insts_of gs.block) j HaltInst (omega arith) in
+            let fed : feeds (inst_number (insts_of s.block) k) (inst_number (insts_of gs.block) j) ≡ false =
+            sym (ap (λ o. feeds_any (block_item s.block o) (block_item gs.block (slice_get (items_of gs.plan) 0))) (slot_f ∙ ap (λ i. Some i) e)
+            ∙ ap (λ o. feeds_any (slice_get (insts_of s.block) k) (block_item gs.block o)) there
+            ∙ ap (λ o. feeds_any o (slice_get (insts_of gs.block) j)) own_k
+            ∙ ap (λ o. feeds_any (Some (inst_number (insts_of s.block) k)) o) own_j) ∙ no_hazard in
+            let lay_s = laid_at known s st in
+            let lay_g = laid_at known gs gst in
+            let vs : SameViews (inst_number (insts_of s.block) k) (inst_number (insts_of_site s st) k) = laid_out_views (insts_of s.block) (insts_of_site s st) k (sym lay_s.filled) in
+            let vg : SameViews (inst_number (insts_of gs.block) j) (inst_number (insts_of_site gs gst) j) = laid_out_views (insts_of gs.block) (insts_of_site gs gst) j (sym lay_g.filled) in
+            ap (λ (r : ℕ → Bool). r (loads_to (inst_number (insts_of_site s st) k))) (sym vg.reads)
+            ∙ ap (λ t. reads (inst_number (insts_of gs.block) j) (cond t (dest (inst_number (insts_of_site s st) k)) 0)) (sym vs.load)
+            ∙ ap (λ d. reads (inst_number (insts_of gs.block) j) (cond (is_load (inst_number (insts_of s.block) k)) d 0)) (sym vs.dest)
+            ∙ not_fed (inst_number (insts_of gs.block) j) (is_load (inst_number (insts_of s.block) k)) (dest (inst_number (insts_of s.block) k)) fed
+          where
+            not_fed : (i : Inst) (t : Bool) (d : ℕ) → (t && reads i d) ≡ false → reads i (cond t d 0) ≡ false
+            not_fed i true d e = e
+            not_fed i false d e = reads_none i
 
-      some_copied : 1 ≤ n → FilledHere c.count c.squash
-      some_copied some =
-          let k = counted (is_too_far s gs) (is_fed s gs) (most s gs) some in
-          let few : n ≤ room s.block s.plan = min_left (room s.block s.plan) (copyable gs.plan) n k.all_of in
-          let less : n ≤ copyable gs.plan = min_right (room s.block s.plan) (copyable gs.plan) n k.all_of in
-          let first = copyable_there gs.plan 0 (first_copied (may_copy gs.plan 0) (may_copy gs.plan 1) (omega arith)) in
-          let nop_g : is_nop (slot s.plan 2) ≡ true → g ≡ Nop = λ e. nop_is g (sym (ap is_nop slot_g) ∙ e) in
-          let nop_f : is_nop (slot s.plan 1) ≡ true → f ≡ Nop = λ e. nop_is f (sym (ap is_nop slot_f) ∙ e) in
-          ⊎_elim
-          (λ (r : RoomForBoth (room s.block s.plan) (is_nop (slot s.plan 1)) (is_nop (slot s.plan 2))). ⊎_elim
-          (λ (one : n ≡ 1).
-          let e = from_is ∙ from_first (room s.block s.plan) n (item_at gs.plan 0) (item_at gs.plan 1) r.two one in
-          InFirst (count_is ∙ one) (set some) (nop_f r.first) (nop_g r.second)
-          (subst (λ i. HeadOf source is registers place all h room' reach filling fills bytes goal 0 i) (sym (x_is first.item (ap (λ l. slice_index_or l 0 Nop) e ∙ first.is_at) ∙ copied_in 1 0 first f)) (headed 0 first).head)
-          (y_is Nop (ap (λ l. slice_index_or l 1 Nop) e) ∙ own_item 2 g below_g ∙ ap (item_inst (insts_of_site s st)) (nop_g r.second))
-          goal_leads)
-          (λ (more : n ≢ 1).
-          let two : n ≡ 2 = (let t = at_most_two (may_copy gs.plan 0) (may_copy gs.plan 1) in omega arith) in
-          let second = copyable_there gs.plan 1 (second_copied (may_copy gs.plan 0) (may_copy gs.plan 1) (omega arith)) in
-          let e = from_is ∙ from_both (room s.block s.plan) n (item_at gs.plan 0) (item_at gs.plan 1) r.two two in
-          InBoth (count_is ∙ two) (set some) (nop_f r.first) (nop_g r.second)
-          (subst (λ i. HeadOf source is registers place all h room' reach filling fills bytes goal 0 i) (sym (x_is first.item (ap (λ l. slice_index_or l 0 Nop) e ∙ first.is_at) ∙ copied_in 1 0 first f)) (headed 0 first).head)
-          (subst (λ i. HeadOf source is registers place all h room' reach filling fills bytes goal 1 i) (sym (y_is second.item (ap (λ l. slice_index_or l 1 Nop) e ∙ second.is_at) ∙ copied_in 2 1 second g)) (headed 1 second).head)
-          goal_leads)
-          (cases_eq n 1))
-          (λ (r : RoomForOne (room s.block s.plan) (may_stay s.block) (is_nop (slot s.plan 2))).
-          let room_one = r.one in
-          let one : n ≡ 1 = omega arith in
-          let e = from_is ∙ from_second (room s.block s.plan) n (item_at gs.plan 0) (item_at gs.plan 1) r.one one in
-          let x_own = x_is Nop (ap (λ l. slice_index_or l 0 Nop) e) ∙ own_item 1 f below_f in
-          let y_copy = y_is first.item (ap (λ l. slice_index_or l 1 Nop) e ∙ first.is_at) ∙ copied_in 2 0 first g in
-          InSecond (count_is ∙ one) (ap not r.surely) (nop_g r.second) x_own
-          (subst (λ i. HeadOf source is registers place all h room' reach filling fills bytes goal 0 i) (sym y_copy) (headed 0 first).head)
-          ((λ k. reads (y_copy k) (loads_to (x_own k))) ∙ free first r.one k.not_fed f refl below_f)
-          goal_leads)
-          (room_cases s.block.end (may_stay s.block) (is_nop (slot s.plan 1)) (is_nop (slot s.plan 2)) stays_not (omega arith))
-        where
-          min_left : (a b m : ℕ) → m ≡ min a b → m ≤ a
-          min_left a b m e = omega arith
+    some_copied : 1 ≤ n → FilledHere c.count c.squash
+    some_copied some =
+        let k = counted (is_too_far s gs) (is_fed s gs) (most s gs) some in
+        let few : n ≤ room s.block s.plan = min_left (room s.block s.plan) (copyable gs.plan) n k.all_of in
+        let less : n ≤ copyable gs.plan = min_right (room s.block s.plan) (copyable gs.plan) n k.all_of in
+        let first = copyable_there gs.plan 0 (first_copied (may_copy gs.plan 0) (may_copy gs.plan 1) (omega arith)) in
+        let nop_g : is_nop (slot s.plan 2) ≡ true → g ≡ Nop = λ e. nop_is g (sym (ap is_nop slot_g) ∙ e) in
+        let nop_f : is_nop (slot s.plan 1) ≡ true → f ≡ Nop = λ e. nop_is f (sym (ap is_nop slot_f) ∙ e) in
+        ⊎_elim
+        (λ (r : RoomForBoth (room s.block s.plan) (is_nop (slot s.plan 1)) (is_nop (slot s.plan 2))). ⊎_elim
+        (λ (one : n ≡ 1).
+        let e = from_is ∙ from_first (room s.block s.plan) n (item_at gs.plan 0) (item_at gs.plan 1) r.two one in
+        InFirst (count_is ∙ one) (set some) (nop_f r.first) (nop_g r.second)
+        (subst (λ i. HeadOf known goal 0 i) (sym (x_is first.item (ap (λ l. slice_index_or l 0 Nop) e ∙ first.is_at) ∙ copied_in 1 0 first f)) (headed 0 first).head)
+        (y_is Nop (ap (λ l. slice_index_or l 1 Nop) e) ∙ own_item 2 g below_g ∙ ap (item_inst (insts_of_site s st)) (nop_g r.second))
+        goal_leads)
+        (λ (more : n ≢ 1).
+        let two : n ≡ 2 = (let t = at_most_two (may_copy gs.plan 0) (may_copy gs.plan 1) in omega arith) in
+        let second = copyable_there gs.plan 1 (second_copied (may_copy gs.plan 0) (may_copy gs.plan 1) (omega arith)) in
+        let e = from_is ∙ from_both (room s.block s.plan) n (item_at gs.plan 0) (item_at gs.plan 1) r.two two in
+        InBoth (count_is ∙ two) (set some) (nop_f r.first) (nop_g r.second)
+        (subst (λ i. HeadOf known goal 0 i) (sym (x_is first.item (ap (λ l. slice_index_or l 0 Nop) e ∙ first.is_at) ∙ copied_in 1 0 first f)) (headed 0 first).head)
+        (subst (λ i. HeadOf known goal 1 i) (sym (y_is second.item (ap (λ l. slice_index_or l 1 Nop) e ∙ second.is_at) ∙ copied_in 2 1 second g)) (headed 1 second).head)
+        goal_leads)
+        (cases_eq n 1))
+        (λ (r : RoomForOne (room s.block s.plan) (may_stay s.block) (is_nop (slot s.plan 2))).
+        let room_one = r.one in
+        let one : n ≡ 1 = omega arith in
+        let e = from_is ∙ from_second (room s.block s.plan) n (item_at gs.plan 0) (item_at gs.plan 1) r.one one in
+        let x_own = x_is Nop (ap (λ l. slice_index_or l 0 Nop) e) ∙ own_item 1 f below_f in
+        let y_copy = y_is first.item (ap (λ l. slice_index_or l 1 Nop) e ∙ first.is_at) ∙ copied_in 2 0 first g in
+        InSecond (count_is ∙ one) (ap not r.surely) (nop_g r.second) x_own
+        (subst (λ i. HeadOf known goal 0 i) (sym y_copy) (headed 0 first).head)
+        ((λ k. reads (y_copy k) (loads_to (x_own k))) ∙ free first r.one k.not_fed f refl below_f)
+        goal_leads)
+        (room_cases s.block.end (may_stay s.block) (is_nop (slot s.plan 1)) (is_nop (slot s.plan 2)) stays_not (omega arith))
+      where
+        min_left : (a b m : ℕ) → m ≡ min a b → m ≤ a
+        min_left a b m e = omega arith
 
-          min_right : (a b m : ℕ) → m ≡ min a b → m ≤ b
-          min_right a b m e = omega arith
+        min_right : (a b m : ℕ) → m ≡ min a b → m ≤ b
+        min_right a b m e = omega arith
 
-      from_goal : FilledHere c.count c.squash
-      from_goal = ⊎_elim
-          (λ (z : n ≡ 0). all_own (count_is ∙ z) (squash_is ∙ ap (λ m. ltb 0 m && may_stay s.block) z) (from_is ∙ from_zero (room s.block s.plan) n (item_at gs.plan 0) (item_at gs.plan 1) z))
-          (λ (z : n ≢ 0). some_copied (omega arith))
-          (cases_eq n 0)
+    from_goal : FilledHere c.count c.squash
+    from_goal = ⊎_elim
+        (λ (z : n ≡ 0). all_own (count_is ∙ z) (squash_is ∙ ap (λ m. ltb 0 m && may_stay s.block) z) (from_is ∙ from_zero (room s.block s.plan) n (item_at gs.plan 0) (item_at gs.plan 1) z))
+        (λ (z : n ≢ 0). some_copied (omega arith))
+        (cases_eq n 0)
 
-    by_goal : (o : Option Site) → site_of (is_target s.block.end) all ≡ o → c ≡ copied s o → fills.0 ≡ false → FilledHere c.count c.squash
-    by_goal None e is_c copying = all_own (ap (λ (d : Copied). d.count) is_c) (ap (λ (d : Copied). d.squash) is_c) (ap (λ (d : Copied). d.from) is_c)
-    by_goal (Some gs) e is_c copying = from_goal gs e is_c copying
+  by_goal : (o : Option Site) → site_of (is_target s.block.end) all ≡ o → c ≡ copied s o → bare ≡ false → FilledHere c.count c.squash
+  by_goal None e is_c copying = all_own (ap (λ (d : Copied). d.count) is_c) (ap (λ (d : Copied). d.squash) is_c) (ap (λ (d : Copied). d.from) is_c)
+  by_goal (Some gs) e is_c copying = from_goal gs e is_c copying
 
-    pub filled_there : FilledHere c.count c.squash
-    filled_there = ⊎_elim
-        (λ e. all_own (ap (λ (d : Copied). d.count) e) (ap (λ (d : Copied). d.squash) e) (ap (λ (d : Copied). d.from) e))
-        (λ e. by_goal (site_of (is_target s.block.end) all) refl e.1 e.0)
-        (fills.1 s)
+  pub filled_there : FilledHere c.count c.squash
+  filled_there = ⊎_elim
+      (λ e. all_own (ap (λ (d : Copied). d.count) e) (ap (λ (d : Copied). d.squash) e) (ap (λ (d : Copied). d.from) e))
+      (λ e. by_goal (site_of (is_target s.block.end) all) refl e.1 e.0)
+      (fills s)
 
-    -- where there is no target, the slots are its own
-    pub record OwnSlots : Type 0 where
-      pub first : x ≡ item_inst (insts_of_site s st) f
-      pub second : y ≡ item_inst (insts_of_site s st) g
+  -- where there is no target, the slots are its own
+  pub record OwnSlots : Type 0 where
+    pub first : x ≡ item_inst (insts_of_site s st) f
+    pub second : y ≡ item_inst (insts_of_site s st) g
 
-    pub own_slots : site_of (is_target s.block.end) all ≡ None → OwnSlots
-    own_slots none =
-        let e : c.from ≡ Nop ∷ Nop ∷ [] = ⊎_elim
-        (λ e. ap (λ (d : Copied). d.from) e)
-        (λ e. ap (λ (d : Copied). d.from) (e.1 ∙ ap (copied s) none))
-        (fills.1 s) in
-        record {
-          first = x_is Nop (ap (λ l. slice_index_or l 0 Nop) e) ∙ own_item 1 f below_f;
-          second = y_is Nop (ap (λ l. slice_index_or l 1 Nop) e) ∙ own_item 2 g below_g;
-        }
+  pub own_slots : site_of (is_target s.block.end) all ≡ None → OwnSlots
+  own_slots none =
+      let e : c.from ≡ Nop ∷ Nop ∷ [] = ⊎_elim
+      (λ e. ap (λ (d : Copied). d.from) e)
+      (λ e. ap (λ (d : Copied). d.from) (e.1 ∙ ap (copied s) none))
+      (fills s) in
+      record {
+        first = x_is Nop (ap (λ l. slice_index_or l 0 Nop) e) ∙ own_item 1 f below_f;
+        second = y_is Nop (ap (λ l. slice_index_or l 1 Nop) e) ∙ own_item 2 g below_g;
+      }

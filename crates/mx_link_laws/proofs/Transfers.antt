@@ -30,7 +30,8 @@ use Rattle.mx_link_laws.proofs.Going.{stands_left}
 use Rattle.mx_link_laws.proofs.Matching.{linked, linked_write, linked_value, word_seen, word_value, core_of}
 use Rattle.mx_link_laws.proofs.Saying.{said, step_is, ran_at}
 use Rattle.mx_link_laws.proofs.Planned.{bodies, pre, last}
-use Rattle.mx_link_laws.proofs.OneBlock.{short, Leads, Filled, Own, InSecond, InFirst, InBoth, StandsAt, GoesOn, StopsAt, Laid, nowhere, onward, away, falls_on, stops, run_b, to_end, behind_it, behind_slots, Landed, takes, passes}
+use Rattle.mx_link_laws.proofs.OneBlock.{Leads, Filled, Own, InSecond, InFirst, InBoth, StandsAt, GoesOn, StopsAt, Laid, nowhere, onward, away, falls_on, stops, run_b, to_end, behind_it, behind_slots, Landed, takes, passes}
+use Rattle.mx_link_laws.proofs.Setting.{Machine, Setting, machine_of, short}
 
 false_true : false ≡ true → ⊥
 false_true e = grind arith
@@ -39,21 +40,26 @@ no_place_of_code : (b : Bool) (s : State) (t : Step) → is_stuck (cond b (stuck
 no_place_of_code true s t h = absurd (false_true (sym h))
 no_place_of_code false s t h = refl
 
-module _ (link : ℕ → ℕ) (p : Program) (small : (i : ℕ) → link i + 8 < 2 ^ 31) (low : (i : ℕ) → p.place.code ≤ link i) (code : Code) (inside : ℕ → Bool) (leader : ℕ → Bool) (place_of : ℕ → ℕ) where
+module _ (setting : Setting) where
+  open setting use {link, program as p, code, inside, leader, place_of, small, low}
+
+  abbrev machine : Machine
+  machine = machine_of setting
+
   abbrev pub Lay : ℕ → Type 0
-  Lay i = Laid link p small low code inside leader place_of i
+  Lay i = Laid setting i
 
   abbrev pub core : State → Core
-  core s = core_of link (short link p small low code inside leader place_of) s
+  core s = core_of link s
 
   abbrev pub Leading : ℕ → Type 0
-  Leading j = Leads link p small low code inside leader place_of j
+  Leading j = Leads setting j
 
   abbrev pub Standing : ℕ → List Inst → Type 0
-  Standing = StandsAt link p small low code inside leader place_of
+  Standing = StandsAt setting
 
   abbrev pub Filling : ℕ → ℕ → Bool → Bool → List Inst → Item → Item → Inst → Inst → Type 0
-  Filling t count sq sure insts f g x y = Filled link p small low code inside leader place_of t count sq sure insts f g x y
+  Filling t count sq sure insts f g x y = Filled setting t count sq sure insts f g x y
 
   abbrev pub inner_of : (i : ℕ) → Lay i → List Inst
   inner_of i w = bodies w.block w.plan w.insts p.input w.laid w.parts w.some
@@ -113,14 +119,14 @@ module _ (link : ℕ → ℕ) (p : Program) (small : (i : ℕ) → link i + 8 < 
   CodesLead r = (n t : ℕ) → value_in r.state.regs n ≡ CodeValue t → Leading t
 
   abbrev shorts : (i : ℕ) → link i < 2 ^ 32
-  shorts = short link p small low code inside leader place_of
+  shorts = short setting
 
   module _ (i : ℕ) (w : Lay i) (r : Run) (going : r.state.mark ≡ Going) (here : r.state.index ≡ i) (safe : is_stuck (run_for p (length (insts_of w.block)) r).state.mark ≡ false) where
     abbrev n : ℕ
     n = length (insts_of w.block)
 
     abbrev Onward : Type 0
-    Onward = GoesOn link p small low code inside leader place_of i n (length (items_of w.plan)) (length w.parts.front) r
+    Onward = GoesOn setting i n (length (items_of w.plan)) (length w.parts.front) r
 
     abbrev r1 : Run
     r1 = run_for p (length (inner_of i w)) r
@@ -137,35 +143,35 @@ module _ (link : ℕ → ℕ) (p : Program) (small : (i : ℕ) → link i + 8 < 
     -- a block that ends with a transfer
     module _ (b : Transfers i w) (moves : is_transfer ender ≡ true) (on : is_halt ender ≡ false) (no_load : is_load ender ≡ false) where
       abbrev Lands : ℕ → Type 0
-      Lands j = Landed link p small low code inside leader place_of i w r going here safe b.f_not moves on no_load b.f b.g b.three b.below j
+      Lands j = Landed setting i w r going here safe b.f_not moves on no_load b.f b.g b.three b.below j
 
       abbrev taking : (t count : ℕ) → decides ender at (core r1.state).regs ≡ away (link t + count) → Lands t → (sq sure : Bool) (x y : Inst) → Leading t → Filling t count sq sure w.insts b.f b.g x y → Standing (link i) (front_of i w ++ ender ∷ x ∷ y ∷ []) → Onward
-      taking = takes link p small low code inside leader place_of i w r going here safe b.f_not moves on no_load b.f b.g b.three b.below
+      taking = takes setting i w r going here safe b.f_not moves on no_load b.f b.g b.three b.below
 
       abbrev passing : (t count : ℕ) (sq sure : Bool) (x y : Inst) → decides ender at (core r1.state).regs ≡ onward sq → Lands (i + n) → sure ≡ false → Filling t count sq sure w.insts b.f b.g x y → Standing (link i) (front_of i w ++ ender ∷ x ∷ y ∷ []) → Onward
-      passing = passes link p small low code inside leader place_of i w r going here safe b.f_not moves on no_load b.f b.g b.three b.below
+      passing = passes setting i w r going here safe b.f_not moves on no_load b.f b.g b.three b.below
 
       run_is : (o : Option Statement) → end_statement i w ≡ o → r2 ≡ said p o r1
       run_is o e =
-          let run = run_b link p small low code inside leader place_of i w r going here safe b.f_not moves on no_load b.f b.g b.three b.below in
-          to_end link p small low code inside leader place_of i w r going here safe b.f_not moves on no_load b.f b.g b.three b.below
+          let run = run_b setting i w r going here safe b.f_not moves on no_load b.f b.g b.three b.below in
+          to_end setting i w r going here safe b.f_not moves on no_load b.f b.g b.three b.below
           ∙ step_is p r1 o run.mark (ap (slice_get p.statements) run.index ∙ e)
 
       going_there : r1.state.mark ≡ Going
-      going_there = let run = run_b link p small low code inside leader place_of i w r going here safe b.f_not moves on no_load b.f b.g b.three b.below in run.mark
+      going_there = let run = run_b setting i w r going here safe b.f_not moves on no_load b.f b.g b.three b.below in run.mark
 
       next_index : suc r1.state.index ≡ i + n
-      next_index = behind_it link p small low code inside leader place_of i w r going here safe b.f_not moves on no_load b.f b.g b.three b.below
+      next_index = behind_it setting i w r going here safe b.f_not moves on no_load b.f b.g b.three b.below
 
       next_link : link (suc r1.state.index) ≡ at + 3
-      next_link = behind_slots link p small low code inside leader place_of i w r going here safe b.f_not moves on no_load b.f b.g b.three b.below
+      next_link = behind_slots setting i w r going here safe b.f_not moves on no_load b.f b.g b.three b.below
 
       -- on to statement j, with a value in a register
       abbrev landed : ℕ → ℕ → Value → Run
       landed j d v = record { state = record r1.state { index = j; regs = write_value r1.state.regs d v }; console = r1.console ++ [] }
 
       abbrev by_inst : Inst → Ran
-      by_inst j = run_one p.place p.input at j (ran_at link shorts p r1 true nowhere)
+      by_inst j = run_one p.place p.input at j (ran_at link r1 true nowhere)
 
       lands : (T : Inst) (j d : ℕ) (v : Value) → ender ≡ T → r2 ≡ landed j d v → (by_inst T).core ≡ core (landed j d v).state → (by_inst T).bytes ≡ r1.console ++ [] → Lands j
       lands T j d v is e c s = record {
@@ -191,8 +197,8 @@ module _ (link : ℕ → ℕ) (p : Program) (small : (i : ℕ) → link i + 8 < 
               let new : Step = record { after = record r1.state { index = cond (condition_holds condition (word_in (value_in r1.state.regs a)) (word_in (value_in r1.state.regs c))) t (suc r1.state.index); regs = write_value r1.state.regs 0 (Int 0) }; byte = None } in
               let none = no_place_of_code (any_code r1.state.regs (a, c)) r1.state new (ap (λ (u : Run). is_stuck u.state.mark) (sym e) ∙ safe) in
               let o = or_parts _ _ none in
-              let wa : word_in (value_in r1.state.regs a) ≡ reg (core r1.state).regs a = word_value link shorts r1.state.regs a ∙ word_seen link shorts r1.state.regs a o.0 in
-              let wc : word_in (value_in r1.state.regs c) ≡ reg (core r1.state).regs c = word_value link shorts r1.state.regs c ∙ word_seen link shorts r1.state.regs c o.1 in
+              let wa : word_in (value_in r1.state.regs a) ≡ reg (core r1.state).regs a = word_value link r1.state.regs a ∙ word_seen link r1.state.regs a o.0 in
+              let wc : word_in (value_in r1.state.regs c) ≡ reg (core r1.state).regs c = word_value link r1.state.regs c ∙ word_seen link r1.state.regs c o.1 in
               e
               ∙ (λ k. record { state = (cond (none k) (stuck CodeOperand r1.state) new).after; console = r1.console ++ option_to_list (cond (none k) (stuck CodeOperand r1.state) new).byte })
               ∙ (λ k. landed (cond (condition_holds condition (wa k) (wc k)) t (suc r1.state.index)) 0 (Int 0))
@@ -217,7 +223,7 @@ module _ (link : ℕ → ℕ) (p : Program) (small : (i : ℕ) → link i + 8 < 
       -- the link of a jump is the next place
       linked_jump : (a d : ℕ) (imm : ℤ) (j : ℕ) → (by_inst (Jspci a d imm)).core ≡ core (landed j d (CodeValue (suc r1.state.index))).state
       linked_jump a d imm j = λ k. record {
-        regs = ((λ m. write (core r1.state).regs d (sym next_link m)) ∙ sym (linked_write link shorts r1.state.regs d (CodeValue (suc r1.state.index)))) k;
+        regs = ((λ m. write (core r1.state).regs d (sym next_link m)) ∙ sym (linked_write link r1.state.regs d (CodeValue (suc r1.state.index)))) k;
         md = r1.state.md;
         mem = (core r1.state).mem;
         taken = r1.state.taken;
@@ -247,16 +253,16 @@ module _ (link : ℕ → ℕ) (p : Program) (small : (i : ℕ) → link i + 8 < 
           by_value (Int word) e = absurd (false_true (sym safe ∙ ap (λ (u : Run). is_stuck u.state.mark) (run_to (Int word) e)))
           by_value (CodeValue t) e =
               let sm = small t in
-              let to : reg (core r1.state).regs a ≡ link t = sym (linked_value link shorts r1.state.regs a) ∙ ap (linked link shorts) e in
+              let to : reg (core r1.state).regs a ≡ link t = sym (linked_value link r1.state.regs a) ∙ ap (linked link) e in
               let there : offset_by (core r1.state).regs a (pos 0) % 2 ^ 31 ≡ link t + 0 = omega arith in
               taking t 0 (ap (λ k. decides k at (core r1.state).regs) is ∙ ap away there)
               (lands (Jspci a d (pos 0)) t d (CodeValue (suc r1.state.index)) is (run_to (CodeValue t) e) (linked_jump a d (pos 0) t) refl)
               false false (item_inst w.insts b.f) (item_inst w.insts b.g) (codes a t e) (Own refl refl refl refl) st
 
     -- one block
-    pub one_block : EndOf i w → CodesLead r1 → Onward ⊎ StopsAt link p small low code inside leader place_of i n (length (items_of w.plan)) (length w.parts.front) r
-    one_block (Falls f none st) codes = inl (falls_on link p small low code inside leader place_of i w r going here safe f none st)
-    one_block (Stops f one stop is st) codes = inr (stops link p small low code inside leader place_of i w r going here safe f one stop is st)
+    pub one_block : EndOf i w → CodesLead r1 → Onward ⊎ StopsAt setting i n (length (items_of w.plan)) (length w.parts.front) r
+    one_block (Falls f none st) codes = inl (falls_on setting i w r going here safe f none st)
+    one_block (Stops f one stop is st) codes = inr (stops setting i w r going here safe f one stop is st)
     one_block (Moves b t count sq sure x y (Branches a c condition by statement is reach surely) filled lead st) codes =
         inl (branches b (ap is_transfer is) (ap is_halt is) (ap is_load is) t count sq sure x y a c condition by statement is reach surely filled lead st)
     one_block (Moves b t count sq sure x y (Calls d statement is) filled lead st) codes =

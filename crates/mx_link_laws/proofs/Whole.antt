@@ -18,9 +18,11 @@ use Rattle.mx_order.proofs.Reorder.{once_length}
 use Rattle.mx_validate.specs.Padded.{insts_of, items_of, falls, body_count}
 use Rattle.mx_link_laws.proofs.Going.{Did, did_all, ArePlain, Stands, stands_left, goes, for_same, for_add, keeps_self, keeps_then, keeps_for, Grows, grows_for, halted_for}
 use Rattle.mx_link_laws.proofs.Saying.{Prefix, prefix_then, prefix_same, is_going, step_is, not_stuck_before, run_add, says_more, stays_for, AreBody, all_plain, body_run}
-use Rattle.mx_link_laws.proofs.OneBlock.{nowhere, short, LeadsAt, did_of, begins as beginning, steps, Keeping, IsAt, GoesOn, StopsAt}
+use Rattle.mx_link_laws.proofs.OneBlock.{nowhere, LeadsAt, did_of, begins as beginning, steps, Keeping, IsAt, GoesOn, StopsAt}
 use Rattle.mx_link_laws.proofs.Planned.{bodies_length, pre_length, plain_pre}
 use Rattle.mx_link_laws.proofs.Transfers.{Lay, EndOf, CodesLead, inner_of, front_of, front_stands, back_short, one_block}
+use Rattle.mx_link_laws.proofs.Setting.{Machine, Setting, machine_of, short}
+use Rattle.mx_link_laws.proofs.Going.{once}
 
 false_true : false ≡ true → ⊥
 false_true e = grind arith
@@ -37,40 +39,57 @@ ops_length [] = omega arith
 ops_length (Op k ∷ xs) = let h = ops_length xs in omega arith
 ops_length (Nop ∷ xs) = let h = ops_length xs in omega arith
 
--- a block, what it ends with, and where its terminator stands
-pub record Placed (link : ℕ → ℕ) (p : Program) (small : (i : ℕ) → link i + 8 < 2 ^ 31) (low : (i : ℕ) → p.place.code ≤ link i) (code : Code) (inside : ℕ → Bool) (leader : ℕ → Bool) (place_of len_of : ℕ → ℕ) (t : ℕ) : Type 0 where
-  pub lay : Lay link p small low code inside leader place_of t
-  pub end : EndOf link p small low code inside leader place_of t lay
-  pub place : place_of t ≤ length lay.parts.front
-  pub long : len_of t ≡ length (items_of lay.plan)
-  pub inner : (k : ℕ) → 1 ≤ k → k < length (insts_of lay.block) → leader (t + k) ≡ false
+module _ (setting : Setting) where
+  open setting use {program as p, link, leader, place_of, len_of}
 
-module _ (link : ℕ → ℕ) (p : Program) (small : (i : ℕ) → link i + 8 < 2 ^ 31) (low : (i : ℕ) → p.place.code ≤ link i) (code : Code) (inside : ℕ → Bool) (leader : ℕ → Bool) (place_of len_of : ℕ → ℕ) (placed : (t : ℕ) → leader t ≡ true → t < length p.statements → Placed link p small low code inside leader place_of len_of t) (r0 : Run) (r0_goes : r0.state.mark ≡ Going) (r0_leads : LeadsAt link p small low code inside leader place_of 0 r0.state.index) (codes : (m : ℕ) → CodesLead link p small low code inside leader place_of (run_for p m r0)) where
+  -- a block, what it ends with, and where its terminator stands
+  pub record Placed (t : ℕ) : Type 0 where
+    pub lay : Lay setting t
+    pub end : EndOf setting t lay
+    pub place : place_of t ≤ length lay.parts.front
+    pub long : len_of t ≡ length (items_of lay.plan)
+    pub inner : (k : ℕ) → 1 ≤ k → k < length (insts_of lay.block) → leader (t + k) ≡ false
+
+  -- a run of the meaning that begins at a leader, where the block of each leader stands
+  pub record Begun : Type 0 where
+    pub placed : (t : ℕ) → leader t ≡ true → t < length p.statements → Placed t
+    pub r0 : Run
+    pub going : r0.state.mark ≡ Going
+    pub leads : LeadsAt setting 0 r0.state.index
+    pub codes : (m : ℕ) → CodesLead setting (run_for p m r0)
+
+module _ (setting : Setting) (begun : Begun setting) where
+  open setting use {program as p, code, inside, link, leader, place_of, len_of, small, low}
+  open begun use {placed, r0, codes}
+
+  abbrev machine : Machine
+  machine = machine_of setting
+
   -- the meaning after m steps
   abbrev pub M : ℕ → Run
   M m = run_for p m r0
 
   abbrev pub from : Run → Watched
-  from r = beginning link p small low code inside leader place_of (link r.state.index) (did_of link p small low code inside leader place_of r)
+  from r = beginning setting (link r.state.index) (did_of setting r)
 
   abbrev pub for : ℕ → Watched → Watched
-  for = steps link p small low code inside leader place_of
+  for = steps setting
 
   -- the linked code after j steps
   abbrev pub D : ℕ → Watched
   D j = for j (from r0)
 
   abbrev pub Shows : Watched → Run → Type 0
-  Shows x r = IsAt link p small low code inside leader place_of x r
+  Shows x r = IsAt setting x r
 
   abbrev Keep : Watched → Watched → Type 0
-  Keep = Keeping link p small low code inside leader place_of
+  Keep = Keeping setting
 
   abbrev LeadingAt : ℕ → ℕ → Type 0
-  LeadingAt = LeadsAt link p small low code inside leader place_of
+  LeadingAt = LeadsAt setting
 
   abbrev Grow : Watched → Watched → Type 0
-  Grow = Grows code inside p.place p.input
+  Grow = Grows machine
 
   abbrev pub Runs : ℕ → Type 0
   Runs m = is_stuck (M m).state.mark ≡ false
@@ -79,35 +98,35 @@ module _ (link : ℕ → ℕ) (p : Program) (small : (i : ℕ) → link i + 8 < 
   runs_before m n h k = not_stuck_before p (n - m) (M m) (ap (λ (s : Run). is_stuck s.state.mark) (sym (ap M (let e : n ≡ m + (n - m) = omega arith in e) ∙ run_add p m (n - m) r0)) ∙ k)
 
   D_add : (a b : ℕ) → D (a + b) ≡ for b (D a)
-  D_add a b = for_add code inside p.place p.input a b (from r0)
+  D_add a b = for_add machine a b (from r0)
 
   grows : (a b : ℕ) → a ≤ b → Grow (D a) (D b)
-  grows a b h = subst (λ (x : Watched). Grow (D a) x) (sym (ap D (let e : b ≡ a + (b - a) = omega arith in e) ∙ D_add a (b - a))) (grows_for code inside p.place p.input (b - a) (D a))
+  grows a b h = subst (λ (x : Watched). Grow (D a) x) (sym (ap D (let e : b ≡ a + (b - a) = omega arith in e) ∙ D_add a (b - a))) (grows_for machine (b - a) (D a))
 
   -- the words of the plans of the blocks that began within the first m statements
   abbrev pub sum_of_plans : ℕ → ℕ
   sum_of_plans zero = 0
   sum_of_plans (suc m) = sum_of_plans m + cond (leader (M m).state.index) (len_of (M m).state.index) 0
 
-  body_prefix : (i k : ℕ) (insts : List Inst) → AreBody link (short link p small low code inside leader place_of) p.statements i insts → AreBody link (short link p small low code inside leader place_of) p.statements i (take k insts)
+  body_prefix : (i k : ℕ) (insts : List Inst) → AreBody link p.statements i insts → AreBody link p.statements i (take k insts)
   body_prefix i zero insts h = tt
   body_prefix i (suc k) [] h = tt
   body_prefix i (suc k) (x ∷ insts) h = (h.0, body_prefix (suc i) k insts h.1)
 
   -- within a block the statements follow one another
-  pub inner_index : (m : ℕ) (w : Placed link p small low code inside leader place_of len_of (M m).state.index) (t : ℕ) → (M m).state.mark ≡ Going → t < length (insts_of w.lay.block) → Runs (m + t) → (M (m + t)).state.index ≡ (M m).state.index + t
+  pub inner_index : (m : ℕ) (w : Placed setting (M m).state.index) (t : ℕ) → (M m).state.mark ≡ Going → t < length (insts_of w.lay.block) → Runs (m + t) → (M (m + t)).state.index ≡ (M m).state.index + t
   inner_index m w t g few r =
       let lay = w.lay in
       let i = (M m).state.index in
-      let inner = inner_of link p small low code inside leader place_of i lay in
+      let inner = inner_of setting i lay in
       let is_inner : length inner ≡ body_count lay.block = bodies_length lay.block lay.plan lay.insts p.input lay.laid lay.parts lay.some in
       let most = body_most lay.block lay.some in
       let long : length (take t inner) ≡ t = length-take-le t inner (omega arith) in
-      let run = body_run link (short link p small low code inside leader place_of) p i 0 (take t inner) (M m) true nowhere g refl (body_prefix i t inner lay.body)
+      let run = body_run link p (short setting) i 0 (take t inner) (M m) true nowhere g refl (body_prefix i t inner lay.body)
       (ap (λ k. is_stuck (run_for p k (M m)).state.mark) long ∙ ap (λ (s : Run). is_stuck s.state.mark) (sym (run_add p m t r0)) ∙ r) in
       ap (λ (s : Run). s.state.index) (run_add p m t r0 ∙ ap (λ k. run_for p k (M m)) (sym long)) ∙ run.index ∙ ap (λ k. i + k) long
 
-  sum_within : (m : ℕ) (w : Placed link p small low code inside leader place_of len_of (M m).state.index) (t : ℕ) → leader (M m).state.index ≡ true → (M m).state.mark ≡ Going → t < length (insts_of w.lay.block) → Runs (m + t) → sum_of_plans (m + suc t) ≡ sum_of_plans m + length (items_of w.lay.plan)
+  sum_within : (m : ℕ) (w : Placed setting (M m).state.index) (t : ℕ) → leader (M m).state.index ≡ true → (M m).state.mark ≡ Going → t < length (insts_of w.lay.block) → Runs (m + t) → sum_of_plans (m + suc t) ≡ sum_of_plans m + length (items_of w.lay.plan)
   sum_within m w zero l g few r =
       ap sum_of_plans (let e : m + 1 ≡ suc m = omega arith in e) ∙ ap (λ (b : Bool). sum_of_plans m + cond b (len_of (M m).state.index) 0) l ∙ ap (λ k. sum_of_plans m + k) w.long
   sum_within m w (suc t) l g few r =
@@ -152,13 +171,13 @@ module _ (link : ℕ → ℕ) (p : Program) (small : (i : ℕ) → link i + 8 < 
   begins = record {
     c = 0;
     w = 0;
-    going = r0_goes;
-    lead = r0_leads;
+    going = begun.going;
+    lead = begun.leads;
     low_v = (let q : 0 ≤ 0 = omega arith in q);
     v_u = refl;
     c_w = (let q : 0 ≤ 0 = omega arith in q);
     high = (let q : 0 + 0 ≤ 3 * 0 = omega arith in q);
-    meets = keeps_self code inside p.place p.input (from r0) (from r0) refl;
+    meets = keeps_self machine (from r0) (from r0) refl;
     shown = record { core = refl; console = refl; clean = refl };
     runs_on = refl;
     plain = λ none. (refl, refl);
@@ -169,9 +188,9 @@ module _ (link : ℕ → ℕ) (p : Program) (small : (i : ℕ) → link i + 8 < 
   reached m v u a x h =
       let y = x - a.c in
       let left : D (u + x) ≡ for y (D (u + a.c)) = ap D (let e : u + x ≡ u + a.c + y = omega arith in e) ∙ D_add (u + a.c) y in
-      let right : for y (for a.c (from (M m))) ≡ for x (from (M m)) = sym (for_add code inside p.place p.input a.c y (from (M m))) ∙ for_same code inside p.place p.input (a.c + y) x (from (M m)) (omega arith) in
+      let right : for y (for a.c (from (M m))) ≡ for x (from (M m)) = sym (for_add machine a.c y (from (M m))) ∙ for_same machine (a.c + y) x (from (M m)) (omega arith) in
       subst (λ (z : Watched). Keep z (for x (from (M m)))) (sym left)
-      (subst (λ (z : Watched). Keep (for y (D (u + a.c))) z) right (keeps_for code inside p.place p.input y (D (u + a.c)) (for a.c (from (M m))) a.meets))
+      (subst (λ (z : Watched). Keep (for y (D (u + a.c))) z) right (keeps_for machine y (D (u + a.c)) (for a.c (from (M m))) a.meets))
 
   shows_kept : (x y : Watched) (r : Run) → Keep x y → Shows y r → Shows x r
   shows_kept x y r k h = record {
@@ -191,7 +210,7 @@ module _ (link : ℕ → ℕ) (p : Program) (small : (i : ℕ) → link i + 8 < 
     pub over : Over (m + n) e
     pub within : e ≤ u + len
 
-  goes_on : (m v u : ℕ) (a : At m v u) (n len place : ℕ) → 1 ≤ n → a.c ≤ place → sum_of_plans (m + n) ≡ sum_of_plans m + len → GoesOn link p small low code inside leader place_of (M m).state.index n len place (M m) → Next m v n
+  goes_on : (m v u : ℕ) (a : At m v u) (n len place : ℕ) → 1 ≤ n → a.c ≤ place → sum_of_plans (m + n) ≡ sum_of_plans m + len → GoesOn setting (M m).state.index n len place (M m) → Next m v n
   goes_on m v u a n len place some l sum g =
       let low_v = a.low_v in
       let vu = a.v_u in
@@ -220,7 +239,7 @@ module _ (link : ℕ → ℕ) (p : Program) (small : (i : ℕ) → link i + 8 < 
           c_w = gc;
           high = omega arith;
           meets = subst (λ (x : Watched). Keep x (for g.c (from (M (m + n))))) to_end
-              (keeps_then code inside p.place p.input (D (u + len)) (for len (from (M m))) (for g.c (from (M (m + n)))) end
+              (keeps_then machine (D (u + len)) (for len (from (M m))) (for g.c (from (M (m + n)))) end
               (subst (λ (s : Run). Keep (for len (from (M m))) (for g.c (from s))) (sym is_m) g.reaches));
           shown = subst (λ (s : Run). Shows (D (u + g.own)) s) (sym is_m) (shows_kept (D (u + g.own)) (for g.own (from (M m))) (run_for p n (M m)) own g.shown);
           runs_on = ap (λ (t : Delay). t.halted) own.at ∙ g.runs_on;
@@ -235,7 +254,7 @@ module _ (link : ℕ → ℕ) (p : Program) (small : (i : ℕ) → link i + 8 < 
         more = omega arith;
       }
 
-  stops_at : (m v u : ℕ) (a : At m v u) (n len place : ℕ) → a.c ≤ place → StopsAt link p small low code inside leader place_of (M m).state.index n len place (M m) → Final m u n len
+  stops_at : (m v u : ℕ) (a : At m v u) (n len place : ℕ) → a.c ≤ place → StopsAt setting (M m).state.index n len place (M m) → Final m u n len
   stops_at m v u a n len place l g =
       let low_v = a.low_v in
       let vu = a.v_u in
@@ -274,7 +293,7 @@ module _ (link : ℕ → ℕ) (p : Program) (small : (i : ℕ) → link i + 8 < 
   lead_of m v u a h = (⊎_elim (λ l. l) (λ e. absurd (omega arith)) a.lead.0, a.lead.1)
 
   -- the block at which the meaning is
-  abbrev block_at : (m v u : ℕ) (a : At m v u) → (M m).state.index < length p.statements → Placed link p small low code inside leader place_of len_of (M m).state.index
+  abbrev block_at : (m v u : ℕ) (a : At m v u) → (M m).state.index < length p.statements → Placed setting (M m).state.index
   block_at m v u a h = placed (M m).state.index (lead_of m v u a h).0 h
 
   abbrev size_at : (m v u : ℕ) (a : At m v u) → (M m).state.index < length p.statements → ℕ
@@ -299,12 +318,12 @@ module _ (link : ℕ → ℕ) (p : Program) (small : (i : ℕ) → link i + 8 < 
       let n = size_at m v u a h in
       let room : a.c ≤ length lay.parts.front = (let q = w.place in let k = l.1 in omega arith) in
       let safe : is_stuck (run_for p n (M m)).state.mark ≡ false = ap (λ (s : Run). is_stuck s.state.mark) (sym (run_add p m n r0)) ∙ r in
-      let k = length (inner_of link p small low code inside leader place_of i lay) in
-      let lead : CodesLead link p small low code inside leader place_of (run_for p k (M m)) = subst (λ (s : Run). CodesLead link p small low code inside leader place_of s) (run_add p m k r0) (codes (m + k)) in
+      let k = length (inner_of setting i lay) in
+      let lead : CodesLead setting (run_for p k (M m)) = subst (λ (s : Run). CodesLead setting s) (run_add p m k r0) (codes (m + k)) in
       ⊎_elim
       (λ g. inl (goes_on m v u a n (long_at m v u a h) (length lay.parts.front) lay.some room (sum_at m v u a h r) g))
       (λ g. inr (stops_at m v u a n (long_at m v u a h) (length lay.parts.front) room g))
-      (one_block link p small low code inside leader place_of i lay (M m) a.going refl safe w.end lead)
+      (one_block setting i lay (M m) a.going refl safe w.end lead)
 
   pub record Advanced (m v u : ℕ) : Type 0 where
     pub n : ℕ
@@ -367,7 +386,7 @@ module _ (link : ℕ → ℕ) (p : Program) (small : (i : ℕ) → link i + 8 < 
   D_more a b h = (grows a b h).bytes
 
   D_stays : (a b : ℕ) → a ≤ b → (D a).at.halted ≡ true → D b ≡ D a
-  D_stays a b h q = ap D (let e : b ≡ a + (b - a) = omega arith in e) ∙ D_add a (b - a) ∙ halted_for code inside p.place p.input (b - a) (D a) q
+  D_stays a b h q = ap D (let e : b ≡ a + (b - a) = omega arith in e) ∙ D_add a (b - a) ∙ halted_for machine (b - a) (D a) q
 
   pub M_stays : (a b : ℕ) → a ≤ b → is_going (M a).state.mark ≡ false → M b ≡ M a
   M_stays a b h q = ap M (let e : b ≡ a + (b - a) = omega arith in e) ∙ run_add p a (b - a) r0 ∙ stays_for p (b - a) (M a) q
@@ -557,7 +576,7 @@ module _ (link : ℕ → ℕ) (p : Program) (small : (i : ℕ) → link i + 8 < 
       record {
         low_sum = (let q = a.low_v in omega arith);
         high_sum = (let q = a.high in omega arith);
-        state = ap (λ n. (D n).at) (let e : sum_of_plans m ≡ s.u + a.c = omega arith in e) ∙ a.meets.at ∙ ap (λ (x : Watched). x.at) (for_same code inside p.place p.input a.c 0 (from (M m)) c0);
+        state = ap (λ n. (D n).at) (let e : sum_of_plans m ≡ s.u + a.c = omega arith in e) ∙ a.meets.at ∙ ap (λ (x : Watched). x.at) (for_same machine a.c 0 (from (M m)) c0);
       }
 
   plain_front : (k : ℕ) (insts : List Inst) → ArePlain insts → ArePlain (take k insts)
@@ -566,27 +585,27 @@ module _ (link : ℕ → ℕ) (p : Program) (small : (i : ℕ) → link i + 8 < 
   plain_front (suc k) (x ∷ insts) h = (h.0, plain_front k insts h.1)
 
   abbrev PlacedHere : ℕ → Type 0
-  PlacedHere = Placed link p small low code inside leader place_of len_of
+  PlacedHere = Placed setting
 
   abbrev starting : ℕ → Did → Watched
-  starting = beginning link p small low code inside leader place_of
+  starting = beginning setting
 
   -- the words before the terminator's place are taken one after another
   heads : (t : ℕ) (w : PlacedHere t) (d : Did) (k : ℕ) → k ≤ length w.lay.parts.front → (e : Did) × (for k (starting (link t) d) ≡ starting (link t + k) e)
   heads t w d k h =
       let lay = w.lay in
-      let front = front_of link p small low code inside leader place_of t lay in
+      let front = front_of setting t lay in
       let long : length front ≡ length lay.parts.front = pre_length lay.block lay.plan lay.insts p.input lay.laid lay.parts lay.some in
       let taken : length (take k front) ≡ k = length-take-le k front (omega arith) in
-      let st = stands_left code inside (link t) (take k front) (drop k front) (subst (Stands code inside (link t)) (sym (take-append-drop k front)) (front_stands link p small low code inside leader place_of t lay w.end)) in
-      let plain = plain_front k front (plain_pre lay.block lay.plan lay.insts p.input lay.laid lay.parts lay.some (all_plain link (short link p small low code inside leader place_of) p.statements t (inner_of link p small low code inside leader place_of t lay) lay.body)) in
+      let st = stands_left code inside (link t) (take k front) (drop k front) (subst (Stands code inside (link t)) (sym (take-append-drop k front)) (front_stands setting t lay w.end)) in
+      let plain = plain_front k front (plain_pre lay.block lay.plan lay.insts p.input lay.laid lay.parts lay.some (all_plain link p.statements t (inner_of setting t lay) lay.body)) in
       let whole : length (items_of lay.plan) ≡ length lay.parts.front + length lay.parts.back = ap length lay.parts.whole ∙ length-append lay.parts.front lay.parts.back in
       let sm = small (t + length (insts_of lay.block)) in
       let nx = lay.next in (
-        did_all code inside p.place p.input (link t) (take k front) d,
-        for_same code inside p.place p.input k (length (take k front)) (starting (link t) d) (sym taken)
-            ∙ goes code inside p.place p.input (take k front) (link t) d st plain (low t) (omega arith)
-            ∙ ap (λ n. starting (link t + n) (did_all code inside p.place p.input (link t) (take k front) d)) taken,
+        did_all machine (link t) (take k front) d,
+        for_same machine k (length (take k front)) (starting (link t) d) (sym taken)
+            ∙ goes machine (take k front) (link t) d st plain (low t) (omega arith)
+            ∙ ap (λ n. starting (link t + n) (did_all machine (link t) (take k front) d)) taken,
       )
 
   abbrev on_step : Watched → Watched
@@ -597,7 +616,7 @@ module _ (link : ℕ → ℕ) (p : Program) (small : (i : ℕ) → link i + 8 < 
   }
 
   abbrev step_of : Watched → Watched
-  step_of = watch code inside p.place p.input
+  step_of = once machine
 
   abbrev done_by : Watched → Delay
   done_by s = stepped p.place p.input (does code s.at.first) (decides (does code s.at.first) s.at.first.address s.at.core.regs) s.at
@@ -620,21 +639,21 @@ module _ (link : ℕ → ℕ) (p : Program) (small : (i : ℕ) → link i + 8 < 
       let lay = w.lay in
       let place = length lay.parts.front in
       let whole : length (items_of lay.plan) ≡ length lay.parts.front + length lay.parts.back = ap length lay.parts.whole ∙ length-append lay.parts.front lay.parts.back in
-      let three = back_short link p small low code inside leader place_of t lay w.end in
+      let three = back_short setting t lay w.end in
       ⊎_elim
       (λ (q : length lay.parts.front < k).
       let r = heads t w d (length lay.parts.front) (omega arith) in
       let b = link t + length lay.parts.front in
-      let one : for (length lay.parts.front + 1) (starting (link t) d) ≡ step_of (starting b r.0) = for_add code inside p.place p.input (length lay.parts.front) 1 (starting (link t) d) ∙ ap step_of r.1 in
+      let one : for (length lay.parts.front + 1) (starting (link t) d) ≡ step_of (starting b r.0) = for_add machine (length lay.parts.front) 1 (starting (link t) d) ∙ ap step_of r.1 in
       ⊎_elim
       (λ (x : length lay.parts.front + 1 < k).
       let k2 : k ≡ length lay.parts.front + 1 + 1 = omega arith in
-      let two : for k (starting (link t) d) ≡ step_of (step_of (starting b r.0)) = for_same code inside p.place p.input k (length lay.parts.front + 1 + 1) (starting (link t) d) k2 ∙ for_add code inside p.place p.input (length lay.parts.front + 1) 1 (starting (link t) d) ∙ ap step_of one in
+      let two : for k (starting (link t) d) ≡ step_of (step_of (starting b r.0)) = for_same machine k (length lay.parts.front + 1 + 1) (starting (link t) d) k2 ∙ for_add machine (length lay.parts.front + 1) 1 (starting (link t) d) ∙ ap step_of one in
       let going : (step_of (starting b r.0)).at.halted ≡ false = not_yet (step_of (starting b r.0)) (ap (λ (x : Watched). x.at.halted) (sym two) ∙ on) in
       ap (λ (x : Watched). x.at.first.address) two ∙ first_next (step_of (starting b r.0)) going ∙ second_next (starting b r.0) refl ∙ (let e : b + 2 ≡ link t + k = omega arith in e))
       (λ (x : k ≤ length lay.parts.front + 1).
       let k1 : k ≡ length lay.parts.front + 1 = omega arith in
-      ap (λ (x : Watched). x.at.first.address) (for_same code inside p.place p.input k (length lay.parts.front + 1) (starting (link t) d) k1 ∙ one) ∙ first_next (starting b r.0) refl ∙ (let e : b + 1 ≡ link t + k = omega arith in e))
+      ap (λ (x : Watched). x.at.first.address) (for_same machine k (length lay.parts.front + 1) (starting (link t) d) k1 ∙ one) ∙ first_next (starting b r.0) refl ∙ (let e : b + 1 ≡ link t + k = omega arith in e))
       (cases_lt (length lay.parts.front + 1) k))
       (λ (q : k ≤ length lay.parts.front). let r = heads t w d k q in ap (λ (x : Watched). x.at.first.address) r.1)
       (cases_lt (length lay.parts.front) k)
@@ -687,7 +706,7 @@ module _ (link : ℕ → ℕ) (p : Program) (small : (i : ℕ) → link i + 8 < 
         let k = d - u in
         let kept = reached m v u a k (omega arith) in
         let same : (D d).at ≡ (for k (from (M m))).at = ap (λ n. (D n).at) (let e : d ≡ u + k = omega arith in e) ∙ kept.at in
-        let there = first_at j w (did_of link p small low code inside leader place_of (M m)) k (omega arith) (sym (ap (λ (t : Delay). t.halted) same) ∙ on) in
+        let there = first_at j w (did_of setting (M m)) k (omega arith) (sym (ap (λ (t : Delay). t.halted) same) ∙ on) in
         let link_is : link i ≡ link j + k = sym here ∙ ap (λ (t : Delay). t.first.address) same ∙ there in
         let i_is : i ≡ j = only i j k i_leads i_in w (lead_of m v u a h).0 h (omega arith) link_is in
         let l_is : link i ≡ link j = ap link i_is in
