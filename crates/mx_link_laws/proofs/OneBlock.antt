@@ -31,7 +31,7 @@ use Rattle.mx_link_laws.proofs.Ends.{append_did, past_transfer, slots_taken, slo
 use Rattle.mx_link_laws.proofs.Matching.{core_of}
 use Rattle.mx_link_laws.proofs.Saying.{said, step_is, not_stuck_before, run_same, run_add, run_one_more, AreBody, all_plain, ran_at, BodyRun, body_run}
 use Rattle.mx_link_laws.proofs.Planned.{ran_of, all_ran, all_loaded, bodies, pre, last, bodies_length, pre_length, plain_body, plain_pre, size_ends, falls_run, words_are, ends_run, decides_there, apart_all, apart_pre, end_loaded}
-use Rattle.mx_link_laws.proofs.Setting.{Machine, Setting, machine_of, short}
+use Rattle.mx_link_laws.proofs.Setting.{Machine, PlannedBlock, Setting, machine_of, short}
 use Rattle.mx_link_laws.proofs.Going.{once}
 
 false_true : false ≡ true → ⊥
@@ -167,14 +167,10 @@ module _ (setting : Setting) where
 
   -- a block with a plan, and where it stands
   pub record Laid (i : ℕ) : Type 0 where
-    pub block : Block
-    pub plan : Plan
-    pub insts : List Inst
-    pub laid : IsLaidOut block plan insts p.input
-    pub parts : Parts block plan
-    pub some : 1 ≤ length (insts_of block)
+    pub planned : PlannedBlock p.input
+    pub open planned use *
     pub few : length (insts_of block) ≤ 64
-    pub body : AreBody link p.statements i (bodies block plan insts p.input laid parts some)
+    pub body : AreBody link p.statements i (bodies p.input planned)
     pub next : link (i + length (insts_of block)) ≡ link i + length (items_of plan)
     pub lead : Leads (i + length (insts_of block))
 
@@ -189,13 +185,13 @@ module _ (setting : Setting) where
     base = link i
 
     abbrev inner : List Inst
-    inner = bodies w.block w.plan w.insts p.input w.laid w.parts w.some
+    inner = bodies p.input w.planned
 
     abbrev front : List Inst
-    front = pre w.block w.plan w.insts p.input w.laid w.parts w.some
+    front = pre p.input w.planned
 
     abbrev ender : Inst
-    ender = last w.block w.plan w.insts p.input w.laid w.parts w.some
+    ender = last p.input w.planned
 
     abbrev all : List Inst
     all = words w.insts (items_of w.plan)
@@ -220,10 +216,10 @@ module _ (setting : Setting) where
     r2 = run_for p n r
 
     front_is : length front ≡ place
-    front_is = pre_length w.block w.plan w.insts p.input w.laid w.parts w.some
+    front_is = pre_length p.input w.planned
 
     inner_is : length inner ≡ body_count w.block
-    inner_is = bodies_length w.block w.plan w.insts p.input w.laid w.parts w.some
+    inner_is = bodies_length p.input w.planned
 
     len_parts : len ≡ place + length w.parts.back
     len_parts = ap length w.parts.whole ∙ length-append w.parts.front w.parts.back
@@ -242,16 +238,16 @@ module _ (setting : Setting) where
     inner_plain = all_plain link p.statements i inner w.body
 
     front_plain : ArePlain front
-    front_plain = plain_pre w.block w.plan w.insts p.input w.laid w.parts w.some inner_plain
+    front_plain = plain_pre p.input w.planned inner_plain
 
     did_is : (d : Did) (u : Run) (x : Ran) (l : Decision) → ran_of d l ≡ x → x.core ≡ core_of link u.state → x.bytes ≡ u.console → x.clean ≡ true → d.loaded ≡ 0 → d ≡ did_of u
     did_is d u x l e c b k m = did_same d (did_of u) (ap (λ (y : Ran). y.core) e ∙ c) (ap (λ (y : Ran). y.bytes) e ∙ b) (ap (λ (y : Ran). y.clean) e ∙ k) m
 
     all_made : ran_of (doing_all base all d0) (run_along p.place p.input base all R0).leads ≡ run_along p.place p.input base all R0
-    all_made = all_ran machine base all d0 nowhere (apart_all w.block w.plan w.insts p.input w.laid w.parts w.some)
+    all_made = all_ran machine base all d0 nowhere (apart_all p.input w.planned)
 
     all_free : (doing_all base all d0).loaded ≡ 0
-    all_free = all_loaded machine base all d0 ∙ end_loaded w.block w.plan w.insts p.input w.laid w.parts w.some
+    all_free = all_loaded machine base all d0 ∙ end_loaded p.input w.planned
 
     -- a block that falls through
     pub falls_on : falls w.block.end ≡ true → w.parts.back ≡ [] → StandsAt base all → GoesOn i n len place r
@@ -259,7 +255,7 @@ module _ (setting : Setting) where
         let size_is : n ≡ length inner = (let a = inner_is in let b = cond-true (falls w.block.end) (length (insts_of w.block)) (length (insts_of w.block) - 1) f in omega arith) in
         let run = body_done 0 (omega arith) in
         let to_size : r2 ≡ r1 = run_same p n (length inner) r size_is in
-        let whole = all_made ∙ falls_run w.block w.plan w.insts p.input w.laid w.parts w.some p.place base at R0 f none ∙ run.ran in
+        let whole = all_made ∙ falls_run p.input w.planned p.place base at R0 f none ∙ run.ran in
         let d_is : doing_all base all d0 ≡ did_of r2 = did_is (doing_all base all d0) r1 (ran_at link r1 true nowhere) (run_along p.place p.input base all R0).leads whole refl refl refl all_free ∙ ap did_of (sym to_size) in
         let no_items : length w.parts.back ≡ 0 = ap length none in
         let lp = len_parts in
@@ -298,10 +294,10 @@ module _ (setting : Setting) where
     pub stops : falls w.block.end ≡ false → w.parts.back ≡ Op (body_count w.block) ∷ [] → slice_get p.statements (i + length inner) ≡ Some Halt → ender ≡ HaltInst → StandsAt base all → StopsAt i n len place r
     stops f one stop is_halt_there st =
         let in_is = inner_is in
-        let size_is : n ≡ suc (length inner) = size_ends w.block w.plan w.insts p.input w.laid w.parts w.some f ∙ ap (λ m. suc m) (sym in_is) in
+        let size_is : n ≡ suc (length inner) = size_ends p.input w.planned f ∙ ap (λ m. suc m) (sym in_is) in
         let run = body_done 1 (omega arith) in
         let end_is : r2 ≡ said p (Some Halt) r1 = run_same p n (suc (length inner)) r size_is ∙ run_one_more p (length inner) r ∙ step_is p r1 (Some Halt) run.mark (ap (slice_get p.statements) run.index ∙ stop) in
-        let words_is : all ≡ front ++ HaltInst ∷ [] = words_are w.block w.plan w.insts p.input w.laid w.parts w.some [] one ∙ ap (λ j. front ++ j ∷ []) is_halt_there in
+        let words_is : all ≡ front ++ HaltInst ∷ [] = words_are p.input w.planned [] one ∙ ap (λ j. front ++ j ∷ []) is_halt_there in
         let st2 : StandsAt base (front ++ HaltInst ∷ []) = subst (StandsAt base) words_is st in
         let lp : len ≡ place + 1 = len_parts ∙ ap (λ l. place + length l) one in
         let fl = front_is in
@@ -312,7 +308,7 @@ module _ (setting : Setting) where
         let all_is : doing_all base all d0 ≡ doing at HaltInst (doing_all base front d0) = ap (λ l. doing_all base l d0) words_is ∙ append_did machine base front (HaltInst ∷ []) d0 in
         let whole : ran_of (doing_all base all d0) (run_along p.place p.input base all R0).leads ≡ run_one p.place p.input at HaltInst (ran_at link r1 true nowhere) =
         all_made
-        ∙ ends_run w.block w.plan w.insts p.input w.laid w.parts w.some p.place base R0 [] f one tt
+        ∙ ends_run p.input w.planned p.place base R0 [] f one tt
         ∙ ap (run_one p.place p.input at ender) run.ran
         ∙ ap (λ j. run_one p.place p.input at j (ran_at link r1 true nowhere)) is_halt_there in
         let to_place = for_same machine (length front + 1) (place + 1) (begins base d0) (ap (λ m. m + 1) fl) in
@@ -354,7 +350,7 @@ module _ (setting : Setting) where
       R1 = run_one p.place p.input at ender (ran_at link r1 true nowhere)
 
       size_is : n ≡ suc (length inner)
-      size_is = size_ends w.block w.plan w.insts p.input w.laid w.parts w.some f_not ∙ ap (λ m. suc m) (sym inner_is)
+      size_is = size_ends p.input w.planned f_not ∙ ap (λ m. suc m) (sym inner_is)
 
       pub run_b : BodyRun link p i at inner r true nowhere
       run_b = body_done 1 (let s = size_is in omega arith)
@@ -366,7 +362,7 @@ module _ (setting : Setting) where
       behind_it = let s = size_is in let e = run_b.index in omega arith
 
       all_are : all ≡ front ++ ender ∷ fw ∷ gw ∷ []
-      all_are = words_are w.block w.plan w.insts p.input w.laid w.parts w.some (f ∷ g ∷ []) three
+      all_are = words_are p.input w.planned (f ∷ g ∷ []) three
 
       did_are : doing_all base all d0 ≡ doing (at + 2) gw (doing (at + 1) fw D1)
       did_are =
@@ -375,13 +371,13 @@ module _ (setting : Setting) where
           ∙ ap (λ m. doing m gw (doing (at + 1) fw D1)) (let e : at + 1 + 1 ≡ at + 2 = omega arith in e)
 
       ran_end : run_along p.place p.input base all R0 ≡ R1
-      ran_end = ends_run w.block w.plan w.insts p.input w.laid w.parts w.some p.place base R0 (f ∷ g ∷ []) f_not three below ∙ ap (run_one p.place p.input at ender) run_b.ran
+      ran_end = ends_run p.input w.planned p.place base R0 (f ∷ g ∷ []) f_not three below ∙ ap (run_one p.place p.input at ender) run_b.ran
 
       -- the transfer decides in its place as at the end of the block
       pub decision : decides ender at D0.core.regs ≡ decides ender at (core_of link r1.state).regs
       decision =
-          ap (λ (y : Ran). decides ender at y.core.regs) (all_ran machine base front d0 nowhere (apart_pre w.block w.plan w.insts p.input w.laid w.parts w.some))
-          ∙ decides_there w.block w.plan w.insts p.input w.laid w.parts w.some p.place base R0
+          ap (λ (y : Ran). decides ender at y.core.regs) (all_ran machine base front d0 nowhere (apart_pre p.input w.planned))
+          ∙ decides_there p.input w.planned p.place base R0
           ∙ ap (λ (y : Ran). decides ender at y.core.regs) run_b.ran
 
       -- where the meaning lands after the block
@@ -416,7 +412,7 @@ module _ (setting : Setting) where
           omega arith
 
       item_plain : (x : Item) → AreBelow (body_count w.block) (x ∷ []) → IsPlain (item_inst w.insts x)
-      item_plain x h = plain_item w.insts (body_count w.block) x h (plain_body w.block w.plan w.insts p.input w.laid w.parts w.some inner_plain)
+      item_plain x h = plain_item w.insts (body_count w.block) x h (plain_body p.input w.planned inner_plain)
 
       plain_f : IsPlain fw
       plain_f = item_plain f (left_below (body_count w.block) f g below)

@@ -52,10 +52,10 @@ use Rattle.mx_link_laws.proofs.Codes.{place_leads, statement_fits}
 use Rattle.mx_link_laws.proofs.Sited.{body, there, inst_there, words_from, plain_word_at, end_word}
 use Rattle.mx_layout.proofs.Links.{site_found}
 use Rattle.mx_link_laws.proofs.Layouts.{place_in, goes, begins, end_low, setting}
-use Rattle.mx_link_laws.proofs.Slots.{never, Stood, linked_site, insts_at, laid_at, parts_stand, Slotted, x, y, filled_there, own_slots}
+use Rattle.mx_link_laws.proofs.Slots.{never, Stood, linked_site, insts_at, planned_at, parts_stand, Slotted, x, y, filled_there, own_slots}
 use Rattle.mx_link_laws.proofs.Transfers.{Lay, Kind, Branches, Calls, Transfers, EndOf, Falls, Stops, Moves, Jumps}
 use Rattle.mx_link_laws.proofs.Whole.{Placed}
-use Rattle.mx_link_laws.proofs.Setting.{Known}
+use Rattle.mx_link_laws.proofs.Setting.{Known, PlannedBlock}
 
 false_true : false ≡ true → ⊥
 false_true e = grind arith
@@ -177,14 +177,12 @@ module _ (known : Known) where
     abbrev back : List Item
     back = parts.back
 
+    abbrev planned : PlannedBlock p.input
+    planned = planned_at known s st parts
+
     abbrev lay : LayAt first
     lay = record {
-      block = s.block;
-      plan = s.plan;
-      insts = list;
-      laid = laid_at known s st;
-      parts = parts;
-      some = st.of.block.some;
+      planned = planned;
       few = few_statements source s.block st.of.block;
       body = body (linked_site known s st);
       next = next_is ∙ ap (λ a. a + plan_size s.plan) (sym st.of.start);
@@ -205,10 +203,10 @@ module _ (known : Known) where
     place_is = parts.place
 
     inner_is : length (take n list) ≡ n
-    inner_is = bodies_length s.block s.plan list _ (laid_at known s st) parts st.of.block.some
+    inner_is = bodies_length p.input planned
 
     last_is : falls s.block.end ≡ false → n ≡ final
-    last_is f = let e = size_ends s.block s.plan list _ (laid_at known s st) parts st.of.block.some f in let b = st.of.block.some in omega arith
+    last_is f = let e = size_ends p.input planned f in let b = st.of.block.some in omega arith
 
     -- the words from the terminator's place on
     abbrev tail_words : List Item → List Inst

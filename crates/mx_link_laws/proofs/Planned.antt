@@ -22,7 +22,7 @@ use Rattle.mx_order.proofs.Order.{same_length, keeps_effect}
 use Rattle.mx_order.proofs.Split.{body_within, run_source_append, decides_alike, body_stays}
 use Rattle.mx_order.proofs.Words.{item_inst, words, run_words, run_along, AllStay, run_along_stays, run_along_once, words_stay, AreApart, last_loaded, words_apart, words_end}
 use Rattle.mx_link_laws.proofs.Going.{Did, IsPlain, ArePlain, idle_plain, did, did_all}
-use Rattle.mx_link_laws.proofs.Setting.{Machine}
+use Rattle.mx_link_laws.proofs.Setting.{Machine, PlannedBlock}
 
 pub apart_left : (l : ℕ) (is js : List Inst) → AreApart l (is ++ js) → AreApart l is
 apart_left l [] js h = tt
@@ -67,7 +67,9 @@ module _ (machine : Machine) where
   all_loaded a [] d = refl
   all_loaded a (i ∷ insts) d = all_loaded (a + 1) insts (did machine a i d)
 
-module _ (block : Block) (plan : Plan) (insts : List Inst) (input : Option (List ℕ)) (laid : IsLaidOut block plan insts input) (parts : Parts block plan) (some : 1 ≤ length (insts_of block)) where
+module _ (input : Option (List ℕ)) (planned : PlannedBlock input) where
+  open planned use {block, plan, insts, laid, parts, some}
+
   abbrev pub body : ℕ
   body = body_count block
 

@@ -1,16 +1,22 @@
 -- The setting of the laws on words, blocks and runs, over variables: what stands where, and which statement has which address.
 -- `Machine` is what a step of linked code depends on. `Setting` adds the program, the address of each of its statements, which
 -- of them are leaders, and of the block that begins at a leader how many words its plan has and how many others may copy.
-use Rattle.std.proofs.Common.{◌≡◌, ◌⊎◌, ℕ, ◌+◌, ◌^◌, ◌<◌, ◌≤◌, Bool, false, List, Option, None, arith}
+use Rattle.std.proofs.Common.{◌≡◌, ◌⊎◌, ℕ, ◌+◌, ◌^◌, ◌<◌, ◌≤◌, Bool, false, List, length, Option, None, arith}
 use Rattle.mx_isa.specs.declared.place.Place.{Place}
+use Rattle.mx_isa.specs.declared.inst.Inst.{Inst}
 use Rattle.mx_code.specs.Delay.{Code}
 use Rattle.mx_source.specs.SourceValue.{SourceValue, IsSource}
 use Rattle.mx_source.specs.Meaning.{Program}
 use Rattle.mx_blocks.specs.Leaders.{IsBlockOf}
+use Rattle.mx_blocks.specs.declared.block.Block.{Block}
+use Rattle.mx_blocks.specs.declared.block.Plan.{Plan}
+use Rattle.mx_validate.specs.Padded.{insts_of}
 use Rattle.mx_validate.specs.Validity.{Valid}
 use Rattle.mx_squash.specs.declared.copying.Copied.{Copied}
 use Rattle.mx_squash.specs.Copies.{Site, site_of, is_target, copied}
 use Rattle.mx_link.proofs.Linkable.{Goes}
+use Rattle.mx_order.specs.Laws.{IsLaidOut}
+use Rattle.mx_order.specs.Parts.{Parts}
 use Rattle.mx_link_laws.specs.Runs.{Linking, IsLaid}
 
 -- what fills the slots of a site
@@ -57,6 +63,15 @@ pub record Known : Type 0 where
   pub laid : IsLaid linking.source linking.place linking.sites
   pub bare : Bool
   pub fills : (s : Site) → FillsSo linking bare s
+
+-- a block with instructions and a plan, by the plan's parts
+pub record PlannedBlock (input : Option (List ℕ)) : Type 0 where
+  pub block : Block
+  pub plan : Plan
+  pub insts : List Inst
+  pub laid : IsLaidOut block plan insts input
+  pub parts : Parts block plan
+  pub some : 1 ≤ length (insts_of block)
 
 pub short : (s : Setting) (i : ℕ) → s.link i < 2 ^ 32
 short s i = let small = s.small i in omega arith

@@ -44,7 +44,7 @@ use Rattle.mx_link_laws.proofs.OneBlock.{Head, Filled, Own, InSecond, InFirst, I
 use Rattle.mx_link_laws.proofs.Sited.{insts, laid, body, there, inst_there, linked_anywhere, goes_on, body_word, words_from, words_append, front_words}
 use Rattle.mx_link_laws.proofs.Layouts.{place_in, Goal, goal_is, goes, Standing, standing, setting}
 use Rattle.mx_layout.proofs.Links.{site_found}
-use Rattle.mx_link_laws.proofs.Setting.{Known, LinkedSite}
+use Rattle.mx_link_laws.proofs.Setting.{Known, LinkedSite, PlannedBlock}
 
 false_true : false ≡ true → ⊥
 false_true e = grind arith
@@ -111,6 +111,9 @@ module _ (known : Known) where
   abbrev pub laid_at : (s : Site) (st : Stood s) → IsLaidOut s.block s.plan (insts_at s st) p.input
   laid_at s st = laid (linked_site s st) bytes
 
+  abbrev pub planned_at : (s : Site) (st : Stood s) → Parts s.block s.plan → PlannedBlock p.input
+  planned_at s st parts = record { block = s.block; plan = s.plan; insts = insts_at s st; laid = laid_at s st; parts = parts; some = st.of.block.some }
+
   -- the words of a site stand as those of its parts
   pub parts_stand : (s : Site) (st : Stood s) (parts : Parts s.block s.plan) → Stands cd ins s.start (words (insts_at s st) parts.front ++ words_from (linked_site s st) (length parts.front) parts.back)
   parts_stand s st parts =
@@ -130,7 +133,7 @@ module _ (known : Known) where
   pub body_plain : (s : Site) (st : Stood s) (parts : Parts s.block s.plan) (k : ℕ) → k < body_count s.block → IsPlain (inst_number (insts_at s st) k)
   body_plain s st parts k l =
       let g = goes known s st.of in
-      plain_body s.block s.plan (insts_at s st) p.input (laid_at s st) parts st.of.block.some
+      plain_body p.input (planned_at s st parts)
       (all_plain lk source.statements s.block.first (take (body_count s.block) (insts_at s st)) (body (linked_site s st))) k l
 
   pub item_plain : (s : Site) (st : Stood s) (parts : Parts s.block s.plan) (x : Item) → AreBelow (body_count s.block) (x ∷ []) → IsPlain (item_inst (insts_at s st) x)

@@ -62,13 +62,13 @@ module _ (setting : Setting) where
   Filling t count sq sure insts f g x y = Filled setting t count sq sure insts f g x y
 
   abbrev pub inner_of : (i : ℕ) → Lay i → List Inst
-  inner_of i w = bodies w.block w.plan w.insts p.input w.laid w.parts w.some
+  inner_of i w = bodies p.input w.planned
 
   abbrev pub front_of : (i : ℕ) → Lay i → List Inst
-  front_of i w = pre w.block w.plan w.insts p.input w.laid w.parts w.some
+  front_of i w = pre p.input w.planned
 
   abbrev pub ender_of : (i : ℕ) → Lay i → Inst
-  ender_of i w = last w.block w.plan w.insts p.input w.laid w.parts w.some
+  ender_of i w = last p.input w.planned
 
   -- the statement behind the body
   abbrev pub end_statement : (i : ℕ) → Lay i → Option Statement

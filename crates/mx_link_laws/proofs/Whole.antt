@@ -119,7 +119,7 @@ module _ (setting : Setting) (begun : Begun setting) where
       let lay = w.lay in
       let i = (M m).state.index in
       let inner = inner_of setting i lay in
-      let is_inner : length inner ≡ body_count lay.block = bodies_length lay.block lay.plan lay.insts p.input lay.laid lay.parts lay.some in
+      let is_inner : length inner ≡ body_count lay.block = bodies_length p.input lay.planned in
       let most = body_most lay.block lay.some in
       let long : length (take t inner) ≡ t = length-take-le t inner (omega arith) in
       let run = body_run link p (short setting) i 0 (take t inner) (M m) true nowhere g refl (body_prefix i t inner lay.body)
@@ -595,10 +595,10 @@ module _ (setting : Setting) (begun : Begun setting) where
   heads t w d k h =
       let lay = w.lay in
       let front = front_of setting t lay in
-      let long : length front ≡ length lay.parts.front = pre_length lay.block lay.plan lay.insts p.input lay.laid lay.parts lay.some in
+      let long : length front ≡ length lay.parts.front = pre_length p.input lay.planned in
       let taken : length (take k front) ≡ k = length-take-le k front (omega arith) in
       let st = stands_left code inside (link t) (take k front) (drop k front) (subst (Stands code inside (link t)) (sym (take-append-drop k front)) (front_stands setting t lay w.end)) in
-      let plain = plain_front k front (plain_pre lay.block lay.plan lay.insts p.input lay.laid lay.parts lay.some (all_plain link p.statements t (inner_of setting t lay) lay.body)) in
+      let plain = plain_front k front (plain_pre p.input lay.planned (all_plain link p.statements t (inner_of setting t lay) lay.body)) in
       let whole : length (items_of lay.plan) ≡ length lay.parts.front + length lay.parts.back = ap length lay.parts.whole ∙ length-append lay.parts.front lay.parts.back in
       let sm = small (t + length (insts_of lay.block)) in
       let nx = lay.next in (
