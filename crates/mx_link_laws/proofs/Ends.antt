@@ -1,15 +1,14 @@
 -- How the words of a block run, by its end and what stands in its slots.
-use Rattle.std.proofs.Common.{◌≡◌, ℕ, ◌+◌, ◌^◌, ◌<◌, ◌≤◌, Bool, true, false, leb, not, ◌&&◌, List, [], ◌∷◌, ◌++◌, length, Option, refl, sym, ap, ◌∙◌, subst, arith, inl, inr}
+use Rattle.std.proofs.Common.{◌≡◌, ℕ, ◌+◌, ◌^◌, ◌<◌, ◌≤◌, Bool, true, false, leb, not, ◌&&◌, List, [], ◌∷◌, ◌++◌, length, refl, sym, ap, ◌∙◌, subst, arith, inl, inr}
 use Rattle.std.proofs.lemmas.Bool.{and_parts}
 use Rattle.std.proofs.lemmas.Bool.Decides.{nat_tests}
 use Rattle.std.proofs.lemmas.List.{append-nil}
 use Rattle.mx_isa.specs.declared.inst.Inst.{Inst}
 use Rattle.mx_isa.specs.declared.inst.Inst.TheVariants.{Halt}
-use Rattle.mx_isa.specs.declared.place.Place.{Place}
 use Rattle.mx_isa.specs.Effect.{Core, Decision, decides, goes_on}
 use Rattle.mx_isa.specs.Views.{reads, access, is_halt}
-use Rattle.mx_code.specs.Delay.{Code, idle, Queued, queued, squash, next_of, stepped}
-use Rattle.mx_code.specs.Clean.{is_lawful, loads_to, Watched, watch}
+use Rattle.mx_code.specs.Delay.{idle, Queued, queued, squash, next_of, stepped}
+use Rattle.mx_code.specs.Clean.{is_lawful, loads_to, Watched}
 use Rattle.mx_link_laws.proofs.Going.{Did, IsPlain, ArePlain, Stands, stands_left, stands_right, still_inside, did, did_all, did_anywhere, queue, starts, for, for_add, word, plain_word, cancelled, goes, Keeps}
 use Rattle.mx_link_laws.proofs.Setting.{Machine}
 use Rattle.mx_link_laws.proofs.Going.{once}

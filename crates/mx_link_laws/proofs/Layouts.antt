@@ -1,15 +1,13 @@
 -- A layout whose branches reach their targets: its links, and where its transfers go.
-use Rattle.std.proofs.Common.{◌≡◌, ℕ, ◌+◌, ◌*◌, ◌^◌, ◌<◌, ◌≤◌, Bool, true, false, eqb, List, length, All, Option, Some, None, slice_index_or, refl, sym, ap, ◌∙◌, subst, arith, ◌⊎◌, ⊎_elim}
+use Rattle.std.proofs.Common.{◌≡◌, ℕ, ◌+◌, ◌^◌, ◌<◌, ◌≤◌, Bool, true, false, eqb, List, length, All, Option, Some, None, slice_index_or, refl, sym, ap, ◌∙◌, subst, arith, ⊎_elim}
 use Rattle.std.specs.Prelude.{slice_get}
 use Rattle.std.proofs.lemmas.Bool.Decides.{nat_tests}
-use Rattle.mx_isa.specs.declared.place.Place.{Place}
 use Rattle.mx_isa.specs.declared.inst.Inst.{Inst}
 use Rattle.mx_code.specs.Codes.{HasRegisters}
 use Rattle.mx_code.specs.Decoding.{inst_of}
 use Rattle.mx_code.specs.Delay.{Code, code_from}
 use Rattle.mx_code.specs.Clean.{is_inside}
 use Rattle.mx_source.specs.declared.statement.Statement.{Statement}
-use Rattle.mx_source.specs.SourceValue.{SourceValue, IsSource}
 use Rattle.mx_blocks.specs.declared.block.Block.{Block}
 use Rattle.mx_blocks.specs.declared.block.End.{End}
 use Rattle.mx_blocks.specs.declared.block.End.TheVariants.{Branches, Calls}
@@ -18,13 +16,13 @@ use Rattle.mx_blocks.specs.Leaders.{inst_of as statement_inst}
 use Rattle.mx_validate.specs.Validity.{Valid}
 use Rattle.mx_squash.specs.declared.copying.Copied.{Copied}
 use Rattle.mx_squash.specs.Copies.{Site, site_of, is_target, is_branch_end, reaches, no_copies, copied, count}
-use Rattle.mx_layout.specs.Layout.{IsLayout, link_of, plan_size, blocks_in}
+use Rattle.mx_layout.specs.Layout.{link_of, plan_size, blocks_in}
 use Rattle.mx_layout.specs.Layout.{end_of as end_at}
-use Rattle.mx_layout.specs.Overlong.{overlong, branch_target}
+use Rattle.mx_layout.specs.Overlong.{branch_target}
 use Rattle.mx_layout.proofs.Links.{first_link, site_blocks, site_found, link_within, leader_site}
 use Rattle.mx_layout.proofs.Reach.{layout_reaches}
 use Rattle.mx_layout.proofs.Sizes.{end_short, covered}
-use Rattle.mx_link.specs.Origins.{Filling, goal_of}
+use Rattle.mx_link.specs.Origins.{goal_of}
 use Rattle.mx_link.specs.Words.{code_of}
 use Rattle.mx_link.proofs.Places.{sites_below}
 use Rattle.mx_link.proofs.Bodies.{copy_goes_on}

@@ -9,21 +9,18 @@ use Rattle.mx_isa.specs.declared.inst.Inst.TheVariants.{Load, Store}
 use Rattle.mx_isa.specs.declared.inst.Inst.TheVariants.{Halt as HaltInst}
 use Rattle.mx_isa.specs.Effect.{Decision, decides}
 use Rattle.mx_isa.specs.Views.{Access, access, is_load, is_halt, is_transfer, dest, reads}
-use Rattle.mx_code.specs.Delay.{Code, idle, queued, next_of}
-use Rattle.mx_code.specs.Clean.{is_lawful, Watched, watch, loads_to}
+use Rattle.mx_code.specs.Delay.{idle, queued, next_of}
+use Rattle.mx_code.specs.Clean.{is_lawful, Watched, loads_to}
 use Rattle.mx_depend.specs.Graphs.{inst_at}
 use Rattle.mx_source.specs.declared.statement.Statement.TheVariants.{Halt}
-use Rattle.mx_source.specs.Meaning.{Program, Going, Halted, Run, run_step, run_for, is_stuck}
-use Rattle.mx_blocks.specs.declared.block.Block.{Block}
-use Rattle.mx_blocks.specs.declared.block.Plan.{Plan}
+use Rattle.mx_source.specs.Meaning.{Going, Halted, Run, run_step, run_for, is_stuck}
 use Rattle.mx_blocks.specs.declared.block.Item.{Item}
 use Rattle.mx_blocks.specs.declared.block.Item.TheVariants.{Op, Nop}
 use Rattle.mx_blocks.specs.Items.{ops}
 use Rattle.mx_validate.specs.Padded.{insts_of, items_of, falls, body_count}
 use Rattle.mx_validate.proofs.Listed.{ops_append}
 use Rattle.mx_order.specs.Running.{Ran, run_one}
-use Rattle.mx_order.specs.Laws.{IsLaidOut}
-use Rattle.mx_order.specs.Parts.{AreBelow, Parts}
+use Rattle.mx_order.specs.Parts.{AreBelow}
 use Rattle.mx_order.proofs.Reorder.{once_length}
 use Rattle.mx_order.proofs.Words.{item_inst, words, run_along}
 use Rattle.mx_link_laws.proofs.Going.{Did, IsPlain, ArePlain, idle_plain, Stands, stands_left, did_same, did, did_all, did_anywhere, queue, starts, for, for_same, for_add, plain_word, goes, Keeps, keeps_self, keeps_then}

@@ -1,5 +1,5 @@
 -- Each block of a layout, with what it ends with, as it is linked.
-use Rattle.std.proofs.Common.{◌≡◌, ℕ, pos, negsuc, zero, suc, ◌+◌, ◌*◌, ◌-◌, ◌%◌, ◌^◌, ◌<◌, ◌≤◌, Bool, true, false, cond, eqb, leb, not, ◌&&◌, ◌||◌, List, [], ◌∷◌, ◌++◌, length, take, All, Option, Some, None, slice_index_or, refl, sym, ap, ◌∙◌, subst, arith, inl}
+use Rattle.std.proofs.Common.{◌≡◌, ℕ, pos, negsuc, zero, suc, ◌+◌, ◌-◌, ◌%◌, ◌^◌, ◌<◌, ◌≤◌, Bool, true, false, cond, eqb, leb, not, ◌&&◌, ◌||◌, List, [], ◌∷◌, ◌++◌, length, take, All, Option, Some, None, slice_index_or, refl, sym, ap, ◌∙◌, subst, arith, inl}
 use Rattle.std.specs.Prelude.{slice_get}
 use Rattle.std.specs.Int.{w32, cast_unsigned}
 use Rattle.std.specs.Option.{option_map}
@@ -7,7 +7,6 @@ use Rattle.std.proofs.lemmas.Bool.{and_parts, eqb-true}
 use Rattle.std.proofs.lemmas.Bool.Decides.{nat_tests}
 use Rattle.std.proofs.lemmas.List.{length-map, map-append}
 use Rattle.std.proofs.lemmas.Option.{same_Some, none-some}
-use Rattle.mx_isa.specs.declared.place.Place.{Place}
 use Rattle.mx_isa.specs.declared.inst.Cond.{Cond}
 use Rattle.mx_isa.specs.declared.inst.Cond.TheVariants.{Eq}
 use Rattle.mx_isa.specs.declared.inst.Inst.{Inst}
@@ -15,13 +14,12 @@ use Rattle.mx_isa.specs.declared.inst.Inst.TheVariants.{Jspci}
 use Rattle.mx_isa.specs.declared.inst.Inst.TheVariants.{Branch as BranchInst}
 use Rattle.mx_isa.specs.Words.{Words, reg}
 use Rattle.mx_isa.specs.Arithmetic.{condition_holds}
-use Rattle.mx_code.specs.Codes.{HasRegisters}
 use Rattle.mx_depend.specs.Graphs.{inst_at as inst_number}
 use Rattle.mx_source.specs.declared.statement.Statement.{Statement}
 use Rattle.mx_source.specs.declared.statement.Statement.TheVariants.{Plain, LaCode, Branch, Call, CallReg, JumpReg, Halt}
 use Rattle.mx_source.specs.Labels.{is_labelled, IsPlace}
 use Rattle.mx_source.specs.Statements.{StatementFits}
-use Rattle.mx_source.specs.SourceValue.{SourceValue, IsSource}
+use Rattle.mx_source.specs.SourceValue.{SourceValue}
 use Rattle.mx_source.specs.Values.{value_in}
 use Rattle.mx_source.specs.Meaning.{State, jumps, execute}
 use Rattle.mx_blocks.specs.declared.block.Block.{Block}
@@ -29,15 +27,12 @@ use Rattle.mx_blocks.specs.declared.block.Item.{Item}
 use Rattle.mx_blocks.specs.declared.block.Item.TheVariants.{Op, Nop}
 use Rattle.mx_blocks.specs.declared.block.End.TheVariants.{Falls as FallsEnd, Jumps as JumpsEnd}
 use Rattle.mx_blocks.specs.Leaders.{ends_there, gap, is_leader, end_of, size, IsBlockOf, BlocksFrom}
-use Rattle.mx_blocks.specs.Leaders.{inst_of as statement_inst}
 use Rattle.mx_blocks.proofs.Splits.{gap_small}
 use Rattle.mx_validate.specs.Padded.{items_of, falls, body_count}
-use Rattle.mx_validate.specs.Validity.{Valid}
 use Rattle.mx_squash.specs.declared.copying.Copied.{Copied}
 use Rattle.mx_squash.specs.Copies.{Site, site_of, is_target, may_stay, always_goes, terminator, is_branch_end}
-use Rattle.mx_layout.specs.Layout.{IsLayout, link_of, plan_size, StandFrom, blocks_in, has_statement}
-use Rattle.mx_layout.specs.Overlong.{overlong}
-use Rattle.mx_link.specs.Origins.{Filling, own, goal_of}
+use Rattle.mx_layout.specs.Layout.{link_of, plan_size, StandFrom, blocks_in, has_statement}
+use Rattle.mx_link.specs.Origins.{own, goal_of}
 use Rattle.mx_link.specs.Words.{displacement, linked_inst, inst_at}
 use Rattle.mx_link.specs.Parts.{origin_at}
 use Rattle.mx_link.proofs.Bodies.{inst_is}

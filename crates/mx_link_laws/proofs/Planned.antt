@@ -10,14 +10,11 @@ use Rattle.mx_isa.specs.Effect.{Decision, decides}
 use Rattle.mx_isa.specs.Views.{reads, access, is_transfer}
 use Rattle.mx_code.specs.Clean.{is_lawful, loads_to}
 use Rattle.mx_depend.specs.Graphs.{inst_at}
-use Rattle.mx_blocks.specs.declared.block.Block.{Block}
-use Rattle.mx_blocks.specs.declared.block.Plan.{Plan}
 use Rattle.mx_blocks.specs.declared.block.Item.{Item}
 use Rattle.mx_blocks.specs.declared.block.Item.TheVariants.{Op, Nop}
 use Rattle.mx_validate.specs.Padded.{insts_of, items_of, falls, body_count}
 use Rattle.mx_order.specs.Running.{Ran, run_one, run_source}
-use Rattle.mx_order.specs.Laws.{IsLaidOut}
-use Rattle.mx_order.specs.Parts.{AreBelow, Parts}
+use Rattle.mx_order.specs.Parts.{AreBelow}
 use Rattle.mx_order.proofs.Order.{same_length, keeps_effect}
 use Rattle.mx_order.proofs.Split.{body_within, run_source_append, decides_alike, body_stays}
 use Rattle.mx_order.proofs.Words.{item_inst, words, run_words, run_along, AllStay, run_along_stays, run_along_once, words_stay, AreApart, last_loaded, words_apart, words_end}

@@ -1,23 +1,19 @@
 -- The laws of linked code.
-use Rattle.std.proofs.Common.{◌≡◌, ℕ, zero, suc, ◌+◌, ◌*◌, ◌-◌, ◌^◌, ◌<◌, ◌≤◌, Bool, true, false, cond, leb, not, ◌&&◌, List, [], ◌∷◌, length, map, Option, Some, refl, sym, ap, ◌∙◌, subst, arith, ⊎_elim, inl, inr, ltb}
-use Rattle.std.specs.Prelude.{slice_get, slice_index, slice_index_or}
+use Rattle.std.proofs.Common.{◌≡◌, ℕ, zero, suc, ◌+◌, ◌*◌, ◌-◌, ◌<◌, ◌≤◌, Bool, true, false, cond, leb, not, ◌&&◌, List, [], ◌∷◌, length, map, Option, refl, sym, ap, ◌∙◌, subst, arith, ⊎_elim, inl, inr, ltb}
+use Rattle.std.specs.Prelude.{slice_index, slice_index_or}
 use Rattle.std.proofs.lemmas.Bool.{cond-true, cond-false, cases_lt}
 use Rattle.std.proofs.lemmas.Bool.Decides.{nat_tests}
-use Rattle.std.proofs.lemmas.Option.{slice_get_within, get_or_from_slice_get}
 use Rattle.mx_isa.specs.declared.place.Place.{Place}
 use Rattle.mx_isa.specs.Effect.{Core, decides}
 use Rattle.mx_isa.specs.Views.{reads}
 use Rattle.mx_isa.proofs.Frame.{same_words}
-use Rattle.mx_code.specs.Codes.{HasRegisters}
 use Rattle.mx_code.specs.Delay.{Code, does, data_from, Delay, stepped, delay_step, delay_for}
 use Rattle.mx_code.specs.Clean.{is_clean_step, loads_to, Watched, watch, watch_start, watch_for}
-use Rattle.mx_source.specs.declared.statement.Statement.{Statement}
 use Rattle.mx_source.specs.declared.statement.Value.{Value}
 use Rattle.mx_source.specs.declared.statement.Value.TheVariants.{Int}
 use Rattle.mx_source.specs.SourceValue.{SourceValue}
-use Rattle.mx_source.specs.Meaning.{Program, program, Mark, Going, Halted, Stuck, Run, start, start_words, run_for, given}
+use Rattle.mx_source.specs.Meaning.{Mark, Going, Halted, Stuck, Run, start, start_words, given}
 use Rattle.mx_blocks.specs.Leaders.{is_leader, size, BlocksFrom}
-use Rattle.mx_blocks.specs.Leaders.{inst_of as statement_inst}
 use Rattle.mx_squash.specs.Copies.{Site}
 use Rattle.mx_layout.specs.Layout.{link_of, plan_size, blocks_in, has_statement}
 use Rattle.mx_validate.specs.Padded.{insts_of, items_of}

@@ -1,5 +1,5 @@
 -- The instructions of a block as it is linked, and the words of its site.
-use Rattle.std.proofs.Common.{◌≡◌, ℕ, suc, ◌+◌, ◌^◌, ◌<◌, ◌≤◌, Bool, true, false, cond, eqb, List, [], ◌∷◌, ◌++◌, length, map, take, All, Option, Some, None, slice_index_or, refl, sym, ap, ◌∙◌, subst, arith}
+use Rattle.std.proofs.Common.{◌≡◌, ℕ, suc, ◌+◌, ◌<◌, ◌≤◌, Bool, true, false, cond, eqb, List, [], ◌∷◌, ◌++◌, length, map, take, All, Option, Some, None, slice_index_or, refl, sym, ap, ◌∙◌, subst, arith}
 use Rattle.std.specs.Prelude.{slice_get, slice_range, is_some}
 use Rattle.std.specs.Option.{option_map}
 use Rattle.std.proofs.lemmas.Bool.Decides.{nat_tests}
@@ -13,15 +13,13 @@ use Rattle.mx_source.specs.declared.statement.Statement.{Statement}
 use Rattle.mx_source.specs.declared.statement.Statement.TheVariants.{Plain, LaCode, Branch, Call, CallReg, JumpReg, Halt}
 use Rattle.mx_source.specs.Labels.{IsPlace}
 use Rattle.mx_source.specs.Statements.{StatementFits}
-use Rattle.mx_source.specs.SourceValue.{SourceValue, IsSource}
 use Rattle.mx_source.specs.Meaning.{given}
 use Rattle.mx_blocks.specs.declared.block.Item.{Item}
 use Rattle.mx_blocks.specs.declared.block.Item.TheVariants.{Op, Nop}
 use Rattle.mx_blocks.specs.Ends.{is_last}
-use Rattle.mx_blocks.specs.Leaders.{inst_of, end_of, size, IsBlockOf}
+use Rattle.mx_blocks.specs.Leaders.{inst_of, end_of, size}
 use Rattle.mx_blocks.proofs.Splits.{get_range, range_length}
 use Rattle.mx_validate.specs.Padded.{insts_of, body_count}
-use Rattle.mx_validate.specs.Validity.{Valid}
 use Rattle.mx_squash.specs.declared.copying.Copied.{Copied}
 use Rattle.mx_squash.specs.Copies.{Site}
 use Rattle.mx_link.specs.declared.linked.Origin.{Origin}
@@ -30,7 +28,6 @@ use Rattle.mx_link.specs.Words.{linked_inst, linked_statement, inst_at, insts_fr
 use Rattle.mx_link.specs.Parts.{origin_at}
 use Rattle.mx_link.proofs.Bodies.{inst_is, is_last_of}
 use Rattle.mx_link.proofs.Fits.{inst_fits}
-use Rattle.mx_link.proofs.Linkable.{Goes}
 use Rattle.mx_order.specs.Laws.{unplaced, IsLaidOut}
 use Rattle.mx_order.specs.Parts.{AreBelow}
 use Rattle.mx_order.proofs.Split.{body_within, body_goes_on}

@@ -1,36 +1,27 @@
 -- What stands in the slots of a site's transfer: its own items, or the first words of its target.
-use Rattle.std.proofs.Common.{◌≡◌, ◌≢◌, ℕ, zero, suc, ◌+◌, ◌*◌, ◌^◌, ◌<◌, ◌≤◌, Bool, true, false, cond, eqb, ltb, not, ◌&&◌, ◌||◌, List, [], ◌∷◌, ◌++◌, ◌⊎◌, length, Option, Some, None, slice_index_or, take, min, refl, sym, ap, ◌∙◌, subst, arith, ⊎_elim, inl, inr}
+use Rattle.std.proofs.Common.{◌≡◌, ◌≢◌, ℕ, zero, suc, ◌+◌, ◌<◌, ◌≤◌, Bool, true, false, cond, eqb, ltb, not, ◌&&◌, ◌||◌, List, [], ◌∷◌, ◌++◌, ◌⊎◌, length, Option, Some, None, slice_index_or, take, min, refl, sym, ap, ◌∙◌, subst, arith, ⊎_elim, inl, inr}
 use Rattle.std.specs.Prelude.{slice_get}
 use Rattle.std.proofs.lemmas.Bool.{cases_eq, and_parts, cond-true, cond-false}
 use Rattle.std.proofs.lemmas.Bool.Decides.{nat_tests}
 use Rattle.std.proofs.lemmas.Option.{get_or_from_slice_get, slice_get-get_or}
-use Rattle.mx_isa.specs.declared.place.Place.{Place}
 use Rattle.mx_isa.specs.declared.inst.Inst.{Inst}
 use Rattle.mx_isa.specs.declared.inst.Inst.TheVariants.{Halt as HaltInst}
 use Rattle.mx_isa.specs.Views.{is_load, dest, reads}
-use Rattle.mx_code.specs.Codes.{HasRegisters}
 use Rattle.mx_code.specs.Delay.{Code}
 use Rattle.mx_code.specs.Clean.{loads_to}
 use Rattle.mx_depend.specs.Independence.{feeds}
 use Rattle.mx_depend.specs.Graphs.{inst_at as inst_number}
-use Rattle.mx_source.specs.declared.statement.Statement.{Statement}
-use Rattle.mx_source.specs.SourceValue.{SourceValue, IsSource}
-use Rattle.mx_source.specs.Meaning.{Program, program}
 use Rattle.mx_blocks.specs.declared.block.Plan.{Plan}
 use Rattle.mx_blocks.specs.declared.block.Item.{Item}
 use Rattle.mx_blocks.specs.declared.block.Item.TheVariants.{Op, Nop}
 use Rattle.mx_blocks.specs.declared.block.End.{End}
 use Rattle.mx_blocks.specs.declared.block.End.TheVariants.{Branches, Calls}
 use Rattle.mx_blocks.specs.Leaders.{size, is_leader}
-use Rattle.mx_blocks.specs.Leaders.{inst_of as statement_inst}
 use Rattle.mx_validate.specs.Padded.{insts_of, items_of, body_count}
-use Rattle.mx_validate.specs.Validity.{Valid}
 use Rattle.mx_squash.specs.declared.copying.Copied.{Copied}
 use Rattle.mx_squash.specs.Copies.{Site, site_of, is_target, no_copies, copied, count, room, room_for, slot, is_nop, may_stay, may_copy, copyable, is_op, item_at, filled, is_branch_end, most, is_too_far, is_fed, is_hazard, feeds_any, always_goes, terminator}
 use Rattle.mx_squash.specs.Copies.{item_inst as block_item}
-use Rattle.mx_layout.specs.Layout.{IsLayout, link_of, blocks_in}
-use Rattle.mx_layout.specs.Overlong.{overlong}
-use Rattle.mx_link.specs.Origins.{Filling, own, over, copied_to, goal_of, origins_at}
+use Rattle.mx_link.specs.Origins.{own, over, copied_to, goal_of, origins_at}
 use Rattle.mx_link.specs.Words.{linked_statement, inst_at, insts_from}
 use Rattle.mx_order.specs.Laws.{IsLaidOut}
 use Rattle.mx_order.specs.Parts.{AreBelow, Parts}

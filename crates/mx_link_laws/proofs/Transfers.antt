@@ -11,14 +11,13 @@ use Rattle.mx_isa.specs.Words.{Words, reg, write}
 use Rattle.mx_isa.specs.Arithmetic.{condition_holds}
 use Rattle.mx_isa.specs.Effect.{Core, decides, offset_by}
 use Rattle.mx_isa.specs.Views.{is_transfer, is_halt, is_load}
-use Rattle.mx_code.specs.Delay.{Code}
 use Rattle.mx_source.specs.declared.statement.Statement.{Statement}
 use Rattle.mx_source.specs.declared.statement.Statement.TheVariants.{Branch, Call, Halt}
 use Rattle.mx_source.specs.declared.statement.Value.{Value}
 use Rattle.mx_source.specs.declared.statement.Value.TheVariants.{Int, Code as CodeValue}
 use Rattle.mx_source.specs.declared.statement.Why.TheVariants.{CodeOperand}
 use Rattle.mx_source.specs.Values.{value_in, word_in, write_value}
-use Rattle.mx_source.specs.Meaning.{Program, Going, State, Step, Run, any_code, stuck, jumps, execute, run_for, is_stuck}
+use Rattle.mx_source.specs.Meaning.{Going, State, Step, Run, any_code, stuck, jumps, execute, run_for, is_stuck}
 use Rattle.mx_blocks.specs.declared.block.Item.{Item}
 use Rattle.mx_blocks.specs.declared.block.Item.TheVariants.{Op}
 use Rattle.mx_validate.specs.Padded.{insts_of, items_of, falls, body_count}

@@ -1,5 +1,5 @@
 -- Whole runs of linked code, block by block.
-use Rattle.std.proofs.Common.{◌≡◌, ℕ, zero, suc, ◌+◌, ◌*◌, ◌-◌, ◌^◌, ◌<◌, ◌≤◌, Bool, true, false, cond, not, ◌&&◌, List, [], ◌∷◌, ◌⊎◌, length, length-append, take, drop, None, refl, sym, ap, ◌∙◌, subst, arith, ⊎_elim, inl, inr}
+use Rattle.std.proofs.Common.{◌≡◌, ℕ, zero, suc, ◌+◌, ◌*◌, ◌-◌, ◌<◌, ◌≤◌, Bool, true, false, cond, not, ◌&&◌, List, [], ◌∷◌, ◌⊎◌, length, length-append, take, drop, None, refl, sym, ap, ◌∙◌, subst, arith, ⊎_elim, inl, inr}
 use Rattle.std.proofs.lemmas.Option.{slice_get_past}
 use Rattle.std.proofs.lemmas.Bool.{cases_lt, cases_Bool, cond-true, cond-false}
 use Rattle.std.proofs.lemmas.Bool.Decides.{nat_tests}
@@ -7,9 +7,9 @@ use Rattle.std.proofs.lemmas.List.{length-take-le, take-append-drop}
 use Rattle.mx_isa.specs.declared.inst.Inst.{Inst}
 use Rattle.mx_isa.specs.Effect.{decides}
 use Rattle.mx_isa.specs.Views.{reads}
-use Rattle.mx_code.specs.Delay.{Code, does, Delay, stepped, delay_step}
-use Rattle.mx_code.specs.Clean.{is_clean_step, loads_to, Watched, watch}
-use Rattle.mx_source.specs.Meaning.{Program, Going, Halted, Run, run_for, is_stuck}
+use Rattle.mx_code.specs.Delay.{does, Delay, stepped, delay_step}
+use Rattle.mx_code.specs.Clean.{is_clean_step, loads_to, Watched}
+use Rattle.mx_source.specs.Meaning.{Going, Halted, Run, run_for, is_stuck}
 use Rattle.mx_blocks.specs.declared.block.Block.{Block}
 use Rattle.mx_blocks.specs.declared.block.Item.{Item}
 use Rattle.mx_blocks.specs.declared.block.Item.TheVariants.{Op, Nop}
