@@ -95,12 +95,34 @@ module _ (setting : Setting) where
     pub plain : IsPlain x
     pub before : k < place_of t
 
-  -- What stands in the slots of a transfer to statement t: its own items, or the first words of the target.
-  pub data Filled (t count : ℕ) (sq sure : Bool) (insts : List Inst) (f g : Item) (x y : Inst) : Type 0 where
-    Own : (none : count ≡ 0) → (clear : sq ≡ false) → (first : x ≡ item_inst insts f) → (second : y ≡ item_inst insts g) → Filled t count sq sure insts f g x y
-    InSecond : (one : count ≡ 1) → (surely : sure ≡ true) → (no_second : g ≡ Nop) → (first : x ≡ item_inst insts f) → (head : Head t 0 y) → (free : reads y (loads_to x) ≡ false) → (leads : leader t ≡ true) → Filled t count sq sure insts f g x y
-    InFirst : (one : count ≡ 1) → (set : sure ≡ false → sq ≡ true) → (no_first : f ≡ Nop) → (no_second : g ≡ Nop) → (head : Head t 0 x) → (second : y ≡ idle) → (leads : leader t ≡ true) → Filled t count sq sure insts f g x y
-    InBoth : (two : count ≡ 2) → (set : sure ≡ false → sq ≡ true) → (no_first : f ≡ Nop) → (no_second : g ≡ Nop) → (head : Head t 0 x) → (other : Head t 1 y) → (leads : leader t ≡ true) → Filled t count sq sure insts f g x y
+  -- the two words behind a transfer
+  pub record Slots : Type 0 where
+    -- the statement that it goes to, and how many of its words it leaves out there
+    pub target : ℕ
+    pub count : ℕ
+    -- whether it squashes the two where it does not go, and whether it surely goes
+    pub squash : Bool
+    pub sure : Bool
+    pub first : Inst
+    pub second : Inst
+
+  -- They are the items of its own plan, f and g, or the first words of the target.
+  pub data Filled (insts : List Inst) (f g : Item) (w : Slots) : Type 0 where
+    Own :
+        (none : w.count ≡ 0) → (clear : w.squash ≡ false) → (first : w.first ≡ item_inst insts f) → (second : w.second ≡ item_inst insts g)
+        → Filled insts f g w
+    InSecond :
+        (one : w.count ≡ 1) → (surely : w.sure ≡ true) → (no_second : g ≡ Nop) → (first : w.first ≡ item_inst insts f)
+        → (head : Head w.target 0 w.second) → (free : reads w.second (loads_to w.first) ≡ false) → (leads : leader w.target ≡ true)
+        → Filled insts f g w
+    InFirst :
+        (one : w.count ≡ 1) → (set : w.sure ≡ false → w.squash ≡ true) → (no_first : f ≡ Nop) → (no_second : g ≡ Nop)
+        → (head : Head w.target 0 w.first) → (second : w.second ≡ idle) → (leads : leader w.target ≡ true)
+        → Filled insts f g w
+    InBoth :
+        (two : w.count ≡ 2) → (set : w.sure ≡ false → w.squash ≡ true) → (no_first : f ≡ Nop) → (no_second : g ≡ Nop)
+        → (head : Head w.target 0 w.first) → (other : Head w.target 1 w.second) → (leads : leader w.target ≡ true)
+        → Filled insts f g w
 
   abbrev pub did_of : Run → Did
   did_of r = record { core = core_of link r.state; console = r.console; clean = true; loaded = 0 }
@@ -171,7 +193,26 @@ module _ (setting : Setting) where
     pub next : link (i + length (insts_of block)) ≡ link i + length (items_of plan)
     pub lead : Leads (i + length (insts_of block))
 
-  module _ (i : ℕ) (w : Laid i) (r : Run) (going : r.state.mark ≡ Going) (here : r.state.index ≡ i) (safe : is_stuck (run_for p (length (insts_of w.block)) r).state.mark ≡ false) where
+  -- what stands from the terminator's place on, where a block ends with a transfer
+  pub record Transfers (i : ℕ) (w : Laid i) : Type 0 where
+    pub f_not : falls w.block.end ≡ false
+    pub f : Item
+    pub g : Item
+    pub three : w.parts.back ≡ Op (body_count w.block) ∷ f ∷ g ∷ []
+    pub below : AreBelow (body_count w.block) (f ∷ g ∷ [])
+
+  -- a run of the meaning that comes to a block, and is not stuck in it
+  pub record Entered : Type 0 where
+    pub i : ℕ
+    pub w : Laid i
+    pub r : Run
+    pub going : r.state.mark ≡ Going
+    pub here : r.state.index ≡ i
+    pub safe : is_stuck (run_for p (length (insts_of w.block)) r).state.mark ≡ false
+
+  module _ (entered : Entered) where
+    open entered use {i, w, r, going, here, safe}
+
     abbrev n : ℕ
     n = length (insts_of w.block)
 
@@ -330,12 +371,27 @@ module _ (setting : Setting) where
         }
 
     -- a block that ends with a transfer
-    module _ (f_not : falls w.block.end ≡ false) (moves : is_transfer ender ≡ true) (on : is_halt ender ≡ false) (no_load : is_load ender ≡ false) (f g : Item) (three : w.parts.back ≡ Op (body_count w.block) ∷ f ∷ g ∷ []) (below : AreBelow (body_count w.block) (f ∷ g ∷ [])) where
+    pub record MovesOn : Type 0 where
+      pub moves : is_transfer ender ≡ true
+      pub on : is_halt ender ≡ false
+      pub no_load : is_load ender ≡ false
+
+    module _ (b : Transfers i w) (kind : MovesOn) where
+      open b use {f_not, f, g, three, below}
+      open kind use {moves, on, no_load}
+
       abbrev fw : Inst
       fw = item_inst w.insts f
 
       abbrev gw : Inst
       gw = item_inst w.insts g
+
+      -- these two words stand behind the transfer
+      abbrev pub Behind : Inst → Inst → Type 0
+      Behind x y = StandsAt base (front ++ ender ∷ x ∷ y ∷ [])
+
+      abbrev pub Onward : Type 0
+      Onward = GoesOn i n len place r
 
       abbrev D0 : Did
       D0 = doing_all base front d0
@@ -470,7 +526,7 @@ module _ (setting : Setting) where
       Decides d = decides ender at (core_of link r1.state).regs ≡ d
 
       -- not taken, the slots being its own
-      passes_own : (sq : Bool) (x y : Inst) → Decides (onward sq) → Landed (i + n) → sq ≡ false → x ≡ fw → y ≡ gw → StandsAt base (front ++ ender ∷ x ∷ y ∷ []) → GoesOn i n len place r
+      passes_own : (sq : Bool) (x y : Inst) → Decides (onward sq) → Landed (i + n) → sq ≡ false → x ≡ fw → y ≡ gw → Behind x y → Onward
       passes_own sq x y e m clear x_is y_is st =
           all_done (i + n) m w.lead
           (slots_taken machine front ender fw gw base d0 (subst (StandsAt base) (λ k. front ++ ender ∷ x_is k ∷ y_is k ∷ []) st) front_plain plain_f plain_g on (low i) bound (link (i + n))
@@ -480,7 +536,7 @@ module _ (setting : Setting) where
           (let sm = small (i + n) in omega arith))
 
       -- not taken, both slots being squashed
-      passes_squashed : (sq : Bool) (x y : Inst) → Decides (onward sq) → Landed (i + n) → sq ≡ true → IsPlain x → IsPlain y → f ≡ Nop → g ≡ Nop → StandsAt base (front ++ ender ∷ x ∷ y ∷ []) → GoesOn i n len place r
+      passes_squashed : (sq : Bool) (x y : Inst) → Decides (onward sq) → Landed (i + n) → sq ≡ true → IsPlain x → IsPlain y → f ≡ Nop → g ≡ Nop → Behind x y → Onward
       passes_squashed sq x y e m set px py nf ng st =
           all_done (i + n) m w.lead
           (slots_cancelled machine front ender x y base d0 st front_plain px py on (low i) bound (link (i + n))
@@ -491,7 +547,9 @@ module _ (setting : Setting) where
           ∙ (λ k. begins (link (i + n)) (doing (at + 2) (item_inst w.insts (sym ng k)) (doing (at + 1) (item_inst w.insts (sym nf k)) D1))))
 
       -- the transfer goes to the block at statement t, behind so many of its words
-      module _ (t count : ℕ) (e : Decides (away (link t + count))) (m : Landed t) where
+      module _ (slots : Slots) (e : Decides (away (link slots.target + slots.count))) (m : Landed slots.target) where
+        open slots use {target as t, count, first as x, second as y}
+
         to_target : next_of (decides ender at D0.core.regs).target (at + 2) ≡ link t + count
         to_target = ap (λ (d : Decision). next_of d.target (at + 2)) (decision ∙ e)
 
@@ -499,8 +557,8 @@ module _ (setting : Setting) where
         not_cancelled = ap (λ (d : Decision). d.cancels) (decision ∙ e)
 
         -- taken, the slots being its own
-        takes_own : (x y : Inst) → count ≡ 0 → Leads t → x ≡ fw → y ≡ gw → StandsAt base (front ++ ender ∷ x ∷ y ∷ []) → GoesOn i n len place r
-        takes_own x y none lead x_is y_is st =
+        takes_own : count ≡ 0 → Leads t → x ≡ fw → y ≡ gw → Behind x y → Onward
+        takes_own none lead x_is y_is st =
             all_done t m lead
             (slots_taken machine front ender fw gw base d0 (subst (StandsAt base) (λ k. front ++ ender ∷ x_is k ∷ y_is k ∷ []) st) front_plain plain_f plain_g on (low i) bound (link t)
             not_cancelled
@@ -552,7 +610,7 @@ module _ (setting : Setting) where
         low_on k = let l = low t in omega arith
 
         -- the transfer is done, and both slots hold what is not the block's
-        after_transfer : (x y : Inst) → StandsAt base (front ++ ender ∷ x ∷ y ∷ []) → IsPlain x → IsPlain y → D1 ≡ S → Shown (place + 1)
+        after_transfer : (x y : Inst) → Behind x y → IsPlain x → IsPlain y → D1 ≡ S → Shown (place + 1)
         after_transfer x y st px py d_is =
             let fl = front_is in
             let run : steps (place + 1) (begins base d0) ≡ queue machine (queued (at + 1)) (queued (at + 2)) (link t + count) D1 =
@@ -568,8 +626,8 @@ module _ (setting : Setting) where
             }
 
         -- both slots hold words of the target
-        takes_both : (x y : Inst) → count ≡ 2 → f ≡ Nop → g ≡ Nop → leader t ≡ true → Head t 0 x → Head t 1 y → StandsAt base (front ++ ender ∷ x ∷ y ∷ []) → GoesOn i n len place r
-        takes_both x y two nf ng lead hx hy st =
+        takes_both : count ≡ 2 → f ≡ Nop → g ≡ Nop → leader t ≡ true → Head t 0 x → Head t 1 y → Behind x y → Onward
+        takes_both two nf ng lead hx hy st =
             let done = both_nops nf ng in
             let l3 = len3 in
             let fl = front_is in
@@ -588,8 +646,8 @@ module _ (setting : Setting) where
             own.shown own.runs_on
 
         -- the first slot holds a word of the target
-        takes_first : (x y : Inst) → count ≡ 1 → f ≡ Nop → g ≡ Nop → leader t ≡ true → Head t 0 x → y ≡ idle → StandsAt base (front ++ ender ∷ x ∷ y ∷ []) → GoesOn i n len place r
-        takes_first x y one nf ng lead hx y_is st0 =
+        takes_first : count ≡ 1 → f ≡ Nop → g ≡ Nop → leader t ≡ true → Head t 0 x → y ≡ idle → Behind x y → Onward
+        takes_first one nf ng lead hx y_is st0 =
             let st : StandsAt base (front ++ ender ∷ x ∷ idle ∷ []) = subst (λ j. StandsAt base (front ++ ender ∷ x ∷ j ∷ [])) y_is st0 in
             let done = both_nops nf ng in
             let l3 = len3 in
@@ -611,8 +669,8 @@ module _ (setting : Setting) where
             own.shown own.runs_on
 
         -- the second slot holds a word of the target
-        takes_second : (x y : Inst) → count ≡ 1 → g ≡ Nop → leader t ≡ true → x ≡ fw → Head t 0 y → reads y (loads_to x) ≡ false → StandsAt base (front ++ ender ∷ x ∷ y ∷ []) → GoesOn i n len place r
-        takes_second x y one ng lead x_is hy free0 st0 =
+        takes_second : count ≡ 1 → g ≡ Nop → leader t ≡ true → x ≡ fw → Head t 0 y → reads y (loads_to x) ≡ false → Behind x y → Onward
+        takes_second one ng lead x_is hy free0 st0 =
             let st : StandsAt base (front ++ ender ∷ fw ∷ y ∷ []) = subst (λ j. StandsAt base (front ++ ender ∷ j ∷ y ∷ [])) x_is st0 in
             let free : reads y (loads_to fw) ≡ false = subst (λ j. reads y (loads_to j) ≡ false) x_is free0 in
             let D2 = doing (at + 1) fw D1 in
@@ -647,19 +705,20 @@ module _ (setting : Setting) where
             (ap (λ (u : Watched). u.at.halted) own_run)
 
         -- by what its slots hold
-        pub takes : (sq sure : Bool) (x y : Inst) → Leads t → Filled t count sq sure w.insts f g x y → StandsAt base (front ++ ender ∷ x ∷ y ∷ []) → GoesOn i n len place r
-        takes sq sure x y lead (Own none clear first second) st = takes_own x y none lead first second st
-        takes sq sure x y lead (InSecond one surely ng first head free leads) st = takes_second x y one ng leads first head free st
-        takes sq sure x y lead (InFirst one set nf ng head second leads) st = takes_first x y one nf ng leads head second st
-        takes sq sure x y lead (InBoth two set nf ng head other leads) st = takes_both x y two nf ng leads head other st
+        pub takes : Leads t → Filled w.insts f g slots → Behind x y → Onward
+        takes lead (Own none clear first second) st = takes_own none lead first second st
+        takes lead (InSecond one surely ng first head free leads) st = takes_second one ng leads first head free st
+        takes lead (InFirst one set nf ng head second leads) st = takes_first one nf ng leads head second st
+        takes lead (InBoth two set nf ng head other leads) st = takes_both two nf ng leads head other st
 
       -- the transfer does not go
-      pub passes : (t count : ℕ) (sq sure : Bool) (x y : Inst) → Decides (onward sq) → Landed (i + n) → sure ≡ false → Filled t count sq sure w.insts f g x y → StandsAt base (front ++ ender ∷ x ∷ y ∷ []) → GoesOn i n len place r
-      passes t count sq sure x y e m unsure (Own none clear first second) st = passes_own sq x y e m clear first second st
-      passes t count sq sure x y e m unsure (InSecond one surely ng first head free leads) st = absurd (false_true (sym unsure ∙ surely))
-      passes t count sq sure x y e m unsure (InFirst one set nf ng head second leads) st =
-          passes_squashed sq x y e m (set unsure) head.plain (subst IsPlain (sym second) idle_plain) nf ng st
-      passes t count sq sure x y e m unsure (InBoth two set nf ng head other leads) st = passes_squashed sq x y e m (set unsure) head.plain other.plain nf ng st
+      pub passes : (slots : Slots) → Decides (onward slots.squash) → Landed (i + n) → slots.sure ≡ false → Filled w.insts f g slots → Behind slots.first slots.second → Onward
+      passes slots e m unsure (Own none clear first second) st = passes_own slots.squash slots.first slots.second e m clear first second st
+      passes slots e m unsure (InSecond one surely ng first head free leads) st = absurd (false_true (sym unsure ∙ surely))
+      passes slots e m unsure (InFirst one set nf ng head second leads) st =
+          passes_squashed slots.squash slots.first slots.second e m (set unsure) head.plain (subst IsPlain (sym second) idle_plain) nf ng st
+      passes slots e m unsure (InBoth two set nf ng head other leads) st =
+          passes_squashed slots.squash slots.first slots.second e m (set unsure) head.plain other.plain nf ng st
 
       -- the address behind the slots is the next block's
       pub behind_slots : link (suc r1.state.index) ≡ at + 3

@@ -30,7 +30,7 @@ use Rattle.mx_blocks.specs.Leaders.{ends_there, gap, is_leader, end_of, size, Is
 use Rattle.mx_blocks.proofs.Splits.{gap_small}
 use Rattle.mx_validate.specs.Padded.{items_of, falls, body_count}
 use Rattle.mx_squash.specs.declared.copying.Copied.{Copied}
-use Rattle.mx_squash.specs.Copies.{Site, site_of, is_target, may_stay, always_goes, terminator, is_branch_end}
+use Rattle.mx_squash.specs.Copies.{reaches, Site, site_of, is_target, may_stay, always_goes, terminator, is_branch_end}
 use Rattle.mx_layout.specs.Layout.{link_of, plan_size, StandFrom, blocks_in, has_statement}
 use Rattle.mx_link.specs.Origins.{own, goal_of}
 use Rattle.mx_link.specs.Words.{displacement, linked_inst, inst_at}
@@ -47,8 +47,9 @@ use Rattle.mx_link_laws.proofs.Codes.{place_leads, statement_fits}
 use Rattle.mx_link_laws.proofs.Sited.{body, there, inst_there, words_from, plain_word_at, end_word}
 use Rattle.mx_layout.proofs.Links.{site_found}
 use Rattle.mx_link_laws.proofs.Layouts.{place_in, goes, begins, end_low, setting}
-use Rattle.mx_link_laws.proofs.Slots.{never, Stood, linked_site, insts_at, planned_at, parts_stand, Slotted, x, y, filled_there, own_slots}
-use Rattle.mx_link_laws.proofs.Transfers.{Lay, Kind, Branches, Calls, Transfers, EndOf, Falls, Stops, Moves, Jumps}
+use Rattle.mx_link_laws.proofs.Slots.{never, Stood, linked_site, insts_at, planned_at, parts_stand, Slotted, slots_there, filled_there, own_slots}
+use Rattle.mx_link_laws.proofs.Transfers.{Lay, Kind, Branches, Calls, IsBranch, IsCall, EndOf, Falls, Stops, Moves, Jumps}
+use Rattle.mx_link_laws.proofs.OneBlock.{Slots, Transfers}
 use Rattle.mx_link_laws.proofs.Whole.{Placed}
 use Rattle.mx_link_laws.proofs.Setting.{Known, PlannedBlock}
 
@@ -265,11 +266,36 @@ module _ (known : Known) where
         (subst (StandsHere (link first)) (sym (words_all (Op n ∷ []) one))
         (stands_here (Op n ∷ []) (inst_number list n ∷ []) one (λ k. ender_word w k ∷ [])))
 
+    at_low : s.start + s.plan.place < 2 ^ 31
+    at_low =
+        let b = st.of.below in
+        let e = end_low known in
+        let t = st.of.valid.tail in
+        omega arith
+
+    place_there : link first + length (words list front) ≡ s.start + s.plan.place
+    place_there =
+        let a = st.of.start in
+        let e = place_is in
+        let m = length-map front (item_inst list) in
+        omega arith
+
+    -- as far as a branch reaches, addresses are low
+    near_low : (to : ℕ) → reaches (s.start + s.plan.place) to ≡ true → to < 2 ^ 31
+    near_low to e =
+        let parts = and_parts (leb to (s.start + s.plan.place + 32767)) (leb (s.start + s.plan.place) (to + 32768)) e in
+        let q = at_low in
+        let r : to ≤ s.start + s.plan.place + 32767 = under to (s.start + s.plan.place + 32767) parts.0 in
+        let b = st.of.below in
+        let m = end_low known in
+        let v = st.of.valid.tail in
+        omega arith
+      where
+        under : (m k : ℕ) → leb m k ≡ true → m ≤ k
+        under m k e = grind (arith, nat_tests)
+
     abbrev TransfersHere : Type 0
     TransfersHere = Transfers (setting known) first lay
-
-    abbrev KindHere : Type 0
-    KindHere = Kind (setting known) first lay (goal_of s.block.end) c.count c.squash (not (may_stay s.block))
 
     -- a transfer and its slots
     module _ (f_not : falls s.block.end ≡ false) (t : IsTransfer n back) where
@@ -285,11 +311,14 @@ module _ (known : Known) where
       abbrev slotted : Slotted known
       slotted = record { site = s; standing = st; parts = parts; f = t.first; g = t.second; three = t.is; below_f = below_f; below_g = below_g }
 
+      abbrev slots : Slots (setting known)
+      slots = slots_there known slotted
+
       abbrev first_slot : Inst
-      first_slot = x known slotted
+      first_slot = slots.first
 
       abbrev second_slot : Inst
-      second_slot = y known slotted
+      second_slot = slots.second
 
       three_words : n < size s.block → tail_words (Op n ∷ t.first ∷ t.second ∷ []) ≡ inst_number list n ∷ first_slot ∷ second_slot ∷ []
       three_words l =
@@ -315,91 +344,75 @@ module _ (known : Known) where
           stands_here (Op n ∷ t.first ∷ t.second ∷ []) (inst_number list n ∷ first_slot ∷ second_slot ∷ []) t.is (three_words w)
 
       -- to the block at the goal
-      moves : KindHere → is_leader source (goal_of s.block.end) ≡ true → EndAt first lay
+      moves : Kind (setting known) first lay slots → is_leader source slots.target ≡ true → EndAt first lay
       moves kind lead =
-          Moves transfers (goal_of s.block.end) c.count c.squash (not (may_stay s.block)) first_slot second_slot kind
+          Moves transfers slots kind
           (filled_there known slotted)
           (inl lead)
           stand_three
 
       -- by a register
-      jumps_end : s.block.end ≡ JumpsEnd → (a d : ℕ) (z : Statement) → Last z → ((u : State) → execute p (Some z) u ≡ jumps (value_in u.regs a) d u) → inst_number list n ≡ Jspci a d (pos 0) → EndAt first lay
-      jumps_end e a d z l means ender =
-          let own = own_slots known slotted (ap (λ q. site_of (is_target q) all) e ∙ never all) in
-          Jumps transfers a d
-          (λ u. ap (λ o. execute p o u) (behind_body z l f_not) ∙ means u)
-          ender
+      jumps_end :
+          (a d : ℕ) (z : Statement) → Last z → end_of z ≡ JumpsEnd → ((u : State) → execute p (Some z) u ≡ jumps (value_in u.regs a) d u)
+          → inst_number list n ≡ Jspci a d (pos 0) → EndAt first lay
+      jumps_end a d z l e means ender =
+          let own = own_slots known slotted (ap (λ q. site_of (is_target q) all) (l.end ∙ e) ∙ never all) in
+          Jumps transfers
+          (record { a = a; d = d; means = λ u. ap (λ o. execute p o u) (behind_body z l f_not) ∙ means u; is = ender })
           (subst (StandsHere (link first)) (λ k. words list front ++ inst_number list n ∷ own.first k ∷ own.second k ∷ []) stand_three)
 
-    at_low : s.start + s.plan.place < 2 ^ 31
-    at_low =
-        let b = st.of.below in
-        let e = end_low known in
-        let t = st.of.valid.tail in
-        omega arith
+      branches : (a b : ℕ) (condition : Cond) (u : ℕ) → Last (Branch a b condition u) → IsBranch (setting known) first lay slots
+      branches a b condition u l =
+          let z = Branch a b condition u in
+          let goal : u ≡ slots.target = sym (ap goal_of l.end) in
+          let near = goes_here.branch u l.end in
+          let from = s.start + s.plan.place in
+          let to = link slots.target + c.count in
+          record {
+            a = a;
+            c = b;
+            condition = condition;
+            by = displacement from to;
+            statement = behind_body z l f_not ∙ ap (λ v. Some (Branch a b condition v)) goal;
+            is = ender_is z l f_not ∙ ap (λ v. BranchInst a b condition c.squash (displacement from (link v + c.count))) goal;
+            reach = ap (λ q. (q + cast_unsigned w32 (displacement from to)) % 2 ^ 31) place_there
+                ∙ displaced from to at_low (subst (λ v. link v + c.count < 2 ^ 31) goal (near_low (link u + c.count) near));
+            surely = λ sure g. always_holds a b condition g (always (is_branch_end s.block.end) (always_goes (terminator s.block)) (ap is_branch_end l.end) sure
+                (ap always_goes (inst_is source s.block st.of.block final z (let some = st.of.block.some in omega arith) l.at)));
+          }
+        where
+          always : (v w : Bool) {q : Bool} → v ≡ true → not (v && not w) ≡ true → w ≡ q → q ≡ true
+          always v w e g r = sym r ∙ both v w e g
+            where
+              both : (v w : Bool) → v ≡ true → not (v && not w) ≡ true → w ≡ true
+              both v w e g = grind arith
 
-    place_there : link first + length (words list front) ≡ s.start + s.plan.place
-    place_there =
-        let a = st.of.start in
-        let e = place_is in
-        let m = length-map front (item_inst list) in
-        omega arith
-
-    branch_kind : (a b : ℕ) (condition : Cond) (t : ℕ) → Last (Branch a b condition t) → KindHere
-    branch_kind a b condition t l =
-        let z = Branch a b condition t in
-        let f : falls s.block.end ≡ false = ap falls l.end in
-        let goal : t ≡ goal_of s.block.end = sym (ap goal_of l.end) in
-        let near = goes_here.branch t l.end in
-        Branches a b condition (displacement (s.start + s.plan.place) (link (goal_of s.block.end) + c.count))
-        (behind_body z l f ∙ ap (λ u. Some (Branch a b condition u)) goal)
-        (ender_is z l f ∙ ap (λ u. BranchInst a b condition c.squash (displacement (s.start + s.plan.place) (link u + c.count))) goal)
-        (ap (λ q. (q + cast_unsigned w32 (displacement (s.start + s.plan.place) (link (goal_of s.block.end) + c.count))) % 2 ^ 31) place_there
-        ∙ displaced (s.start + s.plan.place) (link (goal_of s.block.end) + c.count) at_low
-        (subst (λ u. link u + c.count < 2 ^ 31) goal (near_low (link t + c.count) near)))
-        (λ sure g. always_holds a b condition g (always (is_branch_end s.block.end) (always_goes (terminator s.block)) (ap is_branch_end l.end) sure
-        (ap always_goes (inst_is source s.block st.of.block final z (let some = st.of.block.some in omega arith) l.at))))
-      where
-        near_low : (to : ℕ) → (leb to (s.start + s.plan.place + 32767) && leb (s.start + s.plan.place) (to + 32768)) ≡ true → to < 2 ^ 31
-        near_low to e =
-            let parts = and_parts (leb to (s.start + s.plan.place + 32767)) (leb (s.start + s.plan.place) (to + 32768)) e in
-            let q = at_low in
-            let r : to ≤ s.start + s.plan.place + 32767 = under to (s.start + s.plan.place + 32767) parts.0 in
-            let b = st.of.below in
-            let m = end_low known in
-            let v = st.of.valid.tail in
-            omega arith
-          where
-            under : (m k : ℕ) → leb m k ≡ true → m ≤ k
-            under m k e = grind (arith, nat_tests)
-
-        always : (v w : Bool) {q : Bool} → v ≡ true → not (v && not w) ≡ true → w ≡ q → q ≡ true
-        always v w e g r = sym r ∙ both v w e g
-          where
-            both : (v w : Bool) → v ≡ true → not (v && not w) ≡ true → w ≡ true
-            both v w e g = grind arith
-
-    call_kind : (d t : ℕ) → Last (Call d t) → KindHere
-    call_kind d t l =
-        let f : falls s.block.end ≡ false = ap falls l.end in
-        let goal : t ≡ goal_of s.block.end = sym (ap goal_of l.end) in
-        Calls d
-        (behind_body (Call d t) l f ∙ ap (λ u. Some (Call d u)) goal)
-        (ender_is (Call d t) l f ∙ ap (λ u. Jspci 0 d (pos (link u + c.count))) goal)
+      calls : (d u : ℕ) → Last (Call d u) → IsCall (setting known) first lay slots
+      calls d u l =
+          let goal : u ≡ slots.target = sym (ap goal_of l.end) in
+          record {
+            d = d;
+            statement = behind_body (Call d u) l f_not ∙ ap (λ v. Some (Call d v)) goal;
+            is = ender_is (Call d u) l f_not ∙ ap (λ v. Jspci 0 d (pos (link v + c.count))) goal;
+          }
 
     ends : (z : Statement) → Last z → StatementFits (IsPlace source.labels (length source.statements)) z → EndAt first lay
     ends (Plain i) l fit = falls_end (Plain i) l refl
     ends (LaCode d t) l fit = falls_end (LaCode d t) l refl
     ends (Branch a b condition t) l fit =
-        moves (ap falls l.end) (end_parts (Branch a b condition t) l) (branch_kind a b condition t l)
-        (ap (is_leader source) (ap goal_of l.end) ∙ place_leads source is t fit)
+        let not_on = ap falls l.end in
+        let back = end_parts (Branch a b condition t) l in
+        moves not_on back (Branches (branches not_on back a b condition t l)) (ap (is_leader source) (ap goal_of l.end) ∙ place_leads source is t fit)
     ends (Call d t) l fit =
-        moves (ap falls l.end) (end_parts (Call d t) l) (call_kind d t l)
-        (ap (is_leader source) (ap goal_of l.end) ∙ place_leads source is t fit)
+        let not_on = ap falls l.end in
+        let back = end_parts (Call d t) l in
+        moves not_on back (Calls (calls not_on back d t l)) (ap (is_leader source) (ap goal_of l.end) ∙ place_leads source is t fit)
     ends (CallReg a d) l fit =
-        jumps_end (ap falls l.end) (end_parts (CallReg a d) l) l.end a d (CallReg a d) l (λ u. refl) (ender_is (CallReg a d) l (ap falls l.end))
+        let not_on = ap falls l.end in
+        jumps_end not_on (end_parts (CallReg a d) l) a d (CallReg a d) l refl (λ u. refl) (ender_is (CallReg a d) l not_on)
     ends (JumpReg a) l fit =
-        jumps_end (ap falls l.end) (end_parts (JumpReg a) l) l.end a 0 (JumpReg a) l (λ u. refl) (ender_is (JumpReg a) l (ap falls l.end))
+        let not_on = ap falls l.end in
+        jumps_end not_on (end_parts (JumpReg a) l) a 0 (JumpReg a) l refl (λ u. refl) (ender_is (JumpReg a) l not_on)
     ends Halt l fit = stops_end l
 
     end : EndAt first lay

@@ -31,7 +31,7 @@ use Rattle.mx_order.proofs.Words.{item_inst, words}
 use Rattle.mx_link_laws.proofs.Going.{IsPlain, idle_plain, Stands, stands_left}
 use Rattle.mx_link_laws.proofs.Saying.{all_plain}
 use Rattle.mx_link_laws.proofs.Planned.{plain_body}
-use Rattle.mx_link_laws.proofs.OneBlock.{Head, Filled, Own, InSecond, InFirst, InBoth}
+use Rattle.mx_link_laws.proofs.OneBlock.{Head, Slots as TheSlots, Filled, Own, InSecond, InFirst, InBoth}
 use Rattle.mx_link_laws.proofs.Sited.{insts, laid, body, there, inst_there, linked_anywhere, goes_on, body_word, words_from, words_append, front_words}
 use Rattle.mx_link_laws.proofs.Layouts.{place_in, Goal, goal_is, goes, Standing, standing, setting}
 use Rattle.mx_layout.proofs.Links.{site_found}
@@ -313,10 +313,14 @@ module _ (known : Known) (here : Slotted known) where
   own_item : (q : ℕ) (item : Item) → AreBelow (body_count s.block) (item ∷ []) → slot_word q Nop item ≡ item_inst (insts_of_site s st) item
   own_item q item b = body_word (linked_site known s st) (s.start + (s.plan.place + q)) item b
 
-  abbrev FilledHere : ℕ → Bool → Type 0
-  FilledHere n sq = Filled (setting known) goal n sq sure (insts_of_site s st) f g x y
+  -- the two words, as they stand
+  abbrev pub slots_there : TheSlots (setting known)
+  slots_there = record { target = goal; count = c.count; squash = c.squash; sure = sure; first = x; second = y }
 
-  all_own : c.count ≡ 0 → c.squash ≡ false → c.from ≡ Nop ∷ Nop ∷ [] → FilledHere c.count c.squash
+  abbrev FilledHere : Type 0
+  FilledHere = Filled (setting known) (insts_of_site s st) f g slots_there
+
+  all_own : c.count ≡ 0 → c.squash ≡ false → c.from ≡ Nop ∷ Nop ∷ [] → FilledHere
   all_own n sq e = Own n sq
       (x_is Nop (ap (λ l. slice_index_or l 0 Nop) e) ∙ own_item 1 f below_f)
       (y_is Nop (ap (λ l. slice_index_or l 1 Nop) e) ∙ own_item 2 g below_g)
@@ -410,7 +414,7 @@ module _ (known : Known) (here : Slotted known) where
             not_fed i true d e = e
             not_fed i false d e = reads_none i
 
-    some_copied : 1 ≤ n → FilledHere c.count c.squash
+    some_copied : 1 ≤ n → FilledHere
     some_copied some =
         let k = counted (is_too_far s gs) (is_fed s gs) (most s gs) some in
         let few : n ≤ room s.block s.plan = min_left (room s.block s.plan) (copyable gs.plan) n k.all_of in
@@ -453,17 +457,17 @@ module _ (known : Known) (here : Slotted known) where
         min_right : (a b m : ℕ) → m ≡ min a b → m ≤ b
         min_right a b m e = omega arith
 
-    from_goal : FilledHere c.count c.squash
+    from_goal : FilledHere
     from_goal = ⊎_elim
         (λ (z : n ≡ 0). all_own (count_is ∙ z) (squash_is ∙ ap (λ m. ltb 0 m && may_stay s.block) z) (from_is ∙ from_zero (room s.block s.plan) n (item_at gs.plan 0) (item_at gs.plan 1) z))
         (λ (z : n ≢ 0). some_copied (omega arith))
         (cases_eq n 0)
 
-  by_goal : (o : Option Site) → site_of (is_target s.block.end) all ≡ o → c ≡ copied s o → bare ≡ false → FilledHere c.count c.squash
+  by_goal : (o : Option Site) → site_of (is_target s.block.end) all ≡ o → c ≡ copied s o → bare ≡ false → FilledHere
   by_goal None e is_c copying = all_own (ap (λ (d : Copied). d.count) is_c) (ap (λ (d : Copied). d.squash) is_c) (ap (λ (d : Copied). d.from) is_c)
   by_goal (Some gs) e is_c copying = from_goal gs e is_c copying
 
-  pub filled_there : FilledHere c.count c.squash
+  pub filled_there : FilledHere
   filled_there = ⊎_elim
       (λ e. all_own (ap (λ (d : Copied). d.count) e) (ap (λ (d : Copied). d.squash) e) (ap (λ (d : Copied). d.from) e))
       (λ e. by_goal (site_of (is_target s.block.end) all) refl e.1 e.0)

@@ -323,7 +323,7 @@ module _ (setting : Setting) (begun : Begun setting) where
       ⊎_elim
       (λ g. inl (goes_on m v u a n (long_at m v u a h) (length lay.parts.front) lay.some room (sum_at m v u a h r) g))
       (λ g. inr (stops_at m v u a n (long_at m v u a h) (length lay.parts.front) room g))
-      (one_block setting i lay (M m) a.going refl safe w.end lead)
+      (one_block setting (record { i = i; w = lay; r = M m; going = a.going; here = refl; safe = safe }) w.end lead)
 
   pub record Advanced (m v u : ℕ) : Type 0 where
     pub n : ℕ
