@@ -1,4 +1,5 @@
--- Each place of code that the meaning holds is a leader.
+-- Each place of code that the meaning holds is a leader. The invariant is `Lead`, of registers and memory. It goes across every
+-- statement (`execute_lead`), since labels are leaders, and what stands behind a call is one.
 use Rattle.std.proofs.Common.{◌≡◌, ℕ, zero, suc, ◌-◌, ◌<◌, ◌≤◌, Bool, true, false, cond, eqb, leb, ◌||◌, List, [], length, Option, Some, None, refl, sym, ap, subst, arith, ⊎_elim}
 use Rattle.std.specs.Prelude.{slice_get, slice_index_or}
 use Rattle.std.proofs.lemmas.Bool.{cond-true, cases_lt}
@@ -25,14 +26,18 @@ module _ (source : SourceValue) (is : IsSource source) where
   -- a labelled statement is a leader
   pub place_leads : (t : ℕ) → IsPlace source.labels (length source.statements) t → is_leader source t ≡ true
   place_leads zero h = refl
-  place_leads (suc t) h = ap (λ n. eqb n 0) (cond-true _ _ _ (first (is_labelled source.labels (suc t)) (ends_there (slice_get source.statements t)) (eqb (gap (is_labelled source.labels) source.statements t) 63) h.labelled))
+  place_leads (suc t) h =
+      ap (λ n. eqb n 0) (cond-true _ _ _ (first (is_labelled source.labels (suc t)) (ends_there (slice_get source.statements t))
+      (eqb (gap (is_labelled source.labels) source.statements t) 63) h.labelled))
     where
       first : (a b c : Bool) → a ≡ true → (a || (b || c)) ≡ true
       first a b c e = grind arith
 
   -- the statement after one that ends a block is a leader
   pub after_end : (i : ℕ) → ends_there (slice_get source.statements i) ≡ true → is_leader source (suc i) ≡ true
-  after_end i e = ap (λ n. eqb n 0) (cond-true _ _ _ (any (is_labelled source.labels (suc i)) (ends_there (slice_get source.statements i)) (eqb (gap (is_labelled source.labels) source.statements i) 63) e))
+  after_end i e =
+      ap (λ n. eqb n 0) (cond-true _ _ _ (any (is_labelled source.labels (suc i)) (ends_there (slice_get source.statements i))
+      (eqb (gap (is_labelled source.labels) source.statements i) 63) e))
     where
       any : (a b c : Bool) → b ≡ true → (a || (b || c)) ≡ true
       any a b c h = grind arith
@@ -84,7 +89,9 @@ module _ (source : SourceValue) (is : IsSource source) where
 
   store_leads : (place : Place) (o : Option Sent) (v : Value) (m : Values) → Leads v → AllLead m → AllLead (store_value place o v m)
   store_leads place None v m h k = k
-  store_leads place (Some s) v m h k = user_leads (is_user place s.address) (put_value m s.address (passed_on v s.word)) m (put_leads m s.address (passed_on v s.word) k (passed_leads v s.word h)) k
+  store_leads place (Some s) v m h k =
+      user_leads (is_user place s.address) (put_value m s.address (passed_on v s.word)) m
+      (put_leads m s.address (passed_on v s.word) k (passed_leads v s.word h)) k
 
   pub record Lead (s : State) : Type 0 where
     pub regs : AllLead s.regs
@@ -113,14 +120,18 @@ module _ (source : SourceValue) (is : IsSource source) where
   cond_lead true x y h k = h
   cond_lead false x y h k = k
 
-  pub statement_fits : (i : ℕ) (s : Statement) → slice_get source.statements i ≡ Some s → StatementFits (IsPlace source.labels (length source.statements)) s
-  statement_fits i s e = subst (StatementFits (IsPlace source.labels (length source.statements))) (get_or_from_slice_get source.statements i s s e) (is.statements_fit i s (slice_get_within source.statements i s e))
+  pub statement_fits :
+      (i : ℕ) (s : Statement) → slice_get source.statements i ≡ Some s → StatementFits (IsPlace source.labels (length source.statements)) s
+  statement_fits i s e =
+      subst (StatementFits (IsPlace source.labels (length source.statements))) (get_or_from_slice_get source.statements i s s e)
+      (is.statements_fit i s (slice_get_within source.statements i s e))
 
   execute_lead : (p : Program) (o : Option Statement) (s : State) → slice_get source.statements s.index ≡ o → Lead s → Lead (execute p o s).after
   execute_lead p None s e h = record { regs = h.regs; mem = h.mem }
   execute_lead p (Some (Plain i)) s e h = unless_lead (why_plain p i s.regs) (done p i s) s h (done_lead p i s h)
   execute_lead p (Some (LaCode d t)) s e h = goes_lead (suc s.index) d (Code t) s h (code_leads t (place_leads t (statement_fits s.index (LaCode d t) e)))
-  execute_lead p (Some (Branch a b c t)) s e h = cond_lead (any_code s.regs (a, b)) _ _ (record { regs = h.regs; mem = h.mem }) (goes_lead _ 0 (Int 0) s h (int_leads 0))
+  execute_lead p (Some (Branch a b c t)) s e h =
+      cond_lead (any_code s.regs (a, b)) _ _ (record { regs = h.regs; mem = h.mem }) (goes_lead _ 0 (Int 0) s h (int_leads 0))
   execute_lead p (Some (Call d t)) s e h = goes_lead t d (Code (suc s.index)) s h (code_leads (suc s.index) (after_end s.index (ap ends_there e)))
   execute_lead p (Some (CallReg a d)) s e h = jumps_lead (value_in s.regs a) d s (after_end s.index (ap ends_there e)) h
   execute_lead p (Some (JumpReg a)) s e h = jumps_lead (value_in s.regs a) 0 s (after_end s.index (ap ends_there e)) h
@@ -155,11 +166,13 @@ module _ (source : SourceValue) (is : IsSource source) where
     start_lead : Lead (start source place)
     start_lead = record {
       regs = λ n. int_leads 0;
-      mem = λ a. cond_leads (leb place.user_data a) (slice_index_or source.user_data (a - place.user_data) (Int 0)) (Int 0) (word_leads (a - place.user_data)) (int_leads 0);
+      mem = λ a. cond_leads (leb place.user_data a) (slice_index_or source.user_data (a - place.user_data) (Int 0)) (Int 0) (word_leads (a - place.user_data))
+          (int_leads 0);
     }
 
     -- so each place in a register is a leader
-    pub registers_lead : (m n t : ℕ) → value_in (run_for p m (record { state = start source place; console = [] })).state.regs n ≡ Code t → is_leader source t ≡ true
+    pub registers_lead :
+        (m n t : ℕ) → value_in (run_for p m (record { state = start source place; console = [] })).state.regs n ≡ Code t → is_leader source t ≡ true
     registers_lead m n t e =
         let h = run_lead m (record { state = start source place; console = [] }) start_lead in
         in_leads (run_for p m (record { state = start source place; console = [] })).state.regs h.regs n t e

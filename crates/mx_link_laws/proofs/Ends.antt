@@ -1,4 +1,6 @@
--- How the words of a block run, by its end and what stands in its slots.
+-- The end of a block. The invariant of Going, a queue of three addresses and what was done, goes across a terminator and its two
+-- slots, both taken, both squashed or one taken (`slots_taken`, `slots_cancelled`, `one_taken`), and across a halt (`halts`).
+-- A no-op in a slot makes no difference (`undo`, `keeps_idle`), nor does where a plain word is done (`keeps_head`).
 use Rattle.std.proofs.Common.{◌≡◌, ℕ, ◌+◌, ◌^◌, ◌<◌, ◌≤◌, Bool, true, false, leb, not, ◌&&◌, List, [], ◌∷◌, ◌++◌, length, refl, sym, ap, ◌∙◌, subst, arith, inl, inr}
 use Rattle.std.proofs.lemmas.Bool.{and_parts}
 use Rattle.std.proofs.lemmas.Bool.Decides.{nat_tests}
@@ -37,7 +39,9 @@ module _ (machine : Machine) where
   append_did a (i ∷ is) js s = append_did (a + 1) is js (doing a i s) ∙ ap (λ n. doing_all n js (doing_all a (i ∷ is) s)) (omega arith)
 
   -- two words after one another in a queue
-  two_words : (a b z : ℕ) (s : Did) (i j : Inst) → code a ≡ i → inside a ≡ true → IsPlain i → code b ≡ j → inside b ≡ true → IsPlain j → p.code ≤ z → z + 2 < 2 ^ 31 → steps 2 (line (queued a) (queued b) z s) ≡ begins z (doing b j (doing a i s))
+  two_words :
+      (a b z : ℕ) (s : Did) (i j : Inst) → code a ≡ i → inside a ≡ true → IsPlain i → code b ≡ j → inside b ≡ true → IsPlain j
+      → p.code ≤ z → z + 2 < 2 ^ 31 → steps 2 (line (queued a) (queued b) z s) ≡ begins z (doing b j (doing a i s))
   two_words a b z s i j ci ii pi cj ij pj low h =
       ap (once machine) (sym (plain_word machine a (queued b) z s i ci ii pi low (omega arith)))
       ∙ sym (plain_word machine b (queued z) (z + 1) (doing a i s) j cj ij pj (omega arith) (omega arith))
@@ -49,7 +53,9 @@ module _ (machine : Machine) where
   abbrev dead : ℕ → Queued
   dead a = squash true (queued a)
 
-  two_dead : (a b z : ℕ) (s : Did) → inside a ≡ true → inside b ≡ true → p.code ≤ z → z + 2 < 2 ^ 31 → steps 2 (line (dead a) (dead b) z s) ≡ begins z (doing b idle (doing a idle s))
+  two_dead :
+      (a b z : ℕ) (s : Did) → inside a ≡ true → inside b ≡ true → p.code ≤ z → z + 2 < 2 ^ 31
+      → steps 2 (line (dead a) (dead b) z s) ≡ begins z (doing b idle (doing a idle s))
   two_dead a b z s ia ib low h =
       ap (once machine) (sym (cancelled machine a (dead b) z s ia low (omega arith)))
       ∙ sym (cancelled machine b (queued z) (z + 1) (doing a idle s) ib (omega arith) (omega arith))
@@ -58,7 +64,19 @@ module _ (machine : Machine) where
       two : z + 1 + 1 ≡ z + 2
       two = omega arith
 
-  module _ (pre : List Inst) (t f g : Inst) (b : ℕ) (s : Did) (at : Stands code inside b (pre ++ t ∷ f ∷ g ∷ [])) (plain : ArePlain pre) (plain_f : IsPlain f) (plain_g : IsPlain g) (on : is_halt t ≡ false) (low : p.code ≤ b) (h : b + length pre + 5 < 2 ^ 31) where
+  -- a stretch of plain words from an address on, and behind it a transfer and two plain words
+  pub record Ended (pre : List Inst) (t f g : Inst) (b : ℕ) : Type 0 where
+    pub at : Stands code inside b (pre ++ t ∷ f ∷ g ∷ [])
+    pub plain : ArePlain pre
+    pub plain_f : IsPlain f
+    pub plain_g : IsPlain g
+    pub on : is_halt t ≡ false
+    pub low : p.code ≤ b
+    pub h : b + length pre + 5 < 2 ^ 31
+
+  module _ (pre : List Inst) (t f g : Inst) (b : ℕ) (ended : Ended pre t f g b) (s : Did) where
+    open ended use {at, plain, plain_f, plain_g, on, low, h}
+
     abbrev q : ℕ
     q = b + length pre
 
@@ -86,7 +104,9 @@ module _ (machine : Machine) where
     abbrev d : Decision
     d = decides t q s0.core.regs
 
-    pub past_transfer : (c : Bool) (z : ℕ) → d.cancels ≡ c → next_of d.target (q + 2) ≡ z → p.code ≤ z → steps (length pre + 1) (begins b s) ≡ line (squash c (queued (q + 1))) (squash c (queued (q + 2))) z s1
+    pub past_transfer :
+        (c : Bool) (z : ℕ) → d.cancels ≡ c → next_of d.target (q + 2) ≡ z → p.code ≤ z
+        → steps (length pre + 1) (begins b s) ≡ line (squash c (queued (q + 1))) (squash c (queued (q + 2))) z s1
     past_transfer c z is_c is_z low_z =
         for_add machine (length pre) 1 (begins b s)
         ∙ ap (once machine) (goes machine pre b s (stands_left code inside b pre (t ∷ f ∷ g ∷ []) at) plain low (omega arith))
@@ -95,21 +115,27 @@ module _ (machine : Machine) where
         ∙ ap (λ n. line (squash c (queued (q + 1))) (squash c (queued (q + 2))) n s1) is_z
 
     -- both slots are taken
-    pub slots_taken : (z : ℕ) → d.cancels ≡ false → next_of d.target (q + 2) ≡ z → p.code ≤ z → z + 2 < 2 ^ 31 → steps (length pre + 1 + 2) (begins b s) ≡ begins z (doing (q + 2) g (doing (q + 1) f s1))
+    pub slots_taken :
+        (z : ℕ) → d.cancels ≡ false → next_of d.target (q + 2) ≡ z → p.code ≤ z → z + 2 < 2 ^ 31
+        → steps (length pre + 1 + 2) (begins b s) ≡ begins z (doing (q + 2) g (doing (q + 1) f s1))
     slots_taken z is_c is_z low_z k =
         for_add machine (length pre + 1) 2 (begins b s)
         ∙ ap (steps 2) (past_transfer false z is_c is_z low_z)
         ∙ two_words (q + 1) (q + 2) z s1 f g rest.2.0 rest.2.1 plain_f at_g in_g plain_g low_z k
 
     -- both slots are squashed
-    pub slots_cancelled : (z : ℕ) → d.cancels ≡ true → next_of d.target (q + 2) ≡ z → p.code ≤ z → z + 2 < 2 ^ 31 → steps (length pre + 1 + 2) (begins b s) ≡ begins z (doing (q + 2) idle (doing (q + 1) idle s1))
+    pub slots_cancelled :
+        (z : ℕ) → d.cancels ≡ true → next_of d.target (q + 2) ≡ z → p.code ≤ z → z + 2 < 2 ^ 31
+        → steps (length pre + 1 + 2) (begins b s) ≡ begins z (doing (q + 2) idle (doing (q + 1) idle s1))
     slots_cancelled z is_c is_z low_z k =
         for_add machine (length pre + 1) 2 (begins b s)
         ∙ ap (steps 2) (past_transfer true z is_c is_z low_z)
         ∙ two_dead (q + 1) (q + 2) z s1 rest.2.1 in_g low_z k
 
     -- the first slot is done
-    pub one_taken : (z : ℕ) → d.cancels ≡ false → next_of d.target (q + 2) ≡ z → p.code ≤ z → z + 2 < 2 ^ 31 → steps (length pre + 1 + 1) (begins b s) ≡ line (queued (q + 2)) (queued z) (z + 1) (doing (q + 1) f s1)
+    pub one_taken :
+        (z : ℕ) → d.cancels ≡ false → next_of d.target (q + 2) ≡ z → p.code ≤ z → z + 2 < 2 ^ 31
+        → steps (length pre + 1 + 1) (begins b s) ≡ line (queued (q + 2)) (queued z) (z + 1) (doing (q + 1) f s1)
     one_taken z is_c is_z low_z k =
         for_add machine (length pre + 1) 1 (begins b s)
         ∙ ap (steps 1) (past_transfer false z is_c is_z low_z)
@@ -118,7 +144,14 @@ module _ (machine : Machine) where
   -- a halt
   abbrev halted_at : ℕ → Did → Watched
   halted_at q r = let d : Did = doing q Halt r in record {
-    at = record { first = queued (q + 1); second = queued (q + 2); third = queued (next_of goes_on.target (q + 2)); core = d.core; console = d.console; halted = true };
+    at = record {
+      first = queued (q + 1);
+      second = queued (q + 2);
+      third = queued (next_of goes_on.target (q + 2));
+      core = d.core;
+      console = d.console;
+      halted = true;
+    };
     clean = d.clean;
     loaded = 0;
   }
@@ -126,7 +159,8 @@ module _ (machine : Machine) where
   abbrev stopped : ℕ → Did → Inst → Bool → Watched
   stopped q r j within = record {
     at = stepped p input j (decides j q r.core.regs) (begins q r).at;
-    clean = r.clean && ((within && (is_lawful p input (access j) r.core.regs && leb p.code (next_of (decides j q r.core.regs).target (q + 2)))) && not (reads j r.loaded));
+    clean = r.clean && ((within && (is_lawful p input (access j) r.core.regs && leb p.code (next_of (decides j q r.core.regs).target (q + 2))))
+        && not (reads j r.loaded));
     loaded = loads_to j;
   }
 
@@ -134,7 +168,8 @@ module _ (machine : Machine) where
   halting q r at within low h =
       (λ k. record {
         at = (halted_at q r).at;
-        clean = still_inside r.clean (is_lawful p input (access Halt) r.core.regs) (inside q) (leb p.code (next_of goes_on.target (q + 2))) (reads Halt r.loaded) within above k;
+        clean = still_inside r.clean (is_lawful p input (access Halt) r.core.regs) (inside q) (leb p.code (next_of goes_on.target (q + 2)))
+            (reads Halt r.loaded) within above k;
         loaded = 0;
       })
       ∙ ap (λ (j : Inst). stopped q r j (inside q)) (sym at)
@@ -148,7 +183,9 @@ module _ (machine : Machine) where
     pub clean : (steps (length pre + 1) (begins b s)).clean ≡ (doing (b + length pre) Halt (doing_all b pre s)).clean
     pub halted : (steps (length pre + 1) (begins b s)).at.halted ≡ true
 
-  pub halts : (pre : List Inst) (b : ℕ) (s : Did) → Stands code inside b (pre ++ Halt ∷ []) → ArePlain pre → p.code ≤ b → b + length pre + 3 < 2 ^ 31 → Halts pre b s
+  pub halts :
+      (pre : List Inst) (b : ℕ) (s : Did) → Stands code inside b (pre ++ Halt ∷ []) → ArePlain pre → p.code ≤ b → b + length pre + 3 < 2 ^ 31
+      → Halts pre b s
   halts pre b s at plain low h =
       let r : Did = doing_all b pre s in
       let rest : Stands code inside (b + length pre) (Halt ∷ []) = stands_right code inside b pre (Halt ∷ []) at in
@@ -189,14 +226,21 @@ module _ (machine : Machine) where
       still : (a b : Bool) → a ≡ true → b ≡ false → (a && (true && not b)) ≡ true
       still a b h k = grind arith
 
-  pub keeps_head : (x : Inst) (z a b : ℕ) (d e : Did) → IsPlain x → Same3 d e → reads x d.loaded ≡ false → Keeps machine (begins z (doing a x d)) (begins z (doing b x e))
+  pub keeps_head :
+      (x : Inst) (z a b : ℕ) (d e : Did) → IsPlain x → Same3 d e → reads x d.loaded ≡ false
+      → Keeps machine (begins z (doing a x d)) (begins z (doing b x e))
   keeps_head x z a b d e plain s r =
-      let c : doing a x (record { core = e.core; console = e.console; clean = true; loaded = 0 }) ≡ doing b x (record { core = e.core; console = e.console; clean = true; loaded = 0 }) = did_anywhere machine a b x (record { core = e.core; console = e.console; clean = true; loaded = 0 }) plain.stays in
+      let c : doing a x (record { core = e.core; console = e.console; clean = true; loaded = 0 })
+      ≡ doing b x (record { core = e.core; console = e.console; clean = true; loaded = 0 }) =
+      did_anywhere machine a b x (record { core = e.core; console = e.console; clean = true; loaded = 0 }) plain.stays in
       record {
         at = ap (λ (c : Core). let t : Did = record { core = c; console = d.console; clean = true; loaded = 0 } in (begins z (doing a x t)).at) s.core
             ∙ ap (λ (l : List ℕ). let t : Did = record { core = e.core; console = l; clean = true; loaded = 0 } in (begins z (doing a x t)).at) s.console
             ∙ ap (λ (t : Did). (begins z t).at) c;
-        clean = λ h. still d.clean (is_lawful p input (access x) d.core.regs) (reads x d.loaded) s.clean (ap (λ (c : Core). is_lawful p input (access x) c.regs) s.core ∙ (and_parts (is_lawful p input (access x) e.core.regs) (not (reads x e.loaded)) ((and_parts e.clean (is_lawful p input (access x) e.core.regs && not (reads x e.loaded)) h).1)).0) r;
+        clean = λ h. still d.clean (is_lawful p input (access x) d.core.regs) (reads x d.loaded) s.clean
+            (ap (λ (c : Core). is_lawful p input (access x) c.regs) s.core
+            ∙ (and_parts (is_lawful p input (access x) e.core.regs) (not (reads x e.loaded))
+            ((and_parts e.clean (is_lawful p input (access x) e.core.regs && not (reads x e.loaded)) h).1)).0) r;
         loaded = inl refl;
       }
     where

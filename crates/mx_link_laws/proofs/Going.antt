@@ -1,3 +1,7 @@
+-- A stretch of words, a step a word. The invariant is a queue that holds the address of the next word and the two behind it, with
+-- what the words so far did (`Did`). A plain word takes it one address on (`plain_word`), a stretch of them its length on
+-- (`goes`), a transfer to where it leads (`word`); a squashed word is a no-op (`cancelled`). `Keeps` goes across every step:
+-- of two machines that hold the same, the one is clean where the other is. `Grows` says what no step takes back.
 use Rattle.std.proofs.Common.{◌≡◌, ℕ, zero, suc, ◌+◌, ◌^◌, ◌<◌, ◌≤◌, Bool, true, false, cond, leb, not, ◌&&◌, List, [], ◌∷◌, ◌++◌, ◌⊎◌, length, None, option_to_list, append_assoc, refl, sym, ap, ◌∙◌, subst, arith, ⊎_elim, inl, inr}
 use Rattle.std.proofs.lemmas.Bool.{and_parts}
 use Rattle.std.proofs.lemmas.Bool.Decides.{nat_tests}
@@ -39,7 +43,8 @@ pub stands_left : (code : Code) (inside : ℕ → Bool) (b : ℕ) (is js : List 
 stands_left code inside b [] js h = tt
 stands_left code inside b (i ∷ is) js h = (h.0, h.1, stands_left code inside (b + 1) is js h.2)
 
-pub stands_right : (code : Code) (inside : ℕ → Bool) (b : ℕ) (is js : List Inst) → Stands code inside b (is ++ js) → Stands code inside (b + length is) js
+pub stands_right :
+    (code : Code) (inside : ℕ → Bool) (b : ℕ) (is js : List Inst) → Stands code inside b (is ++ js) → Stands code inside (b + length is) js
 stands_right code inside b [] js h = subst (λ n. Stands code inside n js) (omega arith) h
 stands_right code inside b (i ∷ is) js h = subst (λ n. Stands code inside n js) (omega arith) (stands_right code inside (b + 1) is js h.2)
 
@@ -73,7 +78,8 @@ module _ (machine : Machine) where
   did_anywhere a b i s h =
       let c = s.core in
       let bus = user_bus p input in
-      let e : change i a c.regs c.md (bus.load c.mem c.taken) ≡ change i b c.regs c.md (bus.load c.mem c.taken) = change_anywhere i a b c.regs c.md (bus.load c.mem c.taken) h in
+      let e : change i a c.regs c.md (bus.load c.mem c.taken) ≡ change i b c.regs c.md (bus.load c.mem c.taken) =
+      change_anywhere i a b c.regs c.md (bus.load c.mem c.taken) h in
       did_same _ _ (ap (λ (d : Change). apply bus d c) e) (ap (λ (d : Change). s.console ++ option_to_list (sent bus d.stores)) e) refl refl
 
   -- a queue of which the last is not squashed
@@ -106,10 +112,20 @@ module _ (machine : Machine) where
   }
 
   -- a word at the front of a queue, with what it decides
-  pub word : (a : ℕ) (y : Queued) (z : ℕ) (s : Did) (i : Inst) (d : Decision) → code a ≡ i → inside a ≡ true → d ≡ decides i a s.core.regs → is_halt i ≡ false → p.code ≤ next_of d.target z → queue (squash d.cancels y) (squash d.cancels (queued z)) (next_of d.target z) (did a i s) ≡ once (queue (queued a) y z s)
+  pub word :
+      (a : ℕ) (y : Queued) (z : ℕ) (s : Did) (i : Inst) (d : Decision) → code a ≡ i → inside a ≡ true → d ≡ decides i a s.core.regs
+      → is_halt i ≡ false → p.code ≤ next_of d.target z → queue (squash d.cancels y) (squash d.cancels (queued z)) (next_of d.target z) (did a i s)
+      ≡ once (queue (queued a) y z s)
   word a y z s i d at within is_d on low =
       (λ k. record {
-        at = record { first = squash d.cancels y; second = squash d.cancels (queued z); third = queued (next_of d.target z); core = (did a i s).core; console = (did a i s).console; halted = sym on k };
+        at = record {
+          first = squash d.cancels y;
+          second = squash d.cancels (queued z);
+          third = queued (next_of d.target z);
+          core = (did a i s).core;
+          console = (did a i s).console;
+          halted = sym on k;
+        };
         clean = still_inside s.clean (is_lawful p input (access i) s.core.regs) (inside a) (leb p.code (next_of d.target z)) (reads i s.loaded) within above k;
         loaded = loads_to i;
       })
@@ -119,7 +135,9 @@ module _ (machine : Machine) where
       above : leb p.code (next_of d.target z) ≡ true
       above = grind (arith, nat_tests)
 
-  pub plain_word : (a : ℕ) (y : Queued) (z : ℕ) (s : Did) (i : Inst) → code a ≡ i → inside a ≡ true → IsPlain i → p.code ≤ z → z + 1 < 2 ^ 31 → queue y (queued z) (z + 1) (did a i s) ≡ once (queue (queued a) y z s)
+  pub plain_word :
+      (a : ℕ) (y : Queued) (z : ℕ) (s : Did) (i : Inst) → code a ≡ i → inside a ≡ true → IsPlain i → p.code ≤ z → z + 1 < 2 ^ 31
+      → queue y (queued z) (z + 1) (did a i s) ≡ once (queue (queued a) y z s)
   plain_word a y z s i at within plain low h =
       ap (λ n. queue y (queued z) n (did a i s)) next
       ∙ word a y z s i goes_on at within (sym (decides_anywhere i a s.core.regs plain.stays)) plain.runs_on (let e = next in omega arith)
@@ -128,11 +146,14 @@ module _ (machine : Machine) where
       next = omega arith
 
   -- a squashed word
-  pub cancelled : (a : ℕ) (y : Queued) (z : ℕ) (s : Did) → inside a ≡ true → p.code ≤ z → z + 1 < 2 ^ 31 → queue y (queued z) (z + 1) (did a idle s) ≡ once (queue (squash true (queued a)) y z s)
+  pub cancelled :
+      (a : ℕ) (y : Queued) (z : ℕ) (s : Did) → inside a ≡ true → p.code ≤ z → z + 1 < 2 ^ 31
+      → queue y (queued z) (z + 1) (did a idle s) ≡ once (queue (squash true (queued a)) y z s)
   cancelled a y z s within low h =
       (λ k. record {
         at = record { first = y; second = queued z; third = queued (next k); core = (did a idle s).core; console = (did a idle s).console; halted = false };
-        clean = still_inside s.clean (is_lawful p input (access idle) s.core.regs) (inside a) (leb p.code (next_of None z)) (reads idle s.loaded) within above k;
+        clean = still_inside s.clean (is_lawful p input (access idle) s.core.regs) (inside a) (leb p.code (next_of None z))
+            (reads idle s.loaded) within above k;
         loaded = 0;
       })
     where
@@ -142,7 +163,9 @@ module _ (machine : Machine) where
       above : leb p.code (next_of None z) ≡ true
       above = let e = next in grind (arith, nat_tests)
 
-  pub goes : (insts : List Inst) (b : ℕ) (s : Did) → Stands code inside b insts → ArePlain insts → p.code ≤ b → b + length insts + 2 < 2 ^ 31 → for (length insts) (starts b s) ≡ starts (b + length insts) (did_all b insts s)
+  pub goes :
+      (insts : List Inst) (b : ℕ) (s : Did) → Stands code inside b insts → ArePlain insts → p.code ≤ b → b + length insts + 2 < 2 ^ 31
+      → for (length insts) (starts b s) ≡ starts (b + length insts) (did_all b insts s)
   goes [] b s at plain low h = ap (λ n. starts n s) (omega arith)
   goes (i ∷ insts) b s at plain low h =
       ap (for (length insts)) (sym (plain_word b (queued (b + 1)) (b + 2) s i at.0 at.1 plain.0 (omega arith) (omega arith)) ∙ same)
@@ -165,7 +188,8 @@ module _ (machine : Machine) where
     pub loaded : (x.loaded ≡ y.loaded) ⊎ (x.loaded ≡ 0)
 
   pub keeps_self : (x y : Watched) → x ≡ y → Keeps x y
-  keeps_self x y e = record { at = ap (λ (s : Watched). s.at) e; clean = λ h. ap (λ (s : Watched). s.clean) e ∙ h; loaded = inl (ap (λ (s : Watched). s.loaded) e) }
+  keeps_self x y e =
+      record { at = ap (λ (s : Watched). s.at) e; clean = λ h. ap (λ (s : Watched). s.clean) e ∙ h; loaded = inl (ap (λ (s : Watched). s.loaded) e) }
 
   pub keeps_then : (x y z : Watched) → Keeps x y → Keeps y z → Keeps x z
   keeps_then x y z f g = record {
@@ -180,10 +204,13 @@ module _ (machine : Machine) where
   abbrev step_clean : Delay → ℕ → Bool
   step_clean t l = is_clean_step code inside p input t && not (reads (does code t.first) l)
 
-  still_clean : (t : Delay) (a b : Bool) (l m : ℕ) → (b ≡ true → a ≡ true) → (l ≡ m) ⊎ (l ≡ 0) → (b && step_clean t m) ≡ true → (a && step_clean t l) ≡ true
+  still_clean :
+      (t : Delay) (a b : Bool) (l m : ℕ) → (b ≡ true → a ≡ true) → (l ≡ m) ⊎ (l ≡ 0) → (b && step_clean t m) ≡ true
+      → (a && step_clean t l) ≡ true
   still_clean t a b l m f e h = ⊎_elim
       (λ d. both a (step_clean t l) (f ((and_parts b (step_clean t m) h).0)) (ap (step_clean t) d ∙ (and_parts b (step_clean t m) h).1))
-      (λ d. less_read a (is_clean_step code inside p input t) (reads (does code t.first) l) (reads (does code t.first) m) (f ((and_parts b (step_clean t m) h).0)) (ap (reads (does code t.first)) d ∙ reads_zero (does code t.first)) (and_parts b (step_clean t m) h).1)
+      (λ d. less_read a (is_clean_step code inside p input t) (reads (does code t.first) l) (reads (does code t.first) m)
+      (f ((and_parts b (step_clean t m) h).0)) (ap (reads (does code t.first)) d ∙ reads_zero (does code t.first)) (and_parts b (step_clean t m) h).1)
       e
     where
       both : (a x : Bool) → a ≡ true → x ≡ true → (a && x) ≡ true
@@ -195,7 +222,10 @@ module _ (machine : Machine) where
   abbrev on : Delay → Bool → ℕ → Watched
   on t c l = record { at = delay_step code p input t; clean = c && step_clean t l; loaded = loads_to (does code t.first) }
 
-  keeps_on : (t : Delay) (h : Bool) (a b : Bool) (l m : ℕ) → (b ≡ true → a ≡ true) → (l ≡ m) ⊎ (l ≡ 0) → (let x : Watched = record { at = t; clean = a; loaded = l } in let y : Watched = record { at = t; clean = b; loaded = m } in Keeps (cond h x (on t a l)) (cond h y (on t b m)))
+  keeps_on :
+      (t : Delay) (h : Bool) (a b : Bool) (l m : ℕ) → (b ≡ true → a ≡ true) → (l ≡ m) ⊎ (l ≡ 0)
+      → (let x : Watched = record { at = t; clean = a; loaded = l } in let y : Watched = record { at = t; clean = b; loaded = m } in
+      Keeps (cond h x (on t a l)) (cond h y (on t b m)))
   keeps_on t true a b l m f e = record { at = refl; clean = f; loaded = e }
   keeps_on t false a b l m f e = record { at = refl; clean = still_clean t a b l m f e; loaded = inl refl }
 
@@ -219,7 +249,8 @@ module _ (machine : Machine) where
   grows_on s false e = record {
     bytes = (
       option_to_list (user_byte p input (does code s.at.first) s.at.first.address s.at.core),
-      ap (λ b. (let u : Delay = cond b s.at (stepped p input (does code s.at.first) (decides (does code s.at.first) s.at.first.address s.at.core.regs) s.at) in u.console)) e,
+      ap (λ b. (let u : Delay = cond b s.at (stepped p input (does code s.at.first) (decides (does code s.at.first) s.at.first.address s.at.core.regs) s.at) in
+          u.console)) e,
     );
     clean = λ h. (and_parts s.clean (step_clean s.at s.loaded) h).0;
     halted = λ h. absurd (true_false (sym h ∙ e));

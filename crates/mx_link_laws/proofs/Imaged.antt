@@ -1,4 +1,5 @@
--- The words of linked code stand, each site's from its start on.
+-- The words of linked code stand: each spells its instruction (`code_there`), and each site's stand from its start on
+-- (`code_stands`). The step is a site: where those of a site and of what is behind it stand, so they do one site on (`sites_stand`).
 use Rattle.std.proofs.Common.{◌≡◌, ℕ, zero, suc, ◌+◌, ◌-◌, ◌<◌, Bool, true, cond, leb, ltb, ◌&&◌, List, [], ◌∷◌, ◌++◌, length, map, All, Option, Some, None, refl, sym, ap, ◌∙◌, subst, arith}
 use Rattle.std.specs.Prelude.{slice_get, option_and_then, unwrap_or}
 use Rattle.std.specs.List.{flat_map}
@@ -56,21 +57,27 @@ spelled_at (i ∷ insts) (suc k) x h e = spelled_at insts k x h.1 e
 word_spells : (x : Inst) → Spelled x → inst_of (word_of_row x) ≡ Some x
 word_spells x h = spelled x (word_of_row x) (record { fits = h.fits; registers = h.registers; word_is = refl })
 
-stands_all : (code : Code) (inside : ℕ → Bool) (b : ℕ) (insts : List Inst) → ((k : ℕ) (x : Inst) → slice_get insts k ≡ Some x → (code (b + k) ≡ x) × (inside (b + k) ≡ true)) → Stands code inside b insts
+stands_all :
+    (code : Code) (inside : ℕ → Bool) (b : ℕ) (insts : List Inst)
+    → ((k : ℕ) (x : Inst) → slice_get insts k ≡ Some x → (code (b + k) ≡ x) × (inside (b + k) ≡ true)) → Stands code inside b insts
 stands_all code inside b [] h = tt
 stands_all code inside b (i ∷ insts) h =
     let here = h 0 i refl in
     let zero_on : b + 0 ≡ b = omega arith in (
       ap code (sym zero_on) ∙ here.0,
       ap inside (sym zero_on) ∙ here.1,
-      stands_all code inside (b + 1) insts (λ k x e. let r = h (suc k) x e in let on : b + 1 + k ≡ b + suc k = omega arith in (ap code on ∙ r.0, ap inside on ∙ r.1)),
+      stands_all code inside (b + 1) insts (λ k x e. let r = h (suc k) x e in let on : b + 1 + k ≡ b + suc k = omega arith in
+          (ap code on ∙ r.0, ap inside on ∙ r.1)),
     )
 
 -- the word of an instruction that has one stands at its address
-pub code_there : (base : ℕ) (insts : List Inst) (k : ℕ) (x : Inst) → Spelled x → slice_get insts k ≡ Some x → code_from inst_of base (map word_of_row insts) (base + k) ≡ x
+pub code_there :
+    (base : ℕ) (insts : List Inst) (k : ℕ) (x : Inst) → Spelled x → slice_get insts k ≡ Some x
+    → code_from inst_of base (map word_of_row insts) (base + k) ≡ x
 code_there base insts k x h e =
     let index : base + k - base ≡ k = omega arith in
-    let word : slice_get (map word_of_row insts) (base + k - base) ≡ Some (word_of_row x) = ap (slice_get (map word_of_row insts)) index ∙ slice_get-map word_of_row insts k ∙ ap (option_map word_of_row) e in
+    let word : slice_get (map word_of_row insts) (base + k - base) ≡ Some (word_of_row x) = ap (slice_get (map word_of_row insts)) index
+    ∙ slice_get-map word_of_row insts k ∙ ap (option_map word_of_row) e in
     ap (λ b. cond b (unwrap_or (option_and_then inst_of (slice_get (map word_of_row insts) (base + k - base))) idle) idle) above
     ∙ ap (λ o. unwrap_or (option_and_then inst_of o) idle) word
     ∙ ap (λ o. unwrap_or o idle) (word_spells x h)
@@ -79,13 +86,17 @@ code_there base insts k x h e =
     above = grind (arith, nat_tests)
 
 -- the words of instructions that have words spell them
-pub words_stand : (p : Place) (insts : List Inst) → AllSpelled insts → Stands (code_from inst_of p.code (map word_of_row insts)) (is_inside p (length (map word_of_row insts))) p.code insts
+pub words_stand :
+    (p : Place) (insts : List Inst) → AllSpelled insts → Stands (code_from inst_of p.code (map word_of_row insts))
+    (is_inside p (length (map word_of_row insts))) p.code insts
 words_stand p insts h = stands_all (code_from inst_of p.code (map word_of_row insts)) (is_inside p (length (map word_of_row insts))) p.code insts there
   where
     within : (k n : ℕ) → k < n → (leb p.code (p.code + k) && ltb (p.code + k) (p.code + n)) ≡ true
     within k n l = grind (arith, nat_tests)
 
-    there : (k : ℕ) (x : Inst) → slice_get insts k ≡ Some x → (code_from inst_of p.code (map word_of_row insts) (p.code + k) ≡ x) × (is_inside p (length (map word_of_row insts)) (p.code + k) ≡ true)
+    there :
+        (k : ℕ) (x : Inst) → slice_get insts k ≡ Some x → (code_from inst_of p.code (map word_of_row insts) (p.code + k) ≡ x)
+        × (is_inside p (length (map word_of_row insts)) (p.code + k) ≡ true)
     there k x e =
         let low : k < length insts = slice_get_within insts k x e in
         let long : length (map word_of_row insts) ≡ length insts = length-map insts word_of_row in (
@@ -94,15 +105,23 @@ words_stand p insts h = stands_all (code_from inst_of p.code (map word_of_row in
         )
 
 -- pieces that are as long as the sites' plans stand where the sites do
-pub sites_stand : (code : Code) (inside : ℕ → Bool) (piece : Site → List Inst) → ((s : Site) → length (piece s) ≡ plan_size s.plan) → (at : ℕ) (list : List Site) → StandFrom at list → Stands code inside at (flat_map piece list) → All (λ (s : Site). Stands code inside s.start (piece s)) list
+pub sites_stand :
+    (code : Code) (inside : ℕ → Bool) (piece : Site → List Inst) → ((s : Site) → length (piece s) ≡ plan_size s.plan)
+    → (at : ℕ) (list : List Site) → StandFrom at list → Stands code inside at (flat_map piece list)
+    → All (λ (s : Site). Stands code inside s.start (piece s)) list
 sites_stand code inside piece long at [] h st k d l = absurd (omega arith)
-sites_stand code inside piece long at (s ∷ list) h st zero d l = subst (λ n. Stands code inside n (piece s)) (sym h.0) (stands_left code inside at (piece s) (flat_map piece list) st)
+sites_stand code inside piece long at (s ∷ list) h st zero d l =
+    subst (λ n. Stands code inside n (piece s)) (sym h.0) (stands_left code inside at (piece s) (flat_map piece list) st)
 sites_stand code inside piece long at (s ∷ list) h st (suc k) d l =
-    sites_stand code inside piece long (at + plan_size s.plan) list h.1 (subst (λ n. Stands code inside (at + n) (flat_map piece list)) (long s) (stands_right code inside at (piece s) (flat_map piece list) st)) k d (omega arith)
+    sites_stand code inside piece long (at + plan_size s.plan) list h.1
+    (subst (λ n. Stands code inside (at + n) (flat_map piece list)) (long s) (stands_right code inside at (piece s) (flat_map piece list) st)) k d
+    (omega arith)
 
 pub pieces_spelled : (piece : Site → List Inst) (list : List Site) → All (λ (s : Site). AllSpelled (piece s)) list → AllSpelled (flat_map piece list)
 pieces_spelled piece [] h = tt
-pieces_spelled piece (s ∷ list) h = all_append (piece s) (flat_map piece list) (All-head (λ (s : Site). AllSpelled (piece s)) s list h) (pieces_spelled piece list (All-tail (λ (s : Site). AllSpelled (piece s)) s list h))
+pieces_spelled piece (s ∷ list) h =
+    all_append (piece s) (flat_map piece list) (All-head (λ (s : Site). AllSpelled (piece s)) s list h)
+    (pieces_spelled piece list (All-tail (λ (s : Site). AllSpelled (piece s)) s list h))
 
 -- the registers of a linked instruction are those of its statement
 linked_registers : (link : ℕ → ℕ) (c : Copied) (at : ℕ) (s : Statement) → HasRegisters (statement_inst s) → HasRegisters (linked_inst link c at s)
@@ -143,28 +162,38 @@ module _ (source : SourceValue) (registers : RegistersOf source) (link : ℕ →
   origin_registers c at (Copy i) = statement_registers no_copies at i
   origin_registers c at Pad = (omega arith, omega arith, omega arith)
 
-  items_spelled : (s : Site) (c : Copied) (p a : ℕ) (items : List Item) → a ≡ s.start + p → ((k : ℕ) (item : Item) → slice_get items k ≡ Some item → InstFits (inst_at link source.statements c (s.start + (p + k)) (origin_at s c (p + k) item)))
+  items_spelled :
+      (s : Site) (c : Copied) (p a : ℕ) (items : List Item) → a ≡ s.start + p
+      → ((k : ℕ) (item : Item) → slice_get items k ≡ Some item
+      → InstFits (inst_at link source.statements c (s.start + (p + k)) (origin_at s c (p + k) item)))
       → AllSpelled (insts_from link source.statements c a (origins_from s c p items))
   items_spelled s c p a [] e h = tt
   items_spelled s c p a (item ∷ items) e h =
       let here : p + 0 ≡ p = omega arith in (
         record {
-          fits = subst (λ n. InstFits (inst_at link source.statements c n (origin_at s c p item))) (sym e) (subst (λ n. InstFits (inst_at link source.statements c (s.start + n) (origin_at s c n item))) here (h 0 item refl));
+          fits = subst (λ n. InstFits (inst_at link source.statements c n (origin_at s c p item))) (sym e)
+              (subst (λ n. InstFits (inst_at link source.statements c (s.start + n) (origin_at s c n item))) here (h 0 item refl));
           registers = origin_registers c a (origin_at s c p item);
         },
-        items_spelled s c (suc p) (suc a) items (omega arith) (λ k x f. let on : p + suc k ≡ suc p + k = omega arith in subst (λ n. InstFits (inst_at link source.statements c (s.start + n) (origin_at s c n x))) on (h (suc k) x f)),
+        items_spelled s c (suc p) (suc a) items (omega arith) (λ k x f. let on : p + suc k ≡ suc p + k = omega arith in
+            subst (λ n. InstFits (inst_at link source.statements c (s.start + n) (origin_at s c n x))) on (h (suc k) x f)),
       )
 
-  pub piece_spelled : IsSource source → (filling : Filling) (all : List Site) (s : Site) → IsBlockOf source s.block → Valid s.block s.plan → Goes source link s (filling all s) → AllSpelled (piece_of filling all s)
+  pub piece_spelled :
+      IsSource source → (filling : Filling) (all : List Site) (s : Site) → IsBlockOf source s.block → Valid s.block s.plan
+      → Goes source link s (filling all s) → AllSpelled (piece_of filling all s)
   piece_spelled is filling all s b v g =
       items_spelled s (filling all s) 0 s.start (items_of s.plan) (omega arith) (λ k item e.
       let on : k ≡ 0 + k = omega arith in
-      subst (λ n. InstFits (inst_at link source.statements (filling all s) (s.start + n) (origin_at s (filling all s) n item))) on (has_words source link s (filling all s) is b v g k item e))
+      subst (λ n. InstFits (inst_at link source.statements (filling all s) (s.start + n) (origin_at s (filling all s) n item))) on
+      (has_words source link s (filling all s) is b v g k item e))
 
   -- the code of a layout stands, each site's words from its start on
   pub code_stands : (filling : Filling) (p : Place) (all : List Site) → StandFrom p.code all → All (λ (s : Site). AllSpelled (piece_of filling all s)) all
-      → (let code = code_of filling link source.statements all in All (λ (s : Site). Stands (code_from inst_of p.code code) (is_inside p (length code)) s.start (piece_of filling all s)) all)
+      → (let code = code_of filling link source.statements all in
+      All (λ (s : Site). Stands (code_from inst_of p.code code) (is_inside p (length code)) s.start (piece_of filling all s)) all)
   code_stands filling p all h spelled =
       let insts = flat_map (piece_of filling all) all in
-      sites_stand (code_from inst_of p.code (map word_of_row insts)) (is_inside p (length (map word_of_row insts))) (piece_of filling all) (piece_length source link filling all) p.code all h
+      sites_stand (code_from inst_of p.code (map word_of_row insts)) (is_inside p (length (map word_of_row insts))) (piece_of filling all)
+      (piece_length source link filling all) p.code all h
       (words_stand p insts (pieces_spelled (piece_of filling all) all spelled))

@@ -1,4 +1,5 @@
--- A layout whose branches reach their targets: its links, and where its transfers go.
+-- A layout whose branches reach their targets: what holds of each site (`Facts`), where its transfer goes (`Goal`), that its words
+-- stand (`Standing`), and so the setting in which its runs are (`setting`).
 use Rattle.std.proofs.Common.{◌≡◌, ℕ, ◌+◌, ◌^◌, ◌<◌, ◌≤◌, Bool, true, false, eqb, List, length, All, Option, Some, None, slice_index_or, refl, sym, ap, ◌∙◌, subst, arith, ⊎_elim}
 use Rattle.std.specs.Prelude.{slice_get}
 use Rattle.std.proofs.lemmas.Bool.Decides.{nat_tests}
@@ -58,7 +59,9 @@ module _ (known : Known) where
   open known use {linking.{filling, source, place, sites as all, bytes}, laid.{well_formed as is, room, layout as h, reach}, bare, fills}
 
   pub registers : RegistersOf source
-  registers i s e = subst (λ (x : Statement). HasRegisters (statement_inst x)) (get_or_from_slice_get source.statements i s s e) (known.laid.registers i s (slice_get_within source.statements i s e))
+  registers i s e =
+      subst (λ (x : Statement). HasRegisters (statement_inst x)) (get_or_from_slice_get source.statements i s s e)
+      (known.laid.registers i s (slice_get_within source.statements i s e))
 
   abbrev pub link : ℕ → ℕ
   link = link_of place.code all
@@ -112,7 +115,8 @@ module _ (known : Known) where
   goes_plain s f = record {
     short = link_low;
     call = λ target e. (let l = link_low target in omega arith);
-    branch = λ target e. ap (reaches (s.start + s.plan.place)) (let q : link target + 0 ≡ link target = omega arith in q) ∙ f.reaching target (ap branch_target e);
+    branch = λ target e. ap (reaches (s.start + s.plan.place)) (let q : link target + 0 ≡ link target = omega arith in q)
+        ∙ f.reaching target (ap branch_target e);
     copies = λ p k t e x. absurd (copied_none s.plan.place p k e);
   }
 
@@ -131,7 +135,8 @@ module _ (known : Known) where
     branch = λ target e.
         let l : link target ≡ g.start = ap link (sym (ap goal_of e)) ∙ goal.found in
         ⊎_elim
-        (λ (z : count s g ≡ 0). ap (reaches (s.start + s.plan.place)) (let q : link target + count s g ≡ link target = omega arith in q) ∙ f.reaching target (ap branch_target e))
+        (λ (z : count s g ≡ 0). ap (reaches (s.start + s.plan.place)) (let q : link target + count s g ≡ link target = omega arith in q)
+        ∙ f.reaching target (ap branch_target e))
         (λ moves. ap (λ n. reaches (s.start + s.plan.place) (n + count s g)) l ∙ moves.near (ap is_branch_end e))
         (count_cases s g);
     copies = λ p k t e x.

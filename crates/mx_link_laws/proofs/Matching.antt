@@ -1,4 +1,5 @@
--- A statement of a body that is not stuck does to values what its instruction does to words, lawfully.
+-- One statement of a body. The invariant is `core_of`: the words of what the meaning holds, places of code being their addresses.
+-- A statement that is not stuck takes it to what its instruction does, with the same byte and a lawful access (`body_step`).
 use Rattle.std.proofs.Common.{◌≡◌, ℕ, ℤ, suc, ◌+◌, ◌%◌, ◌^◌, ◌<◌, Bool, true, false, cond, eqb, ◌&&◌, ◌||◌, ◌⊎◌, Option, Some, None, refl, sym, ap, ◌∙◌, subst, arith, ⊎_elim, inl, inr}
 use Rattle.std.specs.Prelude.{is_some}
 use Rattle.std.proofs.lemmas.Bool.{eqb-true, or_parts}
@@ -44,7 +45,9 @@ not_stuck p i r h =
     let o = no_operand (any_code r (operands i)) (why_access p (access i) (words_in r) (value_in r (sources i).1)) h in
     record { words = o.0; lawful = o.1 }
 
-lawful_bools : (stores console user input code : Bool) → cond stores (cond console (cond code (Some CodeToConsole) None) (cond user None (Some StoreOutside))) (cond (user || input) None (Some LoadOutside)) ≡ None → (user || cond stores console input) ≡ true
+lawful_bools :
+    (stores console user input code : Bool) → cond stores (cond console (cond code (Some CodeToConsole) None) (cond user None (Some StoreOutside)))
+    (cond (user || input) None (Some LoadOutside)) ≡ None → (user || cond stores console input) ≡ true
 lawful_bools stores console true input code h = refl
 lawful_bools true true false input code h = refl
 lawful_bools true false false input code h = absurd (some_none StoreOutside h)
@@ -53,10 +56,13 @@ lawful_bools false console false false code h = absurd (some_none LoadOutside h)
 
 lawful_access : (p : Program) (a : Option Access) (r : Words) (v : Value) → why_access p a r v ≡ None → is_lawful p.place p.input a r ≡ true
 lawful_access p None r v h = refl
-lawful_access p (Some a) r v h = lawful_bools a.stores (eqb (address a r) p.place.console) (is_user p.place (address a r)) (is_some p.input && eqb (address a r) p.place.input) (is_code v) h
+lawful_access p (Some a) r v h =
+    lawful_bools a.stores (eqb (address a r) p.place.console) (is_user p.place (address a r)) (is_some p.input && eqb (address a r) p.place.input) (is_code v) h
 
 -- a place of code is not sent to the console
-no_code_sent : (console code user : Bool) → cond console (cond code (Some CodeToConsole) None) (cond user None (Some StoreOutside)) ≡ None → console ≡ true → code ≡ false
+no_code_sent :
+    (console code user : Bool) → cond console (cond code (Some CodeToConsole) None) (cond user None (Some StoreOutside)) ≡ None → console ≡ true
+    → code ≡ false
 no_code_sent true true user h e = absurd (some_none CodeToConsole h)
 no_code_sent true false user h e = refl
 no_code_sent false code user h e = absurd (false_true e)
@@ -177,7 +183,9 @@ module _ (link : ℕ → ℕ) where
           byte = refl;
         }
 
-    store_is : (base v : ℕ) (offset : ℤ) (s : State) → is_code (value_in s.regs base) ≡ false → why_access p (access (Store base v offset)) (words_in s.regs) (value_in s.regs v) ≡ None → AreAlike (Store base v offset) s
+    store_is :
+        (base v : ℕ) (offset : ℤ) (s : State) → is_code (value_in s.regs base) ≡ false
+        → why_access p (access (Store base v offset)) (words_in s.regs) (value_in s.regs v) ≡ None → AreAlike (Store base v offset) s
     store_is base v offset s h bad =
         let a = offset_by (words_in s.regs) base offset in
         let same : a ≡ offset_by (linked_all s.regs) base offset = ap (λ n. offset_by (λ k. n) 1 offset) (word_seen s.regs base h) in
@@ -192,12 +200,18 @@ module _ (link : ℕ → ℕ) where
               ∙ ap (λ n. bus.byte n (reg (linked_all s.regs) v)) same;
         }
       where
-        by_test : (t : Bool) → eqb (offset_by (words_in s.regs) base offset) p.place.console ≡ t → (t ≡ true → is_code (value_in s.regs v) ≡ false) → bus.byte (offset_by (words_in s.regs) base offset) (reg (words_in s.regs) v) ≡ bus.byte (offset_by (words_in s.regs) base offset) (reg (linked_all s.regs) v)
+        by_test :
+            (t : Bool) → eqb (offset_by (words_in s.regs) base offset) p.place.console ≡ t → (t ≡ true → is_code (value_in s.regs v) ≡ false)
+            → bus.byte (offset_by (words_in s.regs) base offset) (reg (words_in s.regs) v)
+            ≡ bus.byte (offset_by (words_in s.regs) base offset) (reg (linked_all s.regs) v)
         by_test true e f = ap (λ w. bus.byte (offset_by (words_in s.regs) base offset) w) (word_seen s.regs v (f refl))
-        by_test false e f = ap (λ t. cond t (Some (reg (words_in s.regs) v % 256)) None) e ∙ sym (ap (λ t. cond t (Some (reg (linked_all s.regs) v % 256)) None) e)
+        by_test false e f =
+            ap (λ t. cond t (Some (reg (words_in s.regs) v % 256)) None) e ∙ sym (ap (λ t. cond t (Some (reg (linked_all s.regs) v % 256)) None) e)
 
     -- with r0 as its second source, add passes a place of code on
-    copied_word : (r : Values) (a b : ℕ) (v : Value) → value_in r a ≡ v → b ≡ 0 → linked (passed_on v (word_of (reg (words_in r) a + reg (words_in r) b))) ≡ word_of (reg (linked_all r) a + reg (linked_all r) b)
+    copied_word :
+        (r : Values) (a b : ℕ) (v : Value) → value_in r a ≡ v → b ≡ 0
+        → linked (passed_on v (word_of (reg (words_in r) a + reg (words_in r) b))) ≡ word_of (reg (linked_all r) a + reg (linked_all r) b)
     copied_word r a b (Int w) e z =
         let h : reg (words_in r) a ≡ reg (linked_all r) a = word_seen r a (ap is_code e) in
         let k : reg (words_in r) b ≡ reg (linked_all r) b = ap (reg (words_in r)) z ∙ sym (ap (reg (linked_all r)) z) in
@@ -208,7 +222,9 @@ module _ (link : ℕ → ℕ) where
         let k : reg (linked_all r) b ≡ 0 = ap (reg (linked_all r)) z in
         omega arith
 
-    copied_is : (op : Op) (a d b : ℕ) (s : State) → copies op b ≡ true → Alike bus (value_in s.regs a) (by_words (Compute a d b op) s) (by_links (Compute a d b op) s)
+    copied_is :
+        (op : Op) (a d b : ℕ) (s : State) → copies op b ≡ true
+        → Alike bus (value_in s.regs a) (by_words (Compute a d b op) s) (by_links (Compute a d b op) s)
     copied_is Add a d b s h = record {
       dest = refl;
       value = inr (copied_word s.regs a b (value_in s.regs a) refl (eqb-true b 0 h));
@@ -222,12 +238,16 @@ module _ (link : ℕ → ℕ) where
     abbrev Sees : Inst → State → Type 0
     Sees i s = SeesAlike i (words_in s.regs) (linked_all s.regs)
 
-    compute_is : (op : Op) (a d b : ℕ) (s : State) (t : Bool) → copies op b ≡ t → any_code s.regs (cond t (0, 0) (a, b)) ≡ false → Alike bus (cond t (value_in s.regs a) (Int 0)) (by_words (Compute a d b op) s) (by_links (Compute a d b op) s)
+    compute_is :
+        (op : Op) (a d b : ℕ) (s : State) (t : Bool) → copies op b ≡ t → any_code s.regs (cond t (0, 0) (a, b)) ≡ false
+        → Alike bus (cond t (value_in s.regs a) (Int 0)) (by_words (Compute a d b op) s) (by_links (Compute a d b op) s)
     compute_is op a d b s true e h = copied_is op a d b s e
     compute_is op a d b s false e h =
         let o = or_parts _ _ h in
         let w : Sees (Compute a d b op) s = record { first = word_seen s.regs a o.0; second = word_seen s.regs b o.1 } in
-        alike_same bus (by_words (Compute a d b op) s) (by_links (Compute a d b op) s) (change_same (Compute a d b op) 0 (words_in s.regs) (linked_all s.regs) s.md s.md (bus.load (words_in s.mem) s.taken) (bus.load (linked_all s.mem) s.taken) w (λ m. refl) tt)
+        alike_same bus (by_words (Compute a d b op) s) (by_links (Compute a d b op) s)
+        (change_same (Compute a d b op) 0 (words_in s.regs) (linked_all s.regs) s.md s.md (bus.load (words_in s.mem) s.taken)
+        (bus.load (linked_all s.mem) s.taken) w (λ m. refl) tt)
 
     plain_is : (i : Inst) (s : State) → IsPlainStatement i → NotStuck p i s.regs → AreAlike i s
     plain_is (Load base d offset) s h n = load_is base d offset s (or_parts _ _ n.words).0
@@ -235,16 +255,23 @@ module _ (link : ℕ → ℕ) where
     plain_is (Compute a d b op) s h n = compute_is op a d b s (copies op b) refl n.words
     plain_is (Addi a d imm) s h n =
         let w : Sees (Addi a d imm) s = record { first = word_seen s.regs a (or_parts _ _ n.words).0; second = refl } in
-        alike_same bus (by_words (Addi a d imm) s) (by_links (Addi a d imm) s) (change_same (Addi a d imm) 0 (words_in s.regs) (linked_all s.regs) s.md s.md (bus.load (words_in s.mem) s.taken) (bus.load (linked_all s.mem) s.taken) w (λ m. refl) tt)
+        alike_same bus (by_words (Addi a d imm) s) (by_links (Addi a d imm) s)
+        (change_same (Addi a d imm) 0 (words_in s.regs) (linked_all s.regs) s.md s.md (bus.load (words_in s.mem) s.taken)
+        (bus.load (linked_all s.mem) s.taken) w (λ m. refl) tt)
     plain_is (MoveFrom d special) s h n =
         let w : Sees (MoveFrom d special) s = record { first = refl; second = refl } in
-        alike_same bus (by_words (MoveFrom d special) s) (by_links (MoveFrom d special) s) (change_same (MoveFrom d special) 0 (words_in s.regs) (linked_all s.regs) s.md s.md (bus.load (words_in s.mem) s.taken) (bus.load (linked_all s.mem) s.taken) w (λ m. refl) tt)
+        alike_same bus (by_words (MoveFrom d special) s) (by_links (MoveFrom d special) s)
+        (change_same (MoveFrom d special) 0 (words_in s.regs) (linked_all s.regs) s.md s.md (bus.load (words_in s.mem) s.taken)
+        (bus.load (linked_all s.mem) s.taken) w (λ m. refl) tt)
     plain_is (MoveTo a special) s h n =
         let w : Sees (MoveTo a special) s = record { first = word_seen s.regs a (or_parts _ _ n.words).0; second = refl } in
-        alike_same bus (by_words (MoveTo a special) s) (by_links (MoveTo a special) s) (change_same (MoveTo a special) 0 (words_in s.regs) (linked_all s.regs) s.md s.md (bus.load (words_in s.mem) s.taken) (bus.load (linked_all s.mem) s.taken) w (λ m. refl) tt)
+        alike_same bus (by_words (MoveTo a special) s) (by_links (MoveTo a special) s)
+        (change_same (MoveTo a special) 0 (words_in s.regs) (linked_all s.regs) s.md s.md (bus.load (words_in s.mem) s.taken)
+        (bus.load (linked_all s.mem) s.taken) w (λ m. refl) tt)
     plain_is _ s h n = absurd h
 
-    written_as : (f : Values) (d e x : ℕ) (v : Value) → d ≡ e → (d ≡ 0) ⊎ (linked v ≡ x) → linked_all (write_value f d v) ≡ write (linked_all f) e x
+    written_as :
+        (f : Values) (d e x : ℕ) (v : Value) → d ≡ e → (d ≡ 0) ⊎ (linked v ≡ x) → linked_all (write_value f d v) ≡ write (linked_all f) e x
     written_as f d e x v h k = linked_write f d v ∙ ⊎_elim
         (λ z. ap (λ n. write (linked_all f) n (linked v)) z ∙ sym (ap (λ n. write (linked_all f) n x) (sym h ∙ z)))
         (λ w. (λ t. write (linked_all f) (h t) (w t)))
@@ -265,9 +292,13 @@ module _ (link : ℕ → ℕ) where
       pub byte : (done p i s).byte ≡ user_byte p.place p.input i 0 (core_of s)
       pub lawful : is_lawful p.place p.input (access i) (linked_all s.regs) ≡ true
 
-    lawful_seen : (i : Inst) (r : Values) → IsPlainStatement i → any_code r (operands i) ≡ false → is_lawful p.place p.input (access i) (words_in r) ≡ is_lawful p.place p.input (access i) (linked_all r)
-    lawful_seen (Load base d offset) r h n = ap (λ m. is_user p.place m || (is_some p.input && eqb m p.place.input)) (ap (λ m. offset_by (λ k. m) 1 offset) (word_seen r base (or_parts _ _ n).0))
-    lawful_seen (Store base v offset) r h n = ap (λ m. is_user p.place m || eqb m p.place.console) (ap (λ m. offset_by (λ k. m) 1 offset) (word_seen r base (or_parts _ _ n).0))
+    lawful_seen :
+        (i : Inst) (r : Values) → IsPlainStatement i → any_code r (operands i) ≡ false
+        → is_lawful p.place p.input (access i) (words_in r) ≡ is_lawful p.place p.input (access i) (linked_all r)
+    lawful_seen (Load base d offset) r h n =
+        ap (λ m. is_user p.place m || (is_some p.input && eqb m p.place.input)) (ap (λ m. offset_by (λ k. m) 1 offset) (word_seen r base (or_parts _ _ n).0))
+    lawful_seen (Store base v offset) r h n =
+        ap (λ m. is_user p.place m || eqb m p.place.console) (ap (λ m. offset_by (λ k. m) 1 offset) (word_seen r base (or_parts _ _ n).0))
     lawful_seen _ r h n = refl
 
     pub body_step : (i : Inst) (s : State) → IsPlainStatement i → why_plain p i s.regs ≡ None → BodyStep i s

@@ -1,4 +1,7 @@
--- One block: from its first word on, the linked code does what its statements mean.
+-- One block. The invariant: the queue is at the block's first word, and registers, memory and console are the meaning's (`did_of`).
+-- It goes across the block to the first word of the next one (`GoesOn`) or to a halt (`StopsAt`). Where slots hold the first words of
+-- the target, the machine comes to where the target's own run is after those words (`reaches`), and shows the meaning's state
+-- before it does them (`shown`).
 use Rattle.std.proofs.Common.{◌≡◌, ℕ, suc, ◌+◌, ◌*◌, ◌-◌, ◌^◌, ◌<◌, ◌≤◌, Bool, true, false, ◌&&◌, List, [], ◌∷◌, ◌++◌, ◌⊎◌, length, length-append, Option, Some, None, refl, sym, ap, ◌∙◌, subst, arith, ⊎_elim, inl, inr}
 use Rattle.std.specs.Prelude.{slice_get}
 use Rattle.std.proofs.lemmas.Bool.{cond-true, cond-false}
@@ -24,7 +27,7 @@ use Rattle.mx_order.specs.Parts.{AreBelow}
 use Rattle.mx_order.proofs.Reorder.{once_length}
 use Rattle.mx_order.proofs.Words.{item_inst, words, run_along}
 use Rattle.mx_link_laws.proofs.Going.{Did, IsPlain, ArePlain, idle_plain, Stands, stands_left, did_same, did, did_all, did_anywhere, queue, starts, for, for_same, for_add, plain_word, goes, Keeps, keeps_self, keeps_then}
-use Rattle.mx_link_laws.proofs.Ends.{append_did, past_transfer, slots_taken, slots_cancelled, one_taken, at_g, in_g, halts, undo, keeps_idle, keeps_head}
+use Rattle.mx_link_laws.proofs.Ends.{Ended, append_did, past_transfer, slots_taken, slots_cancelled, one_taken, at_g, in_g, halts, undo, keeps_idle, keeps_head}
 use Rattle.mx_link_laws.proofs.Matching.{core_of}
 use Rattle.mx_link_laws.proofs.Saying.{said, step_is, not_stuck_before, run_same, run_add, run_one_more, AreBody, all_plain, ran_at, BodyRun, body_run}
 use Rattle.mx_link_laws.proofs.Planned.{ran_of, all_ran, all_loaded, bodies, pre, last, bodies_length, pre_length, plain_body, plain_pre, size_ends, falls_run, words_are, ends_run, decides_there, apart_all, apart_pre, end_loaded}
@@ -42,7 +45,8 @@ right_below : (n : ℕ) (f g : Item) → AreBelow n (f ∷ g ∷ []) → AreBelo
 right_below n (Op k) g h = h.1
 right_below n Nop g h = h
 
-plain_item : (insts : List Inst) (n : ℕ) (x : Item) → AreBelow n (x ∷ []) → ((k : ℕ) → k < n → IsPlain (inst_at insts k)) → IsPlain (item_inst insts x)
+plain_item :
+    (insts : List Inst) (n : ℕ) (x : Item) → AreBelow n (x ∷ []) → ((k : ℕ) → k < n → IsPlain (inst_at insts k)) → IsPlain (item_inst insts x)
 plain_item insts n Nop b h = idle_plain
 plain_item insts n (Op k) b h = h k b.0
 
@@ -270,7 +274,8 @@ module _ (setting : Setting) where
 
     body_done : (k : ℕ) → n ≡ length inner + k → BodyRun link p i at inner r true nowhere
     body_done k e = body_run link p shorts i at inner r true nowhere going here w.body
-        (not_stuck_before p k r1 (ap (λ (u : Run). is_stuck u.state.mark) (sym (run_add p (length inner) k r) ∙ run_same p (length inner + k) n r (sym e)) ∙ safe))
+        (not_stuck_before p k r1 (ap (λ (u : Run). is_stuck u.state.mark) (sym (run_add p (length inner) k r) ∙ run_same p (length inner + k) n r (sym e))
+        ∙ safe))
 
     inner_plain : ArePlain inner
     inner_plain = all_plain link p.statements i inner w.body
@@ -278,8 +283,11 @@ module _ (setting : Setting) where
     front_plain : ArePlain front
     front_plain = plain_pre p.input w.planned inner_plain
 
-    did_is : (d : Did) (u : Run) (x : Ran) (l : Decision) → ran_of d l ≡ x → x.core ≡ core_of link u.state → x.bytes ≡ u.console → x.clean ≡ true → d.loaded ≡ 0 → d ≡ did_of u
-    did_is d u x l e c b k m = did_same d (did_of u) (ap (λ (y : Ran). y.core) e ∙ c) (ap (λ (y : Ran). y.bytes) e ∙ b) (ap (λ (y : Ran). y.clean) e ∙ k) m
+    did_is :
+        (d : Did) (u : Run) (x : Ran) (l : Decision) → ran_of d l ≡ x → x.core ≡ core_of link u.state → x.bytes ≡ u.console → x.clean ≡ true
+        → d.loaded ≡ 0 → d ≡ did_of u
+    did_is d u x l e c b k m =
+        did_same d (did_of u) (ap (λ (y : Ran). y.core) e ∙ c) (ap (λ (y : Ran). y.bytes) e ∙ b) (ap (λ (y : Ran). y.clean) e ∙ k) m
 
     all_made : ran_of (doing_all base all d0) (run_along p.place p.input base all R0).leads ≡ run_along p.place p.input base all R0
     all_made = all_ran machine base all d0 nowhere (apart_all p.input w.planned)
@@ -290,15 +298,18 @@ module _ (setting : Setting) where
     -- a block that falls through
     pub falls_on : falls w.block.end ≡ true → w.parts.back ≡ [] → StandsAt base all → GoesOn i n len place r
     falls_on f none st =
-        let size_is : n ≡ length inner = (let a = inner_is in let b = cond-true (falls w.block.end) (length (insts_of w.block)) (length (insts_of w.block) - 1) f in omega arith) in
+        let size_is : n ≡ length inner = (let a = inner_is in let b =
+        cond-true (falls w.block.end) (length (insts_of w.block)) (length (insts_of w.block) - 1) f in omega arith) in
         let run = body_done 0 (omega arith) in
         let to_size : r2 ≡ r1 = run_same p n (length inner) r size_is in
         let whole = all_made ∙ falls_run p.input w.planned p.place base at R0 f none ∙ run.ran in
-        let d_is : doing_all base all d0 ≡ did_of r2 = did_is (doing_all base all d0) r1 (ran_at link r1 true nowhere) (run_along p.place p.input base all R0).leads whole refl refl refl all_free ∙ ap did_of (sym to_size) in
+        let d_is : doing_all base all d0 ≡ did_of r2 = did_is (doing_all base all d0) r1 (ran_at link r1 true nowhere)
+        (run_along p.place p.input base all R0).leads whole refl refl refl all_free ∙ ap did_of (sym to_size) in
         let no_items : length w.parts.back ≡ 0 = ap length none in
         let lp = len_parts in
         let la = len_all in
-        let wp : ArePlain all = subst ArePlain (sym (ap (words w.insts) (w.parts.whole ∙ ap (λ l. w.parts.front ++ l) none ∙ append-nil w.parts.front))) front_plain in
+        let wp : ArePlain all = subst ArePlain (sym (ap (words w.insts)
+        (w.parts.whole ∙ ap (λ l. w.parts.front ++ l) none ∙ append-nil w.parts.front))) front_plain in
         let sm = small (i + n) in
         let nx = w.next in
         let go : steps len (begins base d0) ≡ begins (link (i + n)) (did_of r2) =
@@ -329,12 +340,15 @@ module _ (setting : Setting) where
         }
 
     -- a block that halts
-    pub stops : falls w.block.end ≡ false → w.parts.back ≡ Op (body_count w.block) ∷ [] → slice_get p.statements (i + length inner) ≡ Some Halt → ender ≡ HaltInst → StandsAt base all → StopsAt i n len place r
+    pub stops :
+        falls w.block.end ≡ false → w.parts.back ≡ Op (body_count w.block) ∷ [] → slice_get p.statements (i + length inner) ≡ Some Halt
+        → ender ≡ HaltInst → StandsAt base all → StopsAt i n len place r
     stops f one stop is_halt_there st =
         let in_is = inner_is in
         let size_is : n ≡ suc (length inner) = size_ends p.input w.planned f ∙ ap (λ m. suc m) (sym in_is) in
         let run = body_done 1 (omega arith) in
-        let end_is : r2 ≡ said p (Some Halt) r1 = run_same p n (suc (length inner)) r size_is ∙ run_one_more p (length inner) r ∙ step_is p r1 (Some Halt) run.mark (ap (slice_get p.statements) run.index ∙ stop) in
+        let end_is : r2 ≡ said p (Some Halt) r1 = run_same p n (suc (length inner)) r size_is ∙ run_one_more p (length inner) r
+        ∙ step_is p r1 (Some Halt) run.mark (ap (slice_get p.statements) run.index ∙ stop) in
         let words_is : all ≡ front ++ HaltInst ∷ [] = words_are p.input w.planned [] one ∙ ap (λ j. front ++ j ∷ []) is_halt_there in
         let st2 : StandsAt base (front ++ HaltInst ∷ []) = subst (StandsAt base) words_is st in
         let lp : len ≡ place + 1 = len_parts ∙ ap (λ l. place + length l) one in
@@ -343,8 +357,10 @@ module _ (setting : Setting) where
         let nx = w.next in
         let h = halts machine front base d0 st2 front_plain (low i) (omega arith) in
         let go = goes machine front base d0 (stands_left code inside base front (HaltInst ∷ []) st2) front_plain (low i) (omega arith) in
-        let all_is : doing_all base all d0 ≡ doing at HaltInst (doing_all base front d0) = ap (λ l. doing_all base l d0) words_is ∙ append_did machine base front (HaltInst ∷ []) d0 in
-        let whole : ran_of (doing_all base all d0) (run_along p.place p.input base all R0).leads ≡ run_one p.place p.input at HaltInst (ran_at link r1 true nowhere) =
+        let all_is : doing_all base all d0 ≡ doing at HaltInst (doing_all base front d0) = ap (λ l. doing_all base l d0) words_is
+        ∙ append_did machine base front (HaltInst ∷ []) d0 in
+        let whole : ran_of (doing_all base all d0) (run_along p.place p.input base all R0).leads
+        ≡ run_one p.place p.input at HaltInst (ran_at link r1 true nowhere) =
         all_made
         ∙ ends_run p.input w.planned p.place base R0 [] f one tt
         ∙ ap (run_one p.place p.input at ender) run.ran
@@ -364,8 +380,10 @@ module _ (setting : Setting) where
           runs_on = ap (λ (x : Watched). x.at.halted) (for_same machine place (length front) (begins base d0) (sym fl) ∙ go);
           halted = ap (λ (x : Watched). x.at.halted) (sym to_place) ∙ h.halted;
           shown = subst (λ (x : Watched). IsAt x r2) to_place (record {
-            core = h.core ∙ ap (λ (d : Did). d.core) (sym all_is) ∙ ap (λ (y : Ran). y.core) whole ∙ ap (λ (u : Run). core_of link u.state) (sym end_is);
-            console = h.console ∙ ap (λ (d : Did). d.console) (sym all_is) ∙ ap (λ (y : Ran). y.bytes) whole ∙ ap (λ (u : Run). u.console) (sym end_is);
+            core = h.core ∙ ap (λ (d : Did). d.core) (sym all_is) ∙ ap (λ (y : Ran). y.core) whole
+                ∙ ap (λ (u : Run). core_of link u.state) (sym end_is);
+            console = h.console ∙ ap (λ (d : Did). d.console) (sym all_is) ∙ ap (λ (y : Ran). y.bytes) whole
+                ∙ ap (λ (u : Run). u.console) (sym end_is);
             clean = h.clean ∙ ap (λ (d : Did). d.clean) (sym all_is) ∙ ap (λ (y : Ran). y.clean) whole;
           });
         }
@@ -449,7 +467,9 @@ module _ (setting : Setting) where
 
       -- all items done
       ended : (j : ℕ) → Landed j → doing (at + 2) gw (doing (at + 1) fw D1) ≡ did_of r2
-      ended j m = sym did_are ∙ did_is (doing_all base all d0) r2 R1 (run_along p.place p.input base all R0).leads (all_made ∙ ran_end) m.core m.bytes transfer_clean all_free
+      ended j m =
+          sym did_are ∙ did_is (doing_all base all d0) r2 R1 (run_along p.place p.input base all R0).leads
+          (all_made ∙ ran_end) m.core m.bytes transfer_clean all_free
 
       len3 : len ≡ place + 3
       len3 = len_parts ∙ ap (λ l. place + length l) three
@@ -476,8 +496,16 @@ module _ (setting : Setting) where
       bound : at + 5 < 2 ^ 31
       bound = let fl = front_is in let l3 = len3 in let sm = small (i + n) in let nx = w.next in omega arith
 
-      goes_on_at : (j : ℕ) → Landed j → (own k c : ℕ) → own + k ≡ len → n ≤ own → place ≤ own → c ≤ k → (c ≡ 0 → k ≡ 0) → LeadsAt c j
-          → Keeping (steps len (begins base d0)) (steps c (begins (link j) (did_of r2))) → IsAt (steps own (begins base d0)) r2 → (steps own (begins base d0)).at.halted ≡ false → GoesOn i n len place r
+      standing : {x y : Inst} → Behind x y → IsPlain x → IsPlain y → Ended machine front ender x y base
+      standing st px py = record { at = st; plain = front_plain; plain_f = px; plain_g = py; on = on; low = low i; h = bound }
+
+      own_standing : {x y : Inst} → x ≡ fw → y ≡ gw → Behind x y → Ended machine front ender fw gw base
+      own_standing e h st = standing (subst (StandsAt base) (λ k. front ++ ender ∷ e k ∷ h k ∷ []) st) plain_f plain_g
+
+      goes_on_at :
+          (j : ℕ) → Landed j → (own k c : ℕ) → own + k ≡ len → n ≤ own → place ≤ own → c ≤ k → (c ≡ 0 → k ≡ 0) → LeadsAt c j
+          → Keeping (steps len (begins base d0)) (steps c (begins (link j) (did_of r2))) → IsAt (steps own (begins base d0)) r2
+          → (steps own (begins base d0)).at.halted ≡ false → GoesOn i n len place r
       goes_on_at j m own k c e many behind few bare lead reach shown runs =
           let ix = m.index in
           record {
@@ -498,7 +526,9 @@ module _ (setting : Setting) where
           }
 
       -- with all items done
-      all_done : (j : ℕ) → Landed j → Leads j → steps (length front + 1 + 2) (begins base d0) ≡ begins (link j) (doing (at + 2) gw (doing (at + 1) fw D1)) → GoesOn i n len place r
+      all_done :
+          (j : ℕ) → Landed j → Leads j → steps (length front + 1 + 2) (begins base d0) ≡ begins (link j) (doing (at + 2) gw (doing (at + 1) fw D1))
+          → GoesOn i n len place r
       all_done j m lead go =
           let fl = front_is in
           let l3 = len3 in
@@ -529,17 +559,19 @@ module _ (setting : Setting) where
       passes_own : (sq : Bool) (x y : Inst) → Decides (onward sq) → Landed (i + n) → sq ≡ false → x ≡ fw → y ≡ gw → Behind x y → Onward
       passes_own sq x y e m clear x_is y_is st =
           all_done (i + n) m w.lead
-          (slots_taken machine front ender fw gw base d0 (subst (StandsAt base) (λ k. front ++ ender ∷ x_is k ∷ y_is k ∷ []) st) front_plain plain_f plain_g on (low i) bound (link (i + n))
+          (slots_taken machine front ender fw gw base (own_standing x_is y_is st) d0 (link (i + n))
           (ap (λ (d : Decision). d.cancels) (decision ∙ e) ∙ clear)
           (ap (λ (d : Decision). next_of d.target (at + 2)) (decision ∙ e) ∙ after_it)
           (low (i + n))
           (let sm = small (i + n) in omega arith))
 
       -- not taken, both slots being squashed
-      passes_squashed : (sq : Bool) (x y : Inst) → Decides (onward sq) → Landed (i + n) → sq ≡ true → IsPlain x → IsPlain y → f ≡ Nop → g ≡ Nop → Behind x y → Onward
+      passes_squashed :
+          (sq : Bool) (x y : Inst) → Decides (onward sq) → Landed (i + n) → sq ≡ true → IsPlain x → IsPlain y → f ≡ Nop → g ≡ Nop
+          → Behind x y → Onward
       passes_squashed sq x y e m set px py nf ng st =
           all_done (i + n) m w.lead
-          (slots_cancelled machine front ender x y base d0 st front_plain px py on (low i) bound (link (i + n))
+          (slots_cancelled machine front ender x y base (standing st px py) d0 (link (i + n))
           (ap (λ (d : Decision). d.cancels) (decision ∙ e) ∙ set)
           (ap (λ (d : Decision). next_of d.target (at + 2)) (decision ∙ e) ∙ after_it)
           (low (i + n))
@@ -560,7 +592,7 @@ module _ (setting : Setting) where
         takes_own : count ≡ 0 → Leads t → x ≡ fw → y ≡ gw → Behind x y → Onward
         takes_own none lead x_is y_is st =
             all_done t m lead
-            (slots_taken machine front ender fw gw base d0 (subst (StandsAt base) (λ k. front ++ ender ∷ x_is k ∷ y_is k ∷ []) st) front_plain plain_f plain_g on (low i) bound (link t)
+            (slots_taken machine front ender fw gw base (own_standing x_is y_is st) d0 (link t)
             not_cancelled
             (to_target ∙ (let q : link t + count ≡ link t = omega arith in q))
             (low t)
@@ -572,22 +604,29 @@ module _ (setting : Setting) where
         one_head : (x : Inst) → Head t 0 x → steps 1 (begins (link t) S) ≡ begins (link t + 1) (doing (link t) x S)
         one_head x h =
             let sm = small t in
-            goes machine (x ∷ []) (link t) S (subst (λ q. code q ≡ x) plus_zero h.at, subst (λ q. inside q ≡ true) plus_zero h.within, tt) (h.plain, tt) (low t) (omega arith)
+            goes machine (x ∷ []) (link t) S (subst (λ q. code q ≡ x) plus_zero h.at, subst (λ q. inside q ≡ true) plus_zero h.within, tt) (h.plain, tt)
+            (low t) (omega arith)
           where
             plus_zero : link t + 0 ≡ link t
             plus_zero = omega arith
 
-        two_heads : (x y : Inst) → Head t 0 x → Head t 1 y → steps 2 (begins (link t) S) ≡ begins (link t + 2) (doing (link t + 1) y (doing (link t) x S))
+        two_heads :
+            (x y : Inst) → Head t 0 x → Head t 1 y → steps 2 (begins (link t) S) ≡ begins (link t + 2) (doing (link t + 1) y (doing (link t) x S))
         two_heads x y h k =
             let sm = small t in
-            goes machine (x ∷ y ∷ []) (link t) S (subst (λ q. code q ≡ x) plus_zero h.at, subst (λ q. inside q ≡ true) plus_zero h.within, (k.at, k.within, tt)) (h.plain, (k.plain, tt)) (low t) (omega arith)
+            goes machine (x ∷ y ∷ []) (link t) S (
+              subst (λ q. code q ≡ x) plus_zero h.at,
+              subst (λ q. inside q ≡ true) plus_zero h.within,
+              (k.at, k.within, tt),
+            ) (h.plain, (k.plain, tt)) (low t) (omega arith)
           where
             plus_zero : link t + 0 ≡ link t
             plus_zero = omega arith
 
         both_nops : f ≡ Nop → g ≡ Nop → D1 ≡ S
         both_nops nf ng =
-            let two : doing (at + 2) idle (doing (at + 1) idle D1) ≡ S = (λ k. doing (at + 2) (item_inst w.insts (sym ng k)) (doing (at + 1) (item_inst w.insts (sym nf k)) D1)) ∙ ended t m in
+            let two : doing (at + 2) idle (doing (at + 1) idle D1) ≡ S =
+            (λ k. doing (at + 2) (item_inst w.insts (sym ng k)) (doing (at + 1) (item_inst w.insts (sym nf k)) D1)) ∙ ended t m in
             let a = undo machine (at + 2) (doing (at + 1) idle D1) S two refl in
             let b = undo machine (at + 1) D1 (doing (at + 1) idle D1) refl a.clean in
             did_same D1 S (b.core ∙ a.core) (b.console ∙ a.console) b.clean (cond-false (is_load ender) (dest ender) 0 no_load)
@@ -596,7 +635,9 @@ module _ (setting : Setting) where
         no_ops nf ng = let e : length (ops (f ∷ g ∷ [])) ≡ 0 = (λ k. length (ops (nf k ∷ ng k ∷ []))) in omega arith
 
         one_op : g ≡ Nop → length (ops (f ∷ g ∷ [])) ≤ 1
-        one_op ng = let e : length (ops (f ∷ g ∷ [])) ≡ length (ops (f ∷ Nop ∷ [])) = (λ k. length (ops (f ∷ ng k ∷ []))) in let h = ops_length (f ∷ []) in let q : length (ops (f ∷ Nop ∷ [])) ≡ length (ops (f ∷ [])) = without f in omega arith
+        one_op ng =
+            let e : length (ops (f ∷ g ∷ [])) ≡ length (ops (f ∷ Nop ∷ [])) = (λ k. length (ops (f ∷ ng k ∷ []))) in
+            let h = ops_length (f ∷ []) in let q : length (ops (f ∷ Nop ∷ [])) ≡ length (ops (f ∷ [])) = without f in omega arith
           where
             without : (x : Item) → length (ops (x ∷ Nop ∷ [])) ≡ length (ops (x ∷ []))
             without (Op k) = refl
@@ -615,7 +656,8 @@ module _ (setting : Setting) where
             let fl = front_is in
             let run : steps (place + 1) (begins base d0) ≡ queue machine (queued (at + 1)) (queued (at + 2)) (link t + count) D1 =
             for_same machine (place + 1) (length front + 1) (begins base d0) (omega arith)
-            ∙ past_transfer machine front ender x y base d0 st front_plain px py on (low i) bound false (link t + count) not_cancelled to_target (low_on count) in
+            ∙ past_transfer machine front ender x y base (standing st px py) d0 false (link t + count) not_cancelled to_target
+            (low_on count) in
             record {
               shown = record {
                 core = ap (λ (u : Watched). u.at.core) run ∙ ap (λ (d : Did). d.core) d_is;
@@ -635,10 +677,12 @@ module _ (setting : Setting) where
             let z_is : link t + count ≡ link t + 2 = omega arith in
             let own = after_transfer x y st hx.plain hy.plain done in
             let b = hy.before in
-            goes_on_at t m (place + 1) 2 2 (omega arith) (let q = many_by 0 (no_ops nf ng) in omega arith) (omega arith) (let q : 2 ≤ 2 = omega arith in q) (λ e. e) (inl lead, (let q : 2 ≤ place_of t = omega arith in q))
+            goes_on_at t m (place + 1) 2 2 (omega arith) (let q = many_by 0 (no_ops nf ng) in omega arith) (omega arith) (let q : 2 ≤ 2 = omega arith in q)
+            (λ e. e) (inl lead, (let q : 2 ≤ place_of t = omega arith in q))
             (keeps_self machine (steps len (begins base d0)) (steps 2 (begins (link t) S))
             (for_same machine len (length front + 1 + 2) (begins base d0) (omega arith)
-            ∙ slots_taken machine front ender x y base d0 st front_plain hx.plain hy.plain on (low i) bound (link t + 2) not_cancelled (to_target ∙ z_is) (low_on 2) (omega arith)
+            ∙ slots_taken machine front ender x y base (standing st hx.plain hy.plain) d0 (link t + 2) not_cancelled (to_target ∙ z_is)
+            (low_on 2) (omega arith)
             ∙ ap (λ d. begins (link t + 2) (doing (at + 2) y (doing (at + 1) x d))) done
             ∙ ap (λ d. begins (link t + 2) (doing (at + 2) y d)) (did_anywhere machine (at + 1) (link t) x S hx.plain.stays)
             ∙ ap (begins (link t + 2)) (did_anywhere machine (at + 2) (link t + 1) y (doing (link t) x S) hy.plain.stays)
@@ -659,13 +703,16 @@ module _ (setting : Setting) where
             let last = doing (at + 2) idle (doing (link t) x S) in
             let go : steps len (begins base d0) ≡ begins (link t + 1) last =
             for_same machine len (length front + 1 + 2) (begins base d0) (omega arith)
-            ∙ slots_taken machine front ender x idle base d0 st front_plain hx.plain idle_plain on (low i) bound (link t + 1) not_cancelled (to_target ∙ z_is) (low_on 1) (omega arith)
+            ∙ slots_taken machine front ender x idle base (standing st hx.plain idle_plain) d0 (link t + 1) not_cancelled
+            (to_target ∙ z_is) (low_on 1) (omega arith)
             ∙ ap (λ d. begins (link t + 1) (doing (at + 2) idle (doing (at + 1) x d))) done
             ∙ ap (λ d. begins (link t + 1) (doing (at + 2) idle d)) (did_anywhere machine (at + 1) (link t) x S hx.plain.stays) in
-            goes_on_at t m (place + 1) 2 1 (omega arith) (let q = many_by 0 (no_ops nf ng) in omega arith) (omega arith) (let q : 1 ≤ 2 = omega arith in q) (λ e. absurd (omega arith)) (inl lead, (let q : 1 ≤ place_of t = omega arith in q))
+            goes_on_at t m (place + 1) 2 1 (omega arith) (let q = many_by 0 (no_ops nf ng) in omega arith) (omega arith) (let q : 1 ≤ 2 = omega arith in q)
+            (λ e. absurd (omega arith)) (inl lead, (let q : 1 ≤ place_of t = omega arith in q))
             (keeps_then machine (steps len (begins base d0)) (begins (link t + 1) last) (steps 1 (begins (link t) S))
             (keeps_self machine (steps len (begins base d0)) (begins (link t + 1) last) go)
-            (subst (λ (u : Watched). Keeping (begins (link t + 1) last) u) (sym (one_head x hx)) (keeps_idle machine (link t + 1) (at + 2) (doing (link t) x S))))
+            (subst (λ (u : Watched). Keeping (begins (link t + 1) last) u) (sym (one_head x hx))
+            (keeps_idle machine (link t + 1) (at + 2) (doing (link t) x S))))
             own.shown own.runs_on
 
         -- the second slot holds a word of the target
@@ -684,19 +731,24 @@ module _ (setting : Setting) where
             let z_is : link t + count ≡ link t + 1 = omega arith in
             let own_run : steps (place + 2) (begins base d0) ≡ queue machine (queued (at + 2)) (queued z) (z + 1) D2 =
             for_same machine (place + 2) (length front + 1 + 1) (begins base d0) (omega arith)
-            ∙ one_taken machine front ender fw y base d0 st front_plain plain_f hy.plain on (low i) bound z not_cancelled (to_target ∙ z_is) (low_on 1) (omega arith) in
-            let last : queue machine (queued z) (queued (z + 1)) (z + 1 + 1) (doing (at + 2) y D2) ≡ once machine (queue machine (queued (at + 2)) (queued z) (z + 1) D2) =
-            plain_word machine (at + 2) (queued z) (z + 1) D2 y (at_g machine front ender fw y base d0 st front_plain plain_f hy.plain on (low i) bound) (in_g machine front ender fw y base d0 st front_plain plain_f hy.plain on (low i) bound) hy.plain (let q = low_on 2 in omega arith) (omega arith) in
+            ∙ one_taken machine front ender fw y base (standing st plain_f hy.plain) d0 z not_cancelled (to_target ∙ z_is) (low_on 1)
+            (omega arith) in
+            let last : queue machine (queued z) (queued (z + 1)) (z + 1 + 1) (doing (at + 2) y D2)
+            ≡ once machine (queue machine (queued (at + 2)) (queued z) (z + 1) D2) =
+            plain_word machine (at + 2) (queued z) (z + 1) D2 y (at_g machine front ender fw y base (standing st plain_f hy.plain) d0)
+            (in_g machine front ender fw y base (standing st plain_f hy.plain) d0) hy.plain (let q = low_on 2 in omega arith) (omega arith) in
             let go : steps len (begins base d0) ≡ begins z (doing (at + 2) y D2) =
             for_same machine len (place + 2 + 1) (begins base d0) (omega arith)
             ∙ for_add machine (place + 2) 1 (begins base d0)
             ∙ ap (once machine) own_run
             ∙ sym last
             ∙ ap (λ q. queue machine (queued z) (queued (z + 1)) q (doing (at + 2) y D2)) (let q : z + 1 + 1 ≡ z + 2 = omega arith in q) in
-            goes_on_at t m (place + 2) 1 1 (omega arith) (let q = many_by 1 (one_op ng) in omega arith) (omega arith) (let q : 1 ≤ 1 = omega arith in q) (λ e. e) (inl lead, (let q : 1 ≤ place_of t = omega arith in q))
+            goes_on_at t m (place + 2) 1 1 (omega arith) (let q = many_by 1 (one_op ng) in omega arith) (omega arith) (let q : 1 ≤ 1 = omega arith in q)
+            (λ e. e) (inl lead, (let q : 1 ≤ place_of t = omega arith in q))
             (keeps_then machine (steps len (begins base d0)) (begins z (doing (at + 2) y D2)) (steps 1 (begins (link t) S))
             (keeps_self machine (steps len (begins base d0)) (begins z (doing (at + 2) y D2)) go)
-            (subst (λ (u : Watched). Keeping (begins z (doing (at + 2) y D2)) u) (sym (one_head y hy)) (keeps_head machine y z (at + 2) (link t) D2 S hy.plain done free)))
+            (subst (λ (u : Watched). Keeping (begins z (doing (at + 2) y D2)) u) (sym (one_head y hy))
+            (keeps_head machine y z (at + 2) (link t) D2 S hy.plain done free)))
             (record {
               core = ap (λ (u : Watched). u.at.core) own_run ∙ done.core;
               console = ap (λ (u : Watched). u.at.console) own_run ∙ done.console;
@@ -712,7 +764,9 @@ module _ (setting : Setting) where
         takes lead (InBoth two set nf ng head other leads) st = takes_both two nf ng leads head other st
 
       -- the transfer does not go
-      pub passes : (slots : Slots) → Decides (onward slots.squash) → Landed (i + n) → slots.sure ≡ false → Filled w.insts f g slots → Behind slots.first slots.second → Onward
+      pub passes :
+          (slots : Slots) → Decides (onward slots.squash) → Landed (i + n) → slots.sure ≡ false → Filled w.insts f g slots
+          → Behind slots.first slots.second → Onward
       passes slots e m unsure (Own none clear first second) st = passes_own slots.squash slots.first slots.second e m clear first second st
       passes slots e m unsure (InSecond one surely ng first head free leads) st = absurd (false_true (sym unsure ∙ surely))
       passes slots e m unsure (InFirst one set nf ng head second leads) st =

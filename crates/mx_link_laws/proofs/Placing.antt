@@ -1,4 +1,5 @@
--- Each block of a layout, with what it ends with, as it is linked.
+-- The block of each leader stands as the laws on one block want it (`placed`): its body, its plan, and how it ends, which its last
+-- statement tells (`ends`).
 use Rattle.std.proofs.Common.{◌≡◌, ℕ, pos, negsuc, zero, suc, ◌+◌, ◌-◌, ◌%◌, ◌^◌, ◌<◌, ◌≤◌, Bool, true, false, cond, eqb, leb, not, ◌&&◌, ◌||◌, List, [], ◌∷◌, ◌++◌, length, take, All, Option, Some, None, slice_index_or, refl, sym, ap, ◌∙◌, subst, arith, inl}
 use Rattle.std.specs.Prelude.{slice_get}
 use Rattle.std.specs.Int.{w32, cast_unsigned}
@@ -57,7 +58,9 @@ false_true : false ≡ true → ⊥
 false_true e = grind arith
 
 -- no block begins before the first
-first_low : (source : SourceValue) (i j : ℕ) (list : List Site) (k : ℕ) (d : Site) → BlocksFrom source i j (blocks_in list) → k < length list → i ≤ (slice_index_or list k d).block.first
+first_low :
+    (source : SourceValue) (i j : ℕ) (list : List Site) (k : ℕ) (d : Site) → BlocksFrom source i j (blocks_in list) → k < length list
+    → i ≤ (slice_index_or list k d).block.first
 first_low source i j [] k d h l = absurd (omega arith)
 first_low source i j (s ∷ list) zero d h l = let first = h.0 in omega arith
 first_low source i j (s ∷ list) (suc k) d h l = let later = first_low source (i + size s.block) j list k d h.2 (omega arith) in omega arith
@@ -69,34 +72,45 @@ in_block : (t : ℕ) (b : Block) → b.first ≡ t → 1 ≤ size b → has_stat
 in_block t b e l = grind (arith, nat_tests)
 
 -- behind each block the next one begins
-next_links : (source : SourceValue) (i j at : ℕ) (list : List Site) → BlocksFrom source i j (blocks_in list) → StandFrom at list → All (λ (s : Site). link_of at list (s.block.first + size s.block) ≡ s.start + plan_size s.plan) list
+next_links :
+    (source : SourceValue) (i j at : ℕ) (list : List Site) → BlocksFrom source i j (blocks_in list) → StandFrom at list
+    → All (λ (s : Site). link_of at list (s.block.first + size s.block) ≡ s.start + plan_size s.plan) list
 next_links source i j at [] h st k d l = absurd (omega arith)
 next_links source i j at (s ∷ list) h st zero d l =
-    ap (λ c. cond c at (link_of (at + plan_size s.plan) list (s.block.first + size s.block))) (behind_block (s.block.first + size s.block) s.block (omega arith))
+    ap (λ c. cond c at (link_of (at + plan_size s.plan) list (s.block.first + size s.block)))
+    (behind_block (s.block.first + size s.block) s.block (omega arith))
     ∙ at_next list h.2
     ∙ ap (λ n. n + plan_size s.plan) (sym st.0)
   where
-    at_next : (rest : List Site) → BlocksFrom source (i + size s.block) j (blocks_in rest) → link_of (at + plan_size s.plan) rest (s.block.first + size s.block) ≡ at + plan_size s.plan
+    at_next :
+        (rest : List Site) → BlocksFrom source (i + size s.block) j (blocks_in rest)
+        → link_of (at + plan_size s.plan) rest (s.block.first + size s.block) ≡ at + plan_size s.plan
     at_next [] b = refl
     at_next (r ∷ rest) b =
         let first = h.0 in
         let begin = b.0 in
-        ap (λ c. cond c (at + plan_size s.plan) (link_of (at + plan_size s.plan + plan_size r.plan) rest (s.block.first + size s.block))) (in_block (s.block.first + size s.block) r.block (omega arith) b.1.some)
+        ap (λ c. cond c (at + plan_size s.plan) (link_of (at + plan_size s.plan + plan_size r.plan) rest (s.block.first + size s.block)))
+        (in_block (s.block.first + size s.block) r.block (omega arith) b.1.some)
 next_links source i j at (s ∷ list) h st (suc k) d l =
     let r = slice_index_or list k d in
     let first = h.0 in
     let above = first_low source (i + size s.block) j list k d h.2 (omega arith) in
-    ap (λ c. cond c at (link_of (at + plan_size s.plan) list (r.block.first + size r.block))) (behind_block (r.block.first + size r.block) s.block (omega arith))
+    ap (λ c. cond c at (link_of (at + plan_size s.plan) list (r.block.first + size r.block)))
+    (behind_block (r.block.first + size r.block) s.block (omega arith))
     ∙ next_links source (i + size s.block) j (at + plan_size s.plan) list h.2 st.1 k d (omega arith)
 
 -- a block has at most 64 statements
-gap_in : (source : SourceValue) (b : Block) → IsBlockOf source b → (t : ℕ) → t < size b → gap (is_labelled source.labels) source.statements (b.first + t) ≡ t
+gap_in :
+    (source : SourceValue) (b : Block) → IsBlockOf source b → (t : ℕ) → t < size b
+    → gap (is_labelled source.labels) source.statements (b.first + t) ≡ t
 gap_in source b h zero l = ap (gap (is_labelled source.labels) source.statements) (let e : b.first + 0 ≡ b.first = omega arith in e) ∙ eqb-true _ 0 h.leader
 gap_in source b h (suc t) l =
     let on : b.first + suc t ≡ suc (b.first + t) = omega arith in
     let quiet = h.inner (suc t) (omega arith) l in
     ap (gap (is_labelled source.labels) source.statements) on
-    ∙ counts (is_labelled source.labels (suc (b.first + t)) || (ends_there (slice_get source.statements (b.first + t)) || eqb (gap (is_labelled source.labels) source.statements (b.first + t)) 63)) (gap (is_labelled source.labels) source.statements (b.first + t)) (ap (is_leader source) (sym on) ∙ quiet)
+    ∙ counts (is_labelled source.labels (suc (b.first + t)) ||
+    (ends_there (slice_get source.statements (b.first + t)) || eqb (gap (is_labelled source.labels) source.statements (b.first + t)) 63))
+    (gap (is_labelled source.labels) source.statements (b.first + t)) (ap (is_leader source) (sym on) ∙ quiet)
     ∙ ap (λ n. suc n) (gap_in source b h t (omega arith))
   where
     counts : (c : Bool) (n : ℕ) → eqb (cond c 0 (suc n)) 0 ≡ false → cond c 0 (suc n) ≡ suc n
@@ -127,7 +141,9 @@ displaced a z h k = by_order (leb a z) refl
     by_order false e = let l : z < a = grind (arith, nat_tests) in omega arith
 
 -- beq r0,r0 goes whatever registers hold
-always_holds : (a b : ℕ) (condition : Cond) (f : Words) → always_goes (Some (BranchInst a b condition false (pos 0))) ≡ true → condition_holds condition (reg f a) (reg f b) ≡ true
+always_holds :
+    (a b : ℕ) (condition : Cond) (f : Words) → always_goes (Some (BranchInst a b condition false (pos 0))) ≡ true
+    → condition_holds condition (reg f a) (reg f b) ≡ true
 always_holds a b Eq f e =
     let both = and_parts (eqb a 0) (eqb b 0) e in
     let za = eqb-true a 0 both.0 in
@@ -237,7 +253,9 @@ module _ (known : Known) where
 
     -- the statement behind the body, and its instruction
     behind_body : (z : Statement) → Last z → falls s.block.end ≡ false → slice_get source.statements (first + length (take n list)) ≡ Some z
-    behind_body z l f = (let e : first + length (take n list) ≡ first + final = (let a = inner_is in let b = last_is f in omega arith) in ap (slice_get source.statements) e) ∙ l.at
+    behind_body z l f =
+        (let e : first + length (take n list) ≡ first + final = (let a = inner_is in let b = last_is f in omega arith) in ap (slice_get source.statements) e)
+        ∙ l.at
 
     ender_is : (z : Statement) → Last z → falls s.block.end ≡ false → inst_number list n ≡ linked_inst link c (s.start + s.plan.place) z
     ender_is z l f =
@@ -322,7 +340,8 @@ module _ (known : Known) where
 
       three_words : n < size s.block → tail_words (Op n ∷ t.first ∷ t.second ∷ []) ≡ inst_number list n ∷ first_slot ∷ second_slot ∷ []
       three_words l =
-          (λ k. ender_word l k ∷ inst_at link source.statements c (one k) (origin_at s c (one_on k) t.first) ∷ inst_at link source.statements c (two k) (origin_at s c (two_on k) t.second) ∷ [])
+          (λ k. ender_word l k ∷ inst_at link source.statements c (one k) (origin_at s c (one_on k) t.first) ∷ inst_at link source.statements c (two k)
+          (origin_at s c (two_on k) t.second) ∷ [])
         where
           one_on : suc (length front) ≡ s.plan.place + 1
           one_on = let e = place_is in omega arith
@@ -377,7 +396,8 @@ module _ (known : Known) where
             is = ender_is z l f_not ∙ ap (λ v. BranchInst a b condition c.squash (displacement from (link v + c.count))) goal;
             reach = ap (λ q. (q + cast_unsigned w32 (displacement from to)) % 2 ^ 31) place_there
                 ∙ displaced from to at_low (subst (λ v. link v + c.count < 2 ^ 31) goal (near_low (link u + c.count) near));
-            surely = λ sure g. always_holds a b condition g (always (is_branch_end s.block.end) (always_goes (terminator s.block)) (ap is_branch_end l.end) sure
+            surely =
+                λ sure g. always_holds a b condition g (always (is_branch_end s.block.end) (always_goes (terminator s.block)) (ap is_branch_end l.end) sure
                 (ap always_goes (inst_is source s.block st.of.block final z (let some = st.of.block.some in omega arith) l.at)));
           }
         where
@@ -423,7 +443,9 @@ module _ (known : Known) where
           where
             there_on : slice_get source.statements (first + size s.block - 1) ≡ slice_get source.statements (first + final)
             there_on = let some = st.of.block.some in let q : first + size s.block - 1 ≡ first + final = omega arith in ap (slice_get source.statements) q
-        by_last (Some z) e = ends z (record { at = e; end = sym (same_Some (end_of z) s.block.end (sym (ap (option_map end_of) (there_on ∙ e)) ∙ st.of.block.end)) }) (statement_fits source is (first + final) z e)
+        by_last (Some z) e =
+            ends z (record { at = e; end = sym (same_Some (end_of z) s.block.end (sym (ap (option_map end_of) (there_on ∙ e)) ∙ st.of.block.end)) })
+            (statement_fits source is (first + final) z e)
           where
             there_on : slice_get source.statements (first + size s.block - 1) ≡ slice_get source.statements (first + final)
             there_on = let some = st.of.block.some in let q : first + size s.block - 1 ≡ first + final = omega arith in ap (slice_get source.statements) q
@@ -440,7 +462,8 @@ module _ (known : Known) where
         subst PlacedAt e (record {
           lay = lay;
           end = end;
-          place = (let q = place_most first in let r = place_is in let x = ap (λ u. place_in (site_of (λ b. eqb b.first u) all)) e ∙ ap place_in found in omega arith);
+          place = (let q = place_most first in let r = place_is in let x = ap (λ u. place_in (site_of (λ b. eqb b.first u) all)) e ∙ ap place_in found in
+              omega arith);
           long = ap len_of e ∙ ap plan_words found;
           inner = st.of.block.inner;
         })
@@ -449,5 +472,6 @@ module _ (known : Known) where
   pub placed : (t : ℕ) → is_leader source t ≡ true → t < length source.statements → PlacedAt t
   placed t e l =
       let b = begins known t e l in
-      let next = site_found (λ (s : Site). link (s.block.first + size s.block) ≡ s.start + plan_size s.plan) (λ b. eqb b.first t) all b.site (next_links source 0 (length source.statements) place.code all h.blocks h.stand) b.found in
+      let next = site_found (λ (s : Site). link (s.block.first + size s.block) ≡ s.start + plan_size s.plan) (λ b. eqb b.first t) all b.site
+      (next_links source 0 (length source.statements) place.code all h.blocks h.stand) b.found in
       placed_first b.site b.standing next.0 t b.first b.found

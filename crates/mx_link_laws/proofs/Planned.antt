@@ -1,4 +1,6 @@
--- The words of a valid plan do on the machine what the block's instructions do in source order.
+-- The words of a valid plan, one after another, do what the block's instructions do in source order: all of them where it falls
+-- through (`falls_run`), the body and then the terminator else (`ends_run`). The terminator decides in its place what it decides
+-- behind the body (`decides_there`). `all_ran` takes what a stretch of words did (`Did`) to a run of instructions (`Ran`).
 use Rattle.std.proofs.Common.{◌≡◌, ℕ, zero, suc, ◌+◌, ◌-◌, ◌<◌, ◌≤◌, Bool, true, false, cond, not, ◌&&◌, List, [], ◌∷◌, ◌++◌, length, take, Option, refl, sym, ap, ◌∙◌, subst, arith}
 use Rattle.std.proofs.Math.Seq.{take-suc}
 use Rattle.std.proofs.lemmas.Bool.{cond-false, cond-true}
@@ -30,7 +32,9 @@ plain_at [] k h l = absurd (omega arith)
 plain_at (i ∷ insts) zero h l = h.0
 plain_at (i ∷ insts) (suc k) h l = plain_at insts k h.1 (omega arith)
 
-pub plain_words : (insts : List Inst) (n : ℕ) (items : List Item) → AreBelow n items → ((k : ℕ) → k < n → IsPlain (inst_at insts k)) → ArePlain (words insts items)
+pub plain_words :
+    (insts : List Inst) (n : ℕ) (items : List Item) → AreBelow n items → ((k : ℕ) → k < n → IsPlain (inst_at insts k))
+    → ArePlain (words insts items)
 plain_words insts n [] b h = tt
 plain_words insts n (Op k ∷ items) b h = (h k b.0, plain_words insts n items b.1 h)
 plain_words insts n (Nop ∷ items) b h = (idle_plain, plain_words insts n items b h)
@@ -45,7 +49,9 @@ ran_of d l = record { core = d.core; bytes = d.console; clean = d.clean; leads =
 module _ (machine : Machine) where
   open machine use {place as p, input}
 
-  one_ran : (a : ℕ) (i : Inst) (d : Did) (l : Decision) → reads i d.loaded ≡ false → ran_of (did machine a i d) (run_one p input a i (ran_of d l)).leads ≡ run_one p input a i (ran_of d l)
+  one_ran :
+      (a : ℕ) (i : Inst) (d : Did) (l : Decision) → reads i d.loaded ≡ false
+      → ran_of (did machine a i d) (run_one p input a i (ran_of d l)).leads ≡ run_one p input a i (ran_of d l)
   one_ran a i d l h = λ k. record {
     core = (did machine a i d).core;
     bytes = (did machine a i d).console;
@@ -53,10 +59,13 @@ module _ (machine : Machine) where
     leads = cond (is_transfer i) (decides i a d.core.regs) l;
   }
 
-  pub all_ran : (a : ℕ) (insts : List Inst) (d : Did) (l : Decision) → AreApart d.loaded insts → ran_of (did_all machine a insts d) (run_along p input a insts (ran_of d l)).leads ≡ run_along p input a insts (ran_of d l)
+  pub all_ran :
+      (a : ℕ) (insts : List Inst) (d : Did) (l : Decision) → AreApart d.loaded insts
+      → ran_of (did_all machine a insts d) (run_along p input a insts (ran_of d l)).leads ≡ run_along p input a insts (ran_of d l)
   all_ran a [] d l h = refl
   all_ran a (i ∷ insts) d l h =
-      subst (λ (r : Ran). ran_of (did_all machine (a + 1) insts (did machine a i d)) (run_along p input (a + 1) insts r).leads ≡ run_along p input (a + 1) insts r)
+      subst (λ (r : Ran). ran_of (did_all machine (a + 1) insts (did machine a i d)) (run_along p input (a + 1) insts r).leads
+      ≡ run_along p input (a + 1) insts r)
       (one_ran a i d l h.0)
       (all_ran (a + 1) insts (did machine a i d) (run_one p input a i (ran_of d l)).leads h.1)
 
@@ -122,7 +131,9 @@ module _ (input : Option (List ℕ)) (planned : PlannedBlock input) where
   stay_words items b = words_stay insts body items b (λ k l. body_stays block plan insts input laid parts k l)
 
   -- the words of the plan, one after another from an address on, do what the instructions do in source order
-  pub falls_run : (p : Place) (a at : ℕ) (s : Ran) → falls block.end ≡ true → parts.back ≡ [] → run_along p input a (words insts (items_of plan)) s ≡ run_source p input at bodies s
+  pub falls_run :
+      (p : Place) (a at : ℕ) (s : Ran) → falls block.end ≡ true → parts.back ≡ []
+      → run_along p input a (words insts (items_of plan)) s ≡ run_source p input at bodies s
   falls_run p a at s f e =
       let all : items_of plan ≡ parts.front = parts.whole ∙ ap (λ l. parts.front ++ l) e ∙ append_nothing parts.front in
       ap (λ l. run_along p input a (words insts l) s) all
@@ -152,7 +163,9 @@ module _ (input : Option (List ℕ)) (planned : PlannedBlock input) where
       ∙ run_source_append p input at bodies (last ∷ []) s
 
   -- the terminator decides in its place what it decides behind the body
-  pub decides_there : (p : Place) (a : ℕ) (s : Ran) → decides last (a + length pre) (run_along p input a pre s).core.regs ≡ decides last (a + length pre) (run_source p input (a + length pre) bodies s).core.regs
+  pub decides_there :
+      (p : Place) (a : ℕ) (s : Ran) → decides last (a + length pre) (run_along p input a pre s).core.regs
+      ≡ decides last (a + length pre) (run_source p input (a + length pre) bodies s).core.regs
   decides_there p a s =
       let at = a + length pre in
       ap (λ (r : Ran). decides last at r.core.regs)
@@ -164,7 +177,9 @@ module _ (input : Option (List ℕ)) (planned : PlannedBlock input) where
   apart_all = words_apart block plan insts input laid
 
   pub apart_pre : AreApart 0 pre
-  apart_pre = apart_left 0 pre (words insts parts.back) (subst (AreApart 0) (ap (words insts) parts.whole ∙ map-append (item_inst insts) parts.front parts.back) apart_all)
+  apart_pre =
+      apart_left 0 pre (words insts parts.back) (subst (AreApart 0)
+      (ap (words insts) parts.whole ∙ map-append (item_inst insts) parts.front parts.back) apart_all)
 
   pub end_loaded : last_loaded 0 (words insts (items_of plan)) ≡ 0
   end_loaded = words_end block plan insts input laid

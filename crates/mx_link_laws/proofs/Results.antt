@@ -57,7 +57,9 @@ results Proposes filling source place bytes r well_formed have_registers room fi
       words = k.code;
       code = ap (code_from inst_of place.code) k.code;
       user_data = ap (data_from place.user_data) k.user_data;
-      links = λ i low. ap (λ (x : List ℕ). slice_index_or x i 0) k.links ∙ link_at (link_map place k.sites) 0 (suc (length source.statements)) i 0 (omega arith) ∙ ap (link_map place k.sites) (let e : 0 + i ≡ i = omega arith in e);
+      links = λ i low. ap (λ (x : List ℕ). slice_index_or x i 0) k.links
+          ∙ link_at (link_map place k.sites) 0 (suc (length source.statements)) i 0 (omega arith)
+          ∙ ap (link_map place k.sites) (let e : 0 + i ≡ i = omega arith in e);
       count = ap length k.code ∙ length-map (insts_in l) word_of_row;
       insts = word_there l is r k.code;
     }

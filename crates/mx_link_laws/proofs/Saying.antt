@@ -1,4 +1,6 @@
--- What the statements of a body do on the side of the meaning, and runs of the meaning.
+-- The statements of a body, one after another. The invariant is `ran_at`, the state and bytes of the meaning as words. It goes across
+-- a statement and its instruction (`one_body`), and so across a body (`body_run`). Beside it, runs of the meaning alone: what is
+-- stuck or has halted stays so, and bytes only grow.
 use Rattle.std.proofs.Common.{◌≡◌, ℕ, pos, zero, suc, ◌+◌, ◌^◌, ◌<◌, Bool, true, false, cond, ◌&&◌, List, [], ◌∷◌, ◌++◌, length, Option, Some, None, option_to_list, append_assoc, refl, sym, ap, ◌∙◌, subst, arith, ⊎_elim}
 use Rattle.std.specs.Prelude.{slice_get}
 use Rattle.std.specs.Int.{w32, cast_unsigned}
@@ -79,13 +81,16 @@ module _ (p : Program) where
   -- bytes only grow
   pub says_more : (n : ℕ) (r : Run) → Prefix r.console (run_for p n r).console
   says_more zero r = prefix_same r.console r.console refl
-  says_more (suc n) r = prefix_then r.console (run_step p r).console (run_for p (suc n) r).console (option_to_list (step p r.state).byte, refl) (says_more n (run_step p r))
+  says_more (suc n) r =
+      prefix_then r.console (run_step p r).console (run_for p (suc n) r).console (option_to_list (step p r.state).byte, refl) (says_more n (run_step p r))
 
   -- what does not go stays
   stays : (r : Run) → is_going r.state.mark ≡ false → run_step p r ≡ r
   stays r h = by_mark r.state.mark (execute p (slice_get p.statements r.state.index) r.state) h
     where
-      by_mark : (m : Mark) (t : Step) → is_going m ≡ false → (let u : Run = record { state = (if_going m t r.state).after; console = r.console ++ option_to_list (if_going m t r.state).byte } in u ≡ r)
+      by_mark :
+          (m : Mark) (t : Step) → is_going m ≡ false → (let u : Run =
+          record { state = (if_going m t r.state).after; console = r.console ++ option_to_list (if_going m t r.state).byte } in u ≡ r)
       by_mark Going t e = absurd (false_true (sym e))
       by_mark Halted t e = λ k. record { state = r.state; console = append-nil r.console k }
       by_mark (Stuck why) t e = λ k. record { state = r.state; console = append-nil r.console k }
@@ -150,12 +155,14 @@ module _ (link : ℕ → ℕ) where
       pub mark : (run_for p (length insts) r).state.mark ≡ Going
 
     module _ (short : (i : ℕ) → link i < 2 ^ 32) where
-      plain_did : (i : Inst) (r : Run) (b : Bool) (at : ℕ) (d : Decision) → IsPlainStatement i → why_plain p i r.state.regs ≡ None → r.state.mark ≡ Going
+      plain_did :
+          (i : Inst) (r : Run) (b : Bool) (at : ℕ) (d : Decision) → IsPlainStatement i → why_plain p i r.state.regs ≡ None → r.state.mark ≡ Going
           → (let t : Run = record { state = (done p i r.state).after; console = r.console ++ option_to_list (done p i r.state).byte } in Did1 r t i b at d)
       plain_did i r b at d body h g =
           let one = body_step link p short i r.state body h in
           let plain = plain_stays i body in
-          let here : run_one p.place p.input 0 i (ran_at r b d) ≡ (let t : Run = record { state = (done p i r.state).after; console = r.console ++ option_to_list (done p i r.state).byte } in ran_at t b d) =
+          let here : run_one p.place p.input 0 i (ran_at r b d) ≡ (let t : Run =
+          record { state = (done p i r.state).after; console = r.console ++ option_to_list (done p i r.state).byte } in ran_at t b d) =
           (λ k. record {
             core = sym one.core k;
             bytes = r.console ++ option_to_list (sym one.byte k);
@@ -173,9 +180,15 @@ module _ (link : ℕ → ℕ) where
           stay false e = refl
 
       abbrev plain_said : Inst → Run → Option Why → Run
-      plain_said i r o = record { state = (unless_stuck o (done p i r.state) r.state).after; console = r.console ++ option_to_list (unless_stuck o (done p i r.state) r.state).byte }
+      plain_said i r o =
+          record {
+            state = (unless_stuck o (done p i r.state) r.state).after;
+            console = r.console ++ option_to_list (unless_stuck o (done p i r.state) r.state).byte;
+          }
 
-      pub one_body : (r : Run) (o : Option Statement) (x : Inst) (b : Bool) (at : ℕ) (d : Decision) → r.state.mark ≡ Going → slice_get p.statements r.state.index ≡ o → IsBodyOf o x → is_stuck (run_step p r).state.mark ≡ false → Did1 r (run_step p r) x b at d
+      pub one_body :
+          (r : Run) (o : Option Statement) (x : Inst) (b : Bool) (at : ℕ) (d : Decision) → r.state.mark ≡ Going
+          → slice_get p.statements r.state.index ≡ o → IsBodyOf o x → is_stuck (run_step p r).state.mark ≡ false → Did1 r (run_step p r) x b at d
       one_body r (Some (Plain i)) x b at d g e body h =
           let is = step_is p r (Some (Plain i)) g e in
           let none = mark_none (why_plain p i r.state.regs) (done p i r.state) r.state (ap (λ (t : Run). is_stuck t.state.mark) (sym is) ∙ h) in
@@ -206,7 +219,9 @@ module _ (link : ℕ → ℕ) where
           }
       one_body r _ x b at d g e body h = absurd body
 
-      pub body_run : (i at : ℕ) (insts : List Inst) (r : Run) (b : Bool) (d : Decision) → r.state.mark ≡ Going → r.state.index ≡ i → AreBody p.statements i insts → is_stuck (run_for p (length insts) r).state.mark ≡ false → BodyRun i at insts r b d
+      pub body_run :
+          (i at : ℕ) (insts : List Inst) (r : Run) (b : Bool) (d : Decision) → r.state.mark ≡ Going → r.state.index ≡ i
+          → AreBody p.statements i insts → is_stuck (run_for p (length insts) r).state.mark ≡ false → BodyRun i at insts r b d
       body_run i at [] r b d g e h k = record { ran = refl; index = e ∙ (let q : i ≡ i + 0 = omega arith in q); mark = g }
       body_run i at (x ∷ insts) r b d g e h k =
           let one = one_body r (slice_get p.statements i) x b at d g (ap (slice_get p.statements) e) h.0 (not_stuck_before p (length insts) (run_step p r) k) in

@@ -1,4 +1,5 @@
--- The laws of linked code.
+-- The laws of linked code, from those on whole runs: the watched machine is the machine with delay slots (`watched`), its run begins
+-- as that machine starts (`begins_so`), and so what whole runs show of the meaning linked code shows (`shows_so`).
 use Rattle.std.proofs.Common.{◌≡◌, ℕ, zero, suc, ◌+◌, ◌*◌, ◌-◌, ◌<◌, ◌≤◌, Bool, true, false, cond, leb, not, ◌&&◌, List, [], ◌∷◌, length, map, Option, refl, sym, ap, ◌∙◌, subst, arith, ⊎_elim, inl, inr, ltb}
 use Rattle.std.specs.Prelude.{slice_index, slice_index_or}
 use Rattle.std.proofs.lemmas.Bool.{cond-true, cond-false, cases_lt}
@@ -43,7 +44,9 @@ on code within p input s = record {
   loaded = loads_to (does code s.at.first);
 }
 
-one_watched : (code : Code) (within : ℕ → Bool) (p : Place) (input : Option (List ℕ)) (s : Watched) → (watch code within p input s).at ≡ delay_step code p input s.at
+one_watched :
+    (code : Code) (within : ℕ → Bool) (p : Place) (input : Option (List ℕ)) (s : Watched)
+    → (watch code within p input s).at ≡ delay_step code p input s.at
 one_watched code within p input s = by_halted s.at.halted refl
   where
     by_halted : (b : Bool) → s.at.halted ≡ b → (watch code within p input s).at ≡ delay_step code p input s.at
@@ -52,9 +55,12 @@ one_watched code within p input s = by_halted s.at.halted refl
         ∙ sym (cond-true s.at.halted s.at (stepped p input (does code s.at.first) (decides (does code s.at.first) s.at.first.address s.at.core.regs) s.at) e)
     by_halted false e = ap (λ (x : Watched). x.at) (cond-false s.at.halted s (on code within p input s) e)
 
-watched : (code : Code) (within : ℕ → Bool) (p : Place) (input : Option (List ℕ)) (n : ℕ) (s : Watched) → (watch_for code within p input n s).at ≡ delay_for code p input n s.at
+watched :
+    (code : Code) (within : ℕ → Bool) (p : Place) (input : Option (List ℕ)) (n : ℕ) (s : Watched)
+    → (watch_for code within p input n s).at ≡ delay_for code p input n s.at
 watched code within p input zero s = refl
-watched code within p input (suc n) s = watched code within p input n (watch code within p input s) ∙ ap (delay_for code p input n) (one_watched code within p input s)
+watched code within p input (suc n) s =
+    watched code within p input n (watch code within p input s) ∙ ap (delay_for code p input n) (one_watched code within p input s)
 
 -- the first block stands at the beginning
 first_link : (source : SourceValue) (j at : ℕ) (sites : List Site) → BlocksFrom source 0 j (blocks_in sites) → link_of at sites 0 ≡ at
@@ -68,18 +74,23 @@ first_link source j at (s ∷ sites) h =
     in_first l = let a = l.0 in let b = l.1 in grind (arith, nat_tests)
 
 -- links grow with statements
-link_grows : (source : SourceValue) (i j at : ℕ) (sites : List Site) (t u : ℕ) → BlocksFrom source i j (blocks_in sites) → i ≤ t → t ≤ u → link_of at sites t ≤ link_of at sites u
+link_grows :
+    (source : SourceValue) (i j at : ℕ) (sites : List Site) (t u : ℕ) → BlocksFrom source i j (blocks_in sites) → i ≤ t → t ≤ u
+    → link_of at sites t ≤ link_of at sites u
 link_grows source i j at [] t u h l m = omega arith
 link_grows source i j at (s ∷ sites) t u h l m = ⊎_elim
     (λ (q : t < s.block.first + size s.block).
     let first = h.0 in
-    let here : link_of at (s ∷ sites) t ≡ at = ap (λ c. cond c at (link_of (at + plan_size s.plan) sites t)) (has t s.block.first (s.block.first + size s.block) (omega arith) q) in
+    let here : link_of at (s ∷ sites) t ≡ at = ap (λ c. cond c at (link_of (at + plan_size s.plan) sites t))
+    (has t s.block.first (s.block.first + size s.block) (omega arith) q) in
     let w = (link_within at (s ∷ sites) u).0 in
     omega arith)
     (λ (q : s.block.first + size s.block ≤ t).
     let first = h.0 in
-    let at_t : link_of at (s ∷ sites) t ≡ link_of (at + plan_size s.plan) sites t = ap (λ c. cond c at (link_of (at + plan_size s.plan) sites t)) (has_not t s.block.first (s.block.first + size s.block) q) in
-    let at_u : link_of at (s ∷ sites) u ≡ link_of (at + plan_size s.plan) sites u = ap (λ c. cond c at (link_of (at + plan_size s.plan) sites u)) (has_not u s.block.first (s.block.first + size s.block) (omega arith)) in
+    let at_t : link_of at (s ∷ sites) t ≡ link_of (at + plan_size s.plan) sites t =
+    ap (λ c. cond c at (link_of (at + plan_size s.plan) sites t)) (has_not t s.block.first (s.block.first + size s.block) q) in
+    let at_u : link_of at (s ∷ sites) u ≡ link_of (at + plan_size s.plan) sites u =
+    ap (λ c. cond c at (link_of (at + plan_size s.plan) sites u)) (has_not u s.block.first (s.block.first + size s.block) (omega arith)) in
     let more = link_grows source (i + size s.block) j (at + plan_size s.plan) sites t u h.2 (omega arith) m in
     omega arith)
     (cases_lt t (s.block.first + size s.block))
@@ -91,15 +102,20 @@ link_grows source i j at (s ∷ sites) t u h l m = ⊎_elim
     has_not x a b p = grind (arith, nat_tests)
 
 -- data words with places of code as their addresses
-words_linked : (link : ℕ → ℕ) (words : List Value) (k : ℕ) → slice_index (map (value_word link) words) k ≡ value_word link (slice_index_or words k (Int 0))
+words_linked :
+    (link : ℕ → ℕ) (words : List Value) (k : ℕ) → slice_index (map (value_word link) words) k ≡ value_word link (slice_index_or words k (Int 0))
 words_linked link [] k = refl
 words_linked link (v ∷ words) zero = refl
 words_linked link (v ∷ words) (suc k) = words_linked link words k
 
-data_linked : (link : ℕ → ℕ) (place : Place) (words : List Value) → data_from place.user_data (map (value_word link) words) ≡ (λ a. value_word link (start_words place words a))
+data_linked :
+    (link : ℕ → ℕ) (place : Place) (words : List Value) → data_from place.user_data (map (value_word link) words)
+    ≡ (λ a. value_word link (start_words place words a))
 data_linked link place words = same_words _ _ (λ a. by_test (leb place.user_data a) a)
   where
-    by_test : (b : Bool) (a : ℕ) → cond b (slice_index (map (value_word link) words) (a - place.user_data)) 0 ≡ value_word link (cond b (slice_index_or words (a - place.user_data) (Int 0)) (Int 0))
+    by_test :
+        (b : Bool) (a : ℕ) → cond b (slice_index (map (value_word link) words) (a - place.user_data)) 0
+        ≡ value_word link (cond b (slice_index_or words (a - place.user_data) (Int 0)) (Int 0))
     by_test true a = words_linked link words (a - place.user_data)
     by_test false a = refl
 
@@ -177,7 +193,8 @@ module _ (known : Known) where
   clean_so j safe =
       let c = runs_clean seen begun j safe in (
         sym (ap (λ (x : Watched). x.clean) (watched_so j)) ∙ c.clean,
-        subst (λ (x : Delay). IsPrefix x.console (meant l (j + 64)).console) (runs_so j) (is_prefix (Linked j).at.console (meant l (j + 64)).console c.console),
+        subst (λ (x : Delay). IsPrefix x.console (meant l (j + 64)).console) (runs_so j)
+            (is_prefix (Linked j).at.console (meant l (j + 64)).console c.console),
       )
 
   abbrev AtNow : Watched → Run → Type 0
@@ -213,8 +230,12 @@ module _ (known : Known) where
     where
       by_mark : (k : Mark) → (meant l m).state.mark ≡ k → (meant l m).state.mark ≡ Going
       by_mark Going q = q
-      by_mark Halted q = absurd (false_true (sym (ap is_going q) ∙ sym (ap (λ (r : Run). is_going r.state.mark) (M_stays seen begun m last le (ap is_going q))) ∙ ap is_going e))
-      by_mark (Stuck why) q = absurd (false_true (sym (ap is_going q) ∙ sym (ap (λ (r : Run). is_going r.state.mark) (M_stays seen begun m last le (ap is_going q))) ∙ ap is_going e))
+      by_mark Halted q =
+          absurd (false_true (sym (ap is_going q) ∙ sym (ap (λ (r : Run). is_going r.state.mark) (M_stays seen begun m last le (ap is_going q)))
+          ∙ ap is_going e))
+      by_mark (Stuck why) q =
+          absurd (false_true (sym (ap is_going q) ∙ sym (ap (λ (r : Run). is_going r.state.mark) (M_stays seen begun m last le (ap is_going q)))
+          ∙ ap is_going e))
 
   halted_so : (j : ℕ) → IsSafe l (j + 64) → (linked_run l j).halted ≡ true → HaltedBefore l j
   halted_so j safe e =
@@ -242,7 +263,8 @@ module _ (known : Known) where
   start_so : ((t : ℕ) → places t ≡ 0) → (m : ℕ) → IsBlockStart l m → StartsBlock l m
   start_so bare m s =
       let b = block_starts seen begun bare m s.going s.leads in
-      let at_is : linked_run l (planned_words l m) ≡ (from seen begun (meant l m)).at = ap (linked_run l) (sym (sums m)) ∙ sym (runs_so (Sum m)) ∙ b.state in
+      let at_is : linked_run l (planned_words l m) ≡ (from seen begun (meant l m)).at = ap (linked_run l) (sym (sums m)) ∙ sym (runs_so (Sum m))
+      ∙ b.state in
       let sum = sums m in
       record {
         no_fewer = (let q = b.low_sum in omega arith);
@@ -276,7 +298,9 @@ module _ (known : Known) where
   no_later : (i j : ℕ) → i ≤ j → lk i ≤ lk j
   no_later i j le = link_grows source 0 (length source.statements) l.place.code all i j laid.layout.blocks (omega arith) le
 
-  only : (i j k : ℕ) → is_leader source i ≡ true → i < length source.statements → (w : PlacedHere j) → is_leader source j ≡ true → j < length source.statements → k < length (items_of w.lay.plan) → lk i ≡ lk j + k → i ≡ j
+  only :
+      (i j k : ℕ) → is_leader source i ≡ true → i < length source.statements → (w : PlacedHere j) → is_leader source j ≡ true
+      → j < length source.statements → k < length (items_of w.lay.plan) → lk i ≡ lk j + k → i ≡ j
   only i j k li hi w lj hj few e = ⊎_elim
       (λ (q : i < j).
       let wi = blocks i li hi in
@@ -293,9 +317,12 @@ module _ (known : Known) where
       (cases_lt j i))
       (cases_lt i j)
 
-  fetch_so : ((t : ℕ) → places t ≡ 0) → (d i : ℕ) → IsSafe l (d + 64) → (linked_run l d).halted ≡ false → is_leader source i ≡ true → i < length source.statements → (linked_run l d).first.address ≡ lk i → ComesFrom l d i
+  fetch_so :
+      ((t : ℕ) → places t ≡ 0) → (d i : ℕ) → IsSafe l (d + 64) → (linked_run l d).halted ≡ false → is_leader source i ≡ true
+      → i < length source.statements → (linked_run l d).first.address ≡ lk i → ComesFrom l d i
   fetch_so bare d i safe on lead within here =
-      let b = block_at_fetch seen begun bare only d safe (ap (λ (x : Delay). x.halted) (runs_so d) ∙ on) i lead within (ap (λ (x : Delay). x.first.address) (runs_so d) ∙ here) in
+      let b = block_at_fetch seen begun bare only d safe (ap (λ (x : Delay). x.halted) (runs_so d) ∙ on) i lead within
+      (ap (λ (x : Delay). x.first.address) (runs_so d) ∙ here) in
       record {
         statements = b.m;
         start = record { going = b.going; leads = ap (is_leader source) b.index ∙ lead };

@@ -1,4 +1,6 @@
--- The instructions of a block as it is linked, and the words of its site.
+-- One site: the instructions of its block as they are linked (`insts`), with which its plan is laid out (`laid`), and the words of its
+-- plan. Before the terminator's place each word is its item's (`front_words`), and what a body holds is linked alike everywhere
+-- (`linked_anywhere`), so also where it is copied to.
 use Rattle.std.proofs.Common.{◌≡◌, ℕ, suc, ◌+◌, ◌<◌, ◌≤◌, Bool, true, false, cond, eqb, List, [], ◌∷◌, ◌++◌, length, map, take, All, Option, Some, None, slice_index_or, refl, sym, ap, ◌∙◌, subst, arith}
 use Rattle.std.specs.Prelude.{slice_get, slice_range, is_some}
 use Rattle.std.specs.Option.{option_map}
@@ -48,12 +50,15 @@ unplaced_same link c at (CallReg a d) = refl
 unplaced_same link c at (JumpReg a) = refl
 unplaced_same link c at Halt = refl
 
-all_unplaced : (link : ℕ → ℕ) (c : Copied) (at : ℕ) (xs : List Statement) → map unplaced (map (linked_inst link c at) xs) ≡ map unplaced (map inst_of xs)
+all_unplaced :
+    (link : ℕ → ℕ) (c : Copied) (at : ℕ) (xs : List Statement) → map unplaced (map (linked_inst link c at) xs) ≡ map unplaced (map inst_of xs)
 all_unplaced link c at [] = refl
 all_unplaced link c at (s ∷ xs) = λ k. unplaced_same link c at s k ∷ all_unplaced link c at xs k
 
 -- a statement of a body is linked alike everywhere
-pub linked_anywhere : (link : ℕ → ℕ) (c c' : Copied) (at at' : ℕ) (s : Statement) → is_last (inst_of s) ≡ false → linked_inst link c at s ≡ linked_inst link c' at' s
+pub linked_anywhere :
+    (link : ℕ → ℕ) (c c' : Copied) (at at' : ℕ) (s : Statement) → is_last (inst_of s) ≡ false
+    → linked_inst link c at s ≡ linked_inst link c' at' s
 linked_anywhere link c c' at at' (Plain i) h = refl
 linked_anywhere link c c' at at' (LaCode d t) h = refl
 linked_anywhere link c c' at at' (Branch a b condition t) h = absurd (false_true (sym h))
@@ -62,7 +67,9 @@ linked_anywhere link c c' at at' (CallReg a d) h = absurd (false_true (sym h))
 linked_anywhere link c c' at at' (JumpReg a) h = absurd (false_true (sym h))
 linked_anywhere link c c' at at' Halt h = absurd (false_true (sym h))
 
-body_of : (link : ℕ → ℕ) (P : ℕ → Type 0) (c : Copied) (at : ℕ) (s : Statement) → StatementFits P s → is_last (inst_of s) ≡ false → IsBodyOf link (Some s) (linked_inst link c at s)
+body_of :
+    (link : ℕ → ℕ) (P : ℕ → Type 0) (c : Copied) (at : ℕ) (s : Statement) → StatementFits P s → is_last (inst_of s) ≡ false
+    → IsBodyOf link (Some s) (linked_inst link c at s)
 body_of link P c at (Plain i) f h = (f.0, refl)
 body_of link P c at (LaCode d t) f h = refl
 body_of link P c at (Branch a b condition t) f h = absurd (false_true (sym h))
@@ -71,25 +78,33 @@ body_of link P c at (CallReg a d) f h = absurd (false_true (sym h))
 body_of link P c at (JumpReg a) f h = absurd (false_true (sym h))
 body_of link P c at Halt f h = absurd (false_true (sym h))
 
-are_body : (link : ℕ → ℕ) (statements : List Statement) (i : ℕ) (xs : List Inst) → ((k : ℕ) → k < length xs → IsBodyOf link (slice_get statements (i + k)) (inst_number xs k)) → AreBody link statements i xs
+are_body :
+    (link : ℕ → ℕ) (statements : List Statement) (i : ℕ) (xs : List Inst)
+    → ((k : ℕ) → k < length xs → IsBodyOf link (slice_get statements (i + k)) (inst_number xs k)) → AreBody link statements i xs
 are_body link statements i [] h = tt
 are_body link statements i (x ∷ xs) h = (
   subst (λ n. IsBodyOf link (slice_get statements n) x) (let e : i + 0 ≡ i = omega arith in e) (h 0 (omega arith)),
-  are_body link statements (suc i) xs (λ k l. let on : i + suc k ≡ suc i + k = omega arith in subst (λ n. IsBodyOf link (slice_get statements n) (inst_number xs k)) on (h (suc k) (omega arith))),
+  are_body link statements (suc i) xs (λ k l. let on : i + suc k ≡ suc i + k = omega arith in
+      subst (λ n. IsBodyOf link (slice_get statements n) (inst_number xs k)) on (h (suc k) (omega arith))),
 )
 
 -- items one behind the other
-origins_append : (s : Site) (c : Copied) (p : ℕ) (xs ys : List Item) → origins_from s c p (xs ++ ys) ≡ origins_from s c p xs ++ origins_from s c (p + length xs) ys
+origins_append :
+    (s : Site) (c : Copied) (p : ℕ) (xs ys : List Item) → origins_from s c p (xs ++ ys) ≡ origins_from s c p xs ++ origins_from s c (p + length xs) ys
 origins_append s c p [] ys = ap (λ n. origins_from s c n ys) (let e : p ≡ p + 0 = omega arith in e)
 origins_append s c p (x ∷ xs) ys =
     ap (λ l. origin_at s c p x ∷ l)
-    (origins_append s c (suc p) xs ys ∙ ap (λ n. origins_from s c (suc p) xs ++ origins_from s c n ys) (let e : suc p + length xs ≡ p + suc (length xs) = omega arith in e))
+    (origins_append s c (suc p) xs ys ∙ ap (λ n. origins_from s c (suc p) xs ++ origins_from s c n ys)
+    (let e : suc p + length xs ≡ p + suc (length xs) = omega arith in e))
 
-insts_append : (link : ℕ → ℕ) (statements : List Statement) (c : Copied) (at : ℕ) (xs ys : List Origin) → insts_from link statements c at (xs ++ ys) ≡ insts_from link statements c at xs ++ insts_from link statements c (at + length xs) ys
+insts_append :
+    (link : ℕ → ℕ) (statements : List Statement) (c : Copied) (at : ℕ) (xs ys : List Origin)
+    → insts_from link statements c at (xs ++ ys) ≡ insts_from link statements c at xs ++ insts_from link statements c (at + length xs) ys
 insts_append link statements c at [] ys = ap (λ n. insts_from link statements c n ys) (let e : at ≡ at + 0 = omega arith in e)
 insts_append link statements c at (x ∷ xs) ys =
     ap (λ l. inst_at link statements c at x ∷ l)
-    (insts_append link statements c (suc at) xs ys ∙ ap (λ n. insts_from link statements c (suc at) xs ++ insts_from link statements c n ys) (let e : suc at + length xs ≡ at + suc (length xs) = omega arith in e))
+    (insts_append link statements c (suc at) xs ys ∙ ap (λ n. insts_from link statements c (suc at) xs ++ insts_from link statements c n ys)
+    (let e : suc at + length xs ≡ at + suc (length xs) = omega arith in e))
 
 origins_length : (s : Site) (c : Copied) (p : ℕ) (items : List Item) → length (origins_from s c p items) ≡ length items
 origins_length s c p [] = refl
@@ -128,14 +143,19 @@ module _ (here : LinkedSite) where
       record {
         statement = slice_index_or source.statements (s.block.first + k) Halt;
         is_there = e;
-        inst = slice_get-map (linked_inst link c at) stated k ∙ ap (option_map (linked_inst link c at)) (get_range source.statements s.block.first (s.block.first + size s.block) k (omega arith) b.within ∙ e);
+        inst = slice_get-map (linked_inst link c at) stated k ∙ ap (option_map (linked_inst link c at))
+            (get_range source.statements s.block.first (s.block.first + size s.block) k (omega arith) b.within ∙ e);
       }
 
   pub inst_there : (k : ℕ) (l : k < size s.block) → inst_number insts k ≡ linked_inst link c at (there k l).statement
   inst_there k l = get_or_from_slice_get insts k (linked_inst link c at (there k l).statement) HaltInst (there k l).inst
 
-  pub fits_there : (k : ℕ) (x : Statement) → slice_get source.statements (s.block.first + k) ≡ Some x → StatementFits (IsPlace source.labels (length source.statements)) x
-  fits_there k x e = subst (StatementFits (IsPlace source.labels (length source.statements))) (get_or_from_slice_get source.statements (s.block.first + k) x x e) (is.statements_fit (s.block.first + k) x (slice_get_within source.statements (s.block.first + k) x e))
+  pub fits_there :
+      (k : ℕ) (x : Statement) → slice_get source.statements (s.block.first + k) ≡ Some x
+      → StatementFits (IsPlace source.labels (length source.statements)) x
+  fits_there k x e =
+      subst (StatementFits (IsPlace source.labels (length source.statements))) (get_or_from_slice_get source.statements (s.block.first + k) x x e)
+      (is.statements_fit (s.block.first + k) x (slice_get_within source.statements (s.block.first + k) x e))
 
   inst_fits_there : (k : ℕ) (l : k < size s.block) → InstFits (linked_inst link c at (there k l).statement)
   inst_fits_there k l =
@@ -167,7 +187,8 @@ module _ (here : LinkedSite) where
       with_input (Some line) = refl
 
   -- the body's statements neither transfer nor halt
-  pub goes_on : (k : ℕ) (x : Statement) → k < body_count s.block → slice_get source.statements (s.block.first + k) ≡ Some x → is_last (inst_of x) ≡ false
+  pub goes_on :
+      (k : ℕ) (x : Statement) → k < body_count s.block → slice_get source.statements (s.block.first + k) ≡ Some x → is_last (inst_of x) ≡ false
   goes_on k x l e =
       let low : k < size s.block = (let w = body_within s.block in omega arith) in
       ap is_last (sym (get_or_from_slice_get (insts_of s.block) k (inst_of x) HaltInst (inst_is source s.block b k x low e))) ∙ body_goes_on s.block k l
@@ -182,7 +203,8 @@ module _ (here : LinkedSite) where
       let x = there k within in
       subst (λ o. IsBodyOf link o (inst_number (take (body_count s.block) insts) k)) (sym x.is_there)
       (subst (λ i. IsBodyOf link (Some x.statement) i) (sym (get_or-take (body_count s.block) insts k HaltInst low ∙ inst_there k within))
-      (body_of link (IsPlace source.labels (length source.statements)) c at x.statement (fits_there k x.statement x.is_there) (goes_on k x.statement low x.is_there))))
+      (body_of link (IsPlace source.labels (length source.statements)) c at x.statement (fits_there k x.statement x.is_there)
+      (goes_on k x.statement low x.is_there))))
 
   -- the word of one of the block's own items, at an address
   abbrev pub own_word : ℕ → Item → Inst
@@ -227,11 +249,13 @@ module _ (here : LinkedSite) where
   left_below n Nop items h = tt
 
   -- items before the terminator's place
-  pub front_words : (p : ℕ) (items : List Item) → p + length items ≤ s.plan.place → AreBelow (body_count s.block) items → words_from p items ≡ words insts items
+  pub front_words :
+      (p : ℕ) (items : List Item) → p + length items ≤ s.plan.place → AreBelow (body_count s.block) items → words_from p items ≡ words insts items
   front_words p [] l h = refl
   front_words p (x ∷ items) l h =
       let on : suc (s.start + p) ≡ s.start + suc p = omega arith in
-      (λ k. (plain_word_at p x (omega arith) ∙ body_word (s.start + p) x (left_below (body_count s.block) x items h)) k ∷ insts_from link source.statements c (on k) (origins_from s c (suc p) items))
+      (λ k. (plain_word_at p x (omega arith) ∙ body_word (s.start + p) x
+      (left_below (body_count s.block) x items h)) k ∷ insts_from link source.statements c (on k) (origins_from s c (suc p) items))
       ∙ ap (λ l. item_inst insts x ∷ l) (front_words (suc p) items (omega arith) (right_below (body_count s.block) x items h))
 
   -- items before others

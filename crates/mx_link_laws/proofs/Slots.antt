@@ -1,4 +1,5 @@
--- What stands in the slots of a site's transfer: its own items, or the first words of its target.
+-- The two words behind a transfer: items of its own plan, or the first words of its target, as its copies say (`filled_there`).
+-- What is copied is no load that the word behind it reads (`free`), and is a word of the target before its terminator (`is_head`).
 use Rattle.std.proofs.Common.{◌≡◌, ◌≢◌, ℕ, zero, suc, ◌+◌, ◌<◌, ◌≤◌, Bool, true, false, cond, eqb, ltb, not, ◌&&◌, ◌||◌, List, [], ◌∷◌, ◌++◌, ◌⊎◌, length, Option, Some, None, slice_index_or, take, min, refl, sym, ap, ◌∙◌, subst, arith, ⊎_elim, inl, inr}
 use Rattle.std.specs.Prelude.{slice_get}
 use Rattle.std.proofs.lemmas.Bool.{cases_eq, and_parts, cond-true, cond-false}
@@ -57,7 +58,9 @@ pub record StandsThere (code : Code) (inside : ℕ → Bool) (a : ℕ) (i : Inst
   pub at : code a ≡ i
   pub within : inside a ≡ true
 
-item_stands : (code : Code) (inside : ℕ → Bool) (b : ℕ) (list : List Inst) (items : List Item) (k : ℕ) (x : Item) → Stands code inside b (words list items) → slice_get items k ≡ Some x → StandsThere code inside (b + k) (item_inst list x)
+item_stands :
+    (code : Code) (inside : ℕ → Bool) (b : ℕ) (list : List Inst) (items : List Item) (k : ℕ) (x : Item) → Stands code inside b (words list items)
+    → slice_get items k ≡ Some x → StandsThere code inside (b + k) (item_inst list x)
 item_stands code inside b list [] k x h e = absurd (cc)
 item_stands code inside b list (y ∷ items) zero x h e =
     let same : y ≡ x = cc in
@@ -74,7 +77,9 @@ nop_is (Op k) e = absurd (false_true e)
 
 get_front : (xs : List Item) (y f g : Item) (k : ℕ) → slice_get (xs ++ y ∷ f ∷ g ∷ []) (length xs + suc k) ≡ slice_get (f ∷ g ∷ []) k
 get_front [] y f g k = ap (slice_get (y ∷ f ∷ g ∷ [])) (let e : 0 + suc k ≡ suc k = omega arith in e)
-get_front (x ∷ xs) y f g k = ap (slice_get (x ∷ (xs ++ y ∷ f ∷ g ∷ []))) (let e : suc (length xs) + suc k ≡ suc (length xs + suc k) = omega arith in e) ∙ get_front xs y f g k
+get_front (x ∷ xs) y f g k =
+    ap (slice_get (x ∷ (xs ++ y ∷ f ∷ g ∷ []))) (let e : suc (length xs) + suc k ≡ suc (length xs + suc k) = omega arith in e)
+    ∙ get_front xs y f g k
 
 module _ (known : Known) where
   open known use {linking.{filling, source, sites as all, bytes}, laid.{well_formed as is}}
@@ -106,7 +111,9 @@ module _ (known : Known) where
   planned_at s st parts = record { block = s.block; plan = s.plan; insts = insts_at s st; laid = laid_at s st; parts = parts; some = st.of.block.some }
 
   -- the words of a site stand as those of its parts
-  pub parts_stand : (s : Site) (st : Stood s) (parts : Parts s.block s.plan) → Stands cd ins s.start (words (insts_at s st) parts.front ++ words_from (linked_site s st) (length parts.front) parts.back)
+  pub parts_stand :
+      (s : Site) (st : Stood s) (parts : Parts s.block s.plan) → Stands cd ins s.start
+      (words (insts_at s st) parts.front ++ words_from (linked_site s st) (length parts.front) parts.back)
   parts_stand s st parts =
       let c = filling all s in
       let b = st.of.block in
@@ -127,7 +134,8 @@ module _ (known : Known) where
       plain_body p.input (planned_at s st parts)
       (all_plain lk source.statements s.block.first (take (body_count s.block) (insts_at s st)) (body (linked_site s st))) k l
 
-  pub item_plain : (s : Site) (st : Stood s) (parts : Parts s.block s.plan) (x : Item) → AreBelow (body_count s.block) (x ∷ []) → IsPlain (item_inst (insts_at s st) x)
+  pub item_plain :
+      (s : Site) (st : Stood s) (parts : Parts s.block s.plan) (x : Item) → AreBelow (body_count s.block) (x ∷ []) → IsPlain (item_inst (insts_at s st) x)
   item_plain s st parts Nop b = idle_plain
   item_plain s st parts (Op k) b = body_plain s st parts k b.0
 
@@ -139,12 +147,15 @@ module _ (known : Known) where
     pub head : HeadOf t k (item_inst (insts_at g st) x)
     pub below : AreBelow (body_count g.block) (x ∷ [])
 
-  pub is_head : (t : ℕ) (g : Site) (st : Stood g) → Parts g.block g.plan → lk t ≡ g.start → place_of t ≡ g.plan.place → (k : ℕ) (x : Item) → slice_get (items_of g.plan) k ≡ Some x → k < g.plan.place → IsHead t g st k x
+  pub is_head :
+      (t : ℕ) (g : Site) (st : Stood g) → Parts g.block g.plan → lk t ≡ g.start → place_of t ≡ g.plan.place → (k : ℕ) (x : Item)
+      → slice_get (items_of g.plan) k ≡ Some x → k < g.plan.place → IsHead t g st k x
   is_head t g st parts start place_is k x e l =
       let pl = parts.place in
       let in_front = get_left parts.front parts.back k x (omega arith) (ap (λ items. slice_get items k) (sym parts.whole) ∙ e) in
       let below = below_at (body_count g.block) parts.front k x parts.body in_front in
-      let there = item_stands cd ins g.start (insts_at g st) parts.front k x (stands_left cd ins g.start (words (insts_at g st) parts.front) _ (parts_stand g st parts)) in_front in
+      let there = item_stands cd ins g.start (insts_at g st) parts.front k x
+      (stands_left cd ins g.start (words (insts_at g st) parts.front) _ (parts_stand g st parts)) in_front in
       let on : lk t + k ≡ g.start + k = omega arith in
       record {
         head = record { at = ap cd on ∙ there.at; within = ap ins on ∙ there.within; plain = item_plain g st parts x below; before = omega arith };
@@ -152,7 +163,10 @@ module _ (known : Known) where
       }
 
   -- a copied word is that of the target's plan
-  pub copy_word : (s g : Site) (st : Stood g) → g.block.first ≡ goal_of s.block.end → (c : Copied) (a : ℕ) (x own' : Item) → AreBelow (body_count g.block) (x ∷ []) → is_op (Some x) ≡ true → inst_at lk source.statements c a (over (goal_of s.block.end) x (own s.block.first own')) ≡ item_inst (insts_at g st) x
+  pub copy_word :
+      (s g : Site) (st : Stood g) → g.block.first ≡ goal_of s.block.end → (c : Copied) (a : ℕ) (x own' : Item)
+      → AreBelow (body_count g.block) (x ∷ []) → is_op (Some x) ≡ true
+      → inst_at lk source.statements c a (over (goal_of s.block.end) x (own s.block.first own')) ≡ item_inst (insts_at g st) x
   copy_word s g st first c a Nop own' b e = absurd (false_true e)
   copy_word s g st first c a (Op k) own' b e =
       let go = goes known g st.of in
@@ -228,7 +242,9 @@ record RoomForOne (r : ℕ) (stays b : Bool) : Type 0 where
   surely : stays ≡ false
   one : r ≡ 1
 
-room_cases : (e : End) (stays a b : Bool) → (is_branch_end e ≡ false → stays ≡ false) → 1 ≤ room_for e stays a b → RoomForBoth (room_for e stays a b) a b ⊎ RoomForOne (room_for e stays a b) stays b
+room_cases :
+    (e : End) (stays a b : Bool) → (is_branch_end e ≡ false → stays ≡ false) → 1 ≤ room_for e stays a b
+    → RoomForBoth (room_for e stays a b) a b ⊎ RoomForOne (room_for e stays a b) stays b
 room_cases (Branches t) stays true true f h = inl (record { first = refl; second = refl; two = refl })
 room_cases (Branches t) true true false f h = absurd (omega arith)
 room_cases (Branches t) false true false f h = absurd (omega arith)
@@ -252,10 +268,14 @@ from_second : (free n : ℕ) (x y : Item) → free ≡ 1 → n ≡ 1 → filled 
 from_second free n x y e f = cond-false (eqb n 0) _ _ (grind (arith, nat_tests)) ∙ cond-true (eqb free 1) _ _ (grind (arith, nat_tests))
 
 from_first : (free n : ℕ) (x y : Item) → free ≡ 2 → n ≡ 1 → filled free n x y ≡ x ∷ Nop ∷ []
-from_first free n x y e f = cond-false (eqb n 0) _ _ (grind (arith, nat_tests)) ∙ cond-false (eqb free 1) _ _ (grind (arith, nat_tests)) ∙ cond-true (eqb n 1) _ _ (grind (arith, nat_tests))
+from_first free n x y e f =
+    cond-false (eqb n 0) _ _ (grind (arith, nat_tests)) ∙ cond-false (eqb free 1) _ _ (grind (arith, nat_tests))
+    ∙ cond-true (eqb n 1) _ _ (grind (arith, nat_tests))
 
 from_both : (free n : ℕ) (x y : Item) → free ≡ 2 → n ≡ 2 → filled free n x y ≡ x ∷ y ∷ []
-from_both free n x y e f = cond-false (eqb n 0) _ _ (grind (arith, nat_tests)) ∙ cond-false (eqb free 1) _ _ (grind (arith, nat_tests)) ∙ cond-false (eqb n 1) _ _ (grind (arith, nat_tests))
+from_both free n x y e f =
+    cond-false (eqb n 0) _ _ (grind (arith, nat_tests)) ∙ cond-false (eqb free 1) _ _ (grind (arith, nat_tests))
+    ∙ cond-false (eqb n 1) _ _ (grind (arith, nat_tests))
 
 -- a site that ends with a transfer, and the two items behind it
 pub record Slotted (known : Known) : Type 0 where
@@ -302,7 +322,9 @@ module _ (known : Known) (here : Slotted known) where
   slot_one = cond-true (eqb (s.plan.place + 1) (s.plan.place + 1)) _ _ (grind (arith, nat_tests))
 
   slot_two : copied_to c s.plan.place (s.plan.place + 2) ≡ slice_index_or c.from 1 Nop
-  slot_two = cond-false (eqb (s.plan.place + 2) (s.plan.place + 1)) _ _ (grind (arith, nat_tests)) ∙ cond-true (eqb (s.plan.place + 2) (s.plan.place + 2)) _ _ (grind (arith, nat_tests))
+  slot_two =
+      cond-false (eqb (s.plan.place + 2) (s.plan.place + 1)) _ _ (grind (arith, nat_tests))
+      ∙ cond-true (eqb (s.plan.place + 2) (s.plan.place + 2)) _ _ (grind (arith, nat_tests))
 
   x_is : (i : Item) → slice_index_or c.from 0 Nop ≡ i → x ≡ slot_word 1 i f
   x_is i e = ap (λ j. slot_word 1 j f) (slot_one ∙ e)
@@ -377,7 +399,10 @@ module _ (known : Known) (here : Slotted known) where
     stays_not e = ap (λ b. b && not (always_goes (terminator s.block))) e
 
     -- a load in slot 1 does not feed the word in slot 2
-    free : (w : Copyable gs.plan 0) → room s.block s.plan ≡ 1 → is_fed s gs ≡ false → (xi : Item) → f ≡ xi → AreBelow (body_count s.block) (xi ∷ []) → reads (item_inst (insts_of_site gs gst) w.item) (loads_to (item_inst (insts_of_site s st) xi)) ≡ false
+    free :
+        (w : Copyable gs.plan 0) → room s.block s.plan ≡ 1 → is_fed s gs ≡ false → (xi : Item) → f ≡ xi
+        → AreBelow (body_count s.block) (xi ∷ []) → reads (item_inst (insts_of_site gs gst) w.item) (loads_to (item_inst (insts_of_site s st) xi))
+        ≡ false
     free w one fed Nop e b = reads_none (item_inst (insts_of_site gs gst) w.item)
     free w one fed (Op k) e b = by_item w.item (w.there) w.op (headed 0 w).below
       where
@@ -387,15 +412,19 @@ module _ (known : Known) (here : Slotted known) where
             second : (a b : Bool) → a ≡ true → (a && b) ≡ false → b ≡ false
             second a b h k = grind arith
 
-        by_item : (wi : Item) → slice_get (items_of gs.plan) 0 ≡ Some wi → is_op (Some wi) ≡ true → AreBelow (body_count gs.block) (wi ∷ []) → reads (item_inst (insts_of_site gs gst) wi) (loads_to (inst_number (insts_of_site s st) k)) ≡ false
+        by_item :
+            (wi : Item) → slice_get (items_of gs.plan) 0 ≡ Some wi → is_op (Some wi) ≡ true → AreBelow (body_count gs.block) (wi ∷ [])
+            → reads (item_inst (insts_of_site gs gst) wi) (loads_to (inst_number (insts_of_site s st) k)) ≡ false
         by_item Nop there op bw = absurd (false_true op)
         by_item (Op j) there op bw =
             let ws = body_within s.block in
             let wg = body_within gs.block in
             let lk' = b.0 in
             let lj = bw.0 in
-            let own_k : slice_get (insts_of s.block) k ≡ Some (inst_number (insts_of s.block) k) = slice_get-get_or (insts_of s.block) k HaltInst (omega arith) in
-            let own_j : slice_get (insts_of gs.block) j ≡ Some (inst_number (insts_of gs.block) j) = slice_get-get_or (insts_of gs.block) j HaltInst (omega arith) in
+            let own_k : slice_get (insts_of s.block) k ≡ Some (inst_number (insts_of s.block) k) =
+            slice_get-get_or (insts_of s.block) k HaltInst (omega arith) in
+            let own_j : slice_get (insts_of gs.block) j ≡ Some (inst_number (insts_of gs.block) j) =
+            slice_get-get_or (insts_of gs.block) j HaltInst (omega arith) in
             let fed : feeds (inst_number (insts_of s.block) k) (inst_number (insts_of gs.block) j) ≡ false =
             sym (ap (λ o. feeds_any (block_item s.block o) (block_item gs.block (slice_get (items_of gs.plan) 0))) (slot_f ∙ ap (λ i. Some i) e)
             ∙ ap (λ o. feeds_any (slice_get (insts_of s.block) k) (block_item gs.block o)) there
@@ -403,8 +432,10 @@ module _ (known : Known) (here : Slotted known) where
             ∙ ap (λ o. feeds_any (Some (inst_number (insts_of s.block) k)) o) own_j) ∙ no_hazard in
             let lay_s = laid_at known s st in
             let lay_g = laid_at known gs gst in
-            let vs : SameViews (inst_number (insts_of s.block) k) (inst_number (insts_of_site s st) k) = laid_out_views (insts_of s.block) (insts_of_site s st) k (sym lay_s.filled) in
-            let vg : SameViews (inst_number (insts_of gs.block) j) (inst_number (insts_of_site gs gst) j) = laid_out_views (insts_of gs.block) (insts_of_site gs gst) j (sym lay_g.filled) in
+            let vs : SameViews (inst_number (insts_of s.block) k) (inst_number (insts_of_site s st) k) =
+            laid_out_views (insts_of s.block) (insts_of_site s st) k (sym lay_s.filled) in
+            let vg : SameViews (inst_number (insts_of gs.block) j) (inst_number (insts_of_site gs gst) j) =
+            laid_out_views (insts_of gs.block) (insts_of_site gs gst) j (sym lay_g.filled) in
             ap (λ (r : ℕ → Bool). r (loads_to (inst_number (insts_of_site s st) k))) (sym vg.reads)
             ∙ ap (λ t. reads (inst_number (insts_of gs.block) j) (cond t (dest (inst_number (insts_of_site s st) k)) 0)) (sym vs.load)
             ∙ ap (λ d. reads (inst_number (insts_of gs.block) j) (cond (is_load (inst_number (insts_of s.block) k)) d 0)) (sym vs.dest)
@@ -427,7 +458,8 @@ module _ (known : Known) (here : Slotted known) where
         (λ (one : n ≡ 1).
         let e = from_is ∙ from_first (room s.block s.plan) n (item_at gs.plan 0) (item_at gs.plan 1) r.two one in
         InFirst (count_is ∙ one) (set some) (nop_f r.first) (nop_g r.second)
-        (subst (λ i. HeadOf known goal 0 i) (sym (x_is first.item (ap (λ l. slice_index_or l 0 Nop) e ∙ first.is_at) ∙ copied_in 1 0 first f)) (headed 0 first).head)
+        (subst (λ i. HeadOf known goal 0 i) (sym (x_is first.item (ap (λ l. slice_index_or l 0 Nop) e ∙ first.is_at) ∙ copied_in 1 0 first f))
+        (headed 0 first).head)
         (y_is Nop (ap (λ l. slice_index_or l 1 Nop) e) ∙ own_item 2 g below_g ∙ ap (item_inst (insts_of_site s st)) (nop_g r.second))
         goal_leads)
         (λ (more : n ≢ 1).
@@ -435,8 +467,10 @@ module _ (known : Known) (here : Slotted known) where
         let second = copyable_there gs.plan 1 (second_copied (may_copy gs.plan 0) (may_copy gs.plan 1) (omega arith)) in
         let e = from_is ∙ from_both (room s.block s.plan) n (item_at gs.plan 0) (item_at gs.plan 1) r.two two in
         InBoth (count_is ∙ two) (set some) (nop_f r.first) (nop_g r.second)
-        (subst (λ i. HeadOf known goal 0 i) (sym (x_is first.item (ap (λ l. slice_index_or l 0 Nop) e ∙ first.is_at) ∙ copied_in 1 0 first f)) (headed 0 first).head)
-        (subst (λ i. HeadOf known goal 1 i) (sym (y_is second.item (ap (λ l. slice_index_or l 1 Nop) e ∙ second.is_at) ∙ copied_in 2 1 second g)) (headed 1 second).head)
+        (subst (λ i. HeadOf known goal 0 i) (sym (x_is first.item (ap (λ l. slice_index_or l 0 Nop) e ∙ first.is_at) ∙ copied_in 1 0 first f))
+        (headed 0 first).head)
+        (subst (λ i. HeadOf known goal 1 i) (sym (y_is second.item (ap (λ l. slice_index_or l 1 Nop) e ∙ second.is_at) ∙ copied_in 2 1 second g))
+        (headed 1 second).head)
         goal_leads)
         (cases_eq n 1))
         (λ (r : RoomForOne (room s.block s.plan) (may_stay s.block) (is_nop (slot s.plan 2))).
@@ -459,7 +493,8 @@ module _ (known : Known) (here : Slotted known) where
 
     from_goal : FilledHere
     from_goal = ⊎_elim
-        (λ (z : n ≡ 0). all_own (count_is ∙ z) (squash_is ∙ ap (λ m. ltb 0 m && may_stay s.block) z) (from_is ∙ from_zero (room s.block s.plan) n (item_at gs.plan 0) (item_at gs.plan 1) z))
+        (λ (z : n ≡ 0). all_own (count_is ∙ z) (squash_is ∙ ap (λ m. ltb 0 m && may_stay s.block) z)
+        (from_is ∙ from_zero (room s.block s.plan) n (item_at gs.plan 0) (item_at gs.plan 1) z))
         (λ (z : n ≢ 0). some_copied (omega arith))
         (cases_eq n 0)
 

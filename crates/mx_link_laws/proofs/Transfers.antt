@@ -1,4 +1,5 @@
--- One block by how it ends: it falls through, halts, branches, calls, or jumps by a register.
+-- One block by how it ends (`EndOf`): it falls through, halts, branches, calls, or jumps by a register. The invariant of OneBlock goes
+-- across each of them (`one_block`), since the terminator decides on words what its statement decides on values.
 use Rattle.std.proofs.Common.{◌≡◌, ℕ, ℤ, pos, suc, ◌+◌, ◌%◌, ◌^◌, ◌<◌, ◌≤◌, Bool, true, false, cond, List, [], ◌∷◌, ◌++◌, ◌⊎◌, length, Option, Some, None, option_to_list, refl, sym, ap, ◌∙◌, subst, arith, inl, inr}
 use Rattle.std.specs.Prelude.{slice_get}
 use Rattle.std.specs.Int.{w32, cast_unsigned}
@@ -127,10 +128,16 @@ module _ (setting : Setting) where
 
   -- the words before the terminator's place stand
   pub front_stands : (i : ℕ) (w : Lay i) → EndOf i w → Standing (link i) (front_of i w)
-  front_stands i w (Falls f none st) = stands_left code inside (link i) (front_of i w) (words w.insts w.parts.back) (subst (Standing (link i)) (ap (words w.insts) w.parts.whole ∙ map-append (item_inst w.insts) w.parts.front w.parts.back) st)
-  front_stands i w (Stops f one stop is st) = stands_left code inside (link i) (front_of i w) (words w.insts w.parts.back) (subst (Standing (link i)) (ap (words w.insts) w.parts.whole ∙ map-append (item_inst w.insts) w.parts.front w.parts.back) st)
-  front_stands i w (Moves b slots kind filled lead st) = stands_left code inside (link i) (front_of i w) (ender_of i w ∷ slots.first ∷ slots.second ∷ []) st
-  front_stands i w (Jumps b jump st) = stands_left code inside (link i) (front_of i w) (ender_of i w ∷ item_inst w.insts b.f ∷ item_inst w.insts b.g ∷ []) st
+  front_stands i w (Falls f none st) =
+      stands_left code inside (link i) (front_of i w) (words w.insts w.parts.back)
+      (subst (Standing (link i)) (ap (words w.insts) w.parts.whole ∙ map-append (item_inst w.insts) w.parts.front w.parts.back) st)
+  front_stands i w (Stops f one stop is st) =
+      stands_left code inside (link i) (front_of i w) (words w.insts w.parts.back)
+      (subst (Standing (link i)) (ap (words w.insts) w.parts.whole ∙ map-append (item_inst w.insts) w.parts.front w.parts.back) st)
+  front_stands i w (Moves b slots kind filled lead st) =
+      stands_left code inside (link i) (front_of i w) (ender_of i w ∷ slots.first ∷ slots.second ∷ []) st
+  front_stands i w (Jumps b jump st) =
+      stands_left code inside (link i) (front_of i w) (ender_of i w ∷ item_inst w.insts b.f ∷ item_inst w.insts b.g ∷ []) st
 
   -- and at most three from there on
   pub back_short : (i : ℕ) (w : Lay i) → EndOf i w → length w.parts.back ≤ 3
@@ -213,7 +220,9 @@ module _ (setting : Setting) where
       abbrev by_inst : Inst → Ran
       by_inst j = run_one p.place p.input at j (ran_at link r1 true nowhere)
 
-      lands : (T : Inst) (j d : ℕ) (v : Value) → ender ≡ T → r2 ≡ landed j d v → (by_inst T).core ≡ core (landed j d v).state → (by_inst T).bytes ≡ r1.console ++ [] → Lands j
+      lands :
+          (T : Inst) (j d : ℕ) (v : Value) → ender ≡ T → r2 ≡ landed j d v → (by_inst T).core ≡ core (landed j d v).state
+          → (by_inst T).bytes ≡ r1.console ++ [] → Lands j
       lands T j d v is e c s = record {
         index = ap (λ (u : Run). u.state.index) e;
         mark = ap (λ (u : Run). u.state.mark) e ∙ going_there;
@@ -226,7 +235,8 @@ module _ (setting : Setting) where
       holds condition a c = condition_holds condition (reg (core r1.state).regs a) (reg (core r1.state).regs c)
 
       -- what the meaning does at a branch whose operands are words
-      branch_meant : (slots : Slots setting) (k : IsBranch i w slots) → r2 ≡ landed (cond (holds k.condition k.a k.c) slots.target (suc r1.state.index)) 0 (Int 0)
+      branch_meant :
+          (slots : Slots setting) (k : IsBranch i w slots) → r2 ≡ landed (cond (holds k.condition k.a k.c) slots.target (suc r1.state.index)) 0 (Int 0)
       branch_meant slots k =
           let go = λ (a c : ℕ). cond (condition_holds k.condition a c) slots.target (suc r1.state.index) in
           let va = value_in r1.state.regs k.a in
@@ -261,7 +271,9 @@ module _ (setting : Setting) where
           meant v e = branch_meant slots k ∙ ap (λ u. landed (cond u slots.target (suc r1.state.index)) 0 (Int 0)) e
 
           by_test : (v : Bool) → holds k.condition k.a k.c ≡ v → Onward
-          by_test true e = taking slots (decided true e ∙ ap away k.reach) (lands (branch_word slots k) slots.target 0 (Int 0) k.is (meant true e) refl refl) lead filled st
+          by_test true e =
+              taking slots (decided true e ∙ ap away k.reach) (lands (branch_word slots k) slots.target 0 (Int 0) k.is
+              (meant true e) refl refl) lead filled st
           by_test false e =
               passing slots (decided false e)
               (lands (branch_word slots k) (i + n) 0 (Int 0) k.is (meant false e ∙ ap (λ j. landed j 0 (Int 0)) next_index) refl refl)
@@ -336,5 +348,6 @@ module _ (setting : Setting) where
     one_block (Moves b slots (Branches k) filled lead st) codes =
         inl (branches b (moves_on (BranchInst k.a k.c k.condition slots.squash k.by) k.is refl refl refl) slots k filled lead st)
     one_block (Moves b slots (Calls k) filled lead st) codes =
-        inl (calls b (moves_on (Jspci 0 k.d (pos (link slots.target + slots.count))) k.is refl refl refl) slots (few_copies slots b.f b.g filled) k filled lead st)
+        inl (calls b (moves_on (Jspci 0 k.d (pos (link slots.target + slots.count))) k.is refl refl refl) slots
+        (few_copies slots b.f b.g filled) k filled lead st)
     one_block (Jumps b k st) codes = inl (jumps_by b (moves_on (Jspci k.a k.d (pos 0)) k.is refl refl refl) k st codes)

@@ -1,4 +1,7 @@
--- Whole runs of linked code, block by block.
+-- Whole runs, a step a block. The invariant is `At m v u`: after m statements a block starts, c words of which were done in the slots
+-- before it; the machine comes to where its own run is after those by u + c ≤ 3 m words, and has shown the meaning's state after
+-- v of them. A block takes it to the next one (`Next`), or the run ends (`Final`). From it come clean runs, halts on both sides, what
+-- is sent, and, without copies, that blocks start after the words of the plans before.
 use Rattle.std.proofs.Common.{◌≡◌, ℕ, zero, suc, ◌+◌, ◌*◌, ◌-◌, ◌<◌, ◌≤◌, Bool, true, false, cond, not, ◌&&◌, List, [], ◌∷◌, ◌⊎◌, length, length-append, take, drop, None, refl, sym, ap, ◌∙◌, subst, arith, ⊎_elim, inl, inr}
 use Rattle.std.proofs.lemmas.Option.{slice_get_past}
 use Rattle.std.proofs.lemmas.Bool.{cases_lt, cases_Bool, cond-true, cond-false}
@@ -95,13 +98,16 @@ module _ (setting : Setting) (begun : Begun setting) where
   Runs m = is_stuck (M m).state.mark ≡ false
 
   runs_before : (m n : ℕ) → m ≤ n → Runs n → Runs m
-  runs_before m n h k = not_stuck_before p (n - m) (M m) (ap (λ (s : Run). is_stuck s.state.mark) (sym (ap M (let e : n ≡ m + (n - m) = omega arith in e) ∙ run_add p m (n - m) r0)) ∙ k)
+  runs_before m n h k =
+      not_stuck_before p (n - m) (M m) (ap (λ (s : Run). is_stuck s.state.mark)
+      (sym (ap M (let e : n ≡ m + (n - m) = omega arith in e) ∙ run_add p m (n - m) r0)) ∙ k)
 
   D_add : (a b : ℕ) → D (a + b) ≡ for b (D a)
   D_add a b = for_add machine a b (from r0)
 
   grows : (a b : ℕ) → a ≤ b → Grow (D a) (D b)
-  grows a b h = subst (λ (x : Watched). Grow (D a) x) (sym (ap D (let e : b ≡ a + (b - a) = omega arith in e) ∙ D_add a (b - a))) (grows_for machine (b - a) (D a))
+  grows a b h =
+      subst (λ (x : Watched). Grow (D a) x) (sym (ap D (let e : b ≡ a + (b - a) = omega arith in e) ∙ D_add a (b - a))) (grows_for machine (b - a) (D a))
 
   -- the words of the plans of the blocks that began within the first m statements
   abbrev pub sum_of_plans : ℕ → ℕ
@@ -114,7 +120,9 @@ module _ (setting : Setting) (begun : Begun setting) where
   body_prefix i (suc k) (x ∷ insts) h = (h.0, body_prefix (suc i) k insts h.1)
 
   -- within a block the statements follow one another
-  pub inner_index : (m : ℕ) (w : Placed setting (M m).state.index) (t : ℕ) → (M m).state.mark ≡ Going → t < length (insts_of w.lay.block) → Runs (m + t) → (M (m + t)).state.index ≡ (M m).state.index + t
+  pub inner_index :
+      (m : ℕ) (w : Placed setting (M m).state.index) (t : ℕ) → (M m).state.mark ≡ Going → t < length (insts_of w.lay.block) → Runs (m + t)
+      → (M (m + t)).state.index ≡ (M m).state.index + t
   inner_index m w t g few r =
       let lay = w.lay in
       let i = (M m).state.index in
@@ -126,9 +134,12 @@ module _ (setting : Setting) (begun : Begun setting) where
       (ap (λ k. is_stuck (run_for p k (M m)).state.mark) long ∙ ap (λ (s : Run). is_stuck s.state.mark) (sym (run_add p m t r0)) ∙ r) in
       ap (λ (s : Run). s.state.index) (run_add p m t r0 ∙ ap (λ k. run_for p k (M m)) (sym long)) ∙ run.index ∙ ap (λ k. i + k) long
 
-  sum_within : (m : ℕ) (w : Placed setting (M m).state.index) (t : ℕ) → leader (M m).state.index ≡ true → (M m).state.mark ≡ Going → t < length (insts_of w.lay.block) → Runs (m + t) → sum_of_plans (m + suc t) ≡ sum_of_plans m + length (items_of w.lay.plan)
+  sum_within :
+      (m : ℕ) (w : Placed setting (M m).state.index) (t : ℕ) → leader (M m).state.index ≡ true → (M m).state.mark ≡ Going
+      → t < length (insts_of w.lay.block) → Runs (m + t) → sum_of_plans (m + suc t) ≡ sum_of_plans m + length (items_of w.lay.plan)
   sum_within m w zero l g few r =
-      ap sum_of_plans (let e : m + 1 ≡ suc m = omega arith in e) ∙ ap (λ (b : Bool). sum_of_plans m + cond b (len_of (M m).state.index) 0) l ∙ ap (λ k. sum_of_plans m + k) w.long
+      ap sum_of_plans (let e : m + 1 ≡ suc m = omega arith in e) ∙ ap (λ (b : Bool). sum_of_plans m + cond b (len_of (M m).state.index) 0) l
+      ∙ ap (λ k. sum_of_plans m + k) w.long
   sum_within m w (suc t) l g few r =
       let ix = inner_index m w (suc t) g few r in
       let none : leader (M (m + suc t)).state.index ≡ false = ap leader ix ∙ w.inner (suc t) (omega arith) few in
@@ -188,7 +199,8 @@ module _ (setting : Setting) (begun : Begun setting) where
   reached m v u a x h =
       let y = x - a.c in
       let left : D (u + x) ≡ for y (D (u + a.c)) = ap D (let e : u + x ≡ u + a.c + y = omega arith in e) ∙ D_add (u + a.c) y in
-      let right : for y (for a.c (from (M m))) ≡ for x (from (M m)) = sym (for_add machine a.c y (from (M m))) ∙ for_same machine (a.c + y) x (from (M m)) (omega arith) in
+      let right : for y (for a.c (from (M m))) ≡ for x (from (M m)) = sym (for_add machine a.c y (from (M m)))
+      ∙ for_same machine (a.c + y) x (from (M m)) (omega arith) in
       subst (λ (z : Watched). Keep z (for x (from (M m)))) (sym left)
       (subst (λ (z : Watched). Keep (for y (D (u + a.c))) z) right (keeps_for machine y (D (u + a.c)) (for a.c (from (M m))) a.meets))
 
@@ -210,7 +222,9 @@ module _ (setting : Setting) (begun : Begun setting) where
     pub over : Over (m + n) e
     pub within : e ≤ u + len
 
-  goes_on : (m v u : ℕ) (a : At m v u) (n len place : ℕ) → 1 ≤ n → a.c ≤ place → sum_of_plans (m + n) ≡ sum_of_plans m + len → GoesOn setting (M m).state.index n len place (M m) → Next m v n
+  goes_on :
+      (m v u : ℕ) (a : At m v u) (n len place : ℕ) → 1 ≤ n → a.c ≤ place → sum_of_plans (m + n) ≡ sum_of_plans m + len
+      → GoesOn setting (M m).state.index n len place (M m) → Next m v n
   goes_on m v u a n len place some l sum g =
       let low_v = a.low_v in
       let vu = a.v_u in
@@ -241,7 +255,8 @@ module _ (setting : Setting) (begun : Begun setting) where
           meets = subst (λ (x : Watched). Keep x (for g.c (from (M (m + n))))) to_end
               (keeps_then machine (D (u + len)) (for len (from (M m))) (for g.c (from (M (m + n)))) end
               (subst (λ (s : Run). Keep (for len (from (M m))) (for g.c (from s))) (sym is_m) g.reaches));
-          shown = subst (λ (s : Run). Shows (D (u + g.own)) s) (sym is_m) (shows_kept (D (u + g.own)) (for g.own (from (M m))) (run_for p n (M m)) own g.shown);
+          shown = subst (λ (s : Run). Shows (D (u + g.own)) s) (sym is_m)
+              (shows_kept (D (u + g.own)) (for g.own (from (M m))) (run_for p n (M m)) own g.shown);
           runs_on = ap (λ (t : Delay). t.halted) own.at ∙ g.runs_on;
           plain = λ none.
               let old = a.plain none in
@@ -280,7 +295,8 @@ module _ (setting : Setting) (begun : Begun setting) where
           halts = ap (λ (s : Run). s.state.mark) is_m ∙ g.mark;
           runs_on = ap (λ (t : Delay). t.halted) before.at ∙ g.runs_on;
           halted = ap (λ (t : Delay). t.halted) end.at ∙ g.halted;
-          shown = subst (λ (s : Run). Shows (D (u + (place + 1))) s) (sym is_m) (shows_kept (D (u + (place + 1))) (for (place + 1) (from (M m))) (run_for p n (M m)) end g.shown);
+          shown = subst (λ (s : Run). Shows (D (u + (place + 1))) s) (sym is_m)
+              (shows_kept (D (u + (place + 1))) (for (place + 1) (from (M m))) (run_for p n (M m)) end g.shown);
         };
       }
 
@@ -289,7 +305,8 @@ module _ (setting : Setting) (begun : Begun setting) where
       let is = step_is p (M m) None g (slice_get_past p.statements (M m).state.index h) in
       false_true (sym r ∙ ap (λ (s : Run). is_stuck s.state.mark) (run_add p m 1 r0 ∙ is))
 
-  lead_of : (m v u : ℕ) (a : At m v u) → (M m).state.index < length p.statements → (leader (M m).state.index ≡ true) × (a.c ≤ place_of (M m).state.index)
+  lead_of :
+      (m v u : ℕ) (a : At m v u) → (M m).state.index < length p.statements → (leader (M m).state.index ≡ true) × (a.c ≤ place_of (M m).state.index)
   lead_of m v u a h = (⊎_elim (λ l. l) (λ e. absurd (omega arith)) a.lead.0, a.lead.1)
 
   -- the block at which the meaning is
@@ -302,14 +319,19 @@ module _ (setting : Setting) (begun : Begun setting) where
   abbrev long_at : (m v u : ℕ) (a : At m v u) → (M m).state.index < length p.statements → ℕ
   long_at m v u a h = length (items_of (block_at m v u a h).lay.plan)
 
-  sum_at : (m v u : ℕ) (a : At m v u) (h : (M m).state.index < length p.statements) → Runs (m + size_at m v u a h) → sum_of_plans (m + size_at m v u a h) ≡ sum_of_plans m + long_at m v u a h
+  sum_at :
+      (m v u : ℕ) (a : At m v u) (h : (M m).state.index < length p.statements) → Runs (m + size_at m v u a h)
+      → sum_of_plans (m + size_at m v u a h) ≡ sum_of_plans m + long_at m v u a h
   sum_at m v u a h r =
       let w = block_at m v u a h in
       let some = w.lay.some in
       let n = size_at m v u a h in
-      ap sum_of_plans (let e : m + n ≡ m + suc (n - 1) = omega arith in e) ∙ sum_within m w (n - 1) (lead_of m v u a h).0 a.going (omega arith) (runs_before (m + (n - 1)) (m + n) (omega arith) r)
+      ap sum_of_plans (let e : m + n ≡ m + suc (n - 1) = omega arith in e)
+      ∙ sum_within m w (n - 1) (lead_of m v u a h).0 a.going (omega arith) (runs_before (m + (n - 1)) (m + n) (omega arith) r)
 
-  run_block : (m v u : ℕ) (a : At m v u) (h : (M m).state.index < length p.statements) → Runs (m + size_at m v u a h) → Next m v (size_at m v u a h) ⊎ Final m u (size_at m v u a h) (long_at m v u a h)
+  run_block :
+      (m v u : ℕ) (a : At m v u) (h : (M m).state.index < length p.statements) → Runs (m + size_at m v u a h)
+      → Next m v (size_at m v u a h) ⊎ Final m u (size_at m v u a h) (long_at m v u a h)
   run_block m v u a h r =
       let l = lead_of m v u a h in
       let i = (M m).state.index in
@@ -380,7 +402,9 @@ module _ (setting : Setting) (begun : Begun setting) where
   far j r = far_from j j 0 0 0 begins (omega arith) (omega arith) r
 
   M_more : (a b : ℕ) → a ≤ b → Prefix (M a).console (M b).console
-  M_more a b h = subst (λ (s : Run). Prefix (M a).console s.console) (sym (ap M (let e : b ≡ a + (b - a) = omega arith in e) ∙ run_add p a (b - a) r0)) (says_more p (b - a) (M a))
+  M_more a b h =
+      subst (λ (s : Run). Prefix (M a).console s.console) (sym (ap M (let e : b ≡ a + (b - a) = omega arith in e) ∙ run_add p a (b - a) r0))
+      (says_more p (b - a) (M a))
 
   D_more : (a b : ℕ) → a ≤ b → Prefix (D a).at.console (D b).at.console
   D_more a b h = (grows a b h).bytes
@@ -403,7 +427,8 @@ module _ (setting : Setting) (begun : Begun setting) where
       let n = f.near in
       record {
         clean = (grows j f.v f.far).clean s.clean;
-        console = prefix_then (D j).at.console (M f.m).console (M (j + 64)).console (subst (λ l. Prefix (D j).at.console l) s.console (D_more j f.v f.far)) (M_more f.m (j + 64) (omega arith));
+        console = prefix_then (D j).at.console (M f.m).console (M (j + 64)).console (subst (λ l. Prefix (D j).at.console l) s.console (D_more j f.v f.far))
+            (M_more f.m (j + 64) (omega arith));
       })
       (λ (f : Done (j + 63)).
       let s = f.over.shown in
@@ -413,12 +438,14 @@ module _ (setting : Setting) (begun : Begun setting) where
       let e = D_stays f.e j (omega arith) f.over.halted in
       record {
         clean = ap (λ (x : Watched). x.clean) e ∙ s.clean;
-        console = prefix_then (D j).at.console (M f.n).console (M (j + 64)).console (prefix_same (D j).at.console (M f.n).console (ap (λ (x : Watched). x.at.console) e ∙ s.console)) (M_more f.n (j + 64) (omega arith));
+        console = prefix_then (D j).at.console (M f.n).console (M (j + 64)).console
+            (prefix_same (D j).at.console (M f.n).console (ap (λ (x : Watched). x.at.console) e ∙ s.console)) (M_more f.n (j + 64) (omega arith));
       })
       (λ (q : j ≤ f.e).
       record {
         clean = (grows j f.e q).clean s.clean;
-        console = prefix_then (D j).at.console (M f.n).console (M (j + 64)).console (subst (λ l. Prefix (D j).at.console l) s.console (D_more j f.e q)) (M_more f.n (j + 64) (omega arith));
+        console = prefix_then (D j).at.console (M f.n).console (M (j + 64)).console (subst (λ l. Prefix (D j).at.console l) s.console (D_more j f.e q))
+            (M_more f.n (j + 64) (omega arith));
       })
       (cases_lt f.e j))
       (far j r)
@@ -466,7 +493,8 @@ module _ (setting : Setting) (begun : Begun setting) where
   pub going_before : (m n : ℕ) → (M n).state.mark ≡ Halted → (M m).state.mark ≡ Going → m < n
   going_before m n h g = ⊎_elim
       (λ (q : m < n). q)
-      (λ (q : n ≤ m). absurd (false_true (sym (ap is_going h) ∙ sym (ap (λ (s : Run). is_going s.state.mark) (M_stays n m q (ap is_going h))) ∙ ap is_going g)))
+      (λ (q : n ≤ m). absurd (false_true (sym (ap is_going h) ∙ sym (ap (λ (s : Run). is_going s.state.mark) (M_stays n m q (ap is_going h)))
+      ∙ ap is_going g)))
       (cases_lt m n)
 
   halts_from : (fuel n m v u : ℕ) → At m v u → n ≤ m + fuel → (M n).state.mark ≡ Halted → HaltsSoon n
@@ -532,7 +560,8 @@ module _ (setting : Setting) (begun : Begun setting) where
   going_runs : (m : ℕ) → (M m).state.mark ≡ Going → Runs m
   going_runs m g = ap is_stuck g
 
-  starts_from : (fuel m k v u : ℕ) → At k v u → k ≤ m → m ≤ k + fuel → (M m).state.mark ≡ Going → leader (M m).state.index ≡ true → Starts m
+  starts_from :
+      (fuel m k v u : ℕ) → At k v u → k ≤ m → m ≤ k + fuel → (M m).state.mark ≡ Going → leader (M m).state.index ≡ true → Starts m
   starts_from zero m k v u a l f g lead = let e : k ≡ m = omega arith in subst Starts e (record { v = v; u = u; at = a })
   starts_from (suc fuel) m k v u a l f g lead = ⊎_elim
       (λ (q : k < m). ⊎_elim
@@ -576,7 +605,8 @@ module _ (setting : Setting) (begun : Begun setting) where
       record {
         low_sum = (let q = a.low_v in omega arith);
         high_sum = (let q = a.high in omega arith);
-        state = ap (λ n. (D n).at) (let e : sum_of_plans m ≡ s.u + a.c = omega arith in e) ∙ a.meets.at ∙ ap (λ (x : Watched). x.at) (for_same machine a.c 0 (from (M m)) c0);
+        state = ap (λ n. (D n).at) (let e : sum_of_plans m ≡ s.u + a.c = omega arith in e) ∙ a.meets.at
+            ∙ ap (λ (x : Watched). x.at) (for_same machine a.c 0 (from (M m)) c0);
       }
 
   plain_front : (k : ℕ) (insts : List Inst) → ArePlain insts → ArePlain (take k insts)
@@ -591,15 +621,19 @@ module _ (setting : Setting) (begun : Begun setting) where
   starting = beginning setting
 
   -- the words before the terminator's place are taken one after another
-  heads : (t : ℕ) (w : PlacedHere t) (d : Did) (k : ℕ) → k ≤ length w.lay.parts.front → (e : Did) × (for k (starting (link t) d) ≡ starting (link t + k) e)
+  heads :
+      (t : ℕ) (w : PlacedHere t) (d : Did) (k : ℕ) → k ≤ length w.lay.parts.front
+      → (e : Did) × (for k (starting (link t) d) ≡ starting (link t + k) e)
   heads t w d k h =
       let lay = w.lay in
       let front = front_of setting t lay in
       let long : length front ≡ length lay.parts.front = pre_length p.input lay.planned in
       let taken : length (take k front) ≡ k = length-take-le k front (omega arith) in
-      let st = stands_left code inside (link t) (take k front) (drop k front) (subst (Stands code inside (link t)) (sym (take-append-drop k front)) (front_stands setting t lay w.end)) in
+      let st = stands_left code inside (link t) (take k front) (drop k front)
+      (subst (Stands code inside (link t)) (sym (take-append-drop k front)) (front_stands setting t lay w.end)) in
       let plain = plain_front k front (plain_pre p.input lay.planned (all_plain link p.statements t (inner_of setting t lay) lay.body)) in
-      let whole : length (items_of lay.plan) ≡ length lay.parts.front + length lay.parts.back = ap length lay.parts.whole ∙ length-append lay.parts.front lay.parts.back in
+      let whole : length (items_of lay.plan) ≡ length lay.parts.front + length lay.parts.back = ap length lay.parts.whole
+      ∙ length-append lay.parts.front lay.parts.back in
       let sm = small (t + length (insts_of lay.block)) in
       let nx = lay.next in (
         did_all machine (link t) (take k front) d,
@@ -622,10 +656,14 @@ module _ (setting : Setting) (begun : Begun setting) where
   done_by s = stepped p.place p.input (does code s.at.first) (decides (does code s.at.first) s.at.first.address s.at.core.regs) s.at
 
   first_next : (s : Watched) → s.at.halted ≡ false → (step_of s).at.first.address ≡ s.at.second.address
-  first_next s h = ap (λ (x : Watched). x.at.first.address) (cond-false s.at.halted s (on_step s) h) ∙ ap (λ (x : Delay). x.first.address) (cond-false s.at.halted s.at (done_by s) h)
+  first_next s h =
+      ap (λ (x : Watched). x.at.first.address) (cond-false s.at.halted s (on_step s) h)
+      ∙ ap (λ (x : Delay). x.first.address) (cond-false s.at.halted s.at (done_by s) h)
 
   second_next : (s : Watched) → s.at.halted ≡ false → (step_of s).at.second.address ≡ s.at.third.address
-  second_next s h = ap (λ (x : Watched). x.at.second.address) (cond-false s.at.halted s (on_step s) h) ∙ ap (λ (x : Delay). x.second.address) (cond-false s.at.halted s.at (done_by s) h)
+  second_next s h =
+      ap (λ (x : Watched). x.at.second.address) (cond-false s.at.halted s (on_step s) h)
+      ∙ ap (λ (x : Delay). x.second.address) (cond-false s.at.halted s.at (done_by s) h)
 
   not_yet : (s : Watched) → (step_of s).at.halted ≡ false → s.at.halted ≡ false
   not_yet s h = ⊎_elim
@@ -634,26 +672,34 @@ module _ (setting : Setting) (begun : Begun setting) where
       (cases_Bool s.at.halted)
 
   -- each word of a block is taken at its place
-  first_at : (t : ℕ) (w : PlacedHere t) (d : Did) (k : ℕ) → k < length (items_of w.lay.plan) → (for k (starting (link t) d)).at.halted ≡ false → (for k (starting (link t) d)).at.first.address ≡ link t + k
+  first_at :
+      (t : ℕ) (w : PlacedHere t) (d : Did) (k : ℕ) → k < length (items_of w.lay.plan) → (for k (starting (link t) d)).at.halted ≡ false
+      → (for k (starting (link t) d)).at.first.address ≡ link t + k
   first_at t w d k l on =
       let lay = w.lay in
       let place = length lay.parts.front in
-      let whole : length (items_of lay.plan) ≡ length lay.parts.front + length lay.parts.back = ap length lay.parts.whole ∙ length-append lay.parts.front lay.parts.back in
+      let whole : length (items_of lay.plan) ≡ length lay.parts.front + length lay.parts.back = ap length lay.parts.whole
+      ∙ length-append lay.parts.front lay.parts.back in
       let three = back_short setting t lay w.end in
       ⊎_elim
       (λ (q : length lay.parts.front < k).
       let r = heads t w d (length lay.parts.front) (omega arith) in
       let b = link t + length lay.parts.front in
-      let one : for (length lay.parts.front + 1) (starting (link t) d) ≡ step_of (starting b r.0) = for_add machine (length lay.parts.front) 1 (starting (link t) d) ∙ ap step_of r.1 in
+      let one : for (length lay.parts.front + 1) (starting (link t) d) ≡ step_of (starting b r.0) =
+      for_add machine (length lay.parts.front) 1 (starting (link t) d) ∙ ap step_of r.1 in
       ⊎_elim
       (λ (x : length lay.parts.front + 1 < k).
       let k2 : k ≡ length lay.parts.front + 1 + 1 = omega arith in
-      let two : for k (starting (link t) d) ≡ step_of (step_of (starting b r.0)) = for_same machine k (length lay.parts.front + 1 + 1) (starting (link t) d) k2 ∙ for_add machine (length lay.parts.front + 1) 1 (starting (link t) d) ∙ ap step_of one in
+      let two : for k (starting (link t) d) ≡ step_of (step_of (starting b r.0)) =
+      for_same machine k (length lay.parts.front + 1 + 1) (starting (link t) d) k2 ∙ for_add machine (length lay.parts.front + 1) 1 (starting (link t) d)
+      ∙ ap step_of one in
       let going : (step_of (starting b r.0)).at.halted ≡ false = not_yet (step_of (starting b r.0)) (ap (λ (x : Watched). x.at.halted) (sym two) ∙ on) in
-      ap (λ (x : Watched). x.at.first.address) two ∙ first_next (step_of (starting b r.0)) going ∙ second_next (starting b r.0) refl ∙ (let e : b + 2 ≡ link t + k = omega arith in e))
+      ap (λ (x : Watched). x.at.first.address) two ∙ first_next (step_of (starting b r.0)) going ∙ second_next (starting b r.0) refl
+      ∙ (let e : b + 2 ≡ link t + k = omega arith in e))
       (λ (x : k ≤ length lay.parts.front + 1).
       let k1 : k ≡ length lay.parts.front + 1 = omega arith in
-      ap (λ (x : Watched). x.at.first.address) (for_same machine k (length lay.parts.front + 1) (starting (link t) d) k1 ∙ one) ∙ first_next (starting b r.0) refl ∙ (let e : b + 1 ≡ link t + k = omega arith in e))
+      ap (λ (x : Watched). x.at.first.address) (for_same machine k (length lay.parts.front + 1) (starting (link t) d) k1 ∙ one)
+      ∙ first_next (starting b r.0) refl ∙ (let e : b + 1 ≡ link t + k = omega arith in e))
       (cases_lt (length lay.parts.front + 1) k))
       (λ (q : k ≤ length lay.parts.front). let r = heads t w d k q in ap (λ (x : Watched). x.at.first.address) r.1)
       (cases_lt (length lay.parts.front) k)
@@ -674,13 +720,16 @@ module _ (setting : Setting) (begun : Begun setting) where
       omega arith
 
   -- a later start comes after more words
-  pub sum_grows : (m m' : ℕ) → (M m).state.mark ≡ Going → leader (M m).state.index ≡ true → (M m').state.mark ≡ Going → m < m' → sum_of_plans m < sum_of_plans m'
+  pub sum_grows :
+      (m m' : ℕ) → (M m).state.mark ≡ Going → leader (M m).state.index ≡ true → (M m').state.mark ≡ Going → m < m'
+      → sum_of_plans m < sum_of_plans m'
   sum_grows m m' g lead g' l = ⊎_elim
       (λ (h : (M m).state.index < length p.statements).
       let w = placed (M m).state.index lead h in
       let some = some_words (M m).state.index w in
       let long = w.long in
-      let one : sum_of_plans (suc m) ≡ sum_of_plans m + len_of (M m).state.index = ap (λ (b : Bool). sum_of_plans m + cond b (len_of (M m).state.index) 0) lead in
+      let one : sum_of_plans (suc m) ≡ sum_of_plans m + len_of (M m).state.index =
+      ap (λ (b : Bool). sum_of_plans m + cond b (len_of (M m).state.index) 0) lead in
       let more = sum_more (suc m) (m' - suc m) in
       let e : sum_of_plans (suc m + (m' - suc m)) ≡ sum_of_plans m' = ap sum_of_plans (let q : suc m + (m' - suc m) ≡ m' = omega arith in q) in
       omega arith)
@@ -688,7 +737,9 @@ module _ (setting : Setting) (begun : Begun setting) where
       (cases_lt (M m).state.index (length p.statements))
 
   -- Where the first fetch is a leader's address, a block starts.
-  module _ (none : (t : ℕ) → place_of t ≡ 0) (only : (i j k : ℕ) → leader i ≡ true → i < length p.statements → (w : PlacedHere j) → leader j ≡ true → j < length p.statements → k < length (items_of w.lay.plan) → link i ≡ link j + k → i ≡ j) (d : ℕ) (r : Runs (d + 64)) (on : (D d).at.halted ≡ false) (i : ℕ) (i_leads : leader i ≡ true) (i_in : i < length p.statements) (here : (D d).at.first.address ≡ link i) where
+  module _ (none : (t : ℕ) → place_of t ≡ 0) (only : (i j k : ℕ) → leader i ≡ true → i < length p.statements → (w : PlacedHere j)
+      → leader j ≡ true → j < length p.statements → k < length (items_of w.lay.plan) → link i ≡ link j + k → i ≡ j) (d : ℕ) (r : Runs (d + 64))
+      (on : (D d).at.halted ≡ false) (i : ℕ) (i_leads : leader i ≡ true) (i_in : i < length p.statements) (here : (D d).at.first.address ≡ link i) where
     pub record BlockAt : Type 0 where
       pub m : ℕ
       pub going : (M m).state.mark ≡ Going
@@ -743,7 +794,8 @@ module _ (setting : Setting) (begun : Begun setting) where
         absurd (false_true (sym on ∙ (grows fin.e d (omega arith)).halted o.halted)))
         (run_block m v u a h rr))
         (cases_lt d (u + long_at m v u a h)))
-        (λ h. absurd (past_end m a.going h (runs_before (m + 1) (d + 64) (let x = a.low_v in let y = a.v_u in let z = a.c_w in let plain = a.plain none in let w0 = plain.0 in omega arith) r)))
+        (λ h. absurd (past_end m a.going h (runs_before (m + 1) (d + 64)
+        (let x = a.low_v in let y = a.v_u in let z = a.c_w in let plain = a.plain none in let w0 = plain.0 in omega arith) r)))
         (cases_lt (M m).state.index (length p.statements))
 
     pub block_at_fetch : BlockAt
