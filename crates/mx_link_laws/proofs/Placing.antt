@@ -31,7 +31,7 @@ use Rattle.mx_blocks.specs.Leaders.{ends_there, gap, is_leader, end_of, size, Is
 use Rattle.mx_blocks.proofs.Splits.{gap_small}
 use Rattle.mx_validate.specs.Padded.{items_of, falls, body_count}
 use Rattle.mx_squash.specs.declared.copying.Copied.{Copied}
-use Rattle.mx_squash.specs.Copies.{reaches, Site, site_of, is_target, may_stay, always_goes, terminator, is_branch_end}
+use Rattle.mx_squash.specs.Copies.{reaches, Site, site_of, is_target, always_goes, terminator, is_branch_end}
 use Rattle.mx_layout.specs.Layout.{link_of, plan_size, StandFrom, blocks_in, has_statement}
 use Rattle.mx_link.specs.Origins.{own, goal_of}
 use Rattle.mx_link.specs.Words.{displacement, linked_inst, inst_at}

@@ -30,7 +30,7 @@ use Rattle.mx_link_laws.proofs.Codes.{registers_lead}
 use Rattle.mx_link_laws.proofs.OneBlock.{IsAt}
 use Rattle.mx_link_laws.proofs.Layouts.{setting}
 use Rattle.mx_link_laws.proofs.Placing.{placed}
-use Rattle.mx_link_laws.proofs.Whole.{Placed, Begun, D, from, M_stays, runs_clean, halts_soon as soon_halted, halted_back, sent_soon, sum_of_plans, block_starts, sum_grows, some_words, block_at_fetch}
+use Rattle.mx_link_laws.proofs.Whole.{Placed, Begun, FetchesLeader, D, from, M_stays, runs_clean, halts_soon as soon_halted, halted_back, sent_soon, sum_of_plans, block_starts, sum_grows, some_words, block_at_fetch}
 use Rattle.mx_link_laws.proofs.Setting.{FillsSo, Known, Setting}
 
 false_true : false ≡ true → ⊥
@@ -321,8 +321,16 @@ module _ (known : Known) where
       ((t : ℕ) → places t ≡ 0) → (d i : ℕ) → IsSafe l (d + 64) → (linked_run l d).halted ≡ false → is_leader source i ≡ true
       → i < length source.statements → (linked_run l d).first.address ≡ lk i → ComesFrom l d i
   fetch_so bare d i safe on lead within here =
-      let b = block_at_fetch seen begun bare only d safe (ap (λ (x : Delay). x.halted) (runs_so d) ∙ on) i lead within
-      (ap (λ (x : Delay). x.first.address) (runs_so d) ∙ here) in
+      let fetches : FetchesLeader seen begun d i = record {
+        none = bare;
+        only = only;
+        safe = safe;
+        on = ap (λ (x : Delay). x.halted) (runs_so d) ∙ on;
+        i_leads = lead;
+        i_in = within;
+        here = ap (λ (x : Delay). x.first.address) (runs_so d) ∙ here;
+      } in
+      let b = block_at_fetch seen begun d i fetches in
       record {
         statements = b.m;
         start = record { going = b.going; leads = ap (is_leader source) b.index ∙ lead };

@@ -23,7 +23,6 @@ use Rattle.mx_blocks.specs.declared.block.Item.{Item}
 use Rattle.mx_blocks.specs.declared.block.Item.TheVariants.{Op}
 use Rattle.mx_validate.specs.Padded.{insts_of, items_of, falls, body_count}
 use Rattle.mx_order.specs.Running.{Ran, run_one}
-use Rattle.mx_order.specs.Parts.{AreBelow}
 use Rattle.mx_order.proofs.Words.{item_inst, words}
 use Rattle.std.proofs.lemmas.List.{map-append}
 use Rattle.mx_link_laws.proofs.Going.{stands_left}

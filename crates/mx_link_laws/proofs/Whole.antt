@@ -736,10 +736,22 @@ module _ (setting : Setting) (begun : Begun setting) where
       (λ h. absurd (past_end m g h (runs_before (m + 1) m' (omega arith) (going_runs m' g'))))
       (cases_lt (M m).state.index (length p.statements))
 
-  -- Where the first fetch is a leader's address, a block starts.
-  module _ (none : (t : ℕ) → place_of t ≡ 0) (only : (i j k : ℕ) → leader i ≡ true → i < length p.statements → (w : PlacedHere j)
-      → leader j ≡ true → j < length p.statements → k < length (items_of w.lay.plan) → link i ≡ link j + k → i ≡ j) (d : ℕ) (r : Runs (d + 64))
-      (on : (D d).at.halted ≡ false) (i : ℕ) (i_leads : leader i ≡ true) (i_in : i < length p.statements) (here : (D d).at.first.address ≡ link i) where
+  -- Without copies: after d words the address of leader i is first, and no other word of a block has it.
+  pub record FetchesLeader (d i : ℕ) : Type 0 where
+    pub none : (t : ℕ) → place_of t ≡ 0
+    pub only :
+        (i j k : ℕ) → leader i ≡ true → i < length p.statements → (w : PlacedHere j) → leader j ≡ true → j < length p.statements
+        → k < length (items_of w.lay.plan) → link i ≡ link j + k → i ≡ j
+    pub safe : Runs (d + 64)
+    pub on : (D d).at.halted ≡ false
+    pub i_leads : leader i ≡ true
+    pub i_in : i < length p.statements
+    pub here : (D d).at.first.address ≡ link i
+
+  -- So a block starts there.
+  module _ (d i : ℕ) (fetches : FetchesLeader d i) where
+    open fetches use {none, only, safe as r, on, i_leads, i_in, here}
+
     pub record BlockAt : Type 0 where
       pub m : ℕ
       pub going : (M m).state.mark ≡ Going
