@@ -1,7 +1,10 @@
 //! Numbers, words and lines, appended to a text.
-ghost use Rattle.std.specs.Prelude.{◌≡◌, ◌++◌, ◌∷◌, ◌<◌, OnOk, codes};
+//!
+//! Each function fails only where there is no memory, and the text is then as it was.
+ghost use Rattle.std.specs.Prelude.{◌≡◌, ◌++◌, ◌∷◌, ◌<◌, OnOk, OnErr};
 ghost use Rattle.std.specs.Fmt.{decimal};
 ghost use Rattle.mx_text.specs.Text.{hex_digit, word_text, line, named_line, count_line, register_line, word_line, console_lines};
+ghost use Rattle.mx_text.specs.Parts.{joined};
 
 use std::alloc::{AllocError, Global};
 
@@ -17,12 +20,12 @@ fn hex_byte(digit: u32) -> u8
     }
 }
 
-/// Appends a word as eight hexadecimal digits in lower case.
+// The digits of a word, eight of them and hexadecimal, in lower case.
 #[tactic(auto, unfolding(crate::specs::Text::word_text))]
-pub fn push_word(text: &mut Vec<u8>, word: u32) -> Result<(), AllocError>
-    ensures { OnOk result (text.new.items ≡ text.old.items ++ word_text word) }
+fn word_digits(word: u32) -> [u8; 8]
+    ensures { result ≡ word_text word }
 {
-    let digits = [
+    [
         hex_byte(word >> 28),
         hex_byte((word >> 24) & 15),
         hex_byte((word >> 20) & 15),
@@ -31,13 +34,36 @@ pub fn push_word(text: &mut Vec<u8>, word: u32) -> Result<(), AllocError>
         hex_byte((word >> 8) & 15),
         hex_byte((word >> 4) & 15),
         hex_byte(word & 15),
-    ];
-    text.extend_from_slice(&digits)
+    ]
+}
+
+// Appends the parts, one after the other, or nothing.
+fn push_parts(text: &mut Vec<u8>, parts: &[&[u8]]) -> Result<(), AllocError>
+    ensures ok { OnOk result (text.new.items ≡ text.old.items ++ joined parts.now) }
+    ensures err { OnErr result (text.new.items ≡ text.old.items) }
+{
+    let before = text.len();
+    for part in parts {
+        if let Err(error) = text.extend_from_slice(part) {
+            text.truncate(before);
+            return Err(error);
+        }
+    }
+    Ok(())
+}
+
+/// Appends a word as eight hexadecimal digits in lower case.
+pub fn push_word(text: &mut Vec<u8>, word: u32) -> Result<(), AllocError>
+    ensures ok { OnOk result (text.new.items ≡ text.old.items ++ word_text word) }
+    ensures err { OnErr result (text.new.items ≡ text.old.items) }
+{
+    text.extend_from_slice(&word_digits(word))
 }
 
 /// Appends a number in decimal.
 pub fn push_decimal(alloc: Global, text: &mut Vec<u8>, n: u64) -> Result<(), AllocError>
-    ensures { OnOk result (text.new.items ≡ text.old.items ++ decimal n) }
+    ensures ok { OnOk result (text.new.items ≡ text.old.items ++ decimal n) }
+    ensures err { OnErr result (text.new.items ≡ text.old.items) }
 {
     let digits = format!(in alloc; "{n}")?;
     text.extend_from_slice(digits.as_bytes())
@@ -45,18 +71,16 @@ pub fn push_decimal(alloc: Global, text: &mut Vec<u8>, n: u64) -> Result<(), All
 
 /// Appends the line `NAME VALUE`.
 pub fn push_named(text: &mut Vec<u8>, name: &[u8], value: &[u8]) -> Result<(), AllocError>
-    ensures { OnOk result (text.new.items ≡ text.old.items ++ named_line name.now value.now) }
+    ensures ok { OnOk result (text.new.items ≡ text.old.items ++ named_line name.now value.now) }
+    ensures err { OnErr result (text.new.items ≡ text.old.items) }
 {
-    text.extend_from_slice(name)?;
-    text.push(b' ')?;
-    text.extend_from_slice(value)?;
-    text.push(b'\n')?;
-    Ok(())
+    push_parts(text, &[name, b" ", value, b"\n"])
 }
 
 /// Appends the line `NAME N`, in decimal.
 pub fn push_count(alloc: Global, text: &mut Vec<u8>, name: &str, n: u64) -> Result<(), AllocError>
-    ensures { OnOk result (text.new.items ≡ text.old.items ++ count_line name.now n) }
+    ensures ok { OnOk result (text.new.items ≡ text.old.items ++ count_line name.now n) }
+    ensures err { OnErr result (text.new.items ≡ text.old.items) }
 {
     let digits = format!(in alloc; "{n}")?;
     push_named(text, name.as_bytes(), digits.as_bytes())
@@ -69,42 +93,35 @@ pub fn push_register(
     n: u64,
     value: &[u8],
 ) -> Result<(), AllocError>
-    ensures { OnOk result (text.new.items ≡ text.old.items ++ register_line n value.now) }
+    ensures ok { OnOk result (text.new.items ≡ text.old.items ++ register_line n value.now) }
+    ensures err { OnErr result (text.new.items ≡ text.old.items) }
 {
-    text.push(b'r')?;
-    push_decimal(alloc, text, n)?;
-    text.push(b' ')?;
-    text.extend_from_slice(value)?;
-    text.push(b'\n')?;
-    Ok(())
+    let digits = format!(in alloc; "{n}")?;
+    push_parts(text, &[b"r", digits.as_bytes(), b" ", value, b"\n"])
 }
 
 /// Appends `console N`, the N bytes, and the end of the line.
 pub fn push_console(alloc: Global, text: &mut Vec<u8>, bytes: &[u8]) -> Result<(), AllocError>
-    ensures { OnOk result (text.new.items ≡ text.old.items ++ console_lines bytes.now) }
+    ensures ok { OnOk result (text.new.items ≡ text.old.items ++ console_lines bytes.now) }
+    ensures err { OnErr result (text.new.items ≡ text.old.items) }
 {
-    push_count(alloc, text, "console", bytes.len() as u64)?;
-    text.extend_from_slice(bytes)?;
-    text.push(b'\n')?;
-    Ok(())
+    let count = bytes.len();
+    let digits = format!(in alloc; "{count}")?;
+    push_parts(text, &[b"console ", digits.as_bytes(), b"\n", bytes, b"\n"])
 }
 
 /// Appends the line `ADDRESS WORD`, both in hexadecimal.
 pub fn push_word_line(text: &mut Vec<u8>, address: u32, word: u32) -> Result<(), AllocError>
-    ensures { OnOk result (text.new.items ≡ text.old.items ++ word_line address word) }
+    ensures ok { OnOk result (text.new.items ≡ text.old.items ++ word_line address word) }
+    ensures err { OnErr result (text.new.items ≡ text.old.items) }
 {
-    push_word(text, address)?;
-    text.push(b' ')?;
-    push_word(text, word)?;
-    text.push(b'\n')?;
-    Ok(())
+    push_named(text, &word_digits(address), &word_digits(word))
 }
 
 /// Appends a line of text.
 pub fn push_line(text: &mut Vec<u8>, words: &str) -> Result<(), AllocError>
-    ensures { OnOk result (text.new.items ≡ text.old.items ++ line words.now) }
+    ensures ok { OnOk result (text.new.items ≡ text.old.items ++ line words.now) }
+    ensures err { OnErr result (text.new.items ≡ text.old.items) }
 {
-    text.extend_from_slice(words.as_bytes())?;
-    text.push(b'\n')?;
-    Ok(())
+    push_parts(text, &[words.as_bytes(), b"\n"])
 }

@@ -10,7 +10,7 @@ loop-address-preserved g c = λ p h s.
     let i = c.loop-address.address in
     let text = c.loop-address.text.items in
     let rest = lines_from l (c.args.to - (i + 1)) (i + 1) in
-    ap (λ t. t ++ rest) (c.in_ok-push_word_line.ensures ∙ ap (λ w. text ++ word_line i w) (c.user_data.ensures p h s))
+    ap (λ t. t ++ rest) (c.in_ok-push_word_line.ensures.ok ∙ ap (λ w. text ++ word_line i w) (c.user_data.ensures p h s))
     ∙ append_assoc text (l i) rest
     ∙ ap (λ r. text ++ r) (sym (next_line l c.args.to i (omega arith)))
     ∙ c.loop-address.invariant p h s
