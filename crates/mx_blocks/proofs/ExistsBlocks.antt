@@ -1,5 +1,5 @@
 -- Each source has blocks.
-use Rattle.std.proofs.Common.{◌≡◌, ◌≢◌, ℕ, zero, suc, ◌+◌, ◌-◌, ◌<◌, ◌≤◌, Bool, true, false, cond, eqb, ◌||◌, ◌⊎◌, List, [], ◌∷◌, length, map, Some, refl, sym, ap, ◌∙◌, subst, ⊎_elim, inl, inr, arith}
+use Rattle.std.proofs.Common.{◌≡◌, ◌≢◌, ℕ, zero, suc, ◌+◌, ◌-◌, ◌<◌, ◌≤◌, true, false, ◌⊎◌, List, [], ◌∷◌, length, map, Some, refl, sym, ap, ◌∙◌, subst, ⊎_elim, inl, inr, arith}
 use Rattle.std.specs.Prelude.{slice_get, slice_range, slice_index_or, is_some}
 use Rattle.std.specs.Option.{option_map}
 use Rattle.std.proofs.lemmas.Bool.{false≢true, cases_Bool, cases_eq, eq-eqb}
@@ -10,9 +10,9 @@ use Rattle.mx_source.specs.declared.statement.Statement.TheVariants.{Halt}
 use Rattle.mx_source.specs.Labels.{is_labelled}
 use Rattle.mx_source.specs.SourceValue.{SourceValue, IsSource}
 use Rattle.mx_blocks.specs.declared.block.Block.{Block}
-use Rattle.mx_blocks.specs.Leaders.{ends_there, gap, is_leader, inst_of, end_of, size, IsBlockOf, BlocksFrom}
+use Rattle.mx_blocks.specs.Leaders.{gap, is_leader, inst_of, end_of, size, IsBlockOf, BlocksFrom}
 use Rattle.mx_blocks.specs.Splitting.{BlocksExist}
-use Rattle.mx_blocks.proofs.Splits.{Gaps, count_in, block_ends, block_goes_on, is_block}
+use Rattle.mx_blocks.proofs.Splits.{Gaps, gap_grows, count_in, block_ends, block_goes_on, is_block}
 
 -- index i is a leader or the end of the source
 abbrev LeadsOrEnds : SourceValue → ℕ → Type 0
@@ -25,10 +25,6 @@ record Next (source : SourceValue) (first : ℕ) : Type 0 where
   within : end ≤ length source.statements
   gaps : Gaps source first end
   leads : LeadsOrEnds source end
-
-gap_grows : (b : Bool) (n : ℕ) → cond b 0 (suc n) ≢ 0 → cond b 0 (suc n) ≡ suc n
-gap_grows true n h = absurd (h refl)
-gap_grows false n h = refl
 
 leader_zero : (source : SourceValue) (first : ℕ) → is_leader source first ≡ true → gap (is_labelled source.labels) source.statements first ≡ 0
 leader_zero source first h = grind (arith, nat_tests)
@@ -46,7 +42,7 @@ gaps_more source first (suc i) later gaps quiet k low high = ⊎_elim
 
     here : gap (is_labelled source.labels) source.statements (suc i) + first ≡ suc i
     here =
-        let grows = gap_grows (is_labelled source.labels (suc i) || (ends_there (slice_get source.statements i) || eqb (gap (is_labelled source.labels) source.statements i) 63)) (gap (is_labelled source.labels) source.statements i) apart in
+        let grows = gap_grows (is_labelled source.labels) source.statements i apart in
         let before = gaps i (omega arith) (omega arith) in
         omega arith
 

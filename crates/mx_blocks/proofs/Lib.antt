@@ -1,3 +1,4 @@
 pub mod Splits
 pub mod ExistsBlocks
 pub mod UniqueBlocks
+pub mod LeadersBegin

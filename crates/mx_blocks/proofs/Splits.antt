@@ -36,6 +36,14 @@ gap_small labelled statements (suc i) =
     one_gap : (a b : Bool) (g : ℕ) → g ≤ 63 → cond (a || (b || eqb g 63)) 0 (suc g) ≤ 63
     one_gap a b g h = grind (arith, nat_tests)
 
+-- a statement that is no leader is one further from it
+pub gap_grows : (labelled : ℕ → Bool) (statements : List Statement) (i : ℕ) → gap labelled statements (suc i) ≢ 0 → gap labelled statements (suc i) ≡ suc (gap labelled statements i)
+gap_grows labelled statements i = one_more (labelled (suc i) || (ends_there (slice_get statements i) || eqb (gap labelled statements i) 63)) (gap labelled statements i)
+  where
+    one_more : (b : Bool) (n : ℕ) → cond b 0 (suc n) ≢ 0 → cond b 0 (suc n) ≡ suc n
+    one_more true n h = absurd (h refl)
+    one_more false n h = refl
+
 -- a statement after one that ends a block is a leader
 pub gap_goes : (labelled : ℕ → Bool) (statements : List Statement) (i : ℕ) → gap labelled statements (suc i) ≢ 0 → ends_there (slice_get statements i) ≡ false
 gap_goes labelled statements i h = ⊎_elim

@@ -7,5 +7,5 @@ mod laws;
 mod splitting;
 
 pub use block::{Block, End, Item, Plan};
-pub use laws::blocks_exist;
+pub use laws::{blocks_exist, leaders_begin};
 pub use splitting::blocks;
