@@ -3,12 +3,14 @@
 
 mod group;
 mod grouping;
+mod laws;
 mod name;
 mod print;
 mod source;
 mod statement;
 mod text;
 
+pub use laws::names_are_their_bytes;
 pub use mx_io::Memory;
 pub use mx_isa::Place;
 pub use name::Name;
