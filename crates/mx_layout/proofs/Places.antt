@@ -16,7 +16,8 @@ use Rattle.mx_blocks.specs.Leaders.{IsBlockOf, ends_there, gap, is_leader, size,
 pub labelled_leads : (source : SourceValue) (t : ℕ) → is_labelled source.labels t ≡ true → is_leader source t ≡ true
 labelled_leads source zero e = refl
 labelled_leads source (suc i) e =
-    ap (λ c. eqb (cond (c || (ends_there (slice_get source.statements i) || eqb (gap (is_labelled source.labels) source.statements i) 63)) 0 (suc (gap (is_labelled source.labels) source.statements i))) 0) e
+    ap (λ c. eqb (cond (c || (ends_there (slice_get source.statements i) || eqb (gap (is_labelled source.labels) source.statements i) 63)) 0
+    (suc (gap (is_labelled source.labels) source.statements i))) 0) e
 
 branch_place : (P : ℕ → Type 0) (s : Statement) (t : ℕ) → StatementFits P s → statement_end s ≡ Branches t → P t
 branch_place P (Branch a b c target) t h e = let same : target ≡ t = cc in subst P same h
@@ -60,8 +61,14 @@ last_of source b h k = at_last (slice_get source.statements (b.first + size b - 
         }
 
 -- the target of a block's branch or call is a place of the source
-pub branch_target_place : (source : SourceValue) (b : Block) (t : ℕ) → IsSource source → IsBlockOf source b → b.end ≡ Branches t → IsPlace source.labels (length source.statements) t
-branch_target_place source b t h k e = let l = last_of source b h k in branch_place (IsPlace source.labels (length source.statements)) l.statement t l.fits (l.ends ∙ e)
+pub branch_target_place :
+    (source : SourceValue) (b : Block) (t : ℕ) → IsSource source → IsBlockOf source b → b.end ≡ Branches t
+    → IsPlace source.labels (length source.statements) t
+branch_target_place source b t h k e =
+    let l = last_of source b h k in branch_place (IsPlace source.labels (length source.statements)) l.statement t l.fits (l.ends ∙ e)
 
-pub call_target_place : (source : SourceValue) (b : Block) (t : ℕ) → IsSource source → IsBlockOf source b → b.end ≡ Calls t → IsPlace source.labels (length source.statements) t
-call_target_place source b t h k e = let l = last_of source b h k in call_place (IsPlace source.labels (length source.statements)) l.statement t l.fits (l.ends ∙ e)
+pub call_target_place :
+    (source : SourceValue) (b : Block) (t : ℕ) → IsSource source → IsBlockOf source b → b.end ≡ Calls t
+    → IsPlace source.labels (length source.statements) t
+call_target_place source b t h k e =
+    let l = last_of source b h k in call_place (IsPlace source.labels (length source.statements)) l.statement t l.fits (l.ends ∙ e)

@@ -44,18 +44,26 @@ padded_start at [] k = at
 padded_start at (b ∷ blocks) zero = at
 padded_start at (b ∷ blocks) (suc k) = padded_start (at + padded_size b) blocks k
 
-grow_by : (c : Bool) (at at' a b l l' : ℕ) → a ≤ b → at + a ≤ l → l + (at' + b) ≤ l' + (at + a) → (at ≤ cond c at l) × (cond c at l + at' ≤ cond c at' l' + at)
+grow_by :
+    (c : Bool) (at at' a b l l' : ℕ) → a ≤ b → at + a ≤ l → l + (at' + b) ≤ l' + (at + a)
+    → (at ≤ cond c at l) × (cond c at l + at' ≤ cond c at' l' + at)
 grow_by true at at' a b l l' p q r = (omega arith, omega arith)
 grow_by false at at' a b l l' p q r = (omega arith, omega arith)
 
-links_grow : (at at' : ℕ) (list : List Site) (t : ℕ) → AreValid list → (at ≤ link_of at list t) × (link_of at list t + at' ≤ padded_link at' (blocks_in list) t + at)
+links_grow :
+    (at at' : ℕ) (list : List Site) (t : ℕ) → AreValid list
+    → (at ≤ link_of at list t) × (link_of at list t + at' ≤ padded_link at' (blocks_in list) t + at)
 links_grow at at' [] t v = (omega arith, omega arith)
 links_grow at at' (s ∷ list) t v =
     let rest = links_grow (at + plan_size s.plan) (at' + padded_size s.block) list t (others_valid s list v) in
     grow_by (has_statement t s.block) at at' (plan_size s.plan) (padded_size s.block) _ _
     (valid_short s.block s.plan (first_valid s list v)) rest.0 rest.1
 
-starts_grow : (at at' : ℕ) (list : List Site) (k : ℕ) (d : Site) → StandFrom at list → AreValid list → k < length list → (at ≤ (slice_index_or list k d).start + (slice_index_or list k d).plan.place) × ((slice_index_or list k d).start + (slice_index_or list k d).plan.place + at' ≤ padded_start at' (blocks_in list) k + padded_place (slice_index_or list k d).block + at)
+starts_grow :
+    (at at' : ℕ) (list : List Site) (k : ℕ) (d : Site) → StandFrom at list → AreValid list → k < length list
+    → (at ≤ (slice_index_or list k d).start + (slice_index_or list k d).plan.place)
+    × ((slice_index_or list k d).start + (slice_index_or list k d).plan.place + at' ≤ padded_start at' (blocks_in list) k + padded_place
+    (slice_index_or list k d).block + at)
 starts_grow at at' [] k d st v l = absurd (omega arith)
 starts_grow at at' (s ∷ list) zero d st v l =
     let here = st.0 in
@@ -69,15 +77,22 @@ starts_grow at at' (s ∷ list) (suc k) d st v l =
     let high = rest.1 in
     (omega arith, omega arith)
 
-first_near : (c : Bool) (at at' start place place' a b e l l' : ℕ) → start ≡ at → a ≡ place + e → b ≡ place' + e → place ≤ place' → at + a ≤ l → l + (at' + b) ≤ l' + (at + a) → IsNearer (start + place) (cond c at l) (at' + place') (cond c at' l')
+first_near :
+    (c : Bool) (at at' start place place' a b e l l' : ℕ) → start ≡ at → a ≡ place + e → b ≡ place' + e → place ≤ place' → at + a ≤ l
+    → l + (at' + b) ≤ l' + (at + a) → IsNearer (start + place) (cond c at l) (at' + place') (cond c at' l')
 first_near true at at' start place place' a b e l l' p q r s t u = inr (omega arith, omega arith)
 first_near false at at' start place place' a b e l l' p q r s t u = inl (omega arith, omega arith)
 
-other_near : (c : Bool) (at at' a b from from' l l' : ℕ) → a ≤ b → at + a ≤ from → from + (at' + b) ≤ from' + (at + a) → IsNearer from l from' l' → IsNearer from (cond c at l) from' (cond c at' l')
+other_near :
+    (c : Bool) (at at' a b from from' l l' : ℕ) → a ≤ b → at + a ≤ from → from + (at' + b) ≤ from' + (at + a) → IsNearer from l from' l'
+    → IsNearer from (cond c at l) from' (cond c at' l')
 other_near true at at' a b from from' l l' p q r n = inr (omega arith, omega arith)
 other_near false at at' a b from from' l l' p q r n = n
 
-near : (at at' : ℕ) (list : List Site) (t k : ℕ) (d : Site) → StandFrom at list → AreValid list → k < length list → IsNearer ((slice_index_or list k d).start + (slice_index_or list k d).plan.place) (link_of at list t) (padded_start at' (blocks_in list) k + padded_place (slice_index_or list k d).block) (padded_link at' (blocks_in list) t)
+near :
+    (at at' : ℕ) (list : List Site) (t k : ℕ) (d : Site) → StandFrom at list → AreValid list → k < length list
+    → IsNearer ((slice_index_or list k d).start + (slice_index_or list k d).plan.place) (link_of at list t)
+    (padded_start at' (blocks_in list) k + padded_place (slice_index_or list k d).block) (padded_link at' (blocks_in list) t)
 near at at' [] t k d st v l = absurd (omega arith)
 near at at' (s ∷ list) t zero d st v l =
     let valid = first_valid s list v in
@@ -103,25 +118,37 @@ reached : (c : Bool) (x : Overlong) → cond c None (Some x) ≡ None → c ≡ 
 reached true x e = refl
 reached false x e = absurd (none-some x (sym e))
 
-reached_at : (source : SourceValue) (link : ℕ → ℕ) (at : ℕ) (b : Block) (o : Option ℕ) (t : ℕ) → overlong_to source link at b o ≡ None → o ≡ Some t → reaches (at + padded_place b) (link t) ≡ true
+reached_at :
+    (source : SourceValue) (link : ℕ → ℕ) (at : ℕ) (b : Block) (o : Option ℕ) (t : ℕ) → overlong_to source link at b o ≡ None → o ≡ Some t
+    → reaches (at + padded_place b) (link t) ≡ true
 reached_at source link at b None t e f = absurd (none-some t f)
 reached_at source link at b (Some u) t e f =
     let same = same_Some u t f in
     ap (λ x. reaches (at + padded_place b) (link x)) (sym same) ∙ reached (reaches (at + padded_place b) (link u)) _ e
 
-all_reached : (source : SourceValue) (link : ℕ → ℕ) (at : ℕ) (list : List Site) (k : ℕ) (d : Site) (t : ℕ) → overlong_from source link at (blocks_in list) ≡ None → k < length list → branch_target (slice_index_or list k d).block.end ≡ Some t → reaches (padded_start at (blocks_in list) k + padded_place (slice_index_or list k d).block) (link t) ≡ true
+all_reached :
+    (source : SourceValue) (link : ℕ → ℕ) (at : ℕ) (list : List Site) (k : ℕ) (d : Site) (t : ℕ)
+    → overlong_from source link at (blocks_in list) ≡ None → k < length list → branch_target (slice_index_or list k d).block.end ≡ Some t
+    → reaches (padded_start at (blocks_in list) k + padded_place (slice_index_or list k d).block) (link t) ≡ true
 all_reached source link at [] k d t e l f = absurd (omega arith)
 all_reached source link at (s ∷ list) zero d t e l f =
     reached_at source link at s.block (branch_target s.block.end) t (first_none _ _ e) f
 all_reached source link at (s ∷ list) (suc k) d t e l f =
     all_reached source link (at + padded_size s.block) list k d t (other_none _ _ e) (omega arith) f
 
-pub layout_reaches : (source : SourceValue) (place : Place) (list : List Site) → StandFrom place.code list → AreValid list → overlong source place (blocks_in list) ≡ None → All (λ (s : Site). (target : ℕ) → branch_target s.block.end ≡ Some target → reaches (s.start + s.plan.place) (link_of place.code list target) ≡ true) list
+pub layout_reaches :
+    (source : SourceValue) (place : Place) (list : List Site) → StandFrom place.code list → AreValid list
+    → overlong source place (blocks_in list) ≡ None → All
+    (λ (s : Site). (target : ℕ) → branch_target s.block.end ≡ Some target
+    → reaches (s.start + s.plan.place) (link_of place.code list target) ≡ true) list
 layout_reaches source place list st v e k d l target f =
     reaches_nearer _ _ _ _ (near place.code place.code list target k d st v l)
     (all_reached source (padded_link place.code (blocks_in list)) place.code list k d target e l f)
 
-split : (source : SourceValue) (link : ℕ → ℕ) (at : ℕ) (blocks : List Block) (k : ℕ) (b : Block) → k < length blocks → b ≡ slice_index_or blocks k b → overlong_from source link at (drop k blocks) ≡ or_else (overlong_to source link at b (branch_target b.end)) (overlong_from source link (at + padded_size b) (drop (k + 1) blocks))
+split :
+    (source : SourceValue) (link : ℕ → ℕ) (at : ℕ) (blocks : List Block) (k : ℕ) (b : Block) → k < length blocks → b ≡ slice_index_or blocks k b
+    → overlong_from source link at (drop k blocks) ≡ or_else (overlong_to source link at b (branch_target b.end))
+    (overlong_from source link (at + padded_size b) (drop (k + 1) blocks))
 split source link at blocks k b l here =
     ap (overlong_from source link at) (drop_more blocks k b l ∙ ap (λ x. x ∷ drop (k + 1) blocks) (sym here))
 
@@ -130,14 +157,19 @@ target_of : (P : ℕ → Type 0) (s : Statement) (t : ℕ) → StatementFits P s
 target_of P (Branch a b c target) t h e = subst P (same_Some target t e) h
 target_of P _ t h e = absurd (none-some t e)
 
-pub target_within : (source : SourceValue) (b : Block) (t : ℕ) → IsSource source → IsBlockOf source b → branch_target b.end ≡ Some t → t ≤ length source.statements
+pub target_within :
+    (source : SourceValue) (b : Block) (t : ℕ) → IsSource source → IsBlockOf source b → branch_target b.end ≡ Some t
+    → t ≤ length source.statements
 target_within source b t h k e =
     let last = last_of source b h k in
     let place = target_of (IsPlace source.labels (length source.statements)) last.statement t last.fits (ap branch_target last.ends ∙ e) in
     place.within
 
 -- the branch of a block by two link maps that agree on what branches may name
-pub overlong_to-same : (source : SourceValue) (link link' : ℕ → ℕ) (at : ℕ) (b : Block) → IsSource source → IsBlockOf source b → ((t : ℕ) → t ≤ length source.statements → link t ≡ link' t) → overlong_to source link at b (branch_target b.end) ≡ overlong_to source link' at b (branch_target b.end)
+pub overlong_to-same :
+    (source : SourceValue) (link link' : ℕ → ℕ) (at : ℕ) (b : Block) → IsSource source → IsBlockOf source b
+    → ((t : ℕ) → t ≤ length source.statements → link t ≡ link' t)
+    → overlong_to source link at b (branch_target b.end) ≡ overlong_to source link' at b (branch_target b.end)
 overlong_to-same source link link' at b h k e = by_target (branch_target b.end) refl
   where
     by_target : (o : Option ℕ) → branch_target b.end ≡ o → overlong_to source link at b o ≡ overlong_to source link' at b o
@@ -146,14 +178,20 @@ overlong_to-same source link link' at b h k e = by_target (branch_target b.end) 
         ap (unless_reached (slice_index source.lines (b.first + size b - 1)) (at + padded_place b)) (e t (target_within source b t h k f))
 
 -- the branches from block k on, where the one of block k reaches its target
-pub reached_more : (source : SourceValue) (link : ℕ → ℕ) (at : ℕ) (blocks : List Block) (k n : ℕ) (b : Block) → k < length blocks → b ≡ slice_index_or blocks k b → n ≡ padded_size b → overlong_to source link at b (branch_target b.end) ≡ None → overlong_from source link (at + n) (drop (k + 1) blocks) ≡ overlong_from source link at (drop k blocks)
+pub reached_more :
+    (source : SourceValue) (link : ℕ → ℕ) (at : ℕ) (blocks : List Block) (k n : ℕ) (b : Block) → k < length blocks
+    → b ≡ slice_index_or blocks k b → n ≡ padded_size b → overlong_to source link at b (branch_target b.end) ≡ None
+    → overlong_from source link (at + n) (drop (k + 1) blocks) ≡ overlong_from source link at (drop k blocks)
 reached_more source link at blocks k n b l here same e =
     ap (λ x. overlong_from source link (at + x) (drop (k + 1) blocks)) same
     ∙ sym (ap (λ o. or_else o (overlong_from source link (at + padded_size b) (drop (k + 1) blocks))) e)
     ∙ sym (split source link at blocks k b l here)
 
 -- and where it does not
-pub reported_more : (source : SourceValue) (link : ℕ → ℕ) (at : ℕ) (blocks : List Block) (k : ℕ) (b : Block) (error : LinkError) → k < length blocks → b ≡ slice_index_or blocks k b → IsReported (overlong_to source link at b (branch_target b.end)) error → IsReported (overlong_from source link at (drop k blocks)) error
+pub reported_more :
+    (source : SourceValue) (link : ℕ → ℕ) (at : ℕ) (blocks : List Block) (k : ℕ) (b : Block) (error : LinkError) → k < length blocks
+    → b ≡ slice_index_or blocks k b → IsReported (overlong_to source link at b (branch_target b.end)) error
+    → IsReported (overlong_from source link at (drop k blocks)) error
 reported_more source link at blocks k b Memory l here h = tt
 reported_more source link at blocks k b (Displacement line from to) l here h =
     split source link at blocks k b l here

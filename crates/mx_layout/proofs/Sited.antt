@@ -19,7 +19,9 @@ abbrev pub link_at : ℕ → List Block → List ℕ → ℕ → ℕ
 link_at at (block ∷ blocks) (n ∷ sizes) i = cond (has_statement i block) at (link_at (at + n) blocks sizes i)
 link_at at _ _ i = at
 
-pub link_of-sites : (at : ℕ) (blocks : List Block) (plans : List Plan) (starts : List ℕ) (i : ℕ) → length plans ≡ length blocks → length starts ≡ length blocks → link_of at (sites blocks plans starts) i ≡ link_at at blocks (map plan_size plans) i
+pub link_of-sites :
+    (at : ℕ) (blocks : List Block) (plans : List Plan) (starts : List ℕ) (i : ℕ) → length plans ≡ length blocks → length starts ≡ length blocks
+    → link_of at (sites blocks plans starts) i ≡ link_at at blocks (map plan_size plans) i
 link_of-sites at [] plans starts i e f = refl
 link_of-sites at (b ∷ blocks) [] starts i e f = absurd (omega arith)
 link_of-sites at (b ∷ blocks) (p ∷ plans) [] i e f = absurd (omega arith)
@@ -30,7 +32,9 @@ pub padded_link-sizes : (at : ℕ) (blocks : List Block) (i : ℕ) → padded_li
 padded_link-sizes at [] i = refl
 padded_link-sizes at (b ∷ blocks) i = ap (λ r. cond (has_statement i b) at r) (padded_link-sizes (at + padded_size b) blocks i)
 
-pub blocks_in-sites : (blocks : List Block) (plans : List Plan) (starts : List ℕ) → length plans ≡ length blocks → length starts ≡ length blocks → blocks_in (sites blocks plans starts) ≡ blocks
+pub blocks_in-sites :
+    (blocks : List Block) (plans : List Plan) (starts : List ℕ) → length plans ≡ length blocks → length starts ≡ length blocks
+    → blocks_in (sites blocks plans starts) ≡ blocks
 blocks_in-sites [] plans starts e f = refl
 blocks_in-sites (b ∷ blocks) [] starts e f = absurd (omega arith)
 blocks_in-sites (b ∷ blocks) (p ∷ plans) [] e f = absurd (omega arith)
@@ -40,12 +44,16 @@ pub length-starts : (at : ℕ) (sizes : List ℕ) → length (starts_from at siz
 length-starts at [] = refl
 length-starts at (n ∷ sizes) = ap (λ k. suc k) (length-starts (at + n) sizes)
 
-pub starts_stand : (at : ℕ) (blocks : List Block) (plans : List Plan) → length plans ≡ length blocks → StandFrom at (sites blocks plans (starts_from at (map plan_size plans)))
+pub starts_stand :
+    (at : ℕ) (blocks : List Block) (plans : List Plan) → length plans ≡ length blocks
+    → StandFrom at (sites blocks plans (starts_from at (map plan_size plans)))
 starts_stand at [] plans e = tt
 starts_stand at (b ∷ blocks) [] e = absurd (omega arith)
 starts_stand at (b ∷ blocks) (p ∷ plans) e = (refl, starts_stand (at + plan_size p) blocks plans (omega arith))
 
-pub end_of-sites : (at : ℕ) (blocks : List Block) (plans : List Plan) (starts : List ℕ) → length plans ≡ length blocks → length starts ≡ length blocks → end_of at (sites blocks plans starts) ≡ at + sum (map plan_size plans)
+pub end_of-sites :
+    (at : ℕ) (blocks : List Block) (plans : List Plan) (starts : List ℕ) → length plans ≡ length blocks → length starts ≡ length blocks
+    → end_of at (sites blocks plans starts) ≡ at + sum (map plan_size plans)
 end_of-sites at [] [] starts e f = omega arith
 end_of-sites at [] (p ∷ plans) starts e f = absurd (omega arith)
 end_of-sites at (b ∷ blocks) [] starts e f = absurd (omega arith)
@@ -55,7 +63,9 @@ end_of-sites at (b ∷ blocks) (p ∷ plans) (s ∷ starts) e f =
     let whole = sum_by-cons (λ x. x) (plan_size p) (map plan_size plans) in
     omega arith
 
-pub length-links : (source : SourceValue) (i j at : ℕ) (blocks : List Block) (sizes : List ℕ) → BlocksFrom source i j blocks → length sizes ≡ length blocks → length (links_from at blocks sizes) + i ≡ j + 1
+pub length-links :
+    (source : SourceValue) (i j at : ℕ) (blocks : List Block) (sizes : List ℕ) → BlocksFrom source i j blocks → length sizes ≡ length blocks
+    → length (links_from at blocks sizes) + i ≡ j + 1
 length-links source i j at [] sizes h e = let same : i ≡ j = h in omega arith
 length-links source i j at (b ∷ blocks) [] h e = absurd (omega arith)
 length-links source i j at (b ∷ blocks) (n ∷ sizes) h e =
@@ -77,7 +87,9 @@ outside t b e l = high b.first (b.first + size b) e l
     high low up e l = grind (arith, nat_tests)
 
 -- of a block's links and the links behind them, the one u statements behind the block's first
-link_in : (b : Block) (at i t u : ℕ) (rest : List ℕ) (next : ℕ) → b.first ≡ i → t ≡ i + u → (size b ≤ u → slice_index rest (u - size b) ≡ next) → slice_index (replicate (size b) at ++ rest) u ≡ cond (has_statement t b) at next
+link_in :
+    (b : Block) (at i t u : ℕ) (rest : List ℕ) (next : ℕ) → b.first ≡ i → t ≡ i + u → (size b ≤ u → slice_index rest (u - size b) ≡ next)
+    → slice_index (replicate (size b) at ++ rest) u ≡ cond (has_statement t b) at next
 link_in b at i t u rest next first f later = ⊎_elim here there (cases_Bool (has_statement t b))
   where
     here : has_statement t b ≡ true → slice_index (replicate (size b) at ++ rest) u ≡ cond (has_statement t b) at next
@@ -98,7 +110,9 @@ link_in b at i t u rest next first f later = ⊎_elim here there (cases_Bool (ha
         ∙ sym (ap (λ x. cond x at next) c)
 
 -- the list of links holds the link map, u statements behind the first one
-pub links_hold : (source : SourceValue) (i j at : ℕ) (blocks : List Block) (sizes : List ℕ) (t u : ℕ) → BlocksFrom source i j blocks → length sizes ≡ length blocks → t ≡ i + u → t ≤ j → slice_index (links_from at blocks sizes) u ≡ link_at at blocks sizes t
+pub links_hold :
+    (source : SourceValue) (i j at : ℕ) (blocks : List Block) (sizes : List ℕ) (t u : ℕ) → BlocksFrom source i j blocks
+    → length sizes ≡ length blocks → t ≡ i + u → t ≤ j → slice_index (links_from at blocks sizes) u ≡ link_at at blocks sizes t
 links_hold source i j at [] sizes t u h e f l =
     let same : i ≡ j = h in
     let none : u ≡ 0 = omega arith in
@@ -112,6 +126,8 @@ pub all_blocks : (source : SourceValue) (i j : ℕ) (blocks : List Block) → Bl
 all_blocks source i j [] h = All-nil (IsBlockOf source)
 all_blocks source i j (b ∷ blocks) h = All-cons (IsBlockOf source) b blocks h.1 (all_blocks source (i + size b) j blocks h.2)
 
-pub block_read : (source : SourceValue) (blocks : List Block) (k : ℕ) (b : Block) → AreBlocks source blocks → k < length blocks → b ≡ slice_index_or blocks k b → IsBlockOf source b
+pub block_read :
+    (source : SourceValue) (blocks : List Block) (k : ℕ) (b : Block) → AreBlocks source blocks → k < length blocks → b ≡ slice_index_or blocks k b
+    → IsBlockOf source b
 block_read source blocks k b h l e =
     subst (λ (x : Block). IsBlockOf source x) (sym e) (all_blocks source 0 (length source.statements) blocks h k b l)

@@ -1,4 +1,5 @@
--- One more block with the plan that is taken for it.
+-- The plans that are taken for proposals. The invariant is `AreTaken`: with these plans the first blocks are kept, for these proposals,
+-- of which n were rejected. It goes across one more block with its proposal (`taken_more`).
 use Rattle.std.proofs.Common.{◌≡◌, ℕ, suc, ◌+◌, ◌<◌, Bool, true, false, cond, List, [], ◌∷◌, ◌++◌, length, take, slice_index_or, refl, sym, ap, ◌∙◌, subst, inl, inr, ⊎_elim, All, arith}
 use Rattle.std.proofs.lemmas.List.{take_more, take_all, length_push, length-take-le}
 use Rattle.std.proofs.lemmas.List.Elements.{All-nil, All-cons}
@@ -12,7 +13,10 @@ use Rattle.mx_squash.proofs.Targets.{site}
 use Rattle.mx_layout.specs.Kept.{AreKept}
 
 -- a proposal that is taken, and one that is not
-kept_push : (Proposes : Block → Plan → Type 0) (n : ℕ) (list : List Site) (proposals : List Plan) (s : Site) (proposal : Plan) → Proposes s.block proposal → Valid s.block proposal → s.plan ≡ proposal → AreKept Proposes n list proposals → AreKept Proposes n (list ++ s ∷ []) (proposals ++ proposal ∷ [])
+kept_push :
+    (Proposes : Block → Plan → Type 0) (n : ℕ) (list : List Site) (proposals : List Plan) (s : Site) (proposal : Plan) → Proposes s.block proposal
+    → Valid s.block proposal → s.plan ≡ proposal → AreKept Proposes n list proposals
+    → AreKept Proposes n (list ++ s ∷ []) (proposals ++ proposal ∷ [])
 kept_push Proposes n [] [] s proposal told valid same h = (told, inl (valid, same, h))
 kept_push Proposes n [] (p ∷ proposals) s proposal told valid same h = absurd h
 kept_push Proposes n (r ∷ list) [] s proposal told valid same h = absurd h
@@ -24,7 +28,10 @@ kept_push Proposes n (r ∷ list) (p ∷ proposals) s proposal told valid same h
       h.1,
 )
 
-rejected_push : (Proposes : Block → Plan → Type 0) (n : ℕ) (list : List Site) (proposals : List Plan) (s : Site) (proposal : Plan) → Proposes s.block proposal → (¬ Valid s.block proposal) → IsPadded s.block s.plan → AreKept Proposes n list proposals → AreKept Proposes (suc n) (list ++ s ∷ []) (proposals ++ proposal ∷ [])
+rejected_push :
+    (Proposes : Block → Plan → Type 0) (n : ℕ) (list : List Site) (proposals : List Plan) (s : Site) (proposal : Plan) → Proposes s.block proposal
+    → (¬ Valid s.block proposal) → IsPadded s.block s.plan → AreKept Proposes n list proposals
+    → AreKept Proposes (suc n) (list ++ s ∷ []) (proposals ++ proposal ∷ [])
 rejected_push Proposes n [] [] s proposal told invalid padded h = (told, inr (invalid, padded, n, refl, h))
 rejected_push Proposes n [] (p ∷ proposals) s proposal told invalid padded h = absurd h
 rejected_push Proposes n (r ∷ list) [] s proposal told invalid padded h = absurd h
@@ -36,7 +43,10 @@ rejected_push Proposes n (r ∷ list) (p ∷ proposals) s proposal told invalid 
       h.1,
 )
 
-sites_push : (blocks : List Block) (plans : List Plan) (starts : List ℕ) (b : Block) (p : Plan) (at : ℕ) → length plans ≡ length blocks → length starts ≡ length blocks → sites (blocks ++ b ∷ []) (plans ++ p ∷ []) (starts ++ at ∷ []) ≡ sites blocks plans starts ++ site b p at ∷ []
+sites_push :
+    (blocks : List Block) (plans : List Plan) (starts : List ℕ) (b : Block) (p : Plan) (at : ℕ) → length plans ≡ length blocks
+    → length starts ≡ length blocks → sites (blocks ++ b ∷ []) (plans ++ p ∷ []) (starts ++ at ∷ [])
+    ≡ sites blocks plans starts ++ site b p at ∷ []
 sites_push [] [] [] b p at e f = refl
 sites_push [] (q ∷ plans) starts b p at e f = absurd (omega arith)
 sites_push [] [] (s ∷ starts) b p at e f = absurd (omega arith)
@@ -53,7 +63,11 @@ AreTaken Proposes n blocks plans proposals =
 split_last : (starts : List ℕ) (k : ℕ) → length starts ≡ k + 1 → starts ≡ take k starts ++ slice_index_or starts k 0 ∷ []
 split_last starts k e = sym (take_all (k + 1) starts (omega arith)) ∙ take_more starts k 0 (omega arith)
 
-one_more : (Proposes : Block → Plan → Type 0) (m : ℕ) (blocks : List Block) (plans proposals : List Plan) (b : Block) (p proposal : Plan) → length plans ≡ length blocks → ((starts : List ℕ) (at : ℕ) → length starts ≡ length blocks → AreKept Proposes m (sites blocks plans starts ++ site b p at ∷ []) (proposals ++ proposal ∷ [])) → AreTaken Proposes m (blocks ++ b ∷ []) (plans ++ p ∷ []) (proposals ++ proposal ∷ [])
+one_more :
+    (Proposes : Block → Plan → Type 0) (m : ℕ) (blocks : List Block) (plans proposals : List Plan) (b : Block) (p proposal : Plan)
+    → length plans ≡ length blocks → ((starts : List ℕ) (at : ℕ) → length starts ≡ length blocks
+    → AreKept Proposes m (sites blocks plans starts ++ site b p at ∷ []) (proposals ++ proposal ∷ []))
+    → AreTaken Proposes m (blocks ++ b ∷ []) (plans ++ p ∷ []) (proposals ++ proposal ∷ [])
 one_more Proposes m blocks plans proposals b p proposal e more starts f =
     let k = length blocks in
     let all : length starts ≡ k + 1 = f ∙ length_push blocks b in
@@ -63,43 +77,65 @@ one_more Proposes m blocks plans proposals b p proposal e more starts f =
     (sym (sites_push blocks plans (take k starts) b p at e front) ∙ ap (sites (blocks ++ b ∷ []) (plans ++ p ∷ [])) (sym (split_last starts k all)))
     (more (take k starts) at front)
 
-pub taken_push : (Proposes : Block → Plan → Type 0) (n : ℕ) (blocks : List Block) (plans proposals : List Plan) (b : Block) (p proposal : Plan) → length plans ≡ length blocks → AreTaken Proposes n blocks plans proposals → Proposes b proposal → Valid b proposal → p ≡ proposal → AreTaken Proposes n (blocks ++ b ∷ []) (plans ++ p ∷ []) (proposals ++ proposal ∷ [])
+pub taken_push :
+    (Proposes : Block → Plan → Type 0) (n : ℕ) (blocks : List Block) (plans proposals : List Plan) (b : Block) (p proposal : Plan)
+    → length plans ≡ length blocks → AreTaken Proposes n blocks plans proposals → Proposes b proposal → Valid b proposal → p ≡ proposal
+    → AreTaken Proposes n (blocks ++ b ∷ []) (plans ++ p ∷ []) (proposals ++ proposal ∷ [])
 taken_push Proposes n blocks plans proposals b p proposal e h told valid same =
     one_more Proposes n blocks plans proposals b p proposal e
     (λ starts at f. kept_push Proposes n (sites blocks plans starts) proposals (site b p at) proposal told valid same (h starts f))
 
-pub refused_push : (Proposes : Block → Plan → Type 0) (n : ℕ) (blocks : List Block) (plans proposals : List Plan) (b : Block) (p proposal : Plan) → length plans ≡ length blocks → AreTaken Proposes n blocks plans proposals → Proposes b proposal → (¬ Valid b proposal) → IsPadded b p → AreTaken Proposes (suc n) (blocks ++ b ∷ []) (plans ++ p ∷ []) (proposals ++ proposal ∷ [])
+pub refused_push :
+    (Proposes : Block → Plan → Type 0) (n : ℕ) (blocks : List Block) (plans proposals : List Plan) (b : Block) (p proposal : Plan)
+    → length plans ≡ length blocks → AreTaken Proposes n blocks plans proposals → Proposes b proposal → (¬ Valid b proposal) → IsPadded b p
+    → AreTaken Proposes (suc n) (blocks ++ b ∷ []) (plans ++ p ∷ []) (proposals ++ proposal ∷ [])
 refused_push Proposes n blocks plans proposals b p proposal e h told invalid padded =
     one_more Proposes (suc n) blocks plans proposals b p proposal e
     (λ starts at f. rejected_push Proposes n (sites blocks plans starts) proposals (site b p at) proposal told invalid padded (h starts f))
 
+-- a proposal for a block, and the plan that is taken for it
+pub record IsTaken (Proposes : Block → Plan → Type 0) (b : Block) (p proposal : Plan) (rejected : Bool) : Type 0 where
+  pub told : Proposes b proposal
+  pub invalid : rejected ≡ true → ¬ Valid b proposal
+  pub padded : rejected ≡ true → IsPadded b p
+  pub kept : rejected ≡ false → p ≡ proposal
+  pub valid : Valid b p
+
+module _ (Proposes : Block → Plan → Type 0) (n : ℕ) (blocks : List Block) (plans proposals : List Plan) (b : Block) (p proposal : Plan) where
+  pushed : (r : Bool) → length plans ≡ length blocks → AreTaken Proposes n blocks plans proposals → IsTaken Proposes b p proposal r
+      → AreTaken Proposes (cond r (n + 1) n) (blocks ++ b ∷ []) (plans ++ p ∷ []) (proposals ++ proposal ∷ [])
+  pushed true same taken is =
+      let one : suc n ≡ n + 1 = omega arith in
+      subst (λ (x : ℕ). AreTaken Proposes x (blocks ++ b ∷ []) (plans ++ p ∷ []) (proposals ++ proposal ∷ [])) one
+      (refused_push Proposes n blocks plans proposals b p proposal same taken is.told (is.invalid refl) (is.padded refl))
+  pushed false same taken is =
+      let kept = is.kept refl in
+      taken_push Proposes n blocks plans proposals b p proposal same taken is.told (subst (λ (x : Plan). Valid b x) kept is.valid) kept
+
 -- one more of these blocks
-pub taken_more : (Proposes : Block → Plan → Type 0) (blocks : List Block) (i n m : ℕ) (plans proposals plans' proposals' : List Plan) (b : Block) (p proposal : Plan) (rejected : Bool) → i < length blocks → b ≡ slice_index_or blocks i b → length plans ≡ i → AreTaken Proposes n (take i blocks) plans proposals → Proposes b proposal → (rejected ≡ true → ¬ Valid b proposal) → (rejected ≡ true → IsPadded b p) → (rejected ≡ false → p ≡ proposal) → Valid b p → proposals' ≡ proposals ++ proposal ∷ [] → plans' ≡ plans ++ p ∷ [] → m ≡ cond rejected (n + 1) n → AreTaken Proposes m (take (i + 1) blocks) plans' proposals'
-taken_more Proposes blocks i n m plans proposals plans' proposals' b p proposal rejected l here count taken told invalid padded kept valid more_proposals more_plans more_rejected =
-    subst (λ (k : ℕ). AreTaken Proposes k (take (i + 1) blocks) plans' proposals') (sym more_rejected)
+pub taken_more :
+    (Proposes : Block → Plan → Type 0) (blocks : List Block) (i n m : ℕ) (plans proposals plans' proposals' : List Plan)
+    (b : Block) (p proposal : Plan) (rejected : Bool) → i < length blocks → b ≡ slice_index_or blocks i b → length plans ≡ i
+    → AreTaken Proposes n (take i blocks) plans proposals → IsTaken Proposes b p proposal rejected
+    → proposals' ≡ proposals ++ proposal ∷ [] → plans' ≡ plans ++ p ∷ [] → m ≡ cond rejected (n + 1) n
+    → AreTaken Proposes m (take (i + 1) blocks) plans' proposals'
+taken_more Proposes blocks i n m plans proposals plans' proposals' b p proposal rejected l here count taken is by_proposals by_plans by_rejected =
+    let same : length plans ≡ length (take i blocks) = count ∙ sym (length-take-le i blocks (omega arith)) in
+    let more_blocks : take (i + 1) blocks ≡ take i blocks ++ b ∷ [] = take_more blocks i b l ∙ ap (λ x. take i blocks ++ x ∷ []) (sym here) in
+    subst (λ (k : ℕ). AreTaken Proposes k (take (i + 1) blocks) plans' proposals') (sym by_rejected)
     (subst (λ (x : List Block). AreTaken Proposes (cond rejected (n + 1) n) x plans' proposals') (sym more_blocks)
-    (subst (λ (x : List Plan). AreTaken Proposes (cond rejected (n + 1) n) (take i blocks ++ b ∷ []) x proposals') (sym more_plans)
-    (subst (λ (x : List Plan). AreTaken Proposes (cond rejected (n + 1) n) (take i blocks ++ b ∷ []) (plans ++ p ∷ []) x) (sym more_proposals)
-    (pushed rejected invalid padded kept))))
-  where
-    more_blocks : take (i + 1) blocks ≡ take i blocks ++ b ∷ []
-    more_blocks = take_more blocks i b l ∙ ap (λ x. take i blocks ++ x ∷ []) (sym here)
-
-    same : length plans ≡ length (take i blocks)
-    same = count ∙ sym (length-take-le i blocks (omega arith))
-
-    pushed : (r : Bool) → (r ≡ true → ¬ Valid b proposal) → (r ≡ true → IsPadded b p) → (r ≡ false → p ≡ proposal) → AreTaken Proposes (cond r (n + 1) n) (take i blocks ++ b ∷ []) (plans ++ p ∷ []) (proposals ++ proposal ∷ [])
-    pushed true f g k =
-        let one : suc n ≡ n + 1 = omega arith in
-        subst (λ (x : ℕ). AreTaken Proposes x (take i blocks ++ b ∷ []) (plans ++ p ∷ []) (proposals ++ proposal ∷ [])) one
-        (refused_push Proposes n (take i blocks) plans proposals b p proposal same taken told (f refl) (g refl))
-    pushed false f g k = taken_push Proposes n (take i blocks) plans proposals b p proposal same taken told (subst (λ (x : Plan). Valid b x) (k refl) valid) (k refl)
+    (subst (λ (x : List Plan). AreTaken Proposes (cond rejected (n + 1) n) (take i blocks ++ b ∷ []) x proposals') (sym by_plans)
+    (subst (λ (x : List Plan). AreTaken Proposes (cond rejected (n + 1) n) (take i blocks ++ b ∷ []) (plans ++ p ∷ []) x) (sym by_proposals)
+    (pushed Proposes n (take i blocks) plans proposals b p proposal rejected same taken is))))
 
 -- each plan that is taken is valid
-pub kept_valid : (Proposes : Block → Plan → Type 0) (n : ℕ) (list : List Site) (proposals : List Plan) → AreKept Proposes n list proposals → All (λ (s : Site). Valid s.block s.plan) list
+pub kept_valid :
+    (Proposes : Block → Plan → Type 0) (n : ℕ) (list : List Site) (proposals : List Plan) → AreKept Proposes n list proposals
+    → All (λ (s : Site). Valid s.block s.plan) list
 kept_valid Proposes n [] proposals h = All-nil (λ (s : Site). Valid s.block s.plan)
 kept_valid Proposes n (s ∷ list) [] h = absurd h
 kept_valid Proposes n (s ∷ list) (p ∷ proposals) h = ⊎_elim
-    (λ k. All-cons (λ (r : Site). Valid r.block r.plan) s list (subst (λ (q : Plan). Valid s.block q) (sym k.1) k.0) (kept_valid Proposes n list proposals k.2))
+    (λ k. All-cons (λ (r : Site). Valid r.block r.plan) s list (subst (λ (q : Plan). Valid s.block q) (sym k.1) k.0)
+    (kept_valid Proposes n list proposals k.2))
     (λ k. All-cons (λ (r : Site). Valid r.block r.plan) s list (valid_padded s.block s.plan k.1) (kept_valid Proposes k.2 list proposals k.4))
     h.1

@@ -19,7 +19,8 @@ use Rattle.mx_layout.proofs.Taken.{AreTaken, kept_valid}
 use Rattle.mx_layout.proofs.Sizes.{AreValid, padded_sizes_short, end_short, covered}
 
 -- blocks with the plans that are taken for them
-pub record Taken (Proposes : Block → Plan → Type 0) (source : SourceValue) (blocks : List Block) (plans proposals : List Plan) (rejected : ℕ) : Type 0 where
+pub record Taken (Proposes : Block → Plan → Type 0) (source : SourceValue) (blocks : List Block) (plans proposals : List Plan)
+    (rejected : ℕ) : Type 0 where
   pub all : AreBlocks source blocks
   pub count : length plans ≡ length blocks
   pub taken : AreTaken Proposes rejected blocks plans proposals
@@ -33,23 +34,32 @@ starts_count at blocks plans e = length-starts at (map plan_size plans) ∙ leng
 abbrev pub sites_at : ℕ → List Block → List Plan → List Site
 sites_at at blocks plans = sites blocks plans (starts_at at plans)
 
-pub kept : (Proposes : Block → Plan → Type 0) (source : SourceValue) (blocks : List Block) (plans proposals : List Plan) (rejected at : ℕ) → Taken Proposes source blocks plans proposals rejected → AreKept Proposes rejected (sites_at at blocks plans) proposals
+pub kept :
+    (Proposes : Block → Plan → Type 0) (source : SourceValue) (blocks : List Block) (plans proposals : List Plan) (rejected at : ℕ)
+    → Taken Proposes source blocks plans proposals rejected → AreKept Proposes rejected (sites_at at blocks plans) proposals
 kept Proposes source blocks plans proposals rejected at t = t.taken (starts_at at plans) (starts_count at blocks plans t.count)
 
-pub valid : (Proposes : Block → Plan → Type 0) (source : SourceValue) (blocks : List Block) (plans proposals : List Plan) (rejected at : ℕ) → Taken Proposes source blocks plans proposals rejected → AreValid (sites_at at blocks plans)
-valid Proposes source blocks plans proposals rejected at t = kept_valid Proposes rejected (sites_at at blocks plans) proposals (kept Proposes source blocks plans proposals rejected at t)
+pub valid :
+    (Proposes : Block → Plan → Type 0) (source : SourceValue) (blocks : List Block) (plans proposals : List Plan) (rejected at : ℕ)
+    → Taken Proposes source blocks plans proposals rejected → AreValid (sites_at at blocks plans)
+valid Proposes source blocks plans proposals rejected at t =
+    kept_valid Proposes rejected (sites_at at blocks plans) proposals (kept Proposes source blocks plans proposals rejected at t)
 
 pub blocks_same : (at : ℕ) (blocks : List Block) (plans : List Plan) → length plans ≡ length blocks → blocks_in (sites_at at blocks plans) ≡ blocks
 blocks_same at blocks plans e = blocks_in-sites blocks plans (starts_at at plans) e (starts_count at blocks plans e)
 
-pub layout : (Proposes : Block → Plan → Type 0) (source : SourceValue) (place : Place) (blocks : List Block) (plans proposals : List Plan) (rejected : ℕ) → Taken Proposes source blocks plans proposals rejected → IsLayout Valid source place (sites_at place.code blocks plans)
+pub layout :
+    (Proposes : Block → Plan → Type 0) (source : SourceValue) (place : Place) (blocks : List Block) (plans proposals : List Plan) (rejected : ℕ)
+    → Taken Proposes source blocks plans proposals rejected → IsLayout Valid source place (sites_at place.code blocks plans)
 layout Proposes source place blocks plans proposals rejected t = record {
   blocks = subst (λ (l : List Block). AreBlocks source l) (sym (blocks_same place.code blocks plans t.count)) t.all;
   stand = starts_stand place.code blocks plans t.count;
   plans = valid Proposes source blocks plans proposals rejected place.code t;
 }
 
-pub short : (Proposes : Block → Plan → Type 0) (source : SourceValue) (blocks : List Block) (plans proposals : List Plan) (rejected at : ℕ) → Taken Proposes source blocks plans proposals rejected → end_of at (sites_at at blocks plans) ≤ at + 3 * length source.statements
+pub short :
+    (Proposes : Block → Plan → Type 0) (source : SourceValue) (blocks : List Block) (plans proposals : List Plan) (rejected at : ℕ)
+    → Taken Proposes source blocks plans proposals rejected → end_of at (sites_at at blocks plans) ≤ at + 3 * length source.statements
 short Proposes source blocks plans proposals rejected at t =
     let high = end_short at (sites_at at blocks plans) (valid Proposes source blocks plans proposals rejected at t) in
     let same : sum_by size (blocks_in (sites_at at blocks plans)) ≡ sum_by size blocks = ap (sum_by size) (blocks_same at blocks plans t.count) in
@@ -57,7 +67,9 @@ short Proposes source blocks plans proposals rejected at t =
     omega arith
 
 -- the plans have room
-pub plans_room : (Proposes : Block → Plan → Type 0) (source : SourceValue) (blocks : List Block) (plans proposals : List Plan) (rejected at : ℕ) → Taken Proposes source blocks plans proposals rejected → at + sum (map plan_size plans) ≤ at + 3 * length source.statements
+pub plans_room :
+    (Proposes : Block → Plan → Type 0) (source : SourceValue) (blocks : List Block) (plans proposals : List Plan) (rejected at : ℕ)
+    → Taken Proposes source blocks plans proposals rejected → at + sum (map plan_size plans) ≤ at + 3 * length source.statements
 plans_room Proposes source blocks plans proposals rejected at t =
     let high = short Proposes source blocks plans proposals rejected at t in
     let same = end_of-sites at blocks plans (starts_at at plans) t.count (starts_count at blocks plans t.count) in
@@ -70,21 +82,30 @@ padded_room source blocks h =
     let all = covered source 0 (length source.statements) blocks h in
     omega arith
 
-pub links_count : (source : SourceValue) (blocks : List Block) (sizes : List ℕ) (at : ℕ) → AreBlocks source blocks → length sizes ≡ length blocks → length (links_from at blocks sizes) ≡ length source.statements + 1
+pub links_count :
+    (source : SourceValue) (blocks : List Block) (sizes : List ℕ) (at : ℕ) → AreBlocks source blocks → length sizes ≡ length blocks
+    → length (links_from at blocks sizes) ≡ length source.statements + 1
 links_count source blocks sizes at h e = let count = length-links source 0 (length source.statements) at blocks sizes h e in omega arith
 
-pub links_same : (source : SourceValue) (blocks : List Block) (plans : List Plan) (at i : ℕ) → AreBlocks source blocks → length plans ≡ length blocks → i ≤ length source.statements → slice_index (links_from at blocks (map plan_size plans)) i ≡ link_of at (sites_at at blocks plans) i
+pub links_same :
+    (source : SourceValue) (blocks : List Block) (plans : List Plan) (at i : ℕ) → AreBlocks source blocks → length plans ≡ length blocks
+    → i ≤ length source.statements → slice_index (links_from at blocks (map plan_size plans)) i ≡ link_of at (sites_at at blocks plans) i
 links_same source blocks plans at i h e l =
     links_hold source 0 (length source.statements) at blocks (map plan_size plans) i i h (length-map plans plan_size ∙ e) (omega arith) l
     ∙ sym (link_of-sites at blocks plans (starts_at at plans) i e (starts_count at blocks plans e))
 
-pub padded_same : (source : SourceValue) (blocks : List Block) (at i : ℕ) → AreBlocks source blocks → i ≤ length source.statements → slice_index (links_from at blocks (map padded_size blocks)) i ≡ padded_link at blocks i
+pub padded_same :
+    (source : SourceValue) (blocks : List Block) (at i : ℕ) → AreBlocks source blocks → i ≤ length source.statements
+    → slice_index (links_from at blocks (map padded_size blocks)) i ≡ padded_link at blocks i
 padded_same source blocks at i h l =
     links_hold source 0 (length source.statements) at blocks (map padded_size blocks) i i h (length-map blocks padded_size) (omega arith) l
     ∙ sym (padded_link-sizes at blocks i)
 
 -- a source with an overlong branch is refused by it
-pub refusal : (Proposes : Block → Plan → Type 0) (source : SourceValue) (place : Place) (blocks : List Block) (plans proposals : List Plan) (rejected : ℕ) (error : LinkError) → Taken Proposes source blocks plans proposals rejected → IsReported (overlong source place blocks) error → IsRefusal Proposes source place error
+pub refusal :
+    (Proposes : Block → Plan → Type 0) (source : SourceValue) (place : Place) (blocks : List Block) (plans proposals : List Plan) (rejected : ℕ)
+    (error : LinkError) → Taken Proposes source blocks plans proposals rejected → IsReported (overlong source place blocks) error
+    → IsRefusal Proposes source place error
 refusal Proposes source place blocks plans proposals rejected Memory t h = tt
 refusal Proposes source place blocks plans proposals rejected (Displacement line from to) t h = record {
   sites = sites_at place.code blocks plans;
@@ -95,7 +116,10 @@ refusal Proposes source place blocks plans proposals rejected (Displacement line
   is = ap (overlong source place) (blocks_same place.code blocks plans t.count) ∙ h;
 }
 
-pub taken_from : (Proposes : Block → Plan → Type 0) (source : SourceValue) (blocks blocks' : List Block) (plans proposals : List Plan) (rejected : ℕ) → blocks' ≡ blocks → AreBlocks source blocks → length plans ≡ length blocks' → AreTaken Proposes rejected blocks' plans proposals → Taken Proposes source blocks plans proposals rejected
+pub taken_from :
+    (Proposes : Block → Plan → Type 0) (source : SourceValue) (blocks blocks' : List Block) (plans proposals : List Plan) (rejected : ℕ)
+    → blocks' ≡ blocks → AreBlocks source blocks → length plans ≡ length blocks' → AreTaken Proposes rejected blocks' plans proposals
+    → Taken Proposes source blocks plans proposals rejected
 taken_from Proposes source blocks blocks' plans proposals rejected e all count taken = record {
   all = all;
   count = count ∙ ap length e;

@@ -93,7 +93,8 @@ returns g c =
       kept =
           subst (λ (l : List ℕ). AreKept g.P.Proposer.proposes chosen.rejected (sites list plan_list l) chosen.proposals.items) (sym starts)
           (kept g.P.Proposer.proposes source list plan_list chosen.proposals.items chosen.rejected place.code taken);
-      links_count = ap length links ∙ links_count source list (map plan_size plan_list) place.code c.in_ok-blocks.ensures (length-map plan_list plan_size ∙ count);
+      links_count = ap length links ∙ links_count source list (map plan_size plan_list) place.code c.in_ok-blocks.ensures
+          (length-map plan_list plan_size ∙ count);
       links = λ i l. ap (λ (x : List ℕ). slice_index x i) links
           ∙ links_same source list plan_list place.code i c.in_ok-blocks.ensures count l
           ∙ ap (λ (x : List ℕ). link_of place.code (sites list plan_list x) i) (sym starts);
@@ -103,8 +104,10 @@ returns g c =
       fits = fits;
       reach =
           subst
-          (λ (l : List ℕ). All (λ (s : Site). (target : ℕ) → branch_target s.block.end ≡ Some target → reaches (s.start + s.plan.place) (link_of place.code (sites list plan_list l) target) ≡ true) (sites list plan_list l))
+          (λ (l : List ℕ). All (λ (s : Site). (target : ℕ) → branch_target s.block.end ≡ Some target
+          → reaches (s.start + s.plan.place) (link_of place.code (sites list plan_list l) target) ≡ true) (sites list plan_list l))
           (sym starts)
-          (layout_reaches source place (sites_at place.code list plan_list) whole.stand whole.plans (ap (overlong source place) (blocks_same place.code list plan_list count) ∙ fits));
+          (layout_reaches source place (sites_at place.code list plan_list) whole.stand whole.plans
+          (ap (overlong source place) (blocks_same place.code list plan_list count) ∙ fits));
       refused = tt;
     }
