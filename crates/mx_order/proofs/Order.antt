@@ -27,15 +27,21 @@ use Rattle.mx_order.proofs.Reorder.{FreeOf, FreeInversions, from_to, run, run_in
 use Rattle.mx_order.proofs.Swap.{MaySwap, swap}
 
 -- pairs of places out of order, as a recursion
-free_of : (Free : ℕ → ℕ → Type 0) (k : ℕ) (items : List Item) → ((q j : ℕ) → StandsAt items q j → j < k → Free j k) → FreeOf Free k (ops items)
+free_of :
+    (Free : ℕ → ℕ → Type 0) (k : ℕ) (items : List Item) → ((q j : ℕ) → StandsAt items q j → j < k → Free j k) → FreeOf Free k (ops items)
 free_of Free k [] h = tt
 free_of Free k (Op j ∷ items) h = (h 0 j refl, free_of Free k items (λ q i. h (suc q) i))
 free_of Free k (Nop ∷ items) h = free_of Free k items (λ q i. h (suc q) i)
 
-pub free_inversions : (Free : ℕ → ℕ → Type 0) (items : List Item) → ((p q k j : ℕ) → StandsAt items p k → StandsAt items q j → p < q → j < k → Free j k) → FreeInversions Free (ops items)
+pub free_inversions :
+    (Free : ℕ → ℕ → Type 0) (items : List Item) → ((p q k j : ℕ) → StandsAt items p k → StandsAt items q j → p < q → j < k → Free j k)
+    → FreeInversions Free (ops items)
 free_inversions Free [] h = tt
-free_inversions Free (Op k ∷ items) h =
-    (free_of Free k items (λ q j s l. h 0 (suc q) k j refl s (omega arith) l), free_inversions Free items (λ p q i j s t l m. h (suc p) (suc q) i j s t (omega arith) m))
+free_inversions Free (Op k ∷ items) h = (
+  free_of Free k items (λ q j s l. h 0 (suc q) k j refl s (omega arith) l),
+  free_inversions Free items
+      (λ p q i j s t l m. h (suc p) (suc q) i j s t (omega arith) m),
+)
 free_inversions Free (Nop ∷ items) h = free_inversions Free items (λ p q i j s t l m. h (suc p) (suc q) i j s t (omega arith) m)
 
 -- a view that sees neither displacements nor squash bits nor immediates
@@ -111,10 +117,13 @@ module _ (block : Block) (plan : Plan) (insts : List Inst) (input : Option (List
   fits_at k l = laid.fits k Halt (let n = count in omega arith)
 
   -- two that stand out of order may change places
-  may_swap : (p q k j : ℕ) → StandsAt (items_of plan) p k → StandsAt (items_of plan) q j → p < q → j < k → MaySwap block.input (inst_at insts j) (inst_at insts k)
+  may_swap :
+      (p q k j : ℕ) → StandsAt (items_of plan) p k → StandsAt (items_of plan) q j → p < q → j < k
+      → MaySwap block.input (inst_at insts j) (inst_at insts k)
   may_swap p q k j s t l m =
       let low = stands_below p k s in record {
-        independent = independent_along (inst_at (insts_of block) j) (inst_at insts j) (inst_at (insts_of block) k) (inst_at insts k) block.input (views_at j) (views_at k) (laid.valid.order p q k j s t l m);
+        independent = independent_along (inst_at (insts_of block) j) (inst_at insts j) (inst_at (insts_of block) k) (inst_at insts k) block.input (views_at j)
+            (views_at k) (laid.valid.order p q k j s t l m);
         first = fits_at j (omega arith);
         second = fits_at k low;
         one = inl (sym (views_at j).transfer ∙ (or_parts _ _ (not_last (insts_of block) j block.body (omega arith))).0);
@@ -142,7 +151,9 @@ module _ (p : Place) (input : Option (List ℕ)) (at : ℕ) where
   pub run_numbers : (insts : List Inst) (s : Ran) → run (step insts) (from_to 0 (length insts)) s ≡ run_source p input at insts s
   run_numbers insts s = run_from insts 0 insts s (λ k. let on : k ≡ 0 + k = omega arith in ap (inst_at insts) on)
 
-  pub run_items_append : (insts : List Inst) (xs ys : List Item) (s : Ran) → run_items p input at insts (xs ++ ys) s ≡ run_items p input at insts ys (run_items p input at insts xs s)
+  pub run_items_append :
+      (insts : List Inst) (xs ys : List Item) (s : Ran) → run_items p input at insts (xs ++ ys) s
+      ≡ run_items p input at insts ys (run_items p input at insts xs s)
   run_items_append insts [] ys s = refl
   run_items_append insts (Op k ∷ xs) ys s = run_items_append insts xs ys (run_one p input at (inst_at insts k) s)
   run_items_append insts (Nop ∷ xs) ys s = run_items_append insts xs ys s
@@ -165,7 +176,8 @@ pub keeps_effect : ValidOrderKeepsEffect
 keeps_effect block plan insts p input at s laid =
     let n = length (insts_of block) in
     run_ops p input at insts (items_of plan) s
-    ∙ run_in_order (step p input at insts) Free (λ j k t h. swap p input block.input laid.ordered (inst_at insts j) (inst_at insts k) at at t h) n 0 (ops (items_of plan)) s
+    ∙ run_in_order (step p input at insts) Free (λ j k t h. swap p input block.input laid.ordered (inst_at insts j) (inst_at insts k) at at t h) n 0
+    (ops (items_of plan)) s
     (λ k. laid.valid.once k ∙ grind (arith, nat_tests))
     (free_inversions Free (items_of plan) (may_swap block plan insts input laid))
     ∙ ap (λ m. run (step p input at insts) (from_to 0 m) s) (sym (count block plan insts input laid))
@@ -179,7 +191,8 @@ stays_clean block plan insts p input at s n laid clean =
     let front = take n (items_of plan) in
     let back = drop n (items_of plan) in
     let whole : run_items p input at insts back (run_items p input at insts front s) ≡ run_source p input at insts s =
-    sym (run_items_append p input at insts front back s) ∙ ap (λ l. run_items p input at insts l s) (take-append-drop n (items_of plan)) ∙ keeps_effect block plan insts p input at s laid in
+    sym (run_items_append p input at insts front back s) ∙ ap (λ l. run_items p input at insts l s) (take-append-drop n (items_of plan))
+    ∙ keeps_effect block plan insts p input at s laid in
     let grown = bytes_grow p input at insts back (run_items p input at insts front s) in (
       clean_before p input at insts back (run_items p input at insts front s) (ap (λ (r : Ran). r.clean) whole ∙ clean),
       record { rest = grown.rest; whole = sym (ap (λ (r : Ran). r.bytes) whole) ∙ grown.whole },

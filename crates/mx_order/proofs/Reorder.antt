@@ -58,7 +58,8 @@ free_at : (Free : ℕ → ℕ → Type 0) (a k : ℕ) (xs ys : List ℕ) → Fre
 free_at Free a k [] ys h l = h.0 l
 free_at Free a k (b ∷ xs) ys h l = free_at Free a k xs ys h.1 l
 
-module _ {S : Type 0} (step : ℕ → S → S) (Free : ℕ → ℕ → Type 0) (swap : (a b : ℕ) (s : S) → Free a b → step b (step a s) ≡ step a (step b s)) where
+module _ {S : Type 0} (step : ℕ → S → S) (Free : ℕ → ℕ → Type 0)
+    (swap : (a b : ℕ) (s : S) → Free a b → step b (step a s) ≡ step a (step b s)) where
   -- every number before k is greater, so k may come first
   to_front : (k : ℕ) (xs ys : List ℕ) (s : S) → FreeInversions Free (xs ++ k ∷ ys) → ((j : ℕ) → 0 < times j xs → k < j)
       → run step (xs ++ k ∷ ys) s ≡ run step (xs ++ ys) (step k s)
@@ -72,19 +73,23 @@ module _ {S : Type 0} (step : ℕ → S → S) (Free : ℕ → ℕ → Type 0) (
   run_in_order zero low (k ∷ ks) s o f = absurd (grind (arith, nat_tests, o k))
   run_in_order (suc n) low ks s o f =
       let p = split low ks (grind (arith, nat_tests, o low)) in
-      let count : (j : ℕ) → times j ks ≡ times j p.before + times j (low ∷ p.behind) = λ j. ap (times j) p.is ∙ times_append j p.before (low ∷ p.behind) in
+      let count : (j : ℕ) → times j ks ≡ times j p.before + times j (low ∷ p.behind) = λ j. ap (times j) p.is
+      ∙ times_append j p.before (low ∷ p.behind) in
       let free : FreeInversions Free (p.before ++ low ∷ p.behind) = subst (FreeInversions Free) p.is f in
       ap (λ l. run step l s) p.is
       ∙ to_front low p.before p.behind s free (λ j q. grind (arith, nat_tests, o j, count j, count low, o low))
-      ∙ run_in_order n (suc low) (p.before ++ p.behind) (step low s) (λ j. grind (arith, nat_tests, o j, count j, times_append j p.before p.behind)) (free_rest Free low p.before p.behind free)
+      ∙ run_in_order n (suc low) (p.before ++ p.behind) (step low s) (λ j. grind (arith, nat_tests, o j, count j, times_append j p.before p.behind))
+      (free_rest Free low p.before p.behind free)
 
 -- a list in which n numbers stand is at least so long
 pub once_length : (n low : ℕ) (ks : List ℕ) → OnceEach low n ks → n ≤ length ks
 once_length zero low ks o = omega arith
 once_length (suc n) low ks o =
     let p = split low ks (grind (arith, nat_tests, o low)) in
-    let count : (j : ℕ) → times j ks ≡ times j p.before + times j (low ∷ p.behind) = λ j. ap (times j) p.is ∙ times_append j p.before (low ∷ p.behind) in
-    let more : n ≤ length (p.before ++ p.behind) = once_length n (suc low) (p.before ++ p.behind) (λ j. grind (arith, nat_tests, o j, count j, times_append j p.before p.behind)) in
+    let count : (j : ℕ) → times j ks ≡ times j p.before + times j (low ∷ p.behind) = λ j. ap (times j) p.is
+    ∙ times_append j p.before (low ∷ p.behind) in
+    let more : n ≤ length (p.before ++ p.behind) = once_length n (suc low) (p.before ++ p.behind)
+    (λ j. grind (arith, nat_tests, o j, count j, times_append j p.before p.behind)) in
     let a : length ks ≡ length p.before + suc (length p.behind) = ap length p.is ∙ length-append p.before (low ∷ p.behind) in
     let b : length (p.before ++ p.behind) ≡ length p.before + length p.behind = length-append p.before p.behind in
     omega arith

@@ -41,7 +41,8 @@ below_right n (Op k ∷ xs) ys h = below_right n xs ys h.1
 below_right n (Nop ∷ xs) ys h = below_right n xs ys h
 
 -- where each number up to n stands once, only lower ones stand beside n
-below_beside : (n : ℕ) (front rest : List Item) → EachOnce (suc n) (front ++ Op n ∷ rest) → (k : ℕ) → 1 ≤ times k (ops front) + times k (ops rest) → k < n
+below_beside :
+    (n : ℕ) (front rest : List Item) → EachOnce (suc n) (front ++ Op n ∷ rest) → (k : ℕ) → 1 ≤ times k (ops front) + times k (ops rest) → k < n
 below_beside n front rest once k h = beside_at (times k (ops front)) (times k (ops rest)) (sym parts ∙ once k) h
   where
     parts : times k (ops (front ++ Op n ∷ rest)) ≡ times k (ops front) + times k (n ∷ ops rest)
@@ -76,7 +77,9 @@ one_item [] k h e = absurd (cc)
 one_item (x ∷ []) k h e = let same : x ≡ Op k = cc in ap (λ (i : Item). i ∷ []) same
 one_item (x ∷ y ∷ items) k h e = absurd (omega arith)
 
-three_items : (items : List Item) (k : ℕ) → length items ≡ 3 → slice_get items 0 ≡ Some (Op k) → (first : Item) × (second : Item) × (items ≡ Op k ∷ first ∷ second ∷ [])
+three_items :
+    (items : List Item) (k : ℕ) → length items ≡ 3 → slice_get items 0 ≡ Some (Op k)
+    → (first : Item) × (second : Item) × (items ≡ Op k ∷ first ∷ second ∷ [])
 three_items [] k h e = absurd (cc)
 three_items (x ∷ []) k h e = absurd (omega arith)
 three_items (x ∷ y ∷ []) k h e = absurd (omega arith)
@@ -94,14 +97,17 @@ falling Jumps i h e = absurd (cc)
 pub body_goes_on : (block : Block) (k : ℕ) → k < body_count block → is_last (inst_at (insts_of block) k) ≡ false
 body_goes_on block k l = by_end (falls block.end) refl l
   where
-    by_end : (b : Bool) → falls block.end ≡ b → k < cond b (length (insts_of block)) (length (insts_of block) - 1) → is_last (inst_at (insts_of block) k) ≡ false
+    by_end :
+        (b : Bool) → falls block.end ≡ b → k < cond b (length (insts_of block)) (length (insts_of block) - 1)
+        → is_last (inst_at (insts_of block) k) ≡ false
     by_end false e h = not_last (insts_of block) k block.body (omega arith)
     by_end true e h = ⊎_elim
         (λ (m : suc k < length (insts_of block)). not_last (insts_of block) k block.body m)
         (λ (m : length (insts_of block) ≤ suc k).
         let last : length (insts_of block) - 1 ≡ k = omega arith in
         falling block.end (inst_at (insts_of block) k) e
-        (sym (ap (λ o. is_some_and o (end_is block.end)) (ap (slice_get (insts_of block)) last ∙ slice_get-get_or (insts_of block) k Halt h)) ∙ block.last))
+        (sym (ap (λ o. is_some_and o (end_is block.end)) (ap (slice_get (insts_of block)) last ∙ slice_get-get_or (insts_of block) k Halt h))
+        ∙ block.last))
         (cases_lt (suc k) (length (insts_of block)))
 
 pub body_within : (block : Block) → body_count block ≤ length (insts_of block)
@@ -149,7 +155,8 @@ module _ (block : Block) (plan : Plan) (valid : Valid block plan) where
   some : (e : End) → block.end ≡ e → falls e ≡ false → count ≡ suc (count - 1)
   some e h f = let l = once_below (length (insts_of block)) (items_of plan) valid.once plan.place (count - 1) (stands e h f) in omega arith
 
-  once_of : (rest : List Item) → count ≡ suc (count - 1) → back ≡ Op (count - 1) ∷ rest → EachOnce (suc (count - 1)) (front ++ Op (count - 1) ∷ rest)
+  once_of :
+      (rest : List Item) → count ≡ suc (count - 1) → back ≡ Op (count - 1) ∷ rest → EachOnce (suc (count - 1)) (front ++ Op (count - 1) ∷ rest)
   once_of rest n b k =
       ap (λ l. times k (ops l)) (ap (λ l. front ++ l) (sym b) ∙ sym whole) ∙ valid.once k ∙ ap (λ m. cond (ltb k m) 1 0) n
 
@@ -163,7 +170,8 @@ module _ (block : Block) (plan : Plan) (valid : Valid block plan) where
       let n = some e h f in
       let t = three_items back (count - 1) (back_length e h ∙ c) (first_behind e h f) in
       let once = once_of (t.0 ∷ t.1 ∷ []) n t.2 in
-      (below_front (count - 1) front (t.0 ∷ t.1 ∷ []) once, record { first = t.0; second = t.1; is = t.2; slots = below_rest (count - 1) front (t.0 ∷ t.1 ∷ []) once })
+      (below_front (count - 1) front (t.0 ∷ t.1 ∷ []) once, record { first = t.0; second = t.1; is = t.2;
+      slots = below_rest (count - 1) front (t.0 ∷ t.1 ∷ []) once })
 
   ends : (e : End) → block.end ≡ e → Ends e
   ends Falls h = record {
@@ -205,7 +213,9 @@ leads_kept p input at insts n (Op k ∷ items) s b h =
     leads_kept p input at insts n items (run_one p input at (inst_at insts k) s) b.1 h ∙ cond-false _ _ _ (h k b.0)
 leads_kept p input at insts n (Nop ∷ items) s b h = leads_kept p input at insts n items s b h
 
-pub run_source_append : (p : Place) (input : Option (List ℕ)) (at : ℕ) (xs ys : List Inst) (s : Ran) → run_source p input at (xs ++ ys) s ≡ run_source p input at ys (run_source p input at xs s)
+pub run_source_append :
+    (p : Place) (input : Option (List ℕ)) (at : ℕ) (xs ys : List Inst) (s : Ran)
+    → run_source p input at (xs ++ ys) s ≡ run_source p input at ys (run_source p input at xs s)
 run_source_append p input at [] ys s = refl
 run_source_append p input at (i ∷ xs) ys s = run_source_append p input at xs ys (run_one p input at i s)
 
@@ -226,7 +236,8 @@ behind Jumps body back f h = record { rest = h.first ∷ h.second ∷ []; is = h
 past_goes_on : (insts : List Inst) (k : ℕ) → length insts ≤ k → is_transfer (inst_at insts k) ≡ false
 past_goes_on insts k h = ap is_transfer (get_or_past insts k Halt h)
 
-module _ (block : Block) (plan : Plan) (insts : List Inst) (input : Option (List ℕ)) (laid : IsLaidOut block plan insts input) (parts : Parts block plan) where
+module _ (block : Block) (plan : Plan) (insts : List Inst) (input : Option (List ℕ)) (laid : IsLaidOut block plan insts input)
+    (parts : Parts block plan) where
   abbrev pub body : ℕ
   body = body_count block
 

@@ -35,7 +35,9 @@ two_stores false true m a v b w h = refl
 two_stores false false m a v b w h = refl
 
 -- what is taken is taken from the input
-takes_here : (user here : Bool) (w : ℕ) (found : Found) → (cond user (plain_word w) (cond here found (plain_word 0))).takes ≡ true → (here ≡ true) × (found.takes ≡ true)
+takes_here :
+    (user here : Bool) (w : ℕ) (found : Found) → (cond user (plain_word w) (cond here found (plain_word 0))).takes ≡ true
+    → (here ≡ true) × (found.takes ≡ true)
 takes_here true here w found h = absurd (cc)
 takes_here false true w found h = (refl, h)
 takes_here false false w found h = absurd (cc)
@@ -44,7 +46,8 @@ input_taken : (input : Option (List ℕ)) (t : ℕ) → (from_input input t).tak
 input_taken None t h = absurd (cc)
 input_taken (Some bytes) t h = refl
 
-pub user_bus_law : (p : Place) (input : Option (List ℕ)) (ordered : Bool) → (is_some input ≡ true → ordered ≡ true) → IsBus ordered (user_bus p input)
+pub user_bus_law :
+    (p : Place) (input : Option (List ℕ)) (ordered : Bool) → (is_some input ≡ true → ordered ≡ true) → IsBus ordered (user_bus p input)
 user_bus_law p input ordered h = record {
   load_other = λ m t a v b ne. ap (λ w. cond (is_user p b) (plain_word w) (cond (eqb b p.input) (from_input input t) (plain_word 0))) (kept m a v b ne);
   store_store = λ m a v b w ne. two_stores (is_user p a) (is_user p b) m a v b w ne;
@@ -141,7 +144,8 @@ module _ (input : Bool) (bus : Bus) (law : IsBus input bus) where
       not_written n r = grind (arith, nat_tests, h.writes_reads n)
 
   -- and changes the same
-  pub second_same : (x y : Inst) (at at' : ℕ) (s : Core) → Independent x y input → InstFits x → InstFits y → made y at' s ≡ made y at' (act bus x at s.regs s)
+  pub second_same :
+      (x y : Inst) (at at' : ℕ) (s : Core) → Independent x y input → InstFits x → InstFits y → made y at' s ≡ made y at' (act bus x at s.regs s)
   second_same x y at at' s h f g =
       change_same y at' s.regs _ s.md _ (bus.load s.mem s.taken) _
       (sees_next x y at s h)
@@ -181,16 +185,21 @@ module _ (input : Bool) (bus : Bus) (law : IsBus input bus) where
           (cases_Bool (writes_md x))
 
 -- an access is as lawful where its base holds the same
-lawful_same : (p : Place) (input : Option (List ℕ)) (i : Inst) (r r' : Words) → SeesAlike i r r' → is_lawful p input (access i) r ≡ is_lawful p input (access i) r'
+lawful_same :
+    (p : Place) (input : Option (List ℕ)) (i : Inst) (r r' : Words) → SeesAlike i r r'
+    → is_lawful p input (access i) r ≡ is_lawful p input (access i) r'
 lawful_same p input i r r' s = by_access (access i) refl
   where
     by_access : (o : Option Access) → access i ≡ o → is_lawful p input o r ≡ is_lawful p input o r'
     by_access None e = refl
     by_access (Some a) e =
         let b = base_read i a e in
-        ap (λ n. is_user p n || cond a.stores (eqb n p.console) (is_some input && eqb n p.input)) (address_same a r r' (ap (reg r) b ∙ s.first ∙ sym (ap (reg r') b)))
+        ap (λ n. is_user p n || cond a.stores (eqb n p.console) (is_some input && eqb n p.input))
+        (address_same a r r' (ap (reg r) b ∙ s.first ∙ sym (ap (reg r') b)))
 
-bytes_swap : (s : List ℕ) (o q : Option ℕ) → (o ≡ None) ⊎ (q ≡ None) → (s ++ option_to_list o) ++ option_to_list q ≡ (s ++ option_to_list q) ++ option_to_list o
+bytes_swap :
+    (s : List ℕ) (o q : Option ℕ) → (o ≡ None) ⊎ (q ≡ None)
+    → (s ++ option_to_list o) ++ option_to_list q ≡ (s ++ option_to_list q) ++ option_to_list o
 bytes_swap s None q h = grind (arith, common_steps)
 bytes_swap s (Some x) None h = grind (arith, common_steps)
 bytes_swap s (Some x) (Some y) h = ⊎_elim (λ e. absurd (cc)) (λ e. absurd (cc)) h
@@ -204,7 +213,8 @@ leads_swap true false a b d h = refl
 leads_swap false y a b d h = refl
 
 pub ran_same : (c c' : Core) (b b' : List ℕ) (x x' : Bool) (d d' : Decision) → c ≡ c' → b ≡ b' → x ≡ x' → d ≡ d'
-    → (let s : Ran = record { core = c; bytes = b; clean = x; leads = d } in let t : Ran = record { core = c'; bytes = b'; clean = x'; leads = d' } in s ≡ t)
+    → (let s : Ran = record { core = c; bytes = b; clean = x; leads = d } in let t : Ran = record { core = c'; bytes = b'; clean = x'; leads = d' } in
+    s ≡ t)
 ran_same c c' b b' x x' d d' e f g h = λ k. record { core = e k; bytes = f k; clean = g k; leads = h k }
 
 -- what lets two instructions change places: they are independent, have words, and do not both transfer
@@ -215,7 +225,9 @@ pub record MaySwap (ordered : Bool) (x y : Inst) : Type 0 where
   pub one : (is_transfer x ≡ false) ⊎ (is_transfer y ≡ false)
 
 -- they do the same in either order, also at addresses of their own
-pub swap : (p : Place) (input : Option (List ℕ)) (ordered : Bool) → (is_some input ≡ true → ordered ≡ true) → (x y : Inst) (at at' : ℕ) (s : Ran) → MaySwap ordered x y
+pub swap :
+    (p : Place) (input : Option (List ℕ)) (ordered : Bool) → (is_some input ≡ true → ordered ≡ true) → (x y : Inst) (at at' : ℕ) (s : Ran)
+    → MaySwap ordered x y
     → run_one p input at' y (run_one p input at x s) ≡ run_one p input at x (run_one p input at' y s)
 swap p input ordered keeps x y at at' s h =
     let c = s.core in

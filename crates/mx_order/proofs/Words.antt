@@ -48,11 +48,14 @@ run_words p input at insts (Op k ∷ items) s = run_words p input at insts items
 run_words p input at insts (Nop ∷ items) s = ap (run_source p input at (words insts items)) (run_idle p input at s) ∙ run_words p input at insts items s
 
 -- what does not transfer does the same at any address
-pub run_anywhere : (p : Place) (input : Option (List ℕ)) (at at' : ℕ) (i : Inst) (s : Ran) → is_transfer i ≡ false → run_one p input at i s ≡ run_one p input at' i s
+pub run_anywhere :
+    (p : Place) (input : Option (List ℕ)) (at at' : ℕ) (i : Inst) (s : Ran) → is_transfer i ≡ false
+    → run_one p input at i s ≡ run_one p input at' i s
 run_anywhere p input at at' i s h =
     let c = s.core in
     let bus = user_bus p input in
-    let e : change i at c.regs c.md (bus.load c.mem c.taken) ≡ change i at' c.regs c.md (bus.load c.mem c.taken) = change_anywhere i at at' c.regs c.md (bus.load c.mem c.taken) h in
+    let e : change i at c.regs c.md (bus.load c.mem c.taken) ≡ change i at' c.regs c.md (bus.load c.mem c.taken) =
+    change_anywhere i at at' c.regs c.md (bus.load c.mem c.taken) h in
     ran_same _ _ _ _ _ _ _ _
     (ap (λ (d : Change). apply bus d c) e)
     (ap (λ (d : Change). s.bytes ++ option_to_list (sent bus d.stores)) e)
@@ -69,7 +72,9 @@ abbrev pub AllStay : List Inst → Type 0
 AllStay [] = Unit {0}
 AllStay (i ∷ insts) = (is_transfer i ≡ false) × AllStay insts
 
-pub run_along_stays : (p : Place) (input : Option (List ℕ)) (a at : ℕ) (insts : List Inst) (s : Ran) → AllStay insts → run_along p input a insts s ≡ run_source p input at insts s
+pub run_along_stays :
+    (p : Place) (input : Option (List ℕ)) (a at : ℕ) (insts : List Inst) (s : Ran) → AllStay insts
+    → run_along p input a insts s ≡ run_source p input at insts s
 run_along_stays p input a at [] s h = refl
 run_along_stays p input a at (i ∷ insts) s h =
     run_along_stays p input (a + 1) at insts (run_one p input a i s) h.1
@@ -77,7 +82,8 @@ run_along_stays p input a at (i ∷ insts) s h =
 
 -- where one word alone transfers, all may be taken to stand at its address
 pub run_along_once : (p : Place) (input : Option (List ℕ)) (a at : ℕ) (front : List Inst) (i : Inst) (back : List Inst) (s : Ran)
-    → at ≡ a + length front → AllStay front → AllStay back → run_along p input a (front ++ i ∷ back) s ≡ run_source p input at (front ++ i ∷ back) s
+    → at ≡ a + length front → AllStay front → AllStay back
+    → run_along p input a (front ++ i ∷ back) s ≡ run_source p input at (front ++ i ∷ back) s
 run_along_once p input a at [] i back s e f b =
     let here : a ≡ at = omega arith in
     run_along_stays p input (a + 1) at back (run_one p input a i s) b ∙ ap (λ n. run_source p input at back (run_one p input n i s)) here
@@ -85,7 +91,9 @@ run_along_once p input a at (j ∷ front) i back s e f b =
     run_along_once p input (a + 1) at front i back (run_one p input a j s) (omega arith) f.1 b
     ∙ ap (run_source p input at (front ++ i ∷ back)) (run_anywhere p input a at j s f.0)
 
-pub words_stay : (insts : List Inst) (n : ℕ) (items : List Item) → AreBelow n items → ((k : ℕ) → suc k ≤ n → is_transfer (inst_at insts k) ≡ false) → AllStay (words insts items)
+pub words_stay :
+    (insts : List Inst) (n : ℕ) (items : List Item) → AreBelow n items → ((k : ℕ) → suc k ≤ n → is_transfer (inst_at insts k) ≡ false)
+    → AllStay (words insts items)
 words_stay insts n [] b h = tt
 words_stay insts n (Op k ∷ items) b h = (h k b.0, words_stay insts n items b.1 h)
 words_stay insts n (Nop ∷ items) b h = (refl, words_stay insts n items b h)
@@ -103,12 +111,19 @@ last_loaded loaded (i ∷ insts) = last_loaded (loads_to i) insts
 reads_none : (i : Inst) → reads i 0 ≡ false
 reads_none i = grind arith
 
-apart_from : (insts : List Inst) (items : List Item) (loaded : ℕ) → ((j : ℕ) → StandsAt items 0 j → reads (inst_at insts j) loaded ≡ false) → KeepsApart insts items → AreApart loaded (words insts items)
+apart_from :
+    (insts : List Inst) (items : List Item) (loaded : ℕ) → ((j : ℕ) → StandsAt items 0 j → reads (inst_at insts j) loaded ≡ false)
+    → KeepsApart insts items → AreApart loaded (words insts items)
 apart_from insts [] loaded first h = tt
-apart_from insts (Op k ∷ items) loaded first h =
-    (first k refl, apart_from insts items (loads_to (inst_at insts k)) (λ j s. by_load j (is_load (inst_at insts k)) (h 0 k j refl s)) (λ q i j s t. h (suc q) i j s t))
+apart_from insts (Op k ∷ items) loaded first h = (
+  first k refl,
+  apart_from insts items (loads_to (inst_at insts k)) (λ j s. by_load j (is_load (inst_at insts k)) (h 0 k j refl s))
+      (λ q i j s t. h (suc q) i j s t),
+)
   where
-    by_load : (j : ℕ) (b : Bool) → (b && reads (inst_at insts j) (dest (inst_at insts k))) ≡ false → reads (inst_at insts j) (cond b (dest (inst_at insts k)) 0) ≡ false
+    by_load :
+        (j : ℕ) (b : Bool) → (b && reads (inst_at insts j) (dest (inst_at insts k))) ≡ false
+        → reads (inst_at insts j) (cond b (dest (inst_at insts k)) 0) ≡ false
     by_load j true e = e
     by_load j false e = reads_none (inst_at insts j)
 apart_from insts (Nop ∷ items) loaded first h =
