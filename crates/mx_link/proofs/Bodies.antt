@@ -44,7 +44,9 @@ same_place n items once k p q s t = ⊎_elim
     (cases_lt p q)
 
 -- the instruction of a block is that of its statement
-pub inst_is : (source : SourceValue) (block : Block) → IsBlockOf source block → (k : ℕ) (s : Statement) → k < size block → slice_get source.statements (block.first + k) ≡ Some s → slice_get (insts_of block) k ≡ Some (inst_of s)
+pub inst_is :
+    (source : SourceValue) (block : Block) → IsBlockOf source block → (k : ℕ) (s : Statement) → k < size block
+    → slice_get source.statements (block.first + k) ≡ Some s → slice_get (insts_of block) k ≡ Some (inst_of s)
 inst_is source block h k s l e =
     let first = block.first in
     let end = block.first + size block in
@@ -58,7 +60,9 @@ pub record Stated (source : SourceValue) (block : Block) (k : ℕ) : Type 0 wher
   pub is : slice_get source.statements (block.first + k) ≡ Some statement
 
 -- before its last instruction a block goes on
-body_goes_on : (source : SourceValue) (block : Block) → IsBlockOf source block → (k : ℕ) (s : Statement) → suc k < size block → slice_get source.statements (block.first + k) ≡ Some s → is_last (inst_of s) ≡ false
+body_goes_on :
+    (source : SourceValue) (block : Block) → IsBlockOf source block → (k : ℕ) (s : Statement) → suc k < size block
+    → slice_get source.statements (block.first + k) ≡ Some s → is_last (inst_of s) ≡ false
 body_goes_on source block h k s l e =
     sym (ap (λ o. is_some_and o is_last) (inst_is source block h k s (omega arith) e)) ∙ block.body k l
 
@@ -70,7 +74,9 @@ not_false : (b : Bool) → not b ≡ true → b ≡ false
 not_false b h = grind arith
 
 -- the last instruction of a block that falls through goes on
-fall_goes_on : (source : SourceValue) (block : Block) → IsBlockOf source block → falls block.end ≡ true → (s : Statement) → slice_get source.statements (block.first + (size block - 1)) ≡ Some s → is_last (inst_of s) ≡ false
+fall_goes_on :
+    (source : SourceValue) (block : Block) → IsBlockOf source block → falls block.end ≡ true → (s : Statement)
+    → slice_get source.statements (block.first + (size block - 1)) ≡ Some s → is_last (inst_of s) ≡ false
 fall_goes_on source block h f s e =
     let some = h.some in
     let at = inst_is source block h (size block - 1) s (omega arith) e in
@@ -83,18 +89,22 @@ pub record IsLast (block : Block) (s : Statement) (k : ℕ) : Type 0 where
   pub ends : falls block.end ≡ false
   pub end : block.end ≡ end_of s
 
-pub is_last_of : (source : SourceValue) (block : Block) → IsBlockOf source block → (k : ℕ) (s : Statement) → k < size block → slice_get source.statements (block.first + k) ≡ Some s → is_last (inst_of s) ≡ true → IsLast block s k
+pub is_last_of :
+    (source : SourceValue) (block : Block) → IsBlockOf source block → (k : ℕ) (s : Statement) → k < size block
+    → slice_get source.statements (block.first + k) ≡ Some s → is_last (inst_of s) ≡ true → IsLast block s k
 is_last_of source block h k s l e t = ⊎_elim
     (λ low. absurd (false≢true (sym (body_goes_on source block h k s low e) ∙ t)))
     (λ high. let at : k ≡ size block - 1 = omega arith in
-    let here : slice_get source.statements (block.first + (size block - 1)) ≡ Some s = ap (λ n. slice_get source.statements (block.first + n)) (sym at) ∙ e in
+    let here : slice_get source.statements (block.first + (size block - 1)) ≡ Some s = ap (λ n. slice_get source.statements (block.first + n)) (sym at)
+    ∙ e in
     record {
       place = at;
       ends = ⊎_elim
           (λ f. absurd (false≢true (sym (fall_goes_on source block h f s here) ∙ t)))
           (λ f. f)
           (cases_Bool (falls block.end));
-      end = same_Some block.end (end_of s) (sym h.end ∙ ap (λ n. option_map end_of (slice_get source.statements n)) (last_place h.some) ∙ ap (option_map end_of) here);
+      end = same_Some block.end (end_of s) (sym h.end ∙ ap (λ n. option_map end_of (slice_get source.statements n)) (last_place h.some)
+          ∙ ap (option_map end_of) here);
     })
     (cases_lt (suc k) (size block))
   where
@@ -102,7 +112,9 @@ is_last_of source block h k s l e t = ⊎_elim
     last_place some = omega arith
 
 -- in a valid plan it stands at the place
-pub last_stands : (source : SourceValue) (block : Block) (plan : Plan) → Valid block plan → (k : ℕ) (s : Statement) → IsLast block s k → (p : ℕ) → StandsAt (items_of plan) p k → p ≡ plan.place
+pub last_stands :
+    (source : SourceValue) (block : Block) (plan : Plan) → Valid block plan → (k : ℕ) (s : Statement) → IsLast block s k → (p : ℕ)
+    → StandsAt (items_of plan) p k → p ≡ plan.place
 last_stands source block plan v k s last p stands =
     same_place (size block) (items_of plan) v.once k p plan.place stands
     (subst (λ (n : ℕ). StandsAt (items_of plan) plan.place n) (sym last.place) (v.terminator last.ends))
@@ -126,15 +138,19 @@ may_copy_op plan p k h e =
     below : (m n : ℕ) → ltb m n ≡ true → m < n
     below m n t = grind (arith, nat_tests)
 
-    by_item : (o : Option Item) → slice_get (items_of plan) p ≡ o → is_op (slice_get (items_of plan) p) ≡ true → slice_get (items_of plan) p ≡ Some (Op k)
+    by_item :
+        (o : Option Item) → slice_get (items_of plan) p ≡ o → is_op (slice_get (items_of plan) p) ≡ true → slice_get (items_of plan) p ≡ Some (Op k)
     by_item None f t = absurd (false≢true (sym (ap is_op f) ∙ t))
     by_item (Some x) f t = f ∙ ap (λ y. Some y) (sym (get_or_from_slice_get (items_of plan) p x Nop f) ∙ e)
 
 -- and neither a transfer nor a halt
-pub copy_goes_on : (source : SourceValue) (block : Block) (plan : Plan) → IsBlockOf source block → Valid block plan → (p k : ℕ) (s : Statement) → MayCopy plan p k → slice_get source.statements (block.first + k) ≡ Some s → is_last (inst_of s) ≡ false
+pub copy_goes_on :
+    (source : SourceValue) (block : Block) (plan : Plan) → IsBlockOf source block → Valid block plan → (p k : ℕ) (s : Statement) → MayCopy plan p k
+    → slice_get source.statements (block.first + k) ≡ Some s → is_last (inst_of s) ≡ false
 copy_goes_on source block plan h v p k s copy e =
     let low = once_below (size block) (items_of plan) v.once p k copy.stands in
     ⊎_elim
-    (λ t. let at = last_stands source block plan v k s (is_last_of source block h k s low e t) p copy.stands in let before = copy.before in absurd (omega arith))
+    (λ t. let at = last_stands source block plan v k s (is_last_of source block h k s low e t) p copy.stands in let before = copy.before in
+    absurd (omega arith))
     (λ f. f)
     (cases_Bool (is_last (inst_of s)))

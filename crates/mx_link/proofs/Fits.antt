@@ -23,7 +23,8 @@ displacement_fits from to h = ⊎_elim
     down : (a b : ℕ) → reaches a b ≡ true → a - b - 1 < 2 ^ 15
     down a b h = grind (arith, nat_tests)
 
--- a statement that fits has a word where the places that it names are at most 65535, a call's behind the copies, and a branch reaches its target behind the copies
+-- a statement that fits has a word where the places that it names are at most 65535, a call's behind the copies, and a branch reaches its target behind the
+-- copies
 pub inst_fits : (P : ℕ → Type 0) (link : ℕ → ℕ) (c : Copied) (at : ℕ) (s : Statement) → StatementFits P s → ((i : ℕ) → link i ≤ 65535) →
     ((dest target : ℕ) → s ≡ Call dest target → link target + c.count ≤ 65535) →
     ((a b : ℕ) (k : Cond) (target : ℕ) → s ≡ Branch a b k target → reaches at (link target + c.count) ≡ true) → InstFits (linked_inst link c at s)

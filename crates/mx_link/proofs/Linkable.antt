@@ -48,21 +48,29 @@ pub record Goes (source : SourceValue) (link : ℕ → ℕ) (s : Site) (c : Copi
   pub short : (i : ℕ) → link i ≤ 65535
   pub call : (target : ℕ) → s.block.end ≡ Calls target → link target + c.count ≤ 65535
   pub branch : (target : ℕ) → s.block.end ≡ Branches target → reaches (s.start + s.plan.place) (link target + c.count) ≡ true
-  pub copies : (p k : ℕ) (t : Statement) → copied_to c s.plan.place p ≡ Op k → slice_get source.statements (goal_of s.block.end + k) ≡ Some t → is_last (inst_of t) ≡ false
+  pub copies :
+      (p k : ℕ) (t : Statement) → copied_to c s.plan.place p ≡ Op k → slice_get source.statements (goal_of s.block.end + k) ≡ Some t
+      → is_last (inst_of t) ≡ false
 
-fits_at : (source : SourceValue) → IsSource source → (i : ℕ) (t : Statement) → slice_get source.statements i ≡ Some t → StatementFits (IsPlace source.labels (length source.statements)) t
+fits_at :
+    (source : SourceValue) → IsSource source → (i : ℕ) (t : Statement) → slice_get source.statements i ≡ Some t
+    → StatementFits (IsPlace source.labels (length source.statements)) t
 fits_at source h i t e = at_place (StatementFits (IsPlace source.labels (length source.statements))) source.statements i t h.statements_fit e
 
 last_false : (t u : Statement) → t ≡ u → is_last (inst_of u) ≡ true → is_last (inst_of t) ≡ false → ⊥
 last_false t u e h f = false≢true (sym f ∙ ap (λ x. is_last (inst_of x)) e ∙ h)
 
-pub has_words : (source : SourceValue) (link : ℕ → ℕ) (s : Site) (c : Copied) → IsSource source → IsBlockOf source s.block → Valid s.block s.plan → Goes source link s c → HasWords link source.statements s c
+pub has_words :
+    (source : SourceValue) (link : ℕ → ℕ) (s : Site) (c : Copied) → IsSource source → IsBlockOf source s.block → Valid s.block s.plan
+    → Goes source link s c → HasWords link source.statements s c
 has_words source link s c is b v g p item e = by_copied (copied_to c s.plan.place p) refl
   where
     at : ℕ
     at = s.start + p
 
-    of_copy : (k : ℕ) → copied_to c s.plan.place p ≡ Op k → (o : Option Statement) → slice_get source.statements (goal_of s.block.end + k) ≡ o → InstFits (linked_statement link no_copies at o)
+    of_copy :
+        (k : ℕ) → copied_to c s.plan.place p ≡ Op k → (o : Option Statement) → slice_get source.statements (goal_of s.block.end + k) ≡ o
+        → InstFits (linked_statement link no_copies at o)
     of_copy k f None h = tt
     of_copy k f (Some t) h =
         let quiet = g.copies p k t f h in
@@ -70,7 +78,9 @@ has_words source link s c is b v g p item e = by_copied (copied_to c s.plan.plac
         (λ d target x. absurd (last_false t (Call d target) x refl quiet))
         (λ a a' k' target x. absurd (last_false t (Branch a a' k' target) x refl quiet))
 
-    of_own : (k : ℕ) → item ≡ Op k → (o : Option Statement) → slice_get source.statements (s.block.first + k) ≡ o → InstFits (linked_statement link c at o)
+    of_own :
+        (k : ℕ) → item ≡ Op k → (o : Option Statement) → slice_get source.statements (s.block.first + k) ≡ o
+        → InstFits (linked_statement link c at o)
     of_own k f None h = tt
     of_own k f (Some t) h =
         let stands = e ∙ ap (λ x. Some x) f in
@@ -88,7 +98,9 @@ has_words source link s c is b v g p item e = by_copied (copied_to c s.plan.plac
     by_item Nop f = tt
     by_item (Op k) f = of_own k f (slice_get source.statements (s.block.first + k)) refl
 
-    by_copied : (x : Item) → copied_to c s.plan.place p ≡ x → InstFits (inst_at link source.statements c at (over (goal_of s.block.end) x (own s.block.first item)))
+    by_copied :
+        (x : Item) → copied_to c s.plan.place p ≡ x → InstFits
+        (inst_at link source.statements c at (over (goal_of s.block.end) x (own s.block.first item)))
     by_copied Nop f = by_item item refl
     by_copied (Op k) f = of_copy k f (slice_get source.statements (goal_of s.block.end + k)) refl
 
@@ -117,7 +129,9 @@ pub record Laid (source : SourceValue) (place : Place) (all : List Site) : Type 
   pub reach : Reach place all
   pub below : end_at place.code all ≤ 65535
 
-pub laid : (source : SourceValue) (place : Place) (all : List Site) → IsLayout Valid source place all → overlong source place (blocks_in all) ≡ None → place.code + 3 * length source.statements ≤ 65535 → Laid source place all
+pub laid :
+    (source : SourceValue) (place : Place) (all : List Site) → IsLayout Valid source place all → overlong source place (blocks_in all) ≡ None
+    → place.code + 3 * length source.statements ≤ 65535 → Laid source place all
 laid source place all layout fits room = record {
   layout = layout;
   reach = layout_reaches source place all layout.stand layout.plans fits;
@@ -127,21 +141,27 @@ laid source place all layout fits room = record {
       omega arith;
 }
 
-block_of : (source : SourceValue) (place : Place) (all : List Site) (k : ℕ) (s : Site) → Laid source place all → slice_get all k ≡ Some s → IsBlockOf source s.block
+block_of :
+    (source : SourceValue) (place : Place) (all : List Site) (k : ℕ) (s : Site) → Laid source place all → slice_get all k ≡ Some s
+    → IsBlockOf source s.block
 block_of source place all k s h e = at_place (λ (x : Site). IsBlockOf source x.block) all k s (site_blocks Valid source place all h.layout) e
 
 link_short : (source : SourceValue) (place : Place) (all : List Site) → Laid source place all → (i : ℕ) → link_of place.code all i ≤ 65535
 link_short source place all h i = let within = (link_within place.code all i).1 in let below = h.below in omega arith
 
 -- nothing is copied
-goes_plain : (source : SourceValue) (place : Place) (all : List Site) (k : ℕ) (s : Site) (c : Copied) → Laid source place all → slice_get all k ≡ Some s → c.count ≡ 0 → ((p j : ℕ) (t : Statement) → copied_to c s.plan.place p ≡ Op j → slice_get source.statements (goal_of s.block.end + j) ≡ Some t → is_last (inst_of t) ≡ false) → Goes source (link_of place.code all) s c
+goes_plain :
+    (source : SourceValue) (place : Place) (all : List Site) (k : ℕ) (s : Site) (c : Copied) → Laid source place all → slice_get all k ≡ Some s
+    → c.count ≡ 0 → ((p j : ℕ) (t : Statement) → copied_to c s.plan.place p ≡ Op j
+    → slice_get source.statements (goal_of s.block.end + j) ≡ Some t → is_last (inst_of t) ≡ false) → Goes source (link_of place.code all) s c
 goes_plain source place all k s c h e none copies = record {
   short = link_short source place all h;
   call = λ target f. (let low = link_short source place all h target in omega arith);
   branch = λ target f.
       let link : link_of place.code all target + c.count ≡ link_of place.code all target = omega arith in
       ap (reaches (s.start + s.plan.place)) link
-      ∙ at_place (λ (x : Site). (t : ℕ) → branch_target x.block.end ≡ Some t → reaches (x.start + x.plan.place) (link_of place.code all t) ≡ true) all k s h.reach e target (ap branch_target f);
+      ∙ at_place (λ (x : Site). (t : ℕ) → branch_target x.block.end ≡ Some t
+      → reaches (x.start + x.plan.place) (link_of place.code all t) ≡ true) all k s h.reach e target (ap branch_target f);
   copies = copies;
 }
 
@@ -153,7 +173,9 @@ record IsGoal (source : SourceValue) (place : Place) (all : List Site) (s g : Si
   valid : Valid g.block g.plan
   below : g.start + plan_size g.plan ≤ 65535
 
-goal_is : (source : SourceValue) (place : Place) (all : List Site) (s g : Site) (h : Laid source place all) → site_of (is_target s.block.end) all ≡ Some g → IsGoal source place all s g
+goal_is :
+    (source : SourceValue) (place : Place) (all : List Site) (s g : Site) (h : Laid source place all) → site_of (is_target s.block.end) all ≡ Some g
+    → IsGoal source place all s g
 goal_is source place all s g h e =
     let test = is_target s.block.end in
     let at = place.code in
@@ -178,14 +200,19 @@ goal_first (Branches target) b h = equal_from_test b.first target h
 goal_first (Calls target) b h = equal_from_test b.first target h
 goal_first _ b h = absurd (false≢true h)
 
-copied_goes_on : (source : SourceValue) (place : Place) (all : List Site) (s g : Site) → IsGoal source place all s g → (p k : ℕ) (t : Statement) → copied_to (copied s (Some g)) s.plan.place p ≡ Op k → slice_get source.statements (goal_of s.block.end + k) ≡ Some t → is_last (inst_of t) ≡ false
+copied_goes_on :
+    (source : SourceValue) (place : Place) (all : List Site) (s g : Site) → IsGoal source place all s g → (p k : ℕ) (t : Statement)
+    → copied_to (copied s (Some g)) s.plan.place p ≡ Op k → slice_get source.statements (goal_of s.block.end + k) ≡ Some t
+    → is_last (inst_of t) ≡ false
 copied_goes_on source place all s g goal p k t e f =
     let op = copied_op s g s.plan.place p k e in
     let first = goal_first s.block.end g.block goal.is in
     copy_goes_on source g.block g.plan goal.block goal.valid op.0 k t op.1 (ap (λ n. slice_get source.statements (n + k)) first ∙ f)
 
 -- the words of the target are copied
-goes_copied : (source : SourceValue) (place : Place) (all : List Site) (k : ℕ) (s g : Site) → Laid source place all → slice_get all k ≡ Some s → IsGoal source place all s g → Goes source (link_of place.code all) s (copied s (Some g))
+goes_copied :
+    (source : SourceValue) (place : Place) (all : List Site) (k : ℕ) (s g : Site) → Laid source place all → slice_get all k ≡ Some s
+    → IsGoal source place all s g → Goes source (link_of place.code all) s (copied s (Some g))
 goes_copied source place all k s g h e goal = ⊎_elim
     (λ none. goes_plain source place all k s (copied s (Some g)) h e none (copied_goes_on source place all s g goal))
     (λ moves. record {
@@ -208,10 +235,14 @@ goes_copied source place all k s g h e goal = ⊎_elim
         let same : target ≡ g.block.first = sym (goal_first s.block.end g.block goal.is ∙ f) in
         ap (link_of place.code all) same ∙ goal.link
 
-none_goes_on : (source : SourceValue) (s : Site) (p k : ℕ) (t : Statement) → copied_to no_copies s.plan.place p ≡ Op k → slice_get source.statements (goal_of s.block.end + k) ≡ Some t → is_last (inst_of t) ≡ false
+none_goes_on :
+    (source : SourceValue) (s : Site) (p k : ℕ) (t : Statement) → copied_to no_copies s.plan.place p ≡ Op k
+    → slice_get source.statements (goal_of s.block.end + k) ≡ Some t → is_last (inst_of t) ≡ false
 none_goes_on source s p k t e f = absurd (copied_none s.plan.place p k e)
 
-goes : (source : SourceValue) (place : Place) (all : List Site) (slots : Slots) (k : ℕ) (s : Site) → Laid source place all → slice_get all k ≡ Some s → Goes source (link_of place.code all) s (filling_of slots all s)
+goes :
+    (source : SourceValue) (place : Place) (all : List Site) (slots : Slots) (k : ℕ) (s : Site) → Laid source place all → slice_get all k ≡ Some s
+    → Goes source (link_of place.code all) s (filling_of slots all s)
 goes source place all Kept k s h e = goes_plain source place all k s no_copies h e refl (none_goes_on source s)
 goes source place all FromTarget k s h e = by_goal (site_of (is_target s.block.end) all) refl
   where
@@ -220,7 +251,9 @@ goes source place all FromTarget k s h e = by_goal (site_of (is_target s.block.e
     by_goal (Some g) f = goes_copied source place all k s g h e (goal_is source place all s g h f)
 
 -- each instruction of a laid out source has a word
-pub all_fit : (source : SourceValue) (place : Place) (all : List Site) (slots : Slots) (k : ℕ) (s : Site) → IsSource source → Laid source place all → slice_get all k ≡ Some s → HasWords (link_of place.code all) source.statements s (filling_of slots all s)
+pub all_fit :
+    (source : SourceValue) (place : Place) (all : List Site) (slots : Slots) (k : ℕ) (s : Site) → IsSource source → Laid source place all
+    → slice_get all k ≡ Some s → HasWords (link_of place.code all) source.statements s (filling_of slots all s)
 all_fit source place all slots k s is h e =
     has_words source (link_of place.code all) s (filling_of slots all s) is (block_of source place all k s h e)
     (at_place (λ (x : Site). Valid x.block x.plan) all k s h.layout.plans e) (goes source place all slots k s h e)
@@ -240,7 +273,9 @@ pub record IsLinkable (links : List ℕ) (statements : List Statement) (s : Site
   pub goal : goal_of s.block.end ≤ 20000
   pub fits : HasWords (slice_index links) statements s c
 
-linkable_site : (source : SourceValue) (l : Layout) (slots : Slots) (k : ℕ) (s : Site) → IsSource source → IsLaidOut source l → slice_get (sites_of l) k ≡ Some s → IsLinkable l.links.items source.statements s (filling_of slots (sites_of l) s)
+linkable_site :
+    (source : SourceValue) (l : Layout) (slots : Slots) (k : ℕ) (s : Site) → IsSource source → IsLaidOut source l → slice_get (sites_of l) k ≡ Some s
+    → IsLinkable l.links.items source.statements s (filling_of slots (sites_of l) s)
 linkable_site source l slots k s is h e =
     let all = sites_of l in
     let code = h.place.code in
@@ -254,13 +289,17 @@ linkable_site source l slots k s is h e =
       within = let low = site_below code all h.layout.stand k s e in omega arith;
       first = let within = block.within in omega arith;
       goal = let small = goal_small source s.block is block in omega arith;
-      fits = λ p item f. subst InstFits (sym (same_at source (link_in l) (link_of code all) c (s.start + p) (origin_at s c p item) is h.links)) (all_fit source h.place all slots k s is laid e p item f);
+      fits = λ p item f. subst InstFits (sym (same_at source (link_in l) (link_of code all) c (s.start + p) (origin_at s c p item) is h.links))
+          (all_fit source h.place all slots k s is laid e p item f);
     }
   where
     get_or_same : (xs : List ℕ) (i d e : ℕ) → i < length xs → slice_index_or xs i d ≡ slice_index_or xs i e
     get_or_same xs i d e low = grind (arith, common_steps)
 
-pub linkable : (source : SourceValue) (l : Layout) (slots : Slots) (k : ℕ) (s : Site) (links : List ℕ) (statements : List Statement) (c : Copied) → IsSource source → IsLaidOut source l → slice_get (sites_of l) k ≡ Some s → links ≡ l.links.items → statements ≡ source.statements → c ≡ filling_of slots (sites_of l) s → IsLinkable links statements s c
+pub linkable :
+    (source : SourceValue) (l : Layout) (slots : Slots) (k : ℕ) (s : Site) (links : List ℕ) (statements : List Statement) (c : Copied) → IsSource source
+    → IsLaidOut source l → slice_get (sites_of l) k ≡ Some s → links ≡ l.links.items → statements ≡ source.statements
+    → c ≡ filling_of slots (sites_of l) s → IsLinkable links statements s c
 linkable source l slots k s links statements c is h e f g i =
     subst (λ (x : Copied). IsLinkable links statements s x) (sym i)
     (subst (λ (x : List Statement). IsLinkable links x s (filling_of slots (sites_of l) s)) (sym g)

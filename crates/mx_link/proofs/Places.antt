@@ -14,7 +14,8 @@ pub at_place : {A : Type 0} (P : A → Type 0) (xs : List A) (i : ℕ) (x : A) �
 at_place P xs i x h e = subst P (get_or_from_slice_get xs i x x e) (h i x (slice_get_within xs i x e))
 
 -- each site ends at or before the end
-pub site_below : (at : ℕ) (all : List Site) → StandFrom at all → (k : ℕ) (s : Site) → slice_get all k ≡ Some s → s.start + plan_size s.plan ≤ end_of at all
+pub site_below :
+    (at : ℕ) (all : List Site) → StandFrom at all → (k : ℕ) (s : Site) → slice_get all k ≡ Some s → s.start + plan_size s.plan ≤ end_of at all
 site_below at [] h k s e = absurd (none-some s e)
 site_below at (t ∷ all) h zero s e =
     let same : t ≡ s = same_Some t s e in
@@ -27,5 +28,8 @@ site_below at (t ∷ all) h (suc k) s e = site_below (at + plan_size t.plan) all
 pub sites_below : (at : ℕ) (all : List Site) → StandFrom at all → All (λ (s : Site). s.start + plan_size s.plan ≤ end_of at all) all
 sites_below at all h k d low = site_below at all h k _ (slice_get-get_or all k d low)
 
-pub length-sites : (blocks : List Block) (plans : List Plan) (starts : List ℕ) → length plans ≡ length blocks → length starts ≡ length blocks → length (sites blocks plans starts) ≡ length blocks
-length-sites blocks plans starts h k = sym (length-map (sites blocks plans starts) (λ (s : Site). s.block)) ∙ ap length (blocks_in-sites blocks plans starts h k)
+pub length-sites :
+    (blocks : List Block) (plans : List Plan) (starts : List ℕ) → length plans ≡ length blocks → length starts ≡ length blocks
+    → length (sites blocks plans starts) ≡ length blocks
+length-sites blocks plans starts h k =
+    sym (length-map (sites blocks plans starts) (λ (s : Site). s.block)) ∙ ap length (blocks_in-sites blocks plans starts h k)

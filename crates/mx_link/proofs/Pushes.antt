@@ -33,7 +33,9 @@ site_origins filling all some = flat_map (λ s. origins_at s (filling all s)) so
 abbrev pub sites_words : Filling → (ℕ → ℕ) → List Statement → List Site → List Site → List ℕ
 sites_words filling link statements all some = flat_map (λ s. site_words link statements s (filling all s)) some
 
-origins_next : (s : Site) (c : Copied) (p : ℕ) (item : Item) → slice_get (items_of s.plan) p ≡ Some item → origins_after s c p ≡ origin_at s c p item ∷ origins_after s c (p + 1)
+origins_next :
+    (s : Site) (c : Copied) (p : ℕ) (item : Item) → slice_get (items_of s.plan) p ≡ Some item
+    → origins_after s c p ≡ origin_at s c p item ∷ origins_after s c (p + 1)
 origins_next s c p item e =
     ap (origins_from s c p) (drop-slice_get (items_of s.plan) p item e)
     ∙ ap (λ n. origin_at s c p item ∷ origins_from s c n (drop n (items_of s.plan))) (sym (add-one p))
@@ -42,30 +44,41 @@ pushed : {A : Type 0} (xs : List A) (x : A) (rest next whole : List A) → rest 
 pushed xs x rest next whole e h = append_assoc xs (x ∷ []) next ∙ (ap (λ ys. xs ++ ys) (sym e) ∙ h)
 
 -- one more origin
-pub origin_pushed : (s : Site) (c : Copied) (p : ℕ) (item : Item) (xs whole : List Origin) → slice_get (items_of s.plan) p ≡ Some item → xs ++ origins_after s c p ≡ whole → (xs ++ origin_at s c p item ∷ []) ++ origins_after s c (p + 1) ≡ whole
+pub origin_pushed :
+    (s : Site) (c : Copied) (p : ℕ) (item : Item) (xs whole : List Origin) → slice_get (items_of s.plan) p ≡ Some item
+    → xs ++ origins_after s c p ≡ whole → (xs ++ origin_at s c p item ∷ []) ++ origins_after s c (p + 1) ≡ whole
 origin_pushed s c p item xs whole e h = pushed xs (origin_at s c p item) (origins_after s c p) (origins_after s c (p + 1)) whole (origins_next s c p item e) h
 
-words_next : (link : ℕ → ℕ) (statements : List Statement) (s : Site) (c : Copied) (p : ℕ) (item : Item) → slice_get (items_of s.plan) p ≡ Some item →
-    words_after link statements s c p ≡ word_of_row (inst_at link statements c (s.start + p) (origin_at s c p item)) ∷ words_after link statements s c (p + 1)
+words_next :
+    (link : ℕ → ℕ) (statements : List Statement) (s : Site) (c : Copied) (p : ℕ) (item : Item) → slice_get (items_of s.plan) p ≡ Some item →
+    words_after link statements s c p ≡ word_of_row (inst_at link statements c (s.start + p) (origin_at s c p item)) ∷ words_after link statements s c
+    (p + 1)
 words_next link statements s c p item e =
     ap (λ os. map word_of_row (insts_from link statements c (s.start + p) os)) (origins_next s c p item e)
-    ∙ ap (λ n. word_of_row (inst_at link statements c (s.start + p) (origin_at s c p item)) ∷ map word_of_row (insts_from link statements c n (origins_after s c (p + 1)))) next
+    ∙ ap (λ n. word_of_row (inst_at link statements c (s.start + p) (origin_at s c p item)) ∷ map word_of_row
+    (insts_from link statements c n (origins_after s c (p + 1)))) next
   where
     next : suc (s.start + p) ≡ s.start + (p + 1)
     next = omega arith
 
 -- one more word
-pub word_pushed : (link : ℕ → ℕ) (statements : List Statement) (s : Site) (c : Copied) (p : ℕ) (item : Item) (xs whole : List ℕ) → slice_get (items_of s.plan) p ≡ Some item → xs ++ words_after link statements s c p ≡ whole →
+pub word_pushed :
+    (link : ℕ → ℕ) (statements : List Statement) (s : Site) (c : Copied) (p : ℕ) (item : Item) (xs whole : List ℕ)
+    → slice_get (items_of s.plan) p ≡ Some item → xs ++ words_after link statements s c p ≡ whole →
     (xs ++ word_of_row (inst_at link statements c (s.start + p) (origin_at s c p item)) ∷ []) ++ words_after link statements s c (p + 1) ≡ whole
 word_pushed link statements s c p item xs whole e h =
-    pushed xs (word_of_row (inst_at link statements c (s.start + p) (origin_at s c p item))) (words_after link statements s c p) (words_after link statements s c (p + 1)) whole (words_next link statements s c p item e) h
+    pushed xs (word_of_row (inst_at link statements c (s.start + p) (origin_at s c p item))) (words_after link statements s c p)
+    (words_after link statements s c (p + 1)) whole (words_next link statements s c p item e) h
 
 -- each instruction before a place is so
 abbrev pub EachBefore : (Inst → Type 0) → (ℕ → ℕ) → List Statement → Site → Copied → ℕ → Type 0
 EachBefore Q link statements s c n =
     (p : ℕ) (item : Item) → p < n → slice_get (items_of s.plan) p ≡ Some item → Q (inst_at link statements c (s.start + p) (origin_at s c p item))
 
-pub before_next : (Q : Inst → Type 0) (link : ℕ → ℕ) (statements : List Statement) (s : Site) (c : Copied) (n : ℕ) (item : Item) → slice_get (items_of s.plan) n ≡ Some item → Q (inst_at link statements c (s.start + n) (origin_at s c n item)) → EachBefore Q link statements s c n → EachBefore Q link statements s c (n + 1)
+pub before_next :
+    (Q : Inst → Type 0) (link : ℕ → ℕ) (statements : List Statement) (s : Site) (c : Copied) (n : ℕ) (item : Item)
+    → slice_get (items_of s.plan) n ≡ Some item → Q (inst_at link statements c (s.start + n) (origin_at s c n item))
+    → EachBefore Q link statements s c n → EachBefore Q link statements s c (n + 1)
 before_next Q link statements s c n item e q h p other low f = ⊎_elim
     (λ below. h p other below f)
     (λ at.
@@ -76,7 +89,9 @@ before_next Q link statements s c n item e q h p other low f = ⊎_elim
     (cases_lt p n)
 
 -- one more piece
-pub flat_pushed : {X A : Type 0} (f : X → List A) (all : List X) (k : ℕ) (s : X) (xs next whole : List A) → slice_get all k ≡ Some s → next ≡ xs ++ f s → xs ++ flat_map f (drop k all) ≡ whole → next ++ flat_map f (drop (k + 1) all) ≡ whole
+pub flat_pushed :
+    {X A : Type 0} (f : X → List A) (all : List X) (k : ℕ) (s : X) (xs next whole : List A) → slice_get all k ≡ Some s → next ≡ xs ++ f s
+    → xs ++ flat_map f (drop k all) ≡ whole → next ++ flat_map f (drop (k + 1) all) ≡ whole
 flat_pushed f all k s xs next whole e g h =
     ap (λ ys. ys ++ flat_map f (drop (k + 1) all)) g
     ∙ ap (λ n. (xs ++ f s) ++ flat_map f (drop n all)) (add-one k)
@@ -85,7 +100,9 @@ flat_pushed f all k s xs next whole e g h =
     ∙ h
 
 -- the last piece
-pub flat_end : {X A : Type 0} (f : X → List A) (all : List X) (k : ℕ) (xs whole : List A) → k ≡ length all → xs ++ flat_map f (drop k all) ≡ whole → xs ≡ whole
+pub flat_end :
+    {X A : Type 0} (f : X → List A) (all : List X) (k : ℕ) (xs whole : List A) → k ≡ length all → xs ++ flat_map f (drop k all) ≡ whole
+    → xs ≡ whole
 flat_end f all k xs whole e h =
     sym (append-nil xs)
     ∙ ap (λ ys. xs ++ flat_map f ys) (sym (drop-length all))
@@ -96,5 +113,8 @@ map-flat_map : {X A B : Type 0} (f : A → B) (g : X → List A) (xs : List X) �
 map-flat_map f g [] = refl
 map-flat_map f g (x ∷ xs) = map-append f (g x) (flat_map g xs) ∙ ap (λ ys. map f (g x) ++ ys) (map-flat_map f g xs)
 
-pub all_words : (filling : Filling) (link : ℕ → ℕ) (statements : List Statement) (all : List Site) → sites_words filling link statements all all ≡ code_of filling link statements all
-all_words filling link statements all = sym (map-flat_map word_of_row (λ (s : Site). insts_from link statements (filling all s) s.start (origins_at s (filling all s))) all)
+pub all_words :
+    (filling : Filling) (link : ℕ → ℕ) (statements : List Statement) (all : List Site)
+    → sites_words filling link statements all all ≡ code_of filling link statements all
+all_words filling link statements all =
+    sym (map-flat_map word_of_row (λ (s : Site). insts_from link statements (filling all s) s.start (origins_at s (filling all s))) all)

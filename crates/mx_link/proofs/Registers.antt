@@ -30,32 +30,43 @@ use Rattle.mx_link.proofs.Places.{at_place}
 use Rattle.mx_link.proofs.Slots.{copied_none, nop_op}
 
 -- one more site
-pub next_site : (Q : Site → Type 0) (all : List Site) (n : ℕ) (s : Site) → slice_get all n ≡ Some s → Q s → ((k : ℕ) (t : Site) → k < n → slice_get all k ≡ Some t → Q t) → (k : ℕ) (t : Site) → k < n + 1 → slice_get all k ≡ Some t → Q t
+pub next_site :
+    (Q : Site → Type 0) (all : List Site) (n : ℕ) (s : Site) → slice_get all n ≡ Some s → Q s
+    → ((k : ℕ) (t : Site) → k < n → slice_get all k ≡ Some t → Q t) → (k : ℕ) (t : Site) → k < n + 1 → slice_get all k ≡ Some t → Q t
 next_site Q all n s e q h k t low f = ⊎_elim
     (λ below. h k t below f)
     (λ at. let same : n ≡ k = omega arith in subst Q (same_Some s t (sym e ∙ ap (slice_get all) same ∙ f)) q)
     (cases_lt k n)
 
 -- a word is copied to slot 1 or to slot 2
-slot_places : (c : Copied) (place p k : ℕ) → copied_to c place p ≡ Op k → ((p ≡ place + 1) × (slice_index_or c.from 0 Nop ≡ Op k)) ⊎ ((p ≡ place + 2) × (slice_index_or c.from 1 Nop ≡ Op k))
+slot_places :
+    (c : Copied) (place p k : ℕ) → copied_to c place p ≡ Op k
+    → ((p ≡ place + 1) × (slice_index_or c.from 0 Nop ≡ Op k)) ⊎ ((p ≡ place + 2) × (slice_index_or c.from 1 Nop ≡ Op k))
 slot_places c place p k = by_tests (eqb p (place + 1)) (eqb p (place + 2)) refl refl
   where
     equal : (m n : ℕ) → eqb m n ≡ true → m ≡ n
     equal m n e = grind (arith, nat_tests)
 
-    by_tests : (a b : Bool) → eqb p (place + 1) ≡ a → eqb p (place + 2) ≡ b → cond a (slice_index_or c.from 0 Nop) (cond b (slice_index_or c.from 1 Nop) Nop) ≡ Op k → ((p ≡ place + 1) × (slice_index_or c.from 0 Nop ≡ Op k)) ⊎ ((p ≡ place + 2) × (slice_index_or c.from 1 Nop ≡ Op k))
+    by_tests :
+        (a b : Bool) → eqb p (place + 1) ≡ a → eqb p (place + 2) ≡ b
+        → cond a (slice_index_or c.from 0 Nop) (cond b (slice_index_or c.from 1 Nop) Nop) ≡ Op k
+        → ((p ≡ place + 1) × (slice_index_or c.from 0 Nop ≡ Op k)) ⊎ ((p ≡ place + 2) × (slice_index_or c.from 1 Nop ≡ Op k))
     by_tests true b f g e = inl (equal p (place + 1) f, e)
     by_tests false true f g e = inr (equal p (place + 2) g, e)
     by_tests false false f g e = absurd (nop_op k e)
 
 -- slot 1 is filled only where more than one word fits
-first_filled : (free n : ℕ) (first second : Item) (k : ℕ) → slice_index_or (filled free n first second) 0 Nop ≡ Op k → (1 ≤ n) × (eqb free 1 ≡ false)
+first_filled :
+    (free n : ℕ) (first second : Item) (k : ℕ) → slice_index_or (filled free n first second) 0 Nop ≡ Op k → (1 ≤ n) × (eqb free 1 ≡ false)
 first_filled free n first second k = by_tests (eqb n 0) (eqb free 1) (eqb n 1) refl refl
   where
     some : eqb n 0 ≡ false → 1 ≤ n
     some f = grind (arith, nat_tests)
 
-    by_tests : (a b c : Bool) → eqb n 0 ≡ a → eqb free 1 ≡ b → slice_index_or (cond a (Nop ∷ Nop ∷ []) (cond b (Nop ∷ first ∷ []) (cond c (first ∷ Nop ∷ []) (first ∷ second ∷ [])))) 0 Nop ≡ Op k → (1 ≤ n) × (eqb free 1 ≡ false)
+    by_tests :
+        (a b c : Bool) → eqb n 0 ≡ a → eqb free 1 ≡ b → slice_index_or
+        (cond a (Nop ∷ Nop ∷ []) (cond b (Nop ∷ first ∷ []) (cond c (first ∷ Nop ∷ []) (first ∷ second ∷ [])))) 0 Nop ≡ Op k
+        → (1 ≤ n) × (eqb free 1 ≡ false)
     by_tests true b c f g e = absurd (nop_op k e)
     by_tests false true c f g e = absurd (nop_op k e)
     by_tests false false c f g e = (some f, g)
@@ -66,11 +77,14 @@ second_filled free n first second k = by_tests (eqb n 0) (eqb free 1) (eqb n 1) 
     some : eqb n 0 ≡ false → 1 ≤ n
     some f = grind (arith, nat_tests)
 
-    by_tests : (a b c : Bool) → eqb n 0 ≡ a → slice_index_or (cond a (Nop ∷ Nop ∷ []) (cond b (Nop ∷ first ∷ []) (cond c (first ∷ Nop ∷ []) (first ∷ second ∷ [])))) 1 Nop ≡ Op k → 1 ≤ n
+    by_tests :
+        (a b c : Bool) → eqb n 0 ≡ a → slice_index_or (cond a (Nop ∷ Nop ∷ [])
+        (cond b (Nop ∷ first ∷ []) (cond c (first ∷ Nop ∷ []) (first ∷ second ∷ [])))) 1 Nop ≡ Op k → 1 ≤ n
     by_tests true b c f e = absurd (nop_op k e)
     by_tests false b c f e = some f
 
-room_first : (end : End) (stays first second : Bool) → 1 ≤ room_for end stays first second → eqb (room_for end stays first second) 1 ≡ false → first ≡ true
+room_first :
+    (end : End) (stays first second : Bool) → 1 ≤ room_for end stays first second → eqb (room_for end stays first second) 1 ≡ false → first ≡ true
 room_first (Branches target) stays first second h f = grind (arith, nat_tests)
 room_first (Calls target) stays first second h f = grind (arith, nat_tests)
 room_first _ stays first second h f = absurd (omega arith)
@@ -110,12 +124,15 @@ copied_free : (s : Site) (o : Option Site) (p k j : ℕ) → StandsAt (items_of 
 copied_free s None p k j stands e = copied_none s.plan.place p j e
 copied_free s (Some g) p k j stands e = kept_free s g p k j stands e
 
-filling_free : (slots : Slots) (all : List Site) (s : Site) (p k j : ℕ) → StandsAt (items_of s.plan) p k → copied_to (filling_of slots all s) s.plan.place p ≡ Op j → ⊥
+filling_free :
+    (slots : Slots) (all : List Site) (s : Site) (p k j : ℕ) → StandsAt (items_of s.plan) p k → copied_to (filling_of slots all s) s.plan.place p ≡ Op j
+    → ⊥
 filling_free Kept all s p k j stands e = copied_none s.plan.place p j e
 filling_free FromTarget all s p k j stands e = copied_free s (site_of (is_target s.block.end) all) p k j stands e
 
 -- an instruction stands as it is
-pub kept : (slots : Slots) (all : List Site) (s : Site) (p k : ℕ) → StandsAt (items_of s.plan) p k → copied_to (filling_of slots all s) s.plan.place p ≡ Nop
+pub kept :
+    (slots : Slots) (all : List Site) (s : Site) (p k : ℕ) → StandsAt (items_of s.plan) p k → copied_to (filling_of slots all s) s.plan.place p ≡ Nop
 kept slots all s p k stands = by_item (copied_to (filling_of slots all s) s.plan.place p) refl
   where
     by_item : (x : Item) → copied_to (filling_of slots all s) s.plan.place p ≡ x → copied_to (filling_of slots all s) s.plan.place p ≡ Nop
@@ -143,11 +160,15 @@ pub covers : (source : SourceValue) (i j : ℕ) (all : List Site) → BlocksFrom
 covers source i j [] h t l m = absurd (let same : i ≡ j = h in omega arith)
 covers source i j (s ∷ all) h t l m = ⊎_elim
     (λ below. record { at = 0; site = s; is = refl; low = let first = h.0 in omega arith; high = let first = h.0 in omega arith })
-    (λ above. let rest = covers source (i + size s.block) j all h.2 t above m in record { at = suc rest.at; site = rest.site; is = rest.is; low = rest.low; high = rest.high })
+    (λ above. let rest = covers source (i + size s.block) j all h.2 t above m in
+    record { at = suc rest.at; site = rest.site; is = rest.is; low = rest.low; high = rest.high })
     (cases_lt t (i + size s.block))
 
 -- the registers of all statements are registers, where those of all linked instructions are
-pub have_registers : (source : SourceValue) (place : Place) (link : ℕ → ℕ) (slots : Slots) (all : List Site) → IsLayout Valid source place all → ((k : ℕ) (s : Site) → slice_get all k ≡ Some s → EachInst HasRegisters link source.statements s (filling_of slots all s)) → HaveRegisters source.statements
+pub have_registers :
+    (source : SourceValue) (place : Place) (link : ℕ → ℕ) (slots : Slots) (all : List Site) → IsLayout Valid source place all
+    → ((k : ℕ) (s : Site) → slice_get all k ≡ Some s → EachInst HasRegisters link source.statements s (filling_of slots all s))
+    → HaveRegisters source.statements
 have_registers source place link slots all h each i d low =
     let at = covers source 0 (length source.statements) all h.blocks i (omega arith) low in
     let s = at.site in
@@ -160,8 +181,10 @@ have_registers source place link slots all h each i d low =
     let c = filling_of slots all s in
     let place_is : s.block.first + k ≡ i = omega arith in
     let t = slice_index_or source.statements i d in
-    let is : slice_get source.statements (s.block.first + k) ≡ Some t = ap (slice_get source.statements) place_is ∙ slice_get-get_or source.statements i d low in
+    let is : slice_get source.statements (s.block.first + k) ≡ Some t = ap (slice_get source.statements) place_is
+    ∙ slice_get-get_or source.statements i d low in
     statement_registers link c (s.start + stands.at) t
     (subst (λ (o : Option Statement). HasRegisters (linked_statement link c (s.start + stands.at) o)) is
-    (subst (λ (x : Item). HasRegisters (inst_at link source.statements c (s.start + stands.at) (over (goal_of s.block.end) x (own s.block.first (Op k))))) (kept slots all s stands.at k stands.stands)
+    (subst (λ (x : Item). HasRegisters (inst_at link source.statements c (s.start + stands.at) (over (goal_of s.block.end) x (own s.block.first (Op k)))))
+    (kept slots all s stands.at k stands.stands)
     (each at.at s at.is stands.at (Op k) stands.stands)))

@@ -25,7 +25,9 @@ use Rattle.mx_link.proofs.Places.{at_place}
 abbrev pub Agree : SourceValue → (ℕ → ℕ) → (ℕ → ℕ) → Type 0
 Agree source f g = (i : ℕ) → i ≤ length source.statements → f i ≡ g i
 
-same_inst : (source : SourceValue) (f g : ℕ → ℕ) (c : Copied) (at : ℕ) (s : Statement) → Agree source f g → StatementFits (IsPlace source.labels (length source.statements)) s → linked_inst f c at s ≡ linked_inst g c at s
+same_inst :
+    (source : SourceValue) (f g : ℕ → ℕ) (c : Copied) (at : ℕ) (s : Statement) → Agree source f g
+    → StatementFits (IsPlace source.labels (length source.statements)) s → linked_inst f c at s ≡ linked_inst g c at s
 same_inst source f g c at (Plain inst) h fits = refl
 same_inst source f g c at (LaCode dest target) h fits = ap (λ n. Addi 0 dest (pos n)) (h target fits.within)
 same_inst source f g c at (Branch a b k target) h fits = ap (λ n. BranchInst a b k c.squash (displacement at (n + c.count))) (h target fits.within)
@@ -34,20 +36,27 @@ same_inst source f g c at (CallReg a dest) h fits = refl
 same_inst source f g c at (JumpReg a) h fits = refl
 same_inst source f g c at Halt h fits = refl
 
-same_statement : (source : SourceValue) (f g : ℕ → ℕ) (c : Copied) (at i : ℕ) → IsSource source → Agree source f g → linked_statement f c at (slice_get source.statements i) ≡ linked_statement g c at (slice_get source.statements i)
+same_statement :
+    (source : SourceValue) (f g : ℕ → ℕ) (c : Copied) (at i : ℕ) → IsSource source → Agree source f g
+    → linked_statement f c at (slice_get source.statements i) ≡ linked_statement g c at (slice_get source.statements i)
 same_statement source f g c at i is h = by_place (slice_get source.statements i) refl
   where
     by_place : (o : Option Statement) → slice_get source.statements i ≡ o → linked_statement f c at o ≡ linked_statement g c at o
     by_place None e = refl
-    by_place (Some s) e = same_inst source f g c at s h (at_place (StatementFits (IsPlace source.labels (length source.statements))) source.statements i s is.statements_fit e)
+    by_place (Some s) e =
+        same_inst source f g c at s h (at_place (StatementFits (IsPlace source.labels (length source.statements))) source.statements i s is.statements_fit e)
 
 -- the same instruction
-pub same_at : (source : SourceValue) (f g : ℕ → ℕ) (c : Copied) (at : ℕ) (o : Origin) → IsSource source → Agree source f g → inst_at f source.statements c at o ≡ inst_at g source.statements c at o
+pub same_at :
+    (source : SourceValue) (f g : ℕ → ℕ) (c : Copied) (at : ℕ) (o : Origin) → IsSource source → Agree source f g
+    → inst_at f source.statements c at o ≡ inst_at g source.statements c at o
 same_at source f g c at (Own i) is h = same_statement source f g c at i is h
 same_at source f g c at (Copy i) is h = same_statement source f g no_copies at i is h
 same_at source f g c at Pad is h = refl
 
-same_from : (source : SourceValue) (f g : ℕ → ℕ) (c : Copied) (at : ℕ) (origins : List Origin) → IsSource source → Agree source f g → insts_from f source.statements c at origins ≡ insts_from g source.statements c at origins
+same_from :
+    (source : SourceValue) (f g : ℕ → ℕ) (c : Copied) (at : ℕ) (origins : List Origin) → IsSource source → Agree source f g
+    → insts_from f source.statements c at origins ≡ insts_from g source.statements c at origins
 same_from source f g c at [] is h = refl
 same_from source f g c at (o ∷ origins) is h =
     ap (λ i. i ∷ insts_from f source.statements c (suc at) origins) (same_at source f g c at o is h)
@@ -58,14 +67,18 @@ same_pieces f g h [] = refl
 same_pieces f g h (x ∷ xs) = ap (λ ys. ys ++ flat_map f xs) (h x) ∙ ap (λ ys. g x ++ ys) (same_pieces f g h xs)
 
 -- the same code
-pub same_code : (filling : Filling) (source : SourceValue) (f g : ℕ → ℕ) (all : List Site) → IsSource source → Agree source f g → code_of filling f source.statements all ≡ code_of filling g source.statements all
+pub same_code :
+    (filling : Filling) (source : SourceValue) (f g : ℕ → ℕ) (all : List Site) → IsSource source → Agree source f g
+    → code_of filling f source.statements all ≡ code_of filling g source.statements all
 same_code filling source f g all is h =
     ap (map word_of_row) (same_pieces
     (λ (s : Site). insts_from f source.statements (filling all s) s.start (origins_at s (filling all s)))
     (λ (s : Site). insts_from g source.statements (filling all s) s.start (origins_at s (filling all s)))
     (λ s. same_from source f g (filling all s) s.start (origins_at s (filling all s)) is h) all)
 
-same_value : (source : SourceValue) (f g : ℕ → ℕ) (v : Value) → Agree source f g → ValueFits (IsPlace source.labels (length source.statements)) v → value_word f v ≡ value_word g v
+same_value :
+    (source : SourceValue) (f g : ℕ → ℕ) (v : Value) → Agree source f g → ValueFits (IsPlace source.labels (length source.statements)) v
+    → value_word f v ≡ value_word g v
 same_value source f g (Int word) h fits = refl
 same_value source f g (Code i) h fits = h i fits.within
 
@@ -74,11 +87,14 @@ same_map f g [] h = refl
 same_map f g (x ∷ xs) h = ap (λ y. y ∷ map f xs) (h 0 x (omega arith)) ∙ ap (λ ys. g x ∷ ys) (same_map f g xs (λ i d low. h (suc i) d (omega arith)))
 
 -- the same data words
-pub same_words : (source : SourceValue) (f g : ℕ → ℕ) → IsSource source → Agree source f g → words_of f source.user_data ≡ words_of g source.user_data
+pub same_words :
+    (source : SourceValue) (f g : ℕ → ℕ) → IsSource source → Agree source f g → words_of f source.user_data ≡ words_of g source.user_data
 same_words source f g is h = same_map (value_word f) (value_word g) source.user_data (λ i d low. same_value source f g _ h (is.words_fit i d low))
 
 -- a list that holds a map
-pub links_listed : (link : ℕ → ℕ) (xs : List ℕ) (i n : ℕ) → length xs ≡ n → ((k : ℕ) → k < n → slice_index xs k ≡ link (i + k)) → xs ≡ links_from link i n
+pub links_listed :
+    (link : ℕ → ℕ) (xs : List ℕ) (i n : ℕ) → length xs ≡ n → ((k : ℕ) → k < n → slice_index xs k ≡ link (i + k))
+    → xs ≡ links_from link i n
 links_listed link [] i zero e h = refl
 links_listed link [] i (suc n) e h = absurd (omega arith)
 links_listed link (x ∷ xs) i zero e h = absurd (omega arith)

@@ -21,12 +21,16 @@ pub length-origins_from : (s : Site) (c : Copied) (p : ℕ) (items : List Item) 
 length-origins_from s c p [] = refl
 length-origins_from s c p (item ∷ items) = ap suc (length-origins_from s c (suc p) items)
 
-pub length-insts_from : (link : ℕ → ℕ) (statements : List Statement) (c : Copied) (at : ℕ) (origins : List Origin) → length (insts_from link statements c at origins) ≡ length origins
+pub length-insts_from :
+    (link : ℕ → ℕ) (statements : List Statement) (c : Copied) (at : ℕ) (origins : List Origin)
+    → length (insts_from link statements c at origins) ≡ length origins
 length-insts_from link statements c at [] = refl
 length-insts_from link statements c at (o ∷ origins) = ap suc (length-insts_from link statements c (suc at) origins)
 
 -- pieces that are as long as the sites' plans end where the sites do
-pieces_end : {A : Type 0} (piece : Site → List A) → ((s : Site) → length (piece s) ≡ plan_size s.plan) → (at : ℕ) (all : List Site) → at + length (flat_map piece all) ≡ end_of at all
+pieces_end :
+    {A : Type 0} (piece : Site → List A) → ((s : Site) → length (piece s) ≡ plan_size s.plan) → (at : ℕ) (all : List Site)
+    → at + length (flat_map piece all) ≡ end_of at all
 pieces_end piece h at [] = omega arith
 pieces_end piece h at (s ∷ all) =
     let rest = pieces_end piece h (at + plan_size s.plan) all in
@@ -37,20 +41,27 @@ pieces_end piece h at (s ∷ all) =
 pub origins_end : (filling : Filling) (at : ℕ) (all : List Site) → at + length (origins_of filling all) ≡ end_of at all
 origins_end filling at all = pieces_end (λ s. origins_at s (filling all s)) (λ s. length-origins_from s (filling all s) 0 (items_of s.plan)) at all
 
-pub code_end : (filling : Filling) (link : ℕ → ℕ) (statements : List Statement) (at : ℕ) (all : List Site) → at + length (code_of filling link statements all) ≡ end_of at all
+pub code_end :
+    (filling : Filling) (link : ℕ → ℕ) (statements : List Statement) (at : ℕ) (all : List Site)
+    → at + length (code_of filling link statements all) ≡ end_of at all
 code_end filling link statements at all =
     ap (λ n. at + n) (length-map (insts_of filling link statements all) word_of_row)
     ∙ pieces_end (λ s. insts_from link statements (filling all s) s.start (origins_at s (filling all s)))
-    (λ s. length-insts_from link statements (filling all s) s.start (origins_at s (filling all s)) ∙ length-origins_from s (filling all s) 0 (items_of s.plan)) at all
+    (λ s. length-insts_from link statements (filling all s) s.start (origins_at s (filling all s))
+    ∙ length-origins_from s (filling all s) 0 (items_of s.plan)) at all
 
-pub few_words : (source : SourceValue) (l : Layout) (slots : Slots) → IsSource source → IsLaidOut source l → length (code_of (filling_of slots) (link_in l) source.statements (sites_of l)) ≤ 60000
+pub few_words :
+    (source : SourceValue) (l : Layout) (slots : Slots) → IsSource source → IsLaidOut source l
+    → length (code_of (filling_of slots) (link_in l) source.statements (sites_of l)) ≤ 60000
 few_words source l slots is h =
     let end = code_end (filling_of slots) (link_in l) source.statements h.place.code (sites_of l) in
     let short = h.short in
     let few = is.few_statements in
     omega arith
 
-pub few_origins : (source : SourceValue) (l : Layout) (slots : Slots) → IsSource source → IsLaidOut source l → length (origins_of (filling_of slots) (sites_of l)) ≤ 60000
+pub few_origins :
+    (source : SourceValue) (l : Layout) (slots : Slots) → IsSource source → IsLaidOut source l
+    → length (origins_of (filling_of slots) (sites_of l)) ≤ 60000
 few_origins source l slots is h =
     let end = origins_end (filling_of slots) h.place.code (sites_of l) in
     let short = h.short in

@@ -15,7 +15,8 @@ pub nop_op : (k : ℕ) → Nop ≡ Op k → ⊥
 nop_op k e = cc
 
 -- what is copied to a place stands in one of the two slots
-pub slot_cases : (c : Copied) (place p k : ℕ) → copied_to c place p ≡ Op k → (slice_index_or c.from 0 Nop ≡ Op k) ⊎ (slice_index_or c.from 1 Nop ≡ Op k)
+pub slot_cases :
+    (c : Copied) (place p k : ℕ) → copied_to c place p ≡ Op k → (slice_index_or c.from 0 Nop ≡ Op k) ⊎ (slice_index_or c.from 1 Nop ≡ Op k)
 slot_cases c place p k = one_of (eqb p (place + 1)) (eqb p (place + 2)) (slice_index_or c.from 0 Nop) (slice_index_or c.from 1 Nop)
   where
     one_of : (a b : Bool) (x y : Item) → cond a x (cond b y Nop) ≡ Op k → (x ≡ Op k) ⊎ (y ≡ Op k)
@@ -29,14 +30,17 @@ pub record IsFilled (n : ℕ) (first second : Item) (k : ℕ) : Type 0 where
 
 first_slot : (free n : ℕ) (first second : Item) (k : ℕ) → slice_index_or (filled free n first second) 0 Nop ≡ Op k → IsFilled n first second k
 first_slot free n first second k = ⊎_elim
-    (λ z e. absurd (nop_op k (sym (ap (λ t. slice_index_or (cond t (Nop ∷ Nop ∷ []) (cond (eqb free 1) (Nop ∷ first ∷ []) (cond (eqb n 1) (first ∷ Nop ∷ []) (first ∷ second ∷ [])))) 0 Nop) (zero_true n z)) ∙ e)))
+    (λ z e. absurd (nop_op k (sym (ap (λ t. slice_index_or (cond t (Nop ∷ Nop ∷ [])
+    (cond (eqb free 1) (Nop ∷ first ∷ []) (cond (eqb n 1) (first ∷ Nop ∷ []) (first ∷ second ∷ [])))) 0 Nop) (zero_true n z)) ∙ e)))
     (λ some e. record { which = inl (omega arith, at_first (eqb n 0) (eqb free 1) (eqb n 1) e) })
     (cases_eq n 0)
   where
     zero_true : (m : ℕ) → m ≡ 0 → eqb m 0 ≡ true
     zero_true m z = grind (arith, nat_tests)
 
-    at_first : (a b c : Bool) → slice_index_or (cond a (Nop ∷ Nop ∷ []) (cond b (Nop ∷ first ∷ []) (cond c (first ∷ Nop ∷ []) (first ∷ second ∷ [])))) 0 Nop ≡ Op k → first ≡ Op k
+    at_first :
+        (a b c : Bool) → slice_index_or (cond a (Nop ∷ Nop ∷ [])
+        (cond b (Nop ∷ first ∷ []) (cond c (first ∷ Nop ∷ []) (first ∷ second ∷ [])))) 0 Nop ≡ Op k → first ≡ Op k
     at_first true b c e = absurd (nop_op k e)
     at_first false true c e = absurd (nop_op k e)
     at_first false false true e = e
@@ -51,13 +55,18 @@ second_slot free n first second k = by_tests (eqb n 0) (eqb free 1) (eqb n 1) re
     two : eqb n 0 ≡ false → eqb n 1 ≡ false → 2 ≤ n
     two f g = grind (arith, nat_tests)
 
-    by_tests : (a b c : Bool) → eqb n 0 ≡ a → eqb n 1 ≡ c → slice_index_or (cond a (Nop ∷ Nop ∷ []) (cond b (Nop ∷ first ∷ []) (cond c (first ∷ Nop ∷ []) (first ∷ second ∷ [])))) 1 Nop ≡ Op k → IsFilled n first second k
+    by_tests :
+        (a b c : Bool) → eqb n 0 ≡ a → eqb n 1 ≡ c → slice_index_or
+        (cond a (Nop ∷ Nop ∷ []) (cond b (Nop ∷ first ∷ []) (cond c (first ∷ Nop ∷ []) (first ∷ second ∷ [])))) 1 Nop ≡ Op k
+        → IsFilled n first second k
     by_tests true b c f g e = absurd (nop_op k e)
     by_tests false true c f g e = record { which = inl (some f, e) }
     by_tests false false true f g e = absurd (nop_op k e)
     by_tests false false false f g e = record { which = inr (two f g, e) }
 
-pub filled_cases : (free n : ℕ) (first second : Item) (k : ℕ) → (slice_index_or (filled free n first second) 0 Nop ≡ Op k) ⊎ (slice_index_or (filled free n first second) 1 Nop ≡ Op k) → IsFilled n first second k
+pub filled_cases :
+    (free n : ℕ) (first second : Item) (k : ℕ) → (slice_index_or (filled free n first second) 0 Nop ≡ Op k)
+    ⊎ (slice_index_or (filled free n first second) 1 Nop ≡ Op k) → IsFilled n first second k
 filled_cases free n first second k h = ⊎_elim (first_slot free n first second k) (second_slot free n first second k) h
 
 -- as many words as are copyable may be copied

@@ -30,7 +30,9 @@ linked_registers link c at (CallReg a dest) h = h
 linked_registers link c at (JumpReg a) h = h
 linked_registers link c at Halt h = h
 
-place_registers : (link : ℕ → ℕ) (statements : List Statement) (c : Copied) (at i : ℕ) → HaveRegisters statements → HasRegisters (linked_statement link c at (slice_get statements i))
+place_registers :
+    (link : ℕ → ℕ) (statements : List Statement) (c : Copied) (at i : ℕ) → HaveRegisters statements
+    → HasRegisters (linked_statement link c at (slice_get statements i))
 place_registers link statements c at i h = by_place (slice_get statements i) refl
   where
     by_place : (o : Option Statement) → slice_get statements i ≡ o → HasRegisters (linked_statement link c at o)
@@ -38,13 +40,17 @@ place_registers link statements c at i h = by_place (slice_get statements i) ref
     by_place (Some t) e = linked_registers link c at t (at_place (λ (s : Statement). HasRegisters (inst_of s)) statements i t h e)
 
 -- the registers of each instruction are registers
-pub inst_registers : (link : ℕ → ℕ) (statements : List Statement) (c : Copied) (at : ℕ) (o : Origin) → HaveRegisters statements → HasRegisters (inst_at link statements c at o)
+pub inst_registers :
+    (link : ℕ → ℕ) (statements : List Statement) (c : Copied) (at : ℕ) (o : Origin) → HaveRegisters statements
+    → HasRegisters (inst_at link statements c at o)
 inst_registers link statements c at (Own i) h = place_registers link statements c at i h
 inst_registers link statements c at (Copy i) h = place_registers link statements no_copies at i h
 inst_registers link statements c at Pad h = (omega arith, omega arith, omega arith)
 
 -- the word of each instruction of a laid out source spells it
-pub each_spelled : (source : SourceValue) (place : Place) (all : List Site) (slots : Slots) (k : ℕ) (s : Site) → IsSource source → HaveRegisters source.statements → Laid source place all → slice_get all k ≡ Some s →
+pub each_spelled :
+    (source : SourceValue) (place : Place) (all : List Site) (slots : Slots) (k : ℕ) (s : Site) → IsSource source → HaveRegisters source.statements
+    → Laid source place all → slice_get all k ≡ Some s →
     EachInst (λ i. spelled_by (word_of_row i) ≡ Some i) (link_of place.code all) source.statements s (filling_of slots all s)
 each_spelled source place all slots k s is registers h e p item f =
     let c = filling_of slots all s in

@@ -24,14 +24,16 @@ pub copied_at-copied-requires-clause-blocks : goal.copied_at-copied-requires-cla
 copied_at-copied-requires-clause-blocks c =
     let l = c.args.layout.now in record {
       source = c.args.source.now;
-      all = subst (λ (bs : List Block). AreBlocks c.args.source.now bs) (blocks_in-sites l.blocks.items l.plans.items l.starts.items c.requires.plans c.requires.starts) c.requires.layout.blocks;
+      all = subst (λ (bs : List Block). AreBlocks c.args.source.now bs)
+          (blocks_in-sites l.blocks.items l.plans.items l.starts.items c.requires.plans c.requires.starts) c.requires.layout.blocks;
     }
 
 pub copied_at-copied-requires-clause-few : goal.copied_at-copied-requires-clause-few
 copied_at-copied-requires-clause-few c =
     let l = c.args.layout.now in
     let source = c.args.source.now in
-    let blocks = subst (λ (bs : List Block). AreBlocks source bs) (blocks_in-sites l.blocks.items l.plans.items l.starts.items c.requires.plans c.requires.starts) c.requires.layout.blocks in
+    let blocks = subst (λ (bs : List Block). AreBlocks source bs)
+    (blocks_in-sites l.blocks.items l.plans.items l.starts.items c.requires.plans c.requires.starts) c.requires.layout.blocks in
     let few = blocks_few source 0 (length source.statements) l.blocks.items blocks in
     let statements = c.statements-statements.ensures.source.few_statements in
     omega arith
@@ -47,8 +49,9 @@ push_block-requires c =
     (slice_get_read l.blocks.items _ k c.index.result.now refl within c.index.ensures)
     (slice_get_read l.plans.items _ k c.index-in-loop-k.result.now refl (omega arith) c.index-in-loop-k.ensures)
     (slice_get_read l.starts.items _ k c.index-in-loop-k-2.result.now refl (omega arith) c.index-in-loop-k-2.ensures) in
-    let ready = linkable c.args.source.now l c.args.slots k (site c.index.result.now c.index-in-loop-k.result.now c.index-in-loop-k-2.result.now) c.as_slice.result.now c.statements-statements.result.now c.copied_at-copied.result
-    c.statements-statements.ensures.source c.requires at c.as_slice.ensures.value c.statements-statements.ensures.value (c.copied_at-copied.ensures _ at) in
+    let ready = linkable c.args.source.now l c.args.slots k
+    (site c.index.result.now c.index-in-loop-k.result.now c.index-in-loop-k-2.result.now) c.as_slice.result.now
+    c.statements-statements.result.now c.copied_at-copied.result c.statements-statements.ensures.source c.requires at c.as_slice.ensures.value c.statements-statements.ensures.value (c.copied_at-copied.ensures _ at) in
     record {
       fit = search rules;
       short = ready.short;
@@ -81,7 +84,8 @@ loop-k-preserved c =
           c.loop-k.invariant.words;
       registers = next_site (λ (x : Site). EachInst HasRegisters (link_in l) statements x (filling all x)) all k s at
           (subst (λ (x : Copied). EachInst HasRegisters (link_in l) statements s x) copied
-          (subst (λ (links : List ℕ). EachInst HasRegisters (slice_index links) statements s c.copied_at-copied.result) c.as_slice.ensures.value c.in_ok-push_block.ensures.registers))
+          (subst (λ (links : List ℕ). EachInst HasRegisters
+          (slice_index links) statements s c.copied_at-copied.result) c.as_slice.ensures.value c.in_ok-push_block.ensures.registers))
           c.loop-k.invariant.registers;
       origin = flat_pushed (λ x. origins_at x (filling all x)) all k s c.loop-k.code.origin.items _ _ at
           (c.in_ok-push_block.ensures.origin ∙ ap (λ x. c.loop-k.code.origin.items ++ origins_at s x) copied)
@@ -95,7 +99,8 @@ returns-clause-words c =
     let filling = filling_of c.args.slots in
     let statements = c.statements-statements.result.now in
     let count = length-sites l.blocks.items l.plans.items l.starts.items c.requires.plans c.requires.starts in
-    flat_end (λ x. site_words (link_in l) statements x (filling all x)) all c.loop-k.k c.loop-k.code.words.items _ (omega (arith, c.loop-k-test.false, c.loop-k.auto.k-end, c.len-k-end.ensures)) c.loop-k.invariant.words
+    flat_end (λ x. site_words (link_in l) statements x (filling all x)) all c.loop-k.k c.loop-k.code.words.items _
+    (omega (arith, c.loop-k-test.false, c.loop-k.auto.k-end, c.len-k-end.ensures)) c.loop-k.invariant.words
     ∙ all_words filling (link_in l) statements all
     ∙ ap (λ xs. code_of filling (link_in l) xs all) c.statements-statements.ensures.value
 
@@ -105,7 +110,8 @@ returns-clause-origin c =
     let all = sites_of l in
     let filling = filling_of c.args.slots in
     let count = length-sites l.blocks.items l.plans.items l.starts.items c.requires.plans c.requires.starts in
-    flat_end (λ x. origins_at x (filling all x)) all c.loop-k.k c.loop-k.code.origin.items _ (omega (arith, c.loop-k-test.false, c.loop-k.auto.k-end, c.len-k-end.ensures)) c.loop-k.invariant.origin
+    flat_end (λ x. origins_at x (filling all x)) all c.loop-k.k c.loop-k.code.origin.items _
+    (omega (arith, c.loop-k-test.false, c.loop-k.auto.k-end, c.len-k-end.ensures)) c.loop-k.invariant.origin
 
 pub returns-clause-registers : goal.returns-clause-registers
 returns-clause-registers c =

@@ -22,7 +22,8 @@ loop-p-preserved c =
     let within : p < length items = omega (arith, c.loop-p-test.true, ap length c.as_slice-items.ensures.value) in
     let item = slice_index_or items p (Op 0) in
     let at : slice_get items p ≡ Some item = slice_get-get_or items p (Op 0) within in
-    let origin : c.origin_at-origin.result ≡ origin_at s copied p item = c.origin_at-origin.ensures ∙ ap (λ xs. origin_at s copied p (slice_index_or xs p (Op 0))) c.as_slice-items.ensures.value in
+    let origin : c.origin_at-origin.result ≡ origin_at s copied p item = c.origin_at-origin.ensures
+    ∙ ap (λ xs. origin_at s copied p (slice_index_or xs p (Op 0))) c.as_slice-items.ensures.value in
     let inst : c.inst_at-inst.result ≡ inst_at link statements copied (c.args.start + p) (origin_at s copied p item) =
     c.inst_at-inst.ensures ∙ ap (inst_at link statements copied (c.args.start + p)) origin in
     record {
@@ -30,7 +31,8 @@ loop-p-preserved c =
           ap (λ ws. ws ++ words_after link statements s copied (p + 1))
           (c.in_ok-push_word.ensures.words ∙ ap (λ (i : Inst). c.loop-p.code.words.items ++ word_of_row i ∷ []) inst)
           ∙ word_pushed link statements s copied p item c.loop-p.code.words.items _ at c.loop-p.invariant.words;
-      registers = before_next HasRegisters link statements s copied p item at (subst HasRegisters inst c.in_ok-push_word.ensures.registers) c.loop-p.invariant.registers;
+      registers = before_next HasRegisters link statements s copied p item at
+          (subst HasRegisters inst c.in_ok-push_word.ensures.registers) c.loop-p.invariant.registers;
       origin =
           ap (λ os. os ++ origins_after s copied (p + 1))
           (c.in_ok-push_word.ensures.origin ∙ ap (λ o. c.loop-p.code.origin.items ++ o ∷ []) origin)

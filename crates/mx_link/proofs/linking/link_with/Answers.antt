@@ -28,7 +28,8 @@ returns-clause-linked g c =
       reach = ap (overlong source place) (blocks_in-sites l.blocks.items l.plans.items l.starts.items laid.plans laid.starts) ∙ laid.fits;
       code = code;
       user_data = told.user_data ∙ same_words source (link_in l) (link_map place all) is agree;
-      links = ap (λ v. v.items) told.links ∙ links_listed (link_map place all) l.links.items 0 (suc (length source.statements)) (omega (arith, laid.links_count)) (λ k low. let at : k ≡ 0 + k = omega arith in laid.links k (omega arith) ∙ ap (link_map place all) at);
+      links = ap (λ v. v.items) told.links ∙ links_listed (link_map place all) l.links.items 0 (suc (length source.statements))
+          (omega (arith, laid.links_count)) (λ k low. let at : k ≡ 0 + k = omega arith in laid.links k (omega arith) ∙ ap (link_map place all) at);
       origin = told.origin;
       noops = told.noops ∙ ap noops_in code;
       copies = told.copies ∙ ap copies_in told.origin;

@@ -20,5 +20,11 @@ invariant_of-result c =
     let values = c.user_data-values.result.now in
     let words = c.user_data-values.ensures.source.few_words in record {
       code_within = omega (arith, few, ap length c.in_ok-code.ensures.words);
-      data_within = omega (arith, ap length c.in_ok-user_data.ensures, length-map values (value_word (slice_index c.as_slice.result.now)), ap length c.user_data-values.ensures.value);
+      data_within = omega (
+        arith,
+        ap length c.in_ok-user_data.ensures,
+        length-map values
+            (value_word (slice_index c.as_slice.result.now)),
+        ap length c.user_data-values.ensures.value,
+      );
     }
