@@ -22,10 +22,10 @@ use Rattle.mx_turn.proofs.Steps.{after_one_more}
 use Rattle.mx_handler.specs.Returns.{with_shipped}
 use Rattle.mx_interrupts.specs.Laws.{IsCleanImage}
 use Rattle.mx_interrupts.specs.Saves.{before_cycle}
+use Rattle.mx_handler.proofs.Pauses.{erased, goes_on as keeps_on}
+use Rattle.mx_handler.proofs.Phases.{State, going, pausing, over}
 use Rattle.mx_interrupts.proofs.Watched.{watched_at}
-use Rattle.mx_interrupts.proofs.InUser.{goes_on as keeps_on}
-use Rattle.mx_interrupts.proofs.Pauses.{erased, shipped_code}
-use Rattle.mx_interrupts.proofs.Phases.{State, going, pausing, over}
+use Rattle.mx_interrupts.proofs.Pauses.{done_after, with_handler}
 use Rattle.mx_interrupts.proofs.Runs.{Ran, passed_few, length_bits}
 use Rattle.mx_interrupts.proofs.Saves.{q, passed, done, ran_at, passed_more}
 use Rattle.mx_debug.specs.Stops.{shows_live, goes_on, is_stop}
@@ -198,7 +198,7 @@ module _ (user_words data_words : List ℕ) (p : Place) (input : Option (List �
   is_delay n = watched_at user inside p input (past n) (watch_start p words)
 
   abbrev Phase : ℕ → ℕ → Type 0
-  Phase n rest = State shipped_code user inside p input (erased (state n)) (watched n) (state n).counts.interrupts rest
+  Phase n rest = State (with_handler user inside p input) (erased (state n)) (done_after (watched n) (state n).counts.interrupts) rest
 
   -- in user code the fetch in ALU is the next step's
   record InStep (n : ℕ) : Type 0 where
@@ -213,7 +213,7 @@ module _ (user_words data_words : List ℕ) (p : Place) (input : Option (List �
   phase : (n rest : ℕ) → Phase n rest → InStep n ⊎ ((is_users (state n).alu ≡ false) ⊎ ((state n).halted ≡ true))
   phase n rest (going g) =
       let d = keeps_on (with_shipped user) g.c g.goes g.quiet in
-      let f = g.in_user.follows in
+      let f = g.in_user.in_user.follows in
       let e = is_delay n in
       inl (record {
         halted = ap (λ (x : Machine). x.halted) g.is ∙ ap (λ (x : Machine). x.halted) d ∙ f.halted ∙ ap (λ (x : Delay). x.halted) e;
@@ -223,10 +223,10 @@ module _ (user_words data_words : List ℕ) (p : Place) (input : Option (List �
         mem = λ b u. ap (λ (x : Machine). x.core.mem b) g.is ∙ ap (λ (x : Machine). x.core.mem b) d ∙ f.mem b u ∙ ap (λ (x : Delay). x.core.mem b) e;
         users =
             ap (λ (x : Machine). is_users x.alu) g.is ∙ ap (λ (x : Machine). is_users x.alu) d ∙ ap is_users f.alu
-            ∙ le-leb 4096 (watched n).at.first.address g.in_user.first.0;
+            ∙ le-leb 4096 (watched n).at.first.address g.in_user.in_user.queue.first.0;
       })
   phase n rest (pausing h) =
-      let silent = h.pause.silent h.k (let e = h.sum in let f = h.some in omega (arith, e, f)) in
+      let silent = h.pause.silent h.j (let e = h.sum in let f = h.some in omega (arith, e, f)) in
       inr (inl (ap (λ (x : Machine). is_users x.alu) h.is ∙ silent.system))
   phase n rest (over o) = inr (inr o.ends)
 

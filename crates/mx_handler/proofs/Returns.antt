@@ -15,7 +15,14 @@ use Rattle.mx_turn.specs.System.{Slot}
 use Rattle.mx_turn.specs.Cycle.{Machine, entered, reached}
 use Rattle.mx_handler.specs.Returns.{with_shipped, turns, IsBack, HoldsFetch}
 
-module _ (user : Code) (input : Option (List ℕ)) (latch : ℕ → Bool) (mem wb : Option Fetch) (past : List ℕ) (stall : ℕ) (r before m : Words) (md taken : ℕ) (slot : Slot) (p1 p2 p3 : ℕ) (other : Mode) (halted : Bool) (shown : Latches) (counts : Counted) where
+-- the registers after the handler's loads, which end with those of 2 and 1
+abbrev loads_of : Words → ℕ → ℕ → ℕ → ℕ → ℕ → ℕ → ℕ → ℕ → Words
+loads_of r a b c d e f g h =
+    let early : Words = write (write (write (write (write r 1 a) 2 b) 1 c) 2 d) 1 e in
+    write (write (write (write (write early 2 f) 2 g) 1 h) 2 (r 2)) 1 (r 1)
+
+module _ (user : Code) (input : Option (List ℕ)) (latch : ℕ → Bool) (mem wb : Option Fetch) (past : List ℕ) (stall : ℕ) (r before m : Words)
+    (md taken : ℕ) (slot : Slot) (p1 p2 p3 : ℕ) (other : Mode) (halted : Bool) (shown : Latches) (counts : Counted) where
   abbrev pub entry : Machine
   entry = record {
     next = fetch_of 0;
@@ -67,7 +74,7 @@ module _ (user : Code) (input : Option (List ℕ)) (latch : ℕ → Bool) (mem w
   end_mem : end.core.mem ≡ put (put (put (put (put (put m 1 (r 1)) 2 (r 2)) 3 p1) 4 p2) 5 p3) 0 ((m 0 + 1) % 2 ^ 32)
   end_mem = refl
 
-  end_regs : end.core.regs ≡ write (write (write (write (write (write (write (write (write (write r 1 p1) 2 p2) 1 p3) 2 (m 0)) 1 p1) 2 ((m 0 + 1) % 2 ^ 32)) 2 p2) 1 p3) 2 (r 2)) 1 (r 1)
+  end_regs : end.core.regs ≡ loads_of r p1 p2 p3 (m 0) p1 ((m 0 + 1) % 2 ^ 32) p2 p3
   end_regs = refl
 
   end_next : end.next ≡ fetch_from p3
@@ -92,16 +99,22 @@ on_1 f r v o = record { same = λ n h k. other_write f 1 v n h ∙ o.same n h k 
 on_2 : (f r : Words) (v : ℕ) → Only12 f r → Only12 (write f 2 v) r
 on_2 f r v o = record { same = λ n h k. other_write f 2 v n k ∙ o.same n h k }
 
-pub regs_back : (r : Words) (a b c d e f g h : ℕ) (n : ℕ) → write (write (write (write (write (write (write (write (write (write r 1 a) 2 b) 1 c) 2 d) 1 e) 2 f) 2 g) 1 h) 2 (r 2)) 1 (r 1) n ≡ r n
+pub regs_back : (r : Words) (a b c d e f g h : ℕ) (n : ℕ) → loads_of r a b c d e f g h n ≡ r n
 regs_back r a b c d e f g h n =
     ⊎_elim
     (λ is_1. subst (λ k. write w 1 (r 1) k ≡ r k) (sym is_1) refl)
     (λ not_1. ⊎_elim
     (λ is_2. subst (λ k. write w 1 (r 1) k ≡ r k) (sym is_2) refl)
-    (λ not_2. (on_1 _ _ _ (on_2 _ _ _ (on_1 _ _ _ (on_2 _ _ _ (on_2 _ _ _ (on_1 _ _ _ (on_2 _ _ _ (on_1 _ _ _ (on_2 _ _ _ (on_1 r r a (record { same = λ n h k. refl }))))))))))).same n not_1 not_2)
+    (λ not_2. others.same n not_1 not_2)
     (cases_eq n 2))
     (cases_eq n 1)
   where
+    first_4 : Only12 (write (write (write (write r 1 a) 2 b) 1 c) 2 d) r
+    first_4 = on_2 _ _ _ (on_1 _ _ _ (on_2 _ _ _ (on_1 r r a (record { same = λ n h k. refl }))))
+
+    others : Only12 (loads_of r a b c d e f g h) r
+    others = on_1 _ _ _ (on_2 _ _ _ (on_1 _ _ _ (on_2 _ _ _ (on_2 _ _ _ (on_1 _ _ _ first_4)))))
+
     w : Words
     w = write (write (write (write (write (write (write (write (write r 1 a) 2 b) 1 c) 2 d) 1 e) 2 f) 2 g) 1 h) 2 (r 2)
 
@@ -114,7 +127,12 @@ below k j f m v h o = record { same = λ n le. other_put f j v n (λ e. absurd (
 
 pub mem_back : (m : Words) (a b c d e f : ℕ) → AboveSame 6 (put (put (put (put (put (put m 1 a) 2 b) 3 c) 4 d) 5 e) 0 f) m
 mem_back m a b c d e f =
-    below 6 0 _ _ _ (omega arith) (below 6 5 _ _ _ (omega arith) (below 6 4 _ _ _ (omega arith) (below 6 3 _ _ _ (omega arith) (below 6 2 _ _ _ (omega arith) (below 6 1 m m a (omega arith) (record { same = λ n le. refl }))))))
+    below 6 0 _ _ _ (omega arith)
+    (below 6 5 _ _ _ (omega arith)
+    (below 6 4 _ _ _ (omega arith)
+    (below 6 3 _ _ _ (omega arith)
+    (below 6 2 _ _ _ (omega arith)
+    (below 6 1 m m a (omega arith) (record { same = λ n le. refl }))))))
 
 -- a saved fetch comes back as it was
 pub from_entry : (f : Fetch) → f.address < 2 ^ 31 → fetch_from (entry_of f) ≡ f
@@ -136,13 +154,16 @@ from_entry f h = back f.squashed
         b : leb (2 ^ 31) f.address ≡ false
         b = lt-leb _ _ (omega arith)
 
-module _ (user : Code) (input : Option (List ℕ)) (latch : ℕ → Bool) (m : Machine) (alu rf fetch : Fetch) (is_alu : HoldsFetch m.alu alu) (is_rf : HoldsFetch m.rf rf) (is_fetch : HoldsFetch m.fetch fetch) where
+module _ (user : Code) (input : Option (List ℕ)) (latch : ℕ → Bool) (m : Machine) (alu rf fetch : Fetch) (is_alu : HoldsFetch m.alu alu)
+    (is_rf : HoldsFetch m.rf rf) (is_fetch : HoldsFetch m.fetch fetch) where
   -- the state in which the handler's first word is fetched, when the chain holds these words
   abbrev at : ℕ → ℕ → ℕ → Machine
-  at p1 p2 p3 = entry user input latch m.mem m.wb m.past m.stall m.core.regs m.before m.core.mem m.core.md m.core.taken m.slot p1 p2 p3 m.psw.current m.halted m.shown m.counts
+  at p1 p2 p3 = entry user input latch m.mem m.wb m.past m.stall m.core.regs m.before m.core.mem m.core.md m.core.taken m.slot
+      p1 p2 p3 m.psw.current m.halted m.shown m.counts
 
   abbrev e : Machine
-  e = end user input latch m.mem m.wb m.past m.stall m.core.regs m.before m.core.mem m.core.md m.core.taken m.slot (entry_of alu) (entry_of rf) (entry_of fetch) m.psw.current m.halted m.shown m.counts
+  e = end user input latch m.mem m.wb m.past m.stall m.core.regs m.before m.core.mem m.core.md m.core.taken m.slot
+      (entry_of alu) (entry_of rf) (entry_of fetch) m.psw.current m.halted m.shown m.counts
 
   enters : entered m ≡ at (entry_of alu) (entry_of rf) (entry_of fetch)
   enters = λ k. at (entry_of (saved (is_alu.0 k))) (entry_of (saved (is_rf.0 k))) (entry_of (saved (is_fetch.0 k)))
@@ -153,7 +174,8 @@ module _ (user : Code) (input : Option (List ℕ)) (latch : ℕ → Bool) (m : M
     rf = ap Some (from_entry rf is_rf.1) ∙ sym is_rf.0;
     fetch = ap Some (from_entry fetch is_fetch.1) ∙ sym is_fetch.0;
     next = ap Some (from_entry fetch is_fetch.1) ∙ sym is_fetch.0;
-    regs = λ n. regs_back m.core.regs (entry_of alu) (entry_of rf) (entry_of fetch) (m.core.mem 0) (entry_of alu) ((m.core.mem 0 + 1) % 2 ^ 32) (entry_of rf) (entry_of fetch) n;
+    regs = λ n. regs_back m.core.regs (entry_of alu) (entry_of rf) (entry_of fetch) (m.core.mem 0)
+        (entry_of alu) ((m.core.mem 0 + 1) % 2 ^ 32) (entry_of rf) (entry_of fetch) n;
     md = refl;
     mem = λ a h. (mem_back m.core.mem (m.core.regs 1) (m.core.regs 2) (entry_of alu) (entry_of rf) (entry_of fetch) ((m.core.mem 0 + 1) % 2 ^ 32)).same a h;
     taken = refl;
@@ -163,5 +185,9 @@ module _ (user : Code) (input : Option (List ℕ)) (latch : ℕ → Bool) (m : M
     goes = refl;
   }
 
-  pub returns : (let after = turns (with_shipped user) input latch 25 (entered m) in IsBack m (reached (with_shipped user) input (record after { latch = latch 25 })))
-  returns = subst (λ x. IsBack m (reached (with_shipped user) input (record (turns (with_shipped user) input latch 25 x) { latch = latch 25 }))) (sym enters) back
+  -- the machine before the 26th turn
+  abbrev before_last : Machine → Machine
+  before_last x = record (turns (with_shipped user) input latch 25 x) { latch = latch 25 }
+
+  pub returns : IsBack m (reached (with_shipped user) input (before_last (entered m)))
+  returns = subst (λ x. IsBack m (reached (with_shipped user) input (before_last x))) (sym enters) back

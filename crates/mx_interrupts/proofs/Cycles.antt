@@ -14,27 +14,38 @@ use Rattle.mx_turn.specs.Cycle.{Machine, is_taken, entered, decided, turned, rea
 use Rattle.mx_turn.specs.Run.{is_users, passes}
 use Rattle.mx_turn.specs.OneTurn.{IsOnBoard}
 use Rattle.mx_turn.specs.Program.{code_with}
+use Rattle.mx_handler.proofs.Pauses.{erased, Handled}
+use Rattle.mx_handler.proofs.Phases.{State, Turned, turn, at_start}
 use Rattle.mx_interrupts.proofs.Watched.{past}
-use Rattle.mx_interrupts.proofs.Pauses.{erased, Handled}
-use Rattle.mx_interrupts.proofs.Phases.{State, Turned, turn, at_start}
+use Rattle.mx_interrupts.proofs.Pauses.{done_after, setting, lawful, begins}
 
 -- a latched request is taken once
 taken_once : (code : Code) (c : Machine) → one (takes c) + one (ended code c).latch ≤ one c.latch
 taken_once code c = ⊎_elim
     (λ h. let e : takes c ≡ false = (λ k. not (h k) && is_taken c) in
-    at_most (takes c) (ended code c).latch false c.latch e (ap (λ (x : Machine). x.latch) (cond-true _ c _ h)) (omega arith))
+    at_most (takes c) (ended code c).latch false c.latch e (ap latch_of (cond-true _ c _ h)) (omega arith))
     (λ h. ⊎_elim
     (λ t. let e : takes c ≡ true = (λ k. not (h k) && t k) in
     let l : c.latch ≡ true = (and_parts c.latch _ (and_parts c.psw.current.interrupts _ t).1).0 in
     let o : one c.latch ≡ 1 = ap one l in
-    at_most (takes c) (ended code c).latch true false e (ap (λ (x : Machine). x.latch) (cond-false _ c (turned code c) h ∙ cond-true _ (entered c) (decided code c) t)) (omega (arith, o)))
+    at_most (takes c) (ended code c).latch true false e (ap latch_of (cond-false _ c (turned code c) h ∙ cond-true _ (entered c) (decided code c) t))
+    (omega (arith, o)))
     (λ t. let e : takes c ≡ false = (λ k. not (h k) && t k) in
-    at_most (takes c) (ended code c).latch false c.latch e (ap (λ (x : Machine). x.latch) (cond-false _ c (turned code c) h ∙ cond-false _ (entered c) (decided code c) t)) (omega arith))
+    at_most (takes c) (ended code c).latch false c.latch e (ap latch_of (cond-false _ c (turned code c) h ∙ cond-false _ (entered c) (decided code c) t))
+    (omega arith))
     (cases_Bool (is_taken c)))
     (cases_Bool c.halted)
   where
+    latch_of : Machine → Bool
+    latch_of m = m.latch
+
     at_most : (a b x y : Bool) → a ≡ x → b ≡ y → one x + one y ≤ one c.latch → one a + one b ≤ one c.latch
     at_most a b x y e f h = let g : one a ≡ one x = ap one e in let k : one b ≡ one y = ap one f in omega (arith, g, k, h)
+
+-- an interrupt is 26 turns
+pause_turns : (b : Bool) → cond b 26 0 ≡ 26 * one b
+pause_turns true = refl
+pause_turns false = refl
 
 one_or : (a b : Bool) → one (a || b) ≤ one a + one b
 one_or true b = omega arith
@@ -48,7 +59,7 @@ module _ (handler user : Code) (inside : ℕ → Bool) (p : Place) (input : Opti
   -- a machine after so many cycles and requests, when w words of the user have passed and these steps are done
   pub record Stands (m : Machine) (s : Watched) (w cycles asked : ℕ) : Type 0 where
     pub rest : ℕ
-    pub state : State handler user inside p input (erased m) s m.counts.interrupts rest
+    pub state : State (setting handler user inside p input) (erased m) (done_after s m.counts.interrupts) rest
     pub turns : m.counts.fetches + rest ≡ w + 3 + 26 * m.counts.interrupts
     pub within : m.counts.cycles + m.stall ≤ 3 * m.counts.fetches + 2
     pub taken : m.counts.interrupts + one m.latch ≤ asked
@@ -57,7 +68,7 @@ module _ (handler user : Code) (inside : ℕ → Bool) (p : Place) (input : Opti
   pub stands_start : (words : Words) → p.code ≡ 4096 → words 0 ≡ 0 → Stands (start words) (watch_start p words) 0 0 0
   stands_start words at_code low = record {
     rest = 3;
-    state = at_start handler user inside p input words at_code low;
+    state = at_start (setting handler user inside p input) words (done_after (watch_start p words) 0) (begins handler user inside p input words at_code low);
     turns = refl;
     within = omega arith;
     taken = omega arith;
@@ -70,7 +81,7 @@ module _ (handler user : Code) (inside : ℕ → Bool) (p : Place) (input : Opti
     pub stands : Stands n (past user inside p input passed s) (w + one passed) (cycles + 1) (asked + one request)
 
   module _ (at_board : IsOnBoard p) (at_code : p.code ≡ 4096) (m : Machine) (request : Bool) (s : Watched) (w cycles asked : ℕ)
-      (handled : 1 ≤ asked + one request → Handled handler user inside p input) (st : Stands m s w cycles asked) where
+      (handled : 1 ≤ asked + one request → Handled (setting handler user inside p input)) (st : Stands m s w cycles asked) where
     abbrev code : Code
     code = code_with handler user
 
@@ -117,15 +128,20 @@ module _ (handler user : Code) (inside : ℕ → Bool) (p : Place) (input : Opti
       stands = record {
         rest = t.rest_after;
         state = t.state;
-        turns = (let e = st.turns in let f = t.left in omega (arith, e, f));
-        within = (let e = st.within in let f = eqb-true m.stall 0 h in let g = short_wait (resident (acted resident code input (latched request m)).past (acted resident code input (latched request m)).next.address) in omega (arith, e, f, g));
+        turns = (let e = st.turns in let f = t.left in let g = pause_turns (takes c) in omega (arith, e, f, g));
+        within =
+            let e = st.within in
+            let f = eqb-true m.stall 0 h in
+            let g = short_wait (resident (acted resident code input (latched request m)).past (acted resident code input (latched request m)).next.address) in
+            omega (arith, e, f, g);
         taken = (let e = st.taken in let f = one_or m.latch request in let g = taken_once code c in omega (arith, e, f, g));
         all = λ k. (let e = st.all on in omega (arith, e));
       };
     }
       where
-        t : Turned handler user inside p input (erased m) c s m.counts.interrupts st.rest
-        t = turn handler user inside p input at_board at_code (erased m) s m.counts.interrupts st.rest m.stall (m.latch || request) m.counts
+        t : Turned (setting handler user inside p input) (erased m) c (done_after s m.counts.interrupts) st.rest
+        t = turn (setting handler user inside p input) (lawful handler user inside p input at_board at_code) (erased m) (done_after s m.counts.interrupts)
+            st.rest m.stall (m.latch || request) m.counts
             (λ e. handled (let f = st.taken in let g = one_or m.latch request in let k : one (m.latch || request) ≡ 1 = ap one e in omega (arith, f, g, k)))
             st.state on clean
 
@@ -149,7 +165,8 @@ module _ (handler user : Code) (inside : ℕ → Bool) (p : Place) (input : Opti
         (cases_Bool (eqb m.stall 0)))
         (cases_Bool m.halted)
       where
-        moved : (n : Machine) (byte : Option ℕ) (passed : Bool) → n ≡ cycled resident code input m request → byte ≡ (answer code input m request).byte → passed ≡ passes m
+        moved : (n : Machine) (byte : Option ℕ) (passed : Bool) → n ≡ cycled resident code input m request → byte ≡ (answer code input m request).byte
+            → passed ≡ passes m
             → Cycled m n byte passed request s w cycles asked
             → Cycled m (cycled resident code input m request) (answer code input m request).byte (passes m) request s w cycles asked
         moved n byte passed e f g x =

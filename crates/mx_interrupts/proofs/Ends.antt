@@ -1,34 +1,28 @@
 -- What a run within a budget gives.
-use Rattle.std.proofs.Common.{◌≡◌, ℕ, ◌+◌, ◌*◌, ◌≤◌, Bool, true, List, [], ◌⊎◌, length, Option, refl, sym, ◌∙◌, subst, arith, ⊎_elim, inl, inr}
-use Rattle.std.proofs.lemmas.Bool.{cases_Bool, false≢true}
+use Rattle.std.proofs.Common.{◌≡◌, ℕ, ◌+◌, ◌*◌, ◌≤◌, Bool, true, List, [], ◌⊎◌, length, Option, refl, subst, arith, ⊎_elim, inl, inr}
+use Rattle.std.proofs.lemmas.Bool.{cases_Bool}
 use Rattle.mx_isa.specs.declared.place.Place.{Place}
 use Rattle.mx_isa.specs.Words.{Words}
 use Rattle.mx_code.specs.Decoding.{inst_of}
 use Rattle.mx_code.specs.Delay.{Code, code_from, data_from, delay}
 use Rattle.mx_code.specs.Clean.{is_inside, Watched, watch_start}
-use Rattle.mx_turn.specs.Cycle.{Machine, start}
+use Rattle.mx_turn.specs.Cycle.{start}
 use Rattle.mx_turn.specs.Handler.{shipped}
 use Rattle.mx_turn.specs.Program.{program_of}
 use Rattle.mx_turn.specs.Run.{Run, run_of, bits}
 use Rattle.mx_turn.specs.OneTurn.{IsOnBoard}
 use Rattle.mx_interrupts.specs.Laws.{RunsAs, IsCleanImage}
+use Rattle.mx_handler.proofs.Pauses.{erased, Setting, Handled, IsLawful}
+use Rattle.mx_handler.proofs.Phases.{halted_alike, ended_in_user}
 use Rattle.mx_interrupts.proofs.Watched.{watched_at, clean_for_fewer}
-use Rattle.mx_interrupts.proofs.InUser.{InUser}
-use Rattle.mx_interrupts.proofs.Pauses.{erased, Handled, shipped_handled}
-use Rattle.mx_interrupts.proofs.Phases.{State, going, pausing, over, halted_alike}
+use Rattle.mx_interrupts.proofs.Pauses.{InUserAfter, Steps, done_after, setting, lawful, shipped_handled}
 use Rattle.mx_interrupts.proofs.Cycles.{stands_start}
 use Rattle.mx_interrupts.proofs.Runs.{program, steps, Ran, runs, passed_few, length_bits, asked_few}
 
-module _ (handler user : Code) (inside : ℕ → Bool) (p : Place) (input : Option (List ℕ)) where
-  -- where it halted, it did so in user code
-  ended_in_user : (m : Machine) (s : Watched) (n rest : ℕ) → State handler user inside p input m s n rest → m.halted ≡ true → InUser handler user inside p input m s n
-  ended_in_user m s n rest (going g) h = absurd (false≢true (sym g.goes ∙ g.in_user.follows.halted ∙ sym (halted_alike handler user inside p input m s n rest (going g)) ∙ h))
-  ended_in_user m s n rest (pausing q) h = absurd (false≢true (sym q.goes ∙ h))
-  ended_in_user m s n rest (over o) h = o.in_user
-
 module _ (handler_words user_words data_words : List ℕ) (p : Place) (input : Option (List ℕ)) (at_board : IsOnBoard p) (at_code : p.code ≡ 4096)
     (requests : List ℕ) (budget : ℕ) (clean : IsCleanImage user_words data_words p input budget)
-    (handled : 1 ≤ length requests → Handled (code_from inst_of 0 handler_words) (code_from inst_of 4096 user_words) (is_inside p (length user_words)) p input) where
+    (handled : 1 ≤ length requests
+    → Handled (setting (code_from inst_of 0 handler_words) (code_from inst_of 4096 user_words) (is_inside p (length user_words)) p input)) where
   abbrev handler : Code
   handler = code_from inst_of 0 handler_words
 
@@ -49,23 +43,37 @@ module _ (handler_words user_words data_words : List ℕ) (p : Place) (input : O
   done = steps handler_words user_words inside p input data_words run.passed (watch_start p words)
 
   few : run.passed ≤ budget
-  few = let e = passed_few (program handler_words user_words inside p input data_words) (bits requests budget) (start words) in let f = length_bits requests budget in omega (arith, e, f)
+  few =
+      let e = passed_few (program handler_words user_words inside p input data_words) (bits requests budget) (start words) in
+      let f = length_bits requests budget in
+      omega (arith, e, f)
 
   ran : Ran handler_words user_words inside p input data_words (bits requests budget) (start words) (watch_start p words) 0 0 0
-  ran = runs handler_words user_words inside p input data_words at_board at_code (length requests) handled (bits requests budget) (start words) (watch_start p words) 0 0 0
+  ran = runs handler_words user_words inside p input data_words at_board at_code (length requests) handled
+      (bits requests budget) (start words) (watch_start p words) 0 0 0
       (let e = asked_few requests budget in omega (arith, e)) (stands_start handler user inside p input words at_code refl)
       (clean_for_fewer user inside p input run.passed budget (watch_start p words) few clean)
 
   is_delay : done.at ≡ delay user p input words run.passed
   is_delay = watched_at user inside p input run.passed (watch_start p words)
 
+  abbrev x : Setting
+  x = setting handler user inside p input
+
+  laws : IsLawful x
+  laws = lawful handler user inside p input at_board at_code
+
+  abbrev known : Steps
+  known = done_after done run.counts.interrupts
+
   pub as_delay : RunsAs p run (delay user p input words run.passed)
   as_delay = subst (RunsAs p run) is_delay (record {
     console = ran.console;
-    halted = halted_alike handler user inside p input (erased run.last) done run.counts.interrupts ran.stands.rest ran.stands.state;
+    halted = halted_alike x laws (erased run.last) known ran.stands.rest ran.stands.state;
     ends = λ h.
-        let u = ended_in_user handler user inside p input (erased run.last) done run.counts.interrupts ran.stands.rest ran.stands.state h in
-        let f = u.follows in
+        let u : InUserAfter p (erased run.last) done run.counts.interrupts =
+        ended_in_user x laws (erased run.last) known ran.stands.rest ran.stands.state h in
+        let f = u.in_user.follows in
         record { regs = f.regs; md = f.md; mem = f.mem; taken = f.taken; counted = u.counted };
   })
 
@@ -75,12 +83,12 @@ module _ (handler_words user_words data_words : List ℕ) (p : Place) (input : O
   pub passes_by : (w : ℕ) → 3 * (w + 3) + 78 * length requests ≤ budget → (w ≤ run.passed) ⊎ (run.halted ≡ true)
   passes_by w h = ⊎_elim
       (λ k. inr k)
-      (λ k. inl (let a = ran.stands.all k in let b = ran.stands.within in let c = ran.stands.turns in let d = few_taken in let e = length_bits requests budget in omega (arith, h, a, b, c, d, e)))
+      (λ k. inl (omega (arith, h, ran.stands.all k, ran.stands.within, ran.stands.turns, few_taken, length_bits requests budget)))
       (cases_Bool run.halted)
 
 -- requests under the shipped handler
 shipped_handles : (code_words : List ℕ) (p : Place) (input : Option (List ℕ)) → IsOnBoard p
-    → Handled (code_from inst_of 0 shipped) (code_from inst_of 4096 code_words) (is_inside p (length code_words)) p input
+    → Handled (setting (code_from inst_of 0 shipped) (code_from inst_of 4096 code_words) (is_inside p (length code_words)) p input)
 shipped_handles code_words p input b = shipped_handled (code_from inst_of 4096 code_words) (is_inside p (length code_words)) p input b
 
 pub runs_as : (code_words data_words : List ℕ) (input : Option (List ℕ)) (requests : List ℕ) (budget : ℕ) (p : Place)

@@ -1,9 +1,7 @@
 pub mod Watched
 pub mod InUser
 pub mod Pauses
-pub mod Phases
 pub mod Cycles
 pub mod Runs
 pub mod Ends
-pub mod Interrupted
 pub mod Saves

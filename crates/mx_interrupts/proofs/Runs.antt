@@ -12,8 +12,9 @@ use Rattle.mx_turn.specs.Cycle.{Machine, cycled, answer, after_bits}
 use Rattle.mx_turn.specs.Program.{Program, code_of, code_with, program_of}
 use Rattle.mx_turn.specs.Run.{is_requested, bits, bytes_on, passes, passed_on}
 use Rattle.mx_turn.specs.OneTurn.{IsOnBoard}
+use Rattle.mx_handler.proofs.Pauses.{Handled}
 use Rattle.mx_interrupts.proofs.Watched.{past, clean_first}
-use Rattle.mx_interrupts.proofs.Pauses.{Handled}
+use Rattle.mx_interrupts.proofs.Pauses.{setting}
 use Rattle.mx_interrupts.proofs.Cycles.{Stands, Cycled, a_cycle}
 
 -- how many requests come
@@ -68,6 +69,9 @@ passed_few q (b ∷ h) m = let e = passed_few q h (cycled resident (code_of q) q
     small true = omega arith
     small false = omega arith
 
+no_more : (n : ℕ) → n ≡ n + 0
+no_more n = omega arith
+
 module _ (handler_words user_words : List ℕ) (inside : ℕ → Bool) (p : Place) (input : Option (List ℕ)) (data_words : List ℕ) where
   abbrev pub program : Program
   program = program_of handler_words user_words data_words input
@@ -81,28 +85,39 @@ module _ (handler_words user_words : List ℕ) (inside : ℕ → Bool) (p : Plac
   abbrev pub steps : ℕ → Watched → Watched
   steps n s = watch_for user inside p input n s
 
+  abbrev Standing : Machine → Watched → ℕ → ℕ → ℕ → Type 0
+  Standing m s w cycles asked = Stands handler user inside p input m s w cycles asked
+
+  -- the machine after some bits, and after one
+  abbrev after : Machine → List Bool → Machine
+  after m h = after_bits resident (code_with handler user) input m h
+
+  abbrev after_one : Machine → Bool → Machine
+  after_one m b = cycled resident (code_with handler user) input m b
+
   -- the machine after these bits, and what it sent
   pub record Ran (h : List Bool) (m : Machine) (s : Watched) (w cycles asked : ℕ) : Type 0 where
     pub console : s.at.console ++ bytes_on program m h ≡ (steps (passed_on program m h) s).at.console
-    pub stands : Stands handler user inside p input (after_bits resident (code_with handler user) input m h) (steps (passed_on program m h) s) (w + passed_on program m h) (cycles + length h) (asked + asked_in h)
+    pub stands : Standing (after m h) (steps (passed_on program m h) s) (w + passed_on program m h) (cycles + length h) (asked + asked_in h)
 
   -- the first of some steps
   steps_past : (b : Bool) (n : ℕ) (s : Watched) → steps (one b + n) s ≡ steps n (past user inside p input b s)
   steps_past true n s = ap (λ k. steps k s) (let e : 1 + n ≡ suc n = omega arith in e)
   steps_past false n s = ap (λ k. steps k s) (let e : 0 + n ≡ n = omega arith in e)
 
-  stands_at : (m : Machine) (s : Watched) (w w' cycles cycles' asked asked' : ℕ) → w ≡ w' → cycles ≡ cycles' → asked ≡ asked' → Stands handler user inside p input m s w cycles asked → Stands handler user inside p input m s w' cycles' asked'
+  stands_at : (m : Machine) (s : Watched) (w w' cycles cycles' asked asked' : ℕ) → w ≡ w' → cycles ≡ cycles' → asked ≡ asked'
+      → Standing m s w cycles asked → Standing m s w' cycles' asked'
   stands_at m s w w' cycles cycles' asked asked' e f g x =
-      subst (λ y. Stands handler user inside p input m s y cycles' asked') e
-      (subst (λ y. Stands handler user inside p input m s w y asked') f
-      (subst (λ y. Stands handler user inside p input m s w cycles y) g x))
+      subst (λ y. Standing m s y cycles' asked') e
+      (subst (λ y. Standing m s w y asked') f
+      (subst (λ y. Standing m s w cycles y) g x))
 
   -- where so many requests come at most
-  module _ (at_board : IsOnBoard p) (at_code : p.code ≡ 4096) (most : ℕ) (handled : 1 ≤ most → Handled handler user inside p input) where
+  module _ (at_board : IsOnBoard p) (at_code : p.code ≡ 4096) (most : ℕ) (handled : 1 ≤ most → Handled (setting handler user inside p input)) where
     -- one more bit in front
     module _ (b : Bool) (h : List Bool) (m : Machine) (s : Watched) (w cycles asked : ℕ) where
       abbrev n : Machine
-      n = cycled resident (code_with handler user) input m b
+      n = after_one m b
 
       abbrev s' : Watched
       s' = past user inside p input (passes m) s
@@ -110,9 +125,10 @@ module _ (handler_words user_words : List ℕ) (inside : ℕ → Bool) (p : Plac
       first : steps (one (passes m) + passed_on program n h) s ≡ steps (passed_on program n h) s'
       first = steps_past (passes m) (passed_on program n h) s
 
-      one_first : asked + asked_in (b ∷ h) ≤ most → Stands handler user inside p input m s w cycles asked
+      one_first : asked + asked_in (b ∷ h) ≤ most → Standing m s w cycles asked
           → (steps (passed_on program m (b ∷ h)) s).clean ≡ true
-          → (Stands handler user inside p input n s' (w + one (passes m)) (cycles + 1) (asked + one b) → (steps (passed_on program n h) s').clean ≡ true → Ran h n s' (w + one (passes m)) (cycles + 1) (asked + one b))
+          → (Standing n s' (w + one (passes m)) (cycles + 1) (asked + one b) → (steps (passed_on program n h) s').clean ≡ true
+          → Ran h n s' (w + one (passes m)) (cycles + 1) (asked + one b))
           → Ran (b ∷ h) m s w cycles asked
       one_first few st clean more = record {
         console =
@@ -120,8 +136,8 @@ module _ (handler_words user_words : List ℕ) (inside : ℕ → Bool) (p : Plac
             ∙ ap (λ x. x ++ bytes_on program n h) one_cycle.sends
             ∙ rest.console
             ∙ ap (λ (x : Watched). x.at.console) (sym first);
-        stands = subst (λ x. Stands handler user inside p input (after_bits resident (code_with handler user) input n h) x (w + passed_on program m (b ∷ h)) (cycles + length (b ∷ h)) (asked + asked_in (b ∷ h))) (sym first)
-            (stands_at (after_bits resident (code_with handler user) input n h) (steps (passed_on program n h) s') _ _ _ _ _ _
+        stands = subst (λ x. Standing (after n h) x (w + passed_on program m (b ∷ h)) (cycles + length (b ∷ h)) (asked + asked_in (b ∷ h))) (sym first)
+            (stands_at (after n h) (steps (passed_on program n h) s') _ _ _ _ _ _
             (let e : w + one (passes m) + passed_on program n h ≡ w + (one (passes m) + passed_on program n h) = omega arith in e)
             (let e : cycles + 1 + length h ≡ cycles + suc (length h) = omega arith in e)
             (let e : asked + one b + asked_in h ≡ asked + (one b + asked_in h) = omega arith in e)
@@ -132,17 +148,19 @@ module _ (handler_words user_words : List ℕ) (inside : ℕ → Bool) (p : Plac
           clean' = sym (ap (λ (x : Watched). x.clean) first) ∙ clean
 
           one_cycle : Cycled handler user inside p input m n (answer (code_with handler user) input m b).byte (passes m) b s w cycles asked
-          one_cycle = a_cycle handler user inside p input at_board at_code m b s w cycles asked (λ e. handled (omega (arith, e, few))) st (clean_first user inside p input (passed_on program n h) s' clean')
+          one_cycle = a_cycle handler user inside p input at_board at_code m b s w cycles asked (λ e. handled (omega (arith, e, few))) st
+              (clean_first user inside p input (passed_on program n h) s' clean')
 
           rest : Ran h n s' (w + one (passes m)) (cycles + 1) (asked + one b)
           rest = more one_cycle.stands clean'
 
-    pub runs : (h : List Bool) (m : Machine) (s : Watched) (w cycles asked : ℕ) → asked + asked_in h ≤ most → Stands handler user inside p input m s w cycles asked
+    pub runs : (h : List Bool) (m : Machine) (s : Watched) (w cycles asked : ℕ) → asked + asked_in h ≤ most
+        → Standing m s w cycles asked
         → (steps (passed_on program m h) s).clean ≡ true → Ran h m s w cycles asked
     runs [] m s w cycles asked few st clean = record {
       console = append-nil s.at.console;
-      stands = stands_at m s w _ cycles _ asked _ (let e : w ≡ w + 0 = omega arith in e) (let e : cycles ≡ cycles + 0 = omega arith in e) (let e : asked ≡ asked + 0 = omega arith in e) st;
+      stands = stands_at m s w _ cycles _ asked _ (no_more w) (no_more cycles) (no_more asked) st;
     }
     runs (b ∷ h) m s w cycles asked few st clean =
         one_first b h m s w cycles asked few st clean
-        (λ x c. runs h (cycled resident (code_with handler user) input m b) (past user inside p input (passes m) s) (w + one (passes m)) (cycles + 1) (asked + one b) (omega (arith, few)) x c)
+        (λ x c. runs h (after_one m b) (past user inside p input (passes m) s) (w + one (passes m)) (cycles + 1) (asked + one b) (omega (arith, few)) x c)

@@ -18,23 +18,20 @@ use Rattle.mx_turn.proofs.Steps.{after_one_more}
 use Rattle.mx_handler.specs.Returns.{with_shipped}
 use Rattle.mx_interrupts.specs.Laws.{IsCleanImage}
 use Rattle.mx_interrupts.specs.Saves.{before_cycle, takes_in, in_cycle, Saved, IsTurn26}
+use Rattle.mx_handler.proofs.Pauses.{Setting, Pause, IsLawful}
+use Rattle.mx_handler.proofs.Interrupted.{after_append, Interrupted, interrupted, InPause, pause_goes, pause_ends}
 use Rattle.mx_interrupts.proofs.Watched.{past, watched_at, watched_more, clean_for_fewer}
-use Rattle.mx_interrupts.proofs.InUser.{InUser}
-use Rattle.mx_interrupts.proofs.Pauses.{Pause, shipped_code, handler_pause, shipped_handled}
+use Rattle.mx_interrupts.proofs.Pauses.{InUserAfter, Steps, done_after, with_handler, lawful, shipped_code, handler_pause, shipped_handled}
 use Rattle.mx_interrupts.proofs.Cycles.{stands_start}
 use Rattle.mx_interrupts.proofs.Runs.{program, steps, Ran, runs, passed_few, length_bits, asked_few}
-use Rattle.mx_interrupts.proofs.Interrupted.{Interrupted, interrupted, InPause, pause_goes, pause_ends}
 
-after_append : (code : Code) (input : Option (List ℕ)) (g h : List Bool) (m : Machine) → after_bits resident code input m (g ++ h) ≡ after_bits resident code input (after_bits resident code input m g) h
-after_append code input [] h m = refl
-after_append code input (b ∷ g) h m = after_append code input g h (cycled resident code input m b)
-
-pub passed_more : (q : Program) (g : List Bool) (b : Bool) (m : Machine) → passed_on q m (g ++ b ∷ []) ≡ passed_on q m g + one (passes (after_bits resident (code_of q) q.input m g))
+pub passed_more : (q : Program) (g : List Bool) (b : Bool) (m : Machine)
+    → passed_on q m (g ++ b ∷ []) ≡ passed_on q m g + one (passes (after_bits resident (code_of q) q.input m g))
 passed_more q [] b m = omega arith
 passed_more q (a ∷ g) b m = let e = passed_more q g b (cycled resident (code_of q) q.input m a) in omega (arith, e)
 
 -- the bits of later cycles
-bits_more : (requests : List ℕ) (n k : ℕ) → (g : List Bool) × (bits requests (k + n) ≡ bits requests n ++ g)
+pub bits_more : (requests : List ℕ) (n k : ℕ) → (g : List Bool) × (bits requests (k + n) ≡ bits requests n ++ g)
 bits_more requests n zero = ([], ap (bits requests) (let e : zero + n ≡ n = omega arith in e) ∙ sym (append-nil (bits requests n)))
 bits_more requests n (suc k) =
     let r = bits_more requests n k in (
@@ -72,7 +69,8 @@ module _ (user_words data_words : List ℕ) (p : Place) (input : Option (List �
 
   pub ran_at : (n : ℕ) → n ≤ budget → Ran shipped user_words inside p input data_words (bits requests n) (start words) (watch_start p words) 0 0 0
   ran_at n h =
-      runs shipped user_words inside p input data_words at_board at_code (length requests) (λ e. shipped_handled user inside p input at_board) (bits requests n) (start words) (watch_start p words) 0 0 0
+      runs shipped user_words inside p input data_words at_board at_code (length requests) (λ e. shipped_handled user inside p input at_board)
+      (bits requests n) (start words) (watch_start p words) 0 0 0
       (let e = asked_few requests n in omega (arith, e)) (stands_start shipped_code user inside p input words at_code refl) (clean_at n h)
 
   step_one : (b : Bool) (s : Watched) → steps shipped user_words inside p input data_words (one b) s ≡ past user inside p input b s
@@ -81,41 +79,56 @@ module _ (user_words data_words : List ℕ) (p : Place) (input : Option (List �
 
   done_next : (n : ℕ) → done (suc n) ≡ past user inside p input (passes (before_cycle q requests n)) (done n)
   done_next n =
-      ap (λ k. steps shipped user_words inside p input data_words k (watch_start p words)) (passed_more q (bits requests n) (is_requested requests n) (start words))
+      ap (λ k. steps shipped user_words inside p input data_words k (watch_start p words))
+      (passed_more q (bits requests n) (is_requested requests n) (start words))
       ∙ watched_more user inside p input (passed n) (one (passes (before_cycle q requests n))) (watch_start p words)
       ∙ step_one (passes (before_cycle q requests n)) (done n)
 
   module _ (n : ℕ) (within : n < budget) (taken : takes_in q requests n ≡ true) where
+    abbrev x : Setting
+    x = with_handler user inside p input
+
+    laws : IsLawful x
+    laws = lawful shipped_code user inside p input at_board at_code
+
     abbrev m : Machine
     m = before_cycle q requests n
 
     abbrev m' : Machine
     m' = before_cycle q requests (suc n)
 
+    -- what is known before the cycle, in it, and once the handler has ended
+    abbrev known : Watched → Steps
+    known s = done_after s m.counts.interrupts
+
+    abbrev known_then : Steps
+    known_then = done_after (done (suc n)) (m.counts.interrupts + 1)
+
     is_next : m' ≡ cycled resident (with_shipped user) input m (is_requested requests n)
     is_next = after_one_more resident (with_shipped user) input (start words) (bits requests n) (is_requested requests n)
 
-    was : Interrupted user inside p input m' (done (suc n)) m.counts.interrupts
+    was : Interrupted x m' (known (done (suc n)))
     was =
-        subst (λ x. Interrupted user inside p input x (done (suc n)) m.counts.interrupts) (sym is_next)
-        (subst (λ x. Interrupted user inside p input (cycled resident (with_shipped user) input m (is_requested requests n)) x m.counts.interrupts) (sym (done_next n))
-        (interrupted user inside p input at_board at_code m (is_requested requests n) (done n) _ _ _ (ran_at n (omega (arith, within))).stands taken
-        (sym (ap (λ (x : Watched). x.clean) (done_next n)) ∙ clean_at (suc n) (omega (arith, within)))))
+        subst (λ y. Interrupted x y (known (done (suc n)))) (sym is_next)
+        (subst (λ y. Interrupted x (cycled resident (with_shipped user) input m (is_requested requests n)) (known y)) (sym (done_next n))
+        (interrupted x laws (shipped_handled user inside p input at_board) m (is_requested requests n) (known (done n)) _
+        (ran_at n (omega (arith, within))).stands.state taken
+        (sym (ap (λ (y : Watched). y.clean) (done_next n)) ∙ clean_at (suc n) (omega (arith, within)))))
 
     saves : Saved p m' (done (suc n)).at
-    saves = let f = was.in_user.follows in record {
-      chain = ap (λ (x : Machine). x.chain) was.is ∙ (λ k. chain_of (saved (f.alu k)) (saved (f.rf k)) (saved (f.fetch k)));
-      regs = ap (λ (x : Machine). x.core.regs) was.is ∙ f.regs;
-      md = ap (λ (x : Machine). x.core.md) was.is ∙ f.md;
-      mem = λ a u. ap (λ (x : Machine). x.core.mem a) was.is ∙ f.mem a u;
-      taken = ap (λ (x : Machine). x.core.taken) was.is ∙ f.taken;
+    saves = let f = was.in_user.in_user.follows in record {
+      chain = ap (λ (y : Machine). y.chain) was.is ∙ (λ k. chain_of (saved (f.alu k)) (saved (f.rf k)) (saved (f.fetch k)));
+      regs = ap (λ (y : Machine). y.core.regs) was.is ∙ f.regs;
+      md = ap (λ (y : Machine). y.core.md) was.is ∙ f.md;
+      mem = λ a u. ap (λ (y : Machine). y.core.mem a) was.is ∙ f.mem a u;
+      taken = ap (λ (y : Machine). y.core.taken) was.is ∙ f.taken;
     }
 
-    pause : Pause shipped_code user inside p input (entered was.c) 25 (done (suc n)) (m.counts.interrupts + 1)
-    pause = handler_pause user inside p input was.c (done (suc n)) m.counts.interrupts at_board was.in_user was.goes
+    pause : Pause x (entered was.c) 25 known_then
+    pause = handler_pause user inside p input at_board was.c (done (suc n)) m.counts.interrupts was.in_user was.goes
 
-    begins : InPause user inside p input (entered was.c) 25 (done (suc n)) (m.counts.interrupts + 1) pause m' 0
-    begins = record { goes = ap (λ (x : Machine). x.halted) was.is ∙ was.goes; is = was.is }
+    begins : InPause x (entered was.c) 25 known_then pause m' 0
+    begins = record { goes = ap (λ (y : Machine). y.halted) was.is ∙ was.goes; is = was.is }
 
     module _ (j : ℕ) (after : n < j) (turn : IsTurn26 m' (before_cycle q requests j)) where
       abbrev g : List Bool
@@ -127,20 +140,19 @@ module _ (user_words data_words : List ℕ) (p : Place) (input : Option (List �
           ∙ ap (λ h. after_bits resident (with_shipped user) input (start words) h) (bits_more requests (suc n) (j - suc n)).1
           ∙ after_append (with_shipped user) input (bits requests (suc n)) g (start words)
 
-      at_end : InPause user inside p input (entered was.c) 25 (done (suc n)) (m.counts.interrupts + 1) pause (before_cycle q requests j) 25
+      at_end : InPause x (entered was.c) 25 known_then pause (before_cycle q requests j) 25
       at_end =
-          subst (λ x. InPause user inside p input (entered was.c) 25 (done (suc n)) (m.counts.interrupts + 1) pause x 25) (sym reaches)
-          (pause_goes user inside p input (entered was.c) 25 (done (suc n)) (m.counts.interrupts + 1) pause g m' 0 25 begins
-          (sym (ap (λ (x : Machine). x.counts.fetches) reaches) ∙ turn.turns) (omega arith))
+          subst (λ y. InPause x (entered was.c) 25 known_then pause y 25) (sym reaches)
+          (pause_goes x (entered was.c) 25 known_then pause g m' 0 25 begins (sym (ap (λ (y : Machine). y.counts.fetches) reaches) ∙ turn.turns) (omega arith))
 
-      again : InUser shipped_code user inside p input (in_cycle q requests j) (done (suc n)) (m.counts.interrupts + 1)
-      again = pause_ends user inside p input (entered was.c) 25 (done (suc n)) (m.counts.interrupts + 1) pause (before_cycle q requests j) (is_requested requests j) at_end
+      again : InUserAfter p (in_cycle q requests j) (done (suc n)) (m.counts.interrupts + 1)
+      again = pause_ends x (entered was.c) 25 known_then pause laws (before_cycle q requests j) (is_requested requests j) at_end
 
       counted : (in_cycle q requests j).core.mem 0 ≡ (m'.core.mem 0 + 1) % 2 ^ 32
       counted =
           again.counted
           ∙ (let e : (m.counts.interrupts + 1) % 2 ^ 32 ≡ (m.counts.interrupts % 2 ^ 32 + 1) % 2 ^ 32 = omega arith in e)
-          ∙ ap (λ w. (w + 1) % 2 ^ 32) (sym (ap (λ (x : Machine). x.core.mem 0) was.is ∙ was.in_user.counted))
+          ∙ ap (λ w. (w + 1) % 2 ^ 32) (sym (ap (λ (y : Machine). y.core.mem 0) was.is ∙ was.in_user.counted))
 
     is_delay : (done (suc n)).at ≡ delay user p input words (passed (suc n))
     is_delay = watched_at user inside p input (passed (suc n)) (watch_start p words)
@@ -150,7 +162,7 @@ module _ (user_words data_words : List ℕ) (p : Place) (input : Option (List �
         → Follows p (in_cycle q requests j) (delay user p input words (passed (suc n))) × ((in_cycle q requests j).core.mem 0 ≡ (m'.core.mem 0 + 1) % 2 ^ 32))
     interrupt_saves = (
       subst (Saved p m') is_delay saves,
-      λ j after turn. (subst (Follows p (in_cycle q requests j)) is_delay (again j after turn).follows, counted j after turn),
+      λ j after turn. (subst (Follows p (in_cycle q requests j)) is_delay (again j after turn).in_user.follows, counted j after turn),
     )
 
 pub saves_all : (code_words data_words : List ℕ) (input : Option (List ℕ)) (requests : List ℕ) (budget : ℕ) (p : Place)

@@ -1,9 +1,10 @@
 -- Watched runs of the machine with delay slots.
-use Rattle.std.proofs.Common.{◌≡◌, ℕ, zero, suc, ◌+◌, ◌-◌, ◌≤◌, Bool, true, false, cond, not, ◌&&◌, List, Option, refl, sym, ap, ◌∙◌, arith, ⊎_elim}
+use Rattle.std.proofs.Common.{◌≡◌, ℕ, zero, suc, ◌+◌, ◌-◌, ◌≤◌, Bool, true, false, cond, not, ◌&&◌, List, ◌++◌, Option, None, refl, sym, ap, ◌∙◌, arith, ⊎_elim}
+use Rattle.std.specs.Prelude.{option_to_list}
 use Rattle.std.proofs.lemmas.Bool.{cond-true, cond-false, cases_Bool, and_parts}
 use Rattle.mx_isa.specs.declared.place.Place.{Place}
 use Rattle.mx_isa.specs.Views.{reads}
-use Rattle.mx_code.specs.Delay.{Code, does, delay_step, delay_for}
+use Rattle.mx_code.specs.Delay.{Code, does, Delay, delay_byte, delay_step, delay_for}
 use Rattle.mx_code.specs.Clean.{is_clean_step, loads_to, Watched, watch, watch_for}
 
 module _ (code : Code) (inside : ℕ → Bool) (p : Place) (input : Option (List ℕ)) where
@@ -47,6 +48,12 @@ module _ (code : Code) (inside : ℕ → Bool) (p : Place) (input : Option (List
       none_of : (b : Bool) → not b ≡ true → b ≡ false
       none_of b h = grind arith
 
+  -- the byte of a clean step
+  pub console_next : (s : Watched) → s.at.halted ≡ false → CleanStep s → (next s).at.console ≡ s.at.console ++ option_to_list (delay_byte code p input s.at)
+  console_next s goes step =
+      ap (λ (d : Delay). d.console) (step.at ∙ cond-false s.at.halted s.at _ goes)
+      ∙ ap (λ o. s.at.console ++ option_to_list o) (sym (cond-false s.at.halted None _ goes))
+
   -- what is watched is the machine with delay slots
   next_at : (s : Watched) → (next s).at ≡ delay_step code p input s.at
   next_at s = ⊎_elim
@@ -80,4 +87,6 @@ module _ (code : Code) (inside : ℕ → Bool) (p : Place) (input : Option (List
   pub clean_for_fewer : (m n : ℕ) (s : Watched) → m ≤ n → (watch_for code inside p input n s).clean ≡ true → (watch_for code inside p input m s).clean ≡ true
   clean_for_fewer m n s h c =
       clean_first (n - m) (watch_for code inside p input m s)
-      (sym (ap (λ (x : Watched). x.clean) (watched_more m (n - m) s)) ∙ ap (λ k. (watch_for code inside p input k s).clean) (let e : m + (n - m) ≡ n = omega arith in e) ∙ c)
+      (sym (ap (λ (x : Watched). x.clean) (watched_more m (n - m) s))
+      ∙ ap (λ k. (watch_for code inside p input k s).clean) (let e : m + (n - m) ≡ n = omega arith in e)
+      ∙ c)

@@ -4,12 +4,10 @@ pub mod Plain
 pub mod Frame
 pub mod InTask
 pub mod Pauses
-pub mod Phases
 pub mod Cycles
 pub mod Runs
 pub mod Two
 pub mod Images
-pub mod Interrupted
 pub mod Changes
 pub mod Driven
 pub mod Times

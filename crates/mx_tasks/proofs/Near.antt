@@ -1,18 +1,16 @@
 -- Branches of few padded blocks reach their targets.
-use Rattle.std.proofs.Common.{◌≡◌, ℕ, ◌+◌, ◌*◌, ◌≤◌, Bool, true, false, cond, List, [], ◌∷◌, length, map, sum, Option, Some, None, refl, sym, ap, ◌∙◌, arith}
+use Rattle.std.proofs.Common.{◌≡◌, ℕ, ◌+◌, ◌≤◌, Bool, true, false, cond, List, [], ◌∷◌, length, map, sum, Option, Some, None, refl, sym, ap, ◌∙◌, arith}
 use Rattle.std.proofs.lemmas.Bool.{cond-true}
 use Rattle.std.proofs.lemmas.Bool.Decides.{nat_tests}
 use Rattle.std.proofs.lemmas.List.Sums.{sum_by-cons}
 use Rattle.std.proofs.lemmas.Option.{none-some}
-use Rattle.mx_isa.specs.declared.Place.{Place}
 use Rattle.mx_source.specs.SourceValue.{SourceValue}
 use Rattle.mx_blocks.specs.declared.block.Block.{Block}
 use Rattle.mx_blocks.specs.declared.block.Plan.{Plan}
-use Rattle.mx_blocks.specs.Leaders.{size}
 use Rattle.mx_validate.specs.Padded.{padded_place}
 use Rattle.mx_squash.specs.Copies.{reaches}
 use Rattle.mx_layout.specs.Layout.{has_statement, blocks_in}
-use Rattle.mx_layout.specs.Overlong.{Overlong, padded_size, padded_link, branch_target, overlong_to, or_else, overlong_from, overlong, IsTooLong}
+use Rattle.mx_layout.specs.Overlong.{padded_size, padded_link, branch_target, overlong_to, or_else, overlong_from}
 use Rattle.mx_layout.proofs.Sizes.{padded_whole, padded_sizes_short, covered}
 use Rattle.mx_tasks.specs.Shared.{ShortSourcesReach}
 
@@ -58,4 +56,5 @@ short_sources_reach Proposes source place found few h =
     let short = padded_sizes_short blocks in
     let all = covered source 0 (length source.statements) blocks h.layout.blocks in
     none-some found
-    (sym (none_from source place.code (place.code + words_of blocks) (omega arith) (padded_link place.code blocks) (link_near place.code blocks) place.code blocks (omega arith) (omega arith)) ∙ h.is)
+    (sym (none_from source place.code (place.code + words_of blocks) (omega arith)
+    (padded_link place.code blocks) (link_near place.code blocks) place.code blocks (omega arith) (omega arith)) ∙ h.is)

@@ -11,7 +11,8 @@ use Rattle.mx_link.specs.Linked.{link_map, linked_code}
 use Rattle.mx_link.proofs.Sizes.{code_end}
 
 -- three words a statement
-pub few_words : (source : SourceValue) (place : Place) (sites : List Site) → IsLayout Valid source place sites → length (linked_code from_target source place sites) ≤ 3 * length source.statements
+pub few_words : (source : SourceValue) (place : Place) (sites : List Site) → IsLayout Valid source place sites
+    → length (linked_code from_target source place sites) ≤ 3 * length source.statements
 few_words source place sites h =
     let end = code_end from_target (link_map place sites) source.statements place.code sites in
     let short = end_short place.code sites h.plans in

@@ -11,7 +11,8 @@ pub returns-clause-first : goal.returns-clause-first
 returns-clause-first g c = λ p s runs before.
     let reqs = c.args.requests.now in
     let i = c.args.cycle in
-    let answered : c.cycle-cycled.result ≡ cycled_at p reqs i = c.cycle-cycled.ensures.answer p (bits reqs i) s ∙ ap (answer_after p (bits reqs i)) c.wants.ensures in
+    let answered : c.cycle-cycled.result ≡ cycled_at p reqs i =
+    c.cycle-cycled.ensures.answer p (bits reqs i) s ∙ ap (answer_after p (bits reqs i)) c.wants.ensures in
     c.in_ok-push_for.ensures.first
     ∙ ap (λ (r : Cycled). c.args.first.now.items ++ cond c.args.first_current (option_to_list r.byte) []) answered
     ∙ ap (λ l. l ++ cond c.args.first_current (option_to_list (cycled_at p reqs i).byte) []) before
@@ -21,7 +22,8 @@ pub returns-clause-second : goal.returns-clause-second
 returns-clause-second g c = λ p s runs before.
     let reqs = c.args.requests.now in
     let i = c.args.cycle in
-    let answered : c.cycle-cycled.result ≡ cycled_at p reqs i = c.cycle-cycled.ensures.answer p (bits reqs i) s ∙ ap (answer_after p (bits reqs i)) c.wants.ensures in
+    let answered : c.cycle-cycled.result ≡ cycled_at p reqs i =
+    c.cycle-cycled.ensures.answer p (bits reqs i) s ∙ ap (answer_after p (bits reqs i)) c.wants.ensures in
     c.in_ok-push_for.ensures.second
     ∙ ap (λ (r : Cycled). c.args.second.now.items ++ cond c.args.first_current [] (option_to_list r.byte)) answered
     ∙ ap (λ l. l ++ cond c.args.first_current [] (option_to_list (cycled_at p reqs i).byte)) before

@@ -13,7 +13,8 @@ returns-then-cycled-clause-halted g c = λ p s.
     let i = c.loop-cycle.cycle in
     let inv = c.loop-cycle.invariant.run p s in
     let within : suc i ≤ c.args.budget = omega arith in
-    let h : (state_at p reqs (suc i)).halted ≡ true = sym (ap (λ (r : Cycled). r.halted) (c.in_ok-cycled.ensures.answer p inv.0) ∙ next_halted p reqs i) ∙ c.if-cycled.true in
+    let h : (state_at p reqs (suc i)).halted ≡ true =
+    sym (ap (λ (r : Cycled). r.halted) (c.in_ok-cycled.ensures.answer p inv.0) ∙ next_halted p reqs i) ∙ c.if-cycled.true in
     sym (ap (λ (m : Machine). m.halted) (state_still p reqs (suc i) h c.args.budget within) ∙ h)
 
 pub returns-then-cycled-clause-first : goal.returns-then-cycled-clause-first
@@ -22,7 +23,8 @@ returns-then-cycled-clause-first g c = λ p s.
     let i = c.loop-cycle.cycle in
     let inv = c.loop-cycle.invariant.run p s in
     let within : suc i ≤ c.args.budget = omega arith in
-    let h : (state_at p reqs (suc i)).halted ≡ true = sym (ap (λ (r : Cycled). r.halted) (c.in_ok-cycled.ensures.answer p inv.0) ∙ next_halted p reqs i) ∙ c.if-cycled.true in
+    let h : (state_at p reqs (suc i)).halted ≡ true =
+    sym (ap (λ (r : Cycled). r.halted) (c.in_ok-cycled.ensures.answer p inv.0) ∙ next_halted p reqs i) ∙ c.if-cycled.true in
     c.in_ok-cycled.ensures.first p inv.0 inv.3 inv.1 ∙ sym (sent_still p reqs (suc i) h true c.args.budget within)
 
 pub returns-then-cycled-clause-second : goal.returns-then-cycled-clause-second
@@ -31,7 +33,8 @@ returns-then-cycled-clause-second g c = λ p s.
     let i = c.loop-cycle.cycle in
     let inv = c.loop-cycle.invariant.run p s in
     let within : suc i ≤ c.args.budget = omega arith in
-    let h : (state_at p reqs (suc i)).halted ≡ true = sym (ap (λ (r : Cycled). r.halted) (c.in_ok-cycled.ensures.answer p inv.0) ∙ next_halted p reqs i) ∙ c.if-cycled.true in
+    let h : (state_at p reqs (suc i)).halted ≡ true =
+    sym (ap (λ (r : Cycled). r.halted) (c.in_ok-cycled.ensures.answer p inv.0) ∙ next_halted p reqs i) ∙ c.if-cycled.true in
     c.in_ok-cycled.ensures.second p inv.0 inv.3 inv.2 ∙ sym (sent_still p reqs (suc i) h false c.args.budget within)
 
 pub returns-then-cycled-clause-stands : goal.returns-then-cycled-clause-stands
@@ -40,7 +43,8 @@ returns-then-cycled-clause-stands g c = λ p s.
     let i = c.loop-cycle.cycle in
     let inv = c.loop-cycle.invariant.run p s in
     let within : suc i ≤ c.args.budget = omega arith in
-    let h : (state_at p reqs (suc i)).halted ≡ true = sym (ap (λ (r : Cycled). r.halted) (c.in_ok-cycled.ensures.answer p inv.0) ∙ next_halted p reqs i) ∙ c.if-cycled.true in
+    let h : (state_at p reqs (suc i)).halted ≡ true =
+    sym (ap (λ (r : Cycled). r.halted) (c.in_ok-cycled.ensures.answer p inv.0) ∙ next_halted p reqs i) ∙ c.if-cycled.true in
     (bits reqs (suc i), c.in_ok-cycled.ensures.stands p inv.0, sym (state_still p reqs (suc i) h c.args.budget within))
 
 pub loop-cycle-preserved : goal.loop-cycle-preserved
