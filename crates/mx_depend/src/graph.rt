@@ -96,7 +96,7 @@ fn depends(insts: &[Inst], x: usize, y: usize, input: bool) -> bool
 }
 
 /// The mask with one more number.
-fn with_bit(mask: u64, x: usize) -> u64
+pub fn with_bit(mask: u64, x: usize) -> u64
     requires { x < 64 }
     ensures { (z : ℕ) → has_bit result z ≡ (z == x || has_bit mask z) }
 {

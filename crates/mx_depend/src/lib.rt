@@ -4,5 +4,5 @@
 mod graph;
 mod independence;
 
-pub use graph::Graph;
+pub use graph::{Graph, with_bit};
 pub use independence::{feeds, independent};

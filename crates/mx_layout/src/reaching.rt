@@ -2,13 +2,13 @@
 ghost use Rattle.std.specs.Prelude.{◌≡◌, ◌≤◌, ◌<◌, ◌+◌, ◌*◌, ◌^◌, ℕ, None, OnOk, IfErr, map, sum, length, slice_index};
 ghost use Rattle.mx_source.specs.SourceValue.{IsSource};
 ghost use Rattle.mx_blocks.specs.Leaders.{AreBlocks, IsBlockOf};
-ghost use Rattle.mx_squash.specs.Copies.{reaches};
 ghost use Rattle.mx_layout.specs.Overlong.{padded_link, padded_size, branch_target, overlong_to, overlong_from, IsReported};
 
 use crate::LinkError;
 use crate::addresses::{links_of, padded_sizes};
 use mx_blocks::{Block, End};
 use mx_source::Source;
+use mx_squash::reaches;
 use mx_validate::padded;
 use std::alloc::Global;
 
@@ -68,7 +68,7 @@ fn check_branch(source: &Source, at: u32, block: &Block, links: &[u32]) -> Resul
         Some(target) => {
             let from = at + u32::from(padded(block).place);
             let to = links[target as usize];
-            if reaches(from, to) {
+            if reaches(from.into(), to.into()) {
                 return Ok(());
             }
             let line = lines[block.first as usize + block.insts.len() - 1];
@@ -86,12 +86,4 @@ fn branch_target(end: End) -> Option<u32>
         End::Branches { target } => Some(target),
         End::Falls | End::Halts | End::Calls { .. } | End::Jumps => None,
     }
-}
-
-/// Whether a branch at an address reaches another.
-fn reaches(from: u32, to: u32) -> bool
-    ensures { result ≡ reaches from to }
-{
-    let (from, to) = (u64::from(from), u64::from(to));
-    to <= from + 32_767 && from <= to + 32_768
 }

@@ -8,7 +8,7 @@ ghost use Rattle.mx_validate.specs.Padded.{insts_of, body_count};
 ghost use Rattle.mx_reorg.specs.Greedy.{Stands, LeavesApart, IsReady, IsCandidate, IsBetter, Fills, AllStand, loads};
 
 use mx_blocks::{Block, End, Item};
-use mx_depend::{Graph, feeds};
+use mx_depend::{Graph, feeds, with_bit};
 use mx_isa::Inst;
 
 /// The best candidate behind these items, or a no-op where there is none.
@@ -170,21 +170,13 @@ fn with_item(block: &Block, mask: u64, item: Item) -> u64
         Item::Op(k) => {
             let count = block.insts.len();
             if (k as usize) < count {
-                with_bit(mask, k)
+                with_bit(mask, k.into())
             } else {
                 mask
             }
         }
         Item::Nop => mask,
     }
-}
-
-/// The mask with one more number.
-fn with_bit(mask: u64, x: u8) -> u64
-    requires { x < 64 }
-    ensures { (k : ℕ) → has_bit result k ≡ (k == x || has_bit mask k) }
-{
-    mask | 1 << x
 }
 
 /// Whether the mask has the number.

@@ -240,7 +240,7 @@ fn room_for(end: End, stays: bool, first: bool, second: bool) -> u8
 }
 
 /// Whether a branch at an address reaches another.
-fn reaches(from: u64, to: u64) -> bool
+pub fn reaches(from: u64, to: u64) -> bool
     requires from { from < 2 ^ 40 }
     requires to { to < 2 ^ 40 }
     ensures { result ≡ reaches from to }

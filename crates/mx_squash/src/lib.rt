@@ -4,4 +4,4 @@
 mod copying;
 mod search;
 
-pub use copying::{Copied, copies};
+pub use copying::{Copied, copies, reaches};
