@@ -6,10 +6,11 @@ use Rattle.std.proofs.lemmas.Bool.Decides.{nat_tests}
 use Rattle.mx_source.specs.declared.statement.Statement.{Statement}
 use Rattle.mx_source.specs.Labels.{is_labelled}
 use Rattle.mx_source.specs.SourceValue.{SourceValue}
-use Rattle.mx_blocks.specs.Leaders.{ends_there, gap, is_leader}
+use Rattle.mx_blocks.specs.declared.block.Block.{Block}
+use Rattle.mx_blocks.specs.Leaders.{ends_there, gap, is_leader, size, IsBlockOf}
 use Rattle.mx_blocks.specs.Splitting.{Begins, LeadersBegin}
 use Rattle.mx_blocks.specs.Splitting.Begins.{First, Labelled, Behind, Far}
-use Rattle.mx_blocks.proofs.Splits.{gap_grows}
+use Rattle.mx_blocks.proofs.Splits.{gap_small, gap_grows}
 
 is_zero : (n : ℕ) → eqb n 0 ≡ true → n ≡ 0
 is_zero n h = grind (arith, nat_tests)
@@ -30,15 +31,25 @@ back labelled statements (suc k) j i e h =
     omega arith
 
 -- behind a leader a gap counts the statements as long as none of them leads
-forth : (source : SourceValue) (j d : ℕ) → is_leader source j ≡ true → ((k : ℕ) → j < k → k ≤ j + d → is_leader source k ≡ false) → gap (is_labelled source.labels) source.statements (j + d) ≡ d
-forth source j zero leader quiet =
+pub behind_leader : (source : SourceValue) (j d : ℕ) → is_leader source j ≡ true → ((k : ℕ) → j < k → k ≤ j + d → is_leader source k ≡ false) → gap (is_labelled source.labels) source.statements (j + d) ≡ d
+behind_leader source j zero leader quiet =
     let at : j ≡ j + 0 = omega arith in
     subst (λ n. gap (is_labelled source.labels) source.statements n ≡ 0) at (is_zero _ leader)
-forth source j (suc d) leader quiet =
-    let before = forth source j d leader (λ k low high. quiet k low (omega arith)) in
+behind_leader source j (suc d) leader quiet =
+    let before = behind_leader source j d leader (λ k low high. quiet k low (omega arith)) in
     let next : suc (j + d) ≡ j + suc d = omega arith in
     let apart = not_zero _ (quiet (suc (j + d)) (omega arith) (omega arith)) in
     subst (λ n. gap (is_labelled source.labels) source.statements n ≡ suc d) next (gap_grows (is_labelled source.labels) source.statements (j + d) apart ∙ ap suc before)
+
+-- a block has at most 64 statements
+pub block_small : (source : SourceValue) (block : Block) → IsBlockOf source block → size block ≤ 64
+block_small source block is =
+    let some = is.some in
+    let last = behind_leader source block.first (size block - 1) is.leader (λ k low high.
+    (let at : block.first + (k - block.first) ≡ k = omega arith in
+    subst (λ n. is_leader source n ≡ false) at (is.inner (k - block.first) (omega arith) (omega arith)))) in
+    let small = gap_small (is_labelled source.labels) source.statements (block.first + (size block - 1)) in
+    omega arith
 
 -- what makes a gap 0
 why : (a b : Bool) (g : ℕ) → cond (a || (b || eqb g 63)) 0 (suc g) ≡ 0 → (a ≡ true) ⊎ ((b ≡ true) ⊎ (g ≡ 63))
@@ -87,7 +98,7 @@ is_begun source (suc m) (Behind before at e) =
     leader_where source m (inr (inl (subst (λ n. ends_there (slice_get source.statements n) ≡ true) same e)))
 is_begun source (suc m) (Far j at leader quiet) =
     let same : j + 63 ≡ m = omega arith in
-    let full = forth source j 63 leader (λ k low high. quiet k low (omega arith)) in
+    let full = behind_leader source j 63 leader (λ k low high. quiet k low (omega arith)) in
     leader_where source m (inr (inr (subst (λ n. gap (is_labelled source.labels) source.statements n ≡ 63) same full)))
 
 pub leaders_begin : LeadersBegin
