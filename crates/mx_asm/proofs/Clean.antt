@@ -108,7 +108,8 @@ past_magnitude line at found h = by_prefix (has_base_prefix line at) refl h
     by_prefix false is h = past_digits line 10 at found (omega arith) h
 
 -- what a token that was found says
-found_number : (negative : Bool) (at : ℕ) (o : Option (ℕ × ℕ)) (t : Token) → number_token negative at o ≡ Ok t → (found : ℕ × ℕ) × (o ≡ Some found) × (t.end ≡ found.0) × (is_end t.kind ≡ false)
+found_number : (negative : Bool) (at : ℕ) (o : Option (ℕ × ℕ)) (t : Token) → number_token negative at o ≡ Ok t
+    → (found : ℕ × ℕ) × (o ≡ Some found) × (t.end ≡ found.0) × (is_end t.kind ≡ false)
 found_number negative at None t h = cc
 found_number negative at (Some found) t h = (found, refl, ap (λ r. end_of r) (sym h), ap (λ r. ends r) (sym h))
   where
@@ -129,7 +130,8 @@ kind_ends (Some kind) = is_end kind
 kind_ends None = false
 
 a_mark : (comma opens closes hash colon : Bool) (kind : Kind)
-    → cond comma (Some kinds.Comma) (cond opens (Some kinds.Open) (cond closes (Some kinds.Close) (cond hash (Some kinds.Hash) (cond colon (Some kinds.Colon) None)))) ≡ Some kind
+    → cond comma (Some kinds.Comma)
+    (cond opens (Some kinds.Open) (cond closes (Some kinds.Close) (cond hash (Some kinds.Hash) (cond colon (Some kinds.Colon) None)))) ≡ Some kind
     → (comma || opens || closes || hash || colon ≡ true) × (is_end kind ≡ false)
 unfolding kind_ends
 a_mark true opens closes hash colon kind h = (refl, ap kind_ends (sym h))
@@ -168,7 +170,8 @@ clean_number : (line : List ℕ) (at : ℕ) (t : Token) → number_at line at �
 unfolding number_at
 clean_number line at t h = by_sign (eqb (slice_index line at) 45) refl h
   where
-    by_sign : (minus : Bool) → eqb (slice_index line at) 45 ≡ minus → cond minus (number_token true at (magnitude_at line (at + 1))) (number_token false at (magnitude_at line at)) ≡ Ok t → Clean line at t
+    by_sign : (minus : Bool) → eqb (slice_index line at) 45 ≡ minus
+        → cond minus (number_token true at (magnitude_at line (at + 1))) (number_token false at (magnitude_at line at)) ≡ Ok t → Clean line at t
     by_sign true is h =
         let n = found_number true at (magnitude_at line (at + 1)) t h in
         goes line at n.0.0 t n.2 n.3 (past_magnitude line (at + 1) n.0 n.1 ∙ past_one line at (minus_plain _ is))
@@ -192,10 +195,13 @@ clean_end line at h =
 
 clean_from : (line : List ℕ) (at : ℕ) (t : Token) → token_from line at ≡ Ok t → Clean line at t
 unfolding token_from end_of ends_of
-clean_from line at t h = by_byte (ends_at line at) (is_allowed (slice_index line at)) (begins_name (slice_index line at)) (mark_of (slice_index line at)) refl refl h
+clean_from line at t h = by_byte (ends_at line at) (is_allowed (slice_index line at)) (begins_name (slice_index line at))
+    (mark_of (slice_index line at)) refl refl h
   where
     by_byte : (ended allowed begins : Bool) (mark : Option Kind) → ends_at line at ≡ ended → mark_of (slice_index line at) ≡ mark
-        → cond ended (Ok (token kinds.End at at)) (cond (not allowed) (Err (faults.BadByte at)) (cond begins (Ok (token kinds.Name at (at + prefix_len continues_name (drop at line)))) (mark_or_number_at line at mark))) ≡ Ok t
+        → cond ended (Ok (token kinds.End at at))
+        (cond (not allowed) (Err (faults.BadByte at))
+        (cond begins (Ok (token kinds.Name at (at + prefix_len continues_name (drop at line)))) (mark_or_number_at line at mark))) ≡ Ok t
         → Clean line at t
     by_byte true allowed begins mark is m h = record {
       plain = ap (λ k. has_bad_byte (drop k line)) (ap end_of (sym h));
@@ -203,9 +209,11 @@ clean_from line at t h = by_byte (ends_at line at) (is_allowed (slice_index line
     }
     by_byte false false begins mark is m h = cc
     by_byte false true true mark is m h =
-        goes line at (at + prefix_len continues_name (drop at line)) t (ap end_of (sym h)) (ap ends_of (sym h)) (past_front continues_name (λ b k. clean_plain b (goes_on_clean b k)) line at)
+        goes line at (at + prefix_len continues_name (drop at line)) t (ap end_of (sym h)) (ap ends_of (sym h))
+        (past_front continues_name (λ b k. clean_plain b (goes_on_clean b k)) line at)
     by_byte false true false (Some kind) is m h =
-        let mark = a_mark (eqb (slice_index line at) 44) (eqb (slice_index line at) 91) (eqb (slice_index line at) 93) (eqb (slice_index line at) 35) (eqb (slice_index line at) 58) kind m in
+        let mark = a_mark (eqb (slice_index line at) 44) (eqb (slice_index line at) 91) (eqb (slice_index line at) 93) (eqb (slice_index line at) 35)
+        (eqb (slice_index line at) 58) kind m in
         goes line at (at + 1) t (ap end_of (sym h)) (ap ends_of (sym h) ∙ mark.1) (past_one line at (mark_bytes (slice_index line at) mark.0))
     by_byte false true false None is m h = clean_number line at t h
 

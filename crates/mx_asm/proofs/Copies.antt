@@ -18,7 +18,8 @@ behind_it first (e ∷ es) zero k v h at = let q : e ≡ (k, v) = cc in ap (λ p
 behind_it first (e ∷ es) (suc i) k v h at = behind_it first es i k v h.1 at
 
 -- a key is not among those before it
-pub absent_before : {V : Type 0} (es : List (Bor (List ℕ) × V)) (i : ℕ) (k : Bor (List ℕ)) (v : V) → IsDistinct same_key (keys es) → slice_get es i ≡ Some (k, v)
+pub absent_before : {V : Type 0} (es : List (Bor (List ℕ) × V)) (i : ℕ) (k : Bor (List ℕ)) (v : V) → IsDistinct same_key (keys es)
+    → slice_get es i ≡ Some (k, v)
     → lookup (λ x. same_key k x) (take i es) ≡ None
 unfolding IsDistinct
 absent_before [] zero k v h at = refl

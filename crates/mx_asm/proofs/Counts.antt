@@ -36,7 +36,8 @@ values_length (v ∷ []) us h =
     let e : [] ≡ r.0 = cc in
     omega (arith, r.2, ap length e)
 values_length (v ∷ separator ∷ ws) us h =
-    let r = cons_length v (value_words ws) us (cond_ok (is_value v) (cons v (value_words ws)) _ us (cond_ok (is_comma separator) (before_values v (value_words ws)) _ us h)) in
+    let r = cons_length v (value_words ws) us
+    (cond_ok (is_value v) (cons v (value_words ws)) _ us (cond_ok (is_comma separator) (before_values v (value_words ws)) _ us h)) in
     omega (arith, r.2, values_length ws r.0 r.1)
 
 bind_ok : {A B : Type 0} (r : Result A Fault) (f : A → Result B Fault) (y : B) → (r >>= f) ≡ Ok y → (x : A) × (r ≡ Ok x) × (f x ≡ Ok y)
@@ -64,7 +65,8 @@ code_counts (Ok st) section.Data e h = cc
 
 data_counts : (n : ℕ) (vs : List Value) (s : Section) (e : Effect) → length vs ≡ n → in_data s vs ≡ Ok e → Counts 0 n e
 data_counts n vs section.Code e long h = cc
-data_counts n vs section.Data e long h = let q : Data vs ≡ e = cc in subst (Counts 0 n) q (record { statements = refl; words = ap length (append-nil vs) ∙ long })
+data_counts n vs section.Data e long h = let q : Data vs ≡ e = cc in subst (Counts 0 n) q
+    (record { statements = refl; words = ap length (append-nil vs) ∙ long })
 
 alone_counts : (e' e : Effect) (ws : List Word) → Counts 0 0 e' → without_operands e' ws ≡ Ok e → Counts 0 0 e
 alone_counts e' e [] c h = let q : e' ≡ e = cc in subst (Counts 0 0) q c
@@ -90,7 +92,8 @@ by_dot labels s true name ws e h = directed_counts labels s (directive_named nam
 by_dot labels s false name ws e h = code_counts (instruction labels name ws) s e h
 
 -- a statement adds as many statements and data words as it counts for
-pub effect_counts : (labels : Labels) (s : Section) (ws : List Word) (e : Effect) → effect_of labels s ws ≡ Ok e → Counts (instruction_count ws) (word_count ws) e
+pub effect_counts : (labels : Labels) (s : Section) (ws : List Word) (e : Effect) → effect_of labels s ws ≡ Ok e
+    → Counts (instruction_count ws) (word_count ws) e
 unfolding effect_of
 effect_counts labels s [] e h = let q : Nothing ≡ e = cc in subst (Counts 0 0) q (record { statements = refl; words = refl })
 effect_counts labels s (Name name ∷ ws) e h = by_dot labels s (is_dotted name) name ws e h

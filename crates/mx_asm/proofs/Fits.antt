@@ -58,16 +58,19 @@ rest_fits : (e : List ℕ × Label) (es : List (List ℕ × Label)) (count : ℕ
 rest_fits e es count (Code i) h = record { within = h.within; labelled = ap (λ b. names_index i e.1 || b) h.labelled ∙ or_true (names_index i e.1) }
 rest_fits e es count (Data a) h = h
 
-pub found_fits : (labels : List (List ℕ × Label)) (name : List ℕ) (count : ℕ) → LabelsFit count labels → IfSome (label_named labels name) (NamedFits labels count)
+pub found_fits : (labels : List (List ℕ × Label)) (name : List ℕ) (count : ℕ) → LabelsFit count labels
+    → IfSome (label_named labels name) (NamedFits labels count)
 found_fits [] name count h = tt
 found_fits (e ∷ es) name count h =
     if_some_cond (NamedFits (e ∷ es) count) (bytes_eq name e.0) e.1 (label_named es name)
     (first_fits e es count e.1 refl (All-head (λ p. LabelFits count p.1) e es h))
-    (if_some_weaker (NamedFits es count) (NamedFits (e ∷ es) count) (label_named es name) (rest_fits e es count) (found_fits es name count (All-tail (λ p. LabelFits count p.1) e es h)))
+    (if_some_weaker (NamedFits es count) (NamedFits (e ∷ es) count) (label_named es name) (rest_fits e es count)
+    (found_fits es name count (All-tail (λ p. LabelFits count p.1) e es h)))
 
 if_ok_or : {A : Type 0} (P : A → Type 0) (o : Option A) (fault : Fault) → IfSome o P → IfOk (ok_or o fault) P
 if_ok_or P None fault h = tt
 if_ok_or P (Some x) fault h = h
 
-pub any_fits : (labels : List (List ℕ × Label)) (name : List ℕ) (count : ℕ) (fault : Fault) → LabelsFit count labels → IfOk (ok_or (label_named labels name) fault) (NamedFits labels count)
+pub any_fits : (labels : List (List ℕ × Label)) (name : List ℕ) (count : ℕ) (fault : Fault) → LabelsFit count labels
+    → IfOk (ok_or (label_named labels name) fault) (NamedFits labels count)
 any_fits labels name count fault h = if_ok_or (NamedFits labels count) (label_named labels name) fault (found_fits labels name count h)

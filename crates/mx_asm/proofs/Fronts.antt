@@ -23,8 +23,10 @@ prepend-cons front x (Ok xs) = ap Ok (sym (append_assoc front (x ∷ []) xs))
 prepend-cons front x (Err fault) = refl
 
 -- one more value is read
-pub values_step : (labels : Labels) (words : List Lent) (i : ℕ) (d : Lent) (front : List Value) (v : Value) → i < length words → value_of labels (word (get_or words i d)) ≡ Ok v
+pub values_step : (labels : Labels) (words : List Lent) (i : ℕ) (d : Lent) (front : List Value) (v : Value) → i < length words
+    → value_of labels (word (get_or words i d)) ≡ Ok v
     → prepend front (values_of labels (map word (drop i words))) ≡ prepend (front ++ v ∷ []) (values_of labels (map word (drop (i + 1) words)))
 values_step labels words i d front v lt e =
-    ap (prepend front) (at_drop_more (λ ws. values_of labels (map word ws)) words i d lt ∙ ap (λ r. r >>= λ v. cons v (values_of labels (map word (drop (i + 1) words)))) e)
+    ap (prepend front) (at_drop_more (λ ws. values_of labels (map word ws)) words i d lt
+    ∙ ap (λ r. r >>= λ v. cons v (values_of labels (map word (drop (i + 1) words)))) e)
     ∙ prepend-cons front v (values_of labels (map word (drop (i + 1) words)))

@@ -40,18 +40,22 @@ least_not_repeated repeated (Ok e) rest h = (cond_none repeated _ rest h).0
 least_not_repeated repeated (Err fault) rest h = cc
 
 -- a line without a fault defines no label again
-pub not_repeated : (labels : Labels) (end : ℕ) (p : Position) (repeated : Bool) (long : ℕ) (r : Result (List Word) Fault) → words_fault labels end p repeated long r ≡ None → repeated ≡ false
+pub not_repeated : (labels : Labels) (end : ℕ) (p : Position) (repeated : Bool) (long : ℕ) (r : Result (List Word) Fault)
+    → words_fault labels end p repeated long r ≡ None → repeated ≡ false
 not_repeated labels end p repeated long (Err fault) h = cc
 not_repeated labels end p repeated long (Ok ws) h = least_not_repeated repeated (effect_of labels p.section (statement_words ws)) (layout_fault end p long ws) h
 
-not_full : (dotted many full long : Bool) → cond dotted (Some BadDirective) (cond many (Some TooManyInstructions) (cond full (Some DataFull) (cond long (Some LineTooLong) None))) ≡ None → full ≡ false
+not_full : (dotted many full long : Bool)
+    → cond dotted (Some BadDirective) (cond many (Some TooManyInstructions) (cond full (Some DataFull) (cond long (Some LineTooLong) None))) ≡ None
+    → full ≡ false
 not_full true many full long h = cc
 not_full false true full long h = cc
 not_full false false true long h = cc
 not_full false false false long h = refl
 
 -- a line without a fault has no data label past the end of memory
-not_past : (labels : Labels) (end : ℕ) (p : Position) (repeated : Bool) (long : ℕ) (r : Result (List Word) Fault) → words_fault labels end p repeated long r ≡ None → stands_past end p (words_or_none r) ≡ false
+not_past : (labels : Labels) (end : ℕ) (p : Position) (repeated : Bool) (long : ℕ) (r : Result (List Word) Fault)
+    → words_fault labels end p repeated long r ≡ None → stands_past end p (words_or_none r) ≡ false
 not_past labels end p repeated long (Err fault) h = cc
 not_past labels end p repeated long (Ok ws) h =
     let layout = least_none repeated (effect_of labels p.section (statement_words ws)) (layout_fault end p long ws) h in
@@ -62,16 +66,19 @@ past_fits : (end : ℕ) (address : ℕ) (labelled : Bool) → labelled ≡ true 
 past_fits end address true l h = grind (arith, nat_tests)
 past_fits end address false l h = absurd (false≢true l)
 
-here_fits : (end count : ℕ) (s : Section) (index address : ℕ) (labelled : Bool) → end ≤ 65536 → 256 ≤ address → index ≤ count → is_data s && labelled && nat_le end address ≡ false → labelled ≡ true → LabelFits count (label_at s index address)
+here_fits : (end count : ℕ) (s : Section) (index address : ℕ) (labelled : Bool) → end ≤ 65536 → 256 ≤ address → index ≤ count
+    → is_data s && labelled && nat_le end address ≡ false → labelled ≡ true → LabelFits count (label_at s index address)
 here_fits end count section.Code index address labelled le low within h l = within
 here_fits end count section.Data index address labelled le low within h l = (low, omega (arith, past_fits end address labelled l h))
 
-dot_fits : (P : Label → Type 0) (labels : Labels) (l : Label) (name : List ℕ) (dotted known : Bool) → All (λ p. P p.1) labels → (dotted ≡ false → P l) → All (λ p. P p.1) (cond (dotted || known) labels (labels ++ (name, l) ∷ []))
+dot_fits : (P : Label → Type 0) (labels : Labels) (l : Label) (name : List ℕ) (dotted known : Bool) → All (λ p. P p.1) labels → (dotted ≡ false → P l)
+    → All (λ p. P p.1) (cond (dotted || known) labels (labels ++ (name, l) ∷ []))
 dot_fits P labels l name true known h new = h
 dot_fits P labels l name false true h new = h
 dot_fits P labels l name false false h new = All-push (λ p. P p.1) labels (name, l) h (new refl)
 
-pub define_fits : (P : Label → Type 0) (labels : Labels) (l : Label) (name : List ℕ) → All (λ p. P p.1) labels → (is_dotted name ≡ false → P l) → All (λ p. P p.1) (define labels l name)
+pub define_fits : (P : Label → Type 0) (labels : Labels) (l : Label) (name : List ℕ) → All (λ p. P p.1) labels → (is_dotted name ≡ false → P l)
+    → All (λ p. P p.1) (define labels l name)
 unfolding define
 define_fits P labels l name h new = dot_fits P labels l name (is_dotted name) (is_some (label_named labels name)) h new
 
@@ -83,9 +90,11 @@ or_true : (a b : Bool) → b ≡ true → a || b ≡ true
 or_true true b h = refl
 or_true false b h = h
 
-front_fits : (P : Label → Type 0) (labels : Labels) (l : Label) (ws : List Word) → All (λ p. P p.1) labels → (has_label ws ≡ true → P l) → All (λ p. P p.1) (define_front labels l ws)
+front_fits : (P : Label → Type 0) (labels : Labels) (l : Label) (ws : List Word) → All (λ p. P p.1) labels → (has_label ws ≡ true → P l)
+    → All (λ p. P p.1) (define_front labels l ws)
 front_fits P labels l (Name name ∷ Colon ∷ ws) h new =
-    front_fits P (define labels l name) l ws (define_fits P labels l name h (λ d. new (not_or (is_dotted name) (has_label ws) d))) (λ k. new (or_true (not (is_dotted name)) (has_label ws) k))
+    front_fits P (define labels l name) l ws (define_fits P labels l name h (λ d. new (not_or (is_dotted name) (has_label ws) d)))
+    (λ k. new (or_true (not (is_dotted name)) (has_label ws) k))
 front_fits P labels l _ h new = h
 
 pub index_grows : (lines : List (List ℕ)) (p : Position) → p.index ≤ (position_at_end p lines).index
@@ -97,12 +106,14 @@ pub address_grows : (p : Position) (ws : List Word) → 256 ≤ p.address → 25
 unfolding behind
 address_grows p ws h = omega arith
 
-pub labels_fit : (labels : Labels) (end : ℕ) (lines : List (List ℕ)) (p : Position) (earlier : Labels) (number : ℕ) → end ≤ 65536 → 256 ≤ p.address → first_fault labels end p earlier number lines ≡ None
+pub labels_fit : (labels : Labels) (end : ℕ) (lines : List (List ℕ)) (p : Position) (earlier : Labels) (number : ℕ) → end ≤ 65536 → 256 ≤ p.address
+    → first_fault labels end p earlier number lines ≡ None
     → LabelsFit (position_at_end p lines).index earlier → LabelsFit (position_at_end p lines).index (labels_from p earlier lines)
 labels_fit labels end [] p earlier number le low none fits = fits
 labels_fit labels end (line ∷ lines) p earlier number le low none fits =
     let ws = line_words line in
-    let two = found_none number (line_fault labels end p earlier line) (first_fault labels end (after p ws) (with_labels p earlier ws) (number + 1) lines) none in
+    let two = found_none number (line_fault labels end p earlier line)
+    (first_fault labels end (after p ws) (with_labels p earlier ws) (number + 1) lines) none in
     let past = not_past labels end p (repeats p earlier ws) (length line) (words_of line) two.0 in
     labels_fit labels end lines (after p ws) (with_labels p earlier ws) (number + 1) le (address_grows p ws low) two.1
     (front_fits (LabelFits (position_at_end p (line ∷ lines)).index) earlier (label_here p) ws fits

@@ -9,7 +9,8 @@ use Rattle.mx_asm.specs.Shapes.{word}
 use Rattle.mx_asm.specs.Instructions.{Labels}
 use Rattle.mx_asm.specs.Positions.{begins_label, first_name, define, define_front, is_defined, is_repeated}
 
-define_next : (labels : Labels) (l : Label) (ws : List Word) → begins_label ws ≡ true → define_front labels l ws ≡ define_front (define labels l (first_name ws)) l (drop 2 ws)
+define_next : (labels : Labels) (l : Label) (ws : List Word) → begins_label ws ≡ true
+    → define_front labels l ws ≡ define_front (define labels l (first_name ws)) l (drop 2 ws)
 define_next labels l (Name name ∷ Colon ∷ ws) h = refl
 define_next labels l _ h = absurd (false≢true h)
 
@@ -17,7 +18,8 @@ define_done : (labels : Labels) (l : Label) (ws : List Word) → begins_label ws
 define_done labels l (Name name ∷ Colon ∷ ws) h = absurd (false≢true (sym h))
 define_done labels l _ h = refl
 
-repeat_next : (labels : Labels) (l : Label) (ws : List Word) → begins_label ws ≡ true → is_repeated labels l ws ≡ is_defined labels (first_name ws) || is_repeated (define labels l (first_name ws)) l (drop 2 ws)
+repeat_next : (labels : Labels) (l : Label) (ws : List Word) → begins_label ws ≡ true
+    → is_repeated labels l ws ≡ is_defined labels (first_name ws) || is_repeated (define labels l (first_name ws)) l (drop 2 ws)
 repeat_next labels l (Name name ∷ Colon ∷ ws) h = refl
 repeat_next labels l _ h = absurd (false≢true h)
 
@@ -48,7 +50,8 @@ front_step' labels labels' all l ws name repeated found any begins first ls fs w
 pub front_step : (labels labels' all : Labels) (l : Label) (ws : List Lent) (name : List ℕ) (repeated found any : Bool) → begins_label (map word ws) ≡ true
     → name ≡ first_name (map word ws) → labels' ≡ define labels l name → found ≡ is_defined labels name
     → define_front labels l (map word ws) ≡ all → repeated || is_repeated labels l (map word ws) ≡ any
-    → (define_front labels' l (map word (take (length ws - 2) (drop 2 ws))) ≡ all) × ((repeated || found) || is_repeated labels' l (map word (take (length ws - 2) (drop 2 ws))) ≡ any)
+    → (define_front labels' l (map word (take (length ws - 2) (drop 2 ws))) ≡ all) × ((repeated || found) || is_repeated labels' l
+    (map word (take (length ws - 2) (drop 2 ws))) ≡ any)
 front_step labels labels' all l ws name repeated found any begins first ls fs whole answer =
     let left : take (length ws - 2) (drop 2 ws) ≡ drop 2 ws = take_rest ws 2 in
     rw left (front_step' labels labels' all l ws name repeated found any begins first ls fs whole answer)

@@ -13,7 +13,7 @@ pub mod Pieces
 pub mod PrintedLines
 pub mod PrintedTexts
 pub mod Readback
-pub mod Repeats
+pub mod Defining
 pub mod Spelled
 pub mod Spellings
 pub mod Tabled

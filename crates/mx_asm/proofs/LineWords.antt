@@ -27,7 +27,8 @@ one_more : (line : List ℕ) (front : List Word) (t : Token) (r : Result (List T
 one_more line front t (Ok ts) = ap Ok (sym (append_assoc front (word_at line t ∷ []) (map (word_at line) ts)))
 one_more line front t (Err fault) = refl
 
-step_tokens : (m : ℕ) (line : List ℕ) (at : ℕ) (t : Token) → next_token line at ≡ Ok t → is_end t.kind ≡ false → tokens_within (suc m) line at ≡ before t (tokens_within m line t.end)
+step_tokens : (m : ℕ) (line : List ℕ) (at : ℕ) (t : Token) → next_token line at ≡ Ok t → is_end t.kind ≡ false
+    → tokens_within (suc m) line at ≡ before t (tokens_within m line t.end)
 step_tokens m line at t e goes = rw (e, goes) refl
 
 end_tokens : (m : ℕ) (line : List ℕ) (at : ℕ) (t : Token) → next_token line at ≡ Ok t → is_end t.kind ≡ true → tokens_within (suc m) line at ≡ Ok []
@@ -103,7 +104,8 @@ unfolding words_of
 splits_not line h = no_words (has_bad_byte line) (words_at line (tokens_of line)) h
 
 -- the loop's step, where the token and its word have names of their own
-pub reads_push : (line : List ℕ) (front front' : List Word) (at at' : ℕ) (t : Token) (w : Word) → Reads line front at → next_token line at ≡ Ok t → is_end t.kind ≡ false
+pub reads_push : (line : List ℕ) (front front' : List Word) (at at' : ℕ) (t : Token) (w : Word) → Reads line front at → next_token line at ≡ Ok t
+    → is_end t.kind ≡ false
     → IsSpan line at t → front' ≡ front ++ w ∷ [] → w ≡ word_at line t → at' ≡ t.end → Reads line front' at'
 reads_push line front front' at at' t w h e goes span fs ws ends =
     subst (λ a. Reads line front' a) (sym ends)

@@ -26,7 +26,8 @@ use Rattle.mx_asm.proofs.Counts.{effect_counts}
 use Rattle.mx_asm.proofs.LabelBounds.{not_repeated}
 
 -- what was listed so far, and what the rest of the lines adds to it, is what all lines add
-pub record Listed (labels : Labels) (end : ℕ) (from : Position) (all : List (List ℕ)) (repeated : Option ℕ) (ss : List Statement) (ns : List ℕ) (vs : List Value) (input : Option ℕ) (p : Position) (number : ℕ) (rest : List (List ℕ)) : Type 0 where
+pub record Listed (labels : Labels) (end : ℕ) (from : Position) (all : List (List ℕ)) (repeated : Option ℕ) (ss : List Statement) (ns : List ℕ)
+    (vs : List Value) (input : Option ℕ) (p : Position) (number : ℕ) (rest : List (List ℕ)) : Type 0 where
   pub earlier : Labels
   pub fault : first_fault labels end p earlier number rest ≡ first_fault labels end from [] 1 all
   pub repeat : first_repeat p earlier number rest ≡ repeated
@@ -51,7 +52,8 @@ later_cond false number n later lt h = h
 later_line : (lines : List (List ℕ)) (p : Position) (earlier : Labels) (number n : ℕ) → n < number → is_line (first_repeat p earlier number lines) n ≡ false
 later_line [] p earlier number n lt = refl
 later_line (line ∷ lines) p earlier number n lt =
-    later_cond (repeats p earlier (line_words line)) number n (first_repeat (after p (line_words line)) (with_labels p earlier (line_words line)) (number + 1) lines) lt
+    later_cond (repeats p earlier (line_words line)) number n
+    (first_repeat (after p (line_words line)) (with_labels p earlier (line_words line)) (number + 1) lines) lt
     (later_line lines (after p (line_words line)) (with_labels p earlier (line_words line)) (number + 1) n (omega arith))
 
 same_line : (n : ℕ) → eqb n n ≡ true
@@ -62,9 +64,11 @@ flag_cond true number later h = same_line number
 flag_cond false number later h = h
 
 -- the first line that defines a label again is this one exactly where this one does
-flag : (line : List ℕ) (lines : List (List ℕ)) (p : Position) (earlier : Labels) (number : ℕ) → is_line (first_repeat p earlier number (line ∷ lines)) number ≡ repeats p earlier (line_words line)
+flag : (line : List ℕ) (lines : List (List ℕ)) (p : Position) (earlier : Labels) (number : ℕ)
+    → is_line (first_repeat p earlier number (line ∷ lines)) number ≡ repeats p earlier (line_words line)
 flag line lines p earlier number =
-    flag_cond (repeats p earlier (line_words line)) number (first_repeat (after p (line_words line)) (with_labels p earlier (line_words line)) (number + 1) lines)
+    flag_cond (repeats p earlier (line_words line)) number
+    (first_repeat (after p (line_words line)) (with_labels p earlier (line_words line)) (number + 1) lines)
     (later_line lines (after p (line_words line)) (with_labels p earlier (line_words line)) (number + 1) number (omega arith))
 
 -- what a line does goes behind what was listed
@@ -86,7 +90,8 @@ put_values vs (Instruction s) rest = ap (λ x. x ++ rest) (append-nil vs)
 put_values vs (Data more) rest = ap (λ x. (vs ++ x) ++ rest) (append-nil more) ∙ append_assoc vs more rest
 put_values vs Input rest = ap (λ x. x ++ rest) (append-nil vs)
 
-put_input : (input : Option ℕ) (n : ℕ) (e : Effect) (rest : Option ℕ) → first_input (first_input input (onto_input n e None)) rest ≡ first_input input (onto_input n e rest)
+put_input : (input : Option ℕ) (n : ℕ) (e : Effect) (rest : Option ℕ)
+    → first_input (first_input input (onto_input n e None)) rest ≡ first_input input (onto_input n e rest)
 put_input (Some line) n e rest = refl
 put_input None n Nothing rest = refl
 put_input None n (Instruction s) rest = refl
@@ -119,22 +124,28 @@ address_after : (p : Position) (ws : List Word) → (after p ws).address ≤ 655
 unfolding behind
 address_after p ws h = omega (arith, h)
 
-module _ (labels : Labels) (end : ℕ) (from : Position) (all : List (List ℕ)) (repeated : Option ℕ) (ss : List Statement) (ns : List ℕ) (vs : List Value) (input : Option ℕ) (p : Position) (number : ℕ) (line : List ℕ) (rest : List (List ℕ))
+module _ (labels : Labels) (end : ℕ) (from : Position) (all : List (List ℕ)) (repeated : Option ℕ) (ss : List Statement) (ns : List ℕ) (vs : List Value)
+    (input : Option ℕ) (p : Position) (number : ℕ) (line : List ℕ) (rest : List (List ℕ))
     (h : Listed labels end from all repeated ss ns vs input p number (line ∷ rest)) where
   -- the fault of this line, as the program finds it
   pub this_fault : line_fault labels end p h.earlier line ≡ words_fault labels end p (is_line repeated number) (length line) (words_of line)
-  this_fault = ap (λ b. words_fault labels end p b (length line) (words_of line)) (sym (flag line rest p h.earlier number) ∙ ap (λ r. is_line r number) h.repeat)
+  this_fault = ap (λ b. words_fault labels end p b (length line) (words_of line))
+      (sym (flag line rest p h.earlier number) ∙ ap (λ r. is_line r number) h.repeat)
 
   -- a fault of this line is the first
-  pub refused : (fault : Fault) → words_fault labels end p (is_line repeated number) (length line) (words_of line) ≡ Some fault → first_fault labels end from [] 1 all ≡ Some (number, fault)
+  pub refused : (fault : Fault) → words_fault labels end p (is_line repeated number) (length line) (words_of line) ≡ Some fault
+      → first_fault labels end from [] 1 all ≡ Some (number, fault)
   refused fault found =
       sym h.fault
-      ∙ ap (λ f. found_or number f (first_fault labels end (after p (line_words line)) (with_labels p h.earlier (line_words line)) (number + 1) rest)) (this_fault ∙ found)
+      ∙ ap (λ f. found_or number f (first_fault labels end (after p (line_words line)) (with_labels p h.earlier (line_words line)) (number + 1) rest))
+      (this_fault ∙ found)
 
-  listed_next : (e : Effect) → words_fault labels end p (is_line repeated number) (length line) (words_of line) ≡ None → effect_of labels p.section (statement_words (line_words line)) ≡ Ok e
+  listed_next : (e : Effect) → words_fault labels end p (is_line repeated number) (length line) (words_of line) ≡ None
+      → effect_of labels p.section (statement_words (line_words line)) ≡ Ok e
       → (after p (line_words line)).index ≤ 20000 → (after p (line_words line)).address ≤ end → end ≤ 65536
       → ((count : ℕ) → LabelsFit count labels → EffectFits labels count e)
-      → Listed labels end from all repeated (ss ++ onto_statements e []) (ns ++ onto_lines number e []) (vs ++ onto_values e []) (first_input input (onto_input number e None)) (after p (line_words line)) (number + 1) rest
+      → Listed labels end from all repeated (ss ++ onto_statements e []) (ns ++ onto_lines number e []) (vs ++ onto_values e [])
+      (first_input input (onto_input number e None)) (after p (line_words line)) (number + 1) rest
   listed_next e none effect few within le fits =
       let ws = line_words line in
       let does = ap or_nothing effect in
@@ -143,7 +154,8 @@ module _ (labels : Labels) (end : ℕ) (from : Position) (all : List (List ℕ))
       let again = sym (flag line rest p h.earlier number) in
       record {
         earlier = with_labels p h.earlier ws;
-        fault = ap (λ f. found_or number f (first_fault labels end (after p ws) (with_labels p h.earlier ws) (number + 1) rest)) (sym (this_fault ∙ none)) ∙ h.fault;
+        fault = ap (λ f. found_or number f (first_fault labels end (after p ws) (with_labels p h.earlier ws) (number + 1) rest)) (sym (this_fault ∙ none))
+            ∙ h.fault;
         repeat =
             let fresh = again ∙ ap (λ r. is_line r number) h.repeat ∙ not_repeated labels end p (is_line repeated number) (length line) (words_of line) none in
             ap (λ b. cond b (Some number) (first_repeat (after p ws) (with_labels p h.earlier ws) (number + 1) rest)) (sym fresh) ∙ h.repeat;
@@ -157,34 +169,44 @@ module _ (labels : Labels) (end : ℕ) (from : Position) (all : List (List ℕ))
         words = omega (arith, length-append vs (onto_values e []), counts.words, address_after p ws (omega (arith, within, le)), h.words);
         few = few;
         within = within;
-        statements_fit = λ count fit. All-append (StatementFits (IsPlace labels count)) ss (onto_statements e []) (h.statements_fit count fit) (statements_fit_more labels count e (fits count fit));
-        values_fit = λ count fit. All-append (ValueFits (IsPlace labels count)) vs (onto_values e []) (h.values_fit count fit) (values_fit_more labels count e (fits count fit));
+        statements_fit = λ count fit. All-append (StatementFits (IsPlace labels count)) ss (onto_statements e []) (h.statements_fit count fit)
+            (statements_fit_more labels count e (fits count fit));
+        values_fit = λ count fit. All-append (ValueFits (IsPlace labels count)) vs (onto_values e []) (h.values_fit count fit)
+            (values_fit_more labels count e (fits count fit));
       }
 
   -- the loop's step, where the new values have names of their own
   pub listed_step : (e : Effect) (ss' : List Statement) (ns' : List ℕ) (vs' : List Value) (input' : Option ℕ) (p' : Position) (number' : ℕ)
-      → words_fault labels end p (is_line repeated number) (length line) (words_of line) ≡ None → effect_of labels p.section (statement_words (line_words line)) ≡ Ok e
+      → words_fault labels end p (is_line repeated number) (length line) (words_of line) ≡ None
+      → effect_of labels p.section (statement_words (line_words line)) ≡ Ok e
       → p' ≡ after p (line_words line) → p'.index ≤ 20000 → p'.address ≤ end → end ≤ 65536
       → ((count : ℕ) → LabelsFit count labels → EffectFits labels count e)
-      → ss' ≡ ss ++ onto_statements e [] → ns' ≡ ns ++ onto_lines number e [] → vs' ≡ vs ++ onto_values e [] → input' ≡ first_input input (onto_input number e None) → number' ≡ number + 1
+      → ss' ≡ ss ++ onto_statements e [] → ns' ≡ ns ++ onto_lines number e [] → vs' ≡ vs ++ onto_values e []
+      → input' ≡ first_input input (onto_input number e None) → number' ≡ number + 1
       → Listed labels end from all repeated ss' ns' vs' input' p' number' rest
   listed_step e ss' ns' vs' input' p' number' none effect next few within le fits es en ev ei em =
       let h0 = listed_next e none effect (subst (λ (q : Position). q.index ≤ 20000) next few) (subst (λ (q : Position). q.address ≤ end) next within) le fits in
-      let h1 = subst (λ q. Listed labels end from all repeated (ss ++ onto_statements e []) (ns ++ onto_lines number e []) (vs ++ onto_values e []) (first_input input (onto_input number e None)) q (number + 1) rest) (sym next) h0 in
-      let h2 = subst (λ x. Listed labels end from all repeated x (ns ++ onto_lines number e []) (vs ++ onto_values e []) (first_input input (onto_input number e None)) p' (number + 1) rest) (sym es) h1 in
-      let h3 = subst (λ x. Listed labels end from all repeated ss' x (vs ++ onto_values e []) (first_input input (onto_input number e None)) p' (number + 1) rest) (sym en) h2 in
+      let h1 = subst (λ q. Listed labels end from all repeated (ss ++ onto_statements e []) (ns ++ onto_lines number e []) (vs ++ onto_values e [])
+      (first_input input (onto_input number e None)) q (number + 1) rest) (sym next) h0 in
+      let h2 = subst (λ x. Listed labels end from all repeated x (ns ++ onto_lines number e []) (vs ++ onto_values e [])
+      (first_input input (onto_input number e None)) p' (number + 1) rest) (sym es) h1 in
+      let h3 = subst (λ x. Listed labels end from all repeated ss' x (vs ++ onto_values e []) (first_input input (onto_input number e None)) p'
+      (number + 1) rest) (sym en) h2 in
       let h4 = subst (λ x. Listed labels end from all repeated ss' ns' x (first_input input (onto_input number e None)) p' (number + 1) rest) (sym ev) h3 in
       let h5 = subst (λ x. Listed labels end from all repeated ss' ns' vs' x p' (number + 1) rest) (sym ei) h4 in
       subst (λ x. Listed labels end from all repeated ss' ns' vs' input' p' x rest) (sym em) h5
 
-pub texts_step : (lines : List (Bor (List ℕ))) (i : ℕ) (d : Bor (List ℕ)) → i < length lines → texts (drop i lines) ≡ (get_or lines i d).now ∷ texts (drop (i + 1) lines)
+pub texts_step : (lines : List (Bor (List ℕ))) (i : ℕ) (d : Bor (List ℕ)) → i < length lines
+    → texts (drop i lines) ≡ (get_or lines i d).now ∷ texts (drop (i + 1) lines)
 texts_step lines i d lt = at_drop_more texts lines i d lt
 
-pub refusal_is : (found : Option (ℕ × Fault)) (here : Option Fault) (number : ℕ) (e : LineError) → ((fault : Fault) → here ≡ Some fault → found ≡ Some (number, fault)) → IsFaultOf here e → IsRefusal found (refusal number e)
+pub refusal_is : (found : Option (ℕ × Fault)) (here : Option Fault) (number : ℕ) (e : LineError)
+    → ((fault : Fault) → here ≡ Some fault → found ≡ Some (number, fault)) → IsFaultOf here e → IsRefusal found (refusal number e)
 refusal_is found here number errors.Memory h k = tt
 refusal_is found here number (errors.Fault fault) h k = h fault k
 
-pub listed_none : (labels : Labels) (end : ℕ) (from : Position) (all : List (List ℕ)) (repeated : Option ℕ) → first_repeat from [] 1 all ≡ repeated → from.index ≤ 20000 → from.address ≤ end
+pub listed_none : (labels : Labels) (end : ℕ) (from : Position) (all : List (List ℕ)) (repeated : Option ℕ) → first_repeat from [] 1 all ≡ repeated
+    → from.index ≤ 20000 → from.address ≤ end
     → Listed labels end from all repeated [] [] [] None from 1 all
 listed_none labels end from all repeated h room le = record {
   earlier = [];

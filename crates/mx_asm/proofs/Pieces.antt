@@ -5,7 +5,8 @@ use Rattle.mx_lex.specs.Lines.{pieces, onto_first, line_len, without_return, lin
 use Rattle.mx_asm.specs.Words.{texts}
 
 split : (b : ℕ) (bs : List ℕ) (at : Bool) → onto_first b (pieces bs) ≡ (b ∷ take (line_len bs) bs) ∷ pieces (drop (suc (line_len bs)) bs)
-    → cond at ([] ∷ pieces bs) (onto_first b (pieces bs)) ≡ take (cond at 0 (suc (line_len bs))) (b ∷ bs) ∷ pieces (drop (suc (cond at 0 (suc (line_len bs)))) (b ∷ bs))
+    → cond at ([] ∷ pieces bs) (onto_first b (pieces bs)) ≡ take (cond at 0 (suc (line_len bs))) (b ∷ bs) ∷ pieces
+    (drop (suc (cond at 0 (suc (line_len bs)))) (b ∷ bs))
 split b bs true h = refl
 split b bs false h = h
 
@@ -20,7 +21,8 @@ first_piece (b ∷ bs) h = rw add-one (first_of b bs)
 
 -- one more line is taken
 pub lines_step : (done done' : List (Bor (List ℕ))) (new : Bor (List ℕ)) (rest rest' : List ℕ) (all : List (List ℕ)) → 0 < length rest
-    → texts done ++ map without_return (pieces rest) ≡ all → done' ≡ done ++ new ∷ [] → new.now ≡ without_return (take (line_len rest) rest) → rest' ≡ drop (line_len rest + 1) rest
+    → texts done ++ map without_return (pieces rest) ≡ all → done' ≡ done ++ new ∷ [] → new.now ≡ without_return (take (line_len rest) rest)
+    → rest' ≡ drop (line_len rest + 1) rest
     → texts done' ++ map without_return (pieces rest') ≡ all
 lines_step done done' new rest rest' all some same more line left =
     ap (λ d. texts d ++ map without_return (pieces rest')) more
@@ -31,13 +33,15 @@ lines_step done done' new rest rest' all some same more line left =
     ∙ ap (λ ps. texts done ++ map without_return ps) (sym (first_piece rest some))
     ∙ same
 
-pub lines_end : (done : List (Bor (List ℕ))) (rest text : List ℕ) → length rest ≡ 0 → texts done ++ map without_return (pieces rest) ≡ map without_return (pieces text) → texts done ≡ lines_of text
+pub lines_end : (done : List (Bor (List ℕ))) (rest text : List ℕ) → length rest ≡ 0
+    → texts done ++ map without_return (pieces rest) ≡ map without_return (pieces text) → texts done ≡ lines_of text
 unfolding lines_of
 lines_end done [] text h same = sym (append-nil (texts done)) ∙ same
 lines_end done (b ∷ rest) text h same = absurd (omega (arith, h))
 
 -- the first line of a text that is not empty, and the lines behind it
-pub first_line : (text line rest : List ℕ) → 0 < length text → line ≡ without_return (take (line_len text) text) → rest ≡ drop (line_len text + 1) text → lines_of text ≡ line ∷ lines_of rest
+pub first_line : (text line rest : List ℕ) → 0 < length text → line ≡ without_return (take (line_len text) text) → rest ≡ drop (line_len text + 1) text
+    → lines_of text ≡ line ∷ lines_of rest
 unfolding lines_of
 first_line text line rest some here left =
     ap (map without_return) (first_piece text some)

@@ -30,12 +30,18 @@ abbrev pub at : Section → ℕ → ℕ → Position
 at s i a = record { section = s; index = i; address = a }
 
 -- nothing but a statement's own fault
-faultless : (p p' : Position) (long : ℕ) (words : List Word) → after p words ≡ p' → has_dotted_label words ≡ false → p'.index ≤ 20000 → p'.address ≤ 65536 → long ≤ 255
+faultless : (p p' : Position) (long : ℕ) (words : List Word) → after p words ≡ p' → has_dotted_label words ≡ false → p'.index ≤ 20000 → p'.address ≤ 65536
+    → long ≤ 255
     → stands_past 65536 p words ≡ false → layout_fault 65536 p long words ≡ None
 faultless p p' long words to plain few near short stands =
-    ap (λ t. cond t (Some BadDirective) (cond (nat_lt 20000 (after p words).index) (Some TooManyInstructions) (cond (is_full 65536 p words) (Some DataFull) (cond (nat_lt 255 long) (Some LineTooLong) None)))) plain
-    ∙ ap (λ q. cond (nat_lt 20000 q.index) (Some TooManyInstructions) (cond (nat_lt 65536 q.address || stands_past 65536 p words) (Some DataFull) (cond (nat_lt 255 long) (Some LineTooLong) None))) to
-    ∙ ap (λ t. cond t (Some TooManyInstructions) (cond (nat_lt 65536 p'.address || stands_past 65536 p words) (Some DataFull) (cond (nat_lt 255 long) (Some LineTooLong) None))) (under 20000 p'.index few)
+    ap (λ t. cond t (Some BadDirective)
+    (cond (nat_lt 20000 (after p words).index) (Some TooManyInstructions)
+    (cond (is_full 65536 p words) (Some DataFull) (cond (nat_lt 255 long) (Some LineTooLong) None)))) plain
+    ∙ ap (λ q. cond (nat_lt 20000 q.index) (Some TooManyInstructions)
+    (cond (nat_lt 65536 q.address || stands_past 65536 p words) (Some DataFull) (cond (nat_lt 255 long) (Some LineTooLong) None))) to
+    ∙ ap (λ t. cond t (Some TooManyInstructions)
+    (cond (nat_lt 65536 p'.address || stands_past 65536 p words) (Some DataFull) (cond (nat_lt 255 long) (Some LineTooLong) None)))
+    (under 20000 p'.index few)
     ∙ ap (λ t. cond (t || stands_past 65536 p words) (Some DataFull) (cond (nat_lt 255 long) (Some LineTooLong) None)) (under 65536 p'.address near)
     ∙ ap (λ t. cond t (Some DataFull) (cond (nat_lt 255 long) (Some LineTooLong) None)) stands
     ∙ ap (λ t. cond t (Some LineTooLong) None) (under 255 long short)
@@ -43,7 +49,8 @@ faultless p p' long words to plain few near short stands =
     under : (most n : ℕ) → n ≤ most → nat_lt most n ≡ false
     under most n h = grind (arith, nat_tests)
 
-no_fault : (K : Labels) (p : Position) (repeated : Bool) (long : ℕ) (words : List Word) (e : Effect) → repeated ≡ false → effect_of K p.section (statement_words words) ≡ Ok e → layout_fault 65536 p long words ≡ None → words_fault K 65536 p repeated long (Ok words) ≡ None
+no_fault : (K : Labels) (p : Position) (repeated : Bool) (long : ℕ) (words : List Word) (e : Effect) → repeated ≡ false
+    → effect_of K p.section (statement_words words) ≡ Ok e → layout_fault 65536 p long words ≡ None → words_fault K 65536 p repeated long (Ok words) ≡ None
 no_fault K p repeated long words e once says fits =
     ap (λ r. least_fault repeated r (layout_fault 65536 p long words)) says
     ∙ ap (λ t. cond t (Some DuplicateLabel) (layout_fault 65536 p long words)) once
@@ -76,7 +83,8 @@ plain_words (Colon ∷ ws) h = record { statement = refl; names = refl; defines 
 plain_words (End ∷ ws) h = record { statement = refl; names = refl; defines = λ k l. refl; repeats_none = λ k l. refl }
 
 -- a line without labels, by its effect and the position behind it
-plain_steps : (all f : Finder) (p p' : Position) (line : List ℕ) (e : Effect) (words : List Word) → Splits line words → begins_label words ≡ false → behind p words ≡ p' → length line ≤ 255
+plain_steps : (all f : Finder) (p p' : Position) (line : List ℕ) (e : Effect) (words : List Word) → Splits line words → begins_label words ≡ false
+    → behind p words ≡ p' → length line ≤ 255
     → p'.index ≤ 20000 → p'.address ≤ 65536 → ((K : Labels) → Finds K all → effect_of K p.section words ≡ Ok e) → Steps all f f p p' line e
 plain_steps all f p p' line e words splits front to short few near says =
     let plain = plain_words words front in
@@ -103,7 +111,8 @@ plain_steps all f p p' line e words splits front to short few near says =
 
 module _ (labels : Labels) (f : Finder) where
   -- a statement
-  pub statement_steps : (i : ℕ) (line : List ℕ) (s : Statement) → i < 20000 → Says labels section.Code line (Instruction s) → Steps (label_named labels) f f (at section.Code i 256) (at section.Code (suc i) 256) line (Instruction s)
+  pub statement_steps : (i : ℕ) (line : List ℕ) (s : Statement) → i < 20000 → Says labels section.Code line (Instruction s)
+      → Steps (label_named labels) f f (at section.Code i 256) (at section.Code (suc i) 256) line (Instruction s)
   unfolding behind
   statement_steps i line s few says =
       let c = effect_counts labels section.Code says.words (Instruction s) (says.effect labels (λ name. refl)) in
@@ -116,7 +125,8 @@ module _ (labels : Labels) (f : Finder) where
       says.short (omega arith) (omega arith) says.effect
 
   -- a data word
-  pub word_steps : (i a : ℕ) (line : List ℕ) (v : Value) → i ≤ 20000 → a < 65536 → Says labels section.Data line (Data (v ∷ [])) → Steps (label_named labels) f f (at section.Data i a) (at section.Data i (suc a)) line (Data (v ∷ []))
+  pub word_steps : (i a : ℕ) (line : List ℕ) (v : Value) → i ≤ 20000 → a < 65536 → Says labels section.Data line (Data (v ∷ []))
+      → Steps (label_named labels) f f (at section.Data i a) (at section.Data i (suc a)) line (Data (v ∷ []))
   unfolding behind
   word_steps i a line v few near says =
       let c = effect_counts labels section.Data says.words (Data (v ∷ [])) (says.effect labels (λ name. refl)) in
@@ -133,14 +143,16 @@ module _ (labels : Labels) (f : Finder) where
   unfolding behind effect_of directed directive_named
   section_steps all i few =
       let same : i + 0 ≡ i = omega arith in
-      plain_steps all f (at section.Code i 256) (at section.Data i 256) (codes ".data") Nothing (Name (codes ".data") ∷ []) (splits_name (codes ".data") [] [] refl refl splits_end) refl
+      plain_steps all f (at section.Code i 256) (at section.Data i 256) (codes ".data") Nothing (Name (codes ".data") ∷ [])
+      (splits_name (codes ".data") [] [] refl refl splits_end) refl
       (ap (λ n. at section.Data n 256) same) (omega arith) few (omega arith) (λ K h. refl)
 
   -- the line of the input
   pub input_steps : (all : Finder) → Steps all f f (at section.Code 0 256) (at section.Code 0 256) (codes ".input") Input
   unfolding behind effect_of directed directive_named
   input_steps all =
-      plain_steps all f (at section.Code 0 256) (at section.Code 0 256) (codes ".input") Input (Name (codes ".input") ∷ []) (splits_name (codes ".input") [] [] refl refl splits_end) refl
+      plain_steps all f (at section.Code 0 256) (at section.Code 0 256) (codes ".input") Input (Name (codes ".input") ∷ [])
+      (splits_name (codes ".input") [] [] refl refl splits_end) refl
       refl (omega arith) (omega arith) (omega arith) (λ K h. refl)
 
 -- a label may stand at this position

@@ -27,7 +27,8 @@ abbrev pub Finds : Labels → Finder → Type 0
 Finds table f = (name : List ℕ) → label_named table name ≡ f name
 
 -- lines without faults that say these statements and data words, and whether there is an `.input`
-pub record Reads (K : Labels) (p : Position) (table : Labels) (number : ℕ) (lines : List (List ℕ)) (ss : List Statement) (vs : List Value) (has : Bool) : Type 0 where
+pub record Reads (K : Labels) (p : Position) (table : Labels) (number : ℕ) (lines : List (List ℕ)) (ss : List Statement) (vs : List Value)
+    (has : Bool) : Type 0 where
   pub fault : first_fault K 65536 p table number lines ≡ None
   pub statements : statements_in (effects_from K p number lines) ≡ ss
   pub values : values_in (effects_from K p number lines) ≡ vs
@@ -44,7 +45,8 @@ pub record Steps (all f f' : Finder) (p p' : Position) (line : List ℕ) (e : Ef
   pub splits : Splits line words
   pub position : after p words ≡ p'
   pub table : (earlier : Labels) → Finds earlier f → Finds (with_labels p earlier words) f'
-  pub fault : (K : Labels) → Finds K all → (earlier : Labels) → Finds earlier f → words_fault K 65536 p (repeats p earlier words) (length line) (Ok words) ≡ None
+  pub fault : (K : Labels) → Finds K all → (earlier : Labels) → Finds earlier f
+      → words_fault K 65536 p (repeats p earlier words) (length line) (Ok words) ≡ None
   pub effect : (K : Labels) → Finds K all → effect_of K p.section (statement_words words) ≡ Ok e
 
 -- the first line of a text
@@ -89,7 +91,8 @@ ok_words r words h = ap words_or_none h
 found_none : (n : ℕ) (here : Option Fault) (later : Option (ℕ × Fault)) → here ≡ None → later ≡ None → found_or n here later ≡ None
 found_none n here later h k = ap (λ o. found_or n o later) h ∙ k
 
-module _ (all f f' g : Finder) (p p' : Position) (line rest : List ℕ) (e : Effect) (ss : List Statement) (vs : List Value) (has : Bool) (s : Steps all f f' p p' line e) (good : Good all f' g p' rest ss vs has) where
+module _ (all f f' g : Finder) (p p' : Position) (line rest : List ℕ) (e : Effect) (ss : List Statement) (vs : List Value) (has : Bool)
+    (s : Steps all f f' p p' line e) (good : Good all f' g p' rest ss vs has) where
   said : line_words line ≡ s.words
   said = ok_words (words_of line) s.words (words_are line s.words s.splits)
 
@@ -103,11 +106,14 @@ module _ (all f f' g : Finder) (p p' : Position) (line rest : List ℕ) (e : Eff
       (subst (λ q. Finds (labels_from q (with_labels p earlier s.words) (lines_of rest)) g) (sym s.position)
       (good.table (with_labels p earlier s.words) (s.table earlier h))))
 
-  step_reads : (K : Labels) → Finds K all → (earlier : Labels) → Finds earlier f → (n : ℕ) → Reads K p earlier n (lines_of (ended line ++ rest)) (onto_statements e ss) (onto_values e vs) (is_input e || has)
+  step_reads : (K : Labels) → Finds K all → (earlier : Labels) → Finds earlier f → (n : ℕ)
+      → Reads K p earlier n (lines_of (ended line ++ rest)) (onto_statements e ss) (onto_values e vs) (is_input e || has)
   step_reads K same earlier h n =
       subst (λ ls. Reads K p earlier n ls (onto_statements e ss) (onto_values e vs) (is_input e || has)) (sym cut) (record {
         fault =
-            ap (λ r. found_or n (words_fault K 65536 p (repeats p earlier (words_or_none r)) (length line) r) (first_fault K 65536 (after p (words_or_none r)) (with_labels p earlier (words_or_none r)) (n + 1) (lines_of rest))) (words_are line s.words s.splits)
+            ap (λ r. found_or n (words_fault K 65536 p (repeats p earlier (words_or_none r)) (length line) r)
+            (first_fault K 65536 (after p (words_or_none r)) (with_labels p earlier (words_or_none r)) (n + 1) (lines_of rest)))
+            (words_are line s.words s.splits)
             ∙ found_none n _ _ (s.fault K same earlier h)
             (ap (λ q. first_fault K 65536 q (with_labels p earlier s.words) (n + 1) (lines_of rest)) s.position ∙ rests.fault);
         statements = ap statements_in effects ∙ ap (onto_statements e) rests.statements;
@@ -137,13 +143,15 @@ nothing_good all f p = record {
 }
 
 -- finders that agree
-pub from_same : (all f f' g : Finder) (p : Position) (text : List ℕ) (ss : List Statement) (vs : List Value) (has : Bool) → ((name : List ℕ) → f name ≡ f' name) → Good all f' g p text ss vs has → Good all f g p text ss vs has
+pub from_same : (all f f' g : Finder) (p : Position) (text : List ℕ) (ss : List Statement) (vs : List Value) (has : Bool)
+    → ((name : List ℕ) → f name ≡ f' name) → Good all f' g p text ss vs has → Good all f g p text ss vs has
 from_same all f f' g p text ss vs has same good = record {
   table = λ earlier h. good.table earlier (λ name. h name ∙ same name);
   reads = λ K k earlier h n. good.reads K k earlier (λ name. h name ∙ same name) n;
 }
 
-pub to_same : (all f g g' : Finder) (p : Position) (text : List ℕ) (ss : List Statement) (vs : List Value) (has : Bool) → ((name : List ℕ) → g name ≡ g' name) → Good all f g p text ss vs has → Good all f g' p text ss vs has
+pub to_same : (all f g g' : Finder) (p : Position) (text : List ℕ) (ss : List Statement) (vs : List Value) (has : Bool) → ((name : List ℕ) → g name ≡ g' name)
+    → Good all f g p text ss vs has → Good all f g' p text ss vs has
 to_same all f g g' p text ss vs has same good = record {
   table = λ earlier h name. good.table earlier h name ∙ same name;
   reads = good.reads;

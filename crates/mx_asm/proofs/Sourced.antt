@@ -34,7 +34,9 @@ record ReadLine (labels : Labels) (end : ℕ) (p : Position) (words : List Word)
   few : (after p words).index ≤ 20000
   within : (after p words).address ≤ end
 
-room : (dotted many full long : Bool) → cond dotted (Some BadDirective) (cond many (Some TooManyInstructions) (cond full (Some DataFull) (cond long (Some LineTooLong) None))) ≡ None → (many ≡ false) × (full ≡ false)
+room : (dotted many full long : Bool)
+    → cond dotted (Some BadDirective) (cond many (Some TooManyInstructions) (cond full (Some DataFull) (cond long (Some LineTooLong) None))) ≡ None
+    → (many ≡ false) × (full ≡ false)
 room true many full long h = cc
 room false true full long h = cc
 room false false true long h = cc
@@ -52,10 +54,12 @@ at_most : (a b : ℕ) → nat_lt a b ≡ false → b ≤ a
 at_most a b h = grind (arith, nat_tests)
 
 module _ (labels : Labels) (end : ℕ) (p : Position) (repeated : Bool) (long : ℕ) where
-  by_effect : (words : List Word) (e : Result Effect Fault) → effect_of labels p.section (statement_words words) ≡ e → least_fault repeated e (layout_fault end p long words) ≡ None → ReadLine labels end p words
+  by_effect : (words : List Word) (e : Result Effect Fault) → effect_of labels p.section (statement_words words) ≡ e
+      → least_fault repeated e (layout_fault end p long words) ≡ None → ReadLine labels end p words
   by_effect words (Err fault) is h = cc
   by_effect words (Ok effect) is h =
-      let free = room (has_dotted_label words) (nat_lt 20000 (after p words).index) (is_full end p words) (nat_lt 255 long) (repeat_none repeated (layout_fault end p long words) h) in
+      let free = room (has_dotted_label words) (nat_lt 20000 (after p words).index) (is_full end p words) (nat_lt 255 long)
+      (repeat_none repeated (layout_fault end p long words) h) in
       record {
         effect = effect;
         reads = is;
@@ -94,18 +98,23 @@ module _ (labels : Labels) (end : ℕ) (from : Position) (all : List (List ℕ))
     pub number : ℕ
     pub listed : ListedTo ss ns vs input p number []
 
-  all_listed : (rest : List (List ℕ)) (ss : List Statement) (ns : List ℕ) (vs : List Value) (input : Option ℕ) (p : Position) (number : ℕ) → ListedTo ss ns vs input p number rest → AllListed
+  all_listed : (rest : List (List ℕ)) (ss : List Statement) (ns : List ℕ) (vs : List Value) (input : Option ℕ) (p : Position) (number : ℕ)
+      → ListedTo ss ns vs input p number rest → AllListed
   all_listed [] ss ns vs input p number h = record { ss = ss; ns = ns; vs = vs; input = input; p = p; number = number; listed = h }
   all_listed (line ∷ rest) ss ns vs input p number h =
       let here = found_none number (line_fault labels end p h.earlier line) _ (h.fault ∙ none) in
-      let clear : words_fault labels end p (is_line repeated number) (length line) (words_of line) ≡ None = sym (this_fault labels end from all repeated ss ns vs input p number line rest h) ∙ here.0 in
+      let clear : words_fault labels end p (is_line repeated number) (length line) (words_of line) ≡ None = sym
+      (this_fault labels end from all repeated ss ns vs input p number line rest h) ∙ here.0 in
       let read = read_line labels end p (is_line repeated number) (length line) (words_of line) clear in
       let words = statement_words (line_words line) in
-      let fits = λ (count : ℕ) (fit : LabelsFit count labels). was_fit (EffectFits labels count) (effect_of labels p.section words) read.effect (effect_fits labels count fit p.section words) read.reads in
+      let fits = λ (count : ℕ) (fit : LabelsFit count labels). was_fit (EffectFits labels count) (effect_of labels p.section words) read.effect
+      (effect_fits labels count fit p.section words) read.reads in
       all_listed rest
-      (ss ++ onto_statements read.effect []) (ns ++ onto_lines number read.effect []) (vs ++ onto_values read.effect []) (first_input input (onto_input number read.effect None)) (after p (line_words line)) (number + 1)
+      (ss ++ onto_statements read.effect []) (ns ++ onto_lines number read.effect []) (vs ++ onto_values read.effect [])
+      (first_input input (onto_input number read.effect None)) (after p (line_words line)) (number + 1)
       (listed_step labels end from all repeated ss ns vs input p number line rest h read.effect
-      (ss ++ onto_statements read.effect []) (ns ++ onto_lines number read.effect []) (vs ++ onto_values read.effect []) (first_input input (onto_input number read.effect None)) (after p (line_words line)) (number + 1)
+      (ss ++ onto_statements read.effect []) (ns ++ onto_lines number read.effect []) (vs ++ onto_values read.effect [])
+      (first_input input (onto_input number read.effect None)) (after p (line_words line)) (number + 1)
       clear read.reads refl read.few read.within most fits refl refl refl refl refl)
 
   pub whole : from.index ≤ 20000 → from.address ≤ end → AllListed
@@ -128,15 +137,20 @@ module _ (labels : Labels) (end : ℕ) (from : Position) (all : List (List ℕ))
         values_fit = λ count fit. subst (All (ValueFits (IsPlace labels count))) vs (l.values_fit count fit);
       }
 
-lines_make : (low end : ℕ) (all : List (List ℕ)) (labels : Labels) → labels ≡ labels_from (start low) [] all → 256 ≤ low → low ≤ end → end ≤ 65536 → first_fault labels end (start low) [] 1 all ≡ None
-    → (let effects = effects_from labels (start low) 1 all in IsSource (made (statements_in effects) (lines_in effects) (values_in effects) labels (input_in effects)))
+lines_make : (low end : ℕ) (all : List (List ℕ)) (labels : Labels) → labels ≡ labels_from (start low) [] all → 256 ≤ low → low ≤ end → end ≤ 65536
+    → first_fault labels end (start low) [] 1 all ≡ None
+    → (let effects = effects_from labels (start low) 1 all in IsSource
+    (made (statements_in effects) (lines_in effects) (values_in effects) labels (input_in effects)))
 lines_make low end all labels defined least order most none =
     let w = whole labels end (start low) all none most (omega arith) order in
     let l = w.listed in
     let effects = effects_from labels (start low) 1 all in
-    let ended = labels_fit labels end all (start low) [] 1 most least none (All-nil (λ (p : List ℕ × Label). LabelFits (position_at_end (start low) all).index p.1)) in
-    let count : length w.ss ≡ (position_at_end (start low) all).index = (let k = l.count in let m = ap (λ (q : Position). q.index) l.last in omega (arith, k, m)) in
-    let fit : LabelsFit (length w.ss) labels = subst (λ n. LabelsFit n labels) (sym count) (subst (LabelsFit (position_at_end (start low) all).index) (sym defined) ended) in
+    let ended = labels_fit labels end all (start low) [] 1 most least none
+    (All-nil (λ (p : List ℕ × Label). LabelFits (position_at_end (start low) all).index p.1)) in
+    let count : length w.ss ≡ (position_at_end (start low) all).index =
+    (let k = l.count in let m = ap (λ (q : Position). q.index) l.last in omega (arith, k, m)) in
+    let fit : LabelsFit (length w.ss) labels = subst (λ n. LabelsFit n labels) (sym count)
+    (subst (LabelsFit (position_at_end (start low) all).index) (sym defined) ended) in
     let ss = sym (append-nil w.ss) ∙ l.statements in
     let ns = sym (append-nil w.ns) ∙ l.lines in
     let vs = sym (append-nil w.vs) ∙ l.values in
@@ -157,7 +171,8 @@ unfolding source_of text_fault text_labels text_effects
 faultless_source low end text least order most none = lines_make low end (lines_of text) (text_labels low text) refl least order most none
 
 -- its data words fit between the two addresses
-pub faultless_words : (low end : ℕ) (text : List ℕ) → low ≤ end → end ≤ 65536 → text_fault low end text ≡ None → low + length (source_of low text).user_data ≤ end
+pub faultless_words : (low end : ℕ) (text : List ℕ) → low ≤ end → end ≤ 65536 → text_fault low end text ≡ None
+    → low + length (source_of low text).user_data ≤ end
 unfolding source_of text_fault text_labels text_effects
 faultless_words low end text order most none =
     let l = (whole (text_labels low text) end (start low) (lines_of text) none most (omega arith) order).listed in

@@ -64,7 +64,9 @@ from_choose : (line : List ℕ) (at : ℕ) → token_from line at ≡ choose lin
 unfolding token_from choose
 from_choose line at = refl
 
-choose_clean : (line left : List ℕ) (at b : ℕ) → is_clean b ≡ true → choose line at false b left ≡ cond (begins_name b) (Ok (token kinds.Name at (at + prefix_len continues_name left))) (mark_or_number_at line at (mark_of b))
+choose_clean : (line left : List ℕ) (at b : ℕ) → is_clean b ≡ true
+    → choose line at false b left ≡ cond (begins_name b) (Ok (token kinds.Name at (at + prefix_len continues_name left)))
+    (mark_or_number_at line at (mark_of b))
 unfolding choose
 choose_clean line left at b h =
     let p = clean_parts (nat_le 32 b && nat_le b 126) (eqb b 59) (eqb b 9) h in
@@ -89,12 +91,14 @@ next_here line rest at b e h =
     let z : at + prefix_len is_blank (drop at line) ≡ at = omega arith in
     ap (token_from line) z
 
-before_words : (line : List ℕ) (t : Token) (r : Result (List Token) LexFault) (w : Word) (words : List Word) → word_at line t ≡ w → words_at line r ≡ Ok words → words_at line (before t r) ≡ Ok (w ∷ words)
+before_words : (line : List ℕ) (t : Token) (r : Result (List Token) LexFault) (w : Word) (words : List Word) → word_at line t ≡ w → words_at line r ≡ Ok words
+    → words_at line (before t r) ≡ Ok (w ∷ words)
 before_words line t (Ok ts) w words e h = cc
 before_words line t (Err fault) w words e h = cc
 
 -- one more token
-one_more : (line : List ℕ) (at end most : ℕ) (k : Kind) (w : Word) (words : List Word) → next_token line at ≡ Ok (token k at end) → is_end k ≡ false → word_of k (slice_range line at end) ≡ w
+one_more : (line : List ℕ) (at end most : ℕ) (k : Kind) (w : Word) (words : List Word) → next_token line at ≡ Ok (token k at end) → is_end k ≡ false
+    → word_of k (slice_range line at end) ≡ w
     → words_at line (tokens_within most line end) ≡ Ok words → words_at line (tokens_within (suc most) line at) ≡ Ok (w ∷ words)
 one_more line at end most k w words next goes says h =
     ap (λ r. words_at line (and_then r (λ t. cond (is_end t.kind) (Ok []) (before t (tokens_within most line t.end))))) next
@@ -118,7 +122,8 @@ next_end line at e =
 -- nothing is left
 end_of : (line : List ℕ) (at most : ℕ) → drop at line ≡ [] → 0 < most → words_at line (tokens_within most line at) ≡ Ok []
 end_of line at zero e lt = absurd (omega arith)
-end_of line at (suc most) e lt = ap (λ r. words_at line (and_then r (λ t. cond (is_end t.kind) (Ok []) (before t (tokens_within most line t.end))))) (next_end line at e)
+end_of line at (suc most) e lt = ap (λ r. words_at line (and_then r (λ t. cond (is_end t.kind) (Ok []) (before t (tokens_within most line t.end)))))
+    (next_end line at e)
 
 pub splits_end : Splits [] []
 splits_end = record { read = end_of; clean = refl }
@@ -150,7 +155,8 @@ is_colon = record { clean = refl; blank = refl; begins = refl; mark = refl; goes
 module _ (b : ℕ) (k : Kind) (w : Word) (m : IsMark b k w) (rest : List ℕ) (words : List Word) (s : Splits rest words) where
   mark_read : (line : List ℕ) (at most : ℕ) → drop at line ≡ b ∷ rest → suc (length rest) < most → words_at line (tokens_within most line at) ≡ Ok (w ∷ words)
   mark_read line at zero e lt = absurd (omega arith)
-  mark_read line at (suc most) e lt = one_more line at (at + 1) most k w words next m.goes (m.says (slice_range line at (at + 1))) (s.read line (at + 1) most (left_at line (b ∷ rest) at 1 e) (omega arith))
+  mark_read line at (suc most) e lt = one_more line at (at + 1) most k w words next m.goes (m.says (slice_range line at (at + 1)))
+      (s.read line (at + 1) most (left_at line (b ∷ rest) at 1 e) (omega arith))
     where
       next : next_token line at ≡ Ok (token k at (at + 1))
       next =
@@ -241,7 +247,8 @@ range_is line bytes rest at e =
 left_behind : (line bytes rest : List ℕ) (at : ℕ) → drop at line ≡ bytes ++ rest → drop (at + length bytes) line ≡ rest
 left_behind line bytes rest at e = left_at line (bytes ++ rest) at (length bytes) e ∙ drop-append_seam bytes rest
 
-module _ (b : ℕ) (bytes rest : List ℕ) (words : List Word) (h : is_name (b ∷ bytes) ≡ true) (stops : continues_name (slice_index rest 0) ≡ false) (s : Splits rest words) where
+module _ (b : ℕ) (bytes rest : List ℕ) (words : List Word) (h : is_name (b ∷ bytes) ≡ true) (stops : continues_name (slice_index rest 0) ≡ false)
+    (s : Splits rest words) where
   abbrev name : List ℕ
   name = b ∷ bytes
 
@@ -259,7 +266,8 @@ module _ (b : ℕ) (bytes rest : List ℕ) (words : List Word) (h : is_name (b �
       ∙ ap (λ t. cond t (Ok (token kinds.Name at (at + prefix_len continues_name (name ++ rest)))) (mark_or_number_at line at (mark_of b))) begins
       ∙ ap (λ n. Ok (token kinds.Name at (at + n))) (whole_front continues_name name rest goes_on stops)
 
-  name_read : (line : List ℕ) (at most : ℕ) → drop at line ≡ name ++ rest → length (name ++ rest) < most → words_at line (tokens_within most line at) ≡ Ok (Name name ∷ words)
+  name_read : (line : List ℕ) (at most : ℕ) → drop at line ≡ name ++ rest → length (name ++ rest) < most
+      → words_at line (tokens_within most line at) ≡ Ok (Name name ∷ words)
   name_read line at zero e lt = absurd (omega arith)
   name_read line at (suc most) e lt =
       let long : length (name ++ rest) ≡ suc (length bytes) + length rest = length-append name rest in
@@ -270,7 +278,8 @@ module _ (b : ℕ) (bytes rest : List ℕ) (words : List Word) (h : is_name (b �
   splits_letters = record { read = name_read; clean = both_clean name rest (name_is_clean name h) s.clean }
 
 -- a name before what goes on with no byte of a name
-pub splits_name : (n rest : List ℕ) (words : List Word) → is_name n ≡ true → continues_name (slice_index rest 0) ≡ false → Splits rest words → Splits (n ++ rest) (Name n ∷ words)
+pub splits_name : (n rest : List ℕ) (words : List Word) → is_name n ≡ true → continues_name (slice_index rest 0) ≡ false → Splits rest words
+    → Splits (n ++ rest) (Name n ∷ words)
 splits_name [] rest words h stops s = cc
 splits_name (b ∷ bytes) rest words h stops s = splits_letters b bytes rest words h stops s
 
@@ -286,7 +295,8 @@ no_prefix : (c : ℕ) → (eqb c 120 || eqb c 88) ≡ false → (b : Bool) → (
 no_prefix c h true = h
 no_prefix c h false = refl
 
-not_x : (ds rest : List ℕ) → list_all ten ds ≡ true → continues_name (slice_index rest 0) ≡ false → (eqb (slice_index (ds ++ rest) 0) 120 || eqb (slice_index (ds ++ rest) 0) 88) ≡ false
+not_x : (ds rest : List ℕ) → list_all ten ds ≡ true → continues_name (slice_index rest 0) ≡ false
+    → (eqb (slice_index (ds ++ rest) 0) 120 || eqb (slice_index (ds ++ rest) 0) 88) ≡ false
 not_x [] rest all stops = let c = slice_index rest 0 in not_name c (or_none (begins_name c) (ten c) stops).0
   where
     not_name : (c : ℕ) → begins_name c ≡ false → (eqb c 120 || eqb c 88) ≡ false
@@ -300,14 +310,16 @@ not_x (d ∷ ds) rest all stops = let r = is_decimal_digit d (and_both (ten d) (
 say : ℕ → List ℕ → ℕ → Option (ℕ × ℕ)
 say at digits b = cond (eqb (length digits) 0 || continues_name b) None (Some (at + length digits, min (digits_value 10 digits) (2 ^ 33)))
 
-from_say : (line : List ℕ) (at : ℕ) → digits_at line 10 at ≡ say at (take_while ten (drop at line)) (slice_index line (at + length (take_while ten (drop at line))))
+from_say : (line : List ℕ) (at : ℕ)
+    → digits_at line 10 at ≡ say at (take_while ten (drop at line)) (slice_index line (at + length (take_while ten (drop at line))))
 unfolding digits_at say
 from_say line at = refl
 
 some_length : (n : ℕ) → eqb (suc n) 0 ≡ false
 some_length n = grind (arith, nat_tests)
 
-say_some : (at d b : ℕ) (ds : List ℕ) → continues_name b ≡ false → digits_value 10 (d ∷ ds) < 2 ^ 33 → say at (d ∷ ds) b ≡ Some (at + length (d ∷ ds), digits_value 10 (d ∷ ds))
+say_some : (at d b : ℕ) (ds : List ℕ) → continues_name b ≡ false → digits_value 10 (d ∷ ds) < 2 ^ 33
+    → say at (d ∷ ds) b ≡ Some (at + length (d ∷ ds), digits_value 10 (d ∷ ds))
 unfolding say
 say_some at d b ds stops small =
     let v = digits_value 10 (d ∷ ds) in
@@ -317,7 +329,8 @@ say_some at d b ds stops small =
     ∙ ap (λ t. cond t None found) stops
     ∙ ap (λ n. Some (at + length (d ∷ ds), n)) m
 
-module _ (d v : ℕ) (ds rest : List ℕ) (all : AllDigits 10 (d ∷ ds)) (value : digits_value 10 (d ∷ ds) ≡ v) (small : v < 2 ^ 33) (stops : continues_name (slice_index rest 0) ≡ false) (line : List ℕ) (at : ℕ) (e : drop at line ≡ (d ∷ ds) ++ rest) where
+module _ (d v : ℕ) (ds rest : List ℕ) (all : AllDigits 10 (d ∷ ds)) (value : digits_value 10 (d ∷ ds) ≡ v) (small : v < 2 ^ 33)
+    (stops : continues_name (slice_index rest 0) ≡ false) (line : List ℕ) (at : ℕ) (e : drop at line ≡ (d ∷ ds) ++ rest) where
   abbrev digits : List ℕ
   digits = d ∷ ds
 
@@ -349,7 +362,8 @@ module _ (d v : ℕ) (ds rest : List ℕ) (all : AllDigits 10 (d ∷ ds)) (value
   unfolding magnitude_at
   magnitude_found =
       let next : slice_index line (at + 1) ≡ slice_index (ds ++ rest) 0 = byte_at line (digits ++ rest) at 1 e in
-      let plain : (eqb (slice_index line (at + 1)) 120 || eqb (slice_index line (at + 1)) 88) ≡ false = ap (λ c. eqb c 120 || eqb c 88) next ∙ not_x ds rest (and_both (ten d) (list_all ten ds) passes).1 stops in
+      let plain : (eqb (slice_index line (at + 1)) 120 || eqb (slice_index line (at + 1)) 88) ≡ false = ap (λ c. eqb c 120 || eqb c 88) next
+      ∙ not_x ds rest (and_both (ten d) (list_all ten ds) passes).1 stops in
       ap (λ t. cond t (digits_at line 16 (at + 2)) (digits_at line 10 at)) (no_prefix (slice_index line (at + 1)) plain (eqb (slice_index line at) 48))
       ∙ digits_found
 
@@ -366,7 +380,8 @@ digit_minus : (d : ℕ) → 48 ≤ d → d ≤ 57 → eqb d 45 ≡ false
 digit_minus d h k = grind (arith, nat_tests)
 
 -- a number that stands at a clean byte of no name and no mark
-number_next : (line rest : List ℕ) (at b : ℕ) → drop at line ≡ b ∷ rest → is_clean b ≡ true → is_blank b ≡ false → begins_name b ≡ false → mark_of b ≡ None → next_token line at ≡ number_at line at
+number_next : (line rest : List ℕ) (at b : ℕ) → drop at line ≡ b ∷ rest → is_clean b ≡ true → is_blank b ≡ false → begins_name b ≡ false → mark_of b ≡ None
+    → next_token line at ≡ number_at line at
 number_next line rest at b e clean blank begins mark =
     next_here line rest at b e blank
     ∙ from_clean line rest at b e clean
@@ -383,7 +398,8 @@ number_minus : (line : List ℕ) (at : ℕ) → slice_index line at ≡ 45 → n
 unfolding number_at
 number_minus line at e = ap (λ c. cond (eqb c 45) (number_token true at (magnitude_at line (at + 1))) (number_token false at (magnitude_at line at))) e
 
-module _ (d v : ℕ) (ds rest : List ℕ) (words : List Word) (all : AllDigits 10 (d ∷ ds)) (value : digits_value 10 (d ∷ ds) ≡ v) (small : v < 2 ^ 33) (stops : continues_name (slice_index rest 0) ≡ false) (s : Splits rest words) where
+module _ (d v : ℕ) (ds rest : List ℕ) (words : List Word) (all : AllDigits 10 (d ∷ ds)) (value : digits_value 10 (d ∷ ds) ≡ v) (small : v < 2 ^ 33)
+    (stops : continues_name (slice_index rest 0) ≡ false) (s : Splits rest words) where
   abbrev figures : List ℕ
   figures = d ∷ ds
 
@@ -396,11 +412,13 @@ module _ (d v : ℕ) (ds rest : List ℕ) (words : List Word) (all : AllDigits 1
   long : length (figures ++ rest) ≡ suc (length ds) + length rest
   long = length-append figures rest
 
-  plain_read : (line : List ℕ) (at most : ℕ) → drop at line ≡ figures ++ rest → length (figures ++ rest) < most → words_at line (tokens_within most line at) ≡ Ok (Number false v ∷ words)
+  plain_read : (line : List ℕ) (at most : ℕ) → drop at line ≡ figures ++ rest → length (figures ++ rest) < most
+      → words_at line (tokens_within most line at) ≡ Ok (Number false v ∷ words)
   plain_read line at zero e lt = absurd (omega arith)
   plain_read line at (suc most) e lt =
       one_more line at (at + length figures) most (kinds.Number false v) (Number false v) words
-      (number_next line (ds ++ rest) at d e (digit_is_clean d leads.0 leads.1) (digit_blank d leads.0 leads.1) (digit_begins d leads.0 leads.1) (digit_mark d leads.0 leads.1)
+      (number_next line (ds ++ rest) at d e (digit_is_clean d leads.0 leads.1) (digit_blank d leads.0 leads.1) (digit_begins d leads.0 leads.1)
+      (digit_mark d leads.0 leads.1)
       ∙ number_plain line at d (byte_here line (ds ++ rest) at d e) (digit_minus d leads.0 leads.1)
       ∙ ap (number_token false at) (magnitude_found d v ds rest all value small stops line at e))
       refl refl
@@ -409,7 +427,8 @@ module _ (d v : ℕ) (ds rest : List ℕ) (words : List Word) (all : AllDigits 1
   splits_plain : Splits (figures ++ rest) (Number false v ∷ words)
   splits_plain = record { read = plain_read; clean = both_clean figures rest figures_clean s.clean }
 
-  minus_read : (line : List ℕ) (at most : ℕ) → drop at line ≡ 45 ∷ (figures ++ rest) → suc (length (figures ++ rest)) < most → words_at line (tokens_within most line at) ≡ Ok (Number true v ∷ words)
+  minus_read : (line : List ℕ) (at most : ℕ) → drop at line ≡ 45 ∷ (figures ++ rest) → suc (length (figures ++ rest)) < most
+      → words_at line (tokens_within most line at) ≡ Ok (Number true v ∷ words)
   minus_read line at zero e lt = absurd (omega arith)
   minus_read line at (suc most) e lt =
       let behind_minus = left_at line (45 ∷ (figures ++ rest)) at 1 e in
@@ -423,12 +442,15 @@ module _ (d v : ℕ) (ds rest : List ℕ) (words : List Word) (all : AllDigits 1
   splits_negative : Splits (45 ∷ (figures ++ rest)) (Number true v ∷ words)
   splits_negative = record { read = minus_read; clean = both_clean figures rest figures_clean s.clean }
 
-by_figures : (bytes rest : List ℕ) (v : ℕ) (words : List Word) → IsNumeral 10 bytes → digits_value 10 bytes ≡ v → v < 2 ^ 33 → continues_name (slice_index rest 0) ≡ false → Splits rest words
+by_figures : (bytes rest : List ℕ) (v : ℕ) (words : List Word) → IsNumeral 10 bytes → digits_value 10 bytes ≡ v → v < 2 ^ 33
+    → continues_name (slice_index rest 0) ≡ false → Splits rest words
     → Splits (bytes ++ rest) (Number false v ∷ words) × Splits (45 ∷ (bytes ++ rest)) (Number true v ∷ words)
 by_figures [] rest v words n value small stops s = absurd (omega (arith, n.0))
-by_figures (d ∷ ds) rest v words n value small stops s = (splits_plain d v ds rest words n.1 value small stops s, splits_negative d v ds rest words n.1 value small stops s)
+by_figures (d ∷ ds) rest v words n value small stops s =
+    (splits_plain d v ds rest words n.1 value small stops s, splits_negative d v ds rest words n.1 value small stops s)
 
-pub splits_decimal : (v : ℕ) (rest : List ℕ) (words : List Word) → v < 2 ^ 33 → continues_name (slice_index rest 0) ≡ false → Splits rest words → Splits (decimal v ++ rest) (Number false v ∷ words)
+pub splits_decimal : (v : ℕ) (rest : List ℕ) (words : List Word) → v < 2 ^ 33 → continues_name (slice_index rest 0) ≡ false → Splits rest words
+    → Splits (decimal v ++ rest) (Number false v ∷ words)
 splits_decimal v rest words small stops s = let n = decimal_is_IsNumeral v (omega arith) in (by_figures (decimal v) rest v words n.0 n.1 small stops s).0
 
 abbrev pub is_negative : ℤ → Bool
@@ -439,9 +461,11 @@ abbrev pub size : ℤ → ℕ
 size (pos v) = v
 size (negsuc v) = suc v
 
-pub splits_signed : (z : ℤ) (rest : List ℕ) (words : List Word) → IsSignedField 16 z → continues_name (slice_index rest 0) ≡ false → Splits rest words → Splits (signed_decimal z ++ rest) (Number (is_negative z) (size z) ∷ words)
+pub splits_signed : (z : ℤ) (rest : List ℕ) (words : List Word) → IsSignedField 16 z → continues_name (slice_index rest 0) ≡ false → Splits rest words
+    → Splits (signed_decimal z ++ rest) (Number (is_negative z) (size z) ∷ words)
 splits_signed (pos v) rest words small stops s = splits_decimal v rest words (omega arith) stops s
-splits_signed (negsuc v) rest words small stops s = let n = decimal_is_IsNumeral (suc v) (omega arith) in (by_figures (decimal (suc v)) rest (suc v) words n.0 n.1 (omega arith) stops s).1
+splits_signed (negsuc v) rest words small stops s = let n = decimal_is_IsNumeral (suc v) (omega arith) in
+    (by_figures (decimal (suc v)) rest (suc v) words n.0 n.1 (omega arith) stops s).1
 
 -- a register's name
 pub register_name : (r : ℕ) → IsRegister r → is_name (register r) ≡ true

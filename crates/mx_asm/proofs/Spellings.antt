@@ -92,7 +92,8 @@ unfolding count
 count_read n h = ap (λ t. cond t (Ok n) (Err NumberOutOfRange)) (le-leb n 31 h)
 
 -- the effect of an instruction
-instruction_says : (K : Labels) (name : List ℕ) (mnemonic : Mnemonic) (words : List Word) (s : Statement) → IsMnemonic name mnemonic → spelled_by K mnemonic words ≡ Ok s → effect_of K section.Code (Name name ∷ words) ≡ Ok (Instruction s)
+instruction_says : (K : Labels) (name : List ℕ) (mnemonic : Mnemonic) (words : List Word) (s : Statement) → IsMnemonic name mnemonic
+    → spelled_by K mnemonic words ≡ Ok s → effect_of K section.Code (Name name ∷ words) ≡ Ok (Instruction s)
 unfolding effect_of instruction
 instruction_says K name mnemonic words s is h =
     ap (λ t. cond t (directed K section.Code (directive_named name) words) (instruction K name words >>= λ s. in_code section.Code s)) is.undotted
@@ -118,7 +119,8 @@ opens n xs words h s =
 hash : (rest : List ℕ) (words : List Word) → Splits rest words → Splits (35 ∷ rest) (Hash ∷ words)
 hash rest words s = splits_mark 35 kinds.Hash Hash is_hash rest words s
 
-register_comma : (r : ℕ) (rest : List ℕ) (words : List Word) → IsRegister r → Splits rest words → Splits (text.register r ++ 44 ∷ rest) (Name (text.register r) ∷ Comma ∷ words)
+register_comma : (r : ℕ) (rest : List ℕ) (words : List Word) → IsRegister r → Splits rest words
+    → Splits (text.register r ++ 44 ∷ rest) (Name (text.register r) ∷ Comma ∷ words)
 register_comma r rest words h s = name_comma (text.register r) rest words (register_name r h) s
 
 last_register : (r : ℕ) → IsRegister r → Splits (text.register r) (Name (text.register r) ∷ [])
@@ -126,7 +128,8 @@ last_register r h = last_name (text.register r) (register_name r h)
 
 -- `O[R],R`
 memory_splits : (z : ℤ) (base r : ℕ) → IsSignedField 16 z → IsRegister base → IsRegister r
-    → Splits (text.memory z base ++ 44 ∷ text.register r) (Number (is_negative z) (size z) ∷ Open ∷ Name (text.register base) ∷ Close ∷ Comma ∷ Name (text.register r) ∷ [])
+    → Splits (text.memory z base ++ 44 ∷ text.register r)
+    (Number (is_negative z) (size z) ∷ Open ∷ Name (text.register base) ∷ Close ∷ Comma ∷ Name (text.register r) ∷ [])
 memory_splits z base r small hb hr =
     subst (λ t. Splits t (Number (is_negative z) (size z) ∷ Open ∷ Name (text.register base) ∷ Close ∷ Comma ∷ Name (text.register r) ∷ [])) (sym flat)
     (splits_signed z _ _ small refl
@@ -158,7 +161,8 @@ width (x ∷ xs) = length x + 1 + width xs
 joined_short : (xs : List (List ℕ)) → length (join_with_byte 44 xs) ≤ width xs
 joined_short [] = omega arith
 joined_short (x ∷ []) = omega arith
-joined_short (x ∷ y ∷ xs) = let l : length (x ++ (44 ∷ join_with_byte 44 (y ∷ xs))) ≡ length x + suc (length (join_with_byte 44 (y ∷ xs))) = length-append x (44 ∷ join_with_byte 44 (y ∷ xs)) in omega (arith, joined_short (y ∷ xs))
+joined_short (x ∷ y ∷ xs) = let l : length (x ++ (44 ∷ join_with_byte 44 (y ∷ xs))) ≡ length x + suc (length (join_with_byte 44 (y ∷ xs))) = length-append x
+    (44 ∷ join_with_byte 44 (y ∷ xs)) in omega (arith, joined_short (y ∷ xs))
 
 spelled_short : (n : List ℕ) (xs : List (List ℕ)) → length n ≤ 6 → width xs ≤ 248 → length (spelled n xs) ≤ 255
 spelled_short n xs h k = simp length-append (omega (arith, joined_short xs))
@@ -166,7 +170,8 @@ spelled_short n xs h k = simp length-append (omega (arith, joined_short xs))
 comma : (rest : List ℕ) (words : List Word) → Splits rest words → Splits (44 ∷ rest) (Comma ∷ words)
 comma rest words s = splits_mark 44 kinds.Comma Comma is_comma rest words s
 
-is_mnemonic : (n : List ℕ) (mnemonic : Mnemonic) → (is_name n && not (is_dotted n) && leb (length n) 6) ≡ true → mnemonic_named n ≡ Some mnemonic → IsMnemonic n mnemonic
+is_mnemonic : (n : List ℕ) (mnemonic : Mnemonic) → (is_name n && not (is_dotted n) && leb (length n) 6) ≡ true → mnemonic_named n ≡ Some mnemonic
+    → IsMnemonic n mnemonic
 is_mnemonic n mnemonic h named =
     let b = and_both (is_name n && not (is_dotted n)) (leb (length n) 6) h in
     let c = and_both (is_name n) (not (is_dotted n)) b.0 in
@@ -180,8 +185,10 @@ module _ (labels : Labels) where
   abbrev SaysStatement : List ℕ → Statement → Type 0
   SaysStatement line s = Says labels section.Code line (Instruction s)
 
-  says_of : (n : List ℕ) (mnemonic : Mnemonic) (xs : List (List ℕ)) (words : List Word) (s : Statement) → IsMnemonic n mnemonic → Splits (join_with_byte 44 xs) words
-      → begins_label (Name n ∷ words) ≡ false → section_after section.Code (Name n ∷ words) ≡ section.Code → width xs ≤ 248 → ((K : Labels) → SameLabels K labels → spelled_by K mnemonic words ≡ Ok s)
+  says_of : (n : List ℕ) (mnemonic : Mnemonic) (xs : List (List ℕ)) (words : List Word) (s : Statement) → IsMnemonic n mnemonic
+      → Splits (join_with_byte 44 xs) words
+      → begins_label (Name n ∷ words) ≡ false → section_after section.Code (Name n ∷ words) ≡ section.Code → width xs ≤ 248
+      → ((K : Labels) → SameLabels K labels → spelled_by K mnemonic words ≡ Ok s)
       → SaysStatement (spelled n xs) s
   says_of n mnemonic xs words s is splits front stays few reads = record {
     words = Name n ∷ words;
@@ -192,15 +199,18 @@ module _ (labels : Labels) where
     effect = λ K same. instruction_says K n mnemonic words s is (reads K same);
   }
 
-  three_says : (n : List ℕ) (op : Op) (a b d : ℕ) → IsMnemonic n (m.Compute op) → IsRegister a → IsRegister b → IsRegister d → SaysStatement (spelled n (text.register a ∷ text.register b ∷ text.register d ∷ [])) (Plain (inst.Compute a d b op))
+  three_says : (n : List ℕ) (op : Op) (a b d : ℕ) → IsMnemonic n (m.Compute op) → IsRegister a → IsRegister b → IsRegister d
+      → SaysStatement (spelled n (text.register a ∷ text.register b ∷ text.register d ∷ [])) (Plain (inst.Compute a d b op))
   unfolding spelled_by compute
   three_says n op a b d is ha hb hd =
       let la = register_short a ha in let lb = register_short b hb in let ld = register_short d hd in
-      says_of n (m.Compute op) (text.register a ∷ text.register b ∷ text.register d ∷ []) (Name (text.register a) ∷ Comma ∷ Name (text.register b) ∷ Comma ∷ Name (text.register d) ∷ [])
+      says_of n (m.Compute op) (text.register a ∷ text.register b ∷ text.register d ∷ [])
+      (Name (text.register a) ∷ Comma ∷ Name (text.register b) ∷ Comma ∷ Name (text.register d) ∷ [])
       (Plain (inst.Compute a d b op)) is (register_comma a _ _ ha (register_comma b _ _ hb (last_register d hd))) refl refl (omega arith)
       (λ K same. bind_is _ _ a _ (register_read a ha) (bind_is _ _ b _ (register_read b hb) (bind_is _ _ d _ (register_read d hd) refl)))
 
-  not_says : (a d : ℕ) → IsRegister a → IsRegister d → SaysStatement (spelled (codes "not") (text.register a ∷ text.register d ∷ [])) (Plain (inst.Compute a d 0 Not))
+  not_says : (a d : ℕ) → IsRegister a → IsRegister d
+      → SaysStatement (spelled (codes "not") (text.register a ∷ text.register d ∷ [])) (Plain (inst.Compute a d 0 Not))
   unfolding spelled_by of_one mnemonic_named mnemonics
   not_says a d ha hd =
       let la = register_short a ha in let ld = register_short d hd in
@@ -208,54 +218,69 @@ module _ (labels : Labels) where
       (Plain (inst.Compute a d 0 Not)) (is_mnemonic (codes "not") m.Not refl refl) (register_comma a _ _ ha (last_register d hd)) refl refl (omega arith)
       (λ K same. bind_is _ _ a _ (register_read a ha) (bind_is _ _ d _ (register_read d hd) refl))
 
-  mstart_says : (b d : ℕ) → IsRegister b → IsRegister d → SaysStatement (spelled (codes "mstart") (text.register b ∷ text.register d ∷ [])) (Plain (inst.Compute 0 d b Mstart))
+  mstart_says : (b d : ℕ) → IsRegister b → IsRegister d
+      → SaysStatement (spelled (codes "mstart") (text.register b ∷ text.register d ∷ [])) (Plain (inst.Compute 0 d b Mstart))
   unfolding spelled_by mstart mnemonic_named mnemonics
   mstart_says b d hb hd =
       let lb = register_short b hb in let ld = register_short d hd in
       says_of (codes "mstart") m.Mstart (text.register b ∷ text.register d ∷ []) (Name (text.register b) ∷ Comma ∷ Name (text.register d) ∷ [])
-      (Plain (inst.Compute 0 d b Mstart)) (is_mnemonic (codes "mstart") m.Mstart refl refl) (register_comma b _ _ hb (last_register d hd)) refl refl (omega arith)
+      (Plain (inst.Compute 0 d b Mstart)) (is_mnemonic (codes "mstart") m.Mstart refl refl) (register_comma b _ _ hb (last_register d hd)) refl refl
+      (omega arith)
       (λ K same. bind_is _ _ b _ (register_read b hb) (bind_is _ _ d _ (register_read d hd) refl))
 
-  asr_says : (a d n : ℕ) → IsRegister a → IsRegister d → n ≤ 31 → SaysStatement (spelled (codes "asr") (text.register a ∷ text.count n ∷ text.register d ∷ [])) (Plain (inst.Compute a d 0 (Asr n)))
+  asr_says : (a d n : ℕ) → IsRegister a → IsRegister d → n ≤ 31
+      → SaysStatement (spelled (codes "asr") (text.register a ∷ text.count n ∷ text.register d ∷ [])) (Plain (inst.Compute a d 0 (Asr n)))
   unfolding spelled_by asr mnemonic_named mnemonics
   asr_says a d n ha hd hn =
       let la = register_short a ha in let ld = register_short d hd in let ln = decimal_short n (omega arith) in
-      says_of (codes "asr") m.Asr (text.register a ∷ text.count n ∷ text.register d ∷ []) (Name (text.register a) ∷ Comma ∷ Hash ∷ Number false n ∷ Comma ∷ Name (text.register d) ∷ [])
+      says_of (codes "asr") m.Asr (text.register a ∷ text.count n ∷ text.register d ∷ [])
+      (Name (text.register a) ∷ Comma ∷ Hash ∷ Number false n ∷ Comma ∷ Name (text.register d) ∷ [])
       (Plain (inst.Compute a d 0 (Asr n))) (is_mnemonic (codes "asr") m.Asr refl refl)
-      (register_comma a _ _ ha (hash _ _ (splits_decimal n (44 ∷ text.register d) _ (omega arith) refl (comma _ _ (last_register d hd))))) refl refl (omega arith)
+      (register_comma a _ _ ha (hash _ _ (splits_decimal n (44 ∷ text.register d) _ (omega arith) refl (comma _ _ (last_register d hd))))) refl refl
+      (omega arith)
       (λ K same. bind_is _ _ a _ (register_read a ha) (bind_is _ _ d _ (register_read d hd) (bind_is _ _ n _ (count_read n hn) refl)))
 
-  sh_says : (a b d n : ℕ) → IsRegister a → IsRegister b → IsRegister d → n ≤ 31 → SaysStatement (spelled (codes "sh") (text.register a ∷ text.register b ∷ text.count n ∷ text.register d ∷ [])) (Plain (inst.Compute a d b (Sh n)))
+  sh_says : (a b d n : ℕ) → IsRegister a → IsRegister b → IsRegister d → n ≤ 31
+      → SaysStatement (spelled (codes "sh") (text.register a ∷ text.register b ∷ text.count n ∷ text.register d ∷ [])) (Plain (inst.Compute a d b (Sh n)))
   unfolding spelled_by sh mnemonic_named mnemonics
   sh_says a b d n ha hb hd hn =
       let la = register_short a ha in let lb = register_short b hb in let ld = register_short d hd in let ln = decimal_short n (omega arith) in
-      says_of (codes "sh") m.Sh (text.register a ∷ text.register b ∷ text.count n ∷ text.register d ∷ []) (Name (text.register a) ∷ Comma ∷ Name (text.register b) ∷ Comma ∷ Hash ∷ Number false n ∷ Comma ∷ Name (text.register d) ∷ [])
+      says_of (codes "sh") m.Sh (text.register a ∷ text.register b ∷ text.count n ∷ text.register d ∷ [])
+      (Name (text.register a) ∷ Comma ∷ Name (text.register b) ∷ Comma ∷ Hash ∷ Number false n ∷ Comma ∷ Name (text.register d) ∷ [])
       (Plain (inst.Compute a d b (Sh n))) (is_mnemonic (codes "sh") m.Sh refl refl)
-      (register_comma a _ _ ha (register_comma b _ _ hb (hash _ _ (splits_decimal n (44 ∷ text.register d) _ (omega arith) refl (comma _ _ (last_register d hd)))))) refl refl (omega arith)
-      (λ K same. bind_is _ _ a _ (register_read a ha) (bind_is _ _ b _ (register_read b hb) (bind_is _ _ d _ (register_read d hd) (bind_is _ _ n _ (count_read n hn) refl))))
+      (register_comma a _ _ ha (register_comma b _ _ hb
+      (hash _ _ (splits_decimal n (44 ∷ text.register d) _ (omega arith) refl (comma _ _ (last_register d hd)))))) refl refl (omega arith)
+      (λ K same. bind_is _ _ a _ (register_read a ha)
+      (bind_is _ _ b _ (register_read b hb) (bind_is _ _ d _ (register_read d hd) (bind_is _ _ n _ (count_read n hn) refl))))
 
-  addi_says : (a d : ℕ) (z : ℤ) → IsRegister a → IsRegister d → IsSignedField 16 z → SaysStatement (spelled (codes "addi") (text.register a ∷ text.immediate z ∷ text.register d ∷ [])) (Plain (inst.Addi a d z))
+  addi_says : (a d : ℕ) (z : ℤ) → IsRegister a → IsRegister d → IsSignedField 16 z
+      → SaysStatement (spelled (codes "addi") (text.register a ∷ text.immediate z ∷ text.register d ∷ [])) (Plain (inst.Addi a d z))
   unfolding spelled_by addi mnemonic_named mnemonics
   addi_says a d z ha hd hz =
       let la = register_short a ha in let ld = register_short d hd in let lz = signed_short z hz in
-      says_of (codes "addi") m.Addi (text.register a ∷ text.immediate z ∷ text.register d ∷ []) (Name (text.register a) ∷ Comma ∷ Hash ∷ Number (is_negative z) (size z) ∷ Comma ∷ Name (text.register d) ∷ [])
+      says_of (codes "addi") m.Addi (text.register a ∷ text.immediate z ∷ text.register d ∷ [])
+      (Name (text.register a) ∷ Comma ∷ Hash ∷ Number (is_negative z) (size z) ∷ Comma ∷ Name (text.register d) ∷ [])
       (Plain (inst.Addi a d z)) (is_mnemonic (codes "addi") m.Addi refl refl)
       (register_comma a _ _ ha (hash _ _ (splits_signed z (44 ∷ text.register d) _ hz refl (comma _ _ (last_register d hd))))) refl refl (omega arith)
       (λ K same. bind_is _ _ a _ (register_read a ha) (bind_is _ _ d _ (register_read d hd) (bind_is _ _ z _ (immediate_read z hz) refl)))
 
-  load_says : (base d : ℕ) (z : ℤ) → IsRegister base → IsRegister d → IsSignedField 16 z → SaysStatement (spelled (codes "ld") (text.memory z base ∷ text.register d ∷ [])) (Plain (inst.Load base d z))
+  load_says : (base d : ℕ) (z : ℤ) → IsRegister base → IsRegister d → IsSignedField 16 z
+      → SaysStatement (spelled (codes "ld") (text.memory z base ∷ text.register d ∷ [])) (Plain (inst.Load base d z))
   unfolding spelled_by load offset mnemonic_named mnemonics
   load_says base d z hb hd hz =
       let lb = memory_short z base hz hb in let ld = register_short d hd in
-      says_of (codes "ld") m.Load (text.memory z base ∷ text.register d ∷ []) (Number (is_negative z) (size z) ∷ Open ∷ Name (text.register base) ∷ Close ∷ Comma ∷ Name (text.register d) ∷ [])
+      says_of (codes "ld") m.Load (text.memory z base ∷ text.register d ∷ [])
+      (Number (is_negative z) (size z) ∷ Open ∷ Name (text.register base) ∷ Close ∷ Comma ∷ Name (text.register d) ∷ [])
       (Plain (inst.Load base d z)) (is_mnemonic (codes "ld") m.Load refl refl) (memory_splits z base d hz hb hd) refl refl (omega arith)
       (λ K same. bind_is _ _ base _ (register_read base hb) (bind_is _ _ d _ (register_read d hd) (bind_is _ _ z _ (immediate_read z hz) refl)))
 
-  store_says : (base d : ℕ) (z : ℤ) → IsRegister base → IsRegister d → IsSignedField 16 z → SaysStatement (spelled (codes "st") (text.memory z base ∷ text.register d ∷ [])) (Plain (inst.Store base d z))
+  store_says : (base d : ℕ) (z : ℤ) → IsRegister base → IsRegister d → IsSignedField 16 z
+      → SaysStatement (spelled (codes "st") (text.memory z base ∷ text.register d ∷ [])) (Plain (inst.Store base d z))
   unfolding spelled_by store offset mnemonic_named mnemonics
   store_says base d z hb hd hz =
       let lb = memory_short z base hz hb in let ld = register_short d hd in
-      says_of (codes "st") m.Store (text.memory z base ∷ text.register d ∷ []) (Number (is_negative z) (size z) ∷ Open ∷ Name (text.register base) ∷ Close ∷ Comma ∷ Name (text.register d) ∷ [])
+      says_of (codes "st") m.Store (text.memory z base ∷ text.register d ∷ [])
+      (Number (is_negative z) (size z) ∷ Open ∷ Name (text.register base) ∷ Close ∷ Comma ∷ Name (text.register d) ∷ [])
       (Plain (inst.Store base d z)) (is_mnemonic (codes "st") m.Store refl refl) (memory_splits z base d hz hb hd) refl refl (omega arith)
       (λ K same. bind_is _ _ base _ (register_read base hb) (bind_is _ _ d _ (register_read d hd) (bind_is _ _ z _ (immediate_read z hz) refl)))
 
@@ -264,7 +289,8 @@ module _ (labels : Labels) where
   move_from_says d hd =
       let ld = register_short d hd in
       says_of (codes "movfrs") m.MoveFrom (codes "md" ∷ text.register d ∷ []) (Name (codes "md") ∷ Comma ∷ Name (text.register d) ∷ [])
-      (Plain (inst.MoveFrom d Md)) (is_mnemonic (codes "movfrs") m.MoveFrom refl refl) (name_comma (codes "md") _ _ refl (last_register d hd)) refl refl (omega arith)
+      (Plain (inst.MoveFrom d Md)) (is_mnemonic (codes "movfrs") m.MoveFrom refl refl) (name_comma (codes "md") _ _ refl (last_register d hd)) refl refl
+      (omega arith)
       (λ K same. bind_is _ _ d _ (register_read d hd) refl)
 
   move_to_says : (a : ℕ) → IsRegister a → SaysStatement (spelled (codes "movtos") (text.register a ∷ codes "md" ∷ [])) (Plain (inst.MoveTo a Md))
@@ -272,7 +298,8 @@ module _ (labels : Labels) where
   move_to_says a ha =
       let la = register_short a ha in
       says_of (codes "movtos") m.MoveTo (text.register a ∷ codes "md" ∷ []) (Name (text.register a) ∷ Comma ∷ Name (codes "md") ∷ [])
-      (Plain (inst.MoveTo a Md)) (is_mnemonic (codes "movtos") m.MoveTo refl refl) (register_comma a _ _ ha (last_name (codes "md") refl)) refl refl (omega arith)
+      (Plain (inst.MoveTo a Md)) (is_mnemonic (codes "movtos") m.MoveTo refl refl) (register_comma a _ _ ha (last_name (codes "md") refl)) refl refl
+      (omega arith)
       (λ K same. bind_is _ _ a _ (register_read a ha) refl)
 
   -- names of places
@@ -289,14 +316,17 @@ module _ (labels : Labels) where
   la_says d i hd hi =
       let ld = register_short d hd in let li = hi.name.short in
       says_of (codes "la") m.LoadAddress (place_name labels i ∷ text.register d ∷ []) (Name (place_name labels i) ∷ Comma ∷ Name (text.register d) ∷ [])
-      (LaCode d i) (is_mnemonic (codes "la") m.LoadAddress refl refl) (name_comma (place_name labels i) _ _ hi.name.spelled (last_register d hd)) refl refl (omega arith)
+      (LaCode d i) (is_mnemonic (codes "la") m.LoadAddress refl refl) (name_comma (place_name labels i) _ _ hi.name.spelled (last_register d hd)) refl refl
+      (omega arith)
       (λ K same. bind_is _ _ d _ (register_read d hd) (bind_is _ _ (label.Code i) _ (place_read K i same hi) refl))
 
-  branch_says : (n : List ℕ) (a b i : ℕ) (c : Cond) → IsMnemonic n (m.Branch c) → IsRegister a → IsRegister b → Placed labels i → SaysStatement (spelled n (text.register a ∷ text.register b ∷ place_name labels i ∷ [])) (Branch a b c i)
+  branch_says : (n : List ℕ) (a b i : ℕ) (c : Cond) → IsMnemonic n (m.Branch c) → IsRegister a → IsRegister b → Placed labels i
+      → SaysStatement (spelled n (text.register a ∷ text.register b ∷ place_name labels i ∷ [])) (Branch a b c i)
   unfolding spelled_by branch
   branch_says n a b i c is ha hb hi =
       let la = register_short a ha in let lb = register_short b hb in let li = hi.name.short in
-      says_of n (m.Branch c) (text.register a ∷ text.register b ∷ place_name labels i ∷ []) (Name (text.register a) ∷ Comma ∷ Name (text.register b) ∷ Comma ∷ Name (place_name labels i) ∷ [])
+      says_of n (m.Branch c) (text.register a ∷ text.register b ∷ place_name labels i ∷ [])
+      (Name (text.register a) ∷ Comma ∷ Name (text.register b) ∷ Comma ∷ Name (place_name labels i) ∷ [])
       (Branch a b c i) is (register_comma a _ _ ha (register_comma b _ _ hb (last_name (place_name labels i) hi.name.spelled))) refl refl (omega arith)
       (λ K same. bind_is _ _ a _ (register_read a ha) (bind_is _ _ b _ (register_read b hb) (bind_is _ _ i _ (code_read K i same hi) refl)))
 
@@ -305,7 +335,8 @@ module _ (labels : Labels) where
   call_says d i hd hi =
       let ld = register_short d hd in let li = hi.name.short in
       says_of (codes "call") m.Call (place_name labels i ∷ text.register d ∷ []) (Name (place_name labels i) ∷ Comma ∷ Name (text.register d) ∷ [])
-      (Call d i) (is_mnemonic (codes "call") m.Call refl refl) (name_comma (place_name labels i) _ _ hi.name.spelled (last_register d hd)) refl refl (omega arith)
+      (Call d i) (is_mnemonic (codes "call") m.Call refl refl) (name_comma (place_name labels i) _ _ hi.name.spelled (last_register d hd)) refl refl
+      (omega arith)
       (λ K same. bind_is _ _ d _ (register_read d hd) (bind_is _ _ i _ (code_read K i same hi) refl))
 
   call_register_says : (a d : ℕ) → IsRegister a → IsRegister d → SaysStatement (spelled (codes "callr") (text.register a ∷ text.register d ∷ [])) (CallReg a d)
@@ -320,7 +351,8 @@ module _ (labels : Labels) where
   unfolding spelled_by jump mnemonic_named mnemonics
   jump_says a ha =
       let la = register_short a ha in
-      says_of (codes "jr") m.JumpReg (text.register a ∷ []) (Name (text.register a) ∷ []) (JumpReg a) (is_mnemonic (codes "jr") m.JumpReg refl refl) (last_register a ha) refl refl (omega arith)
+      says_of (codes "jr") m.JumpReg (text.register a ∷ []) (Name (text.register a) ∷ []) (JumpReg a) (is_mnemonic (codes "jr") m.JumpReg refl refl)
+      (last_register a ha) refl refl (omega arith)
       (λ K same. bind_is _ _ a _ (register_read a ha) refl)
 
   halt_says : SaysStatement (codes "halt") Halt
@@ -334,7 +366,8 @@ module _ (labels : Labels) where
     effect = λ K same. instruction_says K (codes "halt") m.Halt [] Halt (is_mnemonic (codes "halt") m.Halt refl refl) refl;
   }
 
-  compute_says : (op : Op) (a b d : ℕ) → OpFits op a b → IsRegister a → IsRegister b → IsRegister d → SaysStatement (compute_text op a b d) (Plain (inst.Compute a d b op))
+  compute_says : (op : Op) (a b d : ℕ) → OpFits op a b → IsRegister a → IsRegister b → IsRegister d
+      → SaysStatement (compute_text op a b d) (Plain (inst.Compute a d b op))
   unfolding mnemonic_named mnemonics
   compute_says Add a b d h ha hb hd = three_says (codes "add") Add a b d (is_mnemonic (codes "add") (m.Compute Add) refl refl) ha hb hd
   compute_says Sub a b d h ha hb hd = three_says (codes "sub") Sub a b d (is_mnemonic (codes "sub") (m.Compute Sub) refl refl) ha hb hd
@@ -347,8 +380,10 @@ module _ (labels : Labels) where
   compute_says Mstep a b d h ha hb hd = three_says (codes "mstep") Mstep a b d (is_mnemonic (codes "mstep") (m.Compute Mstep) refl refl) ha hb hd
   compute_says Dstep a b d h ha hb hd = three_says (codes "dstep") Dstep a b d (is_mnemonic (codes "dstep") (m.Compute Dstep) refl refl) ha hb hd
   compute_says Not a b d h ha hb hd = subst (λ k. SaysStatement (compute_text Not a k d) (Plain (inst.Compute a d k Not))) (sym h) (not_says a d ha hd)
-  compute_says Mstart a b d h ha hb hd = subst (λ k. SaysStatement (compute_text Mstart k b d) (Plain (inst.Compute k d b Mstart))) (sym h) (mstart_says b d hb hd)
-  compute_says (Asr n) a b d h ha hb hd = subst (λ k. SaysStatement (compute_text (Asr n) a k d) (Plain (inst.Compute a d k (Asr n)))) (sym h.1) (asr_says a d n ha hd h.0)
+  compute_says Mstart a b d h ha hb hd = subst (λ k. SaysStatement (compute_text Mstart k b d) (Plain (inst.Compute k d b Mstart))) (sym h)
+      (mstart_says b d hb hd)
+  compute_says (Asr n) a b d h ha hb hd = subst (λ k. SaysStatement (compute_text (Asr n) a k d) (Plain (inst.Compute a d k (Asr n)))) (sym h.1)
+      (asr_says a d n ha hd h.0)
   compute_says (Sh n) a b d h ha hb hd = sh_says a b d n ha hb hd h
 
   plain_says : (i : Inst) → IsPlain i → InstFits i → HasRegisters i → SaysStatement (instruction_text i) (Plain i)
@@ -370,7 +405,8 @@ module _ (labels : Labels) where
   plain_says inst.Jpcrs p f r = absurd p
   plain_says inst.Halt p f r = absurd p
 
-  condition_says : (c : Cond) (a b i : ℕ) → IsRegister a → IsRegister b → Placed labels i → SaysStatement (spelled (condition_text c) (text.register a ∷ text.register b ∷ place_name labels i ∷ [])) (Branch a b c i)
+  condition_says : (c : Cond) (a b i : ℕ) → IsRegister a → IsRegister b → Placed labels i
+      → SaysStatement (spelled (condition_text c) (text.register a ∷ text.register b ∷ place_name labels i ∷ [])) (Branch a b c i)
   unfolding mnemonic_named mnemonics
   condition_says Eq a b i ha hb hi = branch_says (codes "beq") a b i Eq (is_mnemonic (codes "beq") (m.Branch Eq) refl refl) ha hb hi
   condition_says Ne a b i ha hb hi = branch_says (codes "bne") a b i Ne (is_mnemonic (codes "bne") (m.Branch Ne) refl refl) ha hb hi
@@ -380,7 +416,8 @@ module _ (labels : Labels) where
   condition_says Hs a b i ha hb hi = branch_says (codes "bhs") a b i Hs (is_mnemonic (codes "bhs") (m.Branch Hs) refl refl) ha hb hi
 
   -- the text of a statement says it
-  pub statement_says : (count : ℕ) → ((i : ℕ) → IsPlace labels count i → Placed labels i) → (s : Statement) → StatementFits (IsPlace labels count) s → NamesRegisters s → SaysStatement (statement_text labels s) s
+  pub statement_says : (count : ℕ) → ((i : ℕ) → IsPlace labels count i → Placed labels i) → (s : Statement) → StatementFits (IsPlace labels count) s
+      → NamesRegisters s → SaysStatement (statement_text labels s) s
   statement_says count placed (Plain i) f r = plain_says i f.0 f.1 r
   statement_says count placed (LaCode d i) f r = la_says d i r (placed i f)
   statement_says count placed (Branch a b c i) f r = condition_says c a b i r.0 r.1 (placed i f)
@@ -390,7 +427,8 @@ module _ (labels : Labels) where
   statement_says count placed Halt f r = halt_says
 
   -- data words
-  word_effect : (K : Labels) (words : List Word) (vs : List Value) → word_values K words ≡ Ok vs → effect_of K section.Data (Name (codes ".word") ∷ words) ≡ Ok (Data vs)
+  word_effect : (K : Labels) (words : List Word) (vs : List Value) → word_values K words ≡ Ok vs
+      → effect_of K section.Data (Name (codes ".word") ∷ words) ≡ Ok (Data vs)
   unfolding effect_of directive_named directed
   word_effect K words vs h = ap (λ r. r >>= λ vs. in_data section.Data vs) h
 

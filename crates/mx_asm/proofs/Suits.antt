@@ -64,7 +64,8 @@ signed false value h = let e : value ≤ 65535 = grind (arith, nat_tests) in ome
 
 immediate_fits : (negative : Bool) (value : ℕ) → IfOk (immediate negative value) (IsSignedField 16)
 unfolding immediate
-immediate_fits negative value = cond_fits (IsSignedField 16) (in_range 65536 65535 negative value) (integer negative value) NumberOutOfRange (signed negative value)
+immediate_fits negative value = cond_fits (IsSignedField 16) (in_range 65536 65535 negative value) (integer negative value) NumberOutOfRange
+    (signed negative value)
 
 few : (negative : Bool) (value : ℕ) → in_range 0 31 negative value ≡ true → value ≤ 31
 few true value h = let e : value ≤ 0 = grind (arith, nat_tests) in omega (arith, e)
@@ -91,7 +92,8 @@ module _ (labels : Labels) (statements : ℕ) (fit : LabelsFit statements labels
 
   code_fits : (name : List ℕ) → IfOk (code_label labels name) Place
   unfolding code_label
-  code_fits name = bind_fits Place (any_label labels name) code_index (λ l e. index_fits l (was_fit (NamedFits labels statements) (any_label labels name) l (label_fits name) e))
+  code_fits name = bind_fits Place (any_label labels name) code_index
+      (λ l e. index_fits l (was_fit (NamedFits labels statements) (any_label labels name) l (label_fits name) e))
 
   address_fits : (l : Label) → NamedFits labels statements l → IfOk (data_address l) (λ a. a < 65536)
   address_fits (Code i) h = tt
@@ -99,12 +101,14 @@ module _ (labels : Labels) (statements : ℕ) (fit : LabelsFit statements labels
 
   data_fits : (name : List ℕ) → IfOk (data_label labels name) (λ a. a < 65536)
   unfolding data_label
-  data_fits name = bind_fits (λ a. a < 65536) (any_label labels name) data_address (λ l e. address_fits l (was_fit (NamedFits labels statements) (any_label labels name) l (label_fits name) e))
+  data_fits name = bind_fits (λ a. a < 65536) (any_label labels name) data_address
+      (λ l e. address_fits l (was_fit (NamedFits labels statements) (any_label labels name) l (label_fits name) e))
 
   offset_fits : (word : Word) → IfOk (offset labels word) (IsSignedField 16)
   unfolding offset
   offset_fits (Number negative value) = immediate_fits negative value
-  offset_fits (Name name) = bind_fits (IsSignedField 16) (data_label labels name) (λ a. Ok (pos a)) (λ a e. let h : a < 65536 = was_fit (λ a. a < 65536) (data_label labels name) a (data_fits name) e in omega (arith, h))
+  offset_fits (Name name) = bind_fits (IsSignedField 16) (data_label labels name) (λ a. Ok (pos a))
+      (λ a e. let h : a < 65536 = was_fit (λ a. a < 65536) (data_label labels name) a (data_fits name) e in omega (arith, h))
   offset_fits _ = tt
 
   compute_fits : (o : Op) (words : List Word) → uses_both o ≡ true → IfOk (compute o words) Fits
@@ -142,7 +146,8 @@ module _ (labels : Labels) (statements : ℕ) (fit : LabelsFit statements labels
       bind_fits Fits (name_number_name words) _ (λ operands e.
       bind_fits Fits (register operands.source) _ (λ a e1.
       bind_fits Fits (register operands.dest) _ (λ dest e2.
-      bind_fits Fits (count operands.negative operands.value) _ (λ n e3. (tt, (was_fit (λ k. k ≤ 31) (count operands.negative operands.value) n (count_fits operands.negative operands.value) e3, refl))))))
+      bind_fits Fits (count operands.negative operands.value) _
+      (λ n e3. (tt, (was_fit (λ k. k ≤ 31) (count operands.negative operands.value) n (count_fits operands.negative operands.value) e3, refl))))))
 
   sh_fits : (words : List Word) → IfOk (sh words) Fits
   unfolding sh
@@ -151,7 +156,8 @@ module _ (labels : Labels) (statements : ℕ) (fit : LabelsFit statements labels
       bind_fits Fits (register operands.first) _ (λ a e1.
       bind_fits Fits (register operands.second) _ (λ b e2.
       bind_fits Fits (register operands.dest) _ (λ dest e3.
-      bind_fits Fits (count operands.negative operands.value) _ (λ n e4. (tt, was_fit (λ k. k ≤ 31) (count operands.negative operands.value) n (count_fits operands.negative operands.value) e4))))))
+      bind_fits Fits (count operands.negative operands.value) _
+      (λ n e4. (tt, was_fit (λ k. k ≤ 31) (count operands.negative operands.value) n (count_fits operands.negative operands.value) e4))))))
 
   addi_fits : (words : List Word) → IfOk (addi words) Fits
   unfolding addi
@@ -159,7 +165,8 @@ module _ (labels : Labels) (statements : ℕ) (fit : LabelsFit statements labels
       bind_fits Fits (name_number_name words) _ (λ operands e.
       bind_fits Fits (register operands.source) _ (λ a e1.
       bind_fits Fits (register operands.dest) _ (λ dest e2.
-      bind_fits Fits (immediate operands.negative operands.value) _ (λ n e3. (tt, was_fit (IsSignedField 16) (immediate operands.negative operands.value) n (immediate_fits operands.negative operands.value) e3)))))
+      bind_fits Fits (immediate operands.negative operands.value) _
+      (λ n e3. (tt, was_fit (IsSignedField 16) (immediate operands.negative operands.value) n (immediate_fits operands.negative operands.value) e3)))))
 
   nop_fits : (words : List Word) → IfOk (nop words) Fits
   unfolding nop
@@ -201,7 +208,8 @@ module _ (labels : Labels) (statements : ℕ) (fit : LabelsFit statements labels
       bind_fits Fits (memory words) _ (λ operands e.
       bind_fits Fits (register operands.base) _ (λ base e1.
       bind_fits Fits (register operands.register) _ (λ dest e2.
-      bind_fits Fits (offset labels operands.offset) _ (λ o e3. (tt, was_fit (IsSignedField 16) (offset labels operands.offset) o (offset_fits operands.offset) e3)))))
+      bind_fits Fits (offset labels operands.offset) _
+      (λ o e3. (tt, was_fit (IsSignedField 16) (offset labels operands.offset) o (offset_fits operands.offset) e3)))))
 
   store_fits : (words : List Word) → IfOk (store labels words) Fits
   unfolding store
@@ -209,7 +217,8 @@ module _ (labels : Labels) (statements : ℕ) (fit : LabelsFit statements labels
       bind_fits Fits (memory words) _ (λ operands e.
       bind_fits Fits (register operands.base) _ (λ base e1.
       bind_fits Fits (register operands.register) _ (λ value e2.
-      bind_fits Fits (offset labels operands.offset) _ (λ o e3. (tt, was_fit (IsSignedField 16) (offset labels operands.offset) o (offset_fits operands.offset) e3)))))
+      bind_fits Fits (offset labels operands.offset) _
+      (λ o e3. (tt, was_fit (IsSignedField 16) (offset labels operands.offset) o (offset_fits operands.offset) e3)))))
 
   address_of_fits : (l : Label) (dest : ℕ) → NamedFits labels statements l → Fits (address_of l dest)
   address_of_fits (Code i) dest h = h
@@ -220,7 +229,8 @@ module _ (labels : Labels) (statements : ℕ) (fit : LabelsFit statements labels
   load_address_fits words =
       bind_fits Fits (two_names words) _ (λ names e.
       bind_fits Fits (register names.1) _ (λ dest e1.
-      bind_fits Fits (any_label labels names.0) _ (λ l e2. address_of_fits l dest (was_fit (NamedFits labels statements) (any_label labels names.0) l (label_fits names.0) e2))))
+      bind_fits Fits (any_label labels names.0) _
+      (λ l e2. address_of_fits l dest (was_fit (NamedFits labels statements) (any_label labels names.0) l (label_fits names.0) e2))))
 
   branch_fits : (c : Cond) (words : List Word) → IfOk (branch labels c words) Fits
   unfolding branch
@@ -296,7 +306,8 @@ module _ (labels : Labels) (statements : ℕ) (fit : LabelsFit statements labels
   if_some_cond P true x o here there = here
   if_some_cond P false x o here there = there
 
-  rows_regular : (rows : List (List ℕ × Mnemonic)) (name : List ℕ) → list_all (λ r. is_regular r.1) rows ≡ true → IfSome (spelled rows name) (λ n. is_regular n ≡ true)
+  rows_regular : (rows : List (List ℕ × Mnemonic)) (name : List ℕ) → list_all (λ r. is_regular r.1) rows ≡ true
+      → IfSome (spelled rows name) (λ n. is_regular n ≡ true)
   rows_regular [] name h = tt
   rows_regular (row ∷ rows) name h =
       let parts = and_parts (is_regular row.1) (list_all (λ r. is_regular r.1) rows) h in
@@ -326,7 +337,8 @@ module _ (labels : Labels) (statements : ℕ) (fit : LabelsFit statements labels
 
   value_fits : (word : Word) → IfOk (value_of labels word) FitsData
   value_fits (Number negative value) = bind_fits FitsData (data_word negative value) _ (λ w e. tt)
-  value_fits (Name name) = bind_fits FitsData (any_label labels name) _ (λ l e. at_fits l (was_fit (NamedFits labels statements) (any_label labels name) l (label_fits name) e))
+  value_fits (Name name) = bind_fits FitsData (any_label labels name) _
+      (λ l e. at_fits l (was_fit (NamedFits labels statements) (any_label labels name) l (label_fits name) e))
   value_fits _ = tt
 
   cons_fits : (v : Value) (r : Result (List Value) Fault) → FitsData v → IfOk r (All FitsData) → IfOk (cons v r) (All FitsData)
@@ -336,7 +348,8 @@ module _ (labels : Labels) (statements : ℕ) (fit : LabelsFit statements labels
   values_fit : (words : List Word) → IfOk (values_of labels words) (All FitsData)
   values_fit [] = All-nil FitsData
   values_fit (word ∷ words) =
-      bind_fits (All FitsData) (value_of labels word) _ (λ v e. cons_fits v (values_of labels words) (was_fit FitsData (value_of labels word) v (value_fits word) e) (values_fit words))
+      bind_fits (All FitsData) (value_of labels word) _
+      (λ v e. cons_fits v (values_of labels words) (was_fit FitsData (value_of labels word) v (value_fits word) e) (values_fit words))
 
   word_values_fit : (words : List Word) → IfOk (word_values labels words) (All FitsData)
   unfolding word_values
@@ -365,7 +378,8 @@ module _ (labels : Labels) (statements : ℕ) (fit : LabelsFit statements labels
   directed_fits s (Some d.Code) words = alone_fits Nothing words tt
   directed_fits s (Some d.Data) words = alone_fits Nothing words tt
   directed_fits s (Some d.Input) words = alone_fits Input words tt
-  directed_fits s (Some d.Word) words = bind_fits FitsEffect (word_values labels words) _ (λ values e. in_data_fits s values (was_fit (All FitsData) (word_values labels words) values (word_values_fit words) e))
+  directed_fits s (Some d.Word) words = bind_fits FitsEffect (word_values labels words) _
+      (λ values e. in_data_fits s values (was_fit (All FitsData) (word_values labels words) values (word_values_fit words) e))
   directed_fits s (Some d.Space) words = bind_fits FitsEffect (space_count words) _ (λ k e. in_data_fits s (replicate k (Int 0)) (zeros_fit k))
   directed_fits s None words = tt
 
@@ -375,5 +389,6 @@ module _ (labels : Labels) (statements : ℕ) (fit : LabelsFit statements labels
   effect_fits s (Name name ∷ words) =
       either_fits FitsEffect (is_dotted name) (directed labels s (directive_named name) words) _
       (directed_fits s (directive_named name) words)
-      (bind_fits FitsEffect (instruction labels name words) _ (λ statement e. in_code_fits s statement (was_fit Fits (instruction labels name words) statement (instruction_fits name words) e)))
+      (bind_fits FitsEffect (instruction labels name words) _
+      (λ statement e. in_code_fits s statement (was_fit Fits (instruction labels name words) statement (instruction_fits name words) e)))
   effect_fits s (_ ∷ words) = tt

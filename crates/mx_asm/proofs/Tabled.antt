@@ -53,7 +53,8 @@ differ x y false f h e = let k = f e in cc
 pub swapped : (x y : List ℕ) → bytes_eq x y ≡ false → bytes_eq y x ≡ false
 swapped x y h = swap_by x y (bytes_eq y x) (bytes_eq-Decides y x).0 (differ x y (bytes_eq x y) (bytes_eq-Decides x y).1 h)
 
-each_apart : (n : List ℕ) (es : Labels) → AllByRecursion (λ y. bytes_eq n y ≡ false) (map (λ (p : List ℕ × Label). p.0) es) → All (λ (x : List ℕ × Label). bytes_eq x.0 n ≡ false) es
+each_apart : (n : List ℕ) (es : Labels) → AllByRecursion (λ y. bytes_eq n y ≡ false) (map (λ (p : List ℕ × Label). p.0) es)
+    → All (λ (x : List ℕ × Label). bytes_eq x.0 n ≡ false) es
 each_apart n [] h = All-nil (λ (x : List ℕ × Label). bytes_eq x.0 n ≡ false)
 each_apart n (e ∷ es) h = All-cons (λ (x : List ℕ × Label). bytes_eq x.0 n ≡ false) e es (swapped n e.0 h.0) (each_apart n es h.1)
 
@@ -95,7 +96,8 @@ picks q [] n h = refl
 picks q (e ∷ es) n h =
     ap (either (cond (q e.1) (one e.0 e.1 n) None)) (picks q es n h.1)
     ∙ picks_by q n e es (q e.1) (bytes_eq n e.0) refl
-    (λ k. let same : n ≡ e.0 = (bytes_eq-Decides n e.0).0 k in not_found n es (subst (λ m. All (λ (x : List ℕ × Label). bytes_eq x.0 m ≡ false) es) (sym same) h.0))
+    (λ k. let same : n ≡ e.0 = (bytes_eq-Decides n e.0).0 k in not_found n es
+    (subst (λ m. All (λ (x : List ℕ × Label). bytes_eq x.0 m ≡ false) es) (sym same) h.0))
 
 pub either_only : (q r s : Label → Bool) → ((l : Label) → s l ≡ q l || r l) → (o : Option Label) → only s o ≡ either (only q o) (only r o)
 either_only q r s h None = refl
@@ -114,7 +116,8 @@ pub only_all : (q : Label → Bool) (es : Labels) (n : List ℕ) → All (λ (e 
 only_all q [] n h = refl
 only_all q (e ∷ es) n h = by_name (bytes_eq n e.0) (only_all q es n (All-tail (λ (x : List ℕ × Label). q x.1 ≡ true) e es h))
   where
-    by_name : (same : Bool) → only q (label_named es n) ≡ label_named es n → only q (cond same (Some e.1) (label_named es n)) ≡ cond same (Some e.1) (label_named es n)
+    by_name : (same : Bool) → only q (label_named es n) ≡ label_named es n
+        → only q (cond same (Some e.1) (label_named es n)) ≡ cond same (Some e.1) (label_named es n)
     by_name true k = ap (λ t. cond t (Some e.1) None) (All-head (λ (x : List ℕ × Label). q x.1 ≡ true) e es h)
     by_name false k = k
 
@@ -145,7 +148,9 @@ code_of i (label.Code j) h = let e : j ≡ i = grind (arith, nat_tests) in ap la
 code_of i (label.Data a) h = cc
 
 module _ (P : List ℕ × Label → Type 0) (i : ℕ) where
-  first_by : (e : List ℕ × Label) (es : Labels) (here : Bool) → names_index i e.1 ≡ here → P e → ((list_any (λ (p : List ℕ × Label). names_index i p.1) es ≡ true) → P (place_name es i, label.Code i)) → (here || list_any (λ (p : List ℕ × Label). names_index i p.1) es) ≡ true
+  first_by : (e : List ℕ × Label) (es : Labels) (here : Bool) → names_index i e.1 ≡ here → P e
+      → ((list_any (λ (p : List ℕ × Label). names_index i p.1) es ≡ true) → P (place_name es i, label.Code i))
+      → (here || list_any (λ (p : List ℕ × Label). names_index i p.1) es) ≡ true
       → P (unwrap_or (option_map (λ p. p.0) (cond here (Some e) (find (λ p. names_index i p.1) es))) [], label.Code i)
   first_by e es true h p k any = subst (λ l. P (e.0, l)) (code_of i e.1 h) p
   first_by e es false h p k any = k any
@@ -154,7 +159,8 @@ module _ (P : List ℕ × Label → Type 0) (i : ℕ) where
   first_has [] h any = cc
   first_has (e ∷ es) h any = first_by e es (names_index i e.1) refl (All-head P e es h) (first_has es (All-tail P e es h)) any
 
-pub are_placed : (labels : Labels) (count : ℕ) → All (λ (p : List ℕ × Label). IsLabelName p.0) labels → Apart labels → (i : ℕ) → IsPlace labels count i → Placed labels i
+pub are_placed : (labels : Labels) (count : ℕ) → All (λ (p : List ℕ × Label). IsLabelName p.0) labels → Apart labels → (i : ℕ) → IsPlace labels count i
+    → Placed labels i
 are_placed labels count names apart i h = record {
   name = first_has (λ p. IsLabelName p.0) i labels names h.labelled;
   found = first_has (λ p. label_named labels p.0 ≡ Some p.1) i labels (each_found labels apart) h.labelled;

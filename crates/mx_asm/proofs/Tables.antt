@@ -20,8 +20,10 @@ if_some_cond P false x o here there = there
 -- what holds of each value holds of one that is found
 pub lookup_All : (P : Label → Type 0) (test : List ℕ → Bool) (es : List (List ℕ × Label)) → All (λ p. P p.1) es → IfSome (lookup test es) P
 lookup_All P test [] h = tt
-lookup_All P test (e ∷ es) h = if_some_cond P (test e.0) e.1 (lookup test es) (All-head (λ p. P p.1) e es h) (lookup_All P test es (All-tail (λ p. P p.1) e es h))
+lookup_All P test (e ∷ es) h = if_some_cond P (test e.0) e.1 (lookup test es) (All-head (λ p. P p.1) e es h)
+    (lookup_All P test es (All-tail (λ p. P p.1) e es h))
 
 -- an entry more at the end
-pub view_push : {V : Type 0} (es fs : List (Bor (List ℕ) × V)) (name : Bor (List ℕ)) (label : V) → fs ≡ es ++ (name, label) ∷ [] → map named fs ≡ map named es ++ (name.now, label) ∷ []
+pub view_push : {V : Type 0} (es fs : List (Bor (List ℕ) × V)) (name : Bor (List ℕ)) (label : V) → fs ≡ es ++ (name, label) ∷ []
+    → map named fs ≡ map named es ++ (name.now, label) ∷ []
 view_push es fs name label e = ap (map named) e ∙ map-append named es ((name, label) ∷ [])

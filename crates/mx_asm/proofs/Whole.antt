@@ -21,7 +21,8 @@ use Rattle.mx_asm.proofs.LabelBounds.{labels_fit}
 abbrev pub made : List Statement → List ℕ → List Value → Labels → Option ℕ → SourceValue
 made ss ns vs labels input = record { statements = ss; lines = ns; user_data = vs; labels = labels; input = input }
 
-module _ (low end : ℕ) (text : List ℕ) (lines : List (List ℕ)) (labels named : Labels) (split : lines ≡ lines_of text) (defined : labels ≡ labels_from (start low) [] lines) (same : named ≡ labels) where
+module _ (low end : ℕ) (text : List ℕ) (lines : List (List ℕ)) (labels named : Labels) (split : lines ≡ lines_of text)
+    (defined : labels ≡ labels_from (start low) [] lines) (same : named ≡ labels) where
   all_labels : labels ≡ text_labels low text
   unfolding text_labels
   all_labels = defined ∙ ap (labels_from (start low) []) split
@@ -34,23 +35,30 @@ module _ (low end : ℕ) (text : List ℕ) (lines : List (List ℕ)) (labels nam
   unfolding text_effects
   all_effects = ap (λ k. effects_from k (start low) 1 lines) all_labels ∙ ap (effects_from (text_labels low text) (start low) 1) split
 
-  pub whole_source : (l : Listing) → IsListingOf labels end (start low) lines l → made l.statements.items l.lines.items l.user_data.items named l.input ≡ source_of low text
+  pub whole_source : (l : Listing) → IsListingOf labels end (start low) lines l
+      → made l.statements.items l.lines.items l.user_data.items named l.input ≡ source_of low text
   unfolding source_of
   whole_source l h =
       ap (λ x. made x l.lines.items l.user_data.items named l.input) (h.statements ∙ ap statements_in all_effects)
       ∙ ap (λ x. made (statements_in (text_effects low text)) x l.user_data.items named l.input) (h.lines ∙ ap lines_in all_effects)
       ∙ ap (λ x. made (statements_in (text_effects low text)) (lines_in (text_effects low text)) x named l.input) (h.user_data ∙ ap values_in all_effects)
-      ∙ ap (λ x. made (statements_in (text_effects low text)) (lines_in (text_effects low text)) (values_in (text_effects low text)) x l.input) (same ∙ all_labels)
-      ∙ ap (λ x. made (statements_in (text_effects low text)) (lines_in (text_effects low text)) (values_in (text_effects low text)) (text_labels low text) x) (h.input ∙ ap input_in all_effects)
+      ∙ ap (λ x. made (statements_in (text_effects low text)) (lines_in (text_effects low text)) (values_in (text_effects low text)) x l.input)
+      (same ∙ all_labels)
+      ∙ ap (λ x. made (statements_in (text_effects low text)) (lines_in (text_effects low text)) (values_in (text_effects low text)) (text_labels low text) x)
+      (h.input ∙ ap input_in all_effects)
 
-  pub whole_reads : (l : Listing) (s : SourceValue) → IsListingOf labels end (start low) lines l → s ≡ made l.statements.items l.lines.items l.user_data.items named l.input → ReadsAs low end text s
+  pub whole_reads : (l : Listing) (s : SourceValue) → IsListingOf labels end (start low) lines l
+      → s ≡ made l.statements.items l.lines.items l.user_data.items named l.input → ReadsAs low end text s
   whole_reads l s h e = record { faultless = sym whole_fault ∙ h.faultless; same = e ∙ whole_source l h }
 
-  pub whole_fits : (l : Listing) → 256 ≤ low → end ≤ 65536 → IsListingOf labels end (start low) lines l → IsSource (listed l.statements.items l.lines.items l.user_data.items named)
+  pub whole_fits : (l : Listing) → 256 ≤ low → end ≤ 65536 → IsListingOf labels end (start low) lines l
+      → IsSource (listed l.statements.items l.lines.items l.user_data.items named)
   whole_fits l least most h =
-      let ended = labels_fit labels end lines (start low) [] 1 most least h.faultless (All-nil (λ (p : List ℕ × Label). LabelFits (position_at_end (start low) lines).index p.1)) in
+      let ended = labels_fit labels end lines (start low) [] 1 most least h.faultless
+      (All-nil (λ (p : List ℕ × Label). LabelFits (position_at_end (start low) lines).index p.1)) in
       let count : length l.statements.items ≡ (position_at_end (start low) lines).index = (let k = h.count in omega (arith, k)) in
-      let fit : LabelsFit (length l.statements.items) labels = subst (λ n. LabelsFit n labels) (sym count) (subst (LabelsFit (position_at_end (start low) lines).index) (sym defined) ended) in
+      let fit : LabelsFit (length l.statements.items) labels = subst (λ n. LabelsFit n labels) (sym count)
+      (subst (LabelsFit (position_at_end (start low) lines).index) (sym defined) ended) in
       subst (λ k. IsSource (listed l.statements.items l.lines.items l.user_data.items k)) (sym same)
       (record {
         few_statements = (let k = h.few in omega (arith, k, count));

@@ -19,7 +19,8 @@ is_r b = b == 114 || b == 82
 -- `r0` to `r31` without leading zeros, in either case
 abbrev pub register_named : List ℕ → Option ℕ
 register_named (r ∷ d ∷ []) = if is_r r && is_digit d 10 then Some (d - 48) else None
-register_named (r ∷ t ∷ d ∷ []) = if is_r r && (nat_le 49 t && nat_le t 51) && is_digit d 10 && nat_le (10 * (t - 48) + (d - 48)) 31 then Some (10 * (t - 48) + (d - 48)) else None
+register_named (r ∷ t ∷ d ∷ []) = if is_r r && (nat_le 49 t && nat_le t 51) && is_digit d 10 && nat_le (10 * (t - 48) + (d - 48)) 31 then Some
+    (10 * (t - 48) + (d - 48)) else None
 register_named _ = None
 
 -- the register of a name in its place
@@ -56,7 +57,8 @@ count negative value = if in_range 0 31 negative value then Ok value else Err Nu
 
 -- a data word, from - 2147483648 to 4294967295, modulo 2 ^ 32
 unfoldable pub data_word : Bool → ℕ → Result ℕ Fault
-data_word negative value = if in_range 2147483648 4294967295 negative value then Ok (if negative then (2 ^ 32 - value) % 2 ^ 32 else value) else Err NumberOutOfRange
+data_word negative value = if in_range 2147483648 4294967295 negative value then Ok
+    (if negative then (2 ^ 32 - value) % 2 ^ 32 else value) else Err NumberOutOfRange
 
 -- what the label of this name names
 abbrev pub label_named : List (List ℕ × Label) → List ℕ → Option Label

@@ -78,7 +78,12 @@ word_count _ = 0
 -- Addresses past the end of memory count as 65537.
 unfoldable pub behind : Position → List Word → Position
 behind p statement =
-    record { section = section_after p.section statement; index = p.index + instruction_count statement; address = min (p.address + word_count statement) 65537 }
+    record {
+      section = section_after p.section statement;
+      index = p.index + instruction_count statement;
+      address = min
+          (p.address + word_count statement) 65537;
+    }
 
 -- where the line behind a line of these words stands
 abbrev pub after : Position → List Word → Position

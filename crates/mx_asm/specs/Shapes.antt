@@ -2,6 +2,7 @@
 use Rattle.std.specs.Prelude.{ℕ, Bool, List, [], ◌∷◌, Result, Ok, Err}
 use Rattle.mx_asm.specs.declared.fault.Fault.{Fault}
 use Rattle.mx_asm.specs.declared.fault.Fault.TheVariants.{BadOperands}
+use Rattle.mx_asm.specs.Reading.{◌>>=◌}
 use Rattle.mx_asm.specs.Words.{Word, Name, Number, Comma, Open, Close, Hash, Colon, End}
 use Rattle.mx_asm.specs.declared.shapes.OneAndNumber.{OneAndNumber as LentOne}
 use Rattle.mx_asm.specs.declared.shapes.TwoAndNumber.{TwoAndNumber as LentTwo}
@@ -73,16 +74,23 @@ three_names _ = Err BadOperands
 
 -- `NAME,#NUMBER,NAME`
 abbrev pub name_number_name : List Word → Result OneAndNumber Fault
-name_number_name (Name a ∷ Comma ∷ Hash ∷ Number negative value ∷ Comma ∷ Name dest ∷ []) = Ok (record { source = a; negative = negative; value = value; dest = dest })
+name_number_name (Name a ∷ Comma ∷ Hash ∷ Number negative value ∷ Comma ∷ Name dest ∷ []) =
+    Ok (record { source = a; negative = negative; value = value; dest = dest })
 name_number_name _ = Err BadOperands
 
 -- `NAME,NAME,#NUMBER,NAME`
 abbrev pub names_number_name : List Word → Result TwoAndNumber Fault
-names_number_name (Name a ∷ Comma ∷ Name b ∷ Comma ∷ Hash ∷ Number negative value ∷ Comma ∷ Name dest ∷ []) = Ok (record { first = a; second = b; negative = negative; value = value; dest = dest })
+names_number_name (Name a ∷ Comma ∷ words) =
+    name_number_name words >>= λ o. Ok (record { first = a; second = o.source; negative = o.negative; value = o.value; dest = o.dest })
 names_number_name _ = Err BadOperands
+
+-- an offset, which is a number or a name, before `[NAME],NAME`
+abbrev pub with_offset : Word → List ℕ → List ℕ → Result Access Fault
+with_offset (Name label) base register = Ok (record { offset = Name label; base = base; register = register })
+with_offset (Number negative value) base register = Ok (record { offset = Number negative value; base = base; register = register })
+with_offset _ base register = Err BadOperands
 
 -- `OFFSET[NAME],NAME`
 abbrev pub memory : List Word → Result Access Fault
-memory (Name label ∷ Open ∷ Name base ∷ Close ∷ Comma ∷ Name register ∷ []) = Ok (record { offset = Name label; base = base; register = register })
-memory (Number negative value ∷ Open ∷ Name base ∷ Close ∷ Comma ∷ Name register ∷ []) = Ok (record { offset = Number negative value; base = base; register = register })
+memory (offset ∷ Open ∷ Name base ∷ Close ∷ Comma ∷ Name register ∷ []) = with_offset offset base register
 memory _ = Err BadOperands

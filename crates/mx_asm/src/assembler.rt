@@ -147,12 +147,11 @@ pub fn assemble_at(alloc: Global, text: &[u8], user_data: u32, end: u32) -> Resu
     let start = Position::start(user_data);
     let Definitions {
         labels,
-        named,
         repeated,
         last: _,
     } = define_text(alloc, text, start)?;
     match read_text(alloc, &labels, repeated, text, start, end) {
-        Ok(listing) => Ok(listed_source(listing, named)),
+        Ok(listing) => Ok(listed_source(listing, labels.named(alloc)?)),
         Err(error) => Err(error),
     }
 }

@@ -1,7 +1,6 @@
 //! The labels of a text.
-ghost use Rattle.std.specs.Prelude.{◌≡◌, ◌+◌, ◌^◌, ◌≤◌, ◌<◌, [], map, length, IfOk, OnOk};
+ghost use Rattle.std.specs.Prelude.{◌≡◌, ◌+◌, ◌^◌, ◌≤◌, ◌<◌, ◌-◌, [], None, map, length, IfOk, OnOk};
 ghost use Rattle.mx_lex.specs.Lines.{lines_of};
-ghost use Rattle.mx_source.specs.Names.{named_labels};
 ghost use Rattle.mx_asm.specs.Faults.{first_repeat};
 ghost use Rattle.mx_asm.specs.Faults;
 ghost use Rattle.mx_asm.specs.Positions.{labels_from, position_at_end};
@@ -15,19 +14,44 @@ use crate::labels::Labels;
 use crate::lines::split_line;
 use crate::position::Position;
 use crate::word::{Word, read_words};
-use indexmap::IndexMap;
-use mx_source::{Label, Name};
 use std::alloc::{AllocError, Global};
 
 /// The labels of a text, and the first line that defines one again.
 #[derive(Drop)]
 pub struct Definitions<'a> {
     pub labels: Labels<'a>,
-    /// The same labels, for the source.
-    pub named: IndexMap<Name, Label>,
     pub repeated: Option<u32>,
     /// Where the lines end.
     pub last: Position,
+}
+
+impl<'a> Definitions<'a> {
+    ghost use Rattle.mx_asm.specs.Defined.{Defines};
+
+    /// Those of no lines, which begin at a position.
+    fn new(alloc: Global, from: Position) -> Definitions<'a>
+        ensures labels { result.labels ≡ [] }
+        ensures repeated { result.repeated ≡ None }
+        ensures last { result.last ≡ from }
+    {
+        Definitions {
+            labels: Labels::new(alloc),
+            repeated: None,
+            last: from,
+        }
+    }
+
+    /// Adds those of a line with these words.
+    fn add(&mut self, number: u32, words: &[Word<'a>]) -> Result<(), AllocError>
+        requires room { self.old.last.index < 2 ^ 32 - 1 }
+        requires near { self.old.last.address ≤ 65537 }
+        ensures { OnOk result (Defines self.old self.new number (map word words.now)) }
+    {
+        let again = define_front(&mut self.labels, self.last.label(), words)?;
+        self.repeated = first_line(self.repeated, again, number);
+        self.last = self.last.after(statement_words(words));
+        Ok(())
+    }
 }
 
 /// The definitions of all lines from a position on, whatever is wrong with them.
@@ -40,31 +64,19 @@ pub fn define_all<'a>(
     requires room { from.index + length lines.now < 2 ^ 32 }
     requires near { from.address ≤ 65537 }
     ensures labels { IfOk result (λ d. d.labels ≡ labels_from from [] (texts lines.now)) }
-    ensures named { IfOk result (λ d. named_labels d.named.entries ≡ d.labels) }
     ensures repeated { IfOk result (λ d. d.repeated ≡ first_repeat from [] 1 (texts lines.now)) }
     ensures last { IfOk result (λ d. d.last ≡ position_at_end from (texts lines.now)) }
     ensures index { IfOk result (λ d. d.last.index ≤ from.index + length lines.now) }
     ensures address { IfOk result (λ d. d.last.address ≤ 65537) }
 {
-    let mut labels = Labels::new(alloc);
-    let mut named = IndexMap::new(alloc);
-    let mut repeated = None;
-    let mut position = from;
+    let mut found = Definitions::new(alloc, from);
     let mut number = 1u32;
     for line in lines {
         let words = line_words(alloc, line)?;
-        let label = position.label();
-        let again = define_front(alloc, &mut labels, &mut named, label, &words)?;
-        repeated = first_line(repeated, again, number);
-        position = position.after(statement_words(&words));
+        found.add(number, &words)?;
         number += 1;
     }
-    Ok(Definitions {
-        labels,
-        named,
-        repeated,
-        last: position,
-    })
+    Ok(found)
 }
 
 /// The definitions of a text that begins at a position, whatever is wrong with it.
@@ -77,32 +89,20 @@ pub(crate) fn define_text<'a>(
     requires room { from.index + length text.now < 2 ^ 32 }
     requires near { from.address ≤ 65537 }
     ensures labels { IfOk result (λ d. d.labels ≡ labels_from from [] (lines_of text.entry.now)) }
-    ensures named { IfOk result (λ d. named_labels d.named.entries ≡ d.labels) }
     ensures repeated { IfOk result (λ d. d.repeated ≡ first_repeat from [] 1 (lines_of text.entry.now)) }
 {
-    let mut labels = Labels::new(alloc);
-    let mut named = IndexMap::new(alloc);
-    let mut repeated = None;
-    let mut position = from;
+    let mut found = Definitions::new(alloc, from);
     let mut number = 1u32;
     let mut words = Vec::new(alloc);
     let mut rest = text;
     while !rest.is_empty() {
         let (line, behind) = split_line(rest);
         words_or_none(&mut words, line)?;
-        let label = position.label();
-        let again = define_front(alloc, &mut labels, &mut named, label, &words)?;
-        repeated = first_line(repeated, again, number);
-        position = position.after(statement_words(&words));
+        found.add(number, &words)?;
         number += 1;
         rest = behind;
     }
-    Ok(Definitions {
-        labels,
-        named,
-        repeated,
-        last: position,
-    })
+    Ok(found)
 }
 
 /// The words of a line, none where it does not split into tokens.

@@ -25,7 +25,7 @@ pub fn begins_label(words: &[Word]) -> bool
 }
 
 /// The name at the front.
-fn first_name<'a>(words: &[Word<'a>]) -> &'a [u8]
+pub fn first_name<'a>(words: &[Word<'a>]) -> &'a [u8]
     ensures { result.now ≡ Positions.first_name (map word words.now) }
 {
     match words {
@@ -47,22 +47,18 @@ pub fn statement_words<'a, 'w>(words: &'w [Word<'a>]) -> &'w [Word<'a>]
 
 /// Defines the labels at the front, and tells whether one of them is defined before.
 pub fn define_front<'a>(
-    alloc: Global,
     labels: &mut Labels<'a>,
-    named: &mut IndexMap<Name, Label>,
     label: Label,
     words: &[Word<'a>],
 ) -> Result<bool, AllocError>
-    requires near { IsNear label }
-    requires same { named_labels named.old.entries ≡ labels.old }
-    ensures same { OnOk result (named_labels named.new.entries ≡ labels.new) }
+    requires { IsNear label }
     ensures labels { OnOk result (labels.new ≡ Positions.define_front labels.old label (map word words.now)) }
     ensures repeated { IfOk result (λ b. b ≡ Positions.is_repeated labels.old label (map word words.now)) }
 {
     let mut repeated = false;
     let mut rest = words;
     while begins_label(rest) {
-        repeated |= define_own(alloc, labels, named, label, first_name(rest))?;
+        repeated |= define_own(labels, label, first_name(rest))?;
         rest = &rest[2..];
     }
     Ok(repeated)
@@ -70,16 +66,12 @@ pub fn define_front<'a>(
 
 /// Defines a label unless it is defined or none, and tells whether it is defined before.
 #[tactic(auto, unfolding(crate::specs::Positions::define))]
-fn define_own<'a>(
-    alloc: Global,
+pub fn define_own<'a>(
     labels: &mut Labels<'a>,
-    named: &mut IndexMap<Name, Label>,
     label: Label,
     name: &'a [u8],
 ) -> Result<bool, AllocError>
-    requires near { IsNear label }
-    requires same { named_labels named.old.entries ≡ labels.old }
-    ensures same { OnOk result (named_labels named.new.entries ≡ labels.new) }
+    requires { IsNear label }
     ensures labels { OnOk result (labels.new ≡ Positions.define labels.old label name.entry.now) }
     ensures repeated { IfOk result (λ b. b ≡ Positions.is_defined labels.old name.entry.now) }
 {
@@ -89,7 +81,6 @@ fn define_own<'a>(
     if labels.find(name).is_some() {
         return Ok(true);
     }
-    add_named(alloc, named, name, label)?;
     labels.define(name, label)?;
     Ok(false)
 }

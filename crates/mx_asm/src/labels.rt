@@ -1,8 +1,9 @@
 //! The labels of a text.
 ghost use Rattle.std.specs.Prelude.{◌≡◌};
 
+use crate::front::add_named;
 use indexmap::IndexMap;
-use mx_source::Label;
+use mx_source::{Label, Name};
 use std::alloc::{AllocError, Global};
 use std::marker::Model;
 
@@ -26,6 +27,7 @@ impl<'a> Model for Labels<'a> {
 
 impl<'a> Labels<'a> {
     ghost use Rattle.std.specs.Prelude.{◌≡◌, [], ◌∷◌, ◌++◌, IsSome, is_some, None, OnOk, OnErr, IfOk, IfSome};
+    ghost use Rattle.mx_source.specs.Names.{named_labels};
     ghost use Rattle.mx_asm.specs.LabelTable.{IsNear};
     ghost use Rattle.mx_asm.specs.Operands.{label_named};
 
@@ -68,5 +70,19 @@ impl<'a> Labels<'a> {
             table.insert(*name, *label)?;
         }
         Ok(Labels { table })
+    }
+
+    /// The same labels under names of their own.
+    pub fn named(&self, alloc: Global) -> Result<IndexMap<Name, Label>, AllocError>
+        ensures { IfOk result (λ own. named_labels own.entries ≡ self.now) }
+    {
+        let mut own = IndexMap::with_capacity(alloc, self.table.len())?;
+        for i in 0..self.table.len() {
+            let Some((name, label)) = self.table.get_index(i) else {
+                unreachable!();
+            };
+            add_named(alloc, &mut own, name, *label)?;
+        }
+        Ok(own)
     }
 }

@@ -75,13 +75,14 @@ fn layout_fault(
 }
 
 /// A data label of the line would stand past the end of memory.
-fn stands_past(end: u32, position: &Position, words: &[Word]) -> bool
+pub fn stands_past(end: u32, position: &Position, words: &[Word]) -> bool
     ensures { result ≡ Faults.stands_past end position.now (map word words.now) }
 {
     is_data(&position.section) && has_label(words) && position.address >= end
 }
 
-fn is_data(section: &Section) -> bool
+/// The data section.
+pub fn is_data(section: &Section) -> bool
     ensures { result ≡ Faults.is_data section.now }
 {
     match section {

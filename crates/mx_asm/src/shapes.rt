@@ -105,25 +105,22 @@ pub fn name_number_name<'a>(words: &[Word<'a>]) -> Result<OneAndNumber<'a>, Faul
 pub fn names_number_name<'a>(words: &[Word<'a>]) -> Result<TwoAndNumber<'a>, Fault>
     ensures { seen Shapes.two_and_number result ≡ Shapes.names_number_name (map Shapes.word words.now) }
 {
-    match words {
-        [
-            Word::Name(first),
-            Word::Comma,
-            Word::Name(second),
-            Word::Comma,
-            Word::Hash,
-            Word::Number { negative, value },
-            Word::Comma,
-            Word::Name(dest),
-        ] => Ok(TwoAndNumber {
-            first,
-            second,
-            negative: *negative,
-            value: *value,
-            dest,
-        }),
-        _ => Err(Fault::BadOperands),
-    }
+    let [Word::Name(first), Word::Comma, rest @ ..] = words else {
+        return Err(Fault::BadOperands);
+    };
+    let OneAndNumber {
+        source,
+        negative,
+        value,
+        dest,
+    } = name_number_name(rest)?;
+    Ok(TwoAndNumber {
+        first,
+        second: source,
+        negative,
+        value,
+        dest,
+    })
 }
 
 /// `OFFSET[NAME],NAME`
@@ -132,29 +129,28 @@ pub fn memory<'a>(words: &[Word<'a>]) -> Result<Access<'a>, Fault>
 {
     match words {
         [
-            Word::Name(label),
+            offset,
             Word::Open,
             Word::Name(base),
             Word::Close,
             Word::Comma,
             Word::Name(register),
-        ] => Ok(Access {
-            offset: Word::Name(label),
-            base,
-            register,
-        }),
-        [
-            Word::Number { negative, value },
-            Word::Open,
-            Word::Name(base),
-            Word::Close,
-            Word::Comma,
-            Word::Name(register),
-        ] => Ok(Access {
-            offset: Word::Number {
-                negative: *negative,
-                value: *value,
-            },
+        ] => with_offset(offset, base, register),
+        _ => Err(Fault::BadOperands),
+    }
+}
+
+/// An offset, which is a number or a name, before `[NAME],NAME`.
+fn with_offset<'a>(
+    offset: &Word<'a>,
+    base: &'a [u8],
+    register: &'a [u8],
+) -> Result<Access<'a>, Fault>
+    ensures { seen Shapes.memory_operands result ≡ Shapes.with_offset (Shapes.word offset.now) base.entry.now register.entry.now }
+{
+    match offset {
+        Word::Name(_) | Word::Number { .. } => Ok(Access {
+            offset: *offset,
             base,
             register,
         }),

@@ -9,7 +9,6 @@ ghost use Rattle.mx_asm.specs.Shapes.{word};
 
 use crate::fault::{Fault, LineError};
 use mx_lex::{Kind, Lexer, Token};
-use std::alloc::Global;
 
 /// A token with what it says.
 #[derive(Clone, Copy)]
@@ -22,15 +21,6 @@ pub enum Word<'a> {
     Hash,
     Colon,
     End,
-}
-
-/// The words of a line, or why there are none.
-pub fn words_of(alloc: Global, line: &[u8]) -> Result<Vec<Word<'_>>, LineError>
-    ensures { Gives (λ v. map word v.items) result (Words.words_of line.now) }
-{
-    let mut words = Vec::new(alloc);
-    read_words(&mut words, line)?;
-    Ok(words)
 }
 
 /// The words of a line in the place of those before, or why there are none.

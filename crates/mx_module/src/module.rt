@@ -68,10 +68,10 @@ impl<'a> Module<'a> {
         let exports = Exports::of(alloc, &links)?;
         let Definitions {
             labels,
-            named,
             repeated,
             last,
         } = define_all(alloc, &lines, start)?;
+        let named = labels.named(alloc)?;
         let next = Position {
             section: Section::Code,
             index: last.index,

@@ -13,7 +13,7 @@ listed_source-requires c =
     let lines = lines_of c.args.text.now in
     let defined = c.in_ok-labels.ensures.labels ∙ ap (λ p. labels_from p [] lines) c.start-start.ensures in
     let listing = subst (λ p. IsListingOf labels c.args.end p lines c.in-Ok.listing) c.start-start.ensures c.in-Ok.ensures.read in
-    whole_fits c.args.user_data c.args.end c.args.text.now lines labels (named_labels c.in_ok-labels.field-0.named.entries) refl defined c.in_ok-labels.ensures.named
+    whole_fits c.args.user_data c.args.end c.args.text.now lines labels (named_labels c.in_ok-named-in-Ok.field-0.entries) refl defined c.in_ok-named-in-Ok.ensures
     c.in-Ok.listing c.requires.low c.requires.within listing
 
 pub returns-in-Ok-clause-source : goal.returns-in-Ok-clause-source
@@ -22,7 +22,7 @@ returns-in-Ok-clause-source c =
     let lines = lines_of c.args.text.now in
     let defined = c.in_ok-labels.ensures.labels ∙ ap (λ p. labels_from p [] lines) c.start-start.ensures in
     let listing = subst (λ p. IsListingOf labels c.args.end p lines c.in-Ok.listing) c.start-start.ensures c.in-Ok.ensures.read in
-    whole_reads c.args.user_data c.args.end c.args.text.now lines labels (named_labels c.in_ok-labels.field-0.named.entries) refl defined c.in_ok-labels.ensures.named
+    whole_reads c.args.user_data c.args.end c.args.text.now lines labels (named_labels c.in_ok-named-in-Ok.field-0.entries) refl defined c.in_ok-named-in-Ok.ensures
     c.in-Ok.listing c.listed_source.result listing c.listed_source.ensures
 
 pub returns-clause-refused : goal.returns-clause-refused
@@ -31,5 +31,5 @@ returns-clause-refused c =
     let lines = lines_of c.args.text.now in
     let defined = c.in_ok-labels.ensures.labels ∙ ap (λ p. labels_from p [] lines) c.start-start.ensures in
     let fault = ap (λ p. first_fault labels c.args.end p [] 1 lines) c.start-start.ensures
-    ∙ whole_fault c.args.user_data c.args.end c.args.text.now lines labels (named_labels c.in_ok-labels.field-0.named.entries) refl defined c.in_ok-labels.ensures.named in
+    ∙ whole_fault c.args.user_data c.args.end c.args.text.now lines labels labels refl defined refl in
     subst (λ f. IsRefusal f c.in-Err.error) fault c.in-Err.ensures.refused

@@ -6,7 +6,9 @@ use Rattle.mx_asm.proofs.assembler.read_text.Given as goal
 abbrev pub invariant-loop-rest : goal.invariant-loop-rest
 invariant-loop-rest l = record {
   number : l.number + length l.rest ≤ length l.text + 1;
-  listed : Listed l.labels l.end l.fn.from (lines_of l.text) l.repeated l.listing.statements.items l.listing.lines.items l.listing.user_data.items l.listing.input l.position l.number (lines_of l.rest);
+  listed : Listed l.labels l.end l.fn.from
+      (lines_of l.text) l.repeated l.listing.statements.items l.listing.lines.items l.listing.user_data.items l.listing.input l.position l.number
+      (lines_of l.rest);
 }
 
 abbrev pub decreases-loop-rest : goal.decreases-loop-rest

@@ -1,58 +1,50 @@
-use Rattle.std.proofs.Common.{◌≡◌, ◌+◌, length, map, sym, ap, ◌∙◌, arith}
+use Rattle.std.proofs.Common.{◌≡◌, ◌+◌, ◌≤◌, ◌∷◌, length, map, ap, sym, ◌∙◌, subst, arith}
 use Rattle.std.proofs.lemmas.Bool.Decides.{nat_tests}
 use Rattle.mx_lex.specs.Lines.{lines_of}
+use Rattle.mx_asm.specs.declared.position.Position.{Position}
 use Rattle.mx_asm.specs.Shapes.{word}
-use Rattle.mx_asm.specs.Positions.{line_words, after, behind, statement_words, label_here, define_front, is_repeated, labels_from}
-use Rattle.mx_asm.specs.Faults.{first_repeat, repeats, earlier_line}
-use Rattle.mx_asm.proofs.Pieces.{no_lines}
-use Rattle.mx_asm.proofs.Repeats.{or_later, repeat_next, none_later}
+use Rattle.mx_asm.specs.Positions.{line_words}
+use Rattle.mx_asm.specs.Defined.{Defines}
+use Rattle.mx_asm.proofs.Defining.{IsDefined, begun, defined, none_left, all_labels, first_again}
 use Rattle.mx_asm.proofs.definitions.define_text.Goals as goal
 
 pub split_line-requires : goal.split_line-requires
 split_line-requires c = grind (arith, nat_tests)
 
+pub loop-rest-init : goal.loop-rest-init
+loop-rest-init c =
+    let here = c.new-found.ensures.last in
+    record {
+      number = omega arith;
+      near = subst (λ (p : Position). p.address ≤ 65537) (sym here) c.requires.near;
+      index = subst (λ (p : Position). p.index + length c.args.text.now ≤ c.args.from.index + length c.args.text.now) (sym here) (omega arith);
+      defined = begun c.args.from (lines_of c.args.text.now) c.new-found.result c.new-found.ensures.labels c.new-found.ensures.repeated here;
+    }
+
 pub loop-rest-preserved : goal.loop-rest-preserved
 loop-rest-preserved c =
-    let p = c.loop-rest.position in
-    let labels = c.loop-rest.labels in
-    let number = c.loop-rest.number in
-    let found = c.loop-rest.repeated in
+    let all = lines_of c.args.text.now in
     let line = c.split_line.result.0.now in
-    let rest = c.split_line.result.1.now in
-    let lines = lines_of rest in
+    let lines = lines_of c.split_line.result.1.now in
+    let found = c.loop-rest.found in
+    let number = c.loop-rest.number in
     let kept = ap (map word) c.deref.ensures.value ∙ c.in_ok-words_or_none.ensures in
-    let kept' = ap (map word) c.deref-in-loop-rest.ensures.value ∙ c.in_ok-words_or_none.ensures in
-    let defined = c.in_ok-again.ensures.labels ∙ ap (λ l. define_front labels l (map word c.deref.result.now)) c.label-label.ensures.label ∙ ap (define_front labels (label_here p)) kept in
-    let again = c.in_ok-again.ensures.repeated ∙ ap (λ l. is_repeated labels l (map word c.deref.result.now)) c.label-label.ensures.label ∙ ap (is_repeated labels (label_here p)) kept in
-    let next = c.after-position.ensures.position ∙ ap (behind p) (c.statement_words.ensures ∙ ap statement_words kept') in
-    let first = c.first_line-repeated.ensures ∙ ap (λ b. earlier_line found b number) again in
+    let more : Defines found c.add.new.self number (line_words line) = subst (Defines found c.add.new.self number) kept c.in_ok-add.ensures in
+    let here : IsDefined c.args.from all found number (line ∷ lines) = subst
+    (IsDefined c.args.from all found number) c.split_line.ensures.lines c.loop-rest.invariant.defined in
     record {
       number = omega (arith, c.split_line.ensures.shorter, c.loop-rest.invariant.number);
-      near = c.after-position.ensures.near;
-      index = omega (arith, c.after-position.ensures.index, c.split_line.ensures.shorter, c.loop-rest.invariant.index);
-      named = c.in_ok-again.ensures.same;
-      labels =
-          ap (λ q. labels_from q c.define_front.new.labels lines) next
-          ∙ ap (λ k. labels_from (after p (line_words line)) k lines) defined
-          ∙ ap (labels_from p labels) (sym c.split_line.ensures.lines)
-          ∙ c.loop-rest.invariant.labels;
-      repeated =
-          ap (λ f. or_later f (first_repeat c.after-position.result c.define_front.new.labels (number + 1) lines)) first
-          ∙ ap (λ q. or_later (earlier_line found (repeats p labels (line_words line)) number) (first_repeat q c.define_front.new.labels (number + 1) lines)) next
-          ∙ ap (λ k. or_later (earlier_line found (repeats p labels (line_words line)) number) (first_repeat (after p (line_words line)) k (number + 1) lines)) defined
-          ∙ repeat_next line lines p labels found number
-          ∙ ap (λ ls. or_later found (first_repeat p labels number ls)) (sym c.split_line.ensures.lines)
-          ∙ c.loop-rest.invariant.repeated;
+      near = more.near;
+      index = omega (arith, more.index, c.split_line.ensures.shorter, c.loop-rest.invariant.index);
+      defined = defined line lines here more;
     }
 
 pub returns-clause-labels : goal.returns-clause-labels
 returns-clause-labels c =
     let none : length c.loop-rest.rest.now ≡ 0 = grind (arith, nat_tests) in
-    ap (labels_from c.loop-rest.position c.loop-rest.labels) (sym (no_lines c.loop-rest.rest.now none)) ∙ c.loop-rest.invariant.labels
+    all_labels (none_left c.loop-rest.rest.now none c.loop-rest.invariant.defined)
 
 pub returns-clause-repeated : goal.returns-clause-repeated
 returns-clause-repeated c =
     let none : length c.loop-rest.rest.now ≡ 0 = grind (arith, nat_tests) in
-    sym (none_later c.loop-rest.repeated)
-    ∙ ap (λ ls. or_later c.loop-rest.repeated (first_repeat c.loop-rest.position c.loop-rest.labels c.loop-rest.number ls)) (sym (no_lines c.loop-rest.rest.now none))
-    ∙ c.loop-rest.invariant.repeated
+    first_again (none_left c.loop-rest.rest.now none c.loop-rest.invariant.defined)

@@ -1,12 +1,10 @@
 use Rattle.std.proofs.Common.{◌≡◌, ◌||◌, map, length}
-use Rattle.mx_source.specs.Names.{named_labels}
 use Rattle.mx_asm.specs.Positions.{define_front, is_repeated}
 use Rattle.mx_asm.specs.Shapes.{word}
 use Rattle.mx_asm.proofs.front.define_front.Given as goal
 
 abbrev pub invariant-loop-rest : goal.invariant-loop-rest
 invariant-loop-rest l = record {
-  same : named_labels l.named.entries ≡ l.labels;
   defined : define_front l.labels l.label (map word l.rest) ≡ define_front l.fn.labels l.label (map word l.words);
   repeated : (l.repeated || is_repeated l.labels l.label (map word l.rest)) ≡ is_repeated l.fn.labels l.label (map word l.words);
 }

@@ -11,9 +11,17 @@ loop-rest-preserved c =
     let end = c.line_end-end.ensures.end in
     let left = c.behind-rest.ensures ∙ ap (λ e. drop (e + 1) c.loop-rest.rest.now) end in
     record {
-      same = lines_step c.loop-rest.lines.items c.push.new.self.items c.without_return.result c.loop-rest.rest.now c.behind-rest.result.now _ some c.loop-rest.invariant.same
+      same = lines_step c.loop-rest.lines.items c.push.new.self.items c.without_return.result c.loop-rest.rest.now c.behind-rest.result.now _ some
+          c.loop-rest.invariant.same
           c.in_ok-push.ensures.items (c.without_return.ensures ∙ ap (λ e. without_return (take e c.loop-rest.rest.now)) end) left;
-      few = omega (arith, c.in_ok-push.ensures.len, c.loop-rest.invariant.few, ap length c.behind-rest.ensures, length-drop (c.line_end-end.result + 1) c.loop-rest.rest.now);
+      few = omega (
+        arith,
+        c.in_ok-push.ensures.len,
+        c.loop-rest.invariant.few,
+        ap length c.behind-rest.ensures,
+        length-drop
+            (c.line_end-end.result + 1) c.loop-rest.rest.now,
+      );
     }
 
 pub returns-clause-lines : goal.returns-clause-lines

@@ -20,7 +20,8 @@ tokens-init c = record {
 pub returns-in_default : goal.returns-in_default
 returns-in_default c =
     let e = ap (λ l. next_token l c.tokens.lexer.at) (sym c.tokens.invariant.line) ∙ sym c.next.ensures.token ∙ c.in_default.is in
-    splits_not c.args.line.now (reads_fault c.args.line.now _ c.tokens.lexer.at c.in_default.field-0 c.tokens.invariant.reads e) ∙ ap Err (sym c.token_fault.ensures)
+    splits_not c.args.line.now (reads_fault c.args.line.now _ c.tokens.lexer.at c.in_default.field-0 c.tokens.invariant.reads e)
+    ∙ ap Err (sym c.token_fault.ensures)
 
 pub returns-then-is_end : goal.returns-then-is_end
 returns-then-is_end c =
@@ -47,10 +48,12 @@ tokens-preserved c =
     let e = ap (λ l. next_token l c.tokens.lexer.at) (sym c.tokens.invariant.line) ∙ sym c.next.ensures.token ∙ c.in-Ok.is in
     record {
       line = c.next.ensures.line ∙ c.tokens.invariant.line;
-      reads = reads_push c.args.line.now (map word c.tokens.words.items) _ c.tokens.lexer.at _ c.in-Ok.token (word c.word_at.result) c.tokens.invariant.reads e (sym c.is_end.ensures ∙ c.if-is_end.false)
+      reads = reads_push c.args.line.now (map word c.tokens.words.items) _ c.tokens.lexer.at _ c.in-Ok.token
+          (word c.word_at.result) c.tokens.invariant.reads e (sym c.is_end.ensures ∙ c.if-is_end.false)
           (subst (λ l. IsSpan l c.tokens.lexer.at c.in-Ok.token) c.tokens.invariant.line c.in-Ok.ensures.span)
           (ap (map word) c.in_ok-push.ensures.items ∙ map-append word c.tokens.words.items (c.word_at.result ∷ []))
           c.word_at.ensures
           c.in-Ok.ensures.place;
-      clean = ap (λ k. has_bad_byte (drop k c.args.line.now)) c.in-Ok.ensures.place ∙ (clean_token c.args.line.now c.tokens.lexer.at c.in-Ok.token e).plain ∙ c.tokens.invariant.clean;
+      clean = ap (λ k. has_bad_byte (drop k c.args.line.now)) c.in-Ok.ensures.place ∙ (clean_token c.args.line.now c.tokens.lexer.at c.in-Ok.token e).plain
+          ∙ c.tokens.invariant.clean;
     }

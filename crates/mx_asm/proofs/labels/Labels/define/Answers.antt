@@ -17,4 +17,5 @@ pub returns : goal.returns
 returns c = record { ok = pushed c ∙ ap (λ ls. ls ++ (c.args.name.now, c.args.label) ∷ []) c.self.view_is }
 
 pub invariant_of-self-2 : goal.invariant_of-self-2
-invariant_of-self-2 c = All-same (λ p. IsNear p.1) _ _ (pushed c) (All-push (λ p. IsNear p.1) (labels_view c.self.inside) (c.args.name.now, c.args.label) c.self.invariant c.requires.near)
+invariant_of-self-2 c = All-same (λ p. IsNear p.1) _ _ (pushed c)
+    (All-push (λ p. IsNear p.1) (labels_view c.self.inside) (c.args.name.now, c.args.label) c.self.invariant c.requires.near)
