@@ -40,6 +40,12 @@ by_fields k o f s r w b e =
     ∙ ap (λ x. row_of k o f x (field 0 17 w)) u
     ∙ ap (λ x. row_of k o f s x) v
 
+-- the type and the opcode are the five bits at the top
+pub by_top : (w : ℕ) → row_of (w / 2 ^ 27 / 8) (w / 2 ^ 27 % 8) (field 22 5 w) (field 17 5 w) (field 0 17 w) ≡ inst_of w
+by_top w =
+    let type : w / 2 ^ 27 / 8 ≡ w / 2 ^ 30 = omega arith in
+    ap (λ k. row_of k (field 27 3 w) (field 22 5 w) (field 17 5 w) (field 0 17 w)) type
+
 pub signed_again : (z : ℤ) → IsSignedField 16 z → signed_of 17 (signed_bits 17 z) ≡ z
 signed_again (pos n) h = grind arith
 signed_again (negsuc n) h = grind arith
