@@ -21,7 +21,8 @@ use Rattle.mx_asm.specs.Directives.{is_dotted, directive_named, is_value, cons, 
 use Rattle.mx_asm.specs.Faults.{is_data}
 use Rattle.mx_asm.specs.Mnemonics.{mnemonic_named}
 use Rattle.mx_faults.specs.Forms.{DataValue, values, has_shape, AnInstruction, ADirective, form, is_no_register, is_outside, is_undefined, is_wrong_kind, moves_chain}
-use Rattle.mx_faults.proofs.Statements.{fault_of, section_of, kind_by, form_fault, instruction_is}
+use Rattle.mx_faults.specs.Walking.{section_of, kind_by}
+use Rattle.mx_faults.proofs.Statements.{fault_of, form_fault, instruction_is}
 
 -- data stand in the data section
 abbrev stored : Section → Option Fault

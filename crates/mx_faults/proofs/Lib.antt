@@ -7,3 +7,4 @@ pub mod Texts
 pub mod Settled
 pub mod Registers
 pub mod Printing
+pub mod Tokens

@@ -24,7 +24,8 @@ use Rattle.mx_faults.specs.Forms.{form, operands, is_no_register, is_outside, is
 use Rattle.mx_faults.specs.Before.{statement, section_behind, front_labels, kind_in, has_twice, instructions, data_words}
 use Rattle.mx_faults.specs.Holding.{LineInText, and_before, before_comment, is_unknown, is_misshapen, is_system, is_misplaced, least_of, has_duplicate_label, has_too_many_instructions, has_full_data, is_too_long}
 use Rattle.mx_faults.specs.Found.{assembled_fault, text_line}
-use Rattle.mx_faults.proofs.Statements.{fault_of, kind_by, least_of_eight}
+use Rattle.mx_faults.specs.Walking.{kind_by}
+use Rattle.mx_faults.proofs.Statements.{fault_of, least_of_eight}
 use Rattle.mx_faults.proofs.Directives.{statement_is}
 use Rattle.mx_faults.proofs.Walks.{walk_section, walk_index, walk_address, walk_kind, walk_known, repeats_is}
 

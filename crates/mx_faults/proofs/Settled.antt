@@ -16,8 +16,7 @@ use Rattle.mx_asm.specs.Faults.{repeats, line_fault, found_or}
 use Rattle.mx_faults.specs.Forms.{form, operands, is_no_register, is_outside, is_undefined, is_wrong_kind, moves_chain}
 use Rattle.mx_faults.specs.Before.{statement, has_twice}
 use Rattle.mx_faults.specs.Holding.{is_unknown, is_misshapen, is_system, is_misplaced}
-use Rattle.mx_faults.specs.Walking.{with_number, walked, place_fault, settled, at_front}
-use Rattle.mx_faults.proofs.Statements.{kind_by}
+use Rattle.mx_faults.specs.Walking.{kind_by, with_number, walked, place_fault, settled, at_front}
 use Rattle.mx_faults.proofs.Walks.{known, undotted, repeats_is}
 use Rattle.mx_faults.proofs.Lines.{least_of_twelve, parts_are, many, full}
 

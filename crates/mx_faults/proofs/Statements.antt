@@ -27,21 +27,13 @@ use Rattle.mx_asm.specs.Instructions.{Labels, compute, of_one, mstart, asr, sh, 
 use Rattle.mx_asm.specs.Directives.{in_code}
 use Rattle.mx_asm.specs.Faults.{is_data}
 use Rattle.mx_faults.specs.Forms.{Form, AnInstruction, form, operands, is_no_register, is_outside, is_undefined, is_wrong_kind, is_code_kind, is_data_kind, is_chain, moves_chain}
+use Rattle.mx_faults.specs.Walking.{section_of, kind_by}
 use Rattle.mx_faults.specs.Holding.{is_unknown, is_misshapen, is_system, is_misplaced}
 
 -- the fault of what was read
 abbrev pub fault_of : {A : Type 0} → Result A Fault → Option Fault
 fault_of (Ok x) = None
 fault_of (Err fault) = Some fault
-
--- the section that a label's kind is
-abbrev pub section_of : Label → Section
-section_of (label.Code i) = section.Code
-section_of (label.Data a) = section.Data
-
--- the kind of what a name names among these labels
-abbrev pub kind_by : Labels → List ℕ → Option Section
-kind_by labels name = option_map section_of (label_named labels name)
 
 -- the least of eight faults of a statement
 abbrev pub least_of_eight : (b3 b4 b5 b6 b8 b9 b10 b11 : Bool) → Option Fault

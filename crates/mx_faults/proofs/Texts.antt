@@ -25,11 +25,11 @@ first_walked labels end p earlier number (line ∷ lines) =
     ap (found_or number (line_fault labels end p earlier line)) (first_walked labels end (after p (line_words line)) (with_labels p earlier (line_words line)) (number + 1) lines)
     ∙ sym (first_or number (line_fault labels end p earlier line) (walked labels end (after p (line_words line)) (with_labels p earlier (line_words line)) (number + 1) lines))
 
-position_more : (lines : List (List ℕ)) (line : List ℕ) (p : Position) → position_at_end p (lines ++ line ∷ []) ≡ after (position_at_end p lines) (line_words line)
+pub position_more : (lines : List (List ℕ)) (line : List ℕ) (p : Position) → position_at_end p (lines ++ line ∷ []) ≡ after (position_at_end p lines) (line_words line)
 position_more [] line p = refl
 position_more (first ∷ lines) line p = position_more lines line (after p (line_words first))
 
-labels_more : (lines : List (List ℕ)) (line : List ℕ) (p : Position) (labels : Labels) → labels_from p labels (lines ++ line ∷ []) ≡ with_labels (position_at_end p lines) (labels_from p labels lines) (line_words line)
+pub labels_more : (lines : List (List ℕ)) (line : List ℕ) (p : Position) (labels : Labels) → labels_from p labels (lines ++ line ∷ []) ≡ with_labels (position_at_end p lines) (labels_from p labels lines) (line_words line)
 labels_more [] line p labels = refl
 labels_more (first ∷ lines) line p labels = labels_more lines line (after p (line_words first)) (with_labels p labels (line_words first))
 

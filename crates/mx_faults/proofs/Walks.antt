@@ -19,7 +19,7 @@ use Rattle.mx_asm.specs.Instructions.{Labels}
 use Rattle.mx_asm.specs.Directives.{is_dotted, directive_named}
 use Rattle.mx_asm.specs.Positions.{front_names, statement_words, directs, section_after, instruction_count, word_count, behind, after, label_at, label_here, is_defined, define, define_front, is_repeated, line_words, with_labels, labels_from, position_at_end}
 use Rattle.mx_faults.specs.Before.{statement, directed_to, sets_section, defines, before_definition, has_twice, instructions, data_words}
-use Rattle.mx_faults.proofs.Statements.{section_of, kind_by}
+use Rattle.mx_faults.specs.Walking.{section_of, kind_by}
 
 -- the section that a line sets
 abbrev set_by : List ℕ → Option Section
@@ -218,7 +218,7 @@ walk_known lines p name =
     ∙ ap is_some (walk_kind lines p [] name)
     ∙ or_some None (list_any (defines name) lines) (behind_from p.section (before_definition name lines))
 
-known_defined : (labels : Labels) (l : Label) (n name : List ℕ) → known (define labels l n) name ≡ known labels name || (not (is_dotted n) && bytes_eq name n)
+pub known_defined : (labels : Labels) (l : Label) (n name : List ℕ) → known (define labels l n) name ≡ known labels name || (not (is_dotted n) && bytes_eq name n)
 known_defined labels l n name =
     known_kind (define labels l n) name
     ∙ ap is_some (kind_defined labels l n name)

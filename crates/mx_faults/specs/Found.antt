@@ -1,5 +1,5 @@
 -- The faulty lines of a text, and what it means that a fault is the least.
-use Rattle.std.specs.Prelude.{◌≡◌, ℕ, ◌+◌, ◌<◌, true, false, List, [], ◌∷◌, length, take, get_or, filter_map, option_map, Option, Some, None}
+use Rattle.std.specs.Prelude.{◌≡◌, ℕ, ◌+◌, ◌-◌, ◌<◌, true, false, List, [], ◌∷◌, length, take, get_or, filter_map, option_map, Option, Some, None}
 use Rattle.std.specs.List.{range_with_len}
 use Rattle.mx_lex.specs.Lines.{lines_of}
 use Rattle.mx_asm.specs.declared.fault.Fault.{Fault}
@@ -9,6 +9,7 @@ use Rattle.mx_asm.specs.Texts.{text_labels}
 use Rattle.mx_asm.specs.Faults.{line_fault}
 use Rattle.mx_faults.specs.declared.line_fault.LineFault.{LineFault}
 use Rattle.mx_faults.specs.Holding.{LineInText, line_at, holds, least_of}
+use Rattle.mx_faults.specs.Showing.{fault_span}
 
 -- a line with its number, from 1 on, and its least fault, if it has one
 abbrev pub faulty_at : ℕ → ℕ → List (List ℕ) → ℕ → Option (ℕ × Fault)
@@ -58,6 +59,10 @@ assembled_fault low end text place =
 -- a line of a text, by its place
 abbrev pub text_line : ℕ → ℕ → List ℕ → ℕ → LineInText
 text_line low end text place = line_at low end (lines_of text) place
+
+-- a faulty line of a text has the bytes of the token that shows its fault
+abbrev pub HasSpan : ℕ → ℕ → List ℕ → LineFault → Type 0
+HasSpan low end text f = f.span ≡ fault_span (text_line low end text (f.line - 1)) f.fault
 
 -- the number and the fault of a faulty line
 abbrev pub numbered : LineFault → ℕ × Fault

@@ -3,6 +3,8 @@ ghost use Rattle.std.specs.Prelude.{◌≡◌, ◌≤◌, true, length, map, OnO
 ghost use Rattle.mx_asm.specs.LabelTable.{IsNear};
 ghost use Rattle.mx_asm.specs.Positions;
 ghost use Rattle.mx_asm.specs.Shapes.{word};
+ghost use Rattle.mx_faults.specs.Walking;
+ghost use Rattle.mx_faults.specs.Walking.{repeat_place};
 
 use mx_asm::{Labels, Word, begins_label, is_dotted};
 use mx_source::Label;
@@ -18,20 +20,33 @@ fn first_name<'a>(words: &[Word<'a>]) -> &'a [u8]
     }
 }
 
-/// Defines the labels at the front, and tells whether one of them is defined before.
+/// The place that was found, or else this one if a label stands there that is defined before.
+fn earlier_place(found: Option<usize>, again: bool, place: usize) -> Option<usize>
+    ensures { result ≡ Walking.earlier_place found again place }
+{
+    match found {
+        Some(found) => Some(found),
+        None => again.then_some(place),
+    }
+}
+
+/// Defines the labels at the front, and tells at which token the first one stands that is defined before.
 pub fn define_front<'a>(
     labels: &mut Labels<'a>,
     label: Label,
     words: &[Word<'a>],
-) -> Result<bool, AllocError>
+) -> Result<Option<usize>, AllocError>
     requires near { IsNear label }
     ensures labels { OnOk result (labels.new ≡ Positions.define_front labels.old label (map word words.now)) }
-    ensures repeated { IfOk result (λ b. b ≡ Positions.is_repeated labels.old label (map word words.now)) }
+    ensures repeated { IfOk result (λ o. o ≡ repeat_place labels.old label 0 (map word words.now)) }
 {
-    let mut repeated = false;
+    let mut repeated = None;
+    let mut place = 0;
     let mut rest = words;
     while begins_label(rest) {
-        repeated |= define_own(labels, label, first_name(rest))?;
+        let again = define_own(labels, label, first_name(rest))?;
+        repeated = earlier_place(repeated, again, place);
+        place += 2;
         rest = &rest[2..];
     }
     Ok(repeated)

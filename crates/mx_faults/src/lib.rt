@@ -5,6 +5,9 @@ mod front;
 mod laws;
 mod line;
 mod line_fault;
+mod role;
+mod shown;
+mod span;
 mod walk;
 
 pub use laws::{
@@ -12,4 +15,5 @@ pub use laws::{
     first_faulty_line, least_is_least,
 };
 pub use line_fault::LineFault;
+pub use span::Span;
 pub use walk::assemble_all;

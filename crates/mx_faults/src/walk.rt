@@ -1,25 +1,49 @@
 //! All faulty lines of a text.
-ghost use Rattle.std.specs.Prelude.{◌≡◌, ◌≤◌, ◌<◌, ◌+◌, ◌-◌, ◌^◌, ◌++◌, [], map, length, take, IfOk, OnOk};
+ghost use Rattle.std.specs.Prelude.{◌≡◌, ◌≤◌, ◌<◌, ◌+◌, ◌-◌, ◌^◌, ◌++◌, [], map, length, take, All, IfOk, IfSome, OnOk};
 ghost use Rattle.std.specs.List.{cons_option};
 ghost use Rattle.mx_asm.specs.Faults;
 ghost use Rattle.mx_asm.specs.Positions;
+ghost use Rattle.mx_asm.specs.Positions.{line_words};
+ghost use Rattle.mx_asm.specs.Shapes.{word};
 ghost use Rattle.mx_asm.specs.Texts.{text_fault};
 ghost use Rattle.mx_asm.specs.Words.{texts};
-ghost use Rattle.mx_faults.specs.Found.{faults_in, first, numbered};
-ghost use Rattle.mx_faults.specs.Walking.{walked, with_number};
+ghost use Rattle.mx_faults.specs.Found.{HasSpan, faults_in, first, numbered};
+ghost use Rattle.mx_faults.specs.Showing.{span_by};
+ghost use Rattle.mx_faults.specs.Walking.{IsShown, IsShownAs, kind_by, walked, with_number, with_span};
 
 use crate::front::define_front;
 use crate::line::{Bounds, fault_alone, place_fault, settled};
 use crate::line_fault::LineFault;
-use mx_asm::{Fault, Labels, Position, define_all, line_words, lines_of, statement_words};
+use crate::shown::fault_span;
+use crate::span::Span;
+use mx_asm::{Fault, Labels, Position, Word, define_all, line_words, lines_of, statement_words};
 use mx_io::Memory;
 use std::alloc::{AllocError, Global};
 
-/// The fault of a line, and where the next one stands.
+/// The fault of a line, the bytes that show it, and where the next one stands.
 #[derive(Drop)]
 struct Seen {
     fault: Option<Fault>,
+    span: Option<Span>,
     next: Position,
+}
+
+/// The bytes that show the fault of a line, if it has one.
+fn shown(
+    alloc: Global,
+    labels: &Labels,
+    repeated: Option<usize>,
+    line: &[u8],
+    words: &[Word],
+    fault: Option<Fault>,
+) -> Result<Option<Span>, AllocError>
+    requires { map word words.now ≡ line_words line.now }
+    ensures { IfOk result (λ o. IfSome fault (λ f. o ≡ span_by repeated (kind_by labels.now) line.now f)) }
+{
+    match fault {
+        Some(fault) => fault_span(alloc, labels, repeated, line, words, fault),
+        None => Ok(None),
+    }
 }
 
 /// Sees a line that stands here, and defines its labels.
@@ -36,6 +60,7 @@ fn see<'a>(
     requires order { bounds.now.data_start ≤ bounds.now.end }
     requires within { bounds.now.end ≤ 65536 }
     ensures fault { IfOk result (λ s. s.fault ≡ Faults.line_fault labels.now bounds.now.end position.now earlier.old line.entry.now) }
+    ensures span { IfOk result (λ s. IfSome s.fault (IsShownAs labels.now earlier.old position.now line.entry.now s.span)) }
     ensures next { IfOk result (λ s. s.next ≡ Positions.after position.now (Positions.line_words line.entry.now)) }
     ensures index { IfOk result (λ s. s.next.index ≤ position.now.index + 1) }
     ensures near { IfOk result (λ s. s.next.address ≤ 65537) }
@@ -46,24 +71,24 @@ fn see<'a>(
     let next = position.after(statement_words(&words));
     let alone = fault_alone(alloc, labels, bounds, position.section, line)?;
     let placed = place_fault(bounds.end, position, &next, line.len(), &words);
-    Ok(Seen {
-        fault: settled(alone, repeated, placed),
-        next,
-    })
+    let fault = settled(alone, repeated.is_some(), placed);
+    let span = shown(alloc, labels, repeated, line, &words, fault)?;
+    Ok(Seen { fault, span, next })
 }
 
 /// Adds a line, if it has a fault.
-fn push_fault(found: &mut Vec<LineFault>, line: u32, fault: Option<Fault>) -> Result<(), AllocError>
+fn push_fault(
+    found: &mut Vec<LineFault>,
+    line: u32,
+    fault: Option<Fault>,
+    span: Option<Span>,
+) -> Result<(), AllocError>
+    ensures items { OnOk result (found.new.items ≡ found.old.items ++ cons_option (with_span line span fault) []) }
     ensures found { OnOk result (map numbered found.new.items ≡ map numbered found.old.items ++ cons_option (with_number line fault) []) }
     ensures few { OnOk result (length found.new.items ≤ length found.old.items + 1) }
 {
     if let Some(fault) = fault {
-        found.push(LineFault {
-            line,
-            fault,
-            start: 0,
-            length: 0,
-        })?;
+        found.push(LineFault { line, fault, span })?;
     }
     Ok(())
 }
@@ -79,7 +104,8 @@ fn walk(
     requires few { length lines.now ≤ 4194304 }
     requires order { bounds.now.data_start ≤ bounds.now.end }
     requires within { bounds.now.end ≤ 65536 }
-    ensures { IfOk result (λ v. map numbered v.items ≡ take at_most (walked labels.now bounds.now.end (Positions.start bounds.now.data_start) [] 1 (texts lines.now))) }
+    ensures spans { IfOk result (λ v. All (IsShown labels.now bounds.now.data_start (texts lines.now)) v.items) }
+    ensures found { IfOk result (λ v. map numbered v.items ≡ take at_most (walked labels.now bounds.now.end (Positions.start bounds.now.data_start) [] 1 (texts lines.now))) }
 {
     let mut found = Vec::new(alloc);
     let mut earlier = Labels::new(alloc);
@@ -90,7 +116,7 @@ fn walk(
             return Ok(found);
         }
         let seen = see(alloc, labels, bounds, &mut earlier, &position, line)?;
-        push_fault(&mut found, number, seen.fault)?;
+        push_fault(&mut found, number, seen.fault, seen.span)?;
         position = seen.next;
         number += 1;
     }
@@ -107,15 +133,16 @@ fn found_in(
     requires order { bounds.now.data_start ≤ bounds.now.end }
     requires within { bounds.now.end ≤ 65536 }
     requires short { length text.now ≤ 4194304 }
-    ensures { IfOk result (λ v. map numbered v.items ≡ take at_most (faults_in bounds.now.data_start bounds.now.end text.now)) }
+    ensures found { IfOk result (λ v. map numbered v.items ≡ take at_most (faults_in bounds.now.data_start bounds.now.end text.now)) }
+    ensures spans { IfOk result (λ v. All (HasSpan bounds.now.data_start bounds.now.end text.now) v.items) }
 {
     let lines = lines_of(alloc, text)?;
     let definitions = define_all(alloc, &lines, Position::start(bounds.data_start))?;
     walk(alloc, &definitions.labels, bounds, &lines, at_most)
 }
 
-/// The faulty lines of a text, each with its least fault, in order, up to so many of them. Data words and data labels
-/// stand from one address to before another.
+/// The faulty lines of a text, each with its least fault and the bytes of the token that shows it, in order, up to so many
+/// of them. Data words and data labels stand from one address to before another.
 ///
 /// # Errors
 ///
@@ -131,6 +158,7 @@ pub fn assemble_all(
     requires within { end ≤ 65536 }
     requires short { length text.now ≤ 4194304 }
     ensures faults { IfOk result (λ v. map numbered v.items ≡ take at_most (faults_in data_start end text.now)) }
+    ensures spans { IfOk result (λ v. All (HasSpan data_start end text.now) v.items) }
     ensures first { 0 < at_most → IfOk result (λ v. first (map numbered v.items) ≡ text_fault data_start end text.now) }
 {
     match found_in(alloc, &Bounds { data_start, end }, text, at_most) {

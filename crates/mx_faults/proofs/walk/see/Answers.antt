@@ -1,8 +1,11 @@
-use Rattle.std.proofs.Common.{map, length, ap, sym, ◌∙◌}
+use Rattle.std.proofs.Common.{◌≡◌, IfSome, map, length, ap, sym, ◌∙◌, subst}
 use Rattle.mx_asm.specs.Shapes.{word}
-use Rattle.mx_asm.specs.Positions.{behind, statement_words, label_here, define_front, is_repeated}
+use Rattle.mx_asm.specs.Positions.{behind, statement_words, label_here, define_front}
 use Rattle.mx_faults.specs.Walking.{place_fault}
+use Rattle.mx_faults.specs.Showing.{span_by}
+use Rattle.mx_faults.specs.Walking.{kind_by}
 use Rattle.mx_faults.proofs.Settled.{settled_by}
+use Rattle.mx_faults.proofs.Tokens.{is_again}
 use Rattle.mx_faults.proofs.walk.see.Goals as goal
 
 pub place_fault-placed-requires : goal.place_fault-placed-requires
@@ -20,9 +23,20 @@ returns-clause-fault c =
     let earlier = c.args.earlier.now in
     let kept = ap (map word) c.deref.ensures.value ∙ c.in_ok-words.ensures in
     let kept' = ap (map word) c.deref-3.ensures.value ∙ c.in_ok-words.ensures in
-    let again = c.in_ok-repeated.ensures.repeated ∙ ap (λ l. is_repeated earlier l (map word c.deref.result.now)) c.label.ensures.label ∙ ap (is_repeated earlier (label_here p)) kept in
+    let again = is_again earlier _ (label_here p) _ _ c.in_ok-repeated.repeated c.in_ok-repeated.ensures.repeated c.label.ensures.label kept in
     let placed = c.place_fault-placed.ensures ∙ ap (place_fault end p (length line)) kept' in
-    settled_by labels low end p earlier line c.settled.result c.in_ok-alone.alone c.place_fault-placed.result c.in_ok-repeated.repeated c.settled.ensures c.in_ok-alone.ensures again placed
+    settled_by labels low end p earlier line c.settled-fault.result c.in_ok-alone.alone c.place_fault-placed.result c.is_some.result c.settled-fault.ensures c.in_ok-alone.ensures (c.is_some.ensures ∙ again.1) placed
+
+pub shown-requires : goal.shown-requires
+shown-requires c = ap (map word) c.deref-4.ensures.value ∙ c.in_ok-words.ensures
+
+pub returns-clause-span : goal.returns-clause-span
+returns-clause-span c =
+    let line = c.args.line.now in
+    let labels = c.args.labels.now in
+    let kept = ap (map word) c.deref.ensures.value ∙ c.in_ok-words.ensures in
+    let again = is_again c.args.earlier.now _ (label_here c.args.position.now) _ _ c.in_ok-repeated.repeated c.in_ok-repeated.ensures.repeated c.label.ensures.label kept in
+    subst (λ r. IfSome c.settled-fault.result (λ f. c.in_ok-span.span ≡ span_by r (kind_by labels) line f)) again.0 c.in_ok-span.ensures
 
 pub returns-clause-next : goal.returns-clause-next
 returns-clause-next c =

@@ -4,7 +4,8 @@ use Rattle.mx_asm.specs.Words.{texts}
 use Rattle.mx_asm.specs.Faults.{line_fault}
 use Rattle.mx_asm.specs.Positions.{line_words, after}
 use Rattle.mx_faults.specs.Found.{numbered}
-use Rattle.mx_faults.specs.Walking.{walked, with_number}
+use Rattle.mx_faults.specs.Walking.{IsShown, walked, with_number}
+use Rattle.mx_faults.proofs.Tokens.{one_more_text, before_more, earlier_more, push_shown, shown_here, text_at}
 use Rattle.mx_faults.proofs.Settled.{walked_step, push_option}
 use Rattle.mx_faults.proofs.walk.walk.Goals as goal
 
@@ -26,8 +27,16 @@ loop-line-preserved c =
     let words = line_words line in
     let rest = texts (drop (i + 1) lines) in
     let found = map numbered c.loop-line.found.items in
+    let more = one_more_text lines i past (omega arith) in
+    let low = c.args.bounds.now.data_start in
     record {
       number = omega arith;
+      before = before_more low i (texts lines) line p c.in_ok-seen.seen.next more c.loop-line.invariant.before c.in_ok-seen.ensures.next;
+      earlier = earlier_more low i (texts lines) line p earlier c.see.new.earlier more c.loop-line.invariant.before c.loop-line.invariant.earlier c.in_ok-seen.ensures.earlier;
+      spans =
+          push_shown (IsShown labels low (texts lines)) c.loop-line.found.items _ number c.in_ok-seen.seen.span c.in_ok-seen.seen.fault c.in_ok-push_fault.ensures.items c.loop-line.invariant.spans
+          (shown_here labels earlier low (texts lines) i number line p c.in_ok-seen.seen.span c.in_ok-seen.seen.fault c.loop-line.invariant.number c.loop-line.invariant.before c.loop-line.invariant.earlier
+          (text_at lines i past (omega arith)) c.in_ok-seen.ensures.span);
       index = omega (arith, c.in_ok-seen.ensures.index, c.loop-line.invariant.index);
       near = c.in_ok-seen.ensures.near;
       few = omega (arith, c.in_ok-push_fault.ensures.few);

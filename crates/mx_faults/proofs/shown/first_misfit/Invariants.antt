@@ -1,0 +1,14 @@
+use Rattle.std.proofs.Common.{◌≡◌, ◌+◌, map, length}
+use Rattle.mx_asm.specs.Shapes.{word}
+use Rattle.mx_faults.specs.Roles.{role}
+use Rattle.mx_faults.specs.Showing.{first_misfit}
+use Rattle.mx_faults.proofs.shown.first_misfit.Given as goal
+
+abbrev pub invariant-loop-rest : goal.invariant-loop-rest
+invariant-loop-rest l = record {
+  same : first_misfit l.place (map role l.left) (map word l.rest) ≡ first_misfit 1 (map role l.roles) (map word l.words);
+  few : l.place + length l.rest ≡ length l.words + 1;
+}
+
+abbrev pub decreases-loop-rest : goal.decreases-loop-rest
+decreases-loop-rest l = length l.rest
