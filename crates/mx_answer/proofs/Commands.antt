@@ -6,7 +6,8 @@ use Rattle.mx_answer.specs.declared.file.FileKind.{FileKind}
 use Rattle.mx_answer.specs.declared.status.Status.{Status}
 use Rattle.mx_answer.specs.declared.status.Status.TheVariants.{Halted, Done, Refused, Usage, OutOfBudget, ReadFault, WriteFault, Memory, BadImage, BadEvents, Stuck}
 use Rattle.mx_answer.specs.Answer.{Answer, failed_answer, held_with, Written}
-use Rattle.mx_answer.specs.Protocol.{Protocol, resolved, Told, Counts, Performed, Faulted, HasOwnAnswers}
+use Rattle.mx_io.specs.Shelves.{Told, Counts}
+use Rattle.mx_answer.specs.Protocol.{Protocol, resolved, Performed, Faulted, HasOwnAnswers}
 use Rattle.mx_answer.specs.Delivery.{Delivered, PutsPrefix, FailsToWrite}
 use Rattle.mx_answer.specs.Commands.{Outside, Finished, Commanded}
 use Rattle.mx_answer.proofs.Protocols.{told_answer, fault_of_file, CountedFault, file_is_done}
@@ -37,53 +38,51 @@ status_cases Memory = inl (inr refl)
 status_cases s = inr (neither s refl refl)
 
 -- the answer that was put out, where it is that of what is held
-given_answer : (answer other : Answer) (tells : Bool) (before after : Outside) (result : Status) → answer ≡ other
-    → Delivered answer result tells before.written after.written before.held after.held → Delivered other result tells before.written after.written before.held after.held
-given_answer answer other tells before after result e d = subst (λ a. Delivered a result tells before.written after.written before.held after.held) e d
+given_answer : (answer other : Answer) (before after : Outside) (result : Status) → answer ≡ other
+    → Delivered answer result before.told after.told before.written after.written
+    → Delivered other result before.told after.told before.written after.written
+given_answer answer other before after result e d = subst (λ a. Delivered a result before.told after.told before.written after.written) e d
 
 unfiled : (file : Option Written) (held : List ℕ → Option (List ℕ)) (n : List ℕ) → is_some file ≢ true → held_with file held n ≡ held n
 unfiled None held n empty = refl
 unfiled (Some file) held n empty = absurd (empty refl)
 
-module _ (p : Protocol) (tells : Bool) (before after : Outside) (answer : Answer) (result : Status)
-    (own : HasOwnAnswers p) (performed : Performed (record { tells = tells; held = before.held }) p before.counts after.counts answer)
-    (finished : Finished answer tells before after result) where
-  shelf : Told
-  shelf = record { tells = tells; held = before.held }
+module _ (p : Protocol) (before after : Outside) (answer : Answer) (result : Status)
+    (own : HasOwnAnswers p) (performed : Performed before.told p before.counts after.counts answer)
+    (finished : Finished answer before after result) where
+  told : before.told.tells ≡ true → (answer ≡ resolved p before.told.held) ⊎ CountedFault before.counts after.counts answer
+  told t = told_answer before.told p before.counts after.counts answer t performed
 
-  told : tells ≡ true → (answer ≡ resolved p before.held) ⊎ CountedFault before.counts after.counts answer
-  told t = told_answer (record { tells = tells; held = before.held }) p before.counts after.counts answer t performed
-
-  delivered : Neither result → Delivered answer result tells before.written after.written before.held after.held
+  delivered : Neither result → Delivered answer result before.told after.told before.written after.written
   delivered n = finished.delivered n.0 n.1
 
-  complete : tells ≡ true → ¬ Rose before.counts.faults after.counts.faults → ¬ Rose before.write_faults after.write_faults → ¬ Rose before.sink_faults after.sink_faults
-      → (result ≡ Memory) ⊎ Delivered (resolved p before.held) result tells before.written after.written before.held after.held
+  complete : before.told.tells ≡ true → ¬ Rose before.counts.faults after.counts.faults → ¬ Rose before.write_faults after.write_faults → ¬ Rose before.sink_faults after.sink_faults
+      → (result ≡ Memory) ⊎ Delivered (resolved p before.told.held) result before.told after.told before.written after.written
   complete t reads writes puts =
       ⊎_elim
       (λ fault. ⊎_elim
       (λ e. absurd (⊎_elim puts (λ w. writes w.1) (finished.write_fault e)))
       inl
       fault)
-      (λ n. inr (given_answer answer (resolved p before.held) tells before after result (⊎_elim (λ e. e) (λ c. absurd (reads c.2)) (told t)) (delivered n)))
+      (λ n. inr (given_answer answer (resolved p before.told.held) before after result (⊎_elim (λ e. e) (λ c. absurd (reads c.2)) (told t)) (delivered n)))
       (status_cases result)
 
-  sound : tells ≡ true → result ≢ ReadFault → result ≢ WriteFault → result ≢ Memory
-      → Delivered (resolved p before.held) result tells before.written after.written before.held after.held
+  sound : before.told.tells ≡ true → result ≢ ReadFault → result ≢ WriteFault → result ≢ Memory
+      → Delivered (resolved p before.told.held) result before.told after.told before.written after.written
   sound t r w m =
       let d = delivered (w, m) in
-      given_answer answer (resolved p before.held) tells before after result
+      given_answer answer (resolved p before.told.held) before after result
       (⊎_elim (λ e. e) (λ c. absurd (r (d.status ∙ ap (λ a. a.status) c.1))) (told t))
       d
 
   read_fault : result ≡ ReadFault
-      → (given : Answer) × Faulted (record { tells = tells; held = before.held }) p before.counts after.counts given × (after.written ≡ with_more before.written given.output)
+      → (given : Answer) × Faulted before.told p before.counts after.counts given × (after.written ≡ with_more before.written given.output)
   unfolding is_write_fault is_memory
   read_fault r =
       let d = delivered (neither result (ap is_write_fault r) (ap is_memory r)) in
-      (answer, fault_of_file (record { tells = tells; held = before.held }) p before.counts after.counts answer own performed (sym d.status ∙ r), d.output)
+      (answer, fault_of_file before.told p before.counts after.counts answer own performed (sym d.status ∙ r), d.output)
 
-  put_out : result ≡ WriteFault → tells ≡ true → PutsPrefix (resolved p before.held) before.written after.written
+  put_out : result ≡ WriteFault → before.told.tells ≡ true → PutsPrefix (resolved p before.told.held) before.written after.written
       ⊎ (Rose before.counts.faults after.counts.faults × (kind : FileKind) × PutsPrefix (failed_answer kind) before.written after.written)
   put_out w t =
       let out = finished.put_out w in
@@ -92,15 +91,15 @@ module _ (p : Protocol) (tells : Bool) (before after : Outside) (answer : Answer
       (λ c. inr (c.2, c.0, subst (λ a. PutsPrefix a before.written after.written) c.1 out))
       (told t)
 
-  kept : tells ≡ true → result ≢ Done → (n : List ℕ) → after.held n ≡ before.held n
+  kept : before.told.tells ≡ true → result ≢ Done → (n : List ℕ) → after.told.held n ≡ before.told.held n
   kept t not_done n =
       ⊎_elim
       (λ fault. finished.kept fault t n)
       (λ other. let d = delivered other in
-      d.file t n ∙ unfiled answer.file before.held n (λ file. not_done (d.status ∙ file_is_done (record { tells = tells; held = before.held }) p before.counts after.counts answer own performed file)))
+      d.file t n ∙ unfiled answer.file before.told.held n (λ file. not_done (d.status ∙ file_is_done before.told p before.counts after.counts answer own performed file)))
       (status_cases result)
 
-  pub commanded : Commanded p tells before after result
+  pub commanded : Commanded p before after result
   commanded = record {
     complete = complete;
     sound = sound;

@@ -8,7 +8,8 @@ use Rattle.mx_answer.specs.declared.status.Status.{Status}
 use Rattle.mx_answer.specs.declared.status.Status.TheVariants.{ReadFault, Done}
 use Rattle.mx_answer.specs.Files.{limit_of}
 use Rattle.mx_answer.specs.Answer.{Answer, failed_answer, too_long_answer, is_own}
-use Rattle.mx_answer.specs.Protocol.{Protocol, Answers, Reads, Given, Failed, TooLong, reading_of, answered, resolved, Told, Counts, IsRead, IsGiven, IsFailed, IsTooLong, IsFault, Performed, Faulted, HasOwnAnswers, OnlyPrints}
+use Rattle.mx_io.specs.Shelves.{Told, Counts, IsRead}
+use Rattle.mx_answer.specs.Protocol.{Protocol, Answers, Reads, Given, Failed, TooLong, reading_of, answered, resolved, IsGiven, IsFailed, IsTooLong, IsFault, Performed, Faulted, HasOwnAnswers, OnlyPrints}
 
 pub rose_before : (x y z : ℕ) → x ≤ y → Rose y z → Rose x z
 rose_before x y z h (inl r) = inl (omega arith)

@@ -1,15 +1,16 @@
 -- How an answer reaches the outside.
 use Rattle.std.specs.Prelude.{◌≡◌, ℕ, ◌⊎◌, List, take, Bool, true, Option, is_some}
 use Rattle.mx_io.specs.Counts.{Rose, with_more}
+use Rattle.mx_io.specs.Shelves.{Told}
 use Rattle.mx_answer.specs.declared.status.Status.{Status}
 use Rattle.mx_answer.specs.declared.status.Status.TheVariants.{ReadFault}
 use Rattle.mx_answer.specs.Answer.{Answer, held_with, is_own}
 
 -- the status is the answer's, all of its output was put out, and where the shelf tells what it holds, its file alone was written
-pub record Delivered (answer : Answer) (result : Status) (tells : Bool) (before after : Option (List ℕ)) (held_before held_after : List ℕ → Option (List ℕ)) : Type 0 where
+pub record Delivered (answer : Answer) (result : Status) (told told' : Told) (written written' : Option (List ℕ)) : Type 0 where
   pub status : result ≡ answer.status
-  pub output : after ≡ with_more before answer.output
-  pub file : tells ≡ true → (n : List ℕ) → held_after n ≡ held_with answer.file held_before n
+  pub output : written' ≡ with_more written answer.output
+  pub file : told.tells ≡ true → (n : List ℕ) → told'.held n ≡ held_with answer.file told.held n
 
 -- a prefix of the output was put out
 abbrev pub PutsPrefix : Answer → Option (List ℕ) → Option (List ℕ) → Type 0

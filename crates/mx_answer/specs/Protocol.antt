@@ -1,6 +1,7 @@
 -- The files that a command reads, one after the other, and its answer by what they hold.
 use Rattle.std.specs.Prelude.{◌≡◌, ℕ, ◌<◌, ◌≤◌, ◌⊎◌, List, length, nat_lt, Bool, true, Option, Some, None, IsSomeAnd, is_some, if◌then◌else◌}
-use Rattle.mx_io.specs.Counts.{Rose, RoseAbove, one_more}
+use Rattle.mx_io.specs.Counts.{Rose, RoseAbove}
+use Rattle.mx_io.specs.Shelves.{Told, Counts, IsRead}
 use Rattle.mx_answer.specs.declared.file.FileKind.{FileKind}
 use Rattle.mx_answer.specs.declared.status.Status.TheVariants.{Done}
 use Rattle.mx_answer.specs.Files.{limit_of}
@@ -32,23 +33,6 @@ answered kind TooLong next = too_long_answer kind
 abbrev pub resolved : Protocol → (List ℕ → Option (List ℕ)) → Answer
 resolved (Answers answer) held = answer
 resolved (Reads kind name next) held = answered kind (reading_of kind (held name)) (λ bytes. resolved (next bytes) held)
-
--- What is known of a shelf: whether it tells what its names hold, and what they hold then.
-pub record Told : Type 0 where
-  pub tells : Bool
-  pub held : List ℕ → Option (List ℕ)
-
--- its counts: reads, bytes taken, and faults in reads
-pub record Counts : Type 0 where
-  pub reads : ℕ
-  pub taken : ℕ
-  pub faults : ℕ
-
--- one read was made
-pub record IsRead (before after : Counts) : Type 0 where
-  pub reads : after.reads ≡ one_more before.reads
-  pub taken : before.taken ≤ after.taken
-  pub faults : before.faults ≤ after.faults
 
 -- the bytes are those of the name, where that is told, and are within the limit
 pub record IsGiven (shelf : Told) (kind : FileKind) (name bytes : List ℕ) : Type 0 where

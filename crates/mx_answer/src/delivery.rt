@@ -11,14 +11,14 @@ use mx_io::{Shelf, ShelfFault, Sink, put_all};
 pub fn finish<S: Shelf, W: Sink>(reply: Reply, shelf: &mut S, out: &mut W) -> Status
     requires { HasStatus (reply_answer reply) }
     ensures delivered { result ≢ Status.WriteFault → result ≢ Status.Memory
-        → Delivered (reply_answer reply) result (S.tells shelf.old) (W.written out.old) (W.written out.new) (S.held shelf.old) (S.held shelf.new) }
+        → Delivered (reply_answer reply) result (S.told shelf.old) (S.told shelf.new) (W.written out.old) (W.written out.new) }
     ensures write_fault { result ≡ Status.WriteFault
         → FailsToWrite (reply_answer reply) (W.faults out.old) (W.faults out.new) (S.write_faults shelf.old) (S.write_faults shelf.new) }
     ensures prefix { result ≡ Status.WriteFault → PutsPrefix (reply_answer reply) (W.written out.old) (W.written out.new) }
     ensures memory { result ≡ Status.Memory → W.written out.new ≡ W.written out.old }
     ensures memory_for_a_file { (reply_answer reply).file ≡ None → result ≢ Status.Memory }
-    ensures kept { (result ≡ Status.WriteFault) ⊎ (result ≡ Status.Memory) → S.tells shelf.old ≡ true → (n : List ℕ) → S.held shelf.new n ≡ S.held shelf.old n }
-    ensures unread { (S.reads shelf.new ≡ S.reads shelf.old) × (S.taken shelf.new ≡ S.taken shelf.old) × (S.read_faults shelf.new ≡ S.read_faults shelf.old) }
+    ensures kept { (result ≡ Status.WriteFault) ⊎ (result ≡ Status.Memory) → (S.told shelf.old).tells ≡ true → (n : List ℕ) → (S.told shelf.new).held n ≡ (S.told shelf.old).held n }
+    ensures unread { S.counts shelf.new ≡ S.counts shelf.old }
     ensures unwritten { (reply_answer reply).file ≡ None → S.write_faults shelf.new ≡ S.write_faults shelf.old }
     ensures faults_grow { W.faults out.old ≤ W.faults out.new }
     ensures writes_grow { S.write_faults shelf.old ≤ S.write_faults shelf.new }

@@ -3,7 +3,8 @@ ghost use Rattle.std.specs.Prelude.{◌≡◌, ◌++◌, codes, List, ℕ, IfOk,
 ghost use Rattle.mx_answer.specs.declared.status.Status.TheVariants.{ReadFault};
 ghost use Rattle.mx_answer.specs.Files.{file_word};
 ghost use Rattle.mx_answer.specs.Answer.{prints, text_line};
-ghost use Rattle.mx_answer.specs.Protocol.{Told, Counts, IsRead, IsGiven, IsFault};
+ghost use Rattle.mx_io.specs.Shelves.{Told, Counts, IsRead};
+ghost use Rattle.mx_answer.specs.Protocol.{IsGiven, IsFault};
 ghost use Rattle.mx_answer.specs.Replies.{reply_answer};
 
 use crate::{FileKind, Reply, Status, line_reply};
@@ -17,13 +18,11 @@ pub fn read_file<S: Shelf>(
     kind: FileKind,
     name: &str,
 ) -> Result<Result<Vec<u8>, Reply>, Memory>
-    ensures read { IsRead (record { reads = S.reads shelf.old; taken = S.taken shelf.old; faults = S.read_faults shelf.old }) (record { reads = S.reads shelf.new; taken = S.taken shelf.new; faults = S.read_faults shelf.new }) }
-    ensures given { IfOk result (λ r. IfOk r (λ v. IsGiven (record { tells = S.tells shelf.old; held = S.held shelf.old }) kind name.now v.items)) }
-    ensures fault { IfOk result (λ r. IfErr r (λ e. IsFault (record { tells = S.tells shelf.old; held = S.held shelf.old }) kind name.now
-        (record { reads = S.reads shelf.old; taken = S.taken shelf.old; faults = S.read_faults shelf.old })
-        (record { reads = S.reads shelf.new; taken = S.taken shelf.new; faults = S.read_faults shelf.new }) (reply_answer e))) }
-    ensures tells_stay { S.tells shelf.new ≡ S.tells shelf.old }
-    ensures held_stays { (n : List ℕ) → S.held shelf.new n ≡ S.held shelf.old n }
+    ensures read { IsRead (S.counts shelf.old) (S.counts shelf.new) }
+    ensures given { IfOk result (λ r. IfOk r (λ v. IsGiven (S.told shelf.old) kind name.now v.items)) }
+    ensures fault { IfOk result (λ r. IfErr r (λ e. IsFault (S.told shelf.old) kind name.now
+        (S.counts shelf.old) (S.counts shelf.new) (reply_answer e))) }
+    ensures told_stays { S.told shelf.new ≡ S.told shelf.old }
     ensures writes_stay { S.write_faults shelf.new ≡ S.write_faults shelf.old }
 {
     match shelf.read(alloc, name, kind.limit()) {

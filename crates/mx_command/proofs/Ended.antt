@@ -1,46 +1,49 @@
 -- A command whose reply was performed and finished.
-use Rattle.std.proofs.Common.{◌≡◌, ◌≢◌, ℕ, ◌⊎◌, List, Bool, true, Option, sym, ◌∙◌, subst}
+use Rattle.std.proofs.Common.{◌≡◌, ◌≢◌, ℕ, ◌⊎◌, List, Bool, true, Option, inl, inr, ⊎_elim, sym, ◌∙◌, ap, subst}
 use Rattle.mx_answer.specs.declared.Status.{Status}
 use Rattle.mx_answer.specs.declared.Status.TheVariants.{WriteFault, Memory}
 use Rattle.mx_answer.specs.Answer.{Answer}
-use Rattle.mx_answer.specs.Protocol.{Protocol, Counts, Performed, HasOwnAnswers}
+use Rattle.mx_io.specs.Shelves.{Told, Counts}
+use Rattle.mx_answer.specs.Protocol.{Protocol, resolved, Performed, HasOwnAnswers}
 use Rattle.mx_answer.specs.Delivery.{Delivered, PutsPrefix, FailsToWrite}
 use Rattle.mx_answer.specs.Commands.{Outside, Commanded}
-use Rattle.mx_answer.proofs.Commands.{commanded}
+use Rattle.mx_answer.proofs.Commands.{commanded, status_cases}
+use Rattle.mx_command.specs.Headline.{AreQuiet, IsNoFault}
 
--- what each name holds
-abbrev pub Held : Type 0
-Held = List ℕ → Option (List ℕ)
-
-module _ (p : Protocol) (answer : Answer) (result : Status) (tells tells' : Bool) (held held' held'' : Held)
-    (counts between counts' : Counts) (writes writes' writes'' faults faults' : ℕ) (written written' : Option (List ℕ)) where
-  abbrev pub before : Outside
-  before = record { counts = counts; write_faults = writes; sink_faults = faults; written = written; held = held }
-
-  abbrev pub after : Outside
-  after = record { counts = counts'; write_faults = writes''; sink_faults = faults'; written = written'; held = held'' }
-
+module _ (p : Protocol) (answer : Answer) (result : Status) (before between after : Outside) where
   pub ended : HasOwnAnswers p
-      → Performed (record { tells = tells; held = held }) p counts between answer
-      → tells' ≡ tells
-      → ((n : List ℕ) → held' n ≡ held n)
-      → writes' ≡ writes
-      → counts' ≡ between
-      → (result ≢ WriteFault → result ≢ Memory → Delivered answer result tells' written written' held' held'')
-      → (result ≡ WriteFault → FailsToWrite answer faults faults' writes' writes'')
-      → (result ≡ WriteFault → PutsPrefix answer written written')
-      → (result ≡ Memory → written' ≡ written)
-      → ((result ≡ WriteFault) ⊎ (result ≡ Memory) → tells' ≡ true → (n : List ℕ) → held'' n ≡ held' n)
-      → Commanded p tells before after result
-  ended own performed same_tells same_held same_writes same_counts delivered write_fault put_out memory kept =
-      let held_path : held' ≡ held = λ i n. same_held n i in
-      commanded p tells before after answer result own
-      (subst (λ (c : Counts). Performed (record { tells = tells; held = held }) p counts c answer) (sym same_counts) performed)
+      → Performed before.told p before.counts between.counts answer
+      → between.told ≡ before.told
+      → between.write_faults ≡ before.write_faults
+      → after.counts ≡ between.counts
+      → (result ≢ WriteFault → result ≢ Memory → Delivered answer result between.told after.told before.written after.written)
+      → (result ≡ WriteFault → FailsToWrite answer before.sink_faults after.sink_faults between.write_faults after.write_faults)
+      → (result ≡ WriteFault → PutsPrefix answer before.written after.written)
+      → (result ≡ Memory → after.written ≡ before.written)
+      → ((result ≡ WriteFault) ⊎ (result ≡ Memory) → between.told.tells ≡ true → (n : List ℕ) → after.told.held n ≡ between.told.held n)
+      → Commanded p before after result
+  ended own performed same_told same_writes same_counts delivered write_fault put_out memory kept =
+      commanded p before after answer result own
+      (subst (λ (c : Counts). Performed before.told p before.counts c answer) (sym same_counts) performed)
       (record {
-        delivered = λ w m. subst (λ t. Delivered answer result t written written' held held'') same_tells
-            (subst (λ (h : Held). Delivered answer result tells' written written' h held'') held_path (delivered w m));
-        write_fault = λ w. subst (λ n. FailsToWrite answer faults faults' n writes'') same_writes (write_fault w);
+        delivered = λ w m. subst (λ (t : Told). Delivered answer result t after.told before.written after.written) same_told (delivered w m);
+        write_fault = λ w. subst (λ n. FailsToWrite answer before.sink_faults after.sink_faults n after.write_faults) same_writes (write_fault w);
         put_out = put_out;
         memory = memory;
-        kept = λ f t n. kept f (same_tells ∙ t) n ∙ same_held n;
+        kept = λ f t n. kept f (ap (λ (x : Told). x.tells) same_told ∙ t) n ∙ ap (λ (x : Told). x.held n) same_told;
       })
+
+-- what follows from the answer where it is that of what is held, of a command that no fault disturbed
+pub promised : (p : Protocol) (before after : Outside) (result : Status) (P : Type 0) → Commanded p before after result
+    → (Delivered (resolved p before.told.held) result before.told after.told before.written after.written → P)
+    → before.told.tells ≡ true
+    → AreQuiet before.counts after.counts before.write_faults after.write_faults before.sink_faults after.sink_faults ⊎ IsNoFault result
+    → (result ≡ Memory) ⊎ P
+promised p before after result P whole follows tells undisturbed =
+    ⊎_elim
+    (λ quiet. ⊎_elim inl (λ d. inr (follows d)) (whole.complete tells quiet.reading quiet.writing quiet.putting))
+    (λ calm. ⊎_elim
+    (λ fault. ⊎_elim (λ w. absurd (calm.no_write_fault w)) inl fault)
+    (λ other. inr (follows (whole.sound tells calm.no_read_fault other.0 other.1)))
+    (status_cases result))
+    undisturbed

@@ -22,6 +22,7 @@ use Rattle.mx_answer.specs.declared.Status.TheVariants.{Memory}
 use Rattle.mx_answer.specs.Answer.{Answer}
 use Rattle.mx_answer.specs.Files.{limit_of}
 use Rattle.mx_answer.specs.Protocol.{Protocol, Reads, Reading, Given, TooLong, reading_of, answered, resolved}
+use Rattle.mx_io.specs.Shelves.{Told}
 use Rattle.mx_answer.specs.Delivery.{Delivered}
 use Rattle.mx_simulate.specs.Simulated.{program_answer}
 use Rattle.mx_simulate.specs.Machines.{given, by_requests, requests_protocol, input_protocol}
@@ -86,11 +87,11 @@ module _ (asked : Option Command) (held : Held) (a : Accepted asked held) where
   means : MeansItsSource source a.sites a.requests a.input a.limits.budget
   means = text_means a.text a.sites a.requests a.input a.limits.budget a.faultless a.layout a.reach
 
-  run_is_told : (result : Status) (tells : Bool) (before after : Option (List ℕ)) (held' : Held)
-      → Delivered (program_answer (source_program source a.sites a.input) code_words a.requests a.limits) result tells before after held held'
+  run_is_told : (result : Status) (tells : Bool) (told' : Told) (before after : Option (List ℕ))
+      → Delivered (program_answer (source_program source a.sites a.input) code_words a.requests a.limits) result (record { tells = tells; held = held }) told' before after
       → Headline asked held a result before after
   unfolding program_answer
-  run_is_told result tells before after held' d = record {
+  run_is_told result tells told' before after d = record {
     status = d.status;
     output = d.output;
     sends_a_prefix = means.sent;
@@ -100,8 +101,8 @@ module _ (asked : Option Command) (held : Held) (a : Accepted asked held) where
   }
 
   -- where the answer was delivered, the headline holds of it
-  pub delivered_is_headline : (layout_of : Layouts) → IsScheduler layout_of → (result : Status) (tells : Bool) (before after : Option (List ℕ)) (held' : Held)
-      → Delivered (resolved (protocol_of layout_of asked) held) result tells before after held held'
+  pub delivered_is_headline : (layout_of : Layouts) → IsScheduler layout_of → (result : Status) (tells : Bool) (told' : Told) (before after : Option (List ℕ))
+      → Delivered (resolved (protocol_of layout_of asked) held) result (record { tells = tells; held = held }) told' before after
       → Headline asked held a result before after
-  delivered_is_headline layout_of is result tells before after held' d = run_is_told result tells before after held'
-      (subst (λ (x : Answer). Delivered x result tells before after held held') (answer_is layout_of is) d)
+  delivered_is_headline layout_of is result tells told' before after d = run_is_told result tells told' before after
+      (subst (λ (x : Answer). Delivered x result (record { tells = tells; held = held }) told' before after) (answer_is layout_of is) d)

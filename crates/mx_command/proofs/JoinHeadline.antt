@@ -9,6 +9,7 @@ use Rattle.mx_answer.specs.declared.Status.{Status}
 use Rattle.mx_answer.specs.declared.Status.TheVariants.{Done}
 use Rattle.mx_answer.specs.Answer.{Answer, prints}
 use Rattle.mx_answer.specs.Protocol.{resolved}
+use Rattle.mx_io.specs.Shelves.{Told}
 use Rattle.mx_answer.specs.Delivery.{Delivered}
 use Rattle.mx_asm.specs.Texts.{source_of}
 use Rattle.mx_module.specs.Joined.{joined, join_fault}
@@ -63,9 +64,9 @@ module _ (asked : Option Command) (held : Held) (a : AcceptedModules asked held)
     names = short;
   }
 
-  text_is_told : (result : Status) (tells : Bool) (before after : Option (List ℕ)) (held' : Held)
-      → Delivered (prints Done (printed (joined a.texts))) result tells before after held held' → JoinHeadline asked held a result before after
-  text_is_told result tells before after held' d = record {
+  text_is_told : (result : Status) (tells : Bool) (told' : Told) (before after : Option (List ℕ))
+      → Delivered (prints Done (printed (joined a.texts))) result (record { tells = tells; held = held }) told' before after → JoinHeadline asked held a result before after
+  text_is_told result tells told' before after d = record {
     status = d.status;
     output = d.output;
     reads_back = λ short. joined_reads a.texts (are_joined short);
@@ -73,8 +74,8 @@ module _ (asked : Option Command) (held : Held) (a : AcceptedModules asked held)
   }
 
   -- where the answer was delivered, it is that text
-  pub delivered_is_joined : (layout_of : Layouts) (result : Status) (tells : Bool) (before after : Option (List ℕ)) (held' : Held)
-      → Delivered (resolved (protocol_of layout_of asked) held) result tells before after held held'
+  pub delivered_is_joined : (layout_of : Layouts) (result : Status) (tells : Bool) (told' : Told) (before after : Option (List ℕ))
+      → Delivered (resolved (protocol_of layout_of asked) held) result (record { tells = tells; held = held }) told' before after
       → JoinHeadline asked held a result before after
-  delivered_is_joined layout_of result tells before after held' d = text_is_told result tells before after held'
-      (subst (λ (x : Answer). Delivered x result tells before after held held') (answer_is layout_of) d)
+  delivered_is_joined layout_of result tells told' before after d = text_is_told result tells told' before after
+      (subst (λ (x : Answer). Delivered x result (record { tells = tells; held = held }) told' before after) (answer_is layout_of) d)

@@ -7,7 +7,8 @@ use Rattle.mx_words.specs.Command.{texts}
 use Rattle.mx_answer.specs.declared.FileKind.TheVariants.{Module}
 use Rattle.mx_answer.specs.declared.Reply.{Reply}
 use Rattle.mx_answer.specs.Answer.{Answer}
-use Rattle.mx_answer.specs.Protocol.{Protocol, Reads, Told, Counts, Performed}
+use Rattle.mx_io.specs.Shelves.{Told, Counts}
+use Rattle.mx_answer.specs.Protocol.{Protocol, Reads, Performed}
 use Rattle.mx_answer.specs.Replies.{reply_answer}
 use Rattle.mx_command.specs.Protocols.{join_answer, modules_protocol}
 

@@ -13,7 +13,8 @@ use Rattle.mx_answer.specs.declared.Status.{Status}
 use Rattle.mx_answer.specs.declared.Status.TheVariants.{Halted, Done, Refused, Usage, OutOfBudget, ReadFault, WriteFault, Memory, BadImage, BadEvents, Stuck}
 use Rattle.mx_answer.specs.Answer.{Answer, prints, writes, is_own}
 use Rattle.mx_answer.specs.Delivery.{HasStatus}
-use Rattle.mx_answer.specs.Protocol.{Protocol, Answers, Reads, Told, Counts, IsFault, Performed, HasOwnAnswers}
+use Rattle.mx_io.specs.Shelves.{Told, Counts}
+use Rattle.mx_answer.specs.Protocol.{Protocol, Answers, Reads, IsFault, Performed, HasOwnAnswers}
 use Rattle.mx_asm.specs.declared.Fault.{Fault}
 use Rattle.mx_asm.specs.Texts.{source_of, text_fault}
 use Rattle.mx_isa.specs.declared.Place.{Place}

@@ -9,7 +9,8 @@ use Rattle.mx_turn.specs.Handler.{shipped}
 use Rattle.mx_turn.specs.Program.{Program, program_of}
 use Rattle.mx_answer.specs.declared.FileKind.TheVariants.{Second}
 use Rattle.mx_answer.specs.Answer.{Answer}
-use Rattle.mx_answer.specs.Protocol.{Protocol, Answers, Reads, Told, Counts, Performed, OnlyPrints}
+use Rattle.mx_io.specs.Shelves.{Told, Counts}
+use Rattle.mx_answer.specs.Protocol.{Protocol, Answers, Reads, Performed, OnlyPrints}
 use Rattle.mx_answer.proofs.Protocols.{no_file}
 use Rattle.mx_asm.specs.declared.Fault.{Fault}
 use Rattle.mx_asm.specs.Texts.{source_of, text_fault}

@@ -31,6 +31,7 @@ use Rattle.mx_answer.specs.declared.FileKind.TheVariants.{Source}
 use Rattle.mx_answer.specs.declared.Status.{Status}
 use Rattle.mx_answer.specs.Answer.{Answer}
 use Rattle.mx_answer.specs.Protocol.{Protocol, resolved}
+use Rattle.mx_io.specs.Shelves.{Told}
 use Rattle.mx_answer.specs.Delivery.{Delivered}
 use Rattle.mx_schedule.specs.Schedule.{IsScheduler}
 use Rattle.mx_asked.specs.Commands.{Command}
@@ -118,15 +119,15 @@ module _ (asked : Option Command) (held : Held) (a : AcceptedStops asked held) w
       (text_laid board a.text a.sites (omega arith) a.faultless (omega (arith, few)) a.layout a.reach)
       (labelled_leads source a.index found.labelled) found.within (user_word a.limits.watch a.ranges.watch.0 a.ranges.watch.1) unstuck
 
-  session_is_told : (result : Status) (tells : Bool) (before after : Option (List ℕ)) (held' : Held)
-      → Delivered (session_answer (accepted_session asked held a)) result tells before after held held'
+  session_is_told : (result : Status) (tells : Bool) (told' : Told) (before after : Option (List ℕ))
+      → Delivered (session_answer (accepted_session asked held a)) result (record { tells = tells; held = held }) told' before after
       → StopsHeadline asked held a result before after
   unfolding session_answer
-  session_is_told result tells before after held' d = record { status = d.status; output = d.output; means = means }
+  session_is_told result tells told' before after d = record { status = d.status; output = d.output; means = means }
 
   -- where the answer was delivered, it is that of such a session
-  pub delivered_is_stops : (layout_of : Layouts) → IsScheduler layout_of → (result : Status) (tells : Bool) (before after : Option (List ℕ)) (held' : Held)
-      → Delivered (resolved (protocol_of layout_of asked) held) result tells before after held held'
+  pub delivered_is_stops : (layout_of : Layouts) → IsScheduler layout_of → (result : Status) (tells : Bool) (told' : Told) (before after : Option (List ℕ))
+      → Delivered (resolved (protocol_of layout_of asked) held) result (record { tells = tells; held = held }) told' before after
       → StopsHeadline asked held a result before after
-  delivered_is_stops layout_of is result tells before after held' d = session_is_told result tells before after held'
-      (subst (λ (x : Answer). Delivered x result tells before after held held') (answer_is layout_of is) d)
+  delivered_is_stops layout_of is result tells told' before after d = session_is_told result tells told' before after
+      (subst (λ (x : Answer). Delivered x result (record { tells = tells; held = held }) told' before after) (answer_is layout_of is) d)

@@ -1,6 +1,7 @@
 -- The headline: what `run` promises of a source that is accepted, whatever interrupts come.
 use Rattle.std.specs.Prelude.{◌≡◌, ◌≢◌, ℕ, ◌+◌, ◌≤◌, ◌⊎◌, cond, min, true, List, length, Option}
 use Rattle.mx_io.specs.Counts.{Rose, with_more}
+use Rattle.mx_io.specs.Shelves.{Counts}
 use Rattle.mx_source.specs.SourceValue.{SourceValue}
 use Rattle.mx_source.specs.Meaning.{Run as Meant, meaning, HaltsIn}
 use Rattle.mx_order.specs.Laws.{IsPrefix}
@@ -18,8 +19,8 @@ use Rattle.mx_asked.specs.Commands.{Command}
 use Rattle.mx_command.specs.Accepted.{Held, Accepted}
 
 -- no count of faults rose: of the shelf in reading and in writing, and of the sink
-pub record AreQuiet (reads reads' writes writes' puts puts' : ℕ) : Type 0 where
-  pub reading : ¬ Rose reads reads'
+pub record AreQuiet (counts counts' : Counts) (writes writes' puts puts' : ℕ) : Type 0 where
+  pub reading : ¬ Rose counts.faults counts'.faults
   pub writing : ¬ Rose writes writes'
   pub putting : ¬ Rose puts puts'
 

@@ -6,7 +6,8 @@ ghost use Rattle.mx_link.specs.Linked.{IsLinked, link_map};
 ghost use Rattle.mx_reorg.specs.Greedy.{IsGreedy};
 ghost use Rattle.mx_meaning.specs.Boards.{board};
 ghost use Rattle.mx_answer.specs.Answer.{prints};
-ghost use Rattle.mx_answer.specs.Protocol.{Reads, Counts, Performed};
+ghost use Rattle.mx_io.specs.Shelves.{Counts};
+ghost use Rattle.mx_answer.specs.Protocol.{Reads, Performed};
 ghost use Rattle.mx_answer.specs.Replies.{reply_answer};
 ghost use Rattle.mx_sessions.specs.Sessions.{IsAsked};
 ghost use Rattle.mx_asked.specs.Seen.{seen_files};
@@ -108,12 +109,10 @@ fn labelled_reply<S: Shelf>(
     limits: &SessionLimits,
 ) -> Result<Reply, Memory>
     requires { IsAsked limits.now }
-    ensures performed { (layout_of : Layouts) → IsScheduler layout_of → IfOk result (λ r. Performed (record { tells = S.tells shelf.old; held = S.held shelf.old })
+    ensures performed { (layout_of : Layouts) → IsScheduler layout_of → IfOk result (λ r. Performed (S.told shelf.old)
         (labelled_protocol layout_of label.now (seen_files files.now) limits.now source.now)
-        (record { reads = S.reads shelf.old; taken = S.taken shelf.old; faults = S.read_faults shelf.old })
-        (record { reads = S.reads shelf.new; taken = S.taken shelf.new; faults = S.read_faults shelf.new }) (reply_answer r)) }
-    ensures tells_stay { S.tells shelf.new ≡ S.tells shelf.old }
-    ensures held_stays { (n : List ℕ) → S.held shelf.new n ≡ S.held shelf.old n }
+        (S.counts shelf.old) (S.counts shelf.new) (reply_answer r)) }
+    ensures told_stays { S.told shelf.new ≡ S.told shelf.old }
     ensures writes_stay { S.write_faults shelf.new ≡ S.write_faults shelf.old }
 {
     let Some(index) = statement_named(source, label) else {
@@ -141,12 +140,10 @@ fn debug_text<S: Shelf>(
 ) -> Result<Reply, Memory>
     requires text { length text.now ≤ 4194304 }
     requires asked { IsAsked limits.now }
-    ensures performed { (layout_of : Layouts) → IsScheduler layout_of → IfOk result (λ r. Performed (record { tells = S.tells shelf.old; held = S.held shelf.old })
+    ensures performed { (layout_of : Layouts) → IsScheduler layout_of → IfOk result (λ r. Performed (S.told shelf.old)
         (debug_protocol layout_of label.now (seen_files files.now) limits.now text.now)
-        (record { reads = S.reads shelf.old; taken = S.taken shelf.old; faults = S.read_faults shelf.old })
-        (record { reads = S.reads shelf.new; taken = S.taken shelf.new; faults = S.read_faults shelf.new }) (reply_answer r)) }
-    ensures tells_stay { S.tells shelf.new ≡ S.tells shelf.old }
-    ensures held_stays { (n : List ℕ) → S.held shelf.new n ≡ S.held shelf.old n }
+        (S.counts shelf.old) (S.counts shelf.new) (reply_answer r)) }
+    ensures told_stays { S.told shelf.new ≡ S.told shelf.old }
     ensures writes_stay { S.write_faults shelf.new ≡ S.write_faults shelf.old }
 {
     let source = match assembled(alloc, text)? {
@@ -167,12 +164,10 @@ pub fn debug_reply<S: Shelf>(
     limits: &SessionLimits,
 ) -> Result<Reply, Memory>
     requires { IsAsked limits.now }
-    ensures performed { (layout_of : Layouts) → IsScheduler layout_of → IfOk result (λ r. Performed (record { tells = S.tells shelf.old; held = S.held shelf.old })
+    ensures performed { (layout_of : Layouts) → IsScheduler layout_of → IfOk result (λ r. Performed (S.told shelf.old)
         (Reads FileKind.Source source.now (debug_protocol layout_of label.now (seen_files files.now) limits.now))
-        (record { reads = S.reads shelf.old; taken = S.taken shelf.old; faults = S.read_faults shelf.old })
-        (record { reads = S.reads shelf.new; taken = S.taken shelf.new; faults = S.read_faults shelf.new }) (reply_answer r)) }
-    ensures tells_stay { S.tells shelf.new ≡ S.tells shelf.old }
-    ensures held_stays { (n : List ℕ) → S.held shelf.new n ≡ S.held shelf.old n }
+        (S.counts shelf.old) (S.counts shelf.new) (reply_answer r)) }
+    ensures told_stays { S.told shelf.new ≡ S.told shelf.old }
     ensures writes_stay { S.write_faults shelf.new ≡ S.write_faults shelf.old }
 {
     let text = match read_named(alloc, shelf, FileKind::Source, source)? {

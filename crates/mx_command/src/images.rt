@@ -3,7 +3,8 @@ ghost use Rattle.std.specs.Prelude.{◌≡◌, ◌≢◌, ◌++◌, codes, IfOk,
 ghost use Rattle.mx_image.specs.Contents.{contents_of};
 ghost use Rattle.mx_image.specs.Files.{file_refusal, file_in, file_bytes};
 ghost use Rattle.mx_answer.specs.Answer.{prints, writes};
-ghost use Rattle.mx_answer.specs.Protocol.{Answers, Reads, Counts, Performed};
+ghost use Rattle.mx_io.specs.Shelves.{Counts};
+ghost use Rattle.mx_answer.specs.Protocol.{Answers, Reads, Performed};
 ghost use Rattle.mx_answer.specs.Replies.{reply_answer};
 ghost use Rattle.mx_asked.specs.Seen.{seen_files};
 ghost use Rattle.mx_command.specs.Protocols.{image_text, image_line, unless_refused, exec_protocol, migrate_answer};
@@ -47,12 +48,10 @@ fn exec_bytes<S: Shelf>(
     files: &RunFiles,
     limits: &Limits,
 ) -> Result<Reply, Memory>
-    ensures performed { IfOk result (λ r. Performed (record { tells = S.tells shelf.old; held = S.held shelf.old })
+    ensures performed { IfOk result (λ r. Performed (S.told shelf.old)
         (exec_protocol (seen_files files.now) limits.now bytes.now)
-        (record { reads = S.reads shelf.old; taken = S.taken shelf.old; faults = S.read_faults shelf.old })
-        (record { reads = S.reads shelf.new; taken = S.taken shelf.new; faults = S.read_faults shelf.new }) (reply_answer r)) }
-    ensures tells_stay { S.tells shelf.new ≡ S.tells shelf.old }
-    ensures held_stays { (n : List ℕ) → S.held shelf.new n ≡ S.held shelf.old n }
+        (S.counts shelf.old) (S.counts shelf.new) (reply_answer r)) }
+    ensures told_stays { S.told shelf.new ≡ S.told shelf.old }
     ensures writes_stay { S.write_faults shelf.new ≡ S.write_faults shelf.old }
 {
     match read_image_file(alloc, bytes) {
@@ -94,12 +93,10 @@ pub fn exec_reply<S: Shelf>(
     files: &RunFiles,
     limits: &Limits,
 ) -> Result<Reply, Memory>
-    ensures performed { IfOk result (λ r. Performed (record { tells = S.tells shelf.old; held = S.held shelf.old })
+    ensures performed { IfOk result (λ r. Performed (S.told shelf.old)
         (Reads FileKind.Image image.now (exec_protocol (seen_files files.now) limits.now))
-        (record { reads = S.reads shelf.old; taken = S.taken shelf.old; faults = S.read_faults shelf.old })
-        (record { reads = S.reads shelf.new; taken = S.taken shelf.new; faults = S.read_faults shelf.new }) (reply_answer r)) }
-    ensures tells_stay { S.tells shelf.new ≡ S.tells shelf.old }
-    ensures held_stays { (n : List ℕ) → S.held shelf.new n ≡ S.held shelf.old n }
+        (S.counts shelf.old) (S.counts shelf.new) (reply_answer r)) }
+    ensures told_stays { S.told shelf.new ≡ S.told shelf.old }
     ensures writes_stay { S.write_faults shelf.new ≡ S.write_faults shelf.old }
 {
     let bytes = match read_named(alloc, shelf, FileKind::Image, image)? {
@@ -117,12 +114,10 @@ pub fn migrate_reply<S: Shelf>(
     image: &str,
     target: &str,
 ) -> Result<Reply, Memory>
-    ensures performed { IfOk result (λ r. Performed (record { tells = S.tells shelf.old; held = S.held shelf.old })
+    ensures performed { IfOk result (λ r. Performed (S.told shelf.old)
         (Reads FileKind.Image image.now (λ bytes. Answers (migrate_answer target.now bytes)))
-        (record { reads = S.reads shelf.old; taken = S.taken shelf.old; faults = S.read_faults shelf.old })
-        (record { reads = S.reads shelf.new; taken = S.taken shelf.new; faults = S.read_faults shelf.new }) (reply_answer r)) }
-    ensures tells_stay { S.tells shelf.new ≡ S.tells shelf.old }
-    ensures held_stays { (n : List ℕ) → S.held shelf.new n ≡ S.held shelf.old n }
+        (S.counts shelf.old) (S.counts shelf.new) (reply_answer r)) }
+    ensures told_stays { S.told shelf.new ≡ S.told shelf.old }
     ensures writes_stay { S.write_faults shelf.new ≡ S.write_faults shelf.old }
 {
     let bytes = match read_named(alloc, shelf, FileKind::Image, image)? {

@@ -1,7 +1,8 @@
 //! The reply of the command that joins modules to one source.
 ghost use Rattle.std.specs.Prelude.{◌≡◌, ◌≤◌, [], length, IfOk, IfErr, List, ℕ};
 ghost use Rattle.mx_answer.specs.Answer.{prints};
-ghost use Rattle.mx_answer.specs.Protocol.{Counts, Performed};
+ghost use Rattle.mx_io.specs.Shelves.{Counts};
+ghost use Rattle.mx_answer.specs.Protocol.{Performed};
 ghost use Rattle.mx_answer.specs.Replies.{reply_answer};
 ghost use Rattle.mx_words.specs.Command.{texts};
 ghost use Rattle.mx_command.specs.Protocols.{join_fault_text, refusal_line, join_answer, modules_protocol};
@@ -73,16 +74,13 @@ fn read_modules<S: Shelf>(
 ) -> Result<Result<Joiner, Reply>, Memory>
     requires few { length names.now ≤ 16 }
     ensures count { IfOk result (λ r. IfOk r (λ joiner. length joiner ≡ length names.now)) }
-    ensures given { IfOk result (λ r. IfOk r (λ joiner. Performed (record { tells = S.tells shelf.old; held = S.held shelf.old })
+    ensures given { IfOk result (λ r. IfOk r (λ joiner. Performed (S.told shelf.old)
         (modules_protocol (texts names.now) [])
-        (record { reads = S.reads shelf.old; taken = S.taken shelf.old; faults = S.read_faults shelf.old })
-        (record { reads = S.reads shelf.new; taken = S.taken shelf.new; faults = S.read_faults shelf.new }) (join_answer joiner))) }
-    ensures refused { IfOk result (λ r. IfErr r (λ reply. Performed (record { tells = S.tells shelf.old; held = S.held shelf.old })
+        (S.counts shelf.old) (S.counts shelf.new) (join_answer joiner))) }
+    ensures refused { IfOk result (λ r. IfErr r (λ reply. Performed (S.told shelf.old)
         (modules_protocol (texts names.now) [])
-        (record { reads = S.reads shelf.old; taken = S.taken shelf.old; faults = S.read_faults shelf.old })
-        (record { reads = S.reads shelf.new; taken = S.taken shelf.new; faults = S.read_faults shelf.new }) (reply_answer reply))) }
-    ensures tells_stay { S.tells shelf.new ≡ S.tells shelf.old }
-    ensures held_stays { (n : List ℕ) → S.held shelf.new n ≡ S.held shelf.old n }
+        (S.counts shelf.old) (S.counts shelf.new) (reply_answer reply))) }
+    ensures told_stays { S.told shelf.new ≡ S.told shelf.old }
     ensures writes_stay { S.write_faults shelf.new ≡ S.write_faults shelf.old }
 {
     let mut joiner = Joiner::new(alloc);
@@ -102,13 +100,11 @@ fn read_modules<S: Shelf>(
 pub fn join_reply<S: Shelf>(alloc: Global, shelf: &mut S, names: &[&str]) -> Result<Reply, Memory>
     requires some { 1 ≤ length names.now }
     requires few { length names.now ≤ 16 }
-    ensures performed { IfOk result (λ r. Performed (record { tells = S.tells shelf.old; held = S.held shelf.old })
+    ensures performed { IfOk result (λ r. Performed (S.told shelf.old)
         (modules_protocol (texts names.now) [])
-        (record { reads = S.reads shelf.old; taken = S.taken shelf.old; faults = S.read_faults shelf.old })
-        (record { reads = S.reads shelf.new; taken = S.taken shelf.new; faults = S.read_faults shelf.new }) (reply_answer r)) }
+        (S.counts shelf.old) (S.counts shelf.new) (reply_answer r)) }
     ensures replied { IfOk result (λ r. IsReplied (reply_answer r)) }
-    ensures tells_stay { S.tells shelf.new ≡ S.tells shelf.old }
-    ensures held_stays { (n : List ℕ) → S.held shelf.new n ≡ S.held shelf.old n }
+    ensures told_stays { S.told shelf.new ≡ S.told shelf.old }
     ensures writes_stay { S.write_faults shelf.new ≡ S.write_faults shelf.old }
 {
     match read_modules(alloc, shelf, names)? {

@@ -4,7 +4,8 @@ ghost use Rattle.mx_source.specs.Printed.{printed};
 ghost use Rattle.mx_gen.specs.Generated.{generated};
 ghost use Rattle.mx_soak.specs.Soak.{soak_text};
 ghost use Rattle.mx_answer.specs.Answer.{prints, usage};
-ghost use Rattle.mx_answer.specs.Protocol.{Counts, Performed};
+ghost use Rattle.mx_io.specs.Shelves.{Counts};
+ghost use Rattle.mx_answer.specs.Protocol.{Performed};
 ghost use Rattle.mx_answer.specs.Replies.{reply_answer};
 ghost use Rattle.mx_asked.specs.Seen.{seen_command, IsAllowed};
 ghost use Rattle.mx_asked.specs.Asked.{command_of};
@@ -49,13 +50,11 @@ fn soak_reply(alloc: Global, seed: u32, count: u32) -> Result<Reply, Memory>
 /// The reply to a command.
 fn command_reply<S: Shelf>(alloc: Global, shelf: &mut S, asked: &Command) -> Result<Reply, Memory>
     requires { IsAllowed asked.now }
-    ensures performed { (layout_of : Layouts) → IsScheduler layout_of → IfOk result (λ r. Performed (record { tells = S.tells shelf.old; held = S.held shelf.old })
+    ensures performed { (layout_of : Layouts) → IsScheduler layout_of → IfOk result (λ r. Performed (S.told shelf.old)
         (protocol_of layout_of (Some (seen_command asked.now)))
-        (record { reads = S.reads shelf.old; taken = S.taken shelf.old; faults = S.read_faults shelf.old })
-        (record { reads = S.reads shelf.new; taken = S.taken shelf.new; faults = S.read_faults shelf.new }) (reply_answer r)) }
+        (S.counts shelf.old) (S.counts shelf.new) (reply_answer r)) }
     ensures replied { IfOk result (λ r. IsReplied (reply_answer r)) }
-    ensures tells_stay { S.tells shelf.new ≡ S.tells shelf.old }
-    ensures held_stays { (n : List ℕ) → S.held shelf.new n ≡ S.held shelf.old n }
+    ensures told_stays { S.told shelf.new ≡ S.told shelf.old }
     ensures writes_stay { S.write_faults shelf.new ≡ S.write_faults shelf.old }
 {
     match *asked {
@@ -134,14 +133,12 @@ fn command_reply<S: Shelf>(alloc: Global, shelf: &mut S, asked: &Command) -> Res
 
 /// The reply to words.
 pub fn reply_to<S: Shelf>(alloc: Global, words: &[String], shelf: &mut S) -> Result<Reply, Memory>
-    ensures performed { (layout_of : Layouts) → IsScheduler layout_of → IfOk result (λ r. Performed (record { tells = S.tells shelf.old; held = S.held shelf.old })
+    ensures performed { (layout_of : Layouts) → IsScheduler layout_of → IfOk result (λ r. Performed (S.told shelf.old)
         (protocol_of layout_of (command_of (map string_bytes words.now)))
-        (record { reads = S.reads shelf.old; taken = S.taken shelf.old; faults = S.read_faults shelf.old })
-        (record { reads = S.reads shelf.new; taken = S.taken shelf.new; faults = S.read_faults shelf.new }) (reply_answer r)) }
+        (S.counts shelf.old) (S.counts shelf.new) (reply_answer r)) }
     ensures replied { IfOk result (λ r. IsReplied (reply_answer r) ⊎ (command_of (map string_bytes words.now) ≡ None)) }
     ensures asks_nothing { command_of (map string_bytes words.now) ≡ None → IfOk result (λ r. reply_answer r ≡ usage) }
-    ensures tells_stay { S.tells shelf.new ≡ S.tells shelf.old }
-    ensures held_stays { (n : List ℕ) → S.held shelf.new n ≡ S.held shelf.old n }
+    ensures told_stays { S.told shelf.new ≡ S.told shelf.old }
     ensures writes_stay { S.write_faults shelf.new ≡ S.write_faults shelf.old }
 {
     match read_command(alloc, words)? {

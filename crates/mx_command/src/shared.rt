@@ -5,7 +5,8 @@ ghost use Rattle.mx_tasks.specs.Places.{lower, upper};
 ghost use Rattle.mx_sharing.specs.Runs.{sharing_protocol};
 ghost use Rattle.mx_answer.specs.Files.{limit_of};
 ghost use Rattle.mx_answer.specs.Answer.{Answer, prints, text_line};
-ghost use Rattle.mx_answer.specs.Protocol.{Protocol, Answers, Reads, Counts, Performed};
+ghost use Rattle.mx_io.specs.Shelves.{Counts};
+ghost use Rattle.mx_answer.specs.Protocol.{Protocol, Answers, Reads, Performed};
 ghost use Rattle.mx_answer.specs.Replies.{reply_answer};
 ghost use Rattle.mx_schedule.specs.Schedule.{IsScheduler};
 ghost use Rattle.mx_command.specs.Protocols.{of_program, line_cause, wrong_with, overlong_text, assembled_protocol, Layouts, pair_protocol, share_protocol};
@@ -105,17 +106,15 @@ fn read_assembled<S: Shelf>(
     requires least { 256 ≤ place.user_data }
     ensures source { IfOk result (λ r. IfOk r (λ source. (text : List ℕ) × IsFitting place text source)) }
     ensures given { IfOk result (λ r. IfOk r (λ source. (next : SourceValue → Protocol) (after : Counts) (answer : Answer)
-        → Performed (record { tells = S.tells shelf.old; held = S.held shelf.old }) (next source)
-        (record { reads = S.reads shelf.new; taken = S.taken shelf.new; faults = S.read_faults shelf.new }) after answer
-        → Performed (record { tells = S.tells shelf.old; held = S.held shelf.old }) (Reads kind name.now (assembled_protocol program place next))
-        (record { reads = S.reads shelf.old; taken = S.taken shelf.old; faults = S.read_faults shelf.old }) after answer)) }
+        → Performed (S.told shelf.old) (next source)
+        (S.counts shelf.new) after answer
+        → Performed (S.told shelf.old) (Reads kind name.now (assembled_protocol program place next))
+        (S.counts shelf.old) after answer)) }
     ensures refused { IfOk result (λ r. IfErr r (λ reply. (next : SourceValue → Protocol)
-        → Performed (record { tells = S.tells shelf.old; held = S.held shelf.old }) (Reads kind name.now (assembled_protocol program place next))
-        (record { reads = S.reads shelf.old; taken = S.taken shelf.old; faults = S.read_faults shelf.old })
-        (record { reads = S.reads shelf.new; taken = S.taken shelf.new; faults = S.read_faults shelf.new }) (reply_answer reply))) }
+        → Performed (S.told shelf.old) (Reads kind name.now (assembled_protocol program place next))
+        (S.counts shelf.old) (S.counts shelf.new) (reply_answer reply))) }
     ensures replied { IfOk result (λ r. IfErr r (λ reply. IsReplied (reply_answer reply))) }
-    ensures tells_stay { S.tells shelf.new ≡ S.tells shelf.old }
-    ensures held_stays { (n : List ℕ) → S.held shelf.new n ≡ S.held shelf.old n }
+    ensures told_stays { S.told shelf.new ≡ S.told shelf.old }
     ensures writes_stay { S.write_faults shelf.new ≡ S.write_faults shelf.old }
 {
     let text = match read_named(alloc, shelf, kind, name)? {
@@ -171,13 +170,11 @@ pub fn share_reply<S: Shelf>(
     interrupts: Option<&str>,
     budget: u32,
 ) -> Result<Reply, Memory>
-    ensures performed { (layout_of : Layouts) → IsScheduler layout_of → IfOk result (λ r. Performed (record { tells = S.tells shelf.old; held = S.held shelf.old })
+    ensures performed { (layout_of : Layouts) → IsScheduler layout_of → IfOk result (λ r. Performed (S.told shelf.old)
         (share_protocol layout_of first.now second.now (option_map (λ s. s.now) interrupts.entry) budget)
-        (record { reads = S.reads shelf.old; taken = S.taken shelf.old; faults = S.read_faults shelf.old })
-        (record { reads = S.reads shelf.new; taken = S.taken shelf.new; faults = S.read_faults shelf.new }) (reply_answer r)) }
+        (S.counts shelf.old) (S.counts shelf.new) (reply_answer r)) }
     ensures replied { IfOk result (λ r. IsReplied (reply_answer r)) }
-    ensures tells_stay { S.tells shelf.new ≡ S.tells shelf.old }
-    ensures held_stays { (n : List ℕ) → S.held shelf.new n ≡ S.held shelf.old n }
+    ensures told_stays { S.told shelf.new ≡ S.told shelf.old }
     ensures writes_stay { S.write_faults shelf.new ≡ S.write_faults shelf.old }
 {
     let first = match read_assembled(alloc, shelf, FileKind::First, 1, LOWER, first)? {

@@ -6,7 +6,8 @@ ghost use Rattle.mx_reorg.specs.Greedy.{IsGreedy};
 ghost use Rattle.mx_meaning.specs.Boards.{board};
 ghost use Rattle.mx_image.specs.Files.{file_bytes};
 ghost use Rattle.mx_answer.specs.Answer.{writes};
-ghost use Rattle.mx_answer.specs.Protocol.{Answers, Reads, Counts, Performed};
+ghost use Rattle.mx_io.specs.Shelves.{Counts};
+ghost use Rattle.mx_answer.specs.Protocol.{Answers, Reads, Performed};
 ghost use Rattle.mx_answer.specs.Replies.{reply_answer};
 ghost use Rattle.mx_asked.specs.Seen.{seen_files};
 ghost use Rattle.mx_schedule.specs.Schedule.{IsScheduler};
@@ -34,13 +35,11 @@ pub fn run_reply<S: Shelf>(
     files: &RunFiles,
     limits: &Limits,
 ) -> Result<Reply, Memory>
-    ensures performed { (layout_of : Layouts) → IsScheduler layout_of → IfOk result (λ r. Performed (record { tells = S.tells shelf.old; held = S.held shelf.old })
+    ensures performed { (layout_of : Layouts) → IsScheduler layout_of → IfOk result (λ r. Performed (S.told shelf.old)
         (Reads FileKind.Source source.now (linked_protocol layout_of (run_protocol (seen_files files.now) limits.now)))
-        (record { reads = S.reads shelf.old; taken = S.taken shelf.old; faults = S.read_faults shelf.old })
-        (record { reads = S.reads shelf.new; taken = S.taken shelf.new; faults = S.read_faults shelf.new }) (reply_answer r)) }
+        (S.counts shelf.old) (S.counts shelf.new) (reply_answer r)) }
     ensures replied { IfOk result (λ r. IsReplied (reply_answer r)) }
-    ensures tells_stay { S.tells shelf.new ≡ S.tells shelf.old }
-    ensures held_stays { (n : List ℕ) → S.held shelf.new n ≡ S.held shelf.old n }
+    ensures told_stays { S.told shelf.new ≡ S.told shelf.old }
     ensures writes_stay { S.write_faults shelf.new ≡ S.write_faults shelf.old }
 {
     let program = match read_program(alloc, shelf, source)? {
@@ -61,12 +60,10 @@ fn meaning_text<S: Shelf>(
     input: Option<&str>,
 ) -> Result<Reply, Memory>
     requires { length text.now ≤ 4194304 }
-    ensures performed { IfOk result (λ r. Performed (record { tells = S.tells shelf.old; held = S.held shelf.old })
+    ensures performed { IfOk result (λ r. Performed (S.told shelf.old)
         (meaning_protocol steps (option_map (λ s. s.now) input.entry) text.now)
-        (record { reads = S.reads shelf.old; taken = S.taken shelf.old; faults = S.read_faults shelf.old })
-        (record { reads = S.reads shelf.new; taken = S.taken shelf.new; faults = S.read_faults shelf.new }) (reply_answer r)) }
-    ensures tells_stay { S.tells shelf.new ≡ S.tells shelf.old }
-    ensures held_stays { (n : List ℕ) → S.held shelf.new n ≡ S.held shelf.old n }
+        (S.counts shelf.old) (S.counts shelf.new) (reply_answer r)) }
+    ensures told_stays { S.told shelf.new ≡ S.told shelf.old }
     ensures writes_stay { S.write_faults shelf.new ≡ S.write_faults shelf.old }
 {
     let source = match assembled(alloc, text)? {
@@ -89,12 +86,10 @@ pub fn told_reply<S: Shelf>(
     steps: u32,
     input: Option<&str>,
 ) -> Result<Reply, Memory>
-    ensures performed { IfOk result (λ r. Performed (record { tells = S.tells shelf.old; held = S.held shelf.old })
+    ensures performed { IfOk result (λ r. Performed (S.told shelf.old)
         (Reads FileKind.Source source.now (meaning_protocol steps (option_map (λ s. s.now) input.entry)))
-        (record { reads = S.reads shelf.old; taken = S.taken shelf.old; faults = S.read_faults shelf.old })
-        (record { reads = S.reads shelf.new; taken = S.taken shelf.new; faults = S.read_faults shelf.new }) (reply_answer r)) }
-    ensures tells_stay { S.tells shelf.new ≡ S.tells shelf.old }
-    ensures held_stays { (n : List ℕ) → S.held shelf.new n ≡ S.held shelf.old n }
+        (S.counts shelf.old) (S.counts shelf.new) (reply_answer r)) }
+    ensures told_stays { S.told shelf.new ≡ S.told shelf.old }
     ensures writes_stay { S.write_faults shelf.new ≡ S.write_faults shelf.old }
 {
     let text = match read_named(alloc, shelf, FileKind::Source, source)? {
@@ -133,13 +128,11 @@ pub fn build_reply<S: Shelf>(
     source: &str,
     target: &str,
 ) -> Result<Reply, Memory>
-    ensures performed { (layout_of : Layouts) → IsScheduler layout_of → IfOk result (λ r. Performed (record { tells = S.tells shelf.old; held = S.held shelf.old })
+    ensures performed { (layout_of : Layouts) → IsScheduler layout_of → IfOk result (λ r. Performed (S.told shelf.old)
         (Reads FileKind.Source source.now (linked_protocol layout_of (build_protocol target.now)))
-        (record { reads = S.reads shelf.old; taken = S.taken shelf.old; faults = S.read_faults shelf.old })
-        (record { reads = S.reads shelf.new; taken = S.taken shelf.new; faults = S.read_faults shelf.new }) (reply_answer r)) }
+        (S.counts shelf.old) (S.counts shelf.new) (reply_answer r)) }
     ensures replied { IfOk result (λ r. IsReplied (reply_answer r)) }
-    ensures tells_stay { S.tells shelf.new ≡ S.tells shelf.old }
-    ensures held_stays { (n : List ℕ) → S.held shelf.new n ≡ S.held shelf.old n }
+    ensures told_stays { S.told shelf.new ≡ S.told shelf.old }
     ensures writes_stay { S.write_faults shelf.new ≡ S.write_faults shelf.old }
 {
     let program = match read_program(alloc, shelf, source)? {
@@ -153,13 +146,11 @@ pub fn build_reply<S: Shelf>(
 
 /// The reply to `list SOURCE`.
 pub fn list_reply<S: Shelf>(alloc: Global, shelf: &mut S, source: &str) -> Result<Reply, Memory>
-    ensures performed { (layout_of : Layouts) → IsScheduler layout_of → IfOk result (λ r. Performed (record { tells = S.tells shelf.old; held = S.held shelf.old })
+    ensures performed { (layout_of : Layouts) → IsScheduler layout_of → IfOk result (λ r. Performed (S.told shelf.old)
         (Reads FileKind.Source source.now (linked_protocol layout_of list_protocol))
-        (record { reads = S.reads shelf.old; taken = S.taken shelf.old; faults = S.read_faults shelf.old })
-        (record { reads = S.reads shelf.new; taken = S.taken shelf.new; faults = S.read_faults shelf.new }) (reply_answer r)) }
+        (S.counts shelf.old) (S.counts shelf.new) (reply_answer r)) }
     ensures replied { IfOk result (λ r. IsReplied (reply_answer r)) }
-    ensures tells_stay { S.tells shelf.new ≡ S.tells shelf.old }
-    ensures held_stays { (n : List ℕ) → S.held shelf.new n ≡ S.held shelf.old n }
+    ensures told_stays { S.told shelf.new ≡ S.told shelf.old }
     ensures writes_stay { S.write_faults shelf.new ≡ S.write_faults shelf.old }
 {
     let program = match read_program(alloc, shelf, source)? {
@@ -188,12 +179,10 @@ fn best_text(alloc: Global, text: &[u8]) -> Result<Reply, Memory>
 
 /// The reply to `best SOURCE`.
 pub fn best_reply<S: Shelf>(alloc: Global, shelf: &mut S, source: &str) -> Result<Reply, Memory>
-    ensures performed { (layout_of : Layouts) → IsScheduler layout_of → IfOk result (λ r. Performed (record { tells = S.tells shelf.old; held = S.held shelf.old })
+    ensures performed { (layout_of : Layouts) → IsScheduler layout_of → IfOk result (λ r. Performed (S.told shelf.old)
         (Reads FileKind.Source source.now (λ text. Answers (best_answer layout_of text)))
-        (record { reads = S.reads shelf.old; taken = S.taken shelf.old; faults = S.read_faults shelf.old })
-        (record { reads = S.reads shelf.new; taken = S.taken shelf.new; faults = S.read_faults shelf.new }) (reply_answer r)) }
-    ensures tells_stay { S.tells shelf.new ≡ S.tells shelf.old }
-    ensures held_stays { (n : List ℕ) → S.held shelf.new n ≡ S.held shelf.old n }
+        (S.counts shelf.old) (S.counts shelf.new) (reply_answer r)) }
+    ensures told_stays { S.told shelf.new ≡ S.told shelf.old }
     ensures writes_stay { S.write_faults shelf.new ≡ S.write_faults shelf.old }
 {
     let text = match read_named(alloc, shelf, FileKind::Source, source)? {

@@ -8,7 +8,8 @@ ghost use Rattle.mx_asm.specs.declared.Fault.{Fault as SourceFault};
 ghost use Rattle.mx_asm.specs.Texts.{source_of, text_fault};
 ghost use Rattle.mx_meaning.specs.Boards.{board};
 ghost use Rattle.mx_answer.specs.Answer.{Answer, prints};
-ghost use Rattle.mx_answer.specs.Protocol.{Protocol, Answers, Reads, Counts, Performed};
+ghost use Rattle.mx_io.specs.Shelves.{Counts};
+ghost use Rattle.mx_answer.specs.Protocol.{Protocol, Answers, Reads, Performed};
 ghost use Rattle.mx_answer.specs.Replies.{reply_answer};
 ghost use Rattle.mx_schedule.specs.Schedule.{IsScheduler};
 ghost use Rattle.mx_command.specs.Protocols.{fault_text, fault_line, displacement_text, span_text, overlong_text, overlong_line, Layouts, Linking, linked_protocol};
@@ -166,17 +167,15 @@ pub fn read_program<S: Shelf>(
 ) -> Result<Result<Program, Reply>, Memory>
     ensures linked { IfOk result (λ r. IfOk r (λ p. IsLinked IsGreedy from_target p.source board p.linked)) }
     ensures given { IfOk result (λ r. IfOk r (λ p. (layout_of : Layouts) → IsScheduler layout_of → (next : Linking) (after : Counts) (answer : Answer)
-        → Performed (record { tells = S.tells shelf.old; held = S.held shelf.old }) (next p.source (layout_of p.source))
-        (record { reads = S.reads shelf.new; taken = S.taken shelf.new; faults = S.read_faults shelf.new }) after answer
-        → Performed (record { tells = S.tells shelf.old; held = S.held shelf.old }) (Reads FileKind.Source name.now (linked_protocol layout_of next))
-        (record { reads = S.reads shelf.old; taken = S.taken shelf.old; faults = S.read_faults shelf.old }) after answer)) }
+        → Performed (S.told shelf.old) (next p.source (layout_of p.source))
+        (S.counts shelf.new) after answer
+        → Performed (S.told shelf.old) (Reads FileKind.Source name.now (linked_protocol layout_of next))
+        (S.counts shelf.old) after answer)) }
     ensures refused { IfOk result (λ r. IfErr r (λ reply. (layout_of : Layouts) → IsScheduler layout_of → (next : Linking)
-        → Performed (record { tells = S.tells shelf.old; held = S.held shelf.old }) (Reads FileKind.Source name.now (linked_protocol layout_of next))
-        (record { reads = S.reads shelf.old; taken = S.taken shelf.old; faults = S.read_faults shelf.old })
-        (record { reads = S.reads shelf.new; taken = S.taken shelf.new; faults = S.read_faults shelf.new }) (reply_answer reply))) }
+        → Performed (S.told shelf.old) (Reads FileKind.Source name.now (linked_protocol layout_of next))
+        (S.counts shelf.old) (S.counts shelf.new) (reply_answer reply))) }
     ensures replied { IfOk result (λ r. IfErr r (λ reply. IsReplied (reply_answer reply))) }
-    ensures tells_stay { S.tells shelf.new ≡ S.tells shelf.old }
-    ensures held_stays { (n : List ℕ) → S.held shelf.new n ≡ S.held shelf.old n }
+    ensures told_stays { S.told shelf.new ≡ S.told shelf.old }
     ensures writes_stay { S.write_faults shelf.new ≡ S.write_faults shelf.old }
 {
     let text = match read_named(alloc, shelf, FileKind::Source, name)? {

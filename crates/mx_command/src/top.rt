@@ -31,58 +31,57 @@ pub fn command<S: Shelf, W: Sink>(
 ) -> Status
     // HEADLINE. Where the words ask for the run of a source that is accepted, the shelf tells what it holds, and no
     // fault was counted or is answered: all that `Headline` says, or memory ran out.
-    ensures headline { S.tells shelf.old ≡ true
-        → AreQuiet (S.read_faults shelf.old) (S.read_faults shelf.new) (S.write_faults shelf.old) (S.write_faults shelf.new)
+    ensures headline { (S.told shelf.old).tells ≡ true
+        → AreQuiet (S.counts shelf.old) (S.counts shelf.new) (S.write_faults shelf.old) (S.write_faults shelf.new)
         (W.faults out.old) (W.faults out.new) ⊎ IsNoFault result
-        → (accepted : Accepted (command_of (map string_bytes words.now)) (S.held shelf.old))
+        → (accepted : Accepted (command_of (map string_bytes words.now)) (S.told shelf.old).held)
         → (result ≡ Status.Memory)
-        ⊎ Headline (command_of (map string_bytes words.now)) (S.held shelf.old) accepted result (W.written out.old) (W.written out.new) }
+        ⊎ Headline (command_of (map string_bytes words.now)) (S.told shelf.old).held accepted result (W.written out.old) (W.written out.new) }
 
     // Where they ask so for two sources that share the machine: all that `PairHeadline` says, or memory ran out.
-    ensures pair { S.tells shelf.old ≡ true
-        → AreQuiet (S.read_faults shelf.old) (S.read_faults shelf.new) (S.write_faults shelf.old) (S.write_faults shelf.new)
+    ensures pair { (S.told shelf.old).tells ≡ true
+        → AreQuiet (S.counts shelf.old) (S.counts shelf.new) (S.write_faults shelf.old) (S.write_faults shelf.new)
         (W.faults out.old) (W.faults out.new) ⊎ IsNoFault result
-        → (accepted : AcceptedPair (command_of (map string_bytes words.now)) (S.held shelf.old))
+        → (accepted : AcceptedPair (command_of (map string_bytes words.now)) (S.told shelf.old).held)
         → (result ≡ Status.Memory)
-        ⊎ PairHeadline (command_of (map string_bytes words.now)) (S.held shelf.old) accepted result (W.written out.old) (W.written out.new) }
+        ⊎ PairHeadline (command_of (map string_bytes words.now)) (S.told shelf.old).held accepted result (W.written out.old) (W.written out.new) }
 
     // Where they ask so for the stops of a source at a label: all that `StopsHeadline` says, or memory ran out.
-    ensures stops { S.tells shelf.old ≡ true
-        → AreQuiet (S.read_faults shelf.old) (S.read_faults shelf.new) (S.write_faults shelf.old) (S.write_faults shelf.new)
+    ensures stops { (S.told shelf.old).tells ≡ true
+        → AreQuiet (S.counts shelf.old) (S.counts shelf.new) (S.write_faults shelf.old) (S.write_faults shelf.new)
         (W.faults out.old) (W.faults out.new) ⊎ IsNoFault result
-        → (accepted : AcceptedStops (command_of (map string_bytes words.now)) (S.held shelf.old))
+        → (accepted : AcceptedStops (command_of (map string_bytes words.now)) (S.told shelf.old).held)
         → (result ≡ Status.Memory)
-        ⊎ StopsHeadline (command_of (map string_bytes words.now)) (S.held shelf.old) accepted result (W.written out.old) (W.written out.new) }
+        ⊎ StopsHeadline (command_of (map string_bytes words.now)) (S.told shelf.old).held accepted result (W.written out.old) (W.written out.new) }
 
     // Where they ask for the join of modules without faults: all that `JoinHeadline` says, or memory ran out.
-    ensures modules { S.tells shelf.old ≡ true
-        → AreQuiet (S.read_faults shelf.old) (S.read_faults shelf.new) (S.write_faults shelf.old) (S.write_faults shelf.new)
+    ensures modules { (S.told shelf.old).tells ≡ true
+        → AreQuiet (S.counts shelf.old) (S.counts shelf.new) (S.write_faults shelf.old) (S.write_faults shelf.new)
         (W.faults out.old) (W.faults out.new) ⊎ IsNoFault result
-        → (accepted : AcceptedModules (command_of (map string_bytes words.now)) (S.held shelf.old))
+        → (accepted : AcceptedModules (command_of (map string_bytes words.now)) (S.told shelf.old).held)
         → (result ≡ Status.Memory)
-        ⊎ JoinHeadline (command_of (map string_bytes words.now)) (S.held shelf.old) accepted result (W.written out.old) (W.written out.new) }
+        ⊎ JoinHeadline (command_of (map string_bytes words.now)) (S.told shelf.old).held accepted result (W.written out.old) (W.written out.new) }
 
     // ANSWERS, of every command. Where the shelf tells what it holds and no count of faults rises, the answer is that
     // of the words and of what is held, or memory ran out.
-    ensures complete { S.tells shelf.old ≡ true
-        → ¬ Rose (S.read_faults shelf.old) (S.read_faults shelf.new) → ¬ Rose (S.write_faults shelf.old) (S.write_faults shelf.new)
+    ensures complete { (S.told shelf.old).tells ≡ true
+        → ¬ Rose (S.counts shelf.old).faults (S.counts shelf.new).faults → ¬ Rose (S.write_faults shelf.old) (S.write_faults shelf.new)
         → ¬ Rose (W.faults out.old) (W.faults out.new)
         → (result ≡ Status.Memory)
-        ⊎ Delivered (resolved (command_protocol (command_of (map string_bytes words.now))) (S.held shelf.old)) result (S.tells shelf.old)
-        (W.written out.old) (W.written out.new) (S.held shelf.old) (S.held shelf.new) }
+        ⊎ Delivered (resolved (command_protocol (command_of (map string_bytes words.now))) (S.told shelf.old).held) result
+        (S.told shelf.old) (S.told shelf.new) (W.written out.old) (W.written out.new) }
 
     // Whatever the counts do, every other status than these three is that of the same answer.
-    ensures sound { S.tells shelf.old ≡ true → result ≢ Status.ReadFault → result ≢ Status.WriteFault → result ≢ Status.Memory
-        → Delivered (resolved (command_protocol (command_of (map string_bytes words.now))) (S.held shelf.old)) result (S.tells shelf.old)
-        (W.written out.old) (W.written out.new) (S.held shelf.old) (S.held shelf.new) }
+    ensures sound { (S.told shelf.old).tells ≡ true → result ≢ Status.ReadFault → result ≢ Status.WriteFault → result ≢ Status.Memory
+        → Delivered (resolved (command_protocol (command_of (map string_bytes words.now))) (S.told shelf.old).held) result
+        (S.told shelf.old) (S.told shelf.new) (W.written out.old) (W.written out.new) }
 
     // Whatever the shelf tells, such a status is that of an answer which the words ask for, by files that
     // were read.
     ensures performed { result ≢ Status.ReadFault → result ≢ Status.WriteFault → result ≢ Status.Memory
         → (answer : Answer)
-        × Performed (record { tells = S.tells shelf.old; held = S.held shelf.old }) (command_protocol (command_of (map string_bytes words.now)))
-        (record { reads = S.reads shelf.old; taken = S.taken shelf.old; faults = S.read_faults shelf.old })
-        (record { reads = S.reads shelf.new; taken = S.taken shelf.new; faults = S.read_faults shelf.new }) answer
+        × Performed (S.told shelf.old) (command_protocol (command_of (map string_bytes words.now)))
+        (S.counts shelf.old) (S.counts shelf.new) answer
         × (result ≡ answer.status) × (W.written out.new ≡ with_more (W.written out.old) answer.output) }
 
     // Usage comes exactly where the words ask for nothing.
@@ -91,24 +90,23 @@ pub fn command<S: Shelf, W: Sink>(
         → (result ≡ Status.Usage) ⊎ (result ≡ Status.WriteFault) ⊎ (result ≡ Status.Memory) }
 
     // What the names hold changes only where the command is done, and only `build` and `migrate` write.
-    ensures kept { S.tells shelf.old ≡ true → result ≢ Status.Done → (n : List ℕ) → S.held shelf.new n ≡ S.held shelf.old n }
+    ensures kept { (S.told shelf.old).tells ≡ true → result ≢ Status.Done → (n : List ℕ) → (S.told shelf.new).held n ≡ (S.told shelf.old).held n }
     ensures unwritten { writes_a_file (command_of (map string_bytes words.now)) ≡ false → S.write_faults shelf.new ≡ S.write_faults shelf.old }
 
     // FAULTS. A read fault is that of one of the files, after one read of each file up to it, each counted from the
     // counts that the read before it left. Exactly its line is put out.
     ensures read_fault { result ≡ Status.ReadFault → (answer : Answer)
-        × Faulted (record { tells = S.tells shelf.old; held = S.held shelf.old }) (command_protocol (command_of (map string_bytes words.now)))
-        (record { reads = S.reads shelf.old; taken = S.taken shelf.old; faults = S.read_faults shelf.old })
-        (record { reads = S.reads shelf.new; taken = S.taken shelf.new; faults = S.read_faults shelf.new }) answer
+        × Faulted (S.told shelf.old) (command_protocol (command_of (map string_bytes words.now)))
+        (S.counts shelf.old) (S.counts shelf.new) answer
         × (W.written out.new ≡ with_more (W.written out.old) answer.output) }
 
     // A write fault is one of the sink, or of the shelf where the command writes a file. What went out is a prefix of
     // the answer's output, or of the line of a read fault that was counted.
     ensures write_fault { result ≡ Status.WriteFault → Rose (W.faults out.old) (W.faults out.new)
         ⊎ ((writes_a_file (command_of (map string_bytes words.now)) ≡ true) × Rose (S.write_faults shelf.old) (S.write_faults shelf.new)) }
-    ensures prefix { result ≡ Status.WriteFault → S.tells shelf.old ≡ true
-        → PutsPrefix (resolved (command_protocol (command_of (map string_bytes words.now))) (S.held shelf.old)) (W.written out.old) (W.written out.new)
-        ⊎ (Rose (S.read_faults shelf.old) (S.read_faults shelf.new) × (kind : FileKind)
+    ensures prefix { result ≡ Status.WriteFault → (S.told shelf.old).tells ≡ true
+        → PutsPrefix (resolved (command_protocol (command_of (map string_bytes words.now))) (S.told shelf.old).held) (W.written out.old) (W.written out.new)
+        ⊎ (Rose (S.counts shelf.old).faults (S.counts shelf.new).faults × (kind : FileKind)
         × PutsPrefix (failed_answer kind) (W.written out.old) (W.written out.new)) }
 
     // Want of memory comes before anything is put out.

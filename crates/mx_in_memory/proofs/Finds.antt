@@ -4,7 +4,8 @@ use Rattle.std.specs.Prelude.{IsSomeAnd}
 use Rattle.std.specs.Option.{unwrap_or}
 use Rattle.mx_io.specs.Counts.{Rose}
 use Rattle.mx_answer.specs.Answer.{Answer}
-use Rattle.mx_answer.specs.Protocol.{Protocol, Answers, Reads, Counts, Faulted}
+use Rattle.mx_io.specs.Shelves.{Counts}
+use Rattle.mx_answer.specs.Protocol.{Protocol, Answers, Reads, Faulted}
 use Rattle.mx_command.specs.Accepted.{Held}
 use Rattle.mx_in_memory.specs.Answered.{FindsItsFiles}
 

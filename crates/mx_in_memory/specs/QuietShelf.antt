@@ -1,4 +1,5 @@
 use Rattle.std.specs.Prelude.{ℕ, List, Option}
+use Rattle.mx_io.specs.Shelves.{Told, Counts}
 use Rattle.mx_io.specs.MemoryShelf as memory
 use Rattle.mx_in_memory.specs.declared.quiet_shelf.QuietShelf.{QuietShelf}
 
@@ -6,10 +7,10 @@ use Rattle.mx_in_memory.specs.declared.quiet_shelf.QuietShelf.{QuietShelf}
 abbrev pub held_in : QuietShelf → List ℕ → Option (List ℕ)
 held_in shelf = memory.held_in shelf.files
 
--- how many reads were made
-abbrev pub reads_of : QuietShelf → ℕ
-reads_of shelf = memory.reads_of shelf.files
+-- it tells what its names hold
+abbrev pub told_of : QuietShelf → Told
+told_of shelf = memory.told_of shelf.files
 
--- how many bytes the reads took
-abbrev pub taken_of : QuietShelf → ℕ
-taken_of shelf = memory.taken_of shelf.files
+-- the counts of its reads, none of which is a fault
+abbrev pub counts_of : QuietShelf → Counts
+counts_of shelf = record { reads = memory.reads_of shelf.files; taken = memory.taken_of shelf.files; faults = 0 }

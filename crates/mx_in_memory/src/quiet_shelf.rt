@@ -32,18 +32,11 @@ impl QuietShelf {
 }
 
 impl Shelf for QuietShelf {
-    ghost use Rattle.std.specs.Prelude.{true};
-    ghost use Rattle.mx_in_memory.specs.QuietShelf.{held_in, reads_of, taken_of};
+    ghost use Rattle.mx_in_memory.specs.QuietShelf.{told_of, counts_of};
 
-    ghost tells = { λ _. true };
+    ghost told = { told_of };
 
-    ghost held = { held_in };
-
-    ghost reads = { reads_of };
-
-    ghost taken = { taken_of };
-
-    ghost read_faults = { λ _. 0 };
+    ghost counts = { counts_of };
 
     ghost write_faults = { λ _. 0 };
 

@@ -2,6 +2,7 @@ use Rattle.std.specs.Prelude.{◌≡◌, ◌==◌, ◌&&◌, ◌+◌, ℕ, List,
 use Rattle.std.specs.List.{list_any}
 use Rattle.std.specs.BTreeMap.{get_by_text}
 use Rattle.mx_io.specs.Counts.{last_count}
+use Rattle.mx_io.specs.Shelves.{Told, Counts}
 use Rattle.mx_io.specs.declared.memory_shelf.MemoryShelf.{MemoryShelf}
 use Rattle.mx_io.specs.declared.fault.ShelfFault.{ShelfFault}
 use Rattle.mx_io.specs.declared.fault.ShelfFault.TheVariants.{Failed, TooLong}
@@ -37,6 +38,14 @@ read_faults_of shelf = shelf.read_faults
 -- how many faults there were in writes
 abbrev pub write_faults_of : MemoryShelf → ℕ
 write_faults_of shelf = shelf.write_faults
+
+-- it tells what its names hold
+abbrev pub told_of : MemoryShelf → Told
+told_of shelf = record { tells = true; held = held_in shelf }
+
+-- the counts of its reads
+abbrev pub counts_of : MemoryShelf → Counts
+counts_of shelf = record { reads = reads_of shelf; taken = taken_of shelf; faults = read_faults_of shelf }
 
 -- the number of calls and all counts are the same
 pub record SameCounts (old new : MemoryShelf) : Type 0 where

@@ -89,12 +89,10 @@ pub fn run_shared<S: Shelf>(
     interrupts: Option<&str>,
     budget: u32,
 ) -> Result<Reply, Memory>
-    ensures performed { IfOk result (λ r. Performed (record { tells = S.tells shelf.old; held = S.held shelf.old })
+    ensures performed { IfOk result (λ r. Performed (S.told shelf.old)
         (sharing_protocol (option_map (λ s. s.now) interrupts.entry) budget image.now.code.items image.now.user_data.items)
-        (record { reads = S.reads shelf.old; taken = S.taken shelf.old; faults = S.read_faults shelf.old })
-        (record { reads = S.reads shelf.new; taken = S.taken shelf.new; faults = S.read_faults shelf.new }) (reply_answer r)) }
-    ensures tells_stay { S.tells shelf.new ≡ S.tells shelf.old }
-    ensures held_stays { (n : List ℕ) → S.held shelf.new n ≡ S.held shelf.old n }
+        (S.counts shelf.old) (S.counts shelf.new) (reply_answer r)) }
+    ensures told_stays { S.told shelf.new ≡ S.told shelf.old }
     ensures writes_stay { S.write_faults shelf.new ≡ S.write_faults shelf.old }
 {
     let requests = match read_requests(alloc, shelf, interrupts)? {

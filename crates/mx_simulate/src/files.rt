@@ -5,7 +5,8 @@ ghost use Rattle.mx_board.specs.declared.EventError.{EventError};
 ghost use Rattle.mx_board.specs.RequestFile.{requests_of};
 ghost use Rattle.mx_answer.specs.declared.Status.TheVariants.{BadEvents};
 ghost use Rattle.mx_answer.specs.Answer.{Answer, prints};
-ghost use Rattle.mx_answer.specs.Protocol.{Protocol, Told, Counts, Performed};
+ghost use Rattle.mx_io.specs.Shelves.{Told, Counts};
+ghost use Rattle.mx_answer.specs.Protocol.{Protocol, Performed};
 ghost use Rattle.mx_answer.specs.Replies.{reply_answer};
 ghost use Rattle.mx_simulate.specs.Machines.{event_text, event_line, requests_protocol, input_protocol};
 
@@ -56,16 +57,14 @@ pub fn read_requests<S: Shelf>(
     name: Option<&str>,
 ) -> Result<Result<Requests, Reply>, Memory>
     ensures given { IfOk result (λ r. IfOk r (λ requests. (next : List ℕ → Protocol) (after : Counts) (answer : Answer)
-        → Performed (record { tells = S.tells shelf.old; held = S.held shelf.old }) (next requests)
-        (record { reads = S.reads shelf.new; taken = S.taken shelf.new; faults = S.read_faults shelf.new }) after answer
-        → Performed (record { tells = S.tells shelf.old; held = S.held shelf.old }) (requests_protocol (option_map (λ s. s.now) name.entry) next)
-        (record { reads = S.reads shelf.old; taken = S.taken shelf.old; faults = S.read_faults shelf.old }) after answer)) }
+        → Performed (S.told shelf.old) (next requests)
+        (S.counts shelf.new) after answer
+        → Performed (S.told shelf.old) (requests_protocol (option_map (λ s. s.now) name.entry) next)
+        (S.counts shelf.old) after answer)) }
     ensures refused { IfOk result (λ r. IfErr r (λ reply. (next : List ℕ → Protocol)
-        → Performed (record { tells = S.tells shelf.old; held = S.held shelf.old }) (requests_protocol (option_map (λ s. s.now) name.entry) next)
-        (record { reads = S.reads shelf.old; taken = S.taken shelf.old; faults = S.read_faults shelf.old })
-        (record { reads = S.reads shelf.new; taken = S.taken shelf.new; faults = S.read_faults shelf.new }) (reply_answer reply))) }
-    ensures tells_stay { S.tells shelf.new ≡ S.tells shelf.old }
-    ensures held_stays { (n : List ℕ) → S.held shelf.new n ≡ S.held shelf.old n }
+        → Performed (S.told shelf.old) (requests_protocol (option_map (λ s. s.now) name.entry) next)
+        (S.counts shelf.old) (S.counts shelf.new) (reply_answer reply))) }
+    ensures told_stays { S.told shelf.new ≡ S.told shelf.old }
     ensures writes_stay { S.write_faults shelf.new ≡ S.write_faults shelf.old }
 {
     match name {
@@ -88,16 +87,14 @@ pub fn read_input<S: Shelf>(
 ) -> Result<Result<Vec<u8>, Reply>, Memory>
     ensures within { IfOk result (λ r. IfOk r (λ bytes. length bytes.items ≤ 1048576)) }
     ensures given { IfOk result (λ r. IfOk r (λ bytes. (next : List ℕ → Protocol) (after : Counts) (answer : Answer)
-        → Performed (record { tells = S.tells shelf.old; held = S.held shelf.old }) (next bytes.items)
-        (record { reads = S.reads shelf.new; taken = S.taken shelf.new; faults = S.read_faults shelf.new }) after answer
-        → Performed (record { tells = S.tells shelf.old; held = S.held shelf.old }) (input_protocol (option_map (λ s. s.now) name.entry) next)
-        (record { reads = S.reads shelf.old; taken = S.taken shelf.old; faults = S.read_faults shelf.old }) after answer)) }
+        → Performed (S.told shelf.old) (next bytes.items)
+        (S.counts shelf.new) after answer
+        → Performed (S.told shelf.old) (input_protocol (option_map (λ s. s.now) name.entry) next)
+        (S.counts shelf.old) after answer)) }
     ensures refused { IfOk result (λ r. IfErr r (λ reply. (next : List ℕ → Protocol)
-        → Performed (record { tells = S.tells shelf.old; held = S.held shelf.old }) (input_protocol (option_map (λ s. s.now) name.entry) next)
-        (record { reads = S.reads shelf.old; taken = S.taken shelf.old; faults = S.read_faults shelf.old })
-        (record { reads = S.reads shelf.new; taken = S.taken shelf.new; faults = S.read_faults shelf.new }) (reply_answer reply))) }
-    ensures tells_stay { S.tells shelf.new ≡ S.tells shelf.old }
-    ensures held_stays { (n : List ℕ) → S.held shelf.new n ≡ S.held shelf.old n }
+        → Performed (S.told shelf.old) (input_protocol (option_map (λ s. s.now) name.entry) next)
+        (S.counts shelf.old) (S.counts shelf.new) (reply_answer reply))) }
+    ensures told_stays { S.told shelf.new ≡ S.told shelf.old }
     ensures writes_stay { S.write_faults shelf.new ≡ S.write_faults shelf.old }
 {
     match name {

@@ -1,7 +1,8 @@
 use Rattle.std.proofs.Common.{◌≡◌, ℕ, List, IfOk, IfErr, subst}
 use Rattle.mx_answer.specs.declared.FileKind.TheVariants.{Source}
 use Rattle.mx_answer.specs.Answer.{Answer}
-use Rattle.mx_answer.specs.Protocol.{Protocol, Reads, Told, Counts, Performed}
+use Rattle.mx_io.specs.Shelves.{Told, Counts}
+use Rattle.mx_answer.specs.Protocol.{Protocol, Reads, Performed}
 use Rattle.mx_answer.specs.Replies.{reply_answer}
 use Rattle.mx_asked.specs.Seen.{seen_files}
 use Rattle.mx_command.specs.Protocols.{debug_protocol}
@@ -9,9 +10,9 @@ use Rattle.mx_command.proofs.debugged.debug_reply.Goals as goal
 
 pub returns-in-Err-clause-performed : goal.returns-in-Err-clause-performed
 returns-in-Err-clause-performed g c = λ layout_of is.
-    let told : Told = record { tells = g.S.Shelf.tells c.args.shelf.now; held = g.S.Shelf.held c.args.shelf.now } in
-    let before : Counts = record { reads = g.S.Shelf.reads c.args.shelf.now; taken = g.S.Shelf.taken c.args.shelf.now; faults = g.S.Shelf.read_faults c.args.shelf.now } in
-    let between : Counts = record { reads = g.S.Shelf.reads c.read_named.new.shelf; taken = g.S.Shelf.taken c.read_named.new.shelf; faults = g.S.Shelf.read_faults c.read_named.new.shelf } in
+    let told : Told = g.S.Shelf.told c.args.shelf.now in
+    let before : Counts = g.S.Shelf.counts c.args.shelf.now in
+    let between : Counts = g.S.Shelf.counts c.read_named.new.shelf in
     let next : List ℕ → Protocol = debug_protocol layout_of c.args.label.now (seen_files c.args.files.now) c.args.limits.now in
     subst
     (λ r. IfErr r (λ reply. (next : List ℕ → Protocol) → Performed told (Reads Source c.args.source.now next) before between (reply_answer reply)))
@@ -19,13 +20,13 @@ returns-in-Err-clause-performed g c = λ layout_of is.
 
 pub returns-clause-performed : goal.returns-clause-performed
 returns-clause-performed g c = λ layout_of is.
-    let told : Told = record { tells = g.S.Shelf.tells c.args.shelf.now; held = g.S.Shelf.held c.args.shelf.now } in
-    let told_between : Told = record { tells = g.S.Shelf.tells c.read_named.new.shelf; held = g.S.Shelf.held c.read_named.new.shelf } in
-    let before : Counts = record { reads = g.S.Shelf.reads c.args.shelf.now; taken = g.S.Shelf.taken c.args.shelf.now; faults = g.S.Shelf.read_faults c.args.shelf.now } in
-    let between : Counts = record { reads = g.S.Shelf.reads c.read_named.new.shelf; taken = g.S.Shelf.taken c.read_named.new.shelf; faults = g.S.Shelf.read_faults c.read_named.new.shelf } in
-    let last : Counts = record { reads = g.S.Shelf.reads c.debug_text.new.shelf; taken = g.S.Shelf.taken c.debug_text.new.shelf; faults = g.S.Shelf.read_faults c.debug_text.new.shelf } in
+    let told : Told = g.S.Shelf.told c.args.shelf.now in
+    let told_between : Told = g.S.Shelf.told c.read_named.new.shelf in
+    let before : Counts = g.S.Shelf.counts c.args.shelf.now in
+    let between : Counts = g.S.Shelf.counts c.read_named.new.shelf in
+    let last : Counts = g.S.Shelf.counts c.debug_text.new.shelf in
     let next : List ℕ → Protocol = debug_protocol layout_of c.args.label.now (seen_files c.args.files.now) c.args.limits.now in
-    let same : told_between ≡ told = λ k. record { tells = c.in_ok-text.ensures.tells_stay k; held = λ n. c.in_ok-text.ensures.held_stays n k } in
+    let same : told_between ≡ told = c.in_ok-text.ensures.told_stays in
     let by_text = subst
     (λ r. IfOk r (λ bytes. (next : List ℕ → Protocol) (after : Counts) (answer : Answer) → Performed told (next bytes.items) between after answer → Performed told (Reads Source c.args.source.now next) before after answer))
     c.in-Ok.is c.in_ok-text.ensures.given in

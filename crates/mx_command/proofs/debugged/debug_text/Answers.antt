@@ -2,7 +2,8 @@ use Rattle.std.proofs.Common.{◌≡◌, ℕ, IfOk, None, Option, subst, sym, ap
 use Rattle.mx_source.specs.SourceValue.{SourceValue}
 use Rattle.mx_asm.specs.declared.Fault.{Fault}
 use Rattle.mx_asm.specs.Texts.{source_of, text_fault}
-use Rattle.mx_answer.specs.Protocol.{Protocol, Told, Counts, Performed}
+use Rattle.mx_io.specs.Shelves.{Told, Counts}
+use Rattle.mx_answer.specs.Protocol.{Protocol, Performed}
 use Rattle.mx_answer.specs.Replies.{reply_answer}
 use Rattle.mx_asked.specs.Seen.{seen_files}
 use Rattle.mx_command.specs.Protocols.{unless_faulty, labelled_protocol, debug_protocol}
@@ -13,9 +14,9 @@ returns-clause-performed g c = λ layout_of is.
     let text = c.args.text.now in
     let next : SourceValue → Protocol = labelled_protocol layout_of c.args.label.now (seen_files c.args.files.now) c.args.limits.now in
     let read = subst (λ r. IfOk r (λ s. (text_fault 256 65536 text ≡ None) × (s ≡ source_of 256 text))) c.in-Ok.is c.in_ok-source.ensures.source in
-    let told : Told = record { tells = g.S.Shelf.tells c.args.shelf.now; held = g.S.Shelf.held c.args.shelf.now } in
-    let before : Counts = record { reads = g.S.Shelf.reads c.args.shelf.now; taken = g.S.Shelf.taken c.args.shelf.now; faults = g.S.Shelf.read_faults c.args.shelf.now } in
-    let last : Counts = record { reads = g.S.Shelf.reads c.labelled_reply.new.shelf; taken = g.S.Shelf.taken c.labelled_reply.new.shelf; faults = g.S.Shelf.read_faults c.labelled_reply.new.shelf } in
+    let told : Told = g.S.Shelf.told c.args.shelf.now in
+    let before : Counts = g.S.Shelf.counts c.args.shelf.now in
+    let last : Counts = g.S.Shelf.counts c.labelled_reply.new.shelf in
     subst (λ (p : Protocol). Performed told p before last (reply_answer c.in_ok-reply.reply))
     (ap next read.1 ∙ ap (λ (o : Option (ℕ × Fault)). unless_faulty o (next (source_of 256 text))) (sym read.0))
     (c.in_ok-reply.ensures.performed layout_of is)

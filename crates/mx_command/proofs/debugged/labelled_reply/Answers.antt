@@ -7,7 +7,8 @@ use Rattle.mx_reorg.specs.Greedy.{IsGreedy}
 use Rattle.mx_meaning.specs.Boards.{board}
 use Rattle.mx_answer.specs.declared.Status.TheVariants.{Refused}
 use Rattle.mx_answer.specs.Answer.{prints}
-use Rattle.mx_answer.specs.Protocol.{Protocol, Answers, Told, Counts, Performed}
+use Rattle.mx_io.specs.Shelves.{Told, Counts}
+use Rattle.mx_answer.specs.Protocol.{Protocol, Answers, Performed}
 use Rattle.mx_answer.specs.Replies.{reply_answer}
 use Rattle.mx_sessions.specs.Sessions.{session_protocol}
 use Rattle.mx_asked.specs.Seen.{seen_files}
@@ -22,8 +23,8 @@ returns-in-Err-clause-performed g c = λ layout_of is.
     let found = subst
     (λ r. IfErr r (λ reply. (found : Overlong) × IsTooLong IsGreedy source board found × (reply_answer reply ≡ prints Refused (overlong_line found.line found.from found.to))))
     c.in-Err.is c.in_ok-linked.ensures.refused in
-    let told : Told = record { tells = g.S.Shelf.tells c.args.shelf.now; held = g.S.Shelf.held c.args.shelf.now } in
-    let before : Counts = record { reads = g.S.Shelf.reads c.args.shelf.now; taken = g.S.Shelf.taken c.args.shelf.now; faults = g.S.Shelf.read_faults c.args.shelf.now } in
+    let told : Told = g.S.Shelf.told c.args.shelf.now in
+    let before : Counts = g.S.Shelf.counts c.args.shelf.now in
     subst (λ (p : Protocol). Performed told p before before (reply_answer c.in-Err.reply))
     (sym (too_far layout_of is source c.args.label.now (seen_files c.args.files.now) c.args.limits.now c.in-Some.index named found.0 found.1 ∙ ap Answers (sym found.2)))
     (refl, refl)
@@ -35,9 +36,9 @@ returns-clause-performed g c = λ layout_of is.
     let limits = c.args.limits.now in
     let linked = c.in-Ok.linked in
     let named : statement_named source c.args.label.now ≡ Some c.in-Some.index = sym c.in-Some.ensures.statement in
-    let told : Told = record { tells = g.S.Shelf.tells c.args.shelf.now; held = g.S.Shelf.held c.args.shelf.now } in
-    let before : Counts = record { reads = g.S.Shelf.reads c.args.shelf.now; taken = g.S.Shelf.taken c.args.shelf.now; faults = g.S.Shelf.read_faults c.args.shelf.now } in
-    let last : Counts = record { reads = g.S.Shelf.reads c.debug_image.new.shelf; taken = g.S.Shelf.taken c.debug_image.new.shelf; faults = g.S.Shelf.read_faults c.debug_image.new.shelf } in
+    let told : Told = g.S.Shelf.told c.args.shelf.now in
+    let before : Counts = g.S.Shelf.counts c.args.shelf.now in
+    let last : Counts = g.S.Shelf.counts c.debug_image.new.shelf in
     let k : IsLinked IsGreedy from_nowhere source board linked = subst (λ r. IfOk r (λ l. IsLinked IsGreedy from_nowhere source board l)) c.in-Ok.is c.in_ok-linked.ensures.linked in
     let asks = c.is_some-asks.ensures ∙ ap is_some c.input.ensures in
     subst (λ (p : Protocol). Performed told p before last (reply_answer c.in_ok-reply-2.reply))

@@ -1,7 +1,8 @@
 use Rattle.std.proofs.Common.{◌≡◌, ℕ, List, IfOk, IfErr, option_map, subst}
 use Rattle.mx_answer.specs.declared.FileKind.TheVariants.{Image}
 use Rattle.mx_answer.specs.Answer.{Answer}
-use Rattle.mx_answer.specs.Protocol.{Protocol, Reads, Told, Counts, Performed}
+use Rattle.mx_io.specs.Shelves.{Told, Counts}
+use Rattle.mx_answer.specs.Protocol.{Protocol, Reads, Performed}
 use Rattle.mx_answer.specs.Replies.{reply_answer}
 use Rattle.mx_simulate.specs.Machines.{Files}
 use Rattle.mx_command.specs.Protocols.{exec_protocol}
@@ -9,9 +10,9 @@ use Rattle.mx_command.proofs.images.exec_reply.Goals as goal
 
 pub returns-in-Err-clause-performed : goal.returns-in-Err-clause-performed
 returns-in-Err-clause-performed g c =
-    let told : Told = record { tells = g.S.Shelf.tells c.args.shelf.now; held = g.S.Shelf.held c.args.shelf.now } in
-    let before : Counts = record { reads = g.S.Shelf.reads c.args.shelf.now; taken = g.S.Shelf.taken c.args.shelf.now; faults = g.S.Shelf.read_faults c.args.shelf.now } in
-    let between : Counts = record { reads = g.S.Shelf.reads c.read_named.new.shelf; taken = g.S.Shelf.taken c.read_named.new.shelf; faults = g.S.Shelf.read_faults c.read_named.new.shelf } in
+    let told : Told = g.S.Shelf.told c.args.shelf.now in
+    let before : Counts = g.S.Shelf.counts c.args.shelf.now in
+    let between : Counts = g.S.Shelf.counts c.read_named.new.shelf in
     let files : Files = record { interrupts = option_map (λ s. s.now) c.args.files.now.interrupts; input = option_map (λ s. s.now) c.args.files.now.input } in
     let next : List ℕ → Protocol = exec_protocol files c.args.limits.now in
     subst
@@ -20,14 +21,14 @@ returns-in-Err-clause-performed g c =
 
 pub returns-clause-performed : goal.returns-clause-performed
 returns-clause-performed g c =
-    let told : Told = record { tells = g.S.Shelf.tells c.args.shelf.now; held = g.S.Shelf.held c.args.shelf.now } in
-    let told_between : Told = record { tells = g.S.Shelf.tells c.read_named.new.shelf; held = g.S.Shelf.held c.read_named.new.shelf } in
-    let before : Counts = record { reads = g.S.Shelf.reads c.args.shelf.now; taken = g.S.Shelf.taken c.args.shelf.now; faults = g.S.Shelf.read_faults c.args.shelf.now } in
-    let between : Counts = record { reads = g.S.Shelf.reads c.read_named.new.shelf; taken = g.S.Shelf.taken c.read_named.new.shelf; faults = g.S.Shelf.read_faults c.read_named.new.shelf } in
-    let last : Counts = record { reads = g.S.Shelf.reads c.exec_bytes.new.shelf; taken = g.S.Shelf.taken c.exec_bytes.new.shelf; faults = g.S.Shelf.read_faults c.exec_bytes.new.shelf } in
+    let told : Told = g.S.Shelf.told c.args.shelf.now in
+    let told_between : Told = g.S.Shelf.told c.read_named.new.shelf in
+    let before : Counts = g.S.Shelf.counts c.args.shelf.now in
+    let between : Counts = g.S.Shelf.counts c.read_named.new.shelf in
+    let last : Counts = g.S.Shelf.counts c.exec_bytes.new.shelf in
     let files : Files = record { interrupts = option_map (λ s. s.now) c.args.files.now.interrupts; input = option_map (λ s. s.now) c.args.files.now.input } in
     let next : List ℕ → Protocol = exec_protocol files c.args.limits.now in
-    let same : told_between ≡ told = λ k. record { tells = c.in_ok-bytes.ensures.tells_stay k; held = λ n. c.in_ok-bytes.ensures.held_stays n k } in
+    let same : told_between ≡ told = c.in_ok-bytes.ensures.told_stays in
     let by_bytes = subst
     (λ r. IfOk r (λ bytes. (next : List ℕ → Protocol) (after : Counts) (answer : Answer) → Performed told (next bytes.items) between after answer → Performed told (Reads Image c.args.image.now next) before after answer))
     c.in-Ok.is c.in_ok-bytes.ensures.given in

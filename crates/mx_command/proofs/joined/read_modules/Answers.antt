@@ -1,6 +1,6 @@
 use Rattle.std.proofs.Common.{◌≡◌, ℕ, ◌+◌, ◌++◌, List, [], ◌∷◌, length, drop, subst, sym, ap, ◌∙◌, length-append, arith}
 use Rattle.mx_words.specs.Command.{texts}
-use Rattle.mx_answer.specs.Protocol.{Told, Counts}
+use Rattle.mx_io.specs.Shelves.{Told, Counts}
 use Rattle.mx_command.proofs.Modules.{Continues, next_is_read, next_fails}
 use Rattle.mx_command.proofs.joined.read_modules.Goals as goal
 
@@ -9,13 +9,13 @@ loop-name-preserved g c =
     let first = c.args.shelf.now in
     let here = c.loop-name.shelf in
     let behind = c.read_named.new.shelf in
-    let told : Told = record { tells = g.S.Shelf.tells first; held = g.S.Shelf.held first } in
-    let told_here : Told = record { tells = g.S.Shelf.tells here; held = g.S.Shelf.held here } in
-    let before : Counts = record { reads = g.S.Shelf.reads first; taken = g.S.Shelf.taken first; faults = g.S.Shelf.read_faults first } in
-    let now : Counts = record { reads = g.S.Shelf.reads here; taken = g.S.Shelf.taken here; faults = g.S.Shelf.read_faults here } in
-    let later : Counts = record { reads = g.S.Shelf.reads behind; taken = g.S.Shelf.taken behind; faults = g.S.Shelf.read_faults behind } in
+    let told : Told = g.S.Shelf.told first in
+    let told_here : Told = g.S.Shelf.told here in
+    let before : Counts = g.S.Shelf.counts first in
+    let now : Counts = g.S.Shelf.counts here in
+    let later : Counts = g.S.Shelf.counts behind in
     let v = c.loop-name.invariant in
-    let same : told_here ≡ told = λ k. record { tells = v.tells k; held = λ n. v.held n k } in
+    let same : told_here ≡ told = v.stays in
     let names = c.args.names.now in
     let i = c.loop-name.name-index in
     let number = c.loop-name.number in
@@ -29,8 +29,7 @@ loop-name-preserved g c =
       count = ap length more ∙ length-append found (text.items ∷ []) ∙ ap (λ n. n + 1) v.count;
       number = omega (arith, b);
       goes = subst (λ f. Continues told (texts names) (texts (drop (i + 1) names)) f before later) (sym more) goes;
-      tells = c.in_ok-text.ensures.tells_stay ∙ v.tells;
-      held = λ n. c.in_ok-text.ensures.held_stays n ∙ v.held n;
+      stays = c.in_ok-text.ensures.told_stays ∙ v.stays;
       writes = c.in_ok-text.ensures.writes_stay ∙ v.writes;
     }
 
@@ -39,13 +38,13 @@ returns-in-Err-clause-refused g c =
     let first = c.args.shelf.now in
     let here = c.loop-name.shelf in
     let behind = c.read_named.new.shelf in
-    let told : Told = record { tells = g.S.Shelf.tells first; held = g.S.Shelf.held first } in
-    let told_here : Told = record { tells = g.S.Shelf.tells here; held = g.S.Shelf.held here } in
-    let before : Counts = record { reads = g.S.Shelf.reads first; taken = g.S.Shelf.taken first; faults = g.S.Shelf.read_faults first } in
-    let now : Counts = record { reads = g.S.Shelf.reads here; taken = g.S.Shelf.taken here; faults = g.S.Shelf.read_faults here } in
-    let later : Counts = record { reads = g.S.Shelf.reads behind; taken = g.S.Shelf.taken behind; faults = g.S.Shelf.read_faults behind } in
+    let told : Told = g.S.Shelf.told first in
+    let told_here : Told = g.S.Shelf.told here in
+    let before : Counts = g.S.Shelf.counts first in
+    let now : Counts = g.S.Shelf.counts here in
+    let later : Counts = g.S.Shelf.counts behind in
     let v = c.loop-name.invariant in
-    let same : told_here ≡ told = λ k. record { tells = v.tells k; held = λ n. v.held n k } in
+    let same : told_here ≡ told = v.stays in
     let number = c.loop-name.number in
     let found = c.loop-name.joiner in
     let counted : number ≡ length found + 1 = let a = v.number in let b = v.count in omega (arith, a, b) in

@@ -1,5 +1,6 @@
 use Rattle.std.proofs.Common.{◌≡◌, Option, Some, option_map, map, string_bytes, subst, sym, ap, ◌∙◌}
-use Rattle.mx_answer.specs.Protocol.{Told, Counts, Performed}
+use Rattle.mx_io.specs.Shelves.{Told, Counts}
+use Rattle.mx_answer.specs.Protocol.{Performed}
 use Rattle.mx_answer.specs.Replies.{reply_answer}
 use Rattle.mx_asked.specs.Seen.{seen_command}
 use Rattle.mx_asked.specs.Commands.{Command}
@@ -9,9 +10,9 @@ use Rattle.mx_command.proofs.reply.reply_to.Goals as goal
 
 pub returns-in_ok-reply-in-Some-clause-performed : goal.returns-in_ok-reply-in-Some-clause-performed
 returns-in_ok-reply-in-Some-clause-performed g c = λ layout_of is.
-    let told : Told = record { tells = g.S.Shelf.tells c.args.shelf.now; held = g.S.Shelf.held c.args.shelf.now } in
-    let before : Counts = record { reads = g.S.Shelf.reads c.args.shelf.now; taken = g.S.Shelf.taken c.args.shelf.now; faults = g.S.Shelf.read_faults c.args.shelf.now } in
-    let after : Counts = record { reads = g.S.Shelf.reads c.command_reply.new.shelf; taken = g.S.Shelf.taken c.command_reply.new.shelf; faults = g.S.Shelf.read_faults c.command_reply.new.shelf } in
+    let told : Told = g.S.Shelf.told c.args.shelf.now in
+    let before : Counts = g.S.Shelf.counts c.args.shelf.now in
+    let after : Counts = g.S.Shelf.counts c.command_reply.new.shelf in
     let asked : Some (seen_command c.in-Some.asked) ≡ command_of (map string_bytes c.args.words.now) =
     sym (ap (option_map seen_command) c.in-Some.is) ∙ c.in_ok-asked.ensures.command in
     subst (λ (a : Option Command). Performed told (protocol_of layout_of a) before after (reply_answer c.in_ok-reply-in-Some.reply)) asked (c.in_ok-reply-in-Some.ensures.performed layout_of is)

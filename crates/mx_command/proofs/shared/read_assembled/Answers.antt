@@ -2,7 +2,8 @@ use Rattle.std.proofs.Common.{◌≡◌, ℕ, List, Some, IfOk, IfErr, refl, sub
 use Rattle.mx_source.specs.SourceValue.{SourceValue}
 use Rattle.mx_answer.specs.declared.Status.TheVariants.{Refused}
 use Rattle.mx_answer.specs.Answer.{Answer, prints, text_line}
-use Rattle.mx_answer.specs.Protocol.{Protocol, Answers, Reads, Told, Counts, Performed}
+use Rattle.mx_io.specs.Shelves.{Told, Counts}
+use Rattle.mx_answer.specs.Protocol.{Protocol, Answers, Reads, Performed}
 use Rattle.mx_answer.specs.Replies.{reply_answer}
 use Rattle.mx_command.specs.Protocols.{of_program, wrong_with, assembled_protocol}
 use Rattle.mx_command.specs.Sharing.{IsFitting}
@@ -11,18 +12,18 @@ use Rattle.mx_command.proofs.shared.read_assembled.Goals as goal
 
 pub returns-in-Err-clause-refused : goal.returns-in-Err-clause-refused
 returns-in-Err-clause-refused g c = λ next.
-    let told : Told = record { tells = g.S.Shelf.tells c.args.shelf.now; held = g.S.Shelf.held c.args.shelf.now } in
-    let before : Counts = record { reads = g.S.Shelf.reads c.args.shelf.now; taken = g.S.Shelf.taken c.args.shelf.now; faults = g.S.Shelf.read_faults c.args.shelf.now } in
-    let between : Counts = record { reads = g.S.Shelf.reads c.read_named.new.shelf; taken = g.S.Shelf.taken c.read_named.new.shelf; faults = g.S.Shelf.read_faults c.read_named.new.shelf } in
+    let told : Told = g.S.Shelf.told c.args.shelf.now in
+    let before : Counts = g.S.Shelf.counts c.args.shelf.now in
+    let between : Counts = g.S.Shelf.counts c.read_named.new.shelf in
     subst
     (λ r. IfErr r (λ reply. (next : List ℕ → Protocol) → Performed told (Reads c.args.kind c.args.name.now next) before between (reply_answer reply)))
     c.in-Err.is c.in_ok-text.ensures.refused (assembled_protocol c.args.program c.args.place next)
 
 pub returns-in-Ok-2-clause-given : goal.returns-in-Ok-2-clause-given
 returns-in-Ok-2-clause-given g c = λ next after answer performed.
-    let told : Told = record { tells = g.S.Shelf.tells c.args.shelf.now; held = g.S.Shelf.held c.args.shelf.now } in
-    let before : Counts = record { reads = g.S.Shelf.reads c.args.shelf.now; taken = g.S.Shelf.taken c.args.shelf.now; faults = g.S.Shelf.read_faults c.args.shelf.now } in
-    let between : Counts = record { reads = g.S.Shelf.reads c.read_named.new.shelf; taken = g.S.Shelf.taken c.read_named.new.shelf; faults = g.S.Shelf.read_faults c.read_named.new.shelf } in
+    let told : Told = g.S.Shelf.told c.args.shelf.now in
+    let before : Counts = g.S.Shelf.counts c.args.shelf.now in
+    let between : Counts = g.S.Shelf.counts c.read_named.new.shelf in
     let text : List ℕ = c.as_slice.result.now in
     let by_text = subst
     (λ r. IfOk r (λ bytes. (next : List ℕ → Protocol) (after : Counts) (answer : Answer) → Performed told (next bytes.items) between after answer → Performed told (Reads c.args.kind c.args.name.now next) before after answer))
@@ -34,9 +35,9 @@ returns-in-Ok-2-clause-given g c = λ next after answer performed.
 
 pub returns-clause-refused : goal.returns-clause-refused
 returns-clause-refused g c = λ next.
-    let told : Told = record { tells = g.S.Shelf.tells c.args.shelf.now; held = g.S.Shelf.held c.args.shelf.now } in
-    let before : Counts = record { reads = g.S.Shelf.reads c.args.shelf.now; taken = g.S.Shelf.taken c.args.shelf.now; faults = g.S.Shelf.read_faults c.args.shelf.now } in
-    let between : Counts = record { reads = g.S.Shelf.reads c.read_named.new.shelf; taken = g.S.Shelf.taken c.read_named.new.shelf; faults = g.S.Shelf.read_faults c.read_named.new.shelf } in
+    let told : Told = g.S.Shelf.told c.args.shelf.now in
+    let before : Counts = g.S.Shelf.counts c.args.shelf.now in
+    let between : Counts = g.S.Shelf.counts c.read_named.new.shelf in
     let text : List ℕ = c.as_slice.result.now in
     let answer : Answer = reply_answer c.in-Err-2.reply in
     let by_text = subst

@@ -2,7 +2,8 @@ use Rattle.std.proofs.Common.{◌≡◌, ℕ, List, Option, IfOk, IfErr, option_
 use Rattle.mx_source.specs.SourceValue.{SourceValue}
 use Rattle.mx_answer.specs.declared.FileKind.TheVariants.{First, Second}
 use Rattle.mx_answer.specs.Answer.{Answer}
-use Rattle.mx_answer.specs.Protocol.{Protocol, Answers, Reads, Told, Counts, Performed}
+use Rattle.mx_io.specs.Shelves.{Told, Counts}
+use Rattle.mx_answer.specs.Protocol.{Protocol, Answers, Reads, Performed}
 use Rattle.mx_answer.specs.Replies.{reply_answer}
 use Rattle.mx_schedule.specs.Schedule.{IsScheduler}
 use Rattle.mx_tasks.specs.Places.{lower, upper}
@@ -13,10 +14,10 @@ use Rattle.mx_command.proofs.shared.share_reply.Goals as goal
 
 pub returns-in-Err-clause-performed : goal.returns-in-Err-clause-performed
 returns-in-Err-clause-performed g c = λ layout_of is.
-    let told : Told = record { tells = g.S.Shelf.tells c.args.shelf.now; held = g.S.Shelf.held c.args.shelf.now } in
-    let before : Counts = record { reads = g.S.Shelf.reads c.args.shelf.now; taken = g.S.Shelf.taken c.args.shelf.now; faults = g.S.Shelf.read_faults c.args.shelf.now } in
+    let told : Told = g.S.Shelf.told c.args.shelf.now in
+    let before : Counts = g.S.Shelf.counts c.args.shelf.now in
     let one = c.read_assembled.new.shelf in
-    let first : Counts = record { reads = g.S.Shelf.reads one; taken = g.S.Shelf.taken one; faults = g.S.Shelf.read_faults one } in
+    let first : Counts = g.S.Shelf.counts one in
     let interrupts : Option (List ℕ) = option_map (λ s. s.now) c.args.interrupts in
     subst
     (λ r. IfErr r (λ reply. (next : SourceValue → Protocol) → Performed told (Reads First c.args.first.now (assembled_protocol 1 lower next)) before first (reply_answer reply)))
@@ -24,17 +25,17 @@ returns-in-Err-clause-performed g c = λ layout_of is.
 
 pub returns-in-Err-2-clause-performed : goal.returns-in-Err-2-clause-performed
 returns-in-Err-2-clause-performed g c = λ layout_of is.
-    let told : Told = record { tells = g.S.Shelf.tells c.args.shelf.now; held = g.S.Shelf.held c.args.shelf.now } in
-    let before : Counts = record { reads = g.S.Shelf.reads c.args.shelf.now; taken = g.S.Shelf.taken c.args.shelf.now; faults = g.S.Shelf.read_faults c.args.shelf.now } in
+    let told : Told = g.S.Shelf.told c.args.shelf.now in
+    let before : Counts = g.S.Shelf.counts c.args.shelf.now in
     let one = c.read_assembled.new.shelf in
     let two = c.read_assembled-2.new.shelf in
-    let told_one : Told = record { tells = g.S.Shelf.tells one; held = g.S.Shelf.held one } in
-    let first : Counts = record { reads = g.S.Shelf.reads one; taken = g.S.Shelf.taken one; faults = g.S.Shelf.read_faults one } in
-    let second : Counts = record { reads = g.S.Shelf.reads two; taken = g.S.Shelf.taken two; faults = g.S.Shelf.read_faults two } in
+    let told_one : Told = g.S.Shelf.told one in
+    let first : Counts = g.S.Shelf.counts one in
+    let second : Counts = g.S.Shelf.counts two in
     let interrupts : Option (List ℕ) = option_map (λ s. s.now) c.args.interrupts in
     let pair : SourceValue → SourceValue → Protocol = pair_protocol layout_of interrupts c.args.budget in
     let answer : Answer = reply_answer c.in-Err-2.reply in
-    let same : told_one ≡ told = λ k. record { tells = c.in_ok-source.ensures.tells_stay k; held = λ n. c.in_ok-source.ensures.held_stays n k } in
+    let same : told_one ≡ told = c.in_ok-source.ensures.told_stays in
     let by_first = subst
     (λ r. IfOk r (λ s. (next : SourceValue → Protocol) (after : Counts) (answer : Answer) → Performed told (next s) first after answer → Performed told (Reads First c.args.first.now (assembled_protocol 1 lower next)) before after answer))
     c.in-Ok.is c.in_ok-source.ensures.given in
@@ -46,17 +47,17 @@ returns-in-Err-2-clause-performed g c = λ layout_of is.
 
 pub returns-in-Err-3-clause-performed : goal.returns-in-Err-3-clause-performed
 returns-in-Err-3-clause-performed g c = λ layout_of is.
-    let told : Told = record { tells = g.S.Shelf.tells c.args.shelf.now; held = g.S.Shelf.held c.args.shelf.now } in
-    let before : Counts = record { reads = g.S.Shelf.reads c.args.shelf.now; taken = g.S.Shelf.taken c.args.shelf.now; faults = g.S.Shelf.read_faults c.args.shelf.now } in
+    let told : Told = g.S.Shelf.told c.args.shelf.now in
+    let before : Counts = g.S.Shelf.counts c.args.shelf.now in
     let one = c.read_assembled.new.shelf in
     let two = c.read_assembled-2.new.shelf in
-    let told_one : Told = record { tells = g.S.Shelf.tells one; held = g.S.Shelf.held one } in
-    let first : Counts = record { reads = g.S.Shelf.reads one; taken = g.S.Shelf.taken one; faults = g.S.Shelf.read_faults one } in
-    let second : Counts = record { reads = g.S.Shelf.reads two; taken = g.S.Shelf.taken two; faults = g.S.Shelf.read_faults two } in
+    let told_one : Told = g.S.Shelf.told one in
+    let first : Counts = g.S.Shelf.counts one in
+    let second : Counts = g.S.Shelf.counts two in
     let interrupts : Option (List ℕ) = option_map (λ s. s.now) c.args.interrupts in
     let pair : SourceValue → SourceValue → Protocol = pair_protocol layout_of interrupts c.args.budget in
     let answer : Answer = reply_answer c.in-Err-3.reply in
-    let same : told_one ≡ told = λ k. record { tells = c.in_ok-source.ensures.tells_stay k; held = λ n. c.in_ok-source.ensures.held_stays n k } in
+    let same : told_one ≡ told = c.in_ok-source.ensures.told_stays in
     let by_first = subst
     (λ r. IfOk r (λ s. (next : SourceValue → Protocol) (after : Counts) (answer : Answer) → Performed told (next s) first after answer → Performed told (Reads First c.args.first.now (assembled_protocol 1 lower next)) before after answer))
     c.in-Ok.is c.in_ok-source.ensures.given in
@@ -73,21 +74,21 @@ returns-in-Err-3-clause-performed g c = λ layout_of is.
 
 pub returns-clause-performed : goal.returns-clause-performed
 returns-clause-performed g c = λ layout_of is.
-    let told : Told = record { tells = g.S.Shelf.tells c.args.shelf.now; held = g.S.Shelf.held c.args.shelf.now } in
-    let before : Counts = record { reads = g.S.Shelf.reads c.args.shelf.now; taken = g.S.Shelf.taken c.args.shelf.now; faults = g.S.Shelf.read_faults c.args.shelf.now } in
+    let told : Told = g.S.Shelf.told c.args.shelf.now in
+    let before : Counts = g.S.Shelf.counts c.args.shelf.now in
     let one = c.read_assembled.new.shelf in
     let two = c.read_assembled-2.new.shelf in
-    let told_one : Told = record { tells = g.S.Shelf.tells one; held = g.S.Shelf.held one } in
-    let told_two : Told = record { tells = g.S.Shelf.tells two; held = g.S.Shelf.held two } in
-    let first : Counts = record { reads = g.S.Shelf.reads one; taken = g.S.Shelf.taken one; faults = g.S.Shelf.read_faults one } in
-    let second : Counts = record { reads = g.S.Shelf.reads two; taken = g.S.Shelf.taken two; faults = g.S.Shelf.read_faults two } in
-    let last : Counts = record { reads = g.S.Shelf.reads c.run_shared.new.shelf; taken = g.S.Shelf.taken c.run_shared.new.shelf; faults = g.S.Shelf.read_faults c.run_shared.new.shelf } in
+    let told_one : Told = g.S.Shelf.told one in
+    let told_two : Told = g.S.Shelf.told two in
+    let first : Counts = g.S.Shelf.counts one in
+    let second : Counts = g.S.Shelf.counts two in
+    let last : Counts = g.S.Shelf.counts c.run_shared.new.shelf in
     let interrupts : Option (List ℕ) = option_map (λ s. s.now) c.args.interrupts in
     let pair : SourceValue → SourceValue → Protocol = pair_protocol layout_of interrupts c.args.budget in
     let image = c.in-Ok-3.image in
     let answer : Answer = reply_answer c.in_ok-reply.reply in
-    let same : told_one ≡ told = λ k. record { tells = c.in_ok-source.ensures.tells_stay k; held = λ n. c.in_ok-source.ensures.held_stays n k } in
-    let same_two : told_two ≡ told_one = λ k. record { tells = c.in_ok-source-2.ensures.tells_stay k; held = λ n. c.in_ok-source-2.ensures.held_stays n k } in
+    let same : told_one ≡ told = c.in_ok-source.ensures.told_stays in
+    let same_two : told_two ≡ told_one = c.in_ok-source-2.ensures.told_stays in
     let by_first = subst
     (λ r. IfOk r (λ s. (next : SourceValue → Protocol) (after : Counts) (answer : Answer) → Performed told (next s) first after answer → Performed told (Reads First c.args.first.now (assembled_protocol 1 lower next)) before after answer))
     c.in-Ok.is c.in_ok-source.ensures.given in
@@ -108,9 +109,9 @@ returns-clause-performed g c = λ layout_of is.
 pub returns-clause-replied : goal.returns-clause-replied
 returns-clause-replied g c =
     let two = c.read_assembled-2.new.shelf in
-    let told_two : Told = record { tells = g.S.Shelf.tells two; held = g.S.Shelf.held two } in
-    let second : Counts = record { reads = g.S.Shelf.reads two; taken = g.S.Shelf.taken two; faults = g.S.Shelf.read_faults two } in
-    let last : Counts = record { reads = g.S.Shelf.reads c.run_shared.new.shelf; taken = g.S.Shelf.taken c.run_shared.new.shelf; faults = g.S.Shelf.read_faults c.run_shared.new.shelf } in
+    let told_two : Told = g.S.Shelf.told two in
+    let second : Counts = g.S.Shelf.counts two in
+    let last : Counts = g.S.Shelf.counts c.run_shared.new.shelf in
     let interrupts : Option (List ℕ) = option_map (λ s. s.now) c.args.interrupts in
     let image = c.in-Ok-3.image in
     performed_is_replied told_two (sharing_protocol interrupts c.args.budget image.code.items image.user_data.items) second last (reply_answer c.in_ok-reply.reply)

@@ -1,16 +1,17 @@
 use Rattle.std.proofs.Common.{◌≡◌, ℕ, List, IfOk, IfErr, refl, subst, ap, ◌∙◌}
 use Rattle.mx_answer.specs.declared.FileKind.TheVariants.{Source}
 use Rattle.mx_answer.specs.Answer.{Answer}
-use Rattle.mx_answer.specs.Protocol.{Protocol, Answers, Reads, Told, Counts, Performed}
+use Rattle.mx_io.specs.Shelves.{Told, Counts}
+use Rattle.mx_answer.specs.Protocol.{Protocol, Answers, Reads, Performed}
 use Rattle.mx_answer.specs.Replies.{reply_answer}
 use Rattle.mx_command.specs.Protocols.{best_answer}
 use Rattle.mx_command.proofs.sourced.best_reply.Goals as goal
 
 pub returns-in-Err-clause-performed : goal.returns-in-Err-clause-performed
 returns-in-Err-clause-performed g c = λ layout_of is.
-    let told : Told = record { tells = g.S.Shelf.tells c.args.shelf.now; held = g.S.Shelf.held c.args.shelf.now } in
-    let before : Counts = record { reads = g.S.Shelf.reads c.args.shelf.now; taken = g.S.Shelf.taken c.args.shelf.now; faults = g.S.Shelf.read_faults c.args.shelf.now } in
-    let between : Counts = record { reads = g.S.Shelf.reads c.read_named.new.shelf; taken = g.S.Shelf.taken c.read_named.new.shelf; faults = g.S.Shelf.read_faults c.read_named.new.shelf } in
+    let told : Told = g.S.Shelf.told c.args.shelf.now in
+    let before : Counts = g.S.Shelf.counts c.args.shelf.now in
+    let between : Counts = g.S.Shelf.counts c.read_named.new.shelf in
     let next : List ℕ → Protocol = λ text. Answers (best_answer layout_of text) in
     subst
     (λ r. IfErr r (λ reply. (next : List ℕ → Protocol) → Performed told (Reads Source c.args.source.now next) before between (reply_answer reply)))
@@ -18,9 +19,9 @@ returns-in-Err-clause-performed g c = λ layout_of is.
 
 pub returns-clause-performed : goal.returns-clause-performed
 returns-clause-performed g c = λ layout_of is.
-    let told : Told = record { tells = g.S.Shelf.tells c.args.shelf.now; held = g.S.Shelf.held c.args.shelf.now } in
-    let before : Counts = record { reads = g.S.Shelf.reads c.args.shelf.now; taken = g.S.Shelf.taken c.args.shelf.now; faults = g.S.Shelf.read_faults c.args.shelf.now } in
-    let between : Counts = record { reads = g.S.Shelf.reads c.read_named.new.shelf; taken = g.S.Shelf.taken c.read_named.new.shelf; faults = g.S.Shelf.read_faults c.read_named.new.shelf } in
+    let told : Told = g.S.Shelf.told c.args.shelf.now in
+    let before : Counts = g.S.Shelf.counts c.args.shelf.now in
+    let between : Counts = g.S.Shelf.counts c.read_named.new.shelf in
     let next : List ℕ → Protocol = λ text. Answers (best_answer layout_of text) in
     let by_text = subst
     (λ r. IfOk r (λ bytes. (next : List ℕ → Protocol) (after : Counts) (answer : Answer) → Performed told (next bytes.items) between after answer → Performed told (Reads Source c.args.source.now next) before after answer))

@@ -7,7 +7,8 @@ use Rattle.mx_image.specs.Files.{file_bytes}
 use Rattle.mx_meaning.specs.Boards.{board}
 use Rattle.mx_answer.specs.declared.FileKind.TheVariants.{Source}
 use Rattle.mx_answer.specs.Answer.{Answer, writes}
-use Rattle.mx_answer.specs.Protocol.{Protocol, Answers, Reads, Told, Counts, Performed}
+use Rattle.mx_io.specs.Shelves.{Told, Counts}
+use Rattle.mx_answer.specs.Protocol.{Protocol, Answers, Reads, Performed}
 use Rattle.mx_answer.specs.Replies.{reply_answer}
 use Rattle.mx_schedule.specs.Schedule.{IsScheduler}
 use Rattle.mx_command.specs.Protocols.{Layouts, Linking, linked_protocol, build_protocol}
@@ -17,18 +18,18 @@ use Rattle.mx_command.proofs.sourced.build_reply.Goals as goal
 
 pub returns-in-Err-clause-performed : goal.returns-in-Err-clause-performed
 returns-in-Err-clause-performed g c = λ layout_of is.
-    let told : Told = record { tells = g.S.Shelf.tells c.args.shelf.now; held = g.S.Shelf.held c.args.shelf.now } in
-    let before : Counts = record { reads = g.S.Shelf.reads c.args.shelf.now; taken = g.S.Shelf.taken c.args.shelf.now; faults = g.S.Shelf.read_faults c.args.shelf.now } in
-    let between : Counts = record { reads = g.S.Shelf.reads c.read_program.new.shelf; taken = g.S.Shelf.taken c.read_program.new.shelf; faults = g.S.Shelf.read_faults c.read_program.new.shelf } in
+    let told : Told = g.S.Shelf.told c.args.shelf.now in
+    let before : Counts = g.S.Shelf.counts c.args.shelf.now in
+    let between : Counts = g.S.Shelf.counts c.read_program.new.shelf in
     subst
     (λ r. IfErr r (λ reply. (layout_of : Layouts) → IsScheduler layout_of → (next : Linking) → Performed told (Reads Source c.args.source.now (linked_protocol layout_of next)) before between (reply_answer reply)))
     c.in-Err.is c.in_ok-program.ensures.refused layout_of is (build_protocol c.args.target.now)
 
 pub returns-clause-performed : goal.returns-clause-performed
 returns-clause-performed g c = λ layout_of is.
-    let told : Told = record { tells = g.S.Shelf.tells c.args.shelf.now; held = g.S.Shelf.held c.args.shelf.now } in
-    let before : Counts = record { reads = g.S.Shelf.reads c.args.shelf.now; taken = g.S.Shelf.taken c.args.shelf.now; faults = g.S.Shelf.read_faults c.args.shelf.now } in
-    let between : Counts = record { reads = g.S.Shelf.reads c.read_program.new.shelf; taken = g.S.Shelf.taken c.read_program.new.shelf; faults = g.S.Shelf.read_faults c.read_program.new.shelf } in
+    let told : Told = g.S.Shelf.told c.args.shelf.now in
+    let before : Counts = g.S.Shelf.counts c.args.shelf.now in
+    let between : Counts = g.S.Shelf.counts c.read_program.new.shelf in
     let program = c.in-Ok.program in
     let linked : IsLinked IsGreedy from_target program.source board program.linked = subst (λ r. IfOk r (λ p. IsLinked IsGreedy from_target p.source board p.linked)) c.in-Ok.is c.in_ok-program.ensures.linked in
     let by_program = subst

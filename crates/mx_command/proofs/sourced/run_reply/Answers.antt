@@ -6,7 +6,8 @@ use Rattle.mx_reorg.specs.Greedy.{IsGreedy}
 use Rattle.mx_meaning.specs.Boards.{board}
 use Rattle.mx_answer.specs.declared.FileKind.TheVariants.{Source}
 use Rattle.mx_answer.specs.Answer.{Answer}
-use Rattle.mx_answer.specs.Protocol.{Protocol, Reads, Told, Counts, Performed}
+use Rattle.mx_io.specs.Shelves.{Told, Counts}
+use Rattle.mx_answer.specs.Protocol.{Protocol, Reads, Performed}
 use Rattle.mx_answer.specs.Replies.{reply_answer}
 use Rattle.mx_simulate.specs.Machines.{Files, machine_protocol}
 use Rattle.mx_schedule.specs.Schedule.{IsScheduler}
@@ -17,9 +18,9 @@ use Rattle.mx_command.proofs.sourced.run_reply.Goals as goal
 
 pub returns-in-Err-clause-performed : goal.returns-in-Err-clause-performed
 returns-in-Err-clause-performed g c = λ layout_of is.
-    let told : Told = record { tells = g.S.Shelf.tells c.args.shelf.now; held = g.S.Shelf.held c.args.shelf.now } in
-    let before : Counts = record { reads = g.S.Shelf.reads c.args.shelf.now; taken = g.S.Shelf.taken c.args.shelf.now; faults = g.S.Shelf.read_faults c.args.shelf.now } in
-    let between : Counts = record { reads = g.S.Shelf.reads c.read_program.new.shelf; taken = g.S.Shelf.taken c.read_program.new.shelf; faults = g.S.Shelf.read_faults c.read_program.new.shelf } in
+    let told : Told = g.S.Shelf.told c.args.shelf.now in
+    let before : Counts = g.S.Shelf.counts c.args.shelf.now in
+    let between : Counts = g.S.Shelf.counts c.read_program.new.shelf in
     let files : Files = record { interrupts = option_map (λ s. s.now) c.args.files.now.interrupts; input = option_map (λ s. s.now) c.args.files.now.input } in
     subst
     (λ r. IfErr r (λ reply. (layout_of : Layouts) → IsScheduler layout_of → (next : Linking) → Performed told (Reads Source c.args.source.now (linked_protocol layout_of next)) before between (reply_answer reply)))
@@ -27,16 +28,16 @@ returns-in-Err-clause-performed g c = λ layout_of is.
 
 pub returns-clause-performed : goal.returns-clause-performed
 returns-clause-performed g c = λ layout_of is.
-    let told : Told = record { tells = g.S.Shelf.tells c.args.shelf.now; held = g.S.Shelf.held c.args.shelf.now } in
-    let told_between : Told = record { tells = g.S.Shelf.tells c.read_program.new.shelf; held = g.S.Shelf.held c.read_program.new.shelf } in
-    let before : Counts = record { reads = g.S.Shelf.reads c.args.shelf.now; taken = g.S.Shelf.taken c.args.shelf.now; faults = g.S.Shelf.read_faults c.args.shelf.now } in
-    let between : Counts = record { reads = g.S.Shelf.reads c.read_program.new.shelf; taken = g.S.Shelf.taken c.read_program.new.shelf; faults = g.S.Shelf.read_faults c.read_program.new.shelf } in
-    let last : Counts = record { reads = g.S.Shelf.reads c.run_image.new.shelf; taken = g.S.Shelf.taken c.run_image.new.shelf; faults = g.S.Shelf.read_faults c.run_image.new.shelf } in
+    let told : Told = g.S.Shelf.told c.args.shelf.now in
+    let told_between : Told = g.S.Shelf.told c.read_program.new.shelf in
+    let before : Counts = g.S.Shelf.counts c.args.shelf.now in
+    let between : Counts = g.S.Shelf.counts c.read_program.new.shelf in
+    let last : Counts = g.S.Shelf.counts c.run_image.new.shelf in
     let files : Files = record { interrupts = option_map (λ s. s.now) c.args.files.now.interrupts; input = option_map (λ s. s.now) c.args.files.now.input } in
     let program = c.in-Ok.program in
     let image = program.linked.image in
     let answer : Answer = reply_answer c.in_ok-reply.reply in
-    let same : told_between ≡ told = λ k. record { tells = c.in_ok-program.ensures.tells_stay k; held = λ n. c.in_ok-program.ensures.held_stays n k } in
+    let same : told_between ≡ told = c.in_ok-program.ensures.told_stays in
     let linked : IsLinked IsGreedy from_target program.source board program.linked = subst (λ r. IfOk r (λ p. IsLinked IsGreedy from_target p.source board p.linked)) c.in-Ok.is c.in_ok-program.ensures.linked in
     let by_program = subst
     (λ r. IfOk r (λ p. (layout_of : Layouts) → IsScheduler layout_of → (next : Linking) (after : Counts) (answer : Answer) → Performed told (next p.source (layout_of p.source)) between after answer → Performed told (Reads Source c.args.source.now (linked_protocol layout_of next)) before after answer))
@@ -51,9 +52,9 @@ returns-clause-performed g c = λ layout_of is.
 
 pub returns-clause-replied : goal.returns-clause-replied
 returns-clause-replied g c =
-    let told_between : Told = record { tells = g.S.Shelf.tells c.read_program.new.shelf; held = g.S.Shelf.held c.read_program.new.shelf } in
-    let between : Counts = record { reads = g.S.Shelf.reads c.read_program.new.shelf; taken = g.S.Shelf.taken c.read_program.new.shelf; faults = g.S.Shelf.read_faults c.read_program.new.shelf } in
-    let last : Counts = record { reads = g.S.Shelf.reads c.run_image.new.shelf; taken = g.S.Shelf.taken c.run_image.new.shelf; faults = g.S.Shelf.read_faults c.run_image.new.shelf } in
+    let told_between : Told = g.S.Shelf.told c.read_program.new.shelf in
+    let between : Counts = g.S.Shelf.counts c.read_program.new.shelf in
+    let last : Counts = g.S.Shelf.counts c.run_image.new.shelf in
     let files : Files = record { interrupts = option_map (λ s. s.now) c.args.files.now.interrupts; input = option_map (λ s. s.now) c.args.files.now.input } in
     let image = c.in-Ok.program.linked.image in
     performed_is_replied told_between (machine_protocol files c.args.limits.now image.code.items image.user_data.items c.is_some-asks.result) between last (reply_answer c.in_ok-reply.reply)

@@ -1,7 +1,8 @@
 use Rattle.std.proofs.Common.{◌≡◌, ℕ, List, IfOk, IfErr, refl, subst, sym, ap, ◌∙◌}
 use Rattle.mx_answer.specs.declared.FileKind.TheVariants.{Source}
 use Rattle.mx_answer.specs.Answer.{Answer}
-use Rattle.mx_answer.specs.Protocol.{Protocol, Answers, Reads, Told, Counts, Performed}
+use Rattle.mx_io.specs.Shelves.{Told, Counts}
+use Rattle.mx_answer.specs.Protocol.{Protocol, Answers, Reads, Performed}
 use Rattle.mx_answer.specs.Replies.{reply_answer}
 use Rattle.mx_schedule.specs.Schedule.{IsScheduler}
 use Rattle.mx_command.specs.Protocols.{Layouts, Linking, linked_protocol}
@@ -9,18 +10,18 @@ use Rattle.mx_command.proofs.sources.read_program.Goals as goal
 
 pub returns-in-Err-clause-refused : goal.returns-in-Err-clause-refused
 returns-in-Err-clause-refused g c = λ layout_of is next.
-    let told : Told = record { tells = g.S.Shelf.tells c.args.shelf.now; held = g.S.Shelf.held c.args.shelf.now } in
-    let before : Counts = record { reads = g.S.Shelf.reads c.args.shelf.now; taken = g.S.Shelf.taken c.args.shelf.now; faults = g.S.Shelf.read_faults c.args.shelf.now } in
-    let between : Counts = record { reads = g.S.Shelf.reads c.read_named.new.shelf; taken = g.S.Shelf.taken c.read_named.new.shelf; faults = g.S.Shelf.read_faults c.read_named.new.shelf } in
+    let told : Told = g.S.Shelf.told c.args.shelf.now in
+    let before : Counts = g.S.Shelf.counts c.args.shelf.now in
+    let between : Counts = g.S.Shelf.counts c.read_named.new.shelf in
     subst
     (λ r. IfErr r (λ reply. (next : List ℕ → Protocol) → Performed told (Reads Source c.args.name.now next) before between (reply_answer reply)))
     c.in-Err.is c.in_ok-text.ensures.refused (linked_protocol layout_of next)
 
 pub returns-in-Ok-2-clause-given : goal.returns-in-Ok-2-clause-given
 returns-in-Ok-2-clause-given g c = λ layout_of is next after answer performed.
-    let told : Told = record { tells = g.S.Shelf.tells c.args.shelf.now; held = g.S.Shelf.held c.args.shelf.now } in
-    let before : Counts = record { reads = g.S.Shelf.reads c.args.shelf.now; taken = g.S.Shelf.taken c.args.shelf.now; faults = g.S.Shelf.read_faults c.args.shelf.now } in
-    let between : Counts = record { reads = g.S.Shelf.reads c.read_named.new.shelf; taken = g.S.Shelf.taken c.read_named.new.shelf; faults = g.S.Shelf.read_faults c.read_named.new.shelf } in
+    let told : Told = g.S.Shelf.told c.args.shelf.now in
+    let before : Counts = g.S.Shelf.counts c.args.shelf.now in
+    let between : Counts = g.S.Shelf.counts c.read_named.new.shelf in
     let by_text = subst
     (λ r. IfOk r (λ bytes. (next : List ℕ → Protocol) (after : Counts) (answer : Answer) → Performed told (next bytes.items) between after answer → Performed told (Reads Source c.args.name.now next) before after answer))
     c.in-Ok.is c.in_ok-text.ensures.given in
@@ -32,9 +33,9 @@ returns-in-Ok-2-clause-given g c = λ layout_of is next after answer performed.
 
 pub returns-clause-refused : goal.returns-clause-refused
 returns-clause-refused g c = λ layout_of is next.
-    let told : Told = record { tells = g.S.Shelf.tells c.args.shelf.now; held = g.S.Shelf.held c.args.shelf.now } in
-    let before : Counts = record { reads = g.S.Shelf.reads c.args.shelf.now; taken = g.S.Shelf.taken c.args.shelf.now; faults = g.S.Shelf.read_faults c.args.shelf.now } in
-    let between : Counts = record { reads = g.S.Shelf.reads c.read_named.new.shelf; taken = g.S.Shelf.taken c.read_named.new.shelf; faults = g.S.Shelf.read_faults c.read_named.new.shelf } in
+    let told : Told = g.S.Shelf.told c.args.shelf.now in
+    let before : Counts = g.S.Shelf.counts c.args.shelf.now in
+    let between : Counts = g.S.Shelf.counts c.read_named.new.shelf in
     let answer : Answer = reply_answer c.in-Err-2.reply in
     let by_text = subst
     (λ r. IfOk r (λ bytes. (next : List ℕ → Protocol) (after : Counts) (answer : Answer) → Performed told (next bytes.items) between after answer → Performed told (Reads Source c.args.name.now next) before after answer))

@@ -4,14 +4,16 @@ use Rattle.mx_answer.specs.declared.Status.{Status}
 use Rattle.mx_answer.specs.declared.Status.TheVariants.{Usage, WriteFault, Memory}
 use Rattle.mx_answer.specs.Answer.{Answer}
 use Rattle.mx_answer.specs.Delivery.{HasStatus}
-use Rattle.mx_answer.specs.Protocol.{Told, Counts, Performed}
+use Rattle.mx_io.specs.Shelves.{Told, Counts}
+use Rattle.mx_answer.specs.Protocol.{Performed}
 use Rattle.mx_answer.specs.Replies.{reply_answer}
 use Rattle.mx_asked.specs.Commands.{Command}
 use Rattle.mx_asked.specs.Asked.{command_of}
 use Rattle.mx_command.specs.Protocols.{Layouts, protocol_of}
 use Rattle.mx_answer.proofs.Commands.{status_cases}
 use Rattle.mx_command.proofs.Own.{own_answers, replied_status, replied_asks}
-use Rattle.mx_command.proofs.Ended.{ended}
+use Rattle.mx_answer.specs.Commands.{Outside, Commanded}
+use Rattle.mx_command.proofs.Ended.{ended, promised}
 use Rattle.mx_command.proofs.Headline.{delivered_is_headline}
 use Rattle.mx_command.proofs.PairHeadline.{delivered_is_pair}
 use Rattle.mx_command.specs.Pairs.{PairHeadline}
@@ -43,149 +45,87 @@ finish-requires g c =
     (λ nothing. subst (λ (a : Answer). HasStatus a) (sym (c.in-Ok.ensures.asks_nothing nothing)) (inl refl))
     c.in-Ok.ensures.replied
 
-pub returns-clause-complete : goal.returns-clause-complete
-returns-clause-complete g c =
+-- the shelf and the sink, before `command` and after it
+abbrev before : (g : _) (c : goal.After-finish g) → Outside
+before g c = record {
+  told = g.S.Shelf.told c.args.shelf.now;
+  counts = g.S.Shelf.counts c.args.shelf.now;
+  write_faults = g.S.Shelf.write_faults c.args.shelf.now;
+  sink_faults = g.W.Sink.faults c.args.out.now;
+  written = g.W.Sink.written c.args.out.now;
+}
+
+-- once the reply is made, which puts nothing out
+abbrev between : (g : _) (c : goal.After-finish g) → Outside
+between g c = record (before g c) {
+  told = g.S.Shelf.told c.reply_to.new.shelf;
+  counts = g.S.Shelf.counts c.reply_to.new.shelf;
+  write_faults = g.S.Shelf.write_faults c.reply_to.new.shelf;
+}
+
+abbrev after : (g : _) (c : goal.After-finish g) → Outside
+after g c = record {
+  told = g.S.Shelf.told c.finish.new.shelf;
+  counts = g.S.Shelf.counts c.finish.new.shelf;
+  write_faults = g.S.Shelf.write_faults c.finish.new.shelf;
+  sink_faults = g.W.Sink.faults c.finish.new.out;
+  written = g.W.Sink.written c.finish.new.out;
+}
+
+whole : (g : _) (c : goal.After-finish g) → Commanded (command_protocol (command_of (map string_bytes c.args.words.now))) (before g c) (after g c) c.finish.result
+whole g c =
     let asked : Option Command = command_of (map string_bytes c.args.words.now) in
-    let first = c.args.shelf.now in
-    let second = c.reply_to.new.shelf in
-    let third = c.finish.new.shelf in
-    let before : Counts = record { reads = g.S.Shelf.reads first; taken = g.S.Shelf.taken first; faults = g.S.Shelf.read_faults first } in
-    let between : Counts = record { reads = g.S.Shelf.reads second; taken = g.S.Shelf.taken second; faults = g.S.Shelf.read_faults second } in
-    let after : Counts = record { reads = g.S.Shelf.reads third; taken = g.S.Shelf.taken third; faults = g.S.Shelf.read_faults third } in
-    let unread = c.finish.ensures.unread in
-    let same : after ≡ between = λ k. record { reads = unread.0 k; taken = unread.1 k; faults = unread.2 k } in
-    let whole = ended (command_protocol asked) (reply_answer c.in-Ok.reply) c.finish.result
-    (g.S.Shelf.tells first) (g.S.Shelf.tells second) (g.S.Shelf.held first) (g.S.Shelf.held second) (g.S.Shelf.held third)
-    before between after
-    (g.S.Shelf.write_faults first) (g.S.Shelf.write_faults second) (g.S.Shelf.write_faults third)
-    (g.W.Sink.faults c.args.out.now) (g.W.Sink.faults c.finish.new.out) (g.W.Sink.written c.args.out.now) (g.W.Sink.written c.finish.new.out)
-    (own_answers greedy_layout asked) (c.in-Ok.ensures.performed greedy_layout greedy_is) c.in-Ok.ensures.tells_stay c.in-Ok.ensures.held_stays c.in-Ok.ensures.writes_stay same
-    c.finish.ensures.delivered c.finish.ensures.write_fault c.finish.ensures.prefix c.finish.ensures.memory c.finish.ensures.kept in
-    whole.complete
+    ended (command_protocol asked) (reply_answer c.in-Ok.reply) c.finish.result (before g c) (between g c) (after g c)
+    (own_answers greedy_layout asked) (c.in-Ok.ensures.performed greedy_layout greedy_is) c.in-Ok.ensures.told_stays c.in-Ok.ensures.writes_stay c.finish.ensures.unread
+    c.finish.ensures.delivered c.finish.ensures.write_fault c.finish.ensures.prefix c.finish.ensures.memory c.finish.ensures.kept
+
+pub returns-clause-complete : goal.returns-clause-complete
+returns-clause-complete g c = (whole g c).complete
 
 pub returns-clause-sound : goal.returns-clause-sound
-returns-clause-sound g c =
-    let asked : Option Command = command_of (map string_bytes c.args.words.now) in
-    let first = c.args.shelf.now in
-    let second = c.reply_to.new.shelf in
-    let third = c.finish.new.shelf in
-    let before : Counts = record { reads = g.S.Shelf.reads first; taken = g.S.Shelf.taken first; faults = g.S.Shelf.read_faults first } in
-    let between : Counts = record { reads = g.S.Shelf.reads second; taken = g.S.Shelf.taken second; faults = g.S.Shelf.read_faults second } in
-    let after : Counts = record { reads = g.S.Shelf.reads third; taken = g.S.Shelf.taken third; faults = g.S.Shelf.read_faults third } in
-    let unread = c.finish.ensures.unread in
-    let same : after ≡ between = λ k. record { reads = unread.0 k; taken = unread.1 k; faults = unread.2 k } in
-    let whole = ended (command_protocol asked) (reply_answer c.in-Ok.reply) c.finish.result
-    (g.S.Shelf.tells first) (g.S.Shelf.tells second) (g.S.Shelf.held first) (g.S.Shelf.held second) (g.S.Shelf.held third)
-    before between after
-    (g.S.Shelf.write_faults first) (g.S.Shelf.write_faults second) (g.S.Shelf.write_faults third)
-    (g.W.Sink.faults c.args.out.now) (g.W.Sink.faults c.finish.new.out) (g.W.Sink.written c.args.out.now) (g.W.Sink.written c.finish.new.out)
-    (own_answers greedy_layout asked) (c.in-Ok.ensures.performed greedy_layout greedy_is) c.in-Ok.ensures.tells_stay c.in-Ok.ensures.held_stays c.in-Ok.ensures.writes_stay same
-    c.finish.ensures.delivered c.finish.ensures.write_fault c.finish.ensures.prefix c.finish.ensures.memory c.finish.ensures.kept in
-    whole.sound
+returns-clause-sound g c = (whole g c).sound
 
 pub returns-clause-headline : goal.returns-clause-headline
 returns-clause-headline g c = λ tells undisturbed accepted.
-    let told : (d : Delivered _ _ _ _ _ _ _) → Headline _ _ accepted _ _ _ =
-    delivered_is_headline (command_of (map string_bytes c.args.words.now)) (g.S.Shelf.held c.args.shelf.now) accepted greedy_layout greedy_is c.finish.result
-    (g.S.Shelf.tells c.args.shelf.now) (g.W.Sink.written c.args.out.now) (g.W.Sink.written c.finish.new.out) (g.S.Shelf.held c.finish.new.shelf) in
-    ⊎_elim
-    (λ quiet. ⊎_elim (λ m. inl m) (λ d. inr (told d)) (returns-clause-complete g c tells quiet.reading quiet.writing quiet.putting))
-    (λ calm. ⊎_elim
-    (λ fault. ⊎_elim (λ w. absurd (calm.no_write_fault w)) (λ m. inl m) fault)
-    (λ other. inr (told (returns-clause-sound g c tells calm.no_read_fault other.0 other.1)))
-    (status_cases c.finish.result))
-    undisturbed
+    promised (command_protocol (command_of (map string_bytes c.args.words.now))) (before g c) (after g c) c.finish.result _ (whole g c)
+    (delivered_is_headline (command_of (map string_bytes c.args.words.now)) (g.S.Shelf.told c.args.shelf.now).held accepted greedy_layout greedy_is c.finish.result
+    (g.S.Shelf.told c.args.shelf.now).tells (g.S.Shelf.told c.finish.new.shelf) (g.W.Sink.written c.args.out.now) (g.W.Sink.written c.finish.new.out))
+    tells undisturbed
 
 pub returns-clause-pair : goal.returns-clause-pair
 returns-clause-pair g c = λ tells undisturbed accepted.
-    let told : (d : Delivered _ _ _ _ _ _ _) → PairHeadline _ _ accepted _ _ _ =
-    delivered_is_pair (command_of (map string_bytes c.args.words.now)) (g.S.Shelf.held c.args.shelf.now) accepted greedy_layout greedy_is c.finish.result
-    (g.S.Shelf.tells c.args.shelf.now) (g.W.Sink.written c.args.out.now) (g.W.Sink.written c.finish.new.out) (g.S.Shelf.held c.finish.new.shelf) in
-    ⊎_elim
-    (λ quiet. ⊎_elim (λ m. inl m) (λ d. inr (told d)) (returns-clause-complete g c tells quiet.reading quiet.writing quiet.putting))
-    (λ calm. ⊎_elim
-    (λ fault. ⊎_elim (λ w. absurd (calm.no_write_fault w)) (λ m. inl m) fault)
-    (λ other. inr (told (returns-clause-sound g c tells calm.no_read_fault other.0 other.1)))
-    (status_cases c.finish.result))
-    undisturbed
+    promised (command_protocol (command_of (map string_bytes c.args.words.now))) (before g c) (after g c) c.finish.result _ (whole g c)
+    (delivered_is_pair (command_of (map string_bytes c.args.words.now)) (g.S.Shelf.told c.args.shelf.now).held accepted greedy_layout greedy_is c.finish.result
+    (g.S.Shelf.told c.args.shelf.now).tells (g.S.Shelf.told c.finish.new.shelf) (g.W.Sink.written c.args.out.now) (g.W.Sink.written c.finish.new.out))
+    tells undisturbed
 
 pub returns-clause-stops : goal.returns-clause-stops
 returns-clause-stops g c = λ tells undisturbed accepted.
-    let told : (d : Delivered _ _ _ _ _ _ _) → StopsHeadline _ _ accepted _ _ _ =
-    delivered_is_stops (command_of (map string_bytes c.args.words.now)) (g.S.Shelf.held c.args.shelf.now) accepted greedy_layout greedy_is c.finish.result
-    (g.S.Shelf.tells c.args.shelf.now) (g.W.Sink.written c.args.out.now) (g.W.Sink.written c.finish.new.out) (g.S.Shelf.held c.finish.new.shelf) in
-    ⊎_elim
-    (λ quiet. ⊎_elim (λ m. inl m) (λ d. inr (told d)) (returns-clause-complete g c tells quiet.reading quiet.writing quiet.putting))
-    (λ calm. ⊎_elim
-    (λ fault. ⊎_elim (λ w. absurd (calm.no_write_fault w)) (λ m. inl m) fault)
-    (λ other. inr (told (returns-clause-sound g c tells calm.no_read_fault other.0 other.1)))
-    (status_cases c.finish.result))
-    undisturbed
+    promised (command_protocol (command_of (map string_bytes c.args.words.now))) (before g c) (after g c) c.finish.result _ (whole g c)
+    (delivered_is_stops (command_of (map string_bytes c.args.words.now)) (g.S.Shelf.told c.args.shelf.now).held accepted greedy_layout greedy_is c.finish.result
+    (g.S.Shelf.told c.args.shelf.now).tells (g.S.Shelf.told c.finish.new.shelf) (g.W.Sink.written c.args.out.now) (g.W.Sink.written c.finish.new.out))
+    tells undisturbed
 
 pub returns-clause-modules : goal.returns-clause-modules
 returns-clause-modules g c = λ tells undisturbed accepted.
-    let told : (d : Delivered _ _ _ _ _ _ _) → JoinHeadline _ _ accepted _ _ _ =
-    delivered_is_joined (command_of (map string_bytes c.args.words.now)) (g.S.Shelf.held c.args.shelf.now) accepted greedy_layout c.finish.result
-    (g.S.Shelf.tells c.args.shelf.now) (g.W.Sink.written c.args.out.now) (g.W.Sink.written c.finish.new.out) (g.S.Shelf.held c.finish.new.shelf) in
-    ⊎_elim
-    (λ quiet. ⊎_elim (λ m. inl m) (λ d. inr (told d)) (returns-clause-complete g c tells quiet.reading quiet.writing quiet.putting))
-    (λ calm. ⊎_elim
-    (λ fault. ⊎_elim (λ w. absurd (calm.no_write_fault w)) (λ m. inl m) fault)
-    (λ other. inr (told (returns-clause-sound g c tells calm.no_read_fault other.0 other.1)))
-    (status_cases c.finish.result))
-    undisturbed
+    promised (command_protocol (command_of (map string_bytes c.args.words.now))) (before g c) (after g c) c.finish.result _ (whole g c)
+    (delivered_is_joined (command_of (map string_bytes c.args.words.now)) (g.S.Shelf.told c.args.shelf.now).held accepted greedy_layout c.finish.result
+    (g.S.Shelf.told c.args.shelf.now).tells (g.S.Shelf.told c.finish.new.shelf) (g.W.Sink.written c.args.out.now) (g.W.Sink.written c.finish.new.out))
+    tells undisturbed
 
 pub returns-clause-read_fault : goal.returns-clause-read_fault
-returns-clause-read_fault g c =
-    let asked : Option Command = command_of (map string_bytes c.args.words.now) in
-    let first = c.args.shelf.now in
-    let second = c.reply_to.new.shelf in
-    let third = c.finish.new.shelf in
-    let before : Counts = record { reads = g.S.Shelf.reads first; taken = g.S.Shelf.taken first; faults = g.S.Shelf.read_faults first } in
-    let between : Counts = record { reads = g.S.Shelf.reads second; taken = g.S.Shelf.taken second; faults = g.S.Shelf.read_faults second } in
-    let after : Counts = record { reads = g.S.Shelf.reads third; taken = g.S.Shelf.taken third; faults = g.S.Shelf.read_faults third } in
-    let unread = c.finish.ensures.unread in
-    let same : after ≡ between = λ k. record { reads = unread.0 k; taken = unread.1 k; faults = unread.2 k } in
-    let whole = ended (command_protocol asked) (reply_answer c.in-Ok.reply) c.finish.result
-    (g.S.Shelf.tells first) (g.S.Shelf.tells second) (g.S.Shelf.held first) (g.S.Shelf.held second) (g.S.Shelf.held third)
-    before between after
-    (g.S.Shelf.write_faults first) (g.S.Shelf.write_faults second) (g.S.Shelf.write_faults third)
-    (g.W.Sink.faults c.args.out.now) (g.W.Sink.faults c.finish.new.out) (g.W.Sink.written c.args.out.now) (g.W.Sink.written c.finish.new.out)
-    (own_answers greedy_layout asked) (c.in-Ok.ensures.performed greedy_layout greedy_is) c.in-Ok.ensures.tells_stay c.in-Ok.ensures.held_stays c.in-Ok.ensures.writes_stay same
-    c.finish.ensures.delivered c.finish.ensures.write_fault c.finish.ensures.prefix c.finish.ensures.memory c.finish.ensures.kept in
-    whole.read_fault
+returns-clause-read_fault g c = (whole g c).read_fault
 
 pub returns-clause-prefix : goal.returns-clause-prefix
-returns-clause-prefix g c =
-    let asked : Option Command = command_of (map string_bytes c.args.words.now) in
-    let first = c.args.shelf.now in
-    let second = c.reply_to.new.shelf in
-    let third = c.finish.new.shelf in
-    let before : Counts = record { reads = g.S.Shelf.reads first; taken = g.S.Shelf.taken first; faults = g.S.Shelf.read_faults first } in
-    let between : Counts = record { reads = g.S.Shelf.reads second; taken = g.S.Shelf.taken second; faults = g.S.Shelf.read_faults second } in
-    let after : Counts = record { reads = g.S.Shelf.reads third; taken = g.S.Shelf.taken third; faults = g.S.Shelf.read_faults third } in
-    let unread = c.finish.ensures.unread in
-    let same : after ≡ between = λ k. record { reads = unread.0 k; taken = unread.1 k; faults = unread.2 k } in
-    let whole = ended (command_protocol asked) (reply_answer c.in-Ok.reply) c.finish.result
-    (g.S.Shelf.tells first) (g.S.Shelf.tells second) (g.S.Shelf.held first) (g.S.Shelf.held second) (g.S.Shelf.held third)
-    before between after
-    (g.S.Shelf.write_faults first) (g.S.Shelf.write_faults second) (g.S.Shelf.write_faults third)
-    (g.W.Sink.faults c.args.out.now) (g.W.Sink.faults c.finish.new.out) (g.W.Sink.written c.args.out.now) (g.W.Sink.written c.finish.new.out)
-    (own_answers greedy_layout asked) (c.in-Ok.ensures.performed greedy_layout greedy_is) c.in-Ok.ensures.tells_stay c.in-Ok.ensures.held_stays c.in-Ok.ensures.writes_stay same
-    c.finish.ensures.delivered c.finish.ensures.write_fault c.finish.ensures.prefix c.finish.ensures.memory c.finish.ensures.kept in
-    whole.put_out
+returns-clause-prefix g c = (whole g c).put_out
 
 pub returns-clause-performed : goal.returns-clause-performed
 returns-clause-performed g c = λ r w m.
     let asked : Option Command = command_of (map string_bytes c.args.words.now) in
-    let told : Told = record { tells = g.S.Shelf.tells c.args.shelf.now; held = g.S.Shelf.held c.args.shelf.now } in
-    let before : Counts = record { reads = g.S.Shelf.reads c.args.shelf.now; taken = g.S.Shelf.taken c.args.shelf.now; faults = g.S.Shelf.read_faults c.args.shelf.now } in
-    let between : Counts = record { reads = g.S.Shelf.reads c.reply_to.new.shelf; taken = g.S.Shelf.taken c.reply_to.new.shelf; faults = g.S.Shelf.read_faults c.reply_to.new.shelf } in
-    let after : Counts = record { reads = g.S.Shelf.reads c.finish.new.shelf; taken = g.S.Shelf.taken c.finish.new.shelf; faults = g.S.Shelf.read_faults c.finish.new.shelf } in
-    let unread = c.finish.ensures.unread in
-    let same : after ≡ between = λ k. record { reads = unread.0 k; taken = unread.1 k; faults = unread.2 k } in
+    let told : Told = g.S.Shelf.told c.args.shelf.now in
+    let first : Counts = g.S.Shelf.counts c.args.shelf.now in
     let delivered = c.finish.ensures.delivered w m in
-    (reply_answer c.in-Ok.reply, subst (λ (n : Counts). Performed told (command_protocol asked) before n (reply_answer c.in-Ok.reply)) (sym same) (c.in-Ok.ensures.performed greedy_layout greedy_is), delivered.status, delivered.output)
+    (reply_answer c.in-Ok.reply, subst (λ (n : Counts). Performed told (command_protocol asked) first n (reply_answer c.in-Ok.reply)) (sym c.finish.ensures.unread) (c.in-Ok.ensures.performed greedy_layout greedy_is), delivered.status, delivered.output)
 
 pub returns-clause-usage : goal.returns-clause-usage
 returns-clause-usage g c = λ is.

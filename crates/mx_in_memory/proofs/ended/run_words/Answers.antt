@@ -5,7 +5,8 @@ use Rattle.mx_answer.specs.declared.Status.{Status}
 use Rattle.mx_answer.specs.declared.Status.TheVariants.{Memory}
 use Rattle.mx_answer.specs.Answer.{Answer}
 use Rattle.mx_answer.specs.Delivery.{Delivered}
-use Rattle.mx_answer.specs.Protocol.{Counts, resolved}
+use Rattle.mx_io.specs.Shelves.{Counts}
+use Rattle.mx_answer.specs.Protocol.{resolved}
 use Rattle.mx_asked.specs.Asked.{command_of}
 use Rattle.mx_asked.specs.Commands.{Command}
 use Rattle.mx_command.specs.Accepted.{Held}
@@ -16,7 +17,7 @@ use Rattle.mx_command.specs.Layouts.{command_protocol}
 use Rattle.mx_in_memory.specs.Answered.{Answered}
 use Rattle.mx_in_memory.specs.Held.{held_by}
 use Rattle.mx_in_memory.specs.Targets.{target_in, target_bytes}
-use Rattle.mx_in_memory.specs.QuietShelf.{held_in, reads_of, taken_of}
+use Rattle.mx_in_memory.specs.QuietShelf.{held_in, told_of, counts_of}
 use Rattle.mx_in_memory.specs.TextSink.{written_in, faults_of}
 use Rattle.mx_in_memory.proofs.Finds.{no_rise, finds_no_fault}
 use Rattle.mx_in_memory.proofs.Writes.{command_writes, file_comes, no_target}
@@ -39,10 +40,10 @@ returns c =
     let told = c.command-status.ensures in
     let calm : ¬ Rose 0 0 = no_rise 0 0 refl in
     let putting : ¬ Rose (faults_of out) (faults_of out') = no_rise (faults_of out) (faults_of out') c.in-Some.ensures.1 in
-    let quiet : AreQuiet 0 0 0 0 (faults_of out) (faults_of out') = record { reading = calm; writing = calm; putting = putting } in
+    let quiet : AreQuiet (counts_of before) (counts_of after) 0 0 (faults_of out) (faults_of out') = record { reading = calm; writing = calm; putting = putting } in
     let not_memory : status ≢ Memory = c.is_memory.ensures c.if-is_memory.false in
-    let delivered : Delivered (resolved (command_protocol asked) (held_in before)) status true
-    (Some (written_in out)) (Some (written_in out')) (held_in before) (held_in after) =
+    let delivered : Delivered (resolved (command_protocol asked) (held_in before)) status
+    (told_of before) (told_of after) (Some (written_in out)) (Some (written_in out')) =
     ⊎_elim (λ m. absurd (not_memory m)) (λ d. d) (told.complete refl calm calm putting) in
     let got = c.in_ok-file.ensures ∙ ap (λ t. target_bytes (held_in after) t status) c.in_ok-target.ensures in
     let answered : Answered asked (held_in before) status text written = record {
@@ -65,8 +66,7 @@ returns c =
       no_memory = not_memory;
       no_read_fault = λ finds e.
           let fault = told.read_fault e in
-          finds_no_fault (held_in before) (command_protocol asked) (record { reads = reads_of before; taken = taken_of before; faults = 0 })
-          (record { reads = reads_of after; taken = taken_of after; faults = 0 }) fault.0 refl finds fault.1;
+          finds_no_fault (held_in before) (command_protocol asked) (counts_of before) (counts_of after) fault.0 refl finds fault.1;
     } in
     let same : held_in before ≡ held_by c.args.call.now = λ i n. c.in_ok-shelf.ensures n i in
     subst (λ (a : Option Command). Answered a (held_by c.args.call.now) status text written) (ap command_of c.requires)

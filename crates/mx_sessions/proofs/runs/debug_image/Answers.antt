@@ -1,6 +1,7 @@
 use Rattle.std.proofs.Common.{◌≡◌, ℕ, List, Option, IfOk, option_map, refl, subst, sym, ap, ◌∙◌}
 use Rattle.mx_answer.specs.Answer.{Answer}
-use Rattle.mx_answer.specs.Protocol.{Protocol, Answers, Told, Counts, Performed}
+use Rattle.mx_io.specs.Shelves.{Told, Counts}
+use Rattle.mx_answer.specs.Protocol.{Protocol, Answers, Performed}
 use Rattle.mx_answer.specs.Replies.{reply_answer}
 use Rattle.mx_simulate.specs.Machines.{requests_protocol, input_protocol, given}
 use Rattle.mx_sessions.specs.Sessions.{image_answer}
@@ -8,15 +9,15 @@ use Rattle.mx_sessions.proofs.runs.debug_image.Goals as goal
 
 pub returns-clause-performed : goal.returns-clause-performed
 returns-clause-performed g c =
-    let told : Told = record { tells = g.S.Shelf.tells c.args.shelf.now; held = g.S.Shelf.held c.args.shelf.now } in
-    let told_between : Told = record { tells = g.S.Shelf.tells c.read_requests.new.shelf; held = g.S.Shelf.held c.read_requests.new.shelf } in
-    let before : Counts = record { reads = g.S.Shelf.reads c.args.shelf.now; taken = g.S.Shelf.taken c.args.shelf.now; faults = g.S.Shelf.read_faults c.args.shelf.now } in
-    let between : Counts = record { reads = g.S.Shelf.reads c.read_requests.new.shelf; taken = g.S.Shelf.taken c.read_requests.new.shelf; faults = g.S.Shelf.read_faults c.read_requests.new.shelf } in
-    let last : Counts = record { reads = g.S.Shelf.reads c.read_input.new.shelf; taken = g.S.Shelf.taken c.read_input.new.shelf; faults = g.S.Shelf.read_faults c.read_input.new.shelf } in
+    let told : Told = g.S.Shelf.told c.args.shelf.now in
+    let told_between : Told = g.S.Shelf.told c.read_requests.new.shelf in
+    let before : Counts = g.S.Shelf.counts c.args.shelf.now in
+    let between : Counts = g.S.Shelf.counts c.read_requests.new.shelf in
+    let last : Counts = g.S.Shelf.counts c.read_input.new.shelf in
     let interrupts : Option (List ℕ) = option_map (λ s. s.now) c.args.files.now.interrupts in
     let input : Option (List ℕ) = option_map (λ s. s.now) c.args.files.now.input in
     let answered : List ℕ → List ℕ → Answer = λ requests bytes. image_answer c.args.image.now.code.items c.args.image.now.user_data.items (given c.args.asks bytes) requests c.args.address c.args.limits.now in
-    let same : told_between ≡ told = λ k. record { tells = c.in_ok-requests.ensures.tells_stay k; held = λ n. c.in_ok-requests.ensures.held_stays n k } in
+    let same : told_between ≡ told = c.in_ok-requests.ensures.told_stays in
     let by_requests = subst
     (λ r. IfOk r (λ requests. (next : List ℕ → Protocol) (after : Counts) (answer : Answer) → Performed told (next requests) between after answer → Performed told (requests_protocol interrupts next) before after answer))
     c.in-Ok.is c.in_ok-requests.ensures.given in

@@ -7,12 +7,9 @@ untold e = absurd (cc)
 
 pub read-tells : goal.read-tells
 read-tells g c = record {
-  counted = c.ensures.counted;
-  taken_grows = c.ensures.taken_grows;
-  faults_grow = c.ensures.faults_grow;
+  read = c.ensures.read;
   writes_stay = c.ensures.writes_stay;
-  tells_stay = refl;
-  held_stays = λ n. refl;
+  told_stays = refl;
   within = c.ensures.within;
   exact = tt;
   failed = λ e. inl (c.ensures.failed e);
