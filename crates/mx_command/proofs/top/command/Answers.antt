@@ -45,6 +45,10 @@ finish-requires g c =
     (λ nothing. subst (λ (a : Answer). HasStatus a) (sym (c.in-Ok.ensures.asks_nothing nothing)) (inl refl))
     c.in-Ok.ensures.replied
 
+-- what the words ask for
+abbrev asked_by : (g : _) → goal.After-finish g → Option Command
+asked_by g c = command_of (map string_bytes c.args.words.now)
+
 -- the shelf and the sink, before `command` and after it
 abbrev before : (g : _) (c : goal.After-finish g) → Outside
 before g c = record {
@@ -72,11 +76,11 @@ after g c = record {
   written = g.W.Sink.written c.finish.new.out;
 }
 
-whole : (g : _) (c : goal.After-finish g) → Commanded (command_protocol (command_of (map string_bytes c.args.words.now))) (before g c) (after g c) c.finish.result
+whole : (g : _) (c : goal.After-finish g) → Commanded (command_protocol (asked_by g c)) (before g c) (after g c) c.finish.result
 whole g c =
-    let asked : Option Command = command_of (map string_bytes c.args.words.now) in
-    ended (command_protocol asked) (reply_answer c.in-Ok.reply) c.finish.result (before g c) (between g c) (after g c)
-    (own_answers greedy_layout asked) (c.in-Ok.ensures.performed greedy_layout greedy_is) c.in-Ok.ensures.told_stays c.in-Ok.ensures.writes_stay c.finish.ensures.unread
+    ended (command_protocol (asked_by g c)) (reply_answer c.in-Ok.reply) c.finish.result (before g c) (between g c) (after g c)
+    (own_answers greedy_layout (asked_by g c)) (c.in-Ok.ensures.performed greedy_layout greedy_is)
+    c.in-Ok.ensures.told_stays c.in-Ok.ensures.writes_stay c.finish.ensures.unread
     c.finish.ensures.delivered c.finish.ensures.write_fault c.finish.ensures.prefix c.finish.ensures.memory c.finish.ensures.kept
 
 pub returns-clause-complete : goal.returns-clause-complete
@@ -87,29 +91,29 @@ returns-clause-sound g c = (whole g c).sound
 
 pub returns-clause-headline : goal.returns-clause-headline
 returns-clause-headline g c = λ tells undisturbed accepted.
-    promised (command_protocol (command_of (map string_bytes c.args.words.now))) (before g c) (after g c) c.finish.result _ (whole g c)
-    (delivered_is_headline (command_of (map string_bytes c.args.words.now)) (g.S.Shelf.told c.args.shelf.now).held accepted greedy_layout greedy_is c.finish.result
+    promised (command_protocol (asked_by g c)) (before g c) (after g c) c.finish.result _ (whole g c)
+    (delivered_is_headline (asked_by g c) (g.S.Shelf.told c.args.shelf.now).held accepted greedy_layout greedy_is c.finish.result
     (g.S.Shelf.told c.args.shelf.now).tells (g.S.Shelf.told c.finish.new.shelf) (g.W.Sink.written c.args.out.now) (g.W.Sink.written c.finish.new.out))
     tells undisturbed
 
 pub returns-clause-pair : goal.returns-clause-pair
 returns-clause-pair g c = λ tells undisturbed accepted.
-    promised (command_protocol (command_of (map string_bytes c.args.words.now))) (before g c) (after g c) c.finish.result _ (whole g c)
-    (delivered_is_pair (command_of (map string_bytes c.args.words.now)) (g.S.Shelf.told c.args.shelf.now).held accepted greedy_layout greedy_is c.finish.result
+    promised (command_protocol (asked_by g c)) (before g c) (after g c) c.finish.result _ (whole g c)
+    (delivered_is_pair (asked_by g c) (g.S.Shelf.told c.args.shelf.now).held accepted greedy_layout greedy_is c.finish.result
     (g.S.Shelf.told c.args.shelf.now).tells (g.S.Shelf.told c.finish.new.shelf) (g.W.Sink.written c.args.out.now) (g.W.Sink.written c.finish.new.out))
     tells undisturbed
 
 pub returns-clause-stops : goal.returns-clause-stops
 returns-clause-stops g c = λ tells undisturbed accepted.
-    promised (command_protocol (command_of (map string_bytes c.args.words.now))) (before g c) (after g c) c.finish.result _ (whole g c)
-    (delivered_is_stops (command_of (map string_bytes c.args.words.now)) (g.S.Shelf.told c.args.shelf.now).held accepted greedy_layout greedy_is c.finish.result
+    promised (command_protocol (asked_by g c)) (before g c) (after g c) c.finish.result _ (whole g c)
+    (delivered_is_stops (asked_by g c) (g.S.Shelf.told c.args.shelf.now).held accepted greedy_layout greedy_is c.finish.result
     (g.S.Shelf.told c.args.shelf.now).tells (g.S.Shelf.told c.finish.new.shelf) (g.W.Sink.written c.args.out.now) (g.W.Sink.written c.finish.new.out))
     tells undisturbed
 
 pub returns-clause-modules : goal.returns-clause-modules
 returns-clause-modules g c = λ tells undisturbed accepted.
-    promised (command_protocol (command_of (map string_bytes c.args.words.now))) (before g c) (after g c) c.finish.result _ (whole g c)
-    (delivered_is_joined (command_of (map string_bytes c.args.words.now)) (g.S.Shelf.told c.args.shelf.now).held accepted greedy_layout c.finish.result
+    promised (command_protocol (asked_by g c)) (before g c) (after g c) c.finish.result _ (whole g c)
+    (delivered_is_joined (asked_by g c) (g.S.Shelf.told c.args.shelf.now).held accepted greedy_layout c.finish.result
     (g.S.Shelf.told c.args.shelf.now).tells (g.S.Shelf.told c.finish.new.shelf) (g.W.Sink.written c.args.out.now) (g.W.Sink.written c.finish.new.out))
     tells undisturbed
 
@@ -121,11 +125,13 @@ returns-clause-prefix g c = (whole g c).put_out
 
 pub returns-clause-performed : goal.returns-clause-performed
 returns-clause-performed g c = λ r w m.
-    let asked : Option Command = command_of (map string_bytes c.args.words.now) in
     let told : Told = g.S.Shelf.told c.args.shelf.now in
     let first : Counts = g.S.Shelf.counts c.args.shelf.now in
     let delivered = c.finish.ensures.delivered w m in
-    (reply_answer c.in-Ok.reply, subst (λ (n : Counts). Performed told (command_protocol asked) first n (reply_answer c.in-Ok.reply)) (sym c.finish.ensures.unread) (c.in-Ok.ensures.performed greedy_layout greedy_is), delivered.status, delivered.output)
+    let answer : Answer = reply_answer c.in-Ok.reply in
+    let performed = subst (λ (n : Counts). Performed told (command_protocol (asked_by g c)) first n answer)
+    (sym c.finish.ensures.unread) (c.in-Ok.ensures.performed greedy_layout greedy_is) in
+    (answer, performed, delivered.status, delivered.output)
 
 pub returns-clause-usage : goal.returns-clause-usage
 returns-clause-usage g c = λ is.
@@ -150,11 +156,13 @@ unfiled asked shelf before after answer performed filed = by (writes_a_file aske
   where
     by : (b : Bool) → writes_a_file asked ≡ b → writes_a_file asked ≡ true
     by true e = e
-    by false e = absurd (let none = nothing_to_write asked shelf before after answer e performed in let bad : false ≡ true = sym (ap is_some none) ∙ filed in cc)
+    by false e = absurd (
+        let none = nothing_to_write asked shelf before after answer e performed in
+        let bad : false ≡ true = sym (ap is_some none) ∙ filed in cc)
 
 pub returns-clause-unwritten : goal.returns-clause-unwritten
 returns-clause-unwritten g c = λ only.
-    c.finish.ensures.unwritten (nothing_to_write (command_of (map string_bytes c.args.words.now)) _ _ _ (reply_answer c.in-Ok.reply) only c.in-Ok.ensures.performed)
+    c.finish.ensures.unwritten (nothing_to_write (asked_by g c) _ _ _ (reply_answer c.in-Ok.reply) only c.in-Ok.ensures.performed)
     ∙ c.in-Ok.ensures.writes_stay
 
 pub returns-clause-write_fault : goal.returns-clause-write_fault
@@ -162,7 +170,7 @@ returns-clause-write_fault g c = λ is.
     ⊎_elim
     (λ sink. inl sink)
     (λ shelf. inr (
-      unfiled (command_of (map string_bytes c.args.words.now)) _ _ _ (reply_answer c.in-Ok.reply) c.in-Ok.ensures.performed shelf.0,
+      unfiled (asked_by g c) _ _ _ (reply_answer c.in-Ok.reply) c.in-Ok.ensures.performed shelf.0,
       subst (λ n. Rose n (g.S.Shelf.write_faults c.finish.new.shelf)) c.in-Ok.ensures.writes_stay shelf.1,
     ))
     (c.finish.ensures.write_fault is)
