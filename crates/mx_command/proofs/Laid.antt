@@ -4,7 +4,7 @@ use Rattle.std.specs.Prelude.{is_some, Option}
 use Rattle.mx_source.specs.SourceValue.{SourceValue}
 use Rattle.mx_squash.specs.Copies.{Site}
 use Rattle.mx_layout.specs.Layout.{blocks_in}
-use Rattle.mx_layout.specs.Overlong.{Overlong, IsTooLong, overlong}
+use Rattle.mx_layout.specs.Overlong.{Overlong, IsOverlong, overlong}
 use Rattle.mx_link.specs.declared.Linked.{Linked}
 use Rattle.mx_link.specs.Origins.{from_target}
 use Rattle.mx_link.specs.Linked.{IsLinked}
@@ -22,17 +22,17 @@ use Rattle.mx_schedule.specs.Schedule.{IsScheduler}
 use Rattle.mx_schedule.proofs.Kept.{linked_sites, none_rejected, overlong_sites}
 use Rattle.mx_listing.specs.Listing.{listing_text, linked_parts, layout_listing}
 use Rattle.mx_listing.proofs.Listed.{listing-linked}
-use Rattle.mx_command.specs.Protocols.{fault_line, overlong_line, unless_faulty, unless_overlong, Layouts, Linking, linked_protocol, run_protocol, linked_contents}
+use Rattle.mx_command.specs.Protocols.{fault_line, overlong_line, unless_faulty, unless_overlong, Layouts, AfterLayout, linked_protocol, run_protocol, linked_contents}
 
 -- a faulty text
-pub faulty : (layout_of : Layouts) (next : Linking) (text : List ℕ) (line : ℕ) (fault : Fault) → text_fault 256 65536 text ≡ Some (line, fault)
+pub faulty : (layout_of : Layouts) (next : AfterLayout) (text : List ℕ) (line : ℕ) (fault : Fault) → text_fault 256 65536 text ≡ Some (line, fault)
     → linked_protocol layout_of next text ≡ Answers (prints Refused (fault_line line fault))
 faulty layout_of next text line fault e =
     let source = source_of 256 text in
     ap (λ (found : Option (ℕ × Fault)). unless_faulty found (unless_overlong (overlong source board (blocks_in (layout_of source))) (next source (layout_of source)))) e
 
 -- a text without a fault
-unfaulty : (layout_of : Layouts) (next : Linking) (text : List ℕ) (source : SourceValue) → text_fault 256 65536 text ≡ None → source ≡ source_of 256 text
+unfaulty : (layout_of : Layouts) (next : AfterLayout) (text : List ℕ) (source : SourceValue) → text_fault 256 65536 text ≡ None → source ≡ source_of 256 text
     → linked_protocol layout_of next text ≡ unless_overlong (overlong source board (blocks_in (layout_of source))) (next source (layout_of source))
 unfaulty layout_of next text source e is =
     let read = source_of 256 text in
@@ -40,9 +40,9 @@ unfaulty layout_of next text source e is =
     ∙ ap (λ (s : SourceValue). unless_overlong (overlong s board (blocks_in (layout_of s))) (next s (layout_of s))) (sym is)
 
 module _ (layout_of : Layouts) (is : IsScheduler layout_of) (source : SourceValue) where
-  module _ (next : Linking) (text : List ℕ) (e : text_fault 256 65536 text ≡ None) (read : source ≡ source_of 256 text) where
+  module _ (next : AfterLayout) (text : List ℕ) (e : text_fault 256 65536 text ≡ None) (read : source ≡ source_of 256 text) where
     -- with a branch that does not reach its target
-    pub too_long : (found : Overlong) → IsTooLong IsGreedy source board found
+    pub too_long : (found : Overlong) → IsOverlong IsGreedy source board found
         → linked_protocol layout_of next text ≡ Answers (prints Refused (overlong_line found.line found.from found.to))
     too_long found t =
         let same : layout_of source ≡ t.sites = overlong_sites layout_of is source found t in

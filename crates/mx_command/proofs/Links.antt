@@ -15,7 +15,7 @@ use Rattle.mx_layout.specs.Layout.{plan_size, link_of, has_statement}
 use Rattle.mx_link.specs.declared.Origin.{Origin}
 use Rattle.mx_link.specs.Origins.{Filling, origins_from, origins_at}
 use Rattle.mx_link.specs.Words.{insts_from, insts_of}
-use Rattle.mx_link.specs.Linked.{links_from, link_map, links_of, linked_code}
+use Rattle.mx_link.specs.Linked.{map_from, link_map, links_of, linked_code}
 use Rattle.mx_image.specs.Contents.{IsLink, LinksFit}
 use Rattle.mx_meaning.specs.Boards.{board}
 
@@ -61,11 +61,11 @@ link_between at (s ∷ sites) i =
     (omega arith, omega arith)
     (omega (arith, rest.0), omega (arith, rest.1))
 
-pub links_count : (link : ℕ → ℕ) (i n : ℕ) → length (links_from link i n) ≡ n
+pub links_count : (link : ℕ → ℕ) (i n : ℕ) → length (map_from link i n) ≡ n
 links_count link i zero = refl
 links_count link i (suc n) = ap suc (links_count link (suc i) n)
 
-links_all : (P : ℕ → Type 0) (link : ℕ → ℕ) → ((j : ℕ) → P (link j)) → (i n : ℕ) → All P (links_from link i n)
+links_all : (P : ℕ → Type 0) (link : ℕ → ℕ) → ((j : ℕ) → P (link j)) → (i n : ℕ) → All P (map_from link i n)
 links_all P link each i zero k d l = absurd (omega arith)
 links_all P link each i (suc n) zero d l = each i
 links_all P link each i (suc n) (suc k) d l = links_all P link each (suc i) n k d (omega arith)

@@ -46,7 +46,7 @@ use Rattle.mx_sharing.specs.Runs.{shared_answer, sharing_protocol}
 use Rattle.mx_asked.specs.declared.Command.{Command as GivenCommand}
 use Rattle.mx_asked.specs.Seen.{seen_command}
 use Rattle.mx_asked.specs.Commands.{Command, Run, Meaning, Build, Exec, Listing, Gen, Soak, Migrate, Share, Debug, Best, Join}
-use Rattle.mx_command.specs.Protocols.{unless_faulty, unless_overlong, unless_refused, migrated, Layouts, Linking, linked_protocol, run_protocol, build_protocol, linked_contents, list_protocol, unless_wrong, wrong_with, unless_far, upper_layout, pair_code, pair_data, pair_protocol, assembled_protocol, statement_named, unless_unlabelled, labelled_protocol, protocol_of, measured, printed_unless, modules_protocol}
+use Rattle.mx_command.specs.Protocols.{unless_faulty, unless_overlong, unless_refused, migrated, Layouts, AfterLayout, linked_protocol, run_protocol, build_protocol, linked_contents, list_protocol, unless_wrong, wrong_with, unless_far, upper_layout, pair_code, pair_data, pair_protocol, assembled_protocol, statement_named, unless_unlabelled, labelled_protocol, protocol_of, measured, printed_unless, modules_protocol}
 use Rattle.mx_command.specs.Replied.{is_answered, IsReplied}
 
 -- the answer to what was asked
@@ -105,7 +105,7 @@ answers_overlong : (found : Option Overlong) (next : Protocol) → HasAnswers ne
 answers_overlong (Some found) next has = printed_answer _ _ refl
 answers_overlong None next has = has
 
-answers_linked : (layout_of : Layouts) (next : Linking) → ((source : SourceValue) → HasAnswers (next source (layout_of source))) → (text : List ℕ) → HasAnswers (linked_protocol layout_of next text)
+answers_linked : (layout_of : Layouts) (next : AfterLayout) → ((source : SourceValue) → HasAnswers (next source (layout_of source))) → (text : List ℕ) → HasAnswers (linked_protocol layout_of next text)
 answers_linked layout_of next has text = answers_faulty (text_fault 256 65536 text) _ (answers_overlong _ _ (has (source_of 256 text)))
 
 answers_refused : (refusal : Option ImageError) (next : Protocol) → HasAnswers next → HasAnswers (unless_refused refusal next)

@@ -38,7 +38,7 @@ use Rattle.mx_tasks.specs.Places.{lower, upper}
 use Rattle.mx_tasks.specs.Sharing.{shared}
 use Rattle.mx_sharing.specs.Runs.{shared_answer}
 use Rattle.mx_asked.specs.Commands.{Command, Run, Meaning, Build, Exec, Listing, Gen, Soak, Migrate, Share, Debug, Best, Join}
-use Rattle.mx_command.specs.Protocols.{unless_faulty, unless_overlong, unless_refused, unless_wrong, wrong_with, unless_far, upper_layout, pair_code, pair_data, pair_protocol, assembled_protocol, statement_named, unless_unlabelled, labelled_protocol, Layouts, Linking, linked_protocol, run_protocol, list_protocol, protocol_of, measured, printed_unless, modules_protocol}
+use Rattle.mx_command.specs.Protocols.{unless_faulty, unless_overlong, unless_refused, unless_wrong, wrong_with, unless_far, upper_layout, pair_code, pair_data, pair_protocol, assembled_protocol, statement_named, unless_unlabelled, labelled_protocol, Layouts, AfterLayout, linked_protocol, run_protocol, list_protocol, protocol_of, measured, printed_unless, modules_protocol}
 use Rattle.mx_command.specs.Writing.{writes_a_file}
 
 program_prints : (p : Program) (code requests : List ℕ) (limits : Limits) → (program_answer p code requests limits).file ≡ None
@@ -73,7 +73,7 @@ overlong_prints : (found : Option Overlong) (next : Protocol) → OnlyPrints nex
 overlong_prints (Some found) next prints = refl
 overlong_prints None next prints = prints
 
-linked_prints : (layout_of : Layouts) (next : Linking) → ((source : SourceValue) → OnlyPrints (next source (layout_of source))) → (text : List ℕ) → OnlyPrints (linked_protocol layout_of next text)
+linked_prints : (layout_of : Layouts) (next : AfterLayout) → ((source : SourceValue) → OnlyPrints (next source (layout_of source))) → (text : List ℕ) → OnlyPrints (linked_protocol layout_of next text)
 linked_prints layout_of next prints text = faulty_prints (text_fault 256 65536 text) _ (overlong_prints _ _ (prints (source_of 256 text)))
 
 refused_prints : (refusal : Option ImageError) (next : Protocol) → OnlyPrints next → OnlyPrints (unless_refused refusal next)

@@ -4,7 +4,7 @@ use Rattle.std.specs.Prelude.{is_some, Option}
 use Rattle.mx_source.specs.SourceValue.{SourceValue}
 use Rattle.mx_squash.specs.Copies.{Site}
 use Rattle.mx_layout.specs.Layout.{blocks_in}
-use Rattle.mx_layout.specs.Overlong.{Overlong, IsTooLong, overlong}
+use Rattle.mx_layout.specs.Overlong.{Overlong, IsOverlong, overlong}
 use Rattle.mx_link.specs.declared.Linked.{Linked}
 use Rattle.mx_link.specs.Origins.{from_nowhere}
 use Rattle.mx_link.specs.Linked.{IsLinked, link_map}
@@ -28,7 +28,7 @@ module _ (layout_of : Layouts) (is : IsScheduler layout_of) (source : SourceValu
   unlabelled e = ap (λ (o : Option ℕ). unless_unlabelled label o after) e
 
   module _ (index : ℕ) (named : statement_named source label ≡ Some index) where
-    pub too_far : (found : Overlong) → IsTooLong IsGreedy source board found
+    pub too_far : (found : Overlong) → IsOverlong IsGreedy source board found
         → labelled_protocol layout_of label files limits source ≡ Answers (prints Refused (overlong_line found.line found.from found.to))
     too_far found t =
         let same : layout_of source ≡ t.sites = overlong_sites layout_of is source found t in

@@ -17,6 +17,7 @@ use Rattle.mx_meaning.specs.Boards.{board}
 use Rattle.mx_end_to_end.specs.EndToEnd.{source_program, source_run, IsUnstuck, EndsAsMeant}
 use Rattle.mx_asked.specs.Commands.{Command}
 use Rattle.mx_command.specs.Accepted.{Held, Accepted}
+use Rattle.mx_link_laws.specs.Runs.{block_ahead}
 
 -- no count of faults rose: of the shelf in reading and in writing, and of the sink
 pub record AreQuiet (counts counts' : Counts) (writes writes' puts puts' : ℕ) : Type 0 where
@@ -28,10 +29,6 @@ pub record AreQuiet (counts counts' : Counts) (writes writes' puts puts' : ℕ) 
 pub record IsNoFault (result : Status) : Type 0 where
   pub no_read_fault : result ≢ ReadFault
   pub no_write_fault : result ≢ WriteFault
-
--- a block has at most this many statements, and runs in an order of its own: what is said of the meaning looks so far ahead
-abbrev pub block_ahead : ℕ
-block_ahead = 64
 
 module _ (asked : Option Command) (held : Held) (a : Accepted asked held) where
   abbrev pub accepted_source : SourceValue

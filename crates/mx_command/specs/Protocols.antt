@@ -96,18 +96,18 @@ abbrev pub Layouts : Type 0
 Layouts = SourceValue → List Site
 
 -- what follows a source and its layout
-abbrev pub Linking : Type 0
-Linking = SourceValue → List Site → Protocol
+abbrev pub AfterLayout : Type 0
+AfterLayout = SourceValue → List Site → Protocol
 
 -- a text, which is assembled and linked: refused by its first fault, then by a displacement, or what follows
-abbrev pub linked_protocol : Layouts → Linking → List ℕ → Protocol
+abbrev pub linked_protocol : Layouts → AfterLayout → List ℕ → Protocol
 linked_protocol layout_of next text =
     let source = source_of 256 text in
     let sites = layout_of source in
     unless_faulty (text_fault 256 65536 text) (unless_overlong (overlong source board (blocks_in sites)) (next source sites))
 
 -- the run of a source
-abbrev pub run_protocol : Files → Limits → Linking
+abbrev pub run_protocol : Files → Limits → AfterLayout
 run_protocol files limits source sites =
     machine_protocol files limits (linked_code from_target source board sites) (linked_data source board sites) (is_some source.input)
 
@@ -121,11 +121,11 @@ linked_contents source sites = record {
 }
 
 -- the image file of a source, under this name
-abbrev pub build_protocol : List ℕ → Linking
+abbrev pub build_protocol : List ℕ → AfterLayout
 build_protocol target source sites = Answers (writes target (file_bytes (linked_contents source sites)))
 
 -- the listing of a source
-abbrev pub list_protocol : Linking
+abbrev pub list_protocol : AfterLayout
 list_protocol source sites = Answers (prints Done (layout_listing source board sites))
 
 -- how long the plans of each block of a source are; whether a branch reaches its target is not asked
@@ -247,7 +247,7 @@ unless_unlabelled name None next = Answers (prints Refused (no_label_line name))
 unless_unlabelled name (Some index) next = next index
 
 -- the session of a source that is linked without copies, stopped where a block begins
-abbrev pub stopped_protocol : Files → SessionLimits → ℕ → Linking
+abbrev pub stopped_protocol : Files → SessionLimits → ℕ → AfterLayout
 stopped_protocol files limits index source sites =
     session_protocol files limits (linked_code from_nowhere source board sites) (linked_data source board sites) (is_some source.input) (link_map board sites index)
 

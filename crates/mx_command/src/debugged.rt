@@ -1,6 +1,6 @@
 //! The reply of the command that tells a source's stops.
 ghost use Rattle.std.specs.Prelude.{◌≡◌, ◌≤◌, ◌<◌, ◌^◌, length, IfOk, IfErr, IfSome, List, ℕ, Option, Some, None};
-ghost use Rattle.mx_layout.specs.Overlong.{Overlong, IsTooLong};
+ghost use Rattle.mx_layout.specs.Overlong.{Overlong, IsOverlong};
 ghost use Rattle.mx_link.specs.Origins.{from_nowhere};
 ghost use Rattle.mx_link.specs.Linked.{IsLinked, link_map};
 ghost use Rattle.mx_reorg.specs.Greedy.{IsGreedy};
@@ -75,7 +75,7 @@ fn no_label_reply(alloc: Global, name: &str) -> Result<Reply, Memory>
 // A source, linked by the list scheduler without copies, or the reply to its first branch that does not reach its target.
 fn plain_source(alloc: Global, source: &Source) -> Result<Result<Linked, Reply>, Memory>
     ensures linked { IfOk result (λ r. IfOk r (λ l. IsLinked IsGreedy from_nowhere source.now board l)) }
-    ensures refused { IfOk result (λ r. IfErr r (λ reply. (found : Overlong) × IsTooLong IsGreedy source.now board found
+    ensures refused { IfOk result (λ r. IfErr r (λ reply. (found : Overlong) × IsOverlong IsGreedy source.now board found
         × (reply_answer reply ≡ prints Status.Refused (overlong_line found.line found.from found.to)))) }
 {
     let _statements = source.statements();

@@ -1,6 +1,6 @@
 //! Sources, assembled and linked, or the reply to what is wrong with them.
 ghost use Rattle.std.specs.Prelude.{◌≡◌, ◌≤◌, ◌++◌, codes, length, IfOk, IfErr, List, ℕ, Some, None, string_bytes};
-ghost use Rattle.mx_layout.specs.Overlong.{Overlong, IsTooLong};
+ghost use Rattle.mx_layout.specs.Overlong.{Overlong, IsOverlong};
 ghost use Rattle.mx_link.specs.Origins.{from_target};
 ghost use Rattle.mx_link.specs.Linked.{IsLinked};
 ghost use Rattle.mx_reorg.specs.Greedy.{IsGreedy};
@@ -12,7 +12,7 @@ ghost use Rattle.mx_io.specs.Shelves.{Counts};
 ghost use Rattle.mx_answer.specs.Protocol.{Protocol, Answers, Reads, Performed};
 ghost use Rattle.mx_answer.specs.Replies.{reply_answer};
 ghost use Rattle.mx_schedule.specs.Schedule.{IsScheduler};
-ghost use Rattle.mx_command.specs.Protocols.{fault_text, fault_line, displacement_text, span_text, overlong_text, overlong_line, Layouts, Linking, linked_protocol};
+ghost use Rattle.mx_command.specs.Protocols.{fault_text, fault_line, displacement_text, span_text, overlong_text, overlong_line, Layouts, AfterLayout, linked_protocol};
 ghost use Rattle.mx_command.specs.Replied.{IsReplied};
 
 use crate::files::read_named;
@@ -126,7 +126,7 @@ pub fn overlong_reply(alloc: Global, line: u32, from: u32, to: u32) -> Result<Re
 // A source, linked by the list scheduler, or the reply to its first branch that does not reach its target.
 fn linked_source(alloc: Global, source: &Source) -> Result<Result<Linked, Reply>, Memory>
     ensures linked { IfOk result (λ r. IfOk r (λ l. IsLinked IsGreedy from_target source.now board l)) }
-    ensures refused { IfOk result (λ r. IfErr r (λ reply. (found : Overlong) × IsTooLong IsGreedy source.now board found
+    ensures refused { IfOk result (λ r. IfErr r (λ reply. (found : Overlong) × IsOverlong IsGreedy source.now board found
         × (reply_answer reply ≡ prints Status.Refused (overlong_line found.line found.from found.to)))) }
 {
     let _statements = source.statements();
@@ -143,9 +143,9 @@ fn linked_source(alloc: Global, source: &Source) -> Result<Result<Linked, Reply>
 fn linked_text(alloc: Global, text: &[u8]) -> Result<Result<Program, Reply>, Memory>
     requires { length text.now ≤ 4194304 }
     ensures linked { IfOk result (λ r. IfOk r (λ p. IsLinked IsGreedy from_target p.source board p.linked)) }
-    ensures given { IfOk result (λ r. IfOk r (λ p. (layout_of : Layouts) → IsScheduler layout_of → (next : Linking)
+    ensures given { IfOk result (λ r. IfOk r (λ p. (layout_of : Layouts) → IsScheduler layout_of → (next : AfterLayout)
         → linked_protocol layout_of next text.now ≡ next p.source (layout_of p.source))) }
-    ensures refused { IfOk result (λ r. IfErr r (λ reply. (layout_of : Layouts) → IsScheduler layout_of → (next : Linking)
+    ensures refused { IfOk result (λ r. IfErr r (λ reply. (layout_of : Layouts) → IsScheduler layout_of → (next : AfterLayout)
         → linked_protocol layout_of next text.now ≡ Answers (reply_answer reply))) }
     ensures replied { IfOk result (λ r. IfErr r (λ reply. IsReplied (reply_answer reply))) }
 {
@@ -166,12 +166,12 @@ pub fn read_program<S: Shelf>(
     name: &str,
 ) -> Result<Result<Program, Reply>, Memory>
     ensures linked { IfOk result (λ r. IfOk r (λ p. IsLinked IsGreedy from_target p.source board p.linked)) }
-    ensures given { IfOk result (λ r. IfOk r (λ p. (layout_of : Layouts) → IsScheduler layout_of → (next : Linking) (after : Counts) (answer : Answer)
+    ensures given { IfOk result (λ r. IfOk r (λ p. (layout_of : Layouts) → IsScheduler layout_of → (next : AfterLayout) (after : Counts) (answer : Answer)
         → Performed (S.told shelf.old) (next p.source (layout_of p.source))
         (S.counts shelf.new) after answer
         → Performed (S.told shelf.old) (Reads FileKind.Source name.now (linked_protocol layout_of next))
         (S.counts shelf.old) after answer)) }
-    ensures refused { IfOk result (λ r. IfErr r (λ reply. (layout_of : Layouts) → IsScheduler layout_of → (next : Linking)
+    ensures refused { IfOk result (λ r. IfErr r (λ reply. (layout_of : Layouts) → IsScheduler layout_of → (next : AfterLayout)
         → Performed (S.told shelf.old) (Reads FileKind.Source name.now (linked_protocol layout_of next))
         (S.counts shelf.old) (S.counts shelf.new) (reply_answer reply))) }
     ensures replied { IfOk result (λ r. IfErr r (λ reply. IsReplied (reply_answer reply))) }

@@ -12,7 +12,7 @@ use Rattle.mx_turn.specs.Handler.{shipped}
 use Rattle.mx_turn.specs.Program.{Program, program_of}
 use Rattle.mx_turn.specs.Run.{bound}
 use Rattle.mx_meaning.specs.Boards.{board}
-use Rattle.mx_link_laws.specs.Runs.{IsLaid}
+use Rattle.mx_link_laws.specs.Runs.{IsLaid, block_ahead}
 use Rattle.mx_end_to_end.specs.EndToEnd.{IsUnstuck}
 use Rattle.mx_debug.specs.declared.Stop.{Stop}
 use Rattle.mx_debug.specs.Sessions.{Session, session, stops_of, console_of}
@@ -57,10 +57,10 @@ pub record StopsAsMeant (d : Debugged) : Type 0 where
   pub told : (j : ℕ) (stop : Stop) → slice_get (stops_of (session_of d)) j ≡ Some stop
       → (m : ℕ) × IsVisit d.source d.bytes d.index j m × ShowsMeaning d stop m
   pub comes : (j m : ℕ) → j < d.limit → IsVisit d.source d.bytes d.index j m
-      → bound (m + 64) (length d.requests) ≤ d.budget → j < length (stops_of (session_of d))
+      → bound (m + block_ahead) (length d.requests) ≤ d.budget → j < length (stops_of (session_of d))
 
 -- This holds of each leader, where the meaning does not get stuck in 64 statements more than the budget has cycles.
 abbrev pub StopsAreVisits : Type 0
 StopsAreVisits =
     (d : Debugged) → IsLaid d.source board d.sites → is_leader d.source d.index ≡ true → d.index < length d.source.statements
-    → is_user board d.watch ≡ true → IsUnstuck d.source d.bytes (d.budget + 64) → StopsAsMeant d
+    → is_user board d.watch ≡ true → IsUnstuck d.source d.bytes (d.budget + block_ahead) → StopsAsMeant d

@@ -11,7 +11,7 @@ use Rattle.mx_order.specs.Laws.{IsPrefix}
 use Rattle.mx_turn.specs.Handler.{shipped}
 use Rattle.mx_turn.specs.Program.{Program, program_of}
 use Rattle.mx_turn.specs.Run.{Run, run_of, bound}
-use Rattle.mx_link_laws.specs.Runs.{IsLaid, Linking, Matches}
+use Rattle.mx_link_laws.specs.Runs.{IsLaid, Linking, Matches, block_ahead}
 use Rattle.mx_reorg.specs.Greedy.{IsGreedy}
 use Rattle.mx_asm.specs.Texts.{source_of, text_fault}
 use Rattle.mx_meaning.specs.Boards.{board}
@@ -42,13 +42,13 @@ pub record EndsAsMeant (source : SourceValue) (sites : List Site) (bytes : List 
 -- The run does what the source means: it sends no more, it halts only where the meaning halts, and then with its state, and it halts and sends
 -- within the bound of cycles. A block runs in an order of its own and has 64 statements at most: so the meaning is not to get stuck in 64 steps more.
 pub record MeansItsSource (source : SourceValue) (sites : List Site) (requests bytes : List ℕ) (budget : ℕ) : Type 0 where
-  pub sent : IsUnstuck source bytes (budget + 64) → IsPrefix (source_run source sites requests bytes budget).console (meaning source board bytes (budget + 64)).console
-  pub halts : IsUnstuck source bytes (budget + 64)
+  pub sent : IsUnstuck source bytes (budget + block_ahead) → IsPrefix (source_run source sites requests bytes budget).console (meaning source board bytes (budget + block_ahead)).console
+  pub halts : IsUnstuck source bytes (budget + block_ahead)
       → (source_run source sites requests bytes budget).halted ≡ true
       → (n : ℕ) × (n ≤ budget) × EndsAsMeant source sites bytes (source_run source sites requests bytes budget) n
   pub ends : (n : ℕ) → HaltsIn source board bytes n → bound n (length requests) ≤ budget → (source_run source sites requests bytes budget).halted ≡ true
-  pub sends : IsUnstuck source bytes (budget + 64)
-      → (m : ℕ) → bound (m + 64) (length requests) ≤ budget
+  pub sends : IsUnstuck source bytes (budget + block_ahead)
+      → (m : ℕ) → bound (m + block_ahead) (length requests) ≤ budget
       → IsPrefix (meaning source board bytes m).console (source_run source sites requests bytes budget).console
 
 -- A run of a source that is linked at the board's place does what the source means.

@@ -10,7 +10,7 @@ use Rattle.mx_image.specs.declared.error.ImageError.{ImageError}
 use Rattle.mx_image.specs.declared.error.ImageError.TheVariants.{BadMagic, Truncated, BadRange, Trailing}
 use Rattle.mx_image.specs.Bytes.{word_bytes, words_bytes, number_in, number_at, numbers}
 use Rattle.mx_image.specs.Contents.{Contents, plain, IsImage, IsFile, IsLink, LinksFit, AreWords}
-use Rattle.mx_image.specs.Files.{magic, image_bytes, file_bytes, flag_of, image_in, file_in, file_in_2, links_from, or_next, short_refusal, long_refusal, magic_refusal, field_refusal, is_outside, outside_refusal, links_refusal, refusal_1, refusal_2, image_refusal, file_refusal, Spells}
+use Rattle.mx_image.specs.Files.{magic, image_bytes, file_bytes, flag_of, image_in, file_in, file_in_2, links_offset, or_next, short_refusal, long_refusal, magic_refusal, field_refusal, is_outside, outside_refusal, links_refusal, refusal_1, refusal_2, image_refusal, file_refusal, Spells}
 use Rattle.mx_image.proofs.Numbers.{AreBytes, number-word, numbers-words, length-words, drop-words, words-numbers, numbers-plus, length-numbers}
 
 or_none : (a b : Option ImageError) → or_next a b ≡ None → (a ≡ None) × (b ≡ None)
@@ -164,7 +164,7 @@ pub record Accepted2 (bs : List ℕ) : Type 0 where
 
 pub accepted_2 : (bs : List ℕ) → refusal_2 bs ≡ None → Accepted2 bs
 accepted_2 bs h =
-    let end : ℕ = links_from bs + 4 * number_at 20 bs in
+    let end : ℕ = links_offset bs + 4 * number_at 20 bs in
     let p = or_none (field_refusal 8 1 bs) _ h in
     let q = or_none (field_refusal 12 60000 bs) _ p.1 in
     let r = or_none (field_refusal 16 65280 bs) _ q.1 in
@@ -173,7 +173,7 @@ accepted_2 bs h =
     let v = or_none (links_refusal bs) (long_refusal end bs) u.1 in
     let s = not_short end bs u.0 in
     let l = not_long end bs v.1 in
-    let none = outside_none (links_from bs) _ v.0 in
+    let none = outside_none (links_offset bs) _ v.0 in
     record {
       flag = not_over 8 1 bs p.0;
       code = not_over 12 60000 bs q.0;
@@ -221,7 +221,7 @@ spelled_2 bs a n l v h =
     ∙ ap (λ k. magic ++ words_bytes (2 ∷ k ∷ c ∷ d ∷ m ∷ words)) (sym (flag_again (number_at 8 bs) s.flag))
     ∙ ap (λ k. magic ++ words_bytes (2 ∷ flag_of f.input ∷ k ∷ d ∷ m ∷ words)) (sym (length-numbers c (drop 24 bs)))
     ∙ ap (λ k. magic ++ words_bytes (2 ∷ flag_of f.input ∷ length f.code ∷ k ∷ m ∷ words)) (sym (length-numbers d (drop (24 + 4 * c) bs)))
-    ∙ ap (λ k. magic ++ words_bytes (2 ∷ flag_of f.input ∷ length f.code ∷ length f.user_data ∷ k ∷ words)) (sym (length-numbers m (drop (links_from bs) bs)))
+    ∙ ap (λ k. magic ++ words_bytes (2 ∷ flag_of f.input ∷ length f.code ∷ length f.user_data ∷ k ∷ words)) (sym (length-numbers m (drop (links_offset bs) bs)))
 
 -- an accepted file is spelled so, in its version
 pub file_spelled : (bs : List ℕ) → AreBytes bs → file_refusal bs ≡ None → Spells bs (file_in bs)
@@ -249,7 +249,7 @@ file_links bs h =
     by_version false true r =
         let s = accepted_2 bs r in
         record {
-          few = omega (arith, s.links, length-numbers (number_at 20 bs) (drop (links_from bs) bs));
+          few = omega (arith, s.links, length-numbers (number_at 20 bs) (drop (links_offset bs) bs));
           within = subst (λ n. All (IsLink n) (file_in_2 bs).links) (sym (length-numbers (number_at 12 bs) (drop 24 bs))) s.within;
         }
     by_version false false r = absurd (cc)
@@ -383,7 +383,7 @@ module _ (f : Contents) (h : IsFile f) where
 
   no_outside : links_refusal cs ≡ None
   no_outside =
-      ap (outside_refusal (links_from cs)) (
+      ap (outside_refusal (links_offset cs)) (
       position_from-zero (is_outside (number_at 12 cs)) (file_in_2 cs).links
       ∙ ap (λ ls. position_from (is_outside (number_at 12 cs)) 0 ls) links_back
       ∙ ap (λ n. position_from (is_outside n) 0 f.links) count_c
@@ -392,7 +392,7 @@ module _ (f : Contents) (h : IsFile f) where
 
   pub file_accepted : file_refusal cs ≡ None
   file_accepted =
-      let end : ℕ = links_from cs + 4 * number_at 20 cs in
+      let end : ℕ = links_offset cs + 4 * number_at 20 cs in
       let e : length cs ≡ end = omega (arith, all, count_c, count_d, count_m) in
       both_none (short_refusal 8 cs) _ (short_none 8 cs (omega (arith, all)))
       (both_none (field_refusal 8 1 cs) _ (field_none 8 1 cs (omega (arith, all)) (omega (arith, flag, flag_small f.input)))

@@ -33,8 +33,8 @@ image_in bs = record {
 }
 
 -- the offset of the links of version 2
-abbrev pub links_from : List ℕ → ℕ
-links_from bs = 24 + 4 * (number_at 12 bs + number_at 16 bs)
+abbrev pub links_offset : List ℕ → ℕ
+links_offset bs = 24 + 4 * (number_at 12 bs + number_at 16 bs)
 
 -- what the bytes of version 2 hold
 abbrev pub file_in_2 : List ℕ → Contents
@@ -42,7 +42,7 @@ file_in_2 bs = record {
   code = numbers (number_at 12 bs) (drop 24 bs);
   user_data = numbers (number_at 16 bs) (drop (24 + 4 * number_at 12 bs) bs);
   input = number_at 8 bs == 1;
-  links = numbers (number_at 20 bs) (drop (links_from bs) bs);
+  links = numbers (number_at 20 bs) (drop (links_offset bs) bs);
 }
 
 -- what the bytes of either version hold
@@ -81,7 +81,7 @@ outside_refusal from (Some k) = Some (BadRange (from + 4 * k))
 
 -- a link is outside
 abbrev pub links_refusal : List ℕ → Option ImageError
-links_refusal bs = outside_refusal (links_from bs) (position (is_outside (number_at 12 bs)) (file_in_2 bs).links)
+links_refusal bs = outside_refusal (links_offset bs) (position (is_outside (number_at 12 bs)) (file_in_2 bs).links)
 
 -- the first refusal of version 1 after the version
 abbrev pub refusal_1 : List ℕ → Option ImageError
@@ -94,7 +94,7 @@ refusal_1 bs =
 -- the first refusal of version 2 after the version
 abbrev pub refusal_2 : List ℕ → Option ImageError
 refusal_2 bs =
-    let end = links_from bs + 4 * number_at 20 bs in
+    let end = links_offset bs + 4 * number_at 20 bs in
     or_next (field_refusal 8 1 bs)
     (or_next (field_refusal 12 60000 bs)
     (or_next (field_refusal 16 65280 bs)

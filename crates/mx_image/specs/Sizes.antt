@@ -2,7 +2,7 @@
 use Rattle.std.specs.Prelude.{◌≡◌, ℕ, ◌+◌, ◌*◌, ◌≤◌, List, length, None}
 use Rattle.mx_image.specs.declared.fields.Sizes.{Sizes}
 use Rattle.mx_image.specs.Bytes.{number_at}
-use Rattle.mx_image.specs.Files.{refusal_1, refusal_2, links_refusal, long_refusal, or_next, links_from}
+use Rattle.mx_image.specs.Files.{refusal_1, refusal_2, links_refusal, long_refusal, or_next, links_offset}
 
 -- the sizes of bytes of version 1 that are not refused
 pub record SizesOf1 (bs : List ℕ) (s : Sizes) : Type 0 where
@@ -22,4 +22,4 @@ pub record SizesOf2 (bs : List ℕ) (s : Sizes) : Type 0 where
   pub data_within : s.user_data ≤ 65280
   pub links_within : s.links ≤ 20001
   pub room : (24 + 4 * (s.code + s.user_data)) + 4 * s.links ≤ length bs
-  pub rest : refusal_2 bs ≡ or_next (links_refusal bs) (long_refusal (links_from bs + 4 * number_at 20 bs) bs)
+  pub rest : refusal_2 bs ≡ or_next (links_refusal bs) (long_refusal (links_offset bs + 4 * number_at 20 bs) bs)

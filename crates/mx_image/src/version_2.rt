@@ -5,7 +5,7 @@ ghost use Rattle.mx_image.specs.Bytes.{number_at, numbers};
 ghost use Rattle.mx_image.specs.Sizes.{SizesOf2};
 ghost use Rattle.mx_image.specs.Contents.{Contents, contents_of, plain, LinksFit, IsImage, IsFile};
 ghost use Rattle.mx_image.specs.Reads.{ReadsFile};
-ghost use Rattle.mx_image.specs.Files.{file_bytes, file_in, file_in_2, flag_of, is_outside, links_from, links_refusal, outside_refusal, refusal_1, refusal_2, image_in, image_bytes, file_refusal, Spells};
+ghost use Rattle.mx_image.specs.Files.{file_bytes, file_in, file_in_2, flag_of, is_outside, links_offset, links_refusal, outside_refusal, refusal_1, refusal_2, image_in, image_bytes, file_refusal, Spells};
 
 use crate::fields::{MAGIC, Sizes, check_head, check_long, check_short, field};
 use crate::version_1::{image_at, read_1};

@@ -12,7 +12,7 @@ use Rattle.mx_blocks.specs.Leaders.{BlocksFrom, AreBlocks, IsBlockOf, size}
 use Rattle.mx_squash.specs.Copies.{sites}
 use Rattle.mx_layout.specs.Layout.{plan_size, StandFrom, end_of, blocks_in, has_statement, link_of}
 use Rattle.mx_layout.specs.Overlong.{padded_size, padded_link}
-use Rattle.mx_layout.specs.Addresses.{starts_from, links_from}
+use Rattle.mx_layout.specs.Addresses.{starts_from, statement_starts}
 
 -- the link map of blocks of these sizes
 abbrev pub link_at : ℕ → List Block → List ℕ → ℕ → ℕ
@@ -65,12 +65,12 @@ end_of-sites at (b ∷ blocks) (p ∷ plans) (s ∷ starts) e f =
 
 pub length-links :
     (source : SourceValue) (i j at : ℕ) (blocks : List Block) (sizes : List ℕ) → BlocksFrom source i j blocks → length sizes ≡ length blocks
-    → length (links_from at blocks sizes) + i ≡ j + 1
+    → length (statement_starts at blocks sizes) + i ≡ j + 1
 length-links source i j at [] sizes h e = let same : i ≡ j = h in omega arith
 length-links source i j at (b ∷ blocks) [] h e = absurd (omega arith)
 length-links source i j at (b ∷ blocks) (n ∷ sizes) h e =
     let rest = length-links source (i + size b) j (at + n) blocks sizes h.2 (omega arith) in
-    let both = length-append (replicate (size b) at) (links_from (at + n) blocks sizes) in
+    let both = length-append (replicate (size b) at) (statement_starts (at + n) blocks sizes) in
     let own = length-replicate (size b) at in
     omega arith
 
@@ -112,14 +112,14 @@ link_in b at i t u rest next first f later = ⊎_elim here there (cases_Bool (ha
 -- the list of links holds the link map, u statements behind the first one
 pub links_hold :
     (source : SourceValue) (i j at : ℕ) (blocks : List Block) (sizes : List ℕ) (t u : ℕ) → BlocksFrom source i j blocks
-    → length sizes ≡ length blocks → t ≡ i + u → t ≤ j → slice_index (links_from at blocks sizes) u ≡ link_at at blocks sizes t
+    → length sizes ≡ length blocks → t ≡ i + u → t ≤ j → slice_index (statement_starts at blocks sizes) u ≡ link_at at blocks sizes t
 links_hold source i j at [] sizes t u h e f l =
     let same : i ≡ j = h in
     let none : u ≡ 0 = omega arith in
     ap (λ k. slice_index (at ∷ []) k) none
 links_hold source i j at (b ∷ blocks) [] t u h e f l = absurd (omega arith)
 links_hold source i j at (b ∷ blocks) (n ∷ sizes) t u h e f l =
-    link_in b at i t u (links_from (at + n) blocks sizes) (link_at (at + n) blocks sizes t) h.0 f
+    link_in b at i t u (statement_starts (at + n) blocks sizes) (link_at (at + n) blocks sizes t) h.0 f
     (λ past. links_hold source (i + size b) j (at + n) blocks sizes t (u - size b) h.2 (omega arith) (omega arith) l)
 
 pub all_blocks : (source : SourceValue) (i j : ℕ) (blocks : List Block) → BlocksFrom source i j blocks → All (IsBlockOf source) blocks

@@ -13,7 +13,7 @@ use Rattle.mx_layout.specs.declared.error.LinkError.TheVariants.{Displacement, M
 use Rattle.mx_layout.specs.Layout.{IsLayout, plan_size, end_of, blocks_in, link_of}
 use Rattle.mx_layout.specs.Kept.{AreKept}
 use Rattle.mx_layout.specs.Overlong.{padded_size, padded_link, overlong, IsReported, IsRefusal}
-use Rattle.mx_layout.specs.Addresses.{starts_from, links_from}
+use Rattle.mx_layout.specs.Addresses.{starts_from, statement_starts}
 use Rattle.mx_layout.proofs.Sited.{link_of-sites, padded_link-sizes, blocks_in-sites, length-starts, starts_stand, end_of-sites, length-links, links_hold}
 use Rattle.mx_layout.proofs.Taken.{AreTaken, kept_valid}
 use Rattle.mx_layout.proofs.Sizes.{AreValid, padded_sizes_short, end_short, covered}
@@ -84,19 +84,19 @@ padded_room source blocks h =
 
 pub links_count :
     (source : SourceValue) (blocks : List Block) (sizes : List ℕ) (at : ℕ) → AreBlocks source blocks → length sizes ≡ length blocks
-    → length (links_from at blocks sizes) ≡ length source.statements + 1
+    → length (statement_starts at blocks sizes) ≡ length source.statements + 1
 links_count source blocks sizes at h e = let count = length-links source 0 (length source.statements) at blocks sizes h e in omega arith
 
 pub links_same :
     (source : SourceValue) (blocks : List Block) (plans : List Plan) (at i : ℕ) → AreBlocks source blocks → length plans ≡ length blocks
-    → i ≤ length source.statements → slice_index (links_from at blocks (map plan_size plans)) i ≡ link_of at (sites_at at blocks plans) i
+    → i ≤ length source.statements → slice_index (statement_starts at blocks (map plan_size plans)) i ≡ link_of at (sites_at at blocks plans) i
 links_same source blocks plans at i h e l =
     links_hold source 0 (length source.statements) at blocks (map plan_size plans) i i h (length-map plans plan_size ∙ e) (omega arith) l
     ∙ sym (link_of-sites at blocks plans (starts_at at plans) i e (starts_count at blocks plans e))
 
 pub padded_same :
     (source : SourceValue) (blocks : List Block) (at i : ℕ) → AreBlocks source blocks → i ≤ length source.statements
-    → slice_index (links_from at blocks (map padded_size blocks)) i ≡ padded_link at blocks i
+    → slice_index (statement_starts at blocks (map padded_size blocks)) i ≡ padded_link at blocks i
 padded_same source blocks at i h l =
     links_hold source 0 (length source.statements) at blocks (map padded_size blocks) i i h (length-map blocks padded_size) (omega arith) l
     ∙ sym (padded_link-sizes at blocks i)

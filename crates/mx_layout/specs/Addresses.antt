@@ -8,6 +8,6 @@ starts_from at [] = []
 starts_from at (n ∷ sizes) = at ∷ starts_from (at + n) sizes
 
 -- for each statement the address at which its block begins, and at last the address after the last word
-abbrev pub links_from : ℕ → List Block → List ℕ → List ℕ
-links_from at (block ∷ blocks) (n ∷ sizes) = replicate (size block) at ++ links_from (at + n) blocks sizes
-links_from at _ _ = at ∷ []
+abbrev pub statement_starts : ℕ → List Block → List ℕ → List ℕ
+statement_starts at (block ∷ blocks) (n ∷ sizes) = replicate (size block) at ++ statement_starts (at + n) blocks sizes
+statement_starts at _ _ = at ∷ []

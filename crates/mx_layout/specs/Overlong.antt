@@ -64,7 +64,7 @@ IsReported found (Displacement line from to) = found ≡ Some (record { line = l
 IsReported found Memory = Unit {0}
 
 -- the source is laid out and has an overlong branch
-pub record IsTooLong (Proposes : Block → Plan → Type 0) (source : SourceValue) (place : Place) (found : Overlong) : Type 0 where
+pub record IsOverlong (Proposes : Block → Plan → Type 0) (source : SourceValue) (place : Place) (found : Overlong) : Type 0 where
   pub sites : List Site
   pub proposals : List Plan
   pub rejected : ℕ
@@ -74,5 +74,5 @@ pub record IsTooLong (Proposes : Block → Plan → Type 0) (source : SourceValu
 
 -- a source is refused by its first overlong branch alone; memory may be wanting
 abbrev pub IsRefusal : (Block → Plan → Type 0) → SourceValue → Place → LinkError → Type 0
-IsRefusal Proposes source place (Displacement line from to) = IsTooLong Proposes source place (record { line = line; from = from; to = to })
+IsRefusal Proposes source place (Displacement line from to) = IsOverlong Proposes source place (record { line = line; from = from; to = to })
 IsRefusal Proposes source place Memory = Unit {0}

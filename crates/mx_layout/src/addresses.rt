@@ -2,7 +2,7 @@
 ghost use Rattle.std.specs.Prelude.{◌≡◌, ◌≤◌, ◌+◌, ◌++◌, map, replicate, sum, IfOk, OnOk, length};
 ghost use Rattle.mx_layout.specs.Layout.{plan_size};
 ghost use Rattle.mx_layout.specs.Overlong.{padded_size};
-ghost use Rattle.mx_layout.specs.Addresses.{starts_from, links_from};
+ghost use Rattle.mx_layout.specs.Addresses.{starts_from, statement_starts};
 
 use mx_blocks::{Block, Plan};
 use mx_validate::padded;
@@ -60,7 +60,7 @@ pub(crate) fn links_of(
 ) -> Result<Vec<u32>, AllocError>
     requires sizes { length sizes.now ≡ length blocks.now }
     requires room { first + sum sizes.now ≤ 65535 }
-    ensures { IfOk result (λ links. links.items ≡ links_from first blocks.now sizes.now) }
+    ensures { IfOk result (λ links. links.items ≡ statement_starts first blocks.now sizes.now) }
 {
     let mut links = Vec::new(alloc);
     let mut at = first;

@@ -18,7 +18,7 @@ use Rattle.mx_link.specs.declared.linked.Origin.{Origin}
 use Rattle.mx_link.specs.declared.linked.Origin.TheVariants.{Own, Copy, Pad}
 use Rattle.mx_link.specs.Origins.{Filling, origins_at}
 use Rattle.mx_link.specs.Words.{displacement, linked_inst, linked_statement, inst_at, insts_from, code_of, value_word, words_of}
-use Rattle.mx_link.specs.Linked.{links_from}
+use Rattle.mx_link.specs.Linked.{map_from}
 use Rattle.mx_link.proofs.Places.{at_place}
 
 -- two maps agree at the places of a source
@@ -94,7 +94,7 @@ same_words source f g is h = same_map (value_word f) (value_word g) source.user_
 -- a list that holds a map
 pub links_listed :
     (link : ℕ → ℕ) (xs : List ℕ) (i n : ℕ) → length xs ≡ n → ((k : ℕ) → k < n → slice_index xs k ≡ link (i + k))
-    → xs ≡ links_from link i n
+    → xs ≡ map_from link i n
 links_listed link [] i zero e h = refl
 links_listed link [] i (suc n) e h = absurd (omega arith)
 links_listed link (x ∷ xs) i zero e h = absurd (omega arith)

@@ -14,9 +14,9 @@ use Rattle.mx_link.specs.Origins.{Filling, origins_of, copies_in}
 use Rattle.mx_link.specs.Words.{code_of, words_of, noops_in}
 
 -- a map at n indices from i on
-abbrev pub links_from : (ℕ → ℕ) → ℕ → ℕ → List ℕ
-links_from link i zero = []
-links_from link i (suc n) = link i ∷ links_from link (suc i) n
+abbrev pub map_from : (ℕ → ℕ) → ℕ → ℕ → List ℕ
+map_from link i zero = []
+map_from link i (suc n) = link i ∷ map_from link (suc i) n
 
 -- the link map of a layout of a source at a place
 abbrev pub link_map : Place → List Site → ℕ → ℕ
@@ -24,7 +24,7 @@ link_map place sites = link_of place.code sites
 
 -- the addresses of all statements, and the one after the last word
 abbrev pub links_of : SourceValue → Place → List Site → List ℕ
-links_of source place sites = links_from (link_map place sites) 0 (suc (length source.statements))
+links_of source place sites = map_from (link_map place sites) 0 (suc (length source.statements))
 
 abbrev pub linked_code : Filling → SourceValue → Place → List Site → List ℕ
 linked_code filling source place sites = code_of filling (link_map place sites) source.statements sites

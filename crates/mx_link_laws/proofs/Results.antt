@@ -12,7 +12,7 @@ use Rattle.mx_blocks.specs.declared.block.Block.{Block}
 use Rattle.mx_blocks.specs.declared.block.Plan.{Plan}
 use Rattle.mx_layout.specs.Layout.{link_of}
 use Rattle.mx_link.specs.declared.linked.Linked.{Linked}
-use Rattle.mx_link.specs.Linked.{links_from, link_map}
+use Rattle.mx_link.specs.Linked.{map_from, link_map}
 use Rattle.mx_link_laws.specs.Runs.{Linking, IsLinking}
 use Rattle.mx_link_laws.specs.Results.{ResultsAreLinked, linking_of, insts_in, IsWord}
 use Rattle.mx_link_laws.proofs.Imaged.{AllSpelled, piece, piece_spelled, pieces_spelled, spelled_at, code_there}
@@ -20,7 +20,7 @@ use Rattle.mx_link_laws.proofs.Layouts.{registers, facts, goes}
 use Rattle.mx_link_laws.proofs.Shown.{known_of}
 
 -- a list of links has the link of each index
-pub link_at : (link : ℕ → ℕ) (i n j d : ℕ) → j < n → slice_index_or (links_from link i n) j d ≡ link (i + j)
+pub link_at : (link : ℕ → ℕ) (i n j d : ℕ) → j < n → slice_index_or (map_from link i n) j d ≡ link (i + j)
 link_at link i zero j d less = absurd (omega (arith, less))
 link_at link i (suc n) zero d less = ap link (let e : i ≡ i + 0 = omega arith in e)
 link_at link i (suc n) (suc j) d less = link_at link (suc i) n j d (omega (arith, less)) ∙ ap link (let e : suc i + j ≡ i + suc j = omega arith in e)

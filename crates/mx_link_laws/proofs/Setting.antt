@@ -15,7 +15,7 @@ use Rattle.mx_validate.specs.Validity.{Valid}
 use Rattle.mx_squash.specs.declared.copying.Copied.{Copied}
 use Rattle.mx_squash.specs.Copies.{Site, site_of, is_target, copied}
 use Rattle.mx_link.proofs.Linkable.{Goes}
-use Rattle.mx_order.specs.Laws.{IsLaidOut}
+use Rattle.mx_order.specs.Laws.{IsPlanned}
 use Rattle.mx_order.specs.Parts.{Parts}
 use Rattle.mx_link_laws.specs.Runs.{Linking, IsLaid}
 
@@ -69,7 +69,7 @@ pub record PlannedBlock (input : Option (List ℕ)) : Type 0 where
   pub block : Block
   pub plan : Plan
   pub insts : List Inst
-  pub laid : IsLaidOut block plan insts input
+  pub laid : IsPlanned block plan insts input
   pub parts : Parts block plan
   pub some : 1 ≤ length (insts_of block)
 

@@ -30,7 +30,7 @@ use Rattle.mx_link.specs.Words.{linked_inst, linked_statement, inst_at, insts_fr
 use Rattle.mx_link.specs.Parts.{origin_at}
 use Rattle.mx_link.proofs.Bodies.{inst_is, is_last_of}
 use Rattle.mx_link.proofs.Fits.{inst_fits}
-use Rattle.mx_order.specs.Laws.{unplaced, IsLaidOut}
+use Rattle.mx_order.specs.Laws.{unplaced, IsPlanned}
 use Rattle.mx_order.specs.Parts.{AreBelow}
 use Rattle.mx_order.proofs.Split.{body_within, body_goes_on}
 use Rattle.mx_order.proofs.Words.{item_inst, words}
@@ -174,7 +174,7 @@ module _ (here : LinkedSite) where
       subst InstFits (sym (get_or_from_slice_get insts k (linked_inst link c at (there k low).statement) d (there k low).inst)) (inst_fits_there k low)
 
   -- the block with its plan and these instructions is laid out
-  pub laid : (bytes : List ℕ) → IsLaidOut s.block s.plan insts (given source.input bytes)
+  pub laid : (bytes : List ℕ) → IsPlanned s.block s.plan insts (given source.input bytes)
   laid bytes = record {
     valid = v;
     filled = all_unplaced link c at stated ∙ ap (map unplaced) (sym b.insts);

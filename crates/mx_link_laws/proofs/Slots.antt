@@ -24,7 +24,7 @@ use Rattle.mx_squash.specs.Copies.{Site, site_of, is_target, no_copies, copied, 
 use Rattle.mx_squash.specs.Copies.{item_inst as block_item}
 use Rattle.mx_link.specs.Origins.{own, over, copied_to, goal_of, origins_at}
 use Rattle.mx_link.specs.Words.{linked_statement, inst_at, insts_from}
-use Rattle.mx_order.specs.Laws.{IsLaidOut}
+use Rattle.mx_order.specs.Laws.{IsPlanned}
 use Rattle.mx_order.specs.Parts.{AreBelow, Parts}
 use Rattle.mx_order.proofs.Order.{SameViews, laid_out_views}
 use Rattle.mx_order.proofs.Split.{body_within, has_parts}
@@ -104,7 +104,7 @@ module _ (known : Known) where
   abbrev pub insts_at : (s : Site) → Stood s → List Inst
   insts_at s st = insts (linked_site s st)
 
-  abbrev pub laid_at : (s : Site) (st : Stood s) → IsLaidOut s.block s.plan (insts_at s st) p.input
+  abbrev pub laid_at : (s : Site) (st : Stood s) → IsPlanned s.block s.plan (insts_at s st) p.input
   laid_at s st = laid (linked_site s st) bytes
 
   abbrev pub planned_at : (s : Site) (st : Stood s) → Parts s.block s.plan → PlannedBlock p.input

@@ -8,7 +8,7 @@ use Rattle.mx_layout.specs.Layout.{plan_size}
 use Rattle.mx_link.specs.Origins.{from_nowhere}
 use Rattle.mx_link.specs.Linked.{link_map}
 use Rattle.mx_order.specs.Laws.{IsPrefix}
-use Rattle.mx_link_laws.specs.Runs.{Linking, IsLinking, linked_run, RunsClean, Matches}
+use Rattle.mx_link_laws.specs.Runs.{Linking, IsLinking, linked_run, RunsClean, Matches, block_ahead}
 
 -- what the source means, after so many statements
 abbrev pub meant : Linking → ℕ → Run
@@ -35,8 +35,8 @@ IsSafe l m = is_stuck (meant l m).state.mark ≡ false
 -- linked code is clean, and has sent no more than the meaning sends
 abbrev pub LinkedCodeIsClean : Type 0
 LinkedCodeIsClean =
-    (l : Linking) (j : ℕ) → IsLinking l → IsSafe l (j + 64)
-    → RunsClean l j × IsPrefix (linked_run l j).console (meant l (j + 64)).console
+    (l : Linking) (j : ℕ) → IsLinking l → IsSafe l (j + block_ahead)
+    → RunsClean l j × IsPrefix (linked_run l j).console (meant l (j + block_ahead)).console
 
 -- after j steps linked code shows what the meaning shows after n statements
 pub record Shows (l : Linking) (j n : ℕ) : Type 0 where
@@ -61,11 +61,11 @@ pub record HaltedBefore (l : Linking) (j : ℕ) : Type 0 where
 
 -- where linked code has halted, the meaning halts in as few statements, and shows the same
 abbrev pub LinkedCodeHaltsOnly : Type 0
-LinkedCodeHaltsOnly = (l : Linking) (j : ℕ) → IsLinking l → IsSafe l (j + 64) → (linked_run l j).halted ≡ true → HaltedBefore l j
+LinkedCodeHaltsOnly = (l : Linking) (j : ℕ) → IsLinking l → IsSafe l (j + block_ahead) → (linked_run l j).halted ≡ true → HaltedBefore l j
 
 -- what the meaning has sent, linked code sends within three words for each statement of that and of 64 more
 abbrev pub LinkedCodeSends : Type 0
-LinkedCodeSends = (l : Linking) (m : ℕ) → IsLinking l → IsSafe l (m + 64) → IsPrefix (meant l m).console (linked_run l (3 * (m + 64))).console
+LinkedCodeSends = (l : Linking) (m : ℕ) → IsLinking l → IsSafe l (m + block_ahead) → IsPrefix (meant l m).console (linked_run l (3 * (m + block_ahead))).console
 
 -- after m statements the meaning goes on at a leader
 pub record IsBlockStart (l : Linking) (m : ℕ) : Type 0 where
@@ -99,5 +99,5 @@ pub record ComesFrom (l : Linking) (d i : ℕ) : Type 0 where
 -- where its first fetch is the address of a leader, it has come to that block so
 abbrev pub FetchesStartBlocks : Type 0
 FetchesStartBlocks =
-    (l : Linking) (d i : ℕ) → IsLinking l → l.filling ≡ from_nowhere → IsSafe l (d + 64) → (linked_run l d).halted ≡ false
+    (l : Linking) (d i : ℕ) → IsLinking l → l.filling ≡ from_nowhere → IsSafe l (d + block_ahead) → (linked_run l d).halted ≡ false
     → is_leader l.source i ≡ true → i < length l.source.statements → (linked_run l d).first.address ≡ link_map l.place l.sites i → ComesFrom l d i

@@ -20,6 +20,10 @@ use Rattle.mx_link.specs.Origins.{Filling, from_target, from_nowhere}
 use Rattle.mx_link.specs.Words.{value_word}
 use Rattle.mx_link.specs.Linked.{link_map, linked_code, linked_data}
 
+-- a block has at most this many statements, and runs in an order of its own: what is said of the meaning looks so far ahead
+abbrev pub block_ahead : ℕ
+block_ahead = 64
+
 -- a source, laid out at a place that has room for it, with branches that reach their targets
 pub record IsLaid (source : SourceValue) (place : Place) (sites : List Site) : Type 0 where
   pub well_formed : IsSource source

@@ -12,7 +12,7 @@ use Rattle.mx_module.specs.declared.error.JoinFault.{JoinFault}
 use Rattle.mx_module.specs.declared.error.JoinFault.TheVariants.{NotDefined, DuplicateExport}
 use Rattle.mx_module.specs.declared.link.LinkKind.{LinkKind}
 use Rattle.mx_module.specs.declared.link.LinkKind.TheVariants.{Import, Export}
-use Rattle.mx_module.specs.Links.{Link, kind_of, has_two_dots, link_name, linked, with_link, links_from}
+use Rattle.mx_module.specs.Links.{Link, kind_of, has_two_dots, link_name, linked, with_link, link_lines_from}
 use Rattle.mx_module.specs.ExportTable.{Exports, export_line, add_export, with_export, exports_from}
 use Rattle.mx_module.specs.Modules.{ModuleValue, exports_of}
 use Rattle.mx_module.specs.LinkFaults.{Refusal, is_exported, is_label, first_exporter, is_before, link_fault, refused_or, refusal_or, fault_in_links, fault_in_modules}
@@ -86,13 +86,13 @@ plain_at number None ws later g = g
 plain_at number (Some Import) ws later g = (tt, g)
 plain_at number (Some Export) ws later g = (plain_if (begins_label ws) (statement_words ws) (linked number Export ws).name refl, g)
 
-links_plain : (number : ℕ) (lines : List (List ℕ)) → GoodLinks IsPlain (links_from number lines)
+links_plain : (number : ℕ) (lines : List (List ℕ)) → GoodLinks IsPlain (link_lines_from number lines)
 links_plain number [] = tt
 links_plain number (line ∷ lines) =
-    plain_at number (kind_of (statement_words (line_words line))) (line_words line) (links_from (number + 1) lines) (links_plain (number + 1) lines)
+    plain_at number (kind_of (statement_words (line_words line))) (line_words line) (link_lines_from (number + 1) lines) (links_plain (number + 1) lines)
 
-pub exports_plain : (lines : List (List ℕ)) → Each IsPlain (exports_from [] (links_from 1 lines))
-exports_plain lines = all_good IsPlain (links_from 1 lines) [] (none_good IsPlain) (links_plain 1 lines)
+pub exports_plain : (lines : List (List ℕ)) → Each IsPlain (exports_from [] (link_lines_from 1 lines))
+exports_plain lines = all_good IsPlain (link_lines_from 1 lines) [] (none_good IsPlain) (links_plain 1 lines)
 
 -- a name that a module without faults exports is exported by none before it
 abbrev pub IsFresh : List ModuleValue → List ℕ → Type 0

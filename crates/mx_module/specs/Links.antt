@@ -58,9 +58,9 @@ abbrev pub link_here : ℕ → List Word → List Link
 link_here number words = with_link number (kind_of (statement_words words)) words []
 
 -- the import and export lines from a line number on
-abbrev pub links_from : ℕ → List (List ℕ) → List Link
-links_from number [] = []
-links_from number (line ∷ lines) = with_link number (kind_of (statement_words (line_words line))) (line_words line) (links_from (number + 1) lines)
+abbrev pub link_lines_from : ℕ → List (List ℕ) → List Link
+link_lines_from number [] = []
+link_lines_from number (line ∷ lines) = with_link number (kind_of (statement_words (line_words line))) (line_words line) (link_lines_from (number + 1) lines)
 
 -- a line that has no label and imports or exports
 abbrev pub is_bare_link : List Word → Bool

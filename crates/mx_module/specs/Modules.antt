@@ -5,7 +5,7 @@ use Rattle.mx_asm.specs.declared.Position.{Position}
 use Rattle.mx_asm.specs.declared.Section.TheVariants as section
 use Rattle.mx_asm.specs.Instructions.{Labels}
 use Rattle.mx_asm.specs.Positions.{labels_from, position_at_end, start}
-use Rattle.mx_module.specs.Links.{Link, links_from, plain_line}
+use Rattle.mx_module.specs.Links.{Link, link_lines_from, plain_line}
 use Rattle.mx_module.specs.ExportTable.{Exports, exports_from}
 
 -- a module: where it begins, its lines as the assembler reads them, its imports and exports, and its labels
@@ -21,7 +21,7 @@ plain_lines text = map plain_line (lines_of text)
 
 -- the module of a text that begins here
 abbrev pub module_at : Position → List ℕ → ModuleValue
-module_at p text = record { start = p; lines = plain_lines text; links = links_from 1 (lines_of text); labels = labels_from p [] (plain_lines text) }
+module_at p text = record { start = p; lines = plain_lines text; links = link_lines_from 1 (lines_of text); labels = labels_from p [] (plain_lines text) }
 
 -- where the next text begins: behind the statements and data words, in the code section
 abbrev pub in_code : Position → Position

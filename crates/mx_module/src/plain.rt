@@ -4,7 +4,7 @@ ghost use Rattle.mx_asm.specs.Positions.{line_words};
 ghost use Rattle.mx_asm.specs.Shapes.{word};
 ghost use Rattle.mx_asm.specs.Words.{texts};
 ghost use Rattle.mx_module.specs.Links;
-ghost use Rattle.mx_module.specs.Links.{links_from, link_here};
+ghost use Rattle.mx_module.specs.Links.{link_lines_from, link_here};
 ghost use Rattle.mx_module.specs.ModuleView.{link_value};
 
 use crate::link::{Link, is_bare_link, kind_of, linked};
@@ -40,7 +40,7 @@ pub fn parts_of<'a>(
     requires few { length lines.now ≤ 4194304 }
     requires blank { blanks.now ≡ replicate 256 32 }
     ensures lines { IfOk result (λ p. texts p.lines.items ≡ map Links.plain_line (texts lines.now)) }
-    ensures links { IfOk result (λ p. map link_value p.links.items ≡ links_from 1 (texts lines.now)) }
+    ensures links { IfOk result (λ p. map link_value p.links.items ≡ link_lines_from 1 (texts lines.now)) }
 {
     let mut plain = Vec::new(alloc);
     let mut links = Vec::new(alloc);

@@ -22,7 +22,7 @@ use Rattle.mx_blocks.specs.Items.{StandsAt, ops}
 use Rattle.mx_validate.specs.Padded.{insts_of, items_of}
 use Rattle.mx_validate.proofs.Listed.{once_below}
 use Rattle.mx_order.specs.Running.{Ran, run_one, run_source, run_items}
-use Rattle.mx_order.specs.Laws.{unplaced, IsLaidOut, IsPrefix, ValidOrderKeepsEffect, ValidOrderStaysClean}
+use Rattle.mx_order.specs.Laws.{unplaced, IsPlanned, IsPrefix, ValidOrderKeepsEffect, ValidOrderStaysClean}
 use Rattle.mx_order.proofs.Reorder.{FreeOf, FreeInversions, from_to, run, run_in_order}
 use Rattle.mx_order.proofs.Swap.{MaySwap, swap}
 
@@ -103,7 +103,7 @@ not_last insts k goes l =
     let within : k < length insts = omega arith in
     sym (ap (λ o. is_some_and o is_last) (slice_get-get_or insts k Halt within)) ∙ goes k l
 
-module _ (block : Block) (plan : Plan) (insts : List Inst) (input : Option (List ℕ)) (laid : IsLaidOut block plan insts input) where
+module _ (block : Block) (plan : Plan) (insts : List Inst) (input : Option (List ℕ)) (laid : IsPlanned block plan insts input) where
   views_at : (k : ℕ) → SameViews (inst_at (insts_of block) k) (inst_at insts k)
   views_at k = laid_out_views (insts_of block) insts k (sym laid.filled)
 

@@ -26,7 +26,7 @@ use Rattle.mx_validate.specs.Validity.{EachOnce, end_count, Valid}
 use Rattle.mx_validate.proofs.Listed.{ops_append, times_append, once_below}
 use Rattle.mx_validate.proofs.PaddedLists.{padded_length}
 use Rattle.mx_order.specs.Running.{Ran, run_one, run_source, run_items}
-use Rattle.mx_order.specs.Laws.{IsLaidOut}
+use Rattle.mx_order.specs.Laws.{IsPlanned}
 use Rattle.mx_order.specs.Parts.{AreBelow, IsTransfer, EndsWith, Parts, ValidPlanHasParts, TerminatorDecidesAlike}
 use Rattle.mx_order.proofs.Order.{not_last, laid_out_views, same_length, run_items_append, keeps_effect}
 
@@ -236,7 +236,7 @@ behind Jumps body back f h = record { rest = h.first ∷ h.second ∷ []; is = h
 past_goes_on : (insts : List Inst) (k : ℕ) → length insts ≤ k → is_transfer (inst_at insts k) ≡ false
 past_goes_on insts k h = ap is_transfer (get_or_past insts k Halt h)
 
-module _ (block : Block) (plan : Plan) (insts : List Inst) (input : Option (List ℕ)) (laid : IsLaidOut block plan insts input)
+module _ (block : Block) (plan : Plan) (insts : List Inst) (input : Option (List ℕ)) (laid : IsPlanned block plan insts input)
     (parts : Parts block plan) where
   abbrev pub body : ℕ
   body = body_count block

@@ -21,7 +21,7 @@ use Rattle.mx_blocks.specs.Items.{StandsAt}
 use Rattle.mx_validate.specs.Padded.{insts_of, items_of}
 use Rattle.mx_validate.specs.Validity.{KeepsApart, EndsWithoutLoad}
 use Rattle.mx_order.specs.Running.{Ran, run_one, run_source, run_items}
-use Rattle.mx_order.specs.Laws.{IsLaidOut}
+use Rattle.mx_order.specs.Laws.{IsPlanned}
 use Rattle.mx_order.specs.Parts.{AreBelow}
 use Rattle.mx_order.proofs.Swap.{ran_same}
 use Rattle.mx_order.proofs.Order.{SameViews, laid_out_views}
@@ -141,7 +141,7 @@ last_from insts (x ∷ items) h = at_last x items 0 h
     at_last Nop [] loaded h = refl
     at_last x (y ∷ items) loaded h = at_last y items (loads_to (item_inst insts x)) (λ q k s e. h (suc q) k s (ap (λ n. suc n) e))
 
-module _ (block : Block) (plan : Plan) (insts : List Inst) (input : Option (List ℕ)) (laid : IsLaidOut block plan insts input) where
+module _ (block : Block) (plan : Plan) (insts : List Inst) (input : Option (List ℕ)) (laid : IsPlanned block plan insts input) where
   same : (k : ℕ) → SameViews (inst_at (insts_of block) k) (inst_at insts k)
   same k = laid_out_views (insts_of block) insts k (sym laid.filled)
 

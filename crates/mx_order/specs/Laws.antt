@@ -20,7 +20,7 @@ unplaced i = i
 
 -- a valid plan of a block, and the block's instructions as they are laid out, with these fields filled in;
 -- the program has input only where the block keeps loads in order
-pub record IsLaidOut (block : Block) (plan : Plan) (insts : List Inst) (input : Option (List ℕ)) : Type 0 where
+pub record IsPlanned (block : Block) (plan : Plan) (insts : List Inst) (input : Option (List ℕ)) : Type 0 where
   pub valid : Valid block plan
   pub filled : map unplaced insts ≡ map unplaced (insts_of block)
   pub fits : All InstFits insts
@@ -30,7 +30,7 @@ pub record IsLaidOut (block : Block) (plan : Plan) (insts : List Inst) (input : 
 abbrev pub ValidOrderKeepsEffect : Type 0
 ValidOrderKeepsEffect =
     (block : Block) (plan : Plan) (insts : List Inst) (p : Place) (input : Option (List ℕ)) (at : ℕ) (s : Ran)
-    → IsLaidOut block plan insts input
+    → IsPlanned block plan insts input
     → run_items p input at insts (items_of plan) s ≡ run_source p input at insts s
 
 pub record IsPrefix (xs ys : List ℕ) : Type 0 where
@@ -42,7 +42,7 @@ pub record IsPrefix (xs ys : List ℕ) : Type 0 where
 abbrev pub ValidOrderStaysClean : Type 0
 ValidOrderStaysClean =
     (block : Block) (plan : Plan) (insts : List Inst) (p : Place) (input : Option (List ℕ)) (at : ℕ) (s : Ran) (n : ℕ)
-    → IsLaidOut block plan insts input
+    → IsPlanned block plan insts input
     → (run_source p input at insts s).clean ≡ true
     → let ran = run_items p input at insts (take n (items_of plan)) s in
     (ran.clean ≡ true) × IsPrefix ran.bytes (run_source p input at insts s).bytes

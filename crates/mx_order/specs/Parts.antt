@@ -13,7 +13,7 @@ use Rattle.mx_blocks.specs.declared.block.End.TheVariants.{Falls, Halts}
 use Rattle.mx_validate.specs.Padded.{items_of, body_count}
 use Rattle.mx_validate.specs.Validity.{Valid}
 use Rattle.mx_order.specs.Running.{Ran, run_source, run_items}
-use Rattle.mx_order.specs.Laws.{IsLaidOut}
+use Rattle.mx_order.specs.Laws.{IsPlanned}
 
 -- instructions with numbers below n, and no-ops
 abbrev pub AreBelow : ℕ → List Item → Type 0
@@ -52,6 +52,6 @@ ValidPlanHasParts = (block : Block) (plan : Plan) → Valid block plan → Parts
 abbrev pub TerminatorDecidesAlike : Type 0
 TerminatorDecidesAlike =
     (block : Block) (plan : Plan) (insts : List Inst) (p : Place) (input : Option (List ℕ)) (at : ℕ) (s : Ran) (parts : Parts block plan)
-    → IsLaidOut block plan insts input
+    → IsPlanned block plan insts input
     → let last = inst_at insts (body_count block) in
     decides last at (run_items p input at insts parts.front s).core.regs ≡ decides last at (run_source p input at (take (body_count block) insts) s).core.regs

@@ -9,7 +9,7 @@ use Rattle.mx_squash.specs.Copies.{Site}
 use Rattle.mx_layout.specs.Kept.{AreKept}
 use Rattle.mx_layout.specs.declared.LinkError.{LinkError}
 use Rattle.mx_layout.specs.declared.LinkError.TheVariants.{Displacement, Memory}
-use Rattle.mx_layout.specs.Overlong.{Overlong, IsTooLong, IsRefusal}
+use Rattle.mx_layout.specs.Overlong.{Overlong, IsOverlong, IsRefusal}
 use Rattle.mx_link.specs.declared.linked.Linked.{Linked}
 use Rattle.mx_link.specs.Origins.{Filling}
 use Rattle.mx_link.specs.Linked.{IsLinked}
@@ -41,7 +41,7 @@ module _ (P Q : Block → Plan → Type 0) (follows : (block : Block) (plan : Pl
     copies = k.copies;
   }
 
-  too_long_follows : (source : SourceValue) (place : Place) (found : Overlong) → IsTooLong P source place found → IsTooLong Q source place found
+  too_long_follows : (source : SourceValue) (place : Place) (found : Overlong) → IsOverlong P source place found → IsOverlong Q source place found
   too_long_follows source place found t = record {
     sites = t.sites;
     proposals = t.proposals;

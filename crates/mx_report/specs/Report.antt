@@ -8,8 +8,8 @@ use Rattle.mx_turn.specs.Counted.{Counted}
 use Rattle.mx_report.specs.declared.reports.Dump.{Dump}
 
 -- the words that are the no-op
-abbrev pub noops : List ℕ → ℕ
-noops code = length (filter (λ w. w == 0x40000000) code)
+abbrev pub noop_count : List ℕ → ℕ
+noop_count code = length (filter (λ w. w == 0x40000000) code)
 
 abbrev pub counts_text : Counted → List ℕ
 counts_text c =
@@ -17,7 +17,7 @@ counts_text c =
     ++ count_line (codes "squashes") c.squashes) ++ count_line (codes "interrupts") c.interrupts
 
 abbrev pub words_text : List ℕ → List ℕ
-words_text code = count_line (codes "words") (length code) ++ count_line (codes "noops") (noops code)
+words_text code = count_line (codes "words") (length code) ++ count_line (codes "noops") (noop_count code)
 
 abbrev pub registers_text : Core → List ℕ
 registers_text core = (line (codes "registers") ++ lines_from (λ n. register_line n (word_text (reg core.regs n))) 31 1) ++ named_line (codes "md") (word_text core.md)

@@ -4,7 +4,7 @@ ghost use Rattle.std.specs.Fmt.{decimal};
 ghost use Rattle.mx_isa.specs.Words.{reg};
 ghost use Rattle.mx_text.specs.Text.{word_text, line, named_line, count_line, register_line, lines_from, word_line, console_lines};
 ghost use Rattle.mx_turn.specs.Program.{Program, state_after};
-ghost use Rattle.mx_report.specs.Report.{noops, counts_text, words_text, registers_text, dump_text, last_text, head_text, report_text};
+ghost use Rattle.mx_report.specs.Report.{noop_count, counts_text, words_text, registers_text, dump_text, last_text, head_text, report_text};
 
 use crate::Driven;
 use mx_code::Image;
@@ -24,8 +24,8 @@ pub struct Dump {
 }
 
 // How many of the words are the no-op.
-fn noops(code: &[u32]) -> usize
-    ensures { result ≡ noops code.now }
+fn noop_count(code: &[u32]) -> usize
+    ensures { result ≡ noop_count code.now }
 {
     code.iter().filter(|word| **word == 0x4000_0000).count()
 }
@@ -46,7 +46,7 @@ fn push_words(alloc: Global, text: &mut Vec<u8>, code: &[u32]) -> Result<(), All
     ensures { OnOk result (text.new.items ≡ text.old.items ++ words_text code.now) }
 {
     push_count(alloc, text, "words", code.len() as u64)?;
-    push_count(alloc, text, "noops", noops(code) as u64)
+    push_count(alloc, text, "noops", noop_count(code) as u64)
 }
 
 // Appends the line of a register.

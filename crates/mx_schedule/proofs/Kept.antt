@@ -7,7 +7,7 @@ use Rattle.mx_blocks.specs.declared.block.Plan.{Plan}
 use Rattle.mx_squash.specs.Copies.{Site}
 use Rattle.mx_layout.specs.Layout.{IsLayout}
 use Rattle.mx_layout.specs.Kept.{AreKept}
-use Rattle.mx_layout.specs.Overlong.{Overlong, IsTooLong}
+use Rattle.mx_layout.specs.Overlong.{Overlong, IsOverlong}
 use Rattle.mx_link.specs.declared.linked.Linked.{Linked}
 use Rattle.mx_link.specs.Origins.{Filling}
 use Rattle.mx_link.specs.Linked.{IsLinked}
@@ -46,7 +46,7 @@ module _ (filling : Filling) (source : SourceValue) (place : Place) (l : Linked)
   none_rejected = (kept_greedy l.rejected k.sites l.proposals.items k.kept).none
 
 -- the same, of the layout in which an overlong branch was found
-module _ (source : SourceValue) (place : Place) (found : Overlong) (t : IsTooLong IsGreedy source place found) where
+module _ (source : SourceValue) (place : Place) (found : Overlong) (t : IsOverlong IsGreedy source place found) where
   pub overlong_layout : IsLayout IsGreedy source place t.sites
   overlong_layout = record { blocks = t.layout.blocks; stand = t.layout.stand; plans = (kept_greedy t.rejected t.sites t.proposals t.kept).plans }
 
@@ -56,5 +56,5 @@ module _ (source : SourceValue) (place : Place) (found : Overlong) (t : IsTooLon
 pub linked_sites : (layout_of : SourceValue → List Site) → IsScheduler layout_of → (filling : Filling) (source : SourceValue) (l : Linked) → (k : IsLinked IsGreedy filling source board l) → layout_of source ≡ k.sites
 linked_sites layout_of is filling source l k = is source k.sites (linked_layout filling source board l k)
 
-pub overlong_sites : (layout_of : SourceValue → List Site) → IsScheduler layout_of → (source : SourceValue) (found : Overlong) → (t : IsTooLong IsGreedy source board found) → layout_of source ≡ t.sites
+pub overlong_sites : (layout_of : SourceValue → List Site) → IsScheduler layout_of → (source : SourceValue) (found : Overlong) → (t : IsOverlong IsGreedy source board found) → layout_of source ≡ t.sites
 overlong_sites layout_of is source found t = is source t.sites (overlong_layout source board found t)

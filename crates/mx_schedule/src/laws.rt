@@ -4,7 +4,7 @@ ghost use Rattle.mx_isa.specs.declared.Place.{Place};
 ghost use Rattle.mx_source.specs.SourceValue.{SourceValue, IsSource};
 ghost use Rattle.mx_squash.specs.Copies.{Site};
 ghost use Rattle.mx_layout.specs.Layout.{IsLayout};
-ghost use Rattle.mx_layout.specs.Overlong.{Overlong, IsTooLong};
+ghost use Rattle.mx_layout.specs.Overlong.{Overlong, IsOverlong};
 ghost use Rattle.mx_link.specs.declared.linked.Linked.{Linked};
 ghost use Rattle.mx_link.specs.Origins.{Filling};
 ghost use Rattle.mx_link.specs.Linked.{IsLinked};
@@ -18,7 +18,7 @@ pub fn greedy_is_kept()
     ensures linked { (filling : Filling) (source : SourceValue) (place : Place) (l : Linked)
         → (k : IsLinked IsGreedy filling source place l) → IsLayout IsGreedy source place k.sites × (l.rejected ≡ 0) }
     ensures too_long { (source : SourceValue) (place : Place) (found : Overlong)
-        → (t : IsTooLong IsGreedy source place found) → IsLayout IsGreedy source place t.sites × (t.rejected ≡ 0) }
+        → (t : IsOverlong IsGreedy source place found) → IsLayout IsGreedy source place t.sites × (t.rejected ≡ 0) }
 {}
 
 /// Where a function gives the layout of each source by greedy plans, a source that is linked by greedy plans at the board's
@@ -27,7 +27,7 @@ pub fn scheduler_links()
     ensures linked { (layout_of : SourceValue → List Site) → IsScheduler layout_of → (filling : Filling) (source : SourceValue) (l : Linked)
         → (k : IsLinked IsGreedy filling source board l) → layout_of source ≡ k.sites }
     ensures too_long { (layout_of : SourceValue → List Site) → IsScheduler layout_of → (source : SourceValue) (found : Overlong)
-        → (t : IsTooLong IsGreedy source board found) → layout_of source ≡ t.sites }
+        → (t : IsOverlong IsGreedy source board found) → layout_of source ≡ t.sites }
 {}
 
 /// Each source has exactly one layout by greedy plans at a place.

@@ -15,13 +15,13 @@ use Rattle.mx_turn.specs.Run.{Run, run_of, bound}
 use Rattle.mx_meaning.specs.Boards.{board}
 use Rattle.mx_schedule.specs.Schedule.{IsScheduler}
 use Rattle.mx_schedule.proofs.Kept.{linked_sites}
-use Rattle.mx_soak.specs.Soak.{multiples, steps_of, run_text, layout_text, soak_text}
+use Rattle.mx_soak.specs.Soak.{multiples, steps_of, soaked_text, layout_text, soak_text}
 
 -- the text of a run of these words
 abbrev words_run_text : ℕ → List ℕ → List ℕ → List ℕ → ℕ → List ℕ
 words_run_text steps code data_words requests budget =
     let r : Run = run_of (program_of shipped code data_words None) requests budget in
-    run_text steps r.counts r.console code
+    soaked_text steps r.counts r.console code
 
 -- the text of a layout of which the steps are given
 abbrev sites_text : SourceValue → ℕ → List Site → List ℕ
@@ -34,13 +34,13 @@ pub record WasRun (code data_words requests : List ℕ) (budget : ℕ) (counted 
   pub console : sent ≡ (run_of (program_of shipped code data_words None) requests budget).console
 
 run-told : (steps : ℕ) (code data_words requests : List ℕ) (budget : ℕ) (counts : Counted) (console : List ℕ) → WasRun code data_words requests budget counts console
-    → run_text steps counts console code ≡ words_run_text steps code data_words requests budget
-run-told steps code data_words requests budget counts console w = λ i. run_text steps (w.counts i) (w.console i) code
+    → soaked_text steps counts console code ≡ words_run_text steps code data_words requests budget
+run-told steps code data_words requests budget counts console w = λ i. soaked_text steps (w.counts i) (w.console i) code
 
 pub layout-told : (layout_of : SourceValue → List Site) → IsScheduler layout_of → (source : SourceValue) (l : Linked) → IsLinked IsGreedy from_target source board l
     → (steps budget : ℕ) (requests : List ℕ) (counts : Counted) (console : List ℕ) → steps ≡ steps_of source → requests ≡ multiples 97 1000 → budget ≡ bound steps 1000
     → WasRun l.image.code.items l.image.user_data.items requests budget counts console
-    → run_text steps counts console l.image.code.items ≡ layout_text source (layout_of source)
+    → soaked_text steps counts console l.image.code.items ≡ layout_text source (layout_of source)
 layout-told layout_of is source l k steps budget requests counts console counted asked limit w =
     let sites = linked_sites layout_of is from_target source l k in
     run-told steps l.image.code.items l.image.user_data.items requests budget counts console w

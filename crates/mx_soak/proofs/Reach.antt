@@ -24,7 +24,7 @@ use Rattle.mx_squash.specs.Copies.{Site, reaches}
 use Rattle.mx_layout.specs.declared.error.LinkError.{LinkError}
 use Rattle.mx_layout.specs.declared.error.LinkError.TheVariants.{Displacement}
 use Rattle.mx_layout.specs.Layout.{has_statement, blocks_in}
-use Rattle.mx_layout.specs.Overlong.{Overlong, IsTooLong, IsRefusal, padded_size, padded_link, branch_target, overlong_to, overlong_from, overlong, or_else}
+use Rattle.mx_layout.specs.Overlong.{Overlong, IsOverlong, IsRefusal, padded_size, padded_link, branch_target, overlong_to, overlong_from, overlong, or_else}
 
 -- Blocks are short.
 
@@ -212,7 +212,7 @@ near_fits source place blocks near are =
 pub never_refused : (Proposes : Block → Plan → Type 0) (source : SourceValue) (place : Place) (e : LinkError) (line from to : ℕ) → AllNear source.statements → e ≡ Displacement line from to → IsRefusal Proposes source place e → ⊥
 never_refused Proposes source place e line from to near is refused =
     let found : Overlong = record { line = line; from = from; to = to } in
-    let t : IsTooLong Proposes source place found = subst (λ (x : LinkError). IsRefusal Proposes source place x) is refused in
+    let t : IsOverlong Proposes source place found = subst (λ (x : LinkError). IsRefusal Proposes source place x) is refused in
     let sites : List Site = t.sites in
     let none : None ≡ Some found = sym (near_fits source place (blocks_in sites) near t.layout.blocks) ∙ t.is in
     cc

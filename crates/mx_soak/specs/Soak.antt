@@ -35,15 +35,15 @@ layout_run source sites steps =
     run_of (program_of shipped (linked_code from_target source board sites) (linked_data source board sites) None) (multiples 97 1000) (bound steps 1000)
 
 -- the steps of the meaning, the counts of a run, those of its code words, and the number of bytes that it sent
-unfoldable pub run_text : ℕ → Counted → List ℕ → List ℕ → List ℕ
-run_text steps counts console code =
+unfoldable pub soaked_text : ℕ → Counted → List ℕ → List ℕ → List ℕ
+soaked_text steps counts console code =
     ((count_line (codes "steps") steps ++ counts_text counts) ++ words_text code) ++ count_line (codes "bytes") (length console)
 
 -- the text of a source with this layout
 abbrev pub layout_text : SourceValue → List Site → List ℕ
 layout_text source sites =
     let run = layout_run source sites (steps_of source) in
-    run_text (steps_of source) run.counts run.console (linked_code from_target source board sites)
+    soaked_text (steps_of source) run.counts run.console (linked_code from_target source board sites)
 
 -- the text of the generated source, whose layout a function gives
 unfoldable pub soak_text : (SourceValue → List Site) → ℕ → ℕ → List ℕ

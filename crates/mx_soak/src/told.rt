@@ -3,7 +3,7 @@ ghost use Rattle.std.specs.Prelude.{◌≡◌, ◌++◌, codes, OnOk, IfOk};
 ghost use Rattle.mx_text.specs.Text.{count_line};
 ghost use Rattle.mx_link.specs.Words.{noops_in};
 ghost use Rattle.mx_report.specs.Report.{counts_text, words_text};
-ghost use Rattle.mx_soak.specs.Soak.{run_text};
+ghost use Rattle.mx_soak.specs.Soak.{soaked_text};
 
 use mx_io::Memory;
 use mx_link::Linked;
@@ -33,7 +33,7 @@ fn push_words(alloc: Global, text: &mut Vec<u8>, linked: &Linked) -> Result<(), 
 }
 
 // Appends all.
-#[tactic(auto, unfolding(crate::specs::Soak::run_text))]
+#[tactic(auto, unfolding(crate::specs::Soak::soaked_text))]
 fn push_all(
     alloc: Global,
     text: &mut Vec<u8>,
@@ -42,7 +42,7 @@ fn push_all(
     linked: &Linked,
 ) -> Result<(), AllocError>
     requires { linked.now.noops ≡ noops_in linked.now.image.code.items }
-    ensures { OnOk result (text.new.items ≡ text.old.items ++ run_text steps driven.now.counts driven.now.console.items linked.now.image.code.items) }
+    ensures { OnOk result (text.new.items ≡ text.old.items ++ soaked_text steps driven.now.counts driven.now.console.items linked.now.image.code.items) }
 {
     push_count(alloc, text, "steps", u64::from(steps))?;
     push_counts(alloc, text, &driven.counts)?;
@@ -58,7 +58,7 @@ pub(crate) fn text_of(
     linked: &Linked,
 ) -> Result<Vec<u8>, Memory>
     requires { linked.now.noops ≡ noops_in linked.now.image.code.items }
-    ensures { IfOk result (λ text. text.items ≡ run_text steps driven.now.counts driven.now.console.items linked.now.image.code.items) }
+    ensures { IfOk result (λ text. text.items ≡ soaked_text steps driven.now.counts driven.now.console.items linked.now.image.code.items) }
 {
     let mut text = Vec::new(alloc);
     match push_all(alloc, &mut text, steps, driven, linked) {

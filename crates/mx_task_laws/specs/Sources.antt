@@ -13,7 +13,7 @@ use Rattle.mx_link.specs.Origins.{from_target}
 use Rattle.mx_link.specs.Parts.{HaveRegisters}
 use Rattle.mx_asm.specs.Texts.{source_of, text_fault}
 use Rattle.mx_turn.specs.Program.{Program}
-use Rattle.mx_link_laws.specs.Runs.{Linking}
+use Rattle.mx_link_laws.specs.Runs.{Linking, block_ahead}
 use Rattle.mx_tasks.specs.Sharing.{shared}
 use Rattle.mx_tasks.specs.Places.{lower, upper}
 use Rattle.mx_tasks.specs.declared.sharing.Shared.{Shared}
@@ -46,8 +46,8 @@ SharedSourcesMean Proposes =
     → IsSharing first
     → IsSharing second
     → length first.user_data ≤ 32512
-    → IsUnstuckAt lower first (budget + 64)
-    → IsUnstuckAt upper second (budget + 64)
+    → IsUnstuckAt lower first (budget + block_ahead)
+    → IsUnstuckAt upper second (budget + block_ahead)
     → MeanTheirSources (program_in s) (linked_at lower first is.at_lower.sites) (linked_at upper second is.at_upper.sites) requests budget
 
 -- a text that may share the machine: it has no fault, few statements and no input, and laid out by greedy plans each branch reaches its target
@@ -67,8 +67,8 @@ SharedTextsMean =
     (first second : List ℕ) (lower_sites upper_sites : List Site) (requests : List ℕ) (budget : ℕ)
     → IsSharingText lower first lower_sites
     → IsSharingText upper second upper_sites
-    → IsUnstuckAt lower (source_of lower.user_data first) (budget + 64)
-    → IsUnstuckAt upper (source_of upper.user_data second) (budget + 64)
+    → IsUnstuckAt lower (source_of lower.user_data first) (budget + block_ahead)
+    → IsUnstuckAt upper (source_of upper.user_data second) (budget + block_ahead)
     → let one = linked_text lower first lower_sites in
     let two = linked_text upper second upper_sites in
     MeanTheirSources (shared_program one two) one two requests budget

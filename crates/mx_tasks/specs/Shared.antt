@@ -8,7 +8,7 @@ use Rattle.mx_validate.specs.Validity.{Valid}
 use Rattle.mx_squash.specs.Copies.{Site}
 use Rattle.mx_layout.specs.Layout.{IsLayout, blocks_in}
 use Rattle.mx_layout.specs.Kept.{AreKept}
-use Rattle.mx_layout.specs.Overlong.{Overlong, overlong, IsTooLong}
+use Rattle.mx_layout.specs.Overlong.{Overlong, overlong, IsOverlong}
 use Rattle.mx_link.specs.Origins.{from_target}
 use Rattle.mx_link.specs.Linked.{links_of, linked_code, linked_data}
 use Rattle.mx_tasks.specs.Images.{shared_code, shared_data}
@@ -37,12 +37,12 @@ pub record IsShared (Proposes : Block → Plan → Type 0) (first second : Sourc
 -- two sources are refused by the first overlong branch of the first, or, where that has none, of the second; memory may be wanting
 abbrev pub IsShareRefusal : (Block → Plan → Type 0) → SourceValue → SourceValue → ShareError → Type 0
 IsShareRefusal Proposes first second (Displacement program line from to) =
-    ((program ≡ 1) × IsTooLong Proposes first lower (record { line = line; from = from; to = to }))
+    ((program ≡ 1) × IsOverlong Proposes first lower (record { line = line; from = from; to = to }))
     ⊎ ((program ≡ 2) × ((proposals : List Plan) × IsPlaced Proposes first lower proposals)
-    × IsTooLong Proposes second upper (record { line = line; from = from; to = to }))
+    × IsOverlong Proposes second upper (record { line = line; from = from; to = to }))
 IsShareRefusal Proposes first second Memory = Unit {0}
 
 -- But none of their branches is overlong: 10,000 statements are 30,000 words at most, and a branch reaches further.
 abbrev pub ShortSourcesReach : (Block → Plan → Type 0) → Type 0
 ShortSourcesReach Proposes =
-    (source : SourceValue) (place : Place) (found : Overlong) → length source.statements ≤ 10000 → ¬ IsTooLong Proposes source place found
+    (source : SourceValue) (place : Place) (found : Overlong) → length source.statements ≤ 10000 → ¬ IsOverlong Proposes source place found

@@ -1,6 +1,6 @@
 use Rattle.std.proofs.Common.{◌≡◌, ℕ, IfOk, IfErr, Some, None, refl, subst, sym, ap, ◌∙◌}
 use Rattle.std.specs.Prelude.{is_some}
-use Rattle.mx_layout.specs.Overlong.{Overlong, IsTooLong}
+use Rattle.mx_layout.specs.Overlong.{Overlong, IsOverlong}
 use Rattle.mx_link.specs.Origins.{from_nowhere}
 use Rattle.mx_link.specs.Linked.{IsLinked, link_map}
 use Rattle.mx_reorg.specs.Greedy.{IsGreedy}
@@ -21,7 +21,7 @@ returns-in-Err-clause-performed g c = λ layout_of is.
     let source = c.args.source.now in
     let named : statement_named source c.args.label.now ≡ Some c.in-Some.index = sym c.in-Some.ensures.statement in
     let found = subst
-    (λ r. IfErr r (λ reply. (found : Overlong) × IsTooLong IsGreedy source board found × (reply_answer reply ≡ prints Refused (overlong_line found.line found.from found.to))))
+    (λ r. IfErr r (λ reply. (found : Overlong) × IsOverlong IsGreedy source board found × (reply_answer reply ≡ prints Refused (overlong_line found.line found.from found.to))))
     c.in-Err.is c.in_ok-linked.ensures.refused in
     let told : Told = g.S.Shelf.told c.args.shelf.now in
     let before : Counts = g.S.Shelf.counts c.args.shelf.now in

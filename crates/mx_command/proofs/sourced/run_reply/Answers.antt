@@ -11,7 +11,7 @@ use Rattle.mx_answer.specs.Protocol.{Protocol, Reads, Performed}
 use Rattle.mx_answer.specs.Replies.{reply_answer}
 use Rattle.mx_simulate.specs.Machines.{Files, machine_protocol}
 use Rattle.mx_schedule.specs.Schedule.{IsScheduler}
-use Rattle.mx_command.specs.Protocols.{Layouts, Linking, linked_protocol, run_protocol}
+use Rattle.mx_command.specs.Protocols.{Layouts, AfterLayout, linked_protocol, run_protocol}
 use Rattle.mx_command.proofs.Laid.{run_linked}
 use Rattle.mx_command.proofs.Own.{performed_is_replied, answers_machine}
 use Rattle.mx_command.proofs.sourced.run_reply.Goals as goal
@@ -23,7 +23,7 @@ returns-in-Err-clause-performed g c = λ layout_of is.
     let between : Counts = g.S.Shelf.counts c.read_program.new.shelf in
     let files : Files = record { interrupts = option_map (λ s. s.now) c.args.files.now.interrupts; input = option_map (λ s. s.now) c.args.files.now.input } in
     subst
-    (λ r. IfErr r (λ reply. (layout_of : Layouts) → IsScheduler layout_of → (next : Linking) → Performed told (Reads Source c.args.source.now (linked_protocol layout_of next)) before between (reply_answer reply)))
+    (λ r. IfErr r (λ reply. (layout_of : Layouts) → IsScheduler layout_of → (next : AfterLayout) → Performed told (Reads Source c.args.source.now (linked_protocol layout_of next)) before between (reply_answer reply)))
     c.in-Err.is c.in_ok-program.ensures.refused layout_of is (run_protocol files c.args.limits.now)
 
 pub returns-clause-performed : goal.returns-clause-performed
@@ -40,7 +40,7 @@ returns-clause-performed g c = λ layout_of is.
     let same : told_between ≡ told = c.in_ok-program.ensures.told_stays in
     let linked : IsLinked IsGreedy from_target program.source board program.linked = subst (λ r. IfOk r (λ p. IsLinked IsGreedy from_target p.source board p.linked)) c.in-Ok.is c.in_ok-program.ensures.linked in
     let by_program = subst
-    (λ r. IfOk r (λ p. (layout_of : Layouts) → IsScheduler layout_of → (next : Linking) (after : Counts) (answer : Answer) → Performed told (next p.source (layout_of p.source)) between after answer → Performed told (Reads Source c.args.source.now (linked_protocol layout_of next)) before after answer))
+    (λ r. IfOk r (λ p. (layout_of : Layouts) → IsScheduler layout_of → (next : AfterLayout) (after : Counts) (answer : Answer) → Performed told (next p.source (layout_of p.source)) between after answer → Performed told (Reads Source c.args.source.now (linked_protocol layout_of next)) before after answer))
     c.in-Ok.is c.in_ok-program.ensures.given in
     let asks = c.is_some-asks.ensures ∙ ap is_some c.input.ensures in
     let next : Protocol = run_protocol files c.args.limits.now program.source (layout_of program.source) in

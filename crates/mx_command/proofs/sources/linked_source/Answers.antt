@@ -1,5 +1,5 @@
 use Rattle.mx_layout.specs.Layout.{IsLayout}
-use Rattle.mx_layout.specs.Overlong.{Overlong, IsTooLong}
+use Rattle.mx_layout.specs.Overlong.{Overlong, IsOverlong}
 use Rattle.mx_validate.specs.Validity.{Valid}
 use Rattle.mx_reorg.specs.Greedy.{IsGreedy}
 use Rattle.mx_meaning.specs.Boards.{board}
@@ -12,6 +12,6 @@ returns-in_ok-overlong_reply-in-Err-Displacement-clause-refused c =
     let found : Overlong = record { line = step.line; from = step.from; to = step.to } in
     let refusal = rw step.field-0-is at step.ensures.refused in
     let layout : IsLayout Valid source board refusal.sites = record { blocks = refusal.layout.blocks; stand = refusal.layout.stand; plans = refusal.layout.plans } in
-    let too_long : IsTooLong IsGreedy source board found =
+    let too_long : IsOverlong IsGreedy source board found =
     record { sites = refusal.sites; proposals = refusal.proposals; rejected = refusal.rejected; layout = layout; kept = refusal.kept; is = refusal.is } in
     (found, too_long, c.in_ok-overlong_reply-in-Err-Displacement.ensures)

@@ -7,7 +7,7 @@ use Rattle.mx_squash.specs.Copies.{Site, sites, reaches}
 use Rattle.mx_layout.specs.Layout.{IsLayout, plan_size, end_of, link_of}
 use Rattle.mx_layout.specs.Kept.{AreKept}
 use Rattle.mx_layout.specs.Overlong.{overlong, branch_target, IsReported}
-use Rattle.mx_layout.specs.Addresses.{starts_from, links_from}
+use Rattle.mx_layout.specs.Addresses.{starts_from, statement_starts}
 use Rattle.mx_layout.proofs.Sizes.{blocks_few}
 use Rattle.mx_layout.proofs.Reach.{layout_reaches}
 use Rattle.mx_layout.proofs.Whole.{taken_from, starts_at, starts_count, sites_at, kept, blocks_same, layout, short, plans_room, links_count, links_same, refusal}
@@ -79,10 +79,10 @@ returns g c =
     let plan_list = chosen.plans.items in
     let starts : c.in_ok-starts.starts.items ≡ starts_at place.code plan_list =
     c.in_ok-starts.ensures ∙ ap (starts_from place.code) (c.as_slice-4.ensures.value ∙ sizes) in
-    let links : c.in_ok-links.links.items ≡ links_from place.code list (map plan_size plan_list) =
+    let links : c.in_ok-links.links.items ≡ statement_starts place.code list (map plan_size plan_list) =
     c.in_ok-links.ensures
-    ∙ ap (λ (l : List Block). links_from place.code l c.as_slice-6.result.now) c.as_slice-5.ensures.value
-    ∙ ap (links_from place.code list) (c.as_slice-6.ensures.value ∙ sizes) in
+    ∙ ap (λ (l : List Block). statement_starts place.code l c.as_slice-6.result.now) c.as_slice-5.ensures.value
+    ∙ ap (statement_starts place.code list) (c.as_slice-6.ensures.value ∙ sizes) in
     let fits : overlong source place list ≡ None = ap (overlong source place) (sym c.as_slice-2.ensures.value) ∙ c.in_ok-check_reach.ensures.reached in
     let count = taken.count in
     let whole = layout g.P.Proposer.proposes source place list plan_list chosen.proposals.items chosen.rejected taken in
