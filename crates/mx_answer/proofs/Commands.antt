@@ -56,7 +56,8 @@ module _ (p : Protocol) (before after : Outside) (answer : Answer) (result : Sta
   delivered : Neither result → Delivered answer result before.told after.told before.written after.written
   delivered n = finished.delivered n.0 n.1
 
-  complete : before.told.tells ≡ true → ¬ Rose before.counts.faults after.counts.faults → ¬ Rose before.write_faults after.write_faults → ¬ Rose before.sink_faults after.sink_faults
+  complete : before.told.tells ≡ true
+      → ¬ Rose before.counts.faults after.counts.faults → ¬ Rose before.write_faults after.write_faults → ¬ Rose before.sink_faults after.sink_faults
       → (result ≡ Memory) ⊎ Delivered (resolved p before.told.held) result before.told after.told before.written after.written
   complete t reads writes puts =
       ⊎_elim

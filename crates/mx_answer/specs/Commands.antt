@@ -27,7 +27,8 @@ pub record Finished (answer : Answer) (before after : Outside) (result : Status)
 
 pub record Commanded (p : Protocol) (before after : Outside) (result : Status) : Type 0 where
   -- where the shelf tells what it holds and no count of faults rises, the answer is that of what it holds, or memory ran out
-  pub complete : before.told.tells ≡ true → ¬ Rose before.counts.faults after.counts.faults → ¬ Rose before.write_faults after.write_faults → ¬ Rose before.sink_faults after.sink_faults
+  pub complete : before.told.tells ≡ true
+      → ¬ Rose before.counts.faults after.counts.faults → ¬ Rose before.write_faults after.write_faults → ¬ Rose before.sink_faults after.sink_faults
       → (result ≡ Memory) ⊎ Delivered (resolved p before.told.held) result before.told after.told before.written after.written
   -- whatever the counts do, every status but three is that of the same answer
   pub sound : before.told.tells ≡ true → result ≢ ReadFault → result ≢ WriteFault → result ≢ Memory

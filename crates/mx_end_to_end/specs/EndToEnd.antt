@@ -42,7 +42,8 @@ pub record EndsAsMeant (source : SourceValue) (sites : List Site) (bytes : List 
 -- The run does what the source means: it sends no more, it halts only where the meaning halts, and then with its state, and it halts and sends
 -- within the bound of cycles. A block runs in an order of its own and has 64 statements at most: so the meaning is not to get stuck in 64 steps more.
 pub record MeansItsSource (source : SourceValue) (sites : List Site) (requests bytes : List ℕ) (budget : ℕ) : Type 0 where
-  pub sent : IsUnstuck source bytes (budget + block_ahead) → IsPrefix (source_run source sites requests bytes budget).console (meaning source board bytes (budget + block_ahead)).console
+  pub sent : IsUnstuck source bytes (budget + block_ahead)
+      → IsPrefix (source_run source sites requests bytes budget).console (meaning source board bytes (budget + block_ahead)).console
   pub halts : IsUnstuck source bytes (budget + block_ahead)
       → (source_run source sites requests bytes budget).halted ≡ true
       → (n : ℕ) × (n ≤ budget) × EndsAsMeant source sites bytes (source_run source sites requests bytes budget) n
@@ -53,7 +54,9 @@ pub record MeansItsSource (source : SourceValue) (sites : List Site) (requests b
 
 -- A run of a source that is linked at the board's place does what the source means.
 abbrev pub RunMeansItsSource : Type 0
-RunMeansItsSource = (source : SourceValue) (sites : List Site) (requests bytes : List ℕ) (budget : ℕ) → IsLaid source board sites → MeansItsSource source sites requests bytes budget
+RunMeansItsSource =
+    (source : SourceValue) (sites : List Site) (requests bytes : List ℕ) (budget : ℕ) → IsLaid source board sites
+    → MeansItsSource source sites requests bytes budget
 
 -- So does the run of a text without faults, laid out by greedy plans, in which no branch is overlong.
 abbrev pub TextMeansItsSource : Type 0

@@ -65,7 +65,9 @@ LinkedCodeHaltsOnly = (l : Linking) (j : ℕ) → IsLinking l → IsSafe l (j + 
 
 -- what the meaning has sent, linked code sends within three words for each statement of that and of 64 more
 abbrev pub LinkedCodeSends : Type 0
-LinkedCodeSends = (l : Linking) (m : ℕ) → IsLinking l → IsSafe l (m + block_ahead) → IsPrefix (meant l m).console (linked_run l (3 * (m + block_ahead))).console
+LinkedCodeSends =
+    (l : Linking) (m : ℕ) → IsLinking l → IsSafe l (m + block_ahead)
+    → IsPrefix (meant l m).console (linked_run l (3 * (m + block_ahead))).console
 
 -- after m statements the meaning goes on at a leader
 pub record IsBlockStart (l : Linking) (m : ℕ) : Type 0 where
