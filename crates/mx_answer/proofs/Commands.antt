@@ -97,7 +97,8 @@ module _ (p : Protocol) (before after : Outside) (answer : Answer) (result : Sta
       ⊎_elim
       (λ fault. finished.kept fault t n)
       (λ other. let d = delivered other in
-      d.file t n ∙ unfiled answer.file before.told.held n (λ file. not_done (d.status ∙ file_is_done before.told p before.counts after.counts answer own performed file)))
+      let done = file_is_done before.told p before.counts after.counts answer own performed in
+      d.file t n ∙ unfiled answer.file before.told.held n (λ file. not_done (d.status ∙ done file)))
       (status_cases result)
 
   pub commanded : Commanded p before after result

@@ -249,7 +249,8 @@ unless_unlabelled name (Some index) next = next index
 -- the session of a source that is linked without copies, stopped where a block begins
 abbrev pub stopped_protocol : Files → SessionLimits → ℕ → AfterLayout
 stopped_protocol files limits index source sites =
-    session_protocol files limits (linked_code from_nowhere source board sites) (linked_data source board sites) (is_some source.input) (link_map board sites index)
+    session_protocol files limits (linked_code from_nowhere source board sites) (linked_data source board sites)
+    (is_some source.input) (link_map board sites index)
 
 -- the session of a source at a label: refused by its label, then by a displacement
 abbrev pub labelled_protocol : Layouts → List ℕ → Files → SessionLimits → SourceValue → Protocol

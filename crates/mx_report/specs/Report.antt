@@ -20,7 +20,9 @@ abbrev pub words_text : List ℕ → List ℕ
 words_text code = count_line (codes "words") (length code) ++ count_line (codes "noops") (noop_count code)
 
 abbrev pub registers_text : Core → List ℕ
-registers_text core = (line (codes "registers") ++ lines_from (λ n. register_line n (word_text (reg core.regs n))) 31 1) ++ named_line (codes "md") (word_text core.md)
+registers_text core =
+    (line (codes "registers") ++ lines_from (λ n. register_line n (word_text (reg core.regs n))) 31 1)
+    ++ named_line (codes "md") (word_text core.md)
 
 -- the words of a dump, which end at 65535
 abbrev pub dump_text : Words → Option Dump → List ℕ
