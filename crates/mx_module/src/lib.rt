@@ -15,6 +15,3 @@ mod program;
 pub use error::{JoinError, JoinFault};
 pub use joiner::Joiner;
 pub use link::LinkKind;
-
-#[cfg(test)]
-mod tests;

@@ -36,6 +36,8 @@ mod meaning_steps;
 #[cfg(test)]
 mod meaning_text;
 #[cfg(test)]
+mod modules;
+#[cfg(test)]
 mod names;
 #[cfg(test)]
 mod print;

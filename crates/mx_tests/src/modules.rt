@@ -1,4 +1,5 @@
-use super::*;
+//! Texts that import and export labels, joined to one source.
+use mx_module::Joiner;
 use std::test::Fail;
 
 const FIRST: &[u8] = b".import emit\naddi r0,#72,r1\ncall emit,r31\nhalt";
