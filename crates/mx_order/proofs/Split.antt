@@ -169,9 +169,15 @@ module _ (block : Block) (plan : Plan) (valid : Valid block plan) where
   goes e h f c =
       let n = some e h f in
       let t = three_items back (count - 1) (back_length e h ∙ c) (first_behind e h f) in
-      let once = once_of (t.0 ∷ t.1 ∷ []) n t.2 in
-      (below_front (count - 1) front (t.0 ∷ t.1 ∷ []) once, record { first = t.0; second = t.1; is = t.2;
-      slots = below_rest (count - 1) front (t.0 ∷ t.1 ∷ []) once })
+      let once = once_of (t.0 ∷ t.1 ∷ []) n t.2 in (
+        below_front (count - 1) front (t.0 ∷ t.1 ∷ []) once,
+        record {
+          first = t.0;
+          second = t.1;
+          is = t.2;
+          slots = below_rest (count - 1) front (t.0 ∷ t.1 ∷ []) once;
+        },
+      )
 
   ends : (e : End) → block.end ≡ e → Ends e
   ends Falls h = record {
