@@ -1,12 +1,14 @@
 //! A source by four schedulers: padded plans, greedy plans without and with copies, and shortest plans.
 #![tactic(auto)]
 
+mod comparison;
 mod figures;
 mod rows;
 mod slots;
 mod table;
 
+pub use comparison::{Comparison, compare};
 pub use figures::Figures;
 pub use rows::figures_of;
 pub use slots::Slots;
-pub use table::compare_text;
+pub use table::table_of;

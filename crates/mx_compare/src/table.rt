@@ -1,34 +1,7 @@
-//! The table of the four schedulers.
-ghost use Rattle.std.specs.Prelude.{◌≡◌, ◌≤◌, IfErr, length};
-ghost use Rattle.mx_validate.specs.Padded.{IsPadded};
-ghost use Rattle.mx_layout.specs.Overlong.{IsRefusal};
-ghost use Rattle.mx_meaning.specs.Boards.{board};
+//! A comparison as a table.
 
-use crate::{Figures, Slots, figures_of};
-use mx_best::BestProposer;
-use mx_blocks::{Block, Plan};
-use mx_board::Requests;
-use mx_link::LinkError;
-use mx_reorg::ListProposer;
-use mx_source::Source;
-use mx_validate::{Proposer, padded};
+use crate::{Comparison, Figures, Slots};
 use std::alloc::{AllocError, Global};
-
-/// Proposes the padded plan.
-#[derive(Clone, Copy)]
-struct PaddedProposer;
-
-impl Proposer for PaddedProposer {
-    ghost use Rattle.mx_validate.specs.Padded.{IsPadded};
-
-    ghost proposes = { λ block plan. IsPadded block plan };
-
-    fn propose(&mut self, block: &Block) -> Plan
-        ensures { IsPadded block.now result }
-    {
-        padded(block)
-    }
-}
 
 /// The filled slots in per cent, or `-` where there are none.
 fn share_text(alloc: Global, slots: Slots) -> Result<String, AllocError> {
@@ -66,64 +39,15 @@ fn push_row(
     table.push_str(row.as_str())
 }
 
-/// What a source and its run come to by padded plans, by greedy plans without and with copies, and by shortest plans
-/// with copies: code words, no-ops, filled slots, and cycles where the run halts within the budget.
-///
-/// # Errors
-///
-/// Those of `link`.
-pub fn compare_text(
-    alloc: Global,
-    source: &Source,
-    requests: &Requests,
-    input: &[u8],
-    budget: u32,
-) -> Result<Vec<u8>, LinkError>
-    requires { length input.now ≤ 1048576 }
-{
-    let padded = figures_of(
-        alloc,
-        source,
-        &mut PaddedProposer,
-        false,
-        requests,
-        input,
-        budget,
-    )?;
-    let list = figures_of(
-        alloc,
-        source,
-        &mut ListProposer,
-        false,
-        requests,
-        input,
-        budget,
-    )?;
-    let copies = figures_of(
-        alloc,
-        source,
-        &mut ListProposer,
-        true,
-        requests,
-        input,
-        budget,
-    )?;
-    let best = figures_of(
-        alloc,
-        source,
-        &mut BestProposer,
-        true,
-        requests,
-        input,
-        budget,
-    )?;
+/// A comparison as a table: code words, no-ops, filled slots, and cycles where the run halts within the budget.
+pub fn table_of(alloc: Global, comparison: &Comparison) -> Result<Vec<u8>, AllocError> {
     let mut table = String::from_str(
         alloc,
         "plans        words  no-ops  branch slots  load slots     cycles\n",
     )?;
-    push_row(alloc, &mut table, "padded", &padded)?;
-    push_row(alloc, &mut table, "list", &list)?;
-    push_row(alloc, &mut table, "copies", &copies)?;
-    push_row(alloc, &mut table, "best", &best)?;
+    push_row(alloc, &mut table, "padded", &comparison.padded)?;
+    push_row(alloc, &mut table, "list", &comparison.list)?;
+    push_row(alloc, &mut table, "copies", &comparison.copies)?;
+    push_row(alloc, &mut table, "best", &comparison.best)?;
     Ok(table.into_bytes())
 }

@@ -1,8 +1,10 @@
--- What a tally keeps while it grows, and when it is that of a run.
+-- What a tally keeps while it grows, and when it and a profile are those of a run.
 use Rattle.std.specs.Prelude.{◌≡◌, ℕ, ◌≤◌, List, length, slice_index}
 use Rattle.mx_turn.specs.Program.{Program}
+use Rattle.mx_turn.specs.Run.{run_of}
 use Rattle.mx_profile.specs.declared.tally.Tally.{Tally}
-use Rattle.mx_profile.specs.Charges.{places, fetches_at, cycles_at, executed_at, cancelled_at, squashes_at}
+use Rattle.mx_profile.specs.declared.tally.Profile.{Profile}
+use Rattle.mx_profile.specs.Charges.{places, waiting, fetches_at, cycles_at, executed_at, cancelled_at, squashes_at}
 
 -- each list has an entry a place
 pub record HasPlaces (words : ℕ) (t : Tally) : Type 0 where
@@ -27,3 +29,10 @@ pub record IsTally (p : Program) (requests : List ℕ) (words budget : ℕ) (t :
   pub executed : (k : ℕ) → slice_index t.executed.items k ≡ executed_at p requests words budget k
   pub cancelled : (k : ℕ) → slice_index t.cancelled.items k ≡ cancelled_at p requests words budget k
   pub squashes : (k : ℕ) → slice_index t.squashes.items k ≡ squashes_at p requests words budget k
+
+-- the profile is that of a program's run within a budget, charged to the places of a code of so many words
+pub record IsProfile (p : Program) (requests : List ℕ) (words budget : ℕ) (r : Profile) : Type 0 where
+  pub tally : IsTally p requests words budget r.tally
+  pub waiting : r.waiting ≡ waiting p requests words budget
+  pub counts : r.counts ≡ (run_of p requests budget).counts
+  pub halted : r.halted ≡ (run_of p requests budget).halted

@@ -4,7 +4,7 @@ ghost use Rattle.mx_turn.specs.Counted.{one};
 ghost use Rattle.mx_turn.specs.Program.{Program, state_after};
 ghost use Rattle.mx_turn.specs.Run.{bits, run_of};
 ghost use Rattle.mx_profile.specs.Charges.{waiting, counts_fetch, counts_cycle};
-ghost use Rattle.mx_profile.specs.Tallies.{HasPlaces, IsBelow, IsTally};
+ghost use Rattle.mx_profile.specs.Tallies.{HasPlaces, IsBelow, IsTally, IsProfile};
 
 use crate::tally::{Gain, Profile, Tally, gain_between};
 use mx_board::Requests;
@@ -105,10 +105,7 @@ pub fn profile<M: Machine>(
     requires start { M.cycles machine.old ≡ 0 }
     requires words { words < 2 ^ 32 }
     ensures sizes { IfOk result (λ r. HasPlaces words r.tally) }
-    ensures counts { IfOk result (λ r. (p : Program) → M.stands machine.old p [] → r.counts ≡ (run_of p requests.now budget).counts) }
-    ensures halted { IfOk result (λ r. (p : Program) → M.stands machine.old p [] → r.halted ≡ (run_of p requests.now budget).halted) }
-    ensures tally { IfOk result (λ r. (p : Program) → M.stands machine.old p [] → IsTally p requests.now words budget r.tally) }
-    ensures waiting { IfOk result (λ r. (p : Program) → M.stands machine.old p [] → r.waiting ≡ waiting p requests.now words budget) }
+    ensures profile { IfOk result (λ r. (p : Program) → M.stands machine.old p [] → IsProfile p requests.now words budget r) }
 {
     let Ok(tally) = Tally::new(alloc, words) else {
         return Err(Memory);

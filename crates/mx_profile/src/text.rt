@@ -1,7 +1,7 @@
 //! The profile of a run as a text.
 
 use crate::lines::{LineCost, NO_COST, cost_at, line_costs};
-use crate::tally::Profile;
+use crate::tally::{Profile, Tally};
 use mx_link::{Linked, Origin};
 use mx_report::push_counts;
 use mx_source::Source;
@@ -102,7 +102,7 @@ fn push_copies(
     Ok(())
 }
 
-/// Appends a line of the source behind its cost; a line without statements has none.
+/// Appends a line of the source behind its cost; a line without statements has none, and an empty one is left empty.
 fn push_line(
     alloc: Global,
     text: &mut Vec<u8>,
@@ -111,11 +111,20 @@ fn push_line(
 ) -> Result<(), AllocError> {
     match cost {
         Some(cost) => push_cost(alloc, text, cost)?,
+        None if line.is_empty() => {}
         None => text.extend_from_slice(GAP)?,
     }
     text.extend_from_slice(line)?;
     text.push(b'\n')?;
     Ok(())
+}
+
+/// The text without the end of its last line.
+fn lines_of(text: &[u8]) -> &[u8] {
+    match text {
+        [lines @ .., b'\n'] => lines,
+        _ => text,
+    }
 }
 
 /// Appends the lines of the source, each behind its cost and before the addresses of the copies of its statements.
@@ -130,7 +139,7 @@ fn push_lines(
     let mut statement = 0;
     let mut copy = 0;
     let mut number = 0u32;
-    for line in source_text.split(|b| *b == b'\n') {
+    for line in lines_of(source_text).split(|b| *b == b'\n') {
         number = number.saturating_add(1);
         let next = statements_to(lines, statement, number);
         let cost = if statement < next {
@@ -147,31 +156,36 @@ fn push_lines(
     Ok(())
 }
 
-/// The executions of no-ops that were put in.
-fn noops_of(costs: &[LineCost]) -> u64 {
-    cost_between(costs, 0, costs.len()).noops
+/// Appends what comes from no line, and what all places cost together. Answers how often a no-op was executed.
+fn push_rest(
+    alloc: Global,
+    text: &mut Vec<u8>,
+    tally: &Tally,
+    words: usize,
+    costs: &[LineCost],
+) -> Result<u64, AllocError> {
+    let handler = cost_at(tally, words);
+    let behind = cost_at(tally, words.saturating_add(1));
+    let lines = cost_between(costs, 0, costs.len());
+    push_named_cost(alloc, text, handler, "the handler")?;
+    push_named_cost(alloc, text, behind, "behind the code")?;
+    push_named_cost(alloc, text, lines.plus(handler).plus(behind), "together")?;
+    Ok(lines.noops)
 }
 
-/// Appends what comes from no line, and the sums.
+/// Appends the counts of the run.
 fn push_sums(
     alloc: Global,
     text: &mut Vec<u8>,
     profile: &Profile,
-    words: usize,
     noops: u64,
 ) -> Result<(), AllocError> {
-    push_named_cost(alloc, text, cost_at(&profile.tally, words), "the handler")?;
-    push_named_cost(
-        alloc,
-        text,
-        cost_at(&profile.tally, words.saturating_add(1)),
-        "behind the code",
-    )?;
-    if profile.halted {
-        text.extend_from_slice(b"halted\n")?;
+    let end = if profile.halted {
+        "halted\n"
     } else {
-        text.extend_from_slice(b"out of budget\n")?;
-    }
+        "out of budget\n"
+    };
+    text.extend_from_slice(end.as_bytes())?;
     push_counts(alloc, text, &profile.counts)?;
     push_count(alloc, text, "waiting", profile.waiting)?;
     push_count(alloc, text, "noops passed", noops)
@@ -199,12 +213,8 @@ pub fn profile_text(
         costs.as_slice(),
         copies.as_slice(),
     )?;
-    push_sums(
-        alloc,
-        &mut text,
-        profile,
-        origin.len(),
-        noops_of(costs.as_slice()),
-    )?;
+    let words = linked.image.code.len();
+    let noops = push_rest(alloc, &mut text, &profile.tally, words, costs.as_slice())?;
+    push_sums(alloc, &mut text, profile, noops)?;
     Ok(text)
 }

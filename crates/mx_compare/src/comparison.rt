@@ -1,0 +1,80 @@
+//! The four schedulers.
+ghost use Rattle.std.specs.Prelude.{◌≤◌, IfOk, IfErr, length};
+ghost use Rattle.mx_blocks.specs.declared.block.Block.{Block};
+ghost use Rattle.mx_blocks.specs.declared.block.Plan.{Plan};
+ghost use Rattle.mx_validate.specs.Padded.{IsPadded};
+ghost use Rattle.mx_layout.specs.Overlong.{IsRefusal};
+ghost use Rattle.mx_meaning.specs.Boards.{board};
+ghost use Rattle.mx_compare.specs.Comparisons.{IsComparison, IsRefused};
+
+use crate::{Figures, figures_of};
+use mx_best::BestProposer;
+use mx_blocks::{Block, Plan};
+use mx_board::Requests;
+use mx_link::LinkError;
+use mx_reorg::ListProposer;
+use mx_source::Source;
+use mx_validate::{Proposer, padded};
+use std::alloc::Global;
+
+/// Proposes the padded plan.
+#[derive(Clone, Copy)]
+struct PaddedProposer;
+
+impl Proposer for PaddedProposer {
+    ghost use Rattle.mx_validate.specs.Padded.{IsPadded};
+
+    ghost proposes = { λ block plan. IsPadded block plan };
+
+    fn propose(&mut self, block: &Block) -> Plan
+        ensures { IsPadded block.now result }
+    {
+        padded(block)
+    }
+}
+
+/// What a source and its run come to by four schedulers.
+#[derive(Clone, Copy, Debug, PartialEq, Eq)]
+pub struct Comparison {
+    /// Padded plans.
+    pub padded: Figures,
+    /// Greedy plans, without copies in the slots.
+    pub list: Figures,
+    /// Greedy plans, with copies.
+    pub copies: Figures,
+    /// Shortest plans of small blocks and greedy plans of others, with copies.
+    pub best: Figures,
+}
+
+/// What a source and its run come to by padded plans, by greedy plans without and with copies, and by shortest plans
+/// with copies.
+///
+/// # Errors
+///
+/// Those of `link`.
+pub fn compare(
+    alloc: Global,
+    source: &Source,
+    requests: &Requests,
+    input: &[u8],
+    budget: u32,
+) -> Result<Comparison, LinkError>
+    requires { length input.now ≤ 1048576 }
+    ensures figures { IfOk result (IsComparison source.now requests.now input.now budget) }
+    ensures refused { IfErr result (IsRefused source.now) }
+{
+    let by = &mut PaddedProposer;
+    let padded = figures_of(alloc, source, by, false, requests, input, budget)?;
+    let by = &mut ListProposer;
+    let list = figures_of(alloc, source, by, false, requests, input, budget)?;
+    let by = &mut ListProposer;
+    let copies = figures_of(alloc, source, by, true, requests, input, budget)?;
+    let by = &mut BestProposer;
+    let best = figures_of(alloc, source, by, true, requests, input, budget)?;
+    Ok(Comparison {
+        padded,
+        list,
+        copies,
+        best,
+    })
+}
