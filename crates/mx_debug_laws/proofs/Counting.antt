@@ -20,7 +20,8 @@ none_of test a (suc k) none =
     ∙ none_passes test (a + k) (none (a + k) (omega arith) (omega arith))
     ∙ none_of test a k (λ v h l. none v h (omega (arith, l)))
 
-none_between : (test : ℕ → Bool) (a b : ℕ) → a ≤ b → ((v : ℕ) → a ≤ v → v < b → test v ≡ false) → count_below test b ≡ count_below test a
+none_between :
+    (test : ℕ → Bool) (a b : ℕ) → a ≤ b → ((v : ℕ) → a ≤ v → v < b → test v ≡ false) → count_below test b ≡ count_below test a
 none_between test a b le none =
     ap (count_below test) (let e : b ≡ a + (b - a) = omega (arith, le) in e)
     ∙ none_of test a (b - a) (λ v h l. none v h (omega (arith, l, le)))
@@ -34,7 +35,8 @@ count_grows test a (suc k) =
     omega (arith, f, g)
 
 -- where f leads from what passes P to what passes Q and keeps the order, as many pass both tests
-module _ (P Q : ℕ → Bool) (f : ℕ → ℕ) (rises : (m n : ℕ) → P m ≡ true → P n ≡ true → m < n → f m < f n) (lands : (m : ℕ) → P m ≡ true → Q (f m) ≡ true) where
+module _ (P Q : ℕ → Bool) (f : ℕ → ℕ) (rises : (m n : ℕ) → P m ≡ true → P n ≡ true → m < n → f m < f n)
+    (lands : (m : ℕ) → P m ≡ true → Q (f m) ≡ true) where
   pub record Below (n w : ℕ) : Type 0 where
     pub to : (m : ℕ) → P m ≡ true → m < n → f m < w
     pub from : (v : ℕ) → v < w → Q v ≡ true → (m : ℕ) × (P m ≡ true) × (m < n) × (v ≡ f m)
@@ -50,7 +52,8 @@ module _ (P Q : ℕ → Bool) (f : ℕ → ℕ) (rises : (m n : ℕ) → P m ≡
         let x = b.from v l q in (
           x.0,
           x.1,
-          ⊎_elim (λ (h : x.0 < n). h) (λ (h : n ≤ x.0). let e : x.0 ≡ n = (let k = x.2 in omega (arith, h, k)) in absurd (false≢true (sym off ∙ sym (ap P e) ∙ x.1))) (cases_lt x.0 n),
+          ⊎_elim (λ (h : x.0 < n). h) (λ (h : n ≤ x.0). let e : x.0 ≡ n = (let k = x.2 in omega (arith, h, k)) in
+              absurd (false≢true (sym off ∙ sym (ap P e) ∙ x.1))) (cases_lt x.0 n),
           x.3,
         );
   }
@@ -63,7 +66,8 @@ module _ (P Q : ℕ → Bool) (f : ℕ → ℕ) (rises : (m n : ℕ) → P m ≡
         let x = b.from v (let last = b.to n on (omega arith) in omega (arith, l, last)) q in (
           x.0,
           x.1,
-          ⊎_elim (λ (h : x.0 < n). h) (λ (h : n ≤ x.0). let e : x.0 ≡ n = (let k = x.2 in omega (arith, h, k)) in let g = ap f e in let y = x.3 in absurd (omega (arith, g, y, l))) (cases_lt x.0 n),
+          ⊎_elim (λ (h : x.0 < n). h) (λ (h : n ≤ x.0). let e : x.0 ≡ n = (let k = x.2 in omega (arith, h, k)) in let g = ap f e in let y = x.3 in
+              absurd (omega (arith, g, y, l))) (cases_lt x.0 n),
           x.3,
         );
   }

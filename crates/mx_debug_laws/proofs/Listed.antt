@@ -49,7 +49,8 @@ module _ (p : Program) (requests : List ℕ) (a : ℕ) where
       let whole : cycles (suc N) ≡ cycles N ++ N ∷ [] = ap (λ b. cycles N ++ cond b (N ∷ []) []) s in
       ⊎_elim
       (λ (h : j < length (cycles N)).
-      subst (IsStop (suc N) j) (sym (ap (λ l. get_or l j 0) whole ∙ get_or_append_left (cycles N) (N ∷ []) 0 j h)) (later N j (get_or (cycles N) j 0) (found N j h)))
+      subst (IsStop (suc N) j) (sym (ap (λ l. get_or l j 0) whole ∙ get_or_append_left (cycles N) (N ∷ []) 0 j h))
+      (later N j (get_or (cycles N) j 0) (found N j h)))
       (λ (h : length (cycles N) ≤ j).
       let k = ap length whole ∙ length-append (cycles N) (N ∷ []) in
       let e : length (cycles N) ≡ j = omega (arith, h, k, less) in
@@ -76,7 +77,8 @@ module _ (p : Program) (requests : List ℕ) (a : ℕ) where
 
   -- the console only grows
   pub sent_more : (n k : ℕ) → (rest : List ℕ) × (console_after p (bits requests (k + n)) ≡ console_after p (bits requests n) ++ rest)
-  sent_more n zero = ([], ap (λ j. console_after p (bits requests j)) (let e : zero + n ≡ n = omega arith in e) ∙ sym (append-nil (console_after p (bits requests n))))
+  sent_more n zero =
+      ([], ap (λ j. console_after p (bits requests j)) (let e : zero + n ≡ n = omega arith in e) ∙ sym (append-nil (console_after p (bits requests n))))
   sent_more n (suc k) =
       let r = sent_more n k in
       let byte = option_to_list (cycled_at p requests (k + n)).byte in (
@@ -136,7 +138,8 @@ module _ (s : Session) (j : ℕ) (stop : Stop) (there : slice_get (stops_of s) j
     told = told_here;
     within = ⊎_elim
         (λ e. let k = last_is_later e in let f = cond-true (is_stopped s) (suc (slice_index (all_stops s) (s.limit - 1))) s.budget e in omega (arith, k, f))
-        (λ e. let here = is_stop_here in let k = here.early in let f = cond-false (is_stopped s) (suc (slice_index (all_stops s) (s.limit - 1))) s.budget e in omega (arith, k, f))
+        (λ e. let here = is_stop_here in let k = here.early in let f = cond-false (is_stopped s) (suc (slice_index (all_stops s) (s.limit - 1))) s.budget e in
+        omega (arith, k, f))
         (cases_Bool (is_stopped s));
   }
 

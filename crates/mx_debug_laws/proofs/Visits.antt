@@ -1,4 +1,5 @@
--- The steps at which linked code comes to a leader's address are the visits of the meaning.
+-- The steps at which linked code comes to a leader's address are the visits of the meaning (`lands`, `visited`), one after the words of
+-- the plans before it. So as many of the one as of the other come before (`visits_before`).
 use Rattle.std.proofs.Common.{◌≡◌, ℕ, ◌+◌, ◌<◌, ◌≤◌, Bool, true, false, eqb, not, ◌&&◌, Some, length, refl, ap, ◌∙◌, arith, ⊎_elim, inr}
 use Rattle.std.proofs.lemmas.Bool.{cases_lt, and_parts, eqb-true}
 use Rattle.std.proofs.lemmas.Bool.Decides.{nat_tests}
@@ -29,7 +30,15 @@ comes_there i (Stuck why) index e = absurd (cc)
 same_number : (n : ℕ) → eqb n n ≡ true
 same_number n = grind (arith, nat_tests)
 
-module _ (d : Debugged) (laid : IsLaid d.source board d.sites) (leads : is_leader d.source d.index ≡ true) (within : d.index < length d.source.statements) where
+-- what is known of a session: its source is laid out, and it stops at a leader
+pub record AtLeader (d : Debugged) : Type 0 where
+  pub laid : IsLaid d.source board d.sites
+  pub leads : is_leader d.source d.index ≡ true
+  pub within : d.index < length d.source.statements
+
+module _ (d : Debugged) (known : AtLeader d) where
+  open known use {laid, leads, within}
+
   -- the source as it is linked without copies
   abbrev pub plain : Linking
   plain = record { filling = from_nowhere; source = d.source; place = board; sites = d.sites; bytes = d.bytes }
@@ -86,7 +95,8 @@ module _ (d : Debugged) (laid : IsLaid d.source board d.sites) (leads : is_leade
   visited_at w safe e =
       let parts = and_parts (not (linked_run plain w).halted) (at_fetch stop_address (Some (as_fetch (linked_run plain w).first))) e in
       visited w safe (off_of (linked_run plain w).halted parts.0)
-      (eqb-true (linked_run plain w).first.address stop_address (and_parts (not (linked_run plain w).first.squashed) (eqb (linked_run plain w).first.address stop_address) parts.1).1)
+      (eqb-true (linked_run plain w).first.address stop_address (and_parts (not (linked_run plain w).first.squashed)
+      (eqb (linked_run plain w).first.address stop_address) parts.1).1)
     where
       off_of : (b : Bool) → not b ≡ true → b ≡ false
       off_of b h = grind arith
@@ -107,7 +117,8 @@ module _ (d : Debugged) (laid : IsLaid d.source board d.sites) (leads : is_leade
                   (λ (h : x.0 < m). h)
                   (λ (h : m ≤ x.0). ⊎_elim
                   (λ (k : m < x.0). let r = rises m x.0 e x.1 k in absurd (omega (arith, r, steps, less)))
-                  (λ (k : x.0 ≤ m). let same : x.0 ≡ m = omega (arith, h, k) in let r = ap (planned_words plain) same in absurd (omega (arith, r, steps, less)))
+                  (λ (k : x.0 ≤ m). let same : x.0 ≡ m = omega (arith, h, k) in let r = ap (planned_words plain) same in
+                  absurd (omega (arith, r, steps, less)))
                   (cases_lt m x.0))
                   (cases_lt x.0 m),
               x.2,

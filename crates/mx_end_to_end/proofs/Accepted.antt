@@ -36,7 +36,9 @@ module _ (place : Place) (text : List ℕ) (sites : List Site) where
     reach = reach;
   }
 
-pub text_means : (text : List ℕ) (sites : List Site) (requests bytes : List ℕ) (budget : ℕ) → text_fault 256 65536 text ≡ None → IsLayout IsGreedy (source_of 256 text) board sites
+pub text_means :
+    (text : List ℕ) (sites : List Site) (requests bytes : List ℕ) (budget : ℕ) → text_fault 256 65536 text ≡ None
+    → IsLayout IsGreedy (source_of 256 text) board sites
     → overlong (source_of 256 text) board (blocks_in sites) ≡ None → MeansItsSource (source_of 256 text) sites requests bytes budget
 text_means text sites requests bytes budget faultless layout reach =
     let few = (faultless_source 256 65536 text (omega arith) (omega arith) (omega arith) faultless).few_statements in

@@ -1,4 +1,4 @@
--- Runs of the machine with delay slots: the console grows, and what has halted stays.
+-- Runs of the machine with delay slots. No step takes back what was sent, nor a halt, so neither do many (`delay_sends`, `delay_halted`).
 use Rattle.std.proofs.Common.{◌≡◌, ℕ, zero, suc, ◌+◌, ◌-◌, ◌≤◌, true, List, [], ◌++◌, Option, refl, sym, ap, ◌∙◌, subst, arith, ⊎_elim, append_assoc}
 use Rattle.std.specs.Prelude.{option_to_list}
 use Rattle.std.proofs.lemmas.Bool.{cond-true, cond-false, cases_Bool}
@@ -35,20 +35,23 @@ module _ (code : Code) (p : Place) (input : Option (List ℕ)) where
       (λ h. prefix_same s.console (delay_step code p input s).console (ap (λ (d : Delay). d.console) (sym (stays s h))))
       (λ h. record {
         rest = option_to_list (user_byte p input (does code s.first) s.first.address s.core);
-        whole = ap (λ (d : Delay). d.console) (cond-false s.halted s (stepped p input (does code s.first) (decides (does code s.first) s.first.address s.core.regs) s) h);
+        whole = ap (λ (d : Delay). d.console) (cond-false s.halted s
+            (stepped p input (does code s.first) (decides (does code s.first) s.first.address s.core.regs) s) h);
       })
       (cases_Bool s.halted)
 
   sends_for : (n : ℕ) (s : Delay) → IsPrefix s.console (for n s).console
   sends_for zero s = prefix_same s.console s.console refl
-  sends_for (suc n) s = prefix_then s.console (delay_step code p input s).console (for (suc n) s).console (step_sends s) (sends_for n (delay_step code p input s))
+  sends_for (suc n) s =
+      prefix_then s.console (delay_step code p input s).console (for (suc n) s).console (step_sends s) (sends_for n (delay_step code p input s))
 
   module _ (words : Words) where
     later : (a b : ℕ) → a ≤ b → delay code p input words b ≡ for (b - a) (delay code p input words a)
     later a b h = ap (delay code p input words) (let e : b ≡ a + (b - a) = omega arith in e) ∙ for_add a (b - a) (delay_start p words)
 
     pub delay_sends : (a b : ℕ) → a ≤ b → IsPrefix (delay code p input words a).console (delay code p input words b).console
-    delay_sends a b h = subst (λ (d : Delay). IsPrefix (delay code p input words a).console d.console) (sym (later a b h)) (sends_for (b - a) (delay code p input words a))
+    delay_sends a b h =
+        subst (λ (d : Delay). IsPrefix (delay code p input words a).console d.console) (sym (later a b h)) (sends_for (b - a) (delay code p input words a))
 
     pub delay_halted : (a b : ℕ) → a ≤ b → (delay code p input words a).halted ≡ true → delay code p input words b ≡ delay code p input words a
     delay_halted a b h e = later a b h ∙ stays_for (b - a) (delay code p input words a) e

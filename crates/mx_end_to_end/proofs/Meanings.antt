@@ -1,4 +1,5 @@
--- Runs of the meaning: the console grows, and what was not stuck later was not stuck before.
+-- Runs of the meaning. No step takes back what was sent (`meaning_sends`), a halt (`meaning_halted`), or that it is stuck, so what is not
+-- stuck later was not stuck before (`unstuck_before`).
 use Rattle.std.proofs.Common.{◌≡◌, ℕ, ◌+◌, ◌-◌, ◌<◌, ◌≤◌, false, List, [], sym, ap, ◌∙◌, subst, arith, ⊎_elim}
 use Rattle.std.proofs.lemmas.Bool.{cases_lt}
 use Rattle.mx_isa.specs.declared.place.Place.{Place}

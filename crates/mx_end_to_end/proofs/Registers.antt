@@ -1,4 +1,5 @@
--- The registers of a text's statements are 0 to 31.
+-- The registers of a text's statements are 0 to 31. Each name of a register is read as such a number (`register_few`), so the statement
+-- of a line has such registers (`effect_has`), and so have those of all lines (`lines_have`).
 use Rattle.std.proofs.Common.{◌≡◌, ℕ, ◌+◌, ◌-◌, ◌*◌, ◌≤◌, ◌&&◌, List, [], ◌∷◌, cond, Bool, true, false, Option, Some, None, Result, Ok, Err, refl, subst, arith}
 use Rattle.std.specs.Prelude.{All, IfOk, IfSome, nat_le, ok_or, replicate}
 use Rattle.std.specs.Char.{is_digit}
@@ -61,7 +62,8 @@ named_few [] = tt
 named_few (a ∷ []) = tt
 named_few (r ∷ c ∷ []) = some_if (is_r r && is_digit c 10) (c - 48) (λ h. digit_few c (and_parts (is_r r) (is_digit c 10) h).1)
 named_few (r ∷ t ∷ c ∷ []) =
-    some_if (is_r r && (nat_le 49 t && nat_le t 51) && is_digit c 10 && nat_le (10 * (t - 48) + (c - 48)) 31) (10 * (t - 48) + (c - 48)) (λ h. last_few (is_r r) (nat_le 49 t && nat_le t 51) (is_digit c 10) (10 * (t - 48) + (c - 48)) h)
+    some_if (is_r r && (nat_le 49 t && nat_le t 51) && is_digit c 10 && nat_le (10 * (t - 48) + (c - 48)) 31) (10 * (t - 48) + (c - 48))
+    (λ h. last_few (is_r r) (nat_le 49 t && nat_le t 51) (is_digit c 10) (10 * (t - 48) + (c - 48)) h)
 named_few (a ∷ b ∷ c ∷ e ∷ rest) = tt
 
 ok_has : (o : Option ℕ) (fault : Fault) → IfSome o IsRegister → IfOk (ok_or o fault) IsRegister
@@ -116,7 +118,8 @@ sh_has words =
     bind_has Has (register operands.first) _ (λ a e1.
     bind_has Has (register operands.second) _ (λ b e2.
     bind_has Has (register operands.dest) _ (λ dest e3.
-    bind_has Has (count operands.negative operands.value) _ (λ n e4. (is_few operands.first a e1, is_few operands.second b e2, is_few operands.dest dest e3))))))
+    bind_has Has (count operands.negative operands.value) _ (λ n e4.
+    (is_few operands.first a e1, is_few operands.second b e2, is_few operands.dest dest e3))))))
 
 addi_has : (words : List Word) → IfOk (addi words) Has
 unfolding addi
@@ -309,10 +312,13 @@ module _ (labels : Labels) where
   lines_have p number [] = All-nil Has
   lines_have p number (line ∷ lines) =
       let words = statement_words (line_words line) in
-      onto_has (effect_of labels p.section words) (statements_in (effects_from labels (after p (line_words line)) (number + 1) lines)) (effect_has p.section words)
+      onto_has (effect_of labels p.section words) (statements_in (effects_from labels (after p (line_words line)) (number + 1) lines))
+      (effect_has p.section words)
       (lines_have (after p (line_words line)) (number + 1) lines)
 
-pub lines_registers : (labels : Labels) (p : Position) (number : ℕ) (lines : List (List ℕ)) → All (λ (s : Statement). HasRegisters (inst_of s)) (statements_in (effects_from labels p number lines))
+pub lines_registers :
+    (labels : Labels) (p : Position) (number : ℕ) (lines : List (List ℕ))
+    → All (λ (s : Statement). HasRegisters (inst_of s)) (statements_in (effects_from labels p number lines))
 lines_registers labels p number lines = lines_have labels p number lines
 
 pub text_registers : (low : ℕ) (text : List ℕ) → All (λ (s : Statement). HasRegisters (inst_of s)) (source_of low text).statements
