@@ -20,7 +20,7 @@ use Rattle.mx_asm.specs.declared.position.Section.TheVariants as section
 use Rattle.mx_asm.specs.declared.mnemonic.Mnemonic.{Mnemonic}
 use Rattle.mx_asm.specs.declared.mnemonic.Mnemonic.TheVariants as m
 use Rattle.mx_asm.specs.Reading.{◌>>=◌}
-use Rattle.mx_asm.specs.Words.{Word, Name, Number, Comma, Open, Close, Hash}
+use Rattle.mx_asm.specs.Words.{Word, Name, Number, Comma, Open, Close, Hash, Colon, End}
 use Rattle.mx_asm.specs.Operands.{register, register_named, special, special_named, immediate, count, integer, in_range, label_named, any_label, code_label, code_index, data_label, data_address, offset}
 use Rattle.mx_asm.specs.Mnemonics.{mnemonic_named}
 use Rattle.mx_asm.specs.Instructions.{Labels, compute, of_one, mstart, asr, sh, addi, nop, halt, if_md, move_from, move_to, load, store, address_of, load_address, branch, swapped_branch, goto, call, call_register, jump, system, spelled_by, with_mnemonic, instruction}
@@ -231,6 +231,12 @@ module _ (labels : Labels) (s : Section) where
   load_is (Name a ∷ Open ∷ Name b ∷ Close ∷ Comma ∷ Name c ∷ []) = offset2 s (λ x y o. Plain (inst.Load x y o)) (register_named b) (register_named c) (label_named labels a)
   load_is (Number negative value ∷ Open ∷ Name b ∷ Close ∷ Comma ∷ Name c ∷ []) =
       number2 s (λ x y o. Plain (inst.Load x y o)) (register_named b) (register_named c) (in_range 65536 65535 negative value) (integer negative value)
+  load_is (Comma ∷ Open ∷ Name b ∷ Close ∷ Comma ∷ Name c ∷ []) = refl
+  load_is (Open ∷ Open ∷ Name b ∷ Close ∷ Comma ∷ Name c ∷ []) = refl
+  load_is (Close ∷ Open ∷ Name b ∷ Close ∷ Comma ∷ Name c ∷ []) = refl
+  load_is (Hash ∷ Open ∷ Name b ∷ Close ∷ Comma ∷ Name c ∷ []) = refl
+  load_is (Colon ∷ Open ∷ Name b ∷ Close ∷ Comma ∷ Name c ∷ []) = refl
+  load_is (End ∷ Open ∷ Name b ∷ Close ∷ Comma ∷ Name c ∷ []) = refl
   load_is _ = refl
 
   store_is : (words : List Word) → Spells m.Store (store labels words) words
@@ -238,6 +244,12 @@ module _ (labels : Labels) (s : Section) where
   store_is (Name a ∷ Open ∷ Name b ∷ Close ∷ Comma ∷ Name c ∷ []) = offset2 s (λ x y o. Plain (inst.Store x y o)) (register_named b) (register_named c) (label_named labels a)
   store_is (Number negative value ∷ Open ∷ Name b ∷ Close ∷ Comma ∷ Name c ∷ []) =
       number2 s (λ x y o. Plain (inst.Store x y o)) (register_named b) (register_named c) (in_range 65536 65535 negative value) (integer negative value)
+  store_is (Comma ∷ Open ∷ Name b ∷ Close ∷ Comma ∷ Name c ∷ []) = refl
+  store_is (Open ∷ Open ∷ Name b ∷ Close ∷ Comma ∷ Name c ∷ []) = refl
+  store_is (Close ∷ Open ∷ Name b ∷ Close ∷ Comma ∷ Name c ∷ []) = refl
+  store_is (Hash ∷ Open ∷ Name b ∷ Close ∷ Comma ∷ Name c ∷ []) = refl
+  store_is (Colon ∷ Open ∷ Name b ∷ Close ∷ Comma ∷ Name c ∷ []) = refl
+  store_is (End ∷ Open ∷ Name b ∷ Close ∷ Comma ∷ Name c ∷ []) = refl
   store_is _ = refl
 
   load_address_is : (words : List Word) → Spells m.LoadAddress (load_address labels words) words

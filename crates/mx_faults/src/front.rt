@@ -6,19 +6,9 @@ ghost use Rattle.mx_asm.specs.Shapes.{word};
 ghost use Rattle.mx_faults.specs.Walking;
 ghost use Rattle.mx_faults.specs.Walking.{repeat_place};
 
-use mx_asm::{Labels, Word, begins_label, is_dotted};
+use mx_asm::{Labels, Word, begins_label, define_own, first_name};
 use mx_source::Label;
 use std::alloc::AllocError;
-
-/// The name at the front.
-fn first_name<'a>(words: &[Word<'a>]) -> &'a [u8]
-    ensures { result.now ≡ Positions.first_name (map word words.now) }
-{
-    match words {
-        [Word::Name(name), ..] => name,
-        _ => &[],
-    }
-}
 
 /// The place that was found, or else this one if a label stands there that is defined before.
 fn earlier_place(found: Option<usize>, again: bool, place: usize) -> Option<usize>
@@ -50,35 +40,4 @@ pub fn define_front<'a>(
         rest = &rest[2..];
     }
     Ok(repeated)
-}
-
-/// Defines a label unless it is defined or none, and tells whether it is defined before.
-#[tactic(auto, unfolding(mx_asm::specs::Positions::define))]
-fn define_own<'a>(labels: &mut Labels<'a>, label: Label, name: &'a [u8]) -> Result<bool, AllocError>
-    requires near { IsNear label }
-    ensures labels { OnOk result (labels.new ≡ Positions.define labels.old label name.entry.now) }
-    ensures repeated { IfOk result (λ b. b ≡ Positions.is_defined labels.old name.entry.now) }
-{
-    if is_dotted(name) {
-        return Ok(false);
-    }
-    if labels.find(name).is_some() {
-        return Ok(true);
-    }
-    labels.define(name, label)?;
-    Ok(false)
-}
-
-/// The line defines a label.
-pub fn has_label(words: &[Word]) -> bool
-    ensures { result ≡ Positions.has_label (map word words.now) }
-{
-    let mut rest = words;
-    while begins_label(rest) {
-        if !is_dotted(first_name(rest)) {
-            return true;
-        }
-        rest = &rest[2..];
-    }
-    false
 }

@@ -6,8 +6,9 @@ ghost use Rattle.mx_asm.specs.Shapes.{word};
 ghost use Rattle.mx_faults.specs.Walking;
 ghost use Rattle.mx_faults.specs.Walking.{at_front};
 
-use crate::front::has_label;
-use mx_asm::{AsmError, Fault, Labels, Position, Section, Word, define_all, read_lines};
+use mx_asm::{
+    AsmError, Fault, Labels, Position, Section, Word, define_all, read_lines, stands_past,
+};
 use std::alloc::{AllocError, Global};
 
 /// From where to before where data words stand.
@@ -15,22 +16,6 @@ use std::alloc::{AllocError, Global};
 pub struct Bounds {
     pub data_start: u32,
     pub end: u32,
-}
-
-fn is_data(section: &Section) -> bool
-    ensures { result ≡ Faults.is_data section.now }
-{
-    match section {
-        Section::Data => true,
-        Section::Code => false,
-    }
-}
-
-/// A data label of the line would stand past the end of memory.
-fn stands_past(end: u32, position: &Position, words: &[Word]) -> bool
-    ensures { result ≡ Faults.stands_past end position.now (map word words.now) }
-{
-    is_data(&position.section) && has_label(words) && position.address >= end
 }
 
 /// The last three faults of a line that stands at a position.
