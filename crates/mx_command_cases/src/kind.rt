@@ -1,5 +1,5 @@
 //! Kinds of cases.
-use crate::{images, puts, repeated, runs};
+use crate::{images, puts, repeated, runs, shared};
 use anyhow::Result;
 use mx_case_files::{Cases, before, behind};
 use std::rt::Files;
@@ -17,10 +17,12 @@ pub enum Kind {
     Puts,
     Repeated,
     Listed,
+    Shared,
+    AtEach,
 }
 
 impl Kind {
-    pub const ALL: [Kind; 10] = [
+    pub const ALL: [Kind; 12] = [
         Kind::Runs,
         Kind::Failing,
         Kind::Built,
@@ -31,6 +33,8 @@ impl Kind {
         Kind::Puts,
         Kind::Repeated,
         Kind::Listed,
+        Kind::Shared,
+        Kind::AtEach,
     ];
 }
 
@@ -47,6 +51,8 @@ impl Cases for Kind {
             Kind::Puts => "puts.txt",
             Kind::Repeated => "repeated.txt",
             Kind::Listed => "listed.txt",
+            Kind::Shared => "shared.txt",
+            Kind::AtEach => "at_each.txt",
         }
     }
 
@@ -63,6 +69,8 @@ impl Cases for Kind {
             Kind::Puts => puts::puts(rt, line),
             Kind::Repeated => repeated::repeated(alloc, before(line, " -> ")?),
             Kind::Listed => repeated::listed(alloc, line),
+            Kind::Shared => shared::shared(rt, line),
+            Kind::AtEach => shared::at_each(rt, line),
         }
     }
 }

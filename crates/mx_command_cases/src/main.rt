@@ -8,6 +8,7 @@ mod kind;
 mod puts;
 mod repeated;
 mod runs;
+mod shared;
 
 use anyhow::Result;
 use kind::Kind;

@@ -1,0 +1,7 @@
+; Prints `9` to `0` again and again.
+begin: addi r0,#57,r1
+addi r0,#47,r2
+next: st 255[r0],r1
+addi r1,#-1,r1
+bne r1,r2,next
+b begin
