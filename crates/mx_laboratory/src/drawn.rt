@@ -1,5 +1,5 @@
 //! The reply of `draw`.
-ghost use Rattle.std.specs.Prelude.{◌≤◌, ◌<◌, ◌+◌, ◌^◌, length, IfOk};
+ghost use Rattle.std.specs.Prelude.{◌≤◌, ◌<◌, ◌+◌, ◌^◌, IfOk};
 ghost use Rattle.std.specs.Option.{option_copied};
 ghost use Rattle.mx_board.specs.Contents.{bytes_in};
 ghost use Rattle.mx_turn.specs.Handler.{shipped};
@@ -7,7 +7,7 @@ ghost use Rattle.mx_turn.specs.Program.{program_of};
 ghost use Rattle.mx_draw.specs.Frames.{IsDrawing};
 
 use crate::given::{number_given, word_given};
-use crate::linked::{LinkedSource, read_linked};
+use crate::ran::read_run;
 use clap::ArgMatches;
 use mx_answer::{Reply, Status};
 use mx_board::Requests;
@@ -17,7 +17,6 @@ use mx_icache::LineCache;
 use mx_io::{Memory, Shelf};
 use mx_pictures::{Subject, html, kanata, svg, text, vcd};
 use mx_pipe::Pipe;
-use mx_simulate::{read_input, read_requests};
 use std::alloc::Global;
 
 // Which cycles are drawn: the first one, and how many.
@@ -35,14 +34,6 @@ fn span_given(matches: &ArgMatches) -> Span
     let from = number_given(matches, "from").min(budget);
     let count = number_given(matches, "cycles").min(budget - from);
     Span { from, count }
-}
-
-// The input of a program that asks for one.
-fn given(asks: bool, bytes: &[u8]) -> Option<&[u8]>
-    requires { length bytes.now ≤ 1048576 }
-    ensures { bytes_in (option_copied result) ≤ 1048576 }
-{
-    if asks { Some(bytes) } else { None }
 }
 
 // Draws cycles of the run of an image, under the shipped handler.
@@ -81,25 +72,17 @@ pub fn draw_reply<S: Shelf>(
     shelf: &mut S,
     matches: &ArgMatches,
 ) -> Result<Reply, Memory> {
-    let program = match read_linked(alloc, shelf, word_given(matches, "SOURCE"))? {
-        Ok(program) => program,
+    let run = match read_run(alloc, shelf, matches)? {
+        Ok(run) => run,
         Err(reply) => return Ok(reply),
     };
-    let requests = match read_requests(alloc, shelf, matches.get_str("interrupts"))? {
-        Ok(requests) => requests,
-        Err(reply) => return Ok(reply),
-    };
-    let input = match read_input(alloc, shelf, matches.get_str("input"))? {
-        Ok(input) => input,
-        Err(reply) => return Ok(reply),
-    };
+    let program = &run.program;
     let span = span_given(matches);
-    let asks = program.source.input().is_some();
     let drawing = drawing_of(
         alloc,
         &program.linked.image,
-        given(asks, input.as_slice()),
-        &requests,
+        run.asked_input(),
+        &run.requests,
         span,
     )?;
     let subject = Subject {

@@ -1,9 +1,13 @@
 //! The commands for people who look: pictures of a run. What their words are, and how each is answered.
 #![tactic(auto)]
 
+mod compared;
 mod drawn;
 mod given;
 mod linked;
+mod printed;
+mod profiled;
+mod ran;
 mod top;
 mod words;
 

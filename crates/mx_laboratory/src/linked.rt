@@ -1,5 +1,9 @@
 //! Sources, assembled and linked, or the reply to what is wrong with them.
-ghost use Rattle.std.specs.Prelude.{◌≤◌, length};
+ghost use Rattle.std.specs.Prelude.{◌≤◌, length, IfOk};
+ghost use Rattle.mx_reorg.specs.Greedy.{IsGreedy};
+ghost use Rattle.mx_link.specs.Origins.{from_target};
+ghost use Rattle.mx_link.specs.Linked.{IsLinked};
+ghost use Rattle.mx_meaning.specs.Boards.{board};
 
 use mx_answer::{FileKind, Reply, Status, line_reply, read_file};
 use mx_asm::{AsmError, Fault, assemble};
@@ -47,8 +51,8 @@ fn fault_reply(alloc: Global, line: u32, fault: Fault) -> Result<Reply, Memory> 
     }
 }
 
-// The reply to a branch that does not reach its target.
-fn overlong_reply(alloc: Global, line: u32, from: u32, to: u32) -> Result<Reply, Memory> {
+/// The reply to a branch that does not reach its target.
+pub fn overlong_reply(alloc: Global, line: u32, from: u32, to: u32) -> Result<Reply, Memory> {
     let by = i64::from(to) - i64::from(from);
     match format!(in alloc; "line {line}: displacement {by} from {from} to {to}") {
         Ok(text) => line_reply(alloc, Status::Refused, text.as_str()),
@@ -68,7 +72,9 @@ fn assembled(alloc: Global, text: &[u8]) -> Result<Result<Source, Reply>, Memory
 }
 
 // A source, linked by the list scheduler, or the reply to its first branch that does not reach its target.
-fn linked_source(alloc: Global, source: &Source) -> Result<Result<Linked, Reply>, Memory> {
+fn linked_source(alloc: Global, source: &Source) -> Result<Result<Linked, Reply>, Memory>
+    ensures { IfOk result (λ r. IfOk r (IsLinked IsGreedy from_target source.now board)) }
+{
     let _statements = source.statements();
     match link(alloc, source, BOARD, &mut ListProposer) {
         Ok(linked) => Ok(Ok(linked)),
@@ -84,7 +90,9 @@ pub fn read_linked<S: Shelf>(
     alloc: Global,
     shelf: &mut S,
     name: &str,
-) -> Result<Result<LinkedSource, Reply>, Memory> {
+) -> Result<Result<LinkedSource, Reply>, Memory>
+    ensures { IfOk result (λ r. IfOk r (λ p. IsLinked IsGreedy from_target p.source board p.linked)) }
+{
     let text = match read_file(alloc, shelf, FileKind::Source, name)? {
         Ok(text) => text,
         Err(reply) => return Ok(Err(reply)),

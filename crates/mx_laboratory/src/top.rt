@@ -1,5 +1,7 @@
 //! The top call.
+use crate::compared::compare_reply;
 use crate::drawn::draw_reply;
+use crate::profiled::profile_reply;
 use crate::words::read_words;
 use clap::error::ErrorKind;
 use clap::{ArgMatches, Error};
@@ -38,6 +40,8 @@ fn answered_by<S: Shelf>(
 ) -> Result<Reply, Memory> {
     match name {
         "draw" => draw_reply(alloc, shelf, matches),
+        "profile" => profile_reply(alloc, shelf, matches),
+        "compare" => compare_reply(alloc, shelf, matches),
         _ => Err(Memory),
     }
 }

@@ -1,4 +1,6 @@
 //! The words of the command line.
+use crate::compared::compare_command;
+use crate::profiled::profile_command;
 use clap::{Arg, ArgAction, ArgMatches, Command, value_parser};
 use std::alloc::{AllocError, Global};
 
@@ -8,8 +10,8 @@ pub const MOST_BUDGET: i64 = 100_000_000;
 /// The most cycles of a drawing.
 pub const MOST_DRAWN: i64 = 100_000;
 
-// The source, which stands first.
-fn source_arg<'a>(alloc: Global) -> Arg<'a> {
+/// The source, which stands first.
+pub fn source_arg<'a>(alloc: Global) -> Arg<'a> {
     Arg::new(alloc, "SOURCE")
         .required(true)
         .action(ArgAction::Set)
@@ -43,8 +45,8 @@ fn number_option<'a>(
         .help(help)
 }
 
-// The options of a run: its budget, its interrupt requests and its input.
-fn run_options<'a>(alloc: Global, command: Command<'a>) -> Result<Command<'a>, AllocError> {
+/// The options of a run: its budget, its interrupt requests and its input.
+pub fn run_options<'a>(alloc: Global, command: Command<'a>) -> Result<Command<'a>, AllocError> {
     command
         .arg(number_option(
             alloc,
@@ -105,7 +107,9 @@ fn command_line<'a>(alloc: Global) -> Result<Command<'a>, AllocError> {
         .version("1.0")
         .subcommand_required(true)
         .arg_required_else_help(true)
-        .subcommand(draw_command(alloc)?)
+        .subcommand(draw_command(alloc)?)?
+        .subcommand(profile_command(alloc)?)?
+        .subcommand(compare_command(alloc)?)
 }
 
 /// What the words say.
