@@ -1,0 +1,47 @@
+-- What is told of plans that break a rule of valid plans: a line each.
+use Rattle.std.specs.Prelude.{◌≡◌, ℕ, suc, List, [], ◌∷◌, ◌++◌, codes, slice_index, Option, Some, None}
+use Rattle.std.specs.Fmt.{decimal}
+use Rattle.mx_source.specs.SourceValue.{SourceValue}
+use Rattle.mx_text.specs.Text.{line}
+use Rattle.mx_blocks.specs.declared.Block.{Block}
+use Rattle.mx_blocks.specs.declared.Plan.{Plan}
+use Rattle.mx_plans.specs.declared.Rule.{Rule}
+use Rattle.mx_plans.specs.declared.Rule.TheVariants.{Once, Terminator, Tail, Order, Delay, LastLoad, Room}
+use Rattle.mx_plans.specs.Rules.{IsVerdict}
+
+-- the first rule that each plan of a block breaks, if it breaks one
+abbrev pub AreVerdicts : List Block → List Plan → List (Option Rule) → Type 0
+AreVerdicts [] [] [] = Unit {0}
+AreVerdicts (block ∷ blocks) (plan ∷ plans) (verdict ∷ verdicts) = IsVerdict block plan verdict × AreVerdicts blocks plans verdicts
+AreVerdicts _ _ _ = ⊥
+
+-- the name of a rule, and what it asks for
+abbrev pub rule_text : Rule → List ℕ
+rule_text Once = codes "Once: each instruction has to stand once"
+rule_text Terminator = codes "Terminator: the last instruction has to stand as /"
+rule_text Tail = codes "Tail: two items follow the / of a transfer, none that of a halt"
+rule_text Order = codes "Order: dependent instructions have to stand as in the source"
+rule_text Delay = codes "Delay: no load stands directly before a reader of its register"
+rule_text LastLoad = codes "LastLoad: the last item is no load"
+rule_text Room = codes "Room: no more items stand before the / than in the padded plan"
+
+-- the line of a rejected plan: its line in the file, the line on which its block begins in the source, and the rule
+abbrev pub rejection_line : ℕ → ℕ → Rule → List ℕ
+rejection_line number at rule =
+    ((((codes "plan " ++ decimal number) ++ codes " (line ") ++ decimal at) ++ codes ") rejected by ") ++ line (rule_text rule)
+
+abbrev pub verdict_line : ℕ → ℕ → Option Rule → List ℕ
+verdict_line number at None = []
+verdict_line number at (Some rule) = rejection_line number at rule
+
+-- the lines of the plans of these blocks, the first of which is of this number; statement i of the source stands on the line of index i
+abbrev pub verdict_lines : List ℕ → ℕ → List Block → List (Option Rule) → List ℕ
+verdict_lines lines number (block ∷ blocks) (verdict ∷ verdicts) =
+    verdict_line number (slice_index lines block.first) verdict ++ verdict_lines lines (suc number) blocks verdicts
+verdict_lines lines number _ _ = []
+
+-- this is told of what is proposed for the blocks of a source
+pub record AreTold (source : SourceValue) (blocks : List Block) (plans : List Plan) (text : List ℕ) : Type 0 where
+  pub verdicts : List (Option Rule)
+  pub judged : AreVerdicts blocks plans verdicts
+  pub text_is : text ≡ verdict_lines source.lines 1 blocks verdicts
