@@ -5,6 +5,7 @@ mod compared;
 mod drawn;
 mod given;
 mod linked;
+mod planned;
 mod printed;
 mod profiled;
 mod ran;

@@ -71,6 +71,18 @@ fn assembled(alloc: Global, text: &[u8]) -> Result<Result<Source, Reply>, Memory
     }
 }
 
+/// The source of this name, or the reply to the fault of its file, or to what is wrong with its text.
+pub fn read_source<S: Shelf>(
+    alloc: Global,
+    shelf: &mut S,
+    name: &str,
+) -> Result<Result<Source, Reply>, Memory> {
+    match read_file(alloc, shelf, FileKind::Source, name)? {
+        Ok(text) => assembled(alloc, text.as_slice()),
+        Err(reply) => Ok(Err(reply)),
+    }
+}
+
 // A source, linked by the list scheduler, or the reply to its first branch that does not reach its target.
 fn linked_source(alloc: Global, source: &Source) -> Result<Result<Linked, Reply>, Memory>
     ensures { IfOk result (λ r. IfOk r (IsLinked IsGreedy from_target source.now board)) }

@@ -1,6 +1,7 @@
 //! The top call.
 use crate::compared::compare_reply;
 use crate::drawn::draw_reply;
+use crate::planned::plans_reply;
 use crate::profiled::profile_reply;
 use crate::words::read_words;
 use clap::error::ErrorKind;
@@ -42,6 +43,7 @@ fn answered_by<S: Shelf>(
         "draw" => draw_reply(alloc, shelf, matches),
         "profile" => profile_reply(alloc, shelf, matches),
         "compare" => compare_reply(alloc, shelf, matches),
+        "plans" => plans_reply(alloc, shelf, matches),
         _ => Err(Memory),
     }
 }

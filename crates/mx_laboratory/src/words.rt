@@ -1,5 +1,6 @@
 //! The words of the command line.
 use crate::compared::compare_command;
+use crate::planned::plans_command;
 use crate::profiled::profile_command;
 use clap::{Arg, ArgAction, ArgMatches, Command, value_parser};
 use std::alloc::{AllocError, Global};
@@ -109,7 +110,8 @@ fn command_line<'a>(alloc: Global) -> Result<Command<'a>, AllocError> {
         .arg_required_else_help(true)
         .subcommand(draw_command(alloc)?)?
         .subcommand(profile_command(alloc)?)?
-        .subcommand(compare_command(alloc)?)
+        .subcommand(compare_command(alloc)?)?
+        .subcommand(plans_command(alloc)?)
 }
 
 /// What the words say.

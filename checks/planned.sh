@@ -1,0 +1,111 @@
+#!/bin/bash
+# `plans` of the built program, as ./mx leaves it: what it prints of plan files that are accepted, rejected and faulty, worked
+# out by hand, and that what examples/schedule.py proposes for the examples and for drawn sources is accepted and halts with
+# the console that the source means. `rt ci` does not call this, since it needs a built program.
+top=$(CDPATH= cd -- "$(dirname -- "$0")/.." && pwd) || exit 1
+folder=$(mktemp -d) || exit 1
+trap 'rm -rf "$folder"' EXIT
+cd "$folder" || exit 1
+cp "$top"/examples/*.s . || exit 1
+failures=0
+
+# tell OUTCOME NAME: prints whether a test held, where its outcome is `ok`
+tell() {
+    if [ "$1" = ok ]; then
+        echo "ok: $2"
+    else
+        echo "FAILED: $2: $1"
+        failures=$((failures + 1))
+    fi
+}
+
+# report CYCLES FETCHES MISSES SQUASHES WORDS NOOPS CONSOLE [NUMBER=WORD ..]: the report of a run that halts; registers that
+# are not given are 0
+report() {
+    printf 'halted\ncycles %s\nfetches %s\nmisses %s\nsquashes %s\ninterrupts 0\nwords %s\nnoops %s\n' "${@:1:6}"
+    printf 'console %s\n%s\nregisters\n' "${#7}" "$7"
+    local register given word
+    for register in {1..31}; do
+        word=00000000
+        for given in "${@:8}"; do
+            [ "${given%=*}" = "$register" ] && word=${given#*=}
+        done
+        echo "r$register $word"
+    done
+    echo 'md 00000000'
+}
+
+# expect NAME STATUS SOURCE PLANS: `plans` of a file with these plans ends so, and prints what `wanted` holds
+expect() {
+    printf -- "$4" >file
+    "$top/mx" plans "$3" file >out 2>err
+    local status=$?
+    if [ "$status" -eq "$2" ] && cmp -s out wanted && ! [ -s err ]; then tell ok "$1"; else tell "status $status, $(head -n 1 out)" "$1"; fi
+}
+
+report 29 17 6 1 8 0 321 1=00000030 2=00000030 >countdown
+cp countdown wanted
+expect 'two instructions in the other order' 0 countdown.s '1 0\n0 1 / - -\n/\n'
+expect 'no plan at all' 0 countdown.s ''
+expect 'tabs and CRs' 0 countdown.s '1\t0\r\n\r\n/'
+{ echo 'plan 2 (line 4) rejected by Order: dependent instructions have to stand as in the source'; cat countdown; } >wanted
+expect 'a store behind what it depends on' 0 countdown.s '1 0\n1 0 / - -\n/\n'
+{ echo 'plan 2 (line 4) rejected by Once: each instruction has to stand once'; cat countdown; } >wanted
+expect 'an instruction that is left out' 0 countdown.s '\n0 / - -\n/\n'
+expect 'a number that no instruction has' 0 countdown.s '\n0 1 3 / - -\n/\n'
+{ echo 'plan 2 (line 4) rejected by Terminator: the last instruction has to stand as /'; cat countdown; } >wanted
+expect 'a branch that stands as a number' 0 countdown.s '\n0 1 2 - -\n/\n'
+{
+    echo 'plan 2 (line 4) rejected by Tail: two items follow the / of a transfer, none that of a halt'
+    echo 'plan 3 (line 7) rejected by Tail: two items follow the / of a transfer, none that of a halt'
+    cat countdown
+} >wanted
+expect 'a slot too few, and one behind a halt' 0 countdown.s '0 1\n0 1 / -\n/ -\n'
+{ echo 'plan 2 (line 4) rejected by Room: no more items stand before the / than in the padded plan'; cat countdown; } >wanted
+expect 'a no-op too many' 0 countdown.s '\n0 - 1 / - -\n'
+
+report 15 7 4 0 4 0 '' >wanted
+expect 'a branch first, and a load in its first slot' 0 full_slots.s '/ 1 0\n/\n'
+{ echo 'plan 1 (line 4) rejected by LastLoad: the last item is no load'; report 20 10 5 1 7 1 ''; } >wanted
+expect 'a load in the second slot' 0 full_slots.s '/ 0 1\n/\n'
+report 16 8 4 0 5 0 '' 2=00000100 3=00000107 >wanted
+expect 'a shortest plan of two loads' 0 two_loads.s '1 0 3 2\n'
+{
+    echo 'plan 1 (line 4) rejected by Delay: no load stands directly before a reader of its register'
+    report 23 11 6 0 8 3 '' 2=00000100 3=00000107
+} >wanted
+expect 'a load directly before a reader' 0 two_loads.s '0 1 2 3\n'
+
+echo 'plans line 2: BadWord' >wanted
+expect 'a word that is none' 8 countdown.s '0 1\n0 x / - -\n'
+expect 'the number 64' 8 countdown.s '0 1\n0 64 / - -\n'
+echo 'plans line 1: TooLong' >wanted
+expect '132 words' 8 countdown.s "$(printf -- '- %.0s' {1..132})\n"
+echo 'plans line 2: TwoPlaces' >wanted
+expect 'two places of a branch' 8 countdown.s '0 1\n0 / 1 / - -\n'
+echo 'plans line 4: NoBlock' >wanted
+expect 'a line too many' 8 countdown.s '\n\n\n0\n'
+
+printf '0 1\n0 1 / - -\n/\n' >wanted
+"$top/mx" plans countdown.s --print >out 2>err
+status=$?
+if [ "$status" -eq 0 ] && cmp -s out wanted; then tell ok 'the plans of the list scheduler'; else tell "status $status" 'the plans of the list scheduler'; fi
+"$top/mx" plans countdown.s missing >out 2>err
+status=$?
+if [ "$status" -eq 4 ] && [ "$(cat out)" = 'read fault: plans failed' ]; then tell ok 'no plan file'; else tell "status $status" 'no plan file'; fi
+
+# scheduled SOURCE: what the scheduler of the examples proposes is accepted, and the run has the console of the meaning
+scheduled() {
+    "$top/mx" plans "$1" --print | "$top/examples/schedule.py" "$1" >file
+    "$top/mx" plans "$1" file --input hello.s >out
+    "$top/mx" meaning "$1" --input hello.s >wanted
+    if grep -q '^plan ' out; then tell "$(head -n 1 out)" "the plans of schedule.py for $1"
+    elif [ "$(sed -n '/^console/,/^registers/p' out)" = "$(sed -n '/^console/,/^registers/p' wanted)" ]; then tell ok "the plans of schedule.py for $1"
+    else tell 'another console' "the plans of schedule.py for $1"; fi
+}
+for source in calls countdown echo full_slots greeting hello load_last two_loads; do scheduled "$source.s"; done
+for seed in {1..20}; do
+    "$top/mx" gen "$seed" 300 >"gen_$seed.s"
+    scheduled "gen_$seed.s"
+done
+[ "$failures" -eq 0 ]
