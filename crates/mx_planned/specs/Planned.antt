@@ -28,7 +28,7 @@ abbrev pub run_report : List ℕ → Run → List ℕ
 run_report code run = report_text run.halted run.counts run.console code run.last.core None
 
 -- The answer where the source is linked by what the lines of a file propose: its branches are in reach.
-pub record IsPlanned (source : SourceValue) (plans : List (List Mark)) (requests bytes : List ℕ) (budget : ℕ) (answer : Answer) : Type 0 where
+pub record IsRunByPlans (source : SourceValue) (plans : List (List Mark)) (requests bytes : List ℕ) (budget : ℕ) (answer : Answer) : Type 0 where
   -- what `link` gives for a proposer that proposes what the lines say
   pub linked : Linked
   pub is : IsLinked (IsProposed source plans) from_target source board linked

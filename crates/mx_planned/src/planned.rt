@@ -13,7 +13,7 @@ ghost use Rattle.mx_answer.specs.declared.Status.{Status as HowItEnds};
 ghost use Rattle.mx_meaning.specs.Boards.{board};
 ghost use Rattle.mx_plans.specs.Files.{marks_of_lines};
 ghost use Rattle.mx_plans.specs.Says.{IsProposed};
-ghost use Rattle.mx_planned.specs.Planned.{IsPlanned};
+ghost use Rattle.mx_planned.specs.Planned.{IsRunByPlans};
 
 use crate::verdicts::told;
 use mx_answer::Reply;
@@ -79,7 +79,7 @@ pub fn planned_reply(
     budget: u32,
 ) -> Result<Reply, LinkError>
     requires { length input.now ≤ 1048576 }
-    ensures planned { IfOk result (λ r. IsPlanned source.now (marks_of_lines plans.now) requests.now input.now budget (reply_answer r)) }
+    ensures planned { IfOk result (λ r. IsRunByPlans source.now (marks_of_lines plans.now) requests.now input.now budget (reply_answer r)) }
     ensures refused { IfErr result (IsRefusal (IsProposed source.now (marks_of_lines plans.now)) source.now board) }
 {
     let linked = linked_by(alloc, source, plans)?;
