@@ -1,27 +1,49 @@
 #!/bin/bash
-# Refuses one request for memory after the other, each in a run of its own, for every command: such a run ends as one that ran
-# out of memory, or as the run with all its memory does and with the same output. `rt ci` does not call this. It takes some
-# minutes a command, since the kit runs an unproved build of the program, with checks, once for each request.
+# Refuses the built program, as ./mx leaves it, one request for memory after the other, each in a run of its own, for every
+# command: such a run ends as one that ran out of memory, having put nothing out and written no file, or as the run with all
+# its memory does, with the same output and file. `rt ci` does not call this, since it needs cc and a built program.
 #
 # usage: checks/memory.sh [COMMAND]   a command of the list below; all of them where none is named
 top=$(cd -- "$(dirname -- "$0")/.." && pwd) || exit 1
-files=$top/crates/mx_command_cases/data/files
+program=$top/crates/mx_run/out/mx_run
+out_of_memory=6
 folder=$(mktemp -d) || exit 1
 trap 'rm -rf "$folder"' EXIT
-cp "$files"/*.s "$files/ab" "$files/at_21" "$top/examples/hello.mxi" "$folder" || exit 1
-cd "$top/crates/mx_run" || exit 1
+cc -Wall -Wextra -Werror -shared -fPIC "$top/checks/refuse.c" -o "$folder/refuse.so" -ldl || exit 1
+mkdir "$folder/files" && cd "$folder/files" || exit 1
+cp "$top"/crates/mx_command_cases/data/files/{hello,greeting,echo,loop,best_short,join_01_1,join_01_2,join_01_3}.s . || exit 1
+cp "$top"/crates/mx_command_cases/data/files/{ab,at_21} "$top/examples/hello.mxi" . || exit 1
 failures=0
 
-# refuse NAME WORD..: the command of these words, which reads the files among them
+# answer N WORD..: the run in which request N is refused, or none where N is 0; prints its status, its output and its new file
+answer() {
+    local number=$1
+    shift
+    rm -f new.mxi
+    REFUSE=$number LD_PRELOAD=$folder/refuse.so "$program" "$@" >"$folder/out" 2>"$folder/err" 3>"$folder/refused"
+    echo "status $?"
+    cat "$folder/out" "$folder/err"
+    [ ! -e new.mxi ] || cat new.mxi
+}
+
+# refuse WORD..: the command of these words, refused each of its requests in turn
 refuse() {
-    local told data=() word
-    for word in "$@"; do [ -f "$folder/$word" ] && data+=(--data "$word=$folder/$word"); done
-    if told=$(rt try --fail-alloc 1.. "${data[@]}" -- "$@" 2>&1); then
-        echo "ok: $*: $(tail -n 1 <<<"$told")"
-    else
-        echo "FAILED: $*: $(tail -n 3 <<<"$told")"
-        failures=$((failures + 1))
+    local n=0 wanted told memory=0 wrong=0
+    answer 0 "$@" >"$folder/wanted"
+    while n=$((n + 1)) && answer "$n" "$@" >"$folder/told" && [ -s "$folder/refused" ]; do
+        if [ "$(cat "$folder/told")" = "status $out_of_memory" ]; then
+            memory=$((memory + 1))
+        elif ! cmp -s "$folder/told" "$folder/wanted"; then
+            echo "FAILED: $*: request $n: $(head -c 200 "$folder/told")"
+            wrong=$((wrong + 1))
+        fi
+    done
+    if ! cmp -s "$folder/told" "$folder/wanted" || [ "$n" -eq 1 ]; then
+        echo "FAILED: $*: no request was refused, or the run is not the same twice"
+        wrong=$((wrong + 1))
     fi
+    failures=$((failures + wrong))
+    [ "$wrong" -ne 0 ] || echo "ok: $*: $((n - 1)) requests, of which $memory end the run"
 }
 
 wanted=${1-}
@@ -42,6 +64,7 @@ build hello.s new.mxi
 migrate hello.mxi new.mxi
 debug loop.s L --stops 3
 share hello.s loop.s --interrupts at_21
+join join_01_1.s join_01_2.s join_01_3.s
 COMMANDS
 
 [ "$failures" -eq 0 ]
