@@ -18,78 +18,21 @@ use Rattle.mx_blocks.specs.declared.End.{End}
 use Rattle.mx_blocks.specs.declared.End.TheVariants.{Falls, Halts, Branches, Calls, Jumps}
 use Rattle.mx_blocks.specs.declared.Plan.{Plan}
 use Rattle.mx_blocks.specs.declared.Item.TheVariants.{Nop}
-use Rattle.mx_blocks.specs.Leaders.{gap, end_of, size, IsBlockOf, BlocksFrom, AreBlocks}
+use Rattle.mx_blocks.proofs.LeadersBegin.{block_small}
+use Rattle.mx_blocks.specs.Leaders.{end_of, size, IsBlockOf, BlocksFrom, AreBlocks}
 use Rattle.mx_validate.specs.Padded.{insts_of, padded_from, no_ops_after, body_count, padded_place}
 use Rattle.mx_squash.specs.Copies.{Site, reaches}
 use Rattle.mx_layout.specs.declared.error.LinkError.{LinkError}
 use Rattle.mx_layout.specs.declared.error.LinkError.TheVariants.{Displacement}
 use Rattle.mx_layout.specs.Layout.{has_statement, blocks_in}
+use Rattle.mx_layout.proofs.Sizes.{padded_whole, padded_size_short}
 use Rattle.mx_layout.specs.Overlong.{Overlong, IsOverlong, IsRefusal, padded_size, padded_link, branch_target, overlong_to, overlong_from, overlong, or_else}
 
--- Blocks are short.
-
-small_gap : (a b : Bool) (n : ℕ) → n ≤ 63 → cond (a || (b || eqb n 63)) 0 (suc n) ≤ 63
-small_gap true b n l = omega arith
-small_gap false true n l = omega arith
-small_gap false false n l = grind (arith, nat_tests)
-
-gap_small : (labelled : ℕ → Bool) (statements : List Statement) (i : ℕ) → gap labelled statements i ≤ 63
-gap_small labelled statements zero = omega arith
-gap_small labelled statements (suc i) = small_gap _ _ (gap labelled statements i) (gap_small labelled statements i)
-
-one_further : (b : Bool) (n : ℕ) → eqb (cond b 0 (suc n)) 0 ≡ false → cond b 0 (suc n) ≡ suc n
-one_further true n e = absurd (false≢true (sym e))
-one_further false n e = refl
-
-from_test : (n : ℕ) → eqb n 0 ≡ true → n ≡ 0
-from_test n e = grind (arith, nat_tests)
-
-module _ (source : SourceValue) (block : Block) (is : IsBlockOf source block) where
-  -- how far a statement is from the last leader
-  abbrev distance : ℕ → ℕ
-  distance i = gap (is_labelled source.labels) source.statements i
-
-  gap_within : (t : ℕ) → t < size block → distance (block.first + t) ≡ t
-  gap_within zero l = let e : block.first + 0 ≡ block.first = omega arith in ap distance e ∙ from_test (distance block.first) is.leader
-  gap_within (suc t) l =
-      let e : block.first + suc t ≡ suc (block.first + t) = omega arith in
-      let inner = is.inner (suc t) (omega arith) l in
-      ap distance e
-      ∙ one_further _ (distance (block.first + t)) (sym (ap (λ i. eqb (distance i) 0) e) ∙ inner)
-      ∙ ap suc (gap_within t (omega arith))
-
-  pub size_small : size block ≤ 64
-  size_small =
-      let some = is.some in
-      let last = gap_within (size block - 1) (omega arith) in
-      let small = gap_small (is_labelled source.labels) source.statements (block.first + (size block - 1)) in
-      omega arith
-
--- Padded plans have at most three words for each instruction.
-
-few_after : (load transfer : Bool) → length (cond load (Nop ∷ []) (cond transfer (Nop ∷ Nop ∷ []) [])) ≤ 2
-few_after true transfer = omega arith
-few_after false true = omega arith
-few_after false false = omega arith
-
-padded_short : (k : ℕ) (insts : List Inst) → length (padded_from k insts) ≤ 3 * length insts
-padded_short k [] = omega arith
-padded_short k (i ∷ insts) =
-    let few = few_after (is_load i) (is_transfer i) in
-    let others = padded_short (suc k) insts in
-    let all = length-append (no_ops_after i) (padded_from (suc k) insts) in
-    omega arith
-
-size_short : (block : Block) → padded_size block ≤ 3 * size block
-size_short block = padded_short 0 (insts_of block)
-
-taken_short : (n : ℕ) (insts : List Inst) → length (take n insts) ≤ length insts
-taken_short n insts = grind (arith, common_steps)
-
+-- where a padded plan's terminator stands
 place_short : (block : Block) → padded_place block ≤ 3 * size block
 place_short block =
-    let all = padded_short 0 (take (body_count block) (insts_of block)) in
-    let taken = taken_short (body_count block) (insts_of block) in
+    let whole = padded_whole block in
+    let short = padded_size_short block in
     omega arith
 
 -- Where statements stand.
@@ -122,7 +65,7 @@ link_high source first j at (block ∷ blocks) i b l = ⊎_elim
     let begins = b.0 in
     let behind = after_false i block.first (size block) f (omega arith) in
     let others = link_high source (first + size block) j (at + padded_size block) blocks i b.2 (omega arith) in
-    let short = size_short block in
+    let short = padded_size_short block in
     omega arith)
     (cases_Bool (has_statement i block))
 
@@ -157,9 +100,9 @@ module _ (source : SourceValue) (near : AllNear source.statements) (link : ℕ �
         (λ before. (let h = s.low t before in omega arith))
         (λ here. (let e = at_block t here l in omega arith))
         (cases_lt t first);
-    high = λ t l. (let short = size_short block in ⊎_elim
+    high = λ t l. (let short = padded_size_short block in ⊎_elim
         (λ before. (let h = s.high t before in omega arith))
-        (λ here. (let e = at_block t here l in let small = size_small source block is in omega arith))
+        (λ here. (let e = at_block t here l in let small = block_small source block is in omega arith))
         (cases_lt t first));
   }
     where
@@ -175,7 +118,7 @@ module _ (source : SourceValue) (near : AllNear source.statements) (link : ℕ �
       let close = near_at i target (slice_get source.statements i) (is.end ∙ ap Some e) (λ st there. near i st there) in
       let forth : target ≤ i + 2 = close.0 in
       let back : i ≤ target + 2 = close.1 in
-      let small = size_small source block is in
+      let small = block_small source block is in
       let place = place_short block in
       ⊎_elim
       (λ before.
