@@ -66,7 +66,8 @@ fault_of_file shelf (Reads kind name next) before after given own (between, read
     inr (between, read, bytes, found, fault_of_file shelf (next bytes) between after given (own bytes) rest fault)
 
 -- the answer to a fault of a file is no want of memory and no fault of writing
-fault_status : (shelf : Told) (kind : FileKind) (name : List ℕ) (before after : Counts) (given : Answer) → IsFault shelf kind name before after given → given.status ≡ ReadFault
+fault_status : (shelf : Told) (kind : FileKind) (name : List ℕ) (before after : Counts) (given : Answer) → IsFault shelf kind name before after given
+    → given.status ≡ ReadFault
 fault_status shelf kind name before after given (inl (is, why)) = ap (λ a. a.status) is
 fault_status shelf kind name before after given (inr (is, why)) = ap (λ a. a.status) is
 

@@ -30,7 +30,8 @@ nowhere first table i h = ap (found first) (drop_of_length-le table h)
 abbrev apart : Row → Bool
 apart row = not (is_known row.options names_id)
 
-either : (row : Row) (other : Option Row) (test : Bool) → IsTrue (apart row) → IfSome other (λ r. IsTrue (apart r)) → IfSome (cond test (Some row) other) (λ r. IsTrue (apart r))
+either : (row : Row) (other : Option Row) (test : Bool) → IsTrue (apart row) → IfSome other (λ r. IsTrue (apart r))
+    → IfSome (cond test (Some row) other) (λ r. IsTrue (apart r))
 either row other true is rest = is
 either row other false is rest = rest
 

@@ -55,7 +55,8 @@ one_more block place front x m h = record {
   valid = subst (λ l. Valid block (plan_of l place)) (append_assoc front (x ∷ []) h.rest) h.valid;
 }
 
-one_less : (block : Block) (place : ℕ) (front : List Item) (x : Item) (rest : List Item) (m : ℕ) → length rest ≡ m → Valid block (plan_of (front ++ x ∷ rest) place) → Completed block place (front ++ x ∷ []) m
+one_less : (block : Block) (place : ℕ) (front : List Item) (x : Item) (rest : List Item) (m : ℕ) → length rest ≡ m
+    → Valid block (plan_of (front ++ x ∷ rest) place) → Completed block place (front ++ x ∷ []) m
 one_less block place front x rest m e v = record { rest = rest; size = e; valid = subst (λ l. Valid block (plan_of l place)) (sym (append_assoc front (x ∷ []) rest)) v }
 
 op_low : (n : ℕ) (front rest : List Item) (j : ℕ) → EachOnce n (front ++ Op j ∷ rest) → j < n
@@ -68,7 +69,8 @@ module _ (block : Block) (place : ℕ) where
   abbrev n : ℕ
   n = length (insts_of block)
 
-  by_number : (front : List Item) (m : ℕ) → ((x : Item) → Decided (Completed block place (front ++ x ∷ []) m)) → (b : ℕ) → Decided (GoesOn block place front m b)
+  by_number : (front : List Item) (m : ℕ) → ((x : Item) → Decided (Completed block place (front ++ x ∷ []) m)) → (b : ℕ)
+      → Decided (GoesOn block place front m b)
   by_number front m each zero = inr (λ g. (let low = g.low in absurd (omega arith)))
   by_number front m each (suc b) = ⊎_elim
       (λ g. (let low = g.low in inl (record { number = g.number; low = omega arith; after = g.after })))
@@ -98,7 +100,8 @@ module _ (block : Block) (place : ℕ) where
       (completed_decided m (front ++ Nop ∷ [])))
       (by_number front m (λ x. completed_decided m (front ++ x ∷ [])) n)
     where
-      neither : ¬ GoesOn block place front m n → ¬ Completed block place (front ++ Nop ∷ []) m → (rest : List Item) → length rest ≡ suc m → Valid block (plan_of (front ++ rest) place) → ⊥
+      neither : ¬ GoesOn block place front m n → ¬ Completed block place (front ++ Nop ∷ []) m → (rest : List Item) → length rest ≡ suc m
+          → Valid block (plan_of (front ++ rest) place) → ⊥
       neither none nor [] e v = absurd (omega arith)
       neither none nor (Op j ∷ rest) e v = none (record { number = j; low = op_low n front rest j v.once; after = one_less block place front (Op j) rest m (omega arith) v })
       neither none nor (Nop ∷ rest) e v = nor (one_less block place front Nop rest m (omega arith) v)

@@ -35,7 +35,8 @@ pub record IsTrying (block : Block) (plan : Plan) (at k : ℕ) (now : Plan) : Ty
 pub known_behind : (block : Block) (items : List Item) (n : ℕ) → AreKnown block items → AreKnown block (drop n items)
 known_behind block items n known p k s = known (n + p) k (sym (get_drop n items p (n + p) refl) ∙ s)
 
-pub known_put : (block : Block) (items : List Item) (at : ℕ) (x : Item) → ((k : ℕ) → x ≡ Op k → k < length (insts_of block)) → AreKnown block items → AreKnown block (slice_set items at x)
+pub known_put : (block : Block) (items : List Item) (at : ℕ) (x : Item) → ((k : ℕ) → x ≡ Op k → k < length (insts_of block)) → AreKnown block items
+    → AreKnown block (slice_set items at x)
 known_put block items at x fits known p k s = ⊎_elim (λ h. fits k h.1) (λ h. known p k h.1) (slice_get-set_cases items at p x (Op k) s)
 
 pub ends_same : (plan : Plan) (from : ℕ) → EndsAs plan from plan
@@ -73,7 +74,8 @@ put_ends before after at x h = record {
 }
 
 -- what ends as the plan did, with this item before it, ends as the plan with the item
-pub other_put : (plan before after other : Plan) (at : ℕ) (x : Item) → EndsAs plan (suc at) before → IsPut before at x after → EndsAs plan (suc at) other → slice_get (items_of other) at ≡ Some x → EndsAs after at other
+pub other_put : (plan before after other : Plan) (at : ℕ) (x : Item) → EndsAs plan (suc at) before → IsPut before at x after → EndsAs plan (suc at) other
+    → slice_get (items_of other) at ≡ Some x → EndsAs after at other
 other_put plan before after other at x kept h e s =
     let put = put_ends before after at x h in
     record {
@@ -83,7 +85,8 @@ other_put plan before after other at x kept h e s =
     }
 
 -- where an instruction may not stand, no valid plan has it
-pub ruled_out : (block : Block) (plan before other : Plan) (at k : ℕ) → ¬ MayStand block before at (Op k) → EndsAs plan (suc at) before → EndsAs plan (suc at) other → StandsAt (items_of other) at k → ¬ Valid block other
+pub ruled_out : (block : Block) (plan before other : Plan) (at k : ℕ) → ¬ MayStand block before at (Op k) → EndsAs plan (suc at) before
+    → EndsAs plan (suc at) other → StandsAt (items_of other) at k → ¬ Valid block other
 ruled_out block plan before other at k not_may kept e s v =
     let may = may_stand block other v at (Op k) s in
     not_may record {
@@ -96,7 +99,8 @@ abbrev pub NoNoOp : Block → Plan → ℕ → Type 0
 NoNoOp block plan at = (other : Plan) → EndsAs plan (suc at) other → slice_get (items_of other) at ≡ Some Nop → ¬ Valid block other
 
 -- all items have been tried
-pub none_left : (block : Block) (plan : Plan) (at : ℕ) → at < length (items_of plan) → Tried block plan at (length (insts_of block)) → NoNoOp block plan at → (other : Plan) → EndsAs plan (suc at) other → ¬ Valid block other
+pub none_left : (block : Block) (plan : Plan) (at : ℕ) → at < length (items_of plan) → Tried block plan at (length (insts_of block)) → NoNoOp block plan at
+    → (other : Plan) → EndsAs plan (suc at) other → ¬ Valid block other
 none_left block plan at within tried nop other e v =
     let size = e.size in
     by (slice_index_or (items_of other) at Nop) (slice_get-get_or (items_of other) at Nop (omega arith))
@@ -112,7 +116,8 @@ no_ops_drop (suc n) (Op k ∷ items) = no_ops_drop n items
 no_ops_drop (suc n) (Nop ∷ items) = let rest = no_ops_drop n items in omega arith
 
 -- where all no-ops stand behind the place
-pub none_spare : (block : Block) (plan : Plan) (at : ℕ) → no_ops (drop (suc at) (items_of plan)) + length (insts_of block) ≡ length (items_of plan) → NoNoOp block plan at
+pub none_spare : (block : Block) (plan : Plan) (at : ℕ) → no_ops (drop (suc at) (items_of plan)) + length (insts_of block) ≡ length (items_of plan)
+    → NoNoOp block plan at
 none_spare block plan at count other e s v =
     let few = few_no_ops block other v in
     let more = no_ops_drop at (items_of other) in
@@ -129,18 +134,22 @@ not_there block plan at here other e s v =
     let test : eqb at other.place ≡ true = grind (arith, nat_tests) in
     false≢true (sym may.place ∙ test)
 
-pub put_count : (plan before after : Plan) (at : ℕ) (x : Item) → EndsAs plan (suc at) before → IsPut before at x after → no_ops (drop at (items_of after)) ≡ no_ops (x ∷ drop (suc at) (items_of plan))
+pub put_count : (plan before after : Plan) (at : ℕ) (x : Item) → EndsAs plan (suc at) before → IsPut before at x after
+    → no_ops (drop at (items_of after)) ≡ no_ops (x ∷ drop (suc at) (items_of plan))
 put_count plan before after at x kept h = ap no_ops (put_drop before after at x h) ∙ ap (λ l. no_ops (x ∷ l)) kept.behind
 
-pub put_size : (plan before after : Plan) (at : ℕ) (x : Item) → EndsAs plan (suc at) before → IsPut before at x after → length (items_of after) ≡ length (items_of plan)
+pub put_size : (plan before after : Plan) (at : ℕ) (x : Item) → EndsAs plan (suc at) before → IsPut before at x after
+    → length (items_of after) ≡ length (items_of plan)
 put_size plan before after at x kept h = let put = put_ends before after at x h in put.size ∙ kept.size
 
 -- what is filled before an item that was put
-pub through_put : (plan before after end : Plan) (at : ℕ) (x : Item) → EndsAs plan (suc at) before → IsPut before at x after → EndsAs after at end → EndsAs plan (suc at) end
+pub through_put : (plan before after end : Plan) (at : ℕ) (x : Item) → EndsAs plan (suc at) before → IsPut before at x after → EndsAs after at end
+    → EndsAs plan (suc at) end
 through_put plan before after end at x kept h e =
     ends_through plan before end (suc at) kept (ends_through before after end (suc at) (put_ends before after at x h) (ends_less after end at e))
 
-pub tried_more : (block : Block) (plan : Plan) (at k : ℕ) → Tried block plan at k → ((other : Plan) → EndsAs plan (suc at) other → StandsAt (items_of other) at k → ¬ Valid block other) → Tried block plan at (k + 1)
+pub tried_more : (block : Block) (plan : Plan) (at k : ℕ) → Tried block plan at k
+    → ((other : Plan) → EndsAs plan (suc at) other → StandsAt (items_of other) at k → ¬ Valid block other) → Tried block plan at (k + 1)
 tried_more block plan at k before here j l other e s v = ⊎_elim
     (λ less. before j less other e s v)
     (λ more. let same : j ≡ k = omega arith in here other e (subst (λ i. StandsAt (items_of other) at i) same s) v)

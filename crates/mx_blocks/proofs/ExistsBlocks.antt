@@ -90,7 +90,8 @@ block_at source first kept leader n =
       is = is_block source block n.end leader later within n.gaps n.leads refl (ap (option_map end_of) last) refl;
     }
 
-blocks_from : (source : SourceValue) → IsSource source → (n first : ℕ) → first ≤ length source.statements → length source.statements ≤ first + n → LeadsOrEnds source first → (blocks : List Block) × BlocksFrom source first (length source.statements) blocks
+blocks_from : (source : SourceValue) → IsSource source → (n first : ℕ) → first ≤ length source.statements → length source.statements ≤ first + n
+    → LeadsOrEnds source first → (blocks : List Block) × BlocksFrom source first (length source.statements) blocks
 blocks_from source kept zero first within few leads = ([], omega arith)
 blocks_from source kept (suc n) first within few leads = ⊎_elim
     (λ leader. ⊎_elim

@@ -22,7 +22,8 @@ not_zero : (n : ℕ) → eqb n 0 ≡ false → n ≢ 0
 not_zero n h e = false≢true (sym h ∙ eq-eqb n 0 e)
 
 -- a gap is one more at each statement since the leader
-back : (labelled : ℕ → Bool) (statements : List Statement) (k j i : ℕ) → j + k ≡ i → k ≤ gap labelled statements i → gap labelled statements j + k ≡ gap labelled statements i
+back : (labelled : ℕ → Bool) (statements : List Statement) (k j i : ℕ) → j + k ≡ i → k ≤ gap labelled statements i
+    → gap labelled statements j + k ≡ gap labelled statements i
 back labelled statements zero j i e h = let at : j ≡ i = omega arith in subst (λ n. gap labelled statements j + 0 ≡ gap labelled statements n) at (omega arith)
 back labelled statements (suc k) j i e h =
     let later = back labelled statements k (suc j) i (omega arith) (omega arith) in
@@ -31,7 +32,8 @@ back labelled statements (suc k) j i e h =
     omega arith
 
 -- behind a leader a gap counts the statements as long as none of them leads
-pub behind_leader : (source : SourceValue) (j d : ℕ) → is_leader source j ≡ true → ((k : ℕ) → j < k → k ≤ j + d → is_leader source k ≡ false) → gap (is_labelled source.labels) source.statements (j + d) ≡ d
+pub behind_leader : (source : SourceValue) (j d : ℕ) → is_leader source j ≡ true → ((k : ℕ) → j < k → k ≤ j + d → is_leader source k ≡ false)
+    → gap (is_labelled source.labels) source.statements (j + d) ≡ d
 behind_leader source j zero leader quiet =
     let at : j ≡ j + 0 = omega arith in
     subst (λ n. gap (is_labelled source.labels) source.statements n ≡ 0) at (is_zero _ leader)
@@ -86,7 +88,9 @@ begins source (suc m) h = ⊎_elim
     (why (is_labelled source.labels (suc m)) (ends_there (slice_get source.statements m)) (gap (is_labelled source.labels) source.statements m) (is_zero _ h))
 
 -- statement suc m is a leader where one of the three holds
-leader_where : (source : SourceValue) (m : ℕ) → (is_labelled source.labels (suc m) ≡ true) ⊎ ((ends_there (slice_get source.statements m) ≡ true) ⊎ (gap (is_labelled source.labels) source.statements m ≡ 63)) → is_leader source (suc m) ≡ true
+leader_where : (source : SourceValue) (m : ℕ)
+    → (is_labelled source.labels (suc m) ≡ true) ⊎ ((ends_there (slice_get source.statements m) ≡ true) ⊎ (gap (is_labelled source.labels) source.statements m ≡ 63))
+    → is_leader source (suc m) ≡ true
 leader_where source m h = eq-eqb _ 0 (leads (is_labelled source.labels (suc m)) (ends_there (slice_get source.statements m)) (gap (is_labelled source.labels) source.statements m) h)
 
 is_begun : (source : SourceValue) (i : ℕ) → Begins source i → is_leader source i ≡ true

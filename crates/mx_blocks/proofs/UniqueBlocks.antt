@@ -23,7 +23,8 @@ Kept end insts = (ends_as end insts ≡ true) × GoesOn insts
 abbrev block_with : (first : ℕ) (insts : List Inst) (end : End) (input : Bool) → Kept end insts → Block
 block_with first insts end input kept = record { first = first; insts = record { items = insts }; end = end; input = input; last = kept.0; body = kept.1 }
 
-with_same : (first : ℕ) (xs ys : List Inst) (a b : End) (input : Bool) (k : Kept a xs) (l : Kept b ys) → xs ≡ ys → a ≡ b → block_with first xs a input k ≡ block_with first ys b input l
+with_same : (first : ℕ) (xs ys : List Inst) (a b : End) (input : Bool) (k : Kept a xs) (l : Kept b ys) → xs ≡ ys → a ≡ b
+    → block_with first xs a input k ≡ block_with first ys b input l
 with_same first xs ys a b input k l e f = (subst P f (subst Q e (λ l. ap (block_with first xs a input) (kept_once a xs k l)))) l
   where
     Q : List Inst → Type 0
@@ -68,7 +69,8 @@ block_unique source b c first h g =
     let end : b.end ≡ c.end = same_Some b.end c.end (sym h.end ∙ ap (λ n. option_map end_of (slice_get source.statements (n - 1))) stop ∙ g.end) in
     same_block b c first insts end (h.input ∙ sym g.input)
 
-unique_from : (source : SourceValue) (i j : ℕ) (bs cs : List Block) → i ≡ j → BlocksFrom source i (length source.statements) bs → BlocksFrom source j (length source.statements) cs → bs ≡ cs
+unique_from : (source : SourceValue) (i j : ℕ) (bs cs : List Block) → i ≡ j → BlocksFrom source i (length source.statements) bs
+    → BlocksFrom source j (length source.statements) cs → bs ≡ cs
 unique_from source i j [] [] e h g = refl
 unique_from source i j [] (c ∷ cs) e h g = absurd (let at = g.0 in let some = g.1.some in let within = g.1.within in omega arith)
 unique_from source i j (b ∷ bs) [] e h g = absurd (let at = h.0 in let some = h.1.some in let within = h.1.within in omega arith)

@@ -10,7 +10,8 @@ number_after-grows n [] = omega arith
 number_after-grows n (c ∷ digits) = let rest : n * 10 + (c - 48) ≤ number_after (n * 10 + (c - 48)) digits = number_after-grows (n * 10 + (c - 48)) digits in omega arith
 
 -- where the digits so far write too large a number, all do
-pub number_too_large : (n i m : ℕ) (digits : List ℕ) → number_after n (drop i digits) ≡ number_after 0 digits → i < length digits → m ≡ n * 10 + (get_or digits i 0 - 48) → 2 ^ 32 ≤ m → None ≡ number_of_digits digits
+pub number_too_large : (n i m : ℕ) (digits : List ℕ) → number_after n (drop i digits) ≡ number_after 0 digits → i < length digits
+    → m ≡ n * 10 + (get_or digits i 0 - 48) → 2 ^ 32 ≤ m → None ≡ number_of_digits digits
 number_too_large n i m digits e within made large =
     let next : number_after n (drop i digits) ≡ number_after m (drop (i + 1) digits) = grind (arith, common_steps) in
     let grows : m ≤ number_after m (drop (i + 1) digits) = number_after-grows m (drop (i + 1) digits) in

@@ -15,7 +15,8 @@ not_chosen true k h = absurd (cc)
 not_chosen false k h = refl
 
 -- the first piece of a text that has a line feed
-pub pieces-first : (text : List ℕ) (at : ℕ) → position (λ b. eqb b 10) text ≡ Some at → pieces text ≡ take at text ∷ pieces (take (length text - (at + 1)) (drop (at + 1) text))
+pub pieces-first : (text : List ℕ) (at : ℕ) → position (λ b. eqb b 10) text ≡ Some at
+    → pieces text ≡ take at text ∷ pieces (take (length text - (at + 1)) (drop (at + 1) text))
 pieces-first text at h =
     let found = chosen (ltb (position_or_len (λ b. eqb b 10) text) (length text)) (position_or_len (λ b. eqb b 10) text) at h in
     let within : position_or_len (λ b. eqb b 10) text < length text = grind (arith, nat_tests) in

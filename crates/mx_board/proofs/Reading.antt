@@ -38,12 +38,14 @@ numbers_of-append_one : (before : List (List ℕ)) (line : List ℕ) → numbers
 numbers_of-append_one before line = filter_map-append number_of before (line ∷ []) ∙ added_one (number_of line) (numbers_of before)
 
 -- one line, where its fault is known
-one_line : (fault : Option EventError) (first : Option EventError) (rest : Result (List ℕ) EventError) (numbers : List ℕ) → rest ≡ unless_faulty first numbers → unless_fault fault rest ≡ unless_faulty (option_or fault first) numbers
+one_line : (fault : Option EventError) (first : Option EventError) (rest : Result (List ℕ) EventError) (numbers : List ℕ) → rest ≡ unless_faulty first numbers
+    → unless_fault fault rest ≡ unless_faulty (option_or fault first) numbers
 one_line None first rest numbers e = e
 one_line (Some fault) first rest numbers e = refl
 
 -- read line by line, after lines that have no fault, a file gives its numbers or its first fault
-outcome_is : (before lines : List (List ℕ)) → outcome (numbers_of before) (length before + 1) lines ≡ unless_faulty (first_fault before lines) (numbers_of (before ++ lines))
+outcome_is : (before lines : List (List ℕ))
+    → outcome (numbers_of before) (length before + 1) lines ≡ unless_faulty (first_fault before lines) (numbers_of (before ++ lines))
 outcome_is before [] = ap (λ ls. Ok (numbers_of ls)) (sym (append-nil before))
 outcome_is before (line ∷ lines) =
     let numbers : numbers_of before ++ option_to_list (number_of line) ≡ numbers_of (before ++ line ∷ []) = sym (numbers_of-append_one before line) in
@@ -87,7 +89,8 @@ blank_number line blank =
     rw nothing refl
 
 -- the numbers rise, and are not too many, with that of one more line without a fault
-kept_by : (numbers : List ℕ) (at : ℕ) (n : Option ℕ) → fault_of_number numbers at n ≡ None ⊎ (n ≡ None) → IsStrictlyIncreasing numbers → length numbers ≤ 65536 → IsStrictlyIncreasing (numbers ++ option_to_list n) × (length (numbers ++ option_to_list n) ≤ 65536)
+kept_by : (numbers : List ℕ) (at : ℕ) (n : Option ℕ) → fault_of_number numbers at n ≡ None ⊎ (n ≡ None) → IsStrictlyIncreasing numbers → length numbers ≤ 65536
+    → IsStrictlyIncreasing (numbers ++ option_to_list n) × (length (numbers ++ option_to_list n) ≤ 65536)
 kept_by numbers at None clean rises count =
     let same : numbers ++ [] ≡ numbers = append-nil numbers in
     (rw same rises, rw same count)
@@ -96,21 +99,26 @@ kept_by numbers at (Some n) (inl clean) rises count =
     (follows numbers n rises may.1, grind (arith, common_steps))
 kept_by numbers at (Some n) (inr e) rises count = absurd (cc)
 
-kept_by_line : (numbers : List ℕ) (at : ℕ) (line : List ℕ) (blank : Bool) → is_blank_line line ≡ blank → fault_of numbers at line ≡ None → fault_of_number numbers at (number_of line) ≡ None ⊎ (number_of line ≡ None)
+kept_by_line : (numbers : List ℕ) (at : ℕ) (line : List ℕ) (blank : Bool) → is_blank_line line ≡ blank → fault_of numbers at line ≡ None
+    → fault_of_number numbers at (number_of line) ≡ None ⊎ (number_of line ≡ None)
 kept_by_line numbers at line true blank clean = inr (blank_number line blank)
 kept_by_line numbers at line false blank clean = inl (rw blank at clean)
 
-kept : (numbers : List ℕ) (at : ℕ) (line new : List ℕ) → fault_of numbers at line ≡ None → new ≡ numbers ++ option_to_list (number_of line) → IsStrictlyIncreasing numbers → length numbers ≤ 65536 → IsStrictlyIncreasing new × (length new ≤ 65536)
+kept : (numbers : List ℕ) (at : ℕ) (line new : List ℕ) → fault_of numbers at line ≡ None → new ≡ numbers ++ option_to_list (number_of line)
+    → IsStrictlyIncreasing numbers → length numbers ≤ 65536 → IsStrictlyIncreasing new × (length new ≤ 65536)
 kept numbers at line new clean added rises count =
     let both = kept_by numbers at (number_of line) (kept_by_line numbers at line (is_blank_line line) refl clean) rises count in
     (rw added both.0, rw added both.1)
 
 -- what the lines from a line without a fault on give
-past_line : (numbers : List ℕ) (at : ℕ) (line new : List ℕ) (lines : List (List ℕ)) → fault_of numbers at line ≡ None → new ≡ numbers ++ option_to_list (number_of line) → outcome numbers at (line ∷ lines) ≡ outcome new (at + 1) lines
+past_line : (numbers : List ℕ) (at : ℕ) (line new : List ℕ) (lines : List (List ℕ)) → fault_of numbers at line ≡ None
+    → new ≡ numbers ++ option_to_list (number_of line) → outcome numbers at (line ∷ lines) ≡ outcome new (at + 1) lines
 past_line numbers at line new lines clean added = rw (clean, added) refl
 
 -- after a line that is not the last
-pub reading_goes_on : (bytes numbers : List ℕ) (at : ℕ) (text piece line rest new : List ℕ) → Reading bytes numbers at text → pieces text ≡ piece ∷ pieces rest → line ≡ strip_carriage_return piece → length rest < length text → fault_of numbers at line ≡ None → new ≡ numbers ++ option_to_list (number_of line) → Reading bytes new (at + 1) rest
+pub reading_goes_on : (bytes numbers : List ℕ) (at : ℕ) (text piece line rest new : List ℕ) → Reading bytes numbers at text → pieces text ≡ piece ∷ pieces rest
+    → line ≡ strip_carriage_return piece → length rest < length text → fault_of numbers at line ≡ None → new ≡ numbers ++ option_to_list (number_of line)
+    → Reading bytes new (at + 1) rest
 reading_goes_on bytes numbers at text piece line rest new r first is shorter clean added =
     let both = kept numbers at line new clean added r.ascending r.count in
     let lines : lines_of text ≡ line ∷ lines_of rest = rw (first, is) refl in
@@ -122,17 +130,20 @@ reading_goes_on bytes numbers at text piece line rest new r first is shorter cle
     }
 
 -- after the last line
-pub reading_ends : (bytes numbers : List ℕ) (at : ℕ) (text piece line new : List ℕ) → Reading bytes numbers at text → pieces text ≡ piece ∷ [] → line ≡ strip_carriage_return piece → fault_of numbers at line ≡ None → new ≡ numbers ++ option_to_list (number_of line) → requests_of bytes ≡ Ok new
+pub reading_ends : (bytes numbers : List ℕ) (at : ℕ) (text piece line new : List ℕ) → Reading bytes numbers at text → pieces text ≡ piece ∷ []
+    → line ≡ strip_carriage_return piece → fault_of numbers at line ≡ None → new ≡ numbers ++ option_to_list (number_of line) → requests_of bytes ≡ Ok new
 reading_ends bytes numbers at text piece line new r first is clean added =
     let lines : lines_of text ≡ line ∷ [] = rw (first, is) refl in
     sym r.left ∙ ap (λ ls. outcome numbers at ls) lines ∙ past_line numbers at line new [] clean added
 
 -- after a line without a fault the numbers are as they must be
-pub reading_keeps : (bytes numbers : List ℕ) (at : ℕ) (text line new : List ℕ) → Reading bytes numbers at text → fault_of numbers at line ≡ None → new ≡ numbers ++ option_to_list (number_of line) → (length new ≤ 65536) × IsStrictlyIncreasing new
+pub reading_keeps : (bytes numbers : List ℕ) (at : ℕ) (text line new : List ℕ) → Reading bytes numbers at text → fault_of numbers at line ≡ None
+    → new ≡ numbers ++ option_to_list (number_of line) → (length new ≤ 65536) × IsStrictlyIncreasing new
 reading_keeps bytes numbers at text line new r clean added = let both = kept numbers at line new clean added r.ascending r.count in (both.1, both.0)
 
 -- at a faulty line
-pub reading_fails : (bytes numbers : List ℕ) (at : ℕ) (text piece line : List ℕ) (more : List (List ℕ)) (fault : EventError) → Reading bytes numbers at text → pieces text ≡ piece ∷ more → line ≡ strip_carriage_return piece → fault_of numbers at line ≡ Some fault → requests_of bytes ≡ Err fault
+pub reading_fails : (bytes numbers : List ℕ) (at : ℕ) (text piece line : List ℕ) (more : List (List ℕ)) (fault : EventError) → Reading bytes numbers at text
+    → pieces text ≡ piece ∷ more → line ≡ strip_carriage_return piece → fault_of numbers at line ≡ Some fault → requests_of bytes ≡ Err fault
 reading_fails bytes numbers at text piece line more fault r first is faulty =
     let lines : lines_of text ≡ line ∷ map strip_carriage_return more = rw (first, is) refl in
     sym r.left ∙ ap (λ ls. outcome numbers at ls) lines ∙ ap (λ f. unless_fault f (outcome (numbers ++ option_to_list (number_of line)) (at + 1) (map strip_carriage_return more))) faulty

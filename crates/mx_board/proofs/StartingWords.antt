@@ -28,7 +28,9 @@ padded_at : (low n : ℕ) (d : List ℕ) (a : ℕ) → get_or ((replicate low 0 
 padded_at low n d a = ended_at n (replicate low 0 ++ d) a ∙ begun_at low d a
 
 -- the same, as the list is made
-pub words_made : (low all : ℕ) (d none zeros begun whole : List ℕ) (n m : ℕ) → none ≡ [] → n ≡ 0 → zeros ≡ take low none ++ replicate (low - n) 0 → begun ≡ zeros ++ d → m ≡ low + length d → whole ≡ take all begun ++ replicate (all - m) 0 → low + length d ≤ all → (a : ℕ) → get_or whole a 0 ≡ cond (leb low a) (get_or d (a - low) 0) 0
+pub words_made : (low all : ℕ) (d none zeros begun whole : List ℕ) (n m : ℕ) → none ≡ [] → n ≡ 0 → zeros ≡ take low none ++ replicate (low - n) 0
+    → begun ≡ zeros ++ d → m ≡ low + length d → whole ≡ take all begun ++ replicate (all - m) 0 → low + length d ≤ all → (a : ℕ)
+    → get_or whole a 0 ≡ cond (leb low a) (get_or d (a - low) 0) 0
 words_made low all d none zeros begun whole n m none_is n_is e f m_is g fits a =
     let zeros_are : zeros ≡ replicate low 0 = grind (arith, common_steps) in
     let short : length begun ≤ all = grind (arith, common_steps) in

@@ -335,7 +335,8 @@ cond_found n =
 squash_found : (r : ℕ) → r < 2 ^ 17 → squash_bit (nat_le (2 ^ 16) r) * 2 ^ 16 + r % 2 ^ 16 ≡ r
 squash_found r h = ⊎_elim (λ t. ap (λ q. squash_bit q * 2 ^ 16 + r % 2 ^ 16) t ∙ grind (arith, nat_tests)) (λ t. ap (λ q. squash_bit q * 2 ^ 16 + r % 2 ^ 16) t ∙ grind (arith, nat_tests)) (cases_Bool (nat_le (2 ^ 16) r))
 
-branch_found : (k o f s r : ℕ) → k ≡ 0 → AreFields o f s r → (c : Option Cond) → IfSome c (λ x. number_of_cond x ≡ o) → IfSome (branch_with f s r c) (λ i. Codes i (assembled k o f s r))
+branch_found : (k o f s r : ℕ) → k ≡ 0 → AreFields o f s r → (c : Option Cond) → IfSome c (λ x. number_of_cond x ≡ o)
+    → IfSome (branch_with f s r c) (λ i. Codes i (assembled k o f s r))
 branch_found k o f s r e b None h = tt
 branch_found k o f s r e b (Some condition) h = record {
   fits = signed_fits_16 (r % 2 ^ 16) (omega arith);
@@ -343,7 +344,8 @@ branch_found k o f s r e b (Some condition) h = record {
   word_is = omega (arith, e, h, squash_found r b.rest, bits_of_signed_16 (r % 2 ^ 16) (omega arith));
 }
 
-compute_found : (k o f s r : ℕ) → k ≡ 1 → AreFields o f s r → (p : ℕ) → o ≡ p → (c : Option Op) → IfSome c (IsOp p (r % 2 ^ 12) f s) → IfSome (compute_with f s r c) (λ i. Codes i (assembled k o f s r))
+compute_found : (k o f s r : ℕ) → k ≡ 1 → AreFields o f s r → (p : ℕ) → o ≡ p → (c : Option Op) → IfSome c (IsOp p (r % 2 ^ 12) f s)
+    → IfSome (compute_with f s r c) (λ i. Codes i (assembled k o f s r))
 compute_found k o f s r e b p q None h = tt
 compute_found k o f s r e b p q (Some op) h = record {
   fits = h.fits;
@@ -351,7 +353,8 @@ compute_found k o f s r e b p q (Some op) h = record {
   word_is = omega (arith, e, q, h.opcode_is, h.function_is);
 }
 
-from_found : (k o f s r : ℕ) → k ≡ 1 → AreFields o f s r → o ≡ 2 → (c : Option Special) → IfSome c (λ x. number_of_special x ≡ r % 2 ^ 12) → IfSome (from_with f s r c) (λ i. Codes i (assembled k o f s r))
+from_found : (k o f s r : ℕ) → k ≡ 1 → AreFields o f s r → o ≡ 2 → (c : Option Special) → IfSome c (λ x. number_of_special x ≡ r % 2 ^ 12)
+    → IfSome (from_with f s r c) (λ i. Codes i (assembled k o f s r))
 from_found k o f s r e b q None h = tt
 from_found k o f s r e b q (Some special) h =
     pick (f == 0 && s == 0) _ _ _ (λ z. record {
@@ -363,7 +366,8 @@ from_found k o f s r e b q (Some special) h =
     both_zero : (f s : ℕ) → (f == 0 && s == 0) ≡ true → (f ≡ 0) × (s ≡ 0)
     both_zero f s t = (grind (arith, nat_tests), grind (arith, nat_tests))
 
-to_found : (k o f s r : ℕ) → k ≡ 1 → AreFields o f s r → o ≡ 3 → (c : Option Special) → IfSome c (λ x. number_of_special x ≡ r) → IfSome (to_with f s c) (λ i. Codes i (assembled k o f s r))
+to_found : (k o f s r : ℕ) → k ≡ 1 → AreFields o f s r → o ≡ 3 → (c : Option Special) → IfSome c (λ x. number_of_special x ≡ r)
+    → IfSome (to_with f s c) (λ i. Codes i (assembled k o f s r))
 to_found k o f s r e b q None h = tt
 to_found k o f s r e b q (Some special) h =
     pick (s == 0) _ _ _ (λ z. record { fits = tt; registers = omega (arith, b); word_is = omega (arith, e, q, h, same s 0 z) }) (λ z. tt)

@@ -16,7 +16,8 @@ pub weight_small : (insts : List Inst) (x y : ℕ) → weight insts x y ≤ 2
 weight_small insts x y = grind (arith, nat_tests)
 
 -- a path weighs at most two for each later instruction
-pub path_small : (insts : List Inst) (input : Bool) (x : ℕ) (path : List ℕ) → x < length insts → IsPath insts input x path → path_weight insts x path + 2 * (x + 1) ≤ 2 * length insts
+pub path_small : (insts : List Inst) (input : Bool) (x : ℕ) (path : List ℕ) → x < length insts → IsPath insts input x path
+    → path_weight insts x path + 2 * (x + 1) ≤ 2 * length insts
 path_small insts input x [] l p = omega arith
 path_small insts input x (y ∷ path) l p =
     let later = p.0.later in
@@ -32,12 +33,14 @@ height_small insts input x h l q =
     omega arith
 
 -- a path whose first edge leads to y weighs no more than that edge and the height of y
-through : (insts : List Inst) (input : Bool) (x y h z : ℕ) (other : List ℕ) → IsHeight insts input y h → z ≡ y → IsPath insts input x (z ∷ other) → path_weight insts x (z ∷ other) ≤ weight insts x y + h
+through : (insts : List Inst) (input : Bool) (x y h z : ℕ) (other : List ℕ) → IsHeight insts input y h → z ≡ y → IsPath insts input x (z ∷ other)
+    → path_weight insts x (z ∷ other) ≤ weight insts x y + h
 through insts input x y h z other q e =
     let P : ℕ → Type 0 = λ n. IsPath insts input x (n ∷ other) → path_weight insts x (n ∷ other) ≤ weight insts x y + h in
     subst P (sym e) (λ p. omega (arith, q.greatest other p.1))
 
-pub with_edge : (insts : List Inst) (input : Bool) (x y best h w r : ℕ) → w ≡ weight insts x y → r ≡ max best (w + h) → IsHeightBelow insts input x y best → IsEdge insts input x y → IsHeight insts input y h → IsHeightBelow insts input x (y + 1) r
+pub with_edge : (insts : List Inst) (input : Bool) (x y best h w r : ℕ) → w ≡ weight insts x y → r ≡ max best (w + h) → IsHeightBelow insts input x y best
+    → IsEdge insts input x y → IsHeight insts input y h → IsHeightBelow insts input x (y + 1) r
 with_edge insts input x y best h w r we re b e q = ⊎_elim
     (λ less. record {
       path = y ∷ q.path;
@@ -59,7 +62,8 @@ with_edge insts input x y best h w r we re b e q = ⊎_elim
         (λ above. let same : z ≡ y = omega arith in omega (arith, through insts input x y h z other q same p))
         (cases_lt z y)
 
-pub with_no_edge : (insts : List Inst) (input : Bool) (x y best : ℕ) → IsHeightBelow insts input x y best → (¬ IsEdge insts input x y) → IsHeightBelow insts input x (y + 1) best
+pub with_no_edge : (insts : List Inst) (input : Bool) (x y best : ℕ) → IsHeightBelow insts input x y best → (¬ IsEdge insts input x y)
+    → IsHeightBelow insts input x (y + 1) best
 with_no_edge insts input x y best b none = record {
   path = b.path;
   leads = b.leads;

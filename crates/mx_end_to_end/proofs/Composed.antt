@@ -130,5 +130,6 @@ module _ (source : SourceValue) (sites : List Site) (bytes : List ℕ) (laid : I
     pub means : MeansItsSource source sites requests bytes budget
     means = record { sent = sent_of; halts = halts_of; ends = ends_of; sends = sends_of }
 
-pub run_means : (source : SourceValue) (sites : List Site) (requests bytes : List ℕ) (budget : ℕ) → IsLaid source board sites → MeansItsSource source sites requests bytes budget
+pub run_means : (source : SourceValue) (sites : List Site) (requests bytes : List ℕ) (budget : ℕ) → IsLaid source board sites
+    → MeansItsSource source sites requests bytes budget
 run_means source sites requests bytes budget laid = means source sites bytes laid requests budget

@@ -32,7 +32,8 @@ data_is : (s : Section) (vs : List Value) → fault_of (in_data s vs) ≡ stored
 data_is section.Code vs = refl
 data_is section.Data vs = refl
 
-space_is : (s : Section) (ok : Bool) (k : ℕ) → fault_of (cond ok (Ok k) (Err f.NumberOutOfRange) >>= λ n. in_data s (replicate n (Int 0))) ≡ cond (not ok || false) (Some f.NumberOutOfRange) (stored s)
+space_is : (s : Section) (ok : Bool) (k : ℕ)
+    → fault_of (cond ok (Ok k) (Err f.NumberOutOfRange) >>= λ n. in_data s (replicate n (Int 0))) ≡ cond (not ok || false) (Some f.NumberOutOfRange) (stored s)
 space_is s true k = data_is s (replicate k (Int 0))
 space_is s false k = refl
 
@@ -131,7 +132,8 @@ fault_cons x (Ok xs) = refl
 fault_cons x (Err fault) = refl
 
 -- reading goes on, or stays at its fault
-fault_bind : {A B : Type 0} (r : Result A Fault) (g : A → Result B Fault) (rest : Option Fault) → ((x : A) → fault_of (g x) ≡ rest) → fault_of (r >>= g) ≡ option_or (fault_of r) rest
+fault_bind : {A B : Type 0} (r : Result A Fault) (g : A → Result B Fault) (rest : Option Fault) → ((x : A) → fault_of (g x) ≡ rest)
+    → fault_of (r >>= g) ≡ option_or (fault_of r) rest
 fault_bind (Ok x) g rest h = h x
 fault_bind (Err fault) g rest h = refl
 
@@ -145,7 +147,8 @@ fits_is (Name name) h = refl
 fits_is (Number negative value) h = word_fault (in_range 2147483648 4294967295 negative value) _
 fits_is _ h = absurd (false≢true h)
 
-fit_is : (vs : List Word) → list_all is_value vs ≡ true → fault_of (numbers_fit vs) ≡ cond (list_any (λ w. is_outside (DataValue, w)) vs) (Some f.NumberOutOfRange) None
+fit_is : (vs : List Word) → list_all is_value vs ≡ true
+    → fault_of (numbers_fit vs) ≡ cond (list_any (λ w. is_outside (DataValue, w)) vs) (Some f.NumberOutOfRange) None
 fit_is [] h = refl
 fit_is (v ∷ vs) h =
     let parts = and_parts (is_value v) (list_all is_value vs) h in
@@ -158,7 +161,8 @@ or_split : (a b : Bool) → a || b ≡ false → (a ≡ false) × (b ≡ false)
 or_split true b h = absurd (false≢true (sym h))
 or_split false b h = (refl, h)
 
-name_fault : (o : Option Label) → fault_of (ok_or o f.UndefinedLabel >>= λ l. Ok (value_at l)) ≡ cond (is_none (option_map section_of o)) (Some f.UndefinedLabel) None
+name_fault : (o : Option Label)
+    → fault_of (ok_or o f.UndefinedLabel >>= λ l. Ok (value_at l)) ≡ cond (is_none (option_map section_of o)) (Some f.UndefinedLabel) None
 name_fault None = refl
 name_fault (Some l) = refl
 
@@ -167,7 +171,8 @@ number_value true n h = refl
 number_value false n h = absurd (false≢true (sym h))
 
 module _ (labels : Labels) where
-  value_is : (v : Word) → is_value v ≡ true → is_outside (DataValue, v) ≡ false → fault_of (value_of labels v) ≡ cond (is_undefined (kind_by labels) (DataValue, v)) (Some f.UndefinedLabel) None
+  value_is : (v : Word) → is_value v ≡ true → is_outside (DataValue, v) ≡ false
+      → fault_of (value_of labels v) ≡ cond (is_undefined (kind_by labels) (DataValue, v)) (Some f.UndefinedLabel) None
   unfolding data_word any_label
   value_is (Name name) h k = name_fault (label_named labels name)
   value_is (Number negative value) h k = number_value (in_range 2147483648 4294967295 negative value) _ k
@@ -207,11 +212,13 @@ shaped_fault : (kind : List ℕ → Option Section) (s : Section) (words : List 
     ≡ cond (list_any (λ w. is_outside (DataValue, w)) r.vs) (Some f.NumberOutOfRange) (cond (list_any (λ w. is_undefined kind (DataValue, w)) r.vs) (Some f.UndefinedLabel) (stored s))
 shaped_fault kind s words r = rw (r.shaped, r.registers, r.outside, r.undefined kind, r.kinds kind, r.chain) refl
 
-misshapen_fault : (kind : List ℕ → Option Section) (s : Section) (words : List Word) → has_shape (values words) words ≡ false → form_fault kind s (ADirective (Some d.Word) words) ≡ Some f.BadDirective
+misshapen_fault : (kind : List ℕ → Option Section) (s : Section) (words : List Word) → has_shape (values words) words ≡ false
+    → form_fault kind s (ADirective (Some d.Word) words) ≡ Some f.BadDirective
 misshapen_fault kind s words h = rw h refl
 
 module _ (labels : Labels) (s : Section) where
-  by_values : (words : List Word) → Valued words ⊎ Misshapen words → fault_of (word_values labels words >>= λ vs. in_data s vs) ≡ form_fault (kind_by labels) s (ADirective (Some d.Word) words)
+  by_values : (words : List Word) → Valued words ⊎ Misshapen words
+      → fault_of (word_values labels words >>= λ vs. in_data s vs) ≡ form_fault (kind_by labels) s (ADirective (Some d.Word) words)
   unfolding word_values Misshapen
   by_values words (inl r) =
       let read = ap (λ q. fault_of ((q >>= λ vs. numbers_fit vs >>= λ _. values_of labels vs) >>= λ vs. in_data s vs)) r.reads in
@@ -224,7 +231,8 @@ module _ (labels : Labels) (s : Section) where
       ap (λ q. fault_of ((q >>= λ vs. numbers_fit vs >>= λ _. values_of labels vs) >>= λ vs. in_data s vs)) r.0
       ∙ sym (misshapen_fault (kind_by labels) s words r.1)
 
-  by_space : (words : List Word) → fault_of (space_count words >>= λ k. in_data s (replicate k (Int 0))) ≡ form_fault (kind_by labels) s (ADirective (Some d.Space) words)
+  by_space : (words : List Word)
+      → fault_of (space_count words >>= λ k. in_data s (replicate k (Int 0))) ≡ form_fault (kind_by labels) s (ADirective (Some d.Space) words)
   unfolding space_count
   by_space (Number negative value ∷ []) = space_is s (in_range 0 65280 negative value) value
   by_space _ = refl

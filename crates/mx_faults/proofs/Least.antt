@@ -25,7 +25,8 @@ there : (n : ℕ) (b : Bool) (x : Fault) (rest : Option Fault) → number_of x �
 there n true x rest h k = h
 there n false x rest h k = k
 
-found_by : (h : Fault → Bool) (front : List Fault) (x : Fault) (rest : List Fault) (n : ℕ) → list_all (λ y. nat_le (number_of y) n) front ≡ true → number_of x ≤ n → h x ≡ true
+found_by : (h : Fault → Bool) (front : List Fault) (x : Fault) (rest : List Fault) (n : ℕ) → list_all (λ y. nat_le (number_of y) n) front ≡ true
+    → number_of x ≤ n → h x ≡ true
     → AtMost n (find h (front ++ x ∷ rest))
 found_by h [] x rest n all le e = here n (h x) x (find h rest) e le
 found_by h (y ∷ front) x rest n all le e =

@@ -211,6 +211,7 @@ module _ (low end : ℕ) (all before : List (List ℕ)) (line : List ℕ) (littl
       (is_misplaced (section_behind before) of || dotted) (has_too_many_instructions l) (has_full_data l) (is_too_long l)))) (bad_byte line)
 
 -- the fault of each line of a text
-pub assembled_is : (low end : ℕ) (text : List ℕ) (place : ℕ) → low ≤ 65537 → end ≤ 65536 → assembled_fault low end text place ≡ least_of (text_line low end text place)
+pub assembled_is : (low end : ℕ) (text : List ℕ) (place : ℕ) → low ≤ 65537 → end ≤ 65536
+    → assembled_fault low end text place ≡ least_of (text_line low end text place)
 unfolding text_labels
 assembled_is low end text place little within = let lines = lines_of text in line_is low end lines (take place lines) (get_or lines place []) little within

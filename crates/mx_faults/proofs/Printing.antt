@@ -54,7 +54,8 @@ all_pass : (p : ℕ → Bool) (xs : List ℕ) → list_all p (take_while p xs) �
 all_pass p [] = refl
 all_pass p (x ∷ xs) = ap (list_all p) (take_while-cons p x xs) ∙ by_first p x xs (p x) refl (all_pass p xs)
 
-name_is : (b : ℕ) (rest : List ℕ) (e : Bool) → begins_name b ≡ true → continues_name b ≡ e → e ≡ true → is_name (cond e (b ∷ take_while continues_name rest) []) ≡ true
+name_is : (b : ℕ) (rest : List ℕ) (e : Bool) → begins_name b ≡ true → continues_name b ≡ e → e ≡ true
+    → is_name (cond e (b ∷ take_while continues_name rest) []) ≡ true
 name_is b rest true begins goes h = ap (λ x. x && list_all continues_name (take_while continues_name rest)) begins ∙ all_pass continues_name rest
 name_is b rest false begins goes h = absurd (false≢true h)
 
@@ -68,7 +69,8 @@ whole_range : (line : List ℕ) (at n : ℕ) → slice_range line at (at + n) �
 whole_range line at n = let e : (at + n) - at ≡ n = omega arith in ap (λ k. take k (drop at line)) e
 
 -- a name from a place within the line on
-name_at : (line : List ℕ) (at : ℕ) → at < length line → begins_name (slice_index line at) ≡ true → is_name (slice_range line at (at + prefix_len continues_name (drop at line))) ≡ true
+name_at : (line : List ℕ) (at : ℕ) → at < length line → begins_name (slice_index line at) ≡ true
+    → is_name (slice_range line at (at + prefix_len continues_name (drop at line))) ≡ true
 name_at line at within begins =
     ap is_name (whole_range line at (prefix_len continues_name (drop at line)))
     ∙ ap (λ l. is_name (take_while continues_name l)) (drop-cons line at 0 within)
@@ -93,7 +95,8 @@ number_at_good line at = either_number line _ _ _ (number_good line true at (mag
 mark_good : (line : List ℕ) (at : ℕ) (b : ℕ) → GoodToken line (mark_or_number_at line at (mark_of b))
 mark_good line at b = by_mark (b == 44) (b == 91) (b == 93) (b == 35) (b == 58)
   where
-    by_mark : (k1 k2 k3 k4 k5 : Bool) → GoodToken line (mark_or_number_at line at (cond k1 (Some kinds.Comma) (cond k2 (Some kinds.Open) (cond k3 (Some kinds.Close) (cond k4 (Some kinds.Hash) (cond k5 (Some kinds.Colon) None))))))
+    by_mark : (k1 k2 k3 k4 k5 : Bool)
+        → GoodToken line (mark_or_number_at line at (cond k1 (Some kinds.Comma) (cond k2 (Some kinds.Open) (cond k3 (Some kinds.Close) (cond k4 (Some kinds.Hash) (cond k5 (Some kinds.Colon) None))))))
     by_mark true k2 k3 k4 k5 = tt
     by_mark false true k3 k4 k5 = tt
     by_mark false false true k4 k5 = tt
@@ -101,7 +104,8 @@ mark_good line at b = by_mark (b == 44) (b == 91) (b == 93) (b == 35) (b == 58)
     by_mark false false false false true = tt
     by_mark false false false false false = number_at_good line at
 
-chosen_good : (line : List ℕ) (at : ℕ) (ends bad begins : Bool) → (ends ≡ false → begins ≡ true → Named (word_at line (token kinds.Name at (at + prefix_len continues_name (drop at line)))))
+chosen_good : (line : List ℕ) (at : ℕ) (ends bad begins : Bool)
+    → (ends ≡ false → begins ≡ true → Named (word_at line (token kinds.Name at (at + prefix_len continues_name (drop at line)))))
     → GoodToken line (cond ends (Ok (token kinds.End at at)) (cond bad (Err (lexed.BadByte at))
     (cond begins (Ok (token kinds.Name at (at + prefix_len continues_name (drop at line)))) (mark_or_number_at line at (mark_of (slice_index line at))))))
 chosen_good line at true bad begins h = tt
@@ -128,11 +132,13 @@ before_good : (line : List ℕ) (t : Token) (r : Result (List Token) LexFault) �
 before_good line t (Ok ts) h k = (h, k)
 before_good line t (Err fault) h k = tt
 
-end_good : (line : List ℕ) (b : Bool) (t : Token) (r : Result (List Token) LexFault) → Named (word_at line t) → GoodTokens line r → GoodTokens line (cond b (Ok []) (before t r))
+end_good : (line : List ℕ) (b : Bool) (t : Token) (r : Result (List Token) LexFault) → Named (word_at line t) → GoodTokens line r
+    → GoodTokens line (cond b (Ok []) (before t r))
 end_good line true t r h k = tt
 end_good line false t r h k = before_good line t r h k
 
-then_good : (line : List ℕ) (r : Result Token LexFault) (g : Token → Result (List Token) LexFault) → GoodToken line r → ((t : Token) → Named (word_at line t) → GoodTokens line (g t)) → GoodTokens line (and_then r g)
+then_good : (line : List ℕ) (r : Result Token LexFault) (g : Token → Result (List Token) LexFault) → GoodToken line r
+    → ((t : Token) → Named (word_at line t) → GoodTokens line (g t)) → GoodTokens line (and_then r g)
 then_good line (Ok t) g h k = k t h
 then_good line (Err fault) g h k = tt
 
@@ -147,7 +153,8 @@ words_good : (line : List ℕ) (ts : List Token) → AllByRecursion (λ t. Named
 words_good line [] h = tt
 words_good line (t ∷ ts) h = (h.0, words_good line ts h.1)
 
-split_good : (line : List ℕ) (bad : Bool) (r : Result (List Token) LexFault) → GoodTokens line r → AllByRecursion Named (words_or_none (cond bad (Err BadByte) (words_at line r)))
+split_good : (line : List ℕ) (bad : Bool) (r : Result (List Token) LexFault) → GoodTokens line r
+    → AllByRecursion Named (words_or_none (cond bad (Err BadByte) (words_at line r)))
 split_good line true r h = tt
 split_good line false (Ok ts) h = words_good line ts h
 split_good line false (Err fault) h = tt
@@ -187,7 +194,8 @@ none_distinct = tt
 abbrev names : Labels → List (List ℕ)
 names labels = map (λ (p : List ℕ × Label). p.0) labels
 
-apart_push : (n : List ℕ) (labels : Labels) (l : Label) (name : List ℕ) → bytes_eq n name ≡ false → AllByRecursion (λ y. bytes_eq n y ≡ false) (names labels) → AllByRecursion (λ y. bytes_eq n y ≡ false) (names (labels ++ (name, l) ∷ []))
+apart_push : (n : List ℕ) (labels : Labels) (l : Label) (name : List ℕ) → bytes_eq n name ≡ false → AllByRecursion (λ y. bytes_eq n y ≡ false) (names labels)
+    → AllByRecursion (λ y. bytes_eq n y ≡ false) (names (labels ++ (name, l) ∷ []))
 apart_push n [] l name h all = (h, tt)
 apart_push n (e ∷ labels) l name h all = (all.0, apart_push n labels l name h all.1)
 
@@ -195,25 +203,29 @@ cond_none : (b : Bool) (x : Label) (o : Option Label) → is_some (cond b (Some 
 cond_none true x o h = absurd (false≢true (sym h))
 cond_none false x o h = (refl, h)
 
-distinct_push : (labels : Labels) (l : Label) (name : List ℕ) → is_some (label_named labels name) ≡ false → IsDistinct bytes_eq (names labels) → IsDistinct bytes_eq (names (labels ++ (name, l) ∷ []))
+distinct_push : (labels : Labels) (l : Label) (name : List ℕ) → is_some (label_named labels name) ≡ false → IsDistinct bytes_eq (names labels)
+    → IsDistinct bytes_eq (names (labels ++ (name, l) ∷ []))
 unfolding IsDistinct
 distinct_push [] l name h d = (tt, tt)
 distinct_push (e ∷ labels) l name h d =
     let none = cond_none (bytes_eq name e.0) e.1 (label_named labels name) h in
     (apart_push e.0 labels l name (swapped name e.0 none.0) d.0, distinct_push labels l name none.1 d.1)
 
-added_distinct : (labels : Labels) (l : Label) (name : List ℕ) (dotted known : Bool) → is_some (label_named labels name) ≡ known → IsDistinct bytes_eq (names labels)
+added_distinct : (labels : Labels) (l : Label) (name : List ℕ) (dotted known : Bool) → is_some (label_named labels name) ≡ known
+    → IsDistinct bytes_eq (names labels)
     → IsDistinct bytes_eq (names (cond (dotted || known) labels (labels ++ (name, l) ∷ [])))
 added_distinct labels l name true known h d = d
 added_distinct labels l name false true h d = d
 added_distinct labels l name false false h d = distinct_push labels l name h d
 
-front_distinct : (words : List Word) (labels : Labels) (l : Label) → IsDistinct bytes_eq (names labels) → IsDistinct bytes_eq (names (define_front labels l words))
+front_distinct : (words : List Word) (labels : Labels) (l : Label) → IsDistinct bytes_eq (names labels)
+    → IsDistinct bytes_eq (names (define_front labels l words))
 unfolding define
 front_distinct (Name name ∷ Colon ∷ words) labels l d = front_distinct words (define labels l name) l (added_distinct labels l name (is_dotted name) (is_some (label_named labels name)) refl d)
 front_distinct _ labels l d = d
 
-names_distinct : (lines : List (List ℕ)) (p : Position) (labels : Labels) → IsDistinct bytes_eq (names labels) → IsDistinct bytes_eq (names (labels_from p labels lines))
+names_distinct : (lines : List (List ℕ)) (p : Position) (labels : Labels) → IsDistinct bytes_eq (names labels)
+    → IsDistinct bytes_eq (names (labels_from p labels lines))
 names_distinct [] p labels d = d
 names_distinct (line ∷ lines) p labels d = names_distinct lines (after p (line_words line)) (with_labels p labels (line_words line)) (front_distinct (line_words line) labels (label_here p) d)
 
@@ -238,11 +250,13 @@ here_below : (top : ℕ) (s : Section) (index address : ℕ) → address ≤ top
 here_below top section.Code index address h = tt
 here_below top section.Data index address h = h
 
-front_below : (words : List Word) (labels : Labels) (l : Label) (top : ℕ) → Below top l → All (BelowEntry top) labels → All (BelowEntry top) (define_front labels l words)
+front_below : (words : List Word) (labels : Labels) (l : Label) (top : ℕ) → Below top l → All (BelowEntry top) labels
+    → All (BelowEntry top) (define_front labels l words)
 front_below (Name name ∷ Colon ∷ words) labels l top h all = front_below words (define labels l name) l top h (define_fits (Below top) labels l name all (λ e. h))
 front_below _ labels l top h all = all
 
-labels_below : (lines : List (List ℕ)) (p : Position) (labels : Labels) (top : ℕ) → p.address ≤ 65537 → (position_at_end p lines).address ≤ top → All (BelowEntry top) labels → All (BelowEntry top) (labels_from p labels lines)
+labels_below : (lines : List (List ℕ)) (p : Position) (labels : Labels) (top : ℕ) → p.address ≤ 65537 → (position_at_end p lines).address ≤ top
+    → All (BelowEntry top) labels → All (BelowEntry top) (labels_from p labels lines)
 labels_below [] p labels top near h all = all
 labels_below (line ∷ lines) p labels top near h all =
     let rises = address_rises (line ∷ lines) p near in
@@ -261,7 +275,8 @@ near_labels : (labels : Labels) (count : ℕ) → LabelsFit count labels → Are
 unfolding any_label
 near_labels labels count fit = λ name l e. word_at_label labels count l (if_ok (NamedFits labels count) (any_label labels name) l (any_fits labels name count UndefinedLabel fit) e)
 
-all_both : (labels : Labels) → All GoodEntry labels → All (λ (p : List ℕ × Label). length p.0 ≤ 200) labels → All (λ (p : List ℕ × Label). IsLabelName p.0) labels
+all_both : (labels : Labels) → All GoodEntry labels → All (λ (p : List ℕ × Label). length p.0 ≤ 200) labels
+    → All (λ (p : List ℕ × Label). IsLabelName p.0) labels
 all_both [] h k = All-nil (λ (p : List ℕ × Label). IsLabelName p.0)
 all_both (e ∷ labels) h k =
     let good = All-head GoodEntry e labels h in

@@ -62,7 +62,8 @@ repeats_more q p earlier words h =
     repeats_is earlier (label_here p) words ∙ or_later (list_any (known []) names) (list_any (known earlier) names) (has_twice names) (none_known names) (sym (repeats_is [] (label_here q) words) ∙ h)
 
 pub settled_is : (labels : Labels) (low end : ℕ) (p : Position) (earlier : Labels) (line : List ℕ)
-    → settled (line_fault labels end (at_front p.section low) [] line) (repeats p earlier (line_words line)) (place_fault end p (length line) (line_words line)) ≡ line_fault labels end p earlier line
+    → settled (line_fault labels end (at_front p.section low) [] line) (repeats p earlier (line_words line))
+    (place_fault end p (length line) (line_words line)) ≡ line_fault labels end p earlier line
 settled_is labels low end p earlier line =
     let q = at_front p.section low in
     let of = form (statement line) in
@@ -75,8 +76,10 @@ settled_is labels low end p earlier line =
     (repeats_more q p earlier (line_words line))
     ∙ sym (parts_are labels end p earlier line)
 
-pub settled_by : (labels : Labels) (low end : ℕ) (p : Position) (earlier : Labels) (line : List ℕ) (result alone placed : Option Fault) (repeated : Bool) → result ≡ settled alone repeated placed
-    → alone ≡ line_fault labels end (at_front p.section low) [] line → repeated ≡ repeats p earlier (line_words line) → placed ≡ place_fault end p (length line) (line_words line)
+pub settled_by : (labels : Labels) (low end : ℕ) (p : Position) (earlier : Labels) (line : List ℕ) (result alone placed : Option Fault) (repeated : Bool)
+    → result ≡ settled alone repeated placed
+    → alone ≡ line_fault labels end (at_front p.section low) [] line → repeated ≡ repeats p earlier (line_words line)
+    → placed ≡ place_fault end p (length line) (line_words line)
     → result ≡ line_fault labels end p earlier line
 settled_by labels low end p earlier line result alone placed repeated e a r q =
     let first = line_fault labels end (at_front p.section low) [] line in
@@ -96,7 +99,8 @@ pub only_some : (o : Option Fault) (line : ℕ) (fault : Fault) → found_or 1 o
 only_some None line fault h = cc
 only_some (Some x) line fault h = let e : (1, x) ≡ (line, fault) = cc in ap (λ (p : ℕ × Fault). Some p.1) e
 
-pub walked_step : (labels : Labels) (end : ℕ) (p : Position) (earlier : Labels) (number : ℕ) (lines : List (Bor (List ℕ))) (i : ℕ) (d : Bor (List ℕ)) → i < length lines
+pub walked_step : (labels : Labels) (end : ℕ) (p : Position) (earlier : Labels) (number : ℕ) (lines : List (Bor (List ℕ))) (i : ℕ) (d : Bor (List ℕ))
+    → i < length lines
     → walked labels end p earlier number (texts (drop i lines))
     ≡ cons_option (with_number number (line_fault labels end p earlier (get_or lines i d).now))
     (walked labels end (after p (line_words (get_or lines i d).now)) (with_labels p earlier (line_words (get_or lines i d).now)) (number + 1) (texts (drop (i + 1) lines)))

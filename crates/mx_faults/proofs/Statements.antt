@@ -58,11 +58,13 @@ coded : (s : Section) (statement : Statement) → fault_of (in_code s statement)
 coded section.Code statement = refl
 coded section.Data statement = refl
 
-regs1 : (s : Section) (g : ℕ → Statement) (a : Option ℕ) → fault_of ((ok_or a f.BadRegister >>= λ x. Ok (g x)) >>= in_code s) ≡ registers_then (is_none a || false) (stands s)
+regs1 : (s : Section) (g : ℕ → Statement) (a : Option ℕ)
+    → fault_of ((ok_or a f.BadRegister >>= λ x. Ok (g x)) >>= in_code s) ≡ registers_then (is_none a || false) (stands s)
 regs1 s g None = refl
 regs1 s g (Some a) = coded s (g a)
 
-regs2 : (s : Section) (g : ℕ → ℕ → Statement) (a b : Option ℕ) → fault_of ((ok_or a f.BadRegister >>= λ x. ok_or b f.BadRegister >>= λ y. Ok (g x y)) >>= in_code s)
+regs2 : (s : Section) (g : ℕ → ℕ → Statement) (a b : Option ℕ)
+    → fault_of ((ok_or a f.BadRegister >>= λ x. ok_or b f.BadRegister >>= λ y. Ok (g x y)) >>= in_code s)
     ≡ registers_then (is_none a || (is_none b || false)) (stands s)
 regs2 s g None b = refl
 regs2 s g (Some a) None = refl
@@ -94,7 +96,8 @@ number3 s g (Some a) (Some b) (Some c) false x = refl
 number3 s g (Some a) (Some b) (Some c) true x = coded s (g a b c x)
 
 -- only MD is moved
-moved : (s : Section) (x : Special) (statement : Statement) → fault_of (if_md x statement >>= in_code s) ≡ cond (is_chain (Some x) || false) (Some f.SystemInstruction) (stands s)
+moved : (s : Section) (x : Special) (statement : Statement)
+    → fault_of (if_md x statement >>= in_code s) ≡ cond (is_chain (Some x) || false) (Some f.SystemInstruction) (stands s)
 moved s Md statement = coded s statement
 moved s Pc1 statement = refl
 moved s Pc2 statement = refl
@@ -118,7 +121,8 @@ to_special s g (Some a) (Some b) = moved s b (g a b)
 abbrev target_then : Option Label → Option Fault → Option Fault
 target_then l rest = cond (is_none (option_map section_of l) || false) (Some f.UndefinedLabel) (cond (is_data_kind (option_map section_of l) || false) (Some f.WrongLabelKind) rest)
 
-target0 : (s : Section) (g : ℕ → Statement) (l : Option Label) → fault_of (((ok_or l f.UndefinedLabel >>= code_index) >>= λ t. Ok (g t)) >>= in_code s) ≡ target_then l (stands s)
+target0 : (s : Section) (g : ℕ → Statement) (l : Option Label)
+    → fault_of (((ok_or l f.UndefinedLabel >>= code_index) >>= λ t. Ok (g t)) >>= in_code s) ≡ target_then l (stands s)
 target0 s g None = refl
 target0 s g (Some (label.Code i)) = coded s (g i)
 target0 s g (Some (label.Data a)) = refl
@@ -142,7 +146,8 @@ any1 s g None l = refl
 any1 s g (Some a) None = refl
 any1 s g (Some a) (Some l) = coded s (g a l)
 
-offset0 : (s : Section) (g : ℤ → Statement) (l : Option Label) → fault_of ((((ok_or l f.UndefinedLabel >>= data_address) >>= λ x. Ok (pos x)) >>= λ o. Ok (g o)) >>= in_code s)
+offset0 : (s : Section) (g : ℤ → Statement) (l : Option Label)
+    → fault_of ((((ok_or l f.UndefinedLabel >>= data_address) >>= λ x. Ok (pos x)) >>= λ o. Ok (g o)) >>= in_code s)
     ≡ cond (is_none (option_map section_of l) || false) (Some f.UndefinedLabel) (cond (is_code_kind (option_map section_of l) || false) (Some f.WrongLabelKind) (stands s))
 offset0 s g None = refl
 offset0 s g (Some (label.Code i)) = refl
@@ -315,6 +320,7 @@ module _ (labels : Labels) (s : Section) where
   with_is None words = refl
   with_is (Some mnemonic) words = spelled_is mnemonic words
 
-  pub instruction_is : (name : List ℕ) (words : List Word) → fault_of (instruction labels name words >>= λ statement. in_code s statement) ≡ form_fault kind s (AnInstruction (mnemonic_named name) words)
+  pub instruction_is : (name : List ℕ) (words : List Word)
+      → fault_of (instruction labels name words >>= λ statement. in_code s statement) ≡ form_fault kind s (AnInstruction (mnemonic_named name) words)
   unfolding instruction
   instruction_is name words = with_is (mnemonic_named name) words

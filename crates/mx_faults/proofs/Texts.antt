@@ -19,17 +19,20 @@ first_or : (number : ℕ) (o : Option Fault) (later : List (ℕ × Fault)) → f
 first_or number None later = refl
 first_or number (Some fault) later = refl
 
-pub first_walked : (labels : Labels) (end : ℕ) (p : Position) (earlier : Labels) (number : ℕ) (lines : List (List ℕ)) → first_fault labels end p earlier number lines ≡ first (walked labels end p earlier number lines)
+pub first_walked : (labels : Labels) (end : ℕ) (p : Position) (earlier : Labels) (number : ℕ) (lines : List (List ℕ))
+    → first_fault labels end p earlier number lines ≡ first (walked labels end p earlier number lines)
 first_walked labels end p earlier number [] = refl
 first_walked labels end p earlier number (line ∷ lines) =
     ap (found_or number (line_fault labels end p earlier line)) (first_walked labels end (after p (line_words line)) (with_labels p earlier (line_words line)) (number + 1) lines)
     ∙ sym (first_or number (line_fault labels end p earlier line) (walked labels end (after p (line_words line)) (with_labels p earlier (line_words line)) (number + 1) lines))
 
-pub position_more : (lines : List (List ℕ)) (line : List ℕ) (p : Position) → position_at_end p (lines ++ line ∷ []) ≡ after (position_at_end p lines) (line_words line)
+pub position_more : (lines : List (List ℕ)) (line : List ℕ) (p : Position)
+    → position_at_end p (lines ++ line ∷ []) ≡ after (position_at_end p lines) (line_words line)
 position_more [] line p = refl
 position_more (first ∷ lines) line p = position_more lines line (after p (line_words first))
 
-pub labels_more : (lines : List (List ℕ)) (line : List ℕ) (p : Position) (labels : Labels) → labels_from p labels (lines ++ line ∷ []) ≡ with_labels (position_at_end p lines) (labels_from p labels lines) (line_words line)
+pub labels_more : (lines : List (List ℕ)) (line : List ℕ) (p : Position) (labels : Labels)
+    → labels_from p labels (lines ++ line ∷ []) ≡ with_labels (position_at_end p lines) (labels_from p labels lines) (line_words line)
 labels_more [] line p labels = refl
 labels_more (first ∷ lines) line p labels = labels_more lines line (after p (line_words first)) (with_labels p labels (line_words first))
 
@@ -51,7 +54,8 @@ module _ (low end : ℕ) (all : List (List ℕ)) (little : low ≤ 65537) (withi
       ∙ ap (λ (q : List ℕ). least_of (record { low = low; end = end; all = all; before = take (length front) all; line = q })) (sym (at_front front line rest) ∙ ap (λ (ls : List (List ℕ)). get_or ls (length front) []) (sym e))
 
   pub walk_is : (rest front : List (List ℕ)) → all ≡ front ++ rest
-      → walked labels end (position_at_end (start low) front) (labels_from (start low) [] front) (length front + 1) rest ≡ filter_map (faulty_at low end all) (range_with_len (length front) (length rest))
+      → walked labels end (position_at_end (start low) front) (labels_from (start low) [] front) (length front + 1) rest ≡ filter_map (faulty_at low end all)
+      (range_with_len (length front) (length rest))
   walk_is [] front e = refl
   walk_is (line ∷ rest) front e =
       let p = position_at_end (start low) front in
@@ -67,7 +71,8 @@ module _ (low end : ℕ) (all : List (List ℕ)) (little : low ≤ 65537) (withi
       ∙ ap (λ n. filter_map (faulty_at low end all) (range_with_len n (length rest))) longer)
 
 -- all lines that the walk over a text finds
-pub walk_finds : (low end : ℕ) (text : List ℕ) → low ≤ 65537 → end ≤ 65536 → walked (text_labels low text) end (start low) [] 1 (lines_of text) ≡ faults_in low end text
+pub walk_finds : (low end : ℕ) (text : List ℕ) → low ≤ 65537 → end ≤ 65536
+    → walked (text_labels low text) end (start low) [] 1 (lines_of text) ≡ faults_in low end text
 unfolding text_labels
 walk_finds low end text little within = walk_is low end (lines_of text) little within (lines_of text) [] refl
 
@@ -77,7 +82,8 @@ unfolding text_fault
 first_is low end text little within = first_walked (text_labels low text) end (start low) [] 1 (lines_of text) ∙ ap first (walk_finds low end text little within)
 
 -- the faulty lines of the lines of a text, by its labels
-pub found_is : (low end : ℕ) (text : List ℕ) (labels : Labels) (lines : List (List ℕ)) → low ≤ 65537 → end ≤ 65536 → labels ≡ labels_from (start low) [] (lines_of text) → lines ≡ lines_of text
+pub found_is : (low end : ℕ) (text : List ℕ) (labels : Labels) (lines : List (List ℕ)) → low ≤ 65537 → end ≤ 65536
+    → labels ≡ labels_from (start low) [] (lines_of text) → lines ≡ lines_of text
     → walked labels end (start low) [] 1 lines ≡ faults_in low end text
 found_is low end text own lines little within defined same =
     ap (λ q. walked q end (start low) [] 1 lines) defined

@@ -46,20 +46,23 @@ repeats_somewhere labels l place (Name name ∷ Colon ∷ words) =
 repeats_somewhere labels l place _ = refl
 
 -- it is the first name that is known, or stands before
-pub repeat_names : (labels : Labels) (l : Label) (place : ℕ) (words : List Word) → repeat_place labels l place words ≡ first_known (known labels) place (front_names words)
+pub repeat_names : (labels : Labels) (l : Label) (place : ℕ) (words : List Word)
+    → repeat_place labels l place words ≡ first_known (known labels) place (front_names words)
 repeat_names labels l place (Name name ∷ Colon ∷ words) =
     ap (λ o. cond (is_defined labels name) (Some place) o)
     (repeat_names (define labels l name) l (place + 2) words
     ∙ ap (λ (q : List ℕ → Bool). first_known q (place + 2) (front_names words)) (fun_ext (known_defined labels l name)))
 repeat_names labels l place _ = refl
 
-or_earlier : (repeated : Option ℕ) (found : Bool) (place : ℕ) (o q : Option ℕ) → o ≡ q → option_or (earlier_place repeated found place) o ≡ option_or repeated (cond found (Some place) q)
+or_earlier : (repeated : Option ℕ) (found : Bool) (place : ℕ) (o q : Option ℕ) → o ≡ q
+    → option_or (earlier_place repeated found place) o ≡ option_or repeated (cond found (Some place) q)
 or_earlier (Some x) found place o q h = refl
 or_earlier None true place o q h = refl
 or_earlier None false place o q h = h
 
 place_next : (labels : Labels) (l : Label) (place : ℕ) (ws : List Word) → begins_label ws ≡ true
-    → repeat_place labels l place ws ≡ cond (is_defined labels (first_name ws)) (Some place) (repeat_place (define labels l (first_name ws)) l (place + 2) (drop 2 ws))
+    → repeat_place labels l place ws ≡ cond (is_defined labels (first_name ws)) (Some place)
+    (repeat_place (define labels l (first_name ws)) l (place + 2) (drop 2 ws))
 place_next labels l place (Name name ∷ Colon ∷ ws) h = refl
 place_next labels l place _ h = absurd (false≢true h)
 
@@ -96,7 +99,8 @@ statement_within _ = omega arith
 abbrev with_shape : List ℕ × Mnemonic → List ℕ × List Role
 with_shape r = (r.0, shape r.1)
 
-among_cond : (b : Bool) (m : Mnemonic) (o : Option (List Role)) (q : Option Mnemonic) → o ≡ option_map shape q → cond b (Some (shape m)) o ≡ option_map shape (cond b (Some m) q)
+among_cond : (b : Bool) (m : Mnemonic) (o : Option (List Role)) (q : Option Mnemonic) → o ≡ option_map shape q
+    → cond b (Some (shape m)) o ≡ option_map shape (cond b (Some m) q)
 among_cond true m o q h = refl
 among_cond false m o q h = h
 
@@ -108,13 +112,16 @@ pub shapes_are : (name : List ℕ) → shape_among (map with_shape mnemonics) na
 unfolding mnemonic_named
 shapes_are name = among_is mnemonics name
 
-pub shapes_of : (name : List ℕ) (rows : List (List ℕ × List Role)) (found : Option (List Role)) → found ≡ shape_among rows name → rows ≡ map with_shape mnemonics
+pub shapes_of : (name : List ℕ) (rows : List (List ℕ × List Role)) (found : Option (List Role)) → found ≡ shape_among rows name
+    → rows ≡ map with_shape mnemonics
     → found ≡ option_map shape (mnemonic_named name)
 shapes_of name rows found e same = e ∙ ap (λ (rs : List (List ℕ × List Role)). shape_among rs name) same ∙ shapes_are name
 
 -- a fault that is found at a place has its bytes
-pub shown_there : (labels earlier : Labels) (low : ℕ) (lines : List (List ℕ)) (i number : ℕ) (line : List ℕ) (span : Option Span) (fault : Fault) → number ≡ i + 1
-    → earlier ≡ labels_from (start low) [] (take i lines) → get_or lines i [] ≡ line → IsShownAs labels earlier (position_at_end (start low) (take i lines)) line span fault
+pub shown_there : (labels earlier : Labels) (low : ℕ) (lines : List (List ℕ)) (i number : ℕ) (line : List ℕ) (span : Option Span) (fault : Fault)
+    → number ≡ i + 1
+    → earlier ≡ labels_from (start low) [] (take i lines) → get_or lines i [] ≡ line
+    → IsShownAs labels earlier (position_at_end (start low) (take i lines)) line span fault
     → IsShown labels low lines (record { line = number; fault = fault; span = span })
 shown_there labels earlier low lines i number line span fault at before here h =
     let back : number - 1 ≡ i = omega (arith, at) in
@@ -123,7 +130,8 @@ shown_there labels earlier low lines i number line span fault at before here h =
     subst (λ (k : ℕ). IsShownAs labels (labels_from (start low) [] (take k lines)) (position_at_end (start low) (take k lines)) (get_or lines k []) span fault) (sym back) own
 
 -- by the lines of a text
-pub span_is : (low end : ℕ) (text : List ℕ) (labels : Labels) (f : LineFault) → labels ≡ labels_from (start low) [] (lines_of text) → IsShown labels low (lines_of text) f → HasSpan low end text f
+pub span_is : (low end : ℕ) (text : List ℕ) (labels : Labels) (f : LineFault) → labels ≡ labels_from (start low) [] (lines_of text)
+    → IsShown labels low (lines_of text) f → HasSpan low end text f
 span_is low end text labels f defined h =
     let lines = lines_of text in
     let before = take (f.line - 1) lines in
@@ -138,7 +146,8 @@ span_is low end text labels f defined h =
     ∙ ap (λ o. span_by o (kind_by labels) line f.fault) again
     ∙ ap (λ k. span_by (first_known (λ name. list_any (defines name) before) 0 (front_names (line_words line))) k line f.fault) kind
 
-pub spans_are : (low end : ℕ) (text : List ℕ) (labels : Labels) (lines : List (List ℕ)) (fs : List LineFault) → labels ≡ labels_from (start low) [] (lines_of text) → lines ≡ lines_of text
+pub spans_are : (low end : ℕ) (text : List ℕ) (labels : Labels) (lines : List (List ℕ)) (fs : List LineFault)
+    → labels ≡ labels_from (start low) [] (lines_of text) → lines ≡ lines_of text
     → All (IsShown labels low lines) fs → All (HasSpan low end text) fs
 spans_are low end text labels lines fs defined same h =
     All-weaker (IsShown labels low lines) (HasSpan low end text)
@@ -146,7 +155,8 @@ spans_are low end text labels lines fs defined same h =
     fs h
 
 -- what is found with one more line
-pub push_shown : (P : LineFault → Type 0) (found found' : List LineFault) (line : ℕ) (span : Option Span) (fault : Option Fault) → found' ≡ found ++ cons_option (with_span line span fault) []
+pub push_shown : (P : LineFault → Type 0) (found found' : List LineFault) (line : ℕ) (span : Option Span) (fault : Option Fault)
+    → found' ≡ found ++ cons_option (with_span line span fault) []
     → All P found → ((f : Fault) → fault ≡ Some f → P (record { line = line; fault = f; span = span })) → All P found'
 push_shown P found found' line span None e h one = subst (All P) (sym (e ∙ append-nil found)) h
 push_shown P found found' line span (Some f) e h one = subst (All P) (sym e) (All-push P found (record { line = line; fault = f; span = span }) h (one f refl))
@@ -164,20 +174,25 @@ pub fault_step : (n : ℕ) (line : List ℕ) (at : ℕ) (t : Token) → 0 < n �
     → no_token line (tokens_within (n - 1) line t.end) ≡ no_token line (tokens_within n line at)
 fault_step n line at t more is goes = within_step (n - 1) n line at t (omega arith) is goes
 
-within_end : (k n : ℕ) (line : List ℕ) (at : ℕ) (t : Token) → n ≡ suc k → next_token line at ≡ Ok t → is_end t.kind ≡ true → no_token line (tokens_within n line at) ≡ None
+within_end : (k n : ℕ) (line : List ℕ) (at : ℕ) (t : Token) → n ≡ suc k → next_token line at ≡ Ok t → is_end t.kind ≡ true
+    → no_token line (tokens_within n line at) ≡ None
 within_end k n line at t e is ends = rw (e, is, ends) refl
 
-pub fault_end : (n : ℕ) (line : List ℕ) (at : ℕ) (t : Token) → 0 < n → next_token line at ≡ Ok t → is_end t.kind ≡ true → no_token line (tokens_within n line at) ≡ None
+pub fault_end : (n : ℕ) (line : List ℕ) (at : ℕ) (t : Token) → 0 < n → next_token line at ≡ Ok t → is_end t.kind ≡ true
+    → no_token line (tokens_within n line at) ≡ None
 fault_end n line at t more is ends = within_end (n - 1) n line at t (omega arith) is ends
 
-within_fault : (k n : ℕ) (line : List ℕ) (at : ℕ) (fault : LexFault) → n ≡ suc k → next_token line at ≡ Err fault → no_token line (tokens_within n line at) ≡ lex_fault_span line fault
+within_fault : (k n : ℕ) (line : List ℕ) (at : ℕ) (fault : LexFault) → n ≡ suc k → next_token line at ≡ Err fault
+    → no_token line (tokens_within n line at) ≡ lex_fault_span line fault
 within_fault k n line at fault e is = rw (e, is) refl
 
-pub fault_here : (n : ℕ) (line : List ℕ) (at : ℕ) (fault : LexFault) → 0 < n → next_token line at ≡ Err fault → no_token line (tokens_within n line at) ≡ lex_fault_span line fault
+pub fault_here : (n : ℕ) (line : List ℕ) (at : ℕ) (fault : LexFault) → 0 < n → next_token line at ≡ Err fault
+    → no_token line (tokens_within n line at) ≡ lex_fault_span line fault
 fault_here n line at fault more is = within_fault (n - 1) n line at fault (omega arith) is
 
 -- the first lines of a text and one more
-pub one_more_text : (lines : List (Bor (List ℕ))) (i : ℕ) (d : Bor (List ℕ)) → i < length lines → take (i + 1) (texts lines) ≡ take i (texts lines) ++ (get_or lines i d).now ∷ []
+pub one_more_text : (lines : List (Bor (List ℕ))) (i : ℕ) (d : Bor (List ℕ)) → i < length lines
+    → take (i + 1) (texts lines) ≡ take i (texts lines) ++ (get_or lines i d).now ∷ []
 one_more_text lines i d lt =
     take_more (texts lines) i d.now (omega (arith, length-map lines (λ (line : Bor (List ℕ)). line.now)))
     ∙ ap (λ x. take i (texts lines) ++ x ∷ []) (get_or-map (λ (line : Bor (List ℕ)). line.now) lines i d d.now lt)
@@ -186,13 +201,16 @@ pub text_at : (lines : List (Bor (List ℕ))) (i : ℕ) (d : Bor (List ℕ)) →
 text_at lines i d lt = get_or-map (λ (line : Bor (List ℕ)). line.now) lines i d [] lt
 
 -- what stands behind one more line
-pub before_more : (low i : ℕ) (lines : List (List ℕ)) (line : List ℕ) (p next : Position) → take (i + 1) lines ≡ take i lines ++ line ∷ [] → p ≡ position_at_end (start low) (take i lines)
+pub before_more : (low i : ℕ) (lines : List (List ℕ)) (line : List ℕ) (p next : Position) → take (i + 1) lines ≡ take i lines ++ line ∷ []
+    → p ≡ position_at_end (start low) (take i lines)
     → next ≡ after p (line_words line) → next ≡ position_at_end (start low) (take (i + 1) lines)
 before_more low i lines line p next more before e =
     e ∙ ap (λ (q : Position). after q (line_words line)) before ∙ sym (position_more (take i lines) line (start low)) ∙ ap (position_at_end (start low)) (sym more)
 
-pub earlier_more : (low i : ℕ) (lines : List (List ℕ)) (line : List ℕ) (p : Position) (earlier next : Labels) → take (i + 1) lines ≡ take i lines ++ line ∷ [] → p ≡ position_at_end (start low) (take i lines)
-    → earlier ≡ labels_from (start low) [] (take i lines) → next ≡ with_labels p earlier (line_words line) → next ≡ labels_from (start low) [] (take (i + 1) lines)
+pub earlier_more : (low i : ℕ) (lines : List (List ℕ)) (line : List ℕ) (p : Position) (earlier next : Labels) → take (i + 1) lines ≡ take i lines ++ line ∷ []
+    → p ≡ position_at_end (start low) (take i lines)
+    → earlier ≡ labels_from (start low) [] (take i lines) → next ≡ with_labels p earlier (line_words line)
+    → next ≡ labels_from (start low) [] (take (i + 1) lines)
 earlier_more low i lines line p earlier next more before known e =
     e
     ∙ ap (λ (q : Position). with_labels q earlier (line_words line)) before
@@ -201,15 +219,19 @@ earlier_more low i lines line p earlier next more before known e =
     ∙ ap (labels_from (start low) []) (sym more)
 
 -- the place of a label that is defined before, by what the program was told
-pub is_again : (earlier : Labels) (l l' : Label) (words words' : List Word) (found : Option ℕ) → found ≡ repeat_place earlier l 0 words → l ≡ l' → words ≡ words'
+pub is_again : (earlier : Labels) (l l' : Label) (words words' : List Word) (found : Option ℕ) → found ≡ repeat_place earlier l 0 words → l ≡ l'
+    → words ≡ words'
     → (found ≡ repeat_place earlier l' 0 words') × (is_some found ≡ is_repeated earlier l' words')
 is_again earlier l l' words words' found e same kept =
     let all = e ∙ ap (λ q. repeat_place earlier q 0 words) same ∙ ap (repeat_place earlier l' 0) kept in
     (all, ap is_some all ∙ repeats_somewhere earlier l' 0 words')
 
 -- what was seen of a line, as the lines before it have it
-pub shown_here : (labels earlier : Labels) (low : ℕ) (lines : List (List ℕ)) (i number : ℕ) (line : List ℕ) (p : Position) (span : Option Span) (o : Option Fault) → number ≡ i + 1
-    → p ≡ position_at_end (start low) (take i lines) → earlier ≡ labels_from (start low) [] (take i lines) → get_or lines i [] ≡ line → IfSome o (IsShownAs labels earlier p line span)
+pub shown_here : (labels earlier : Labels) (low : ℕ) (lines : List (List ℕ)) (i number : ℕ) (line : List ℕ) (p : Position) (span : Option Span)
+    (o : Option Fault)
+    → number ≡ i + 1
+    → p ≡ position_at_end (start low) (take i lines) → earlier ≡ labels_from (start low) [] (take i lines) → get_or lines i [] ≡ line
+    → IfSome o (IsShownAs labels earlier p line span)
     → (fault : Fault) → o ≡ Some fault → IsShown labels low lines (record { line = number; fault = fault; span = span })
 shown_here labels earlier low lines i number line p span o at stands before here h fault e =
     shown_there labels earlier low lines i number line span fault at before here

@@ -101,7 +101,8 @@ found_first : (b : Bool) (x : Label) (o q r : Option Label) → o ≡ option_or 
 found_first true x o q r e = refl
 found_first false x o q r e = e
 
-found_more : (labels : Labels) (l : Label) (n name : List ℕ) → label_named (labels ++ (n, l) ∷ []) name ≡ option_or (label_named labels name) (cond (bytes_eq name n) (Some l) None)
+found_more : (labels : Labels) (l : Label) (n name : List ℕ)
+    → label_named (labels ++ (n, l) ∷ []) name ≡ option_or (label_named labels name) (cond (bytes_eq name n) (Some l) None)
 found_more [] l n name = refl
 found_more (e ∷ labels) l n name = found_first (bytes_eq name e.0) e.1 _ _ _ (found_more labels l n name)
 
@@ -114,7 +115,8 @@ map_cond : (b : Bool) (l : Label) → option_map section_of (cond b (Some l) Non
 map_cond true l = refl
 map_cond false l = refl
 
-kind_added : (labels : Labels) (l : Label) (n name : List ℕ) → kind_by (labels ++ (n, l) ∷ []) name ≡ option_or (kind_by labels name) (cond (bytes_eq name n) (Some (section_of l)) None)
+kind_added : (labels : Labels) (l : Label) (n name : List ℕ)
+    → kind_by (labels ++ (n, l) ∷ []) name ≡ option_or (kind_by labels name) (cond (bytes_eq name n) (Some (section_of l)) None)
 kind_added labels l n name =
     ap (option_map section_of) (found_more labels l n name)
     ∙ map_or (label_named labels name) (cond (bytes_eq name n) (Some l) None)
@@ -135,13 +137,15 @@ or_none None = refl
 or_none (Some x) = refl
 
 define_by : (labels : Labels) (l : Label) (n name : List ℕ) (dotted known : Bool) → is_some (label_named labels n) ≡ known
-    → kind_by (cond (dotted || known) labels (labels ++ (n, l) ∷ [])) name ≡ option_or (kind_by labels name) (cond (not dotted && bytes_eq name n) (Some (section_of l)) None)
+    → kind_by (cond (dotted || known) labels (labels ++ (n, l) ∷ [])) name ≡ option_or (kind_by labels name)
+    (cond (not dotted && bytes_eq name n) (Some (section_of l)) None)
 define_by labels l n name true known h = or_none (kind_by labels name)
 define_by labels l n name false true h =
     or_there (kind_by labels name) (bytes_eq name n) (section_of l) (λ e. is_some_map (label_named labels name) ∙ ap (λ x. is_some (label_named labels x)) (same_name name n e) ∙ h)
 define_by labels l n name false false h = kind_added labels l n name
 
-kind_defined : (labels : Labels) (l : Label) (n name : List ℕ) → kind_by (define labels l n) name ≡ option_or (kind_by labels name) (cond (not (is_dotted n) && bytes_eq name n) (Some (section_of l)) None)
+kind_defined : (labels : Labels) (l : Label) (n name : List ℕ)
+    → kind_by (define labels l n) name ≡ option_or (kind_by labels name) (cond (not (is_dotted n) && bytes_eq name n) (Some (section_of l)) None)
 unfolding define
 kind_defined labels l n name = define_by labels l n name (is_dotted n) (is_some (label_named labels n)) refl
 
@@ -149,17 +153,20 @@ kind_defined labels l n name = define_by labels l n name (is_dotted n) (is_some 
 abbrev pub undotted : List (List ℕ) → List (List ℕ)
 undotted names = filter (λ name. not (is_dotted name)) names
 
-or_or : (o : Option Section) (a b : Bool) (s : Section) → option_or (option_or o (cond a (Some s) None)) (cond b (Some s) None) ≡ option_or o (cond (a || b) (Some s) None)
+or_or : (o : Option Section) (a b : Bool) (s : Section)
+    → option_or (option_or o (cond a (Some s) None)) (cond b (Some s) None) ≡ option_or o (cond (a || b) (Some s) None)
 or_or (Some x) a b s = refl
 or_or None true b s = refl
 or_or None false b s = refl
 
-any_undotted : (keep : Bool) (p : List ℕ → Bool) (n : List ℕ) (names : List (List ℕ)) → (keep && p n) || list_any p (undotted names) ≡ list_any p (cond keep (n ∷ undotted names) (undotted names))
+any_undotted : (keep : Bool) (p : List ℕ → Bool) (n : List ℕ) (names : List (List ℕ))
+    → (keep && p n) || list_any p (undotted names) ≡ list_any p (cond keep (n ∷ undotted names) (undotted names))
 any_undotted true p n names = refl
 any_undotted false p n names = refl
 
 kind_front : (labels : Labels) (l : Label) (words : List Word) (name : List ℕ)
-    → kind_by (define_front labels l words) name ≡ option_or (kind_by labels name) (cond (list_any (bytes_eq name) (undotted (front_names words))) (Some (section_of l)) None)
+    → kind_by (define_front labels l words) name ≡ option_or (kind_by labels name)
+    (cond (list_any (bytes_eq name) (undotted (front_names words))) (Some (section_of l)) None)
 kind_front labels l (Name n ∷ Colon ∷ words) name =
     kind_front (define labels l n) l words name
     ∙ ap (λ o. option_or o (cond (list_any (bytes_eq name) (undotted (front_names words))) (Some (section_of l)) None)) (kind_defined labels l n name)
@@ -182,7 +189,8 @@ kind_line None true s later t u e = refl
 kind_line None false s true t u e = ap Some e
 kind_line None false s false t u e = refl
 
-behind_cond : (b : Bool) (s : Section) (line : List ℕ) (lines : List (List ℕ)) → cond b s (behind_from s (line ∷ lines)) ≡ behind_from s (cond b [] (line ∷ lines))
+behind_cond : (b : Bool) (s : Section) (line : List ℕ) (lines : List (List ℕ))
+    → cond b s (behind_from s (line ∷ lines)) ≡ behind_from s (cond b [] (line ∷ lines))
 behind_cond true s line lines = refl
 behind_cond false s line lines = refl
 
@@ -218,7 +226,8 @@ walk_known lines p name =
     ∙ ap is_some (walk_kind lines p [] name)
     ∙ or_some None (list_any (defines name) lines) (behind_from p.section (before_definition name lines))
 
-pub known_defined : (labels : Labels) (l : Label) (n name : List ℕ) → known (define labels l n) name ≡ known labels name || (not (is_dotted n) && bytes_eq name n)
+pub known_defined : (labels : Labels) (l : Label) (n name : List ℕ)
+    → known (define labels l n) name ≡ known labels name || (not (is_dotted n) && bytes_eq name n)
 known_defined labels l n name =
     known_kind (define labels l n) name
     ∙ ap is_some (kind_defined labels l n name)
@@ -258,12 +267,14 @@ any_and true q names = refl
 any_and false q [] = refl
 any_and false q (n ∷ names) = any_and false q names
 
-keep_cond : (keep : Bool) (p : List ℕ → Bool) (n : List ℕ) (names : List (List ℕ)) → cond keep ((p n || list_any p names) || (list_any (bytes_eq n) names || has_twice names)) (Repeats p names) ≡ Repeats p (cond keep (n ∷ names) names)
+keep_cond : (keep : Bool) (p : List ℕ → Bool) (n : List ℕ) (names : List (List ℕ))
+    → cond keep ((p n || list_any p names) || (list_any (bytes_eq n) names || has_twice names)) (Repeats p names) ≡ Repeats p (cond keep (n ∷ names) names)
 keep_cond true p n names = refl
 keep_cond false p n names = refl
 
 -- whether a label at the front of a line is defined before, or earlier on this line
-pub repeats_is : (labels : Labels) (l : Label) (words : List Word) → is_repeated labels l words ≡ list_any (known labels) (undotted (front_names words)) || has_twice (undotted (front_names words))
+pub repeats_is : (labels : Labels) (l : Label) (words : List Word)
+    → is_repeated labels l words ≡ list_any (known labels) (undotted (front_names words)) || has_twice (undotted (front_names words))
 repeats_is labels l (Name n ∷ Colon ∷ words) =
     let keep = not (is_dotted n) in
     let names = undotted (front_names words) in

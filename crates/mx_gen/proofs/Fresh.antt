@@ -26,7 +26,8 @@ insert_new k v (e ∷ es) new =
     ap (λ b. if b then (e.0, v) ∷ es else e ∷ insert_entry (λ (x y : Name). bytes_eq (name_bytes x) (name_bytes y)) es k v) (apart (name_bytes k) (name_bytes e.0) (All-head (λ p. p.0 ≢ name_bytes k) (name_bytes e.0, e.1) (named_labels es) new))
     ∙ ap (λ t. e ∷ t) (insert_new k v es (All-tail (λ p. p.0 ≢ name_bytes k) (name_bytes e.0, e.1) (named_labels es) new))
 
-pub named_new : (k : Name) (v : Label) (entries all : List (Name × Label)) (bytes : List ℕ) (i j : ℕ) → IsNew (name_bytes k) (named_labels entries) → name_bytes k ≡ bytes → i ≡ j → v ≡ Code i →
+pub named_new : (k : Name) (v : Label) (entries all : List (Name × Label)) (bytes : List ℕ) (i j : ℕ) → IsNew (name_bytes k) (named_labels entries)
+    → name_bytes k ≡ bytes → i ≡ j → v ≡ Code i →
     all ≡ insert_entry (λ (x y : Name). bytes_eq (name_bytes x) (name_bytes y)) entries k v → named_labels all ≡ named_labels entries ++ (bytes, Code j) ∷ []
 named_new k v entries all bytes i j new is at code e =
     ap named_labels (e ∙ insert_new k v entries new) ∙ (map-append (λ p. (name_bytes p.0, p.1)) entries ((k, v) ∷ [])

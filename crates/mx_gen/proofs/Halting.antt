@@ -54,7 +54,8 @@ module _ (p : Program) (board : IsBoard p.place) where
       HaltsSoon p b (done p i s).after → HaltsSoon p (suc b) s
   runs_on i b s h here runs next = one_before p b s h (subst (λ (x : Step). HaltsSoon p b x.after) (sym (plain_is p s i h here runs)) next)
 
-  plain_soon : (i : Inst) (b : ℕ) (d : Draft) → ((s : State) → Ints s → why_plain p i s.regs ≡ None) → Front (put (Plain i) d) → Soon b (put (Plain i) d) → Soon (suc b) d
+  plain_soon : (i : Inst) (b : ℕ) (d : Draft) → ((s : State) → Ints s → why_plain p i s.regs ≡ None) → Front (put (Plain i) d) → Soon b (put (Plain i) d)
+      → Soon (suc b) d
   plain_soon i b d runs front next s h at =
       runs_on i b s h (ap (slice_get p.statements) at ∙ front_last (Plain i) d front) (runs s h)
       (next (done p i s).after (done_ints p i s h) (ap suc at ∙ sym (length-push d.statements (Plain i))))
@@ -124,12 +125,14 @@ module _ (p : Program) (board : IsBoard p.place) where
       one_before p (suc bound) s h (subst (λ (x : Step). HaltsSoon p (suc bound) x.after) (sym is) (⊎_elim taken falls (cases_Bool holds)))
 
   -- what holds of both holds of the one that is chosen
-  one_soon : (bound : ℕ) (d : Draft) (b : Bool) (x y : Draft) → (Front x → Soon bound x → Soon (10 + bound) d) → (Front y → Soon bound y → Soon (10 + bound) d) →
+  one_soon : (bound : ℕ) (d : Draft) (b : Bool) (x y : Draft) → (Front x → Soon bound x → Soon (10 + bound) d)
+      → (Front y → Soon bound y → Soon (10 + bound) d) →
       Front (if b then x else y) → Soon bound (if b then x else y) → Soon (10 + bound) d
   one_soon bound d true x y hx hy = hx
   one_soon bound d false x y hx hy = hy
 
-  single : (i : Inst) (bound : ℕ) (d : Draft) → ((s : State) → Ints s → why_plain p i s.regs ≡ None) → Front (put (Plain i) d) → Soon bound (put (Plain i) d) → Soon (10 + bound) d
+  single : (i : Inst) (bound : ℕ) (d : Draft) → ((s : State) → Ints s → why_plain p i s.regs ≡ None) → Front (put (Plain i) d) → Soon bound (put (Plain i) d)
+      → Soon (10 + bound) d
   single i bound d runs front next s h at = sooner p (suc bound) (10 + bound) s (omega arith) (plain_soon i bound d runs front next s h at)
 
   user_word : (o : ℕ) → 256 ≤ o → o < 65536 → is_user p.place o ≡ true

@@ -16,7 +16,8 @@ use Rattle.mx_gen.proofs.Sounds.{length-push}
 some_inj : {A : Type 0} {x y : A} → Some x ≡ Some y → x ≡ y
 some_inj e = cc
 
-get-push_cases : {A : Type 0} (xs : List A) (y : A) (i : ℕ) (x : A) → slice_get (xs ++ y ∷ []) i ≡ Some x → (slice_get xs i ≡ Some x) ⊎ ((i ≡ length xs) × (y ≡ x))
+get-push_cases : {A : Type 0} (xs : List A) (y : A) (i : ℕ) (x : A) → slice_get (xs ++ y ∷ []) i ≡ Some x
+    → (slice_get xs i ≡ Some x) ⊎ ((i ≡ length xs) × (y ≡ x))
 get-push_cases [] y zero x e = inr (refl, some_inj e)
 get-push_cases [] y (suc i) x e = absurd (none-some x e)
 get-push_cases (z ∷ xs) y zero x e = inl e

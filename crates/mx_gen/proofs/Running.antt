@@ -36,7 +36,8 @@ by_bools false true c x y hy hx = hy
 by_bools false false true x y hy hx = hx
 by_bools false false false x y hy hx = hy
 
-pub written_ints : (r : Values) (d : ℕ) (x : Value) → ((n : ℕ) → is_code (value_in r n) ≡ false) → is_code x ≡ false → (n : ℕ) → is_code (value_in (write_value r d x) n) ≡ false
+pub written_ints : (r : Values) (d : ℕ) (x : Value) → ((n : ℕ) → is_code (value_in r n) ≡ false) → is_code x ≡ false → (n : ℕ)
+    → is_code (value_in (write_value r d x) n) ≡ false
 written_ints r d x h hx n = by_bools (eqb n 0) (eqb d 0) (eqb n d) x (r n) (h n) hx
 
 kept_bools : (a b c : Bool) (x y : Value) → c ≡ false → cond a (Int 0) (cond b y (cond c x y)) ≡ cond a (Int 0) y
@@ -71,7 +72,8 @@ passed_ints place (Load base d offset) s h = one (is_user place (offset_by (word
 passed_ints place (Store base value offset) s h = h.regs value
 passed_ints place _ s h = refl
 
-stored_ints : (place : Place) (o : Option Sent) (v : Value) (m : Values) → is_code v ≡ false → ((a : ℕ) → is_code (m a) ≡ false) → (a : ℕ) → is_code (store_value place o v m a) ≡ false
+stored_ints : (place : Place) (o : Option Sent) (v : Value) (m : Values) → is_code v ≡ false → ((a : ℕ) → is_code (m a) ≡ false) → (a : ℕ)
+    → is_code (store_value place o v m a) ≡ false
 stored_ints place None v m hv hm a = hm a
 stored_ints place (Some x) v m hv hm a =
     two (is_user place x.address) (put_value m x.address (passed_on v x.word)) m a (one (eqb a x.address) (passed_on v x.word) (m a) (passed_word v x.word hv) (hm a)) (hm a)
@@ -97,7 +99,8 @@ pub step_is : (p : Program) (s : State) (st : Statement) → Ints s → slice_ge
 step_is p s st h e = ap (λ m. if_going m (execute p (slice_get p.statements s.index) s) s) h.going ∙ ap (λ o. execute p o s) e
 
 -- a plain instruction that is not stuck
-pub plain_is : (p : Program) (s : State) (i : Inst) → Ints s → slice_get p.statements s.index ≡ Some (Plain i) → why_plain p i s.regs ≡ None → step p s ≡ done p i s
+pub plain_is : (p : Program) (s : State) (i : Inst) → Ints s → slice_get p.statements s.index ≡ Some (Plain i) → why_plain p i s.regs ≡ None
+    → step p s ≡ done p i s
 plain_is p s i h e w = step_is p s (Plain i) h e ∙ ap (λ o. unless_stuck o (done p i s) s) w
 
 -- a branch
@@ -163,7 +166,8 @@ store_bools false c false x y e f = absurd (⊎_elim (λ t. no t) (λ t. no t) f
     no : false ≡ true → ⊥
     no t = cc
 
-pub store_runs : (p : Program) (s : State) (v o : ℕ) → o < 2 ^ 32 → (eqb o p.place.console ≡ true) ⊎ (is_user p.place o ≡ true) → Ints s → why_plain p (Store 0 v (pos o)) s.regs ≡ None
+pub store_runs : (p : Program) (s : State) (v o : ℕ) → o < 2 ^ 32 → (eqb o p.place.console ≡ true) ⊎ (is_user p.place o ≡ true) → Ints s
+    → why_plain p (Store 0 v (pos o)) s.regs ≡ None
 store_runs p s v o short there h =
     cond-false (any_code s.regs (operands (Store 0 v (pos o)))) (Some CodeOperand) (why_store p (offset_by (words_in s.regs) 0 (pos o)) (value_in s.regs v)) (no_code s (operands (Store 0 v (pos o))) h)
     ∙ (ap (λ a. why_store p a (value_in s.regs v)) (from_zero s.regs o short)

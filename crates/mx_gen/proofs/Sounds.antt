@@ -87,7 +87,8 @@ module _ (j : ℕ) (d : Draft) (h : IsSound j d) (k : ℕ) (le : length d.statem
   more_labels : All (λ (p : List ℕ × Label). LabelFits k p.1) d.labels
   more_labels = All-weaker (λ (p : List ℕ × Label). LabelFits (length d.statements) p.1) (λ (p : List ℕ × Label). LabelFits k p.1) (λ p. label_more (length d.statements) k le p.1) d.labels h.labels_fit
 
-  more_statements : (labels : Labels) → ((i : ℕ) → is_labelled d.labels i ≡ true → is_labelled labels i ≡ true) → All (StatementFits (IsPlace labels k)) d.statements
+  more_statements : (labels : Labels) → ((i : ℕ) → is_labelled d.labels i ≡ true → is_labelled labels i ≡ true)
+      → All (StatementFits (IsPlace labels k)) d.statements
   more_statements labels sub = All-weaker (StatementFits (IsPlace d.labels (length d.statements))) (StatementFits (IsPlace labels k))
       (fits_more (IsPlace d.labels (length d.statements)) (IsPlace labels k) (λ i p. record { within = within i p; labelled = sub i p.labelled })) d.statements h.statements_fit
     where

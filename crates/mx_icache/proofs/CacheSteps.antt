@@ -36,9 +36,11 @@ set_begins set s next none = record {
 }
 
 -- the set of the address takes the fetch, and the others stay; a set is kept as it may be
-pub sets_step : {X : Type 0} (Holds : X → List ℕ → ℕ → Type 0) (sets : List X) (a : ℕ) (past : List ℕ) (old new : X) → ((one : X) (s : ℕ) → set_of (line_of a) ≢ s → Holds one past s → Holds one (a ∷ past) s)
+pub sets_step : {X : Type 0} (Holds : X → List ℕ → ℕ → Type 0) (sets : List X) (a : ℕ) (past : List ℕ) (old new : X)
+    → ((one : X) (s : ℕ) → set_of (line_of a) ≢ s → Holds one past s → Holds one (a ∷ past) s)
     → slice_get sets (set_of (line_of a)) ≡ Some old → (Holds old past (set_of (line_of a)) → Holds new (a ∷ past) (set_of (line_of a)))
-    → ((s : ℕ) (one : X) → slice_get sets s ≡ Some one → Holds one past s) → (s : ℕ) (one : X) → slice_get (set sets (set_of (line_of a)) new) s ≡ Some one → Holds one (a ∷ past) s
+    → ((s : ℕ) (one : X) → slice_get sets s ≡ Some one → Holds one past s) → (s : ℕ) (one : X) → slice_get (set sets (set_of (line_of a)) new) s ≡ Some one
+    → Holds one (a ∷ past) s
 sets_step Holds sets a past old new others here taken all s one at =
     elim (eqb s (set_of (line_of a))) as (λ t. eqb s (set_of (line_of a)) ≡ t → Holds one (a ∷ past) s) [
       | true ↦ λ e.

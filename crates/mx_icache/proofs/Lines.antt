@@ -13,14 +13,16 @@ line_of-word : (l j : ℕ) → j < 16 → line_of (16 * l + j) ≡ l
 line_of-word l j h = omega arith
 
 -- where the line of a word is held, the word is resident where it missed since
-resident_here : (past : List ℕ) (s l j : ℕ) → set_of l ≡ s → is_among_last (allocated past s) l ≡ true → j < 16 → resident past (16 * l + j) ≡ missed_since past (16 * l + j)
+resident_here : (past : List ℕ) (s l j : ℕ) → set_of l ≡ s → is_among_last (allocated past s) l ≡ true → j < 16
+    → resident past (16 * l + j) ≡ missed_since past (16 * l + j)
 resident_here past s l j same among small =
     let line : line_of (16 * l + j) ≡ l = line_of-word l j small in
     let held : is_held past (line_of (16 * l + j)) ≡ true = rw (line, same) among in
     rw held refl
 
 -- a fetch in another set
-pub words_other : (line : ℕ → Option ℕ) (word : ℕ → ℕ → Bool) (a : ℕ) (past : List ℕ) (s : ℕ) → set_of (line_of a) ≢ s → Inside line past s → ValidWhereResident line word past → ValidWhereResident line word (a ∷ past)
+pub words_other : (line : ℕ → Option ℕ) (word : ℕ → ℕ → Bool) (a : ℕ) (past : List ℕ) (s : ℕ) → set_of (line_of a) ≢ s → Inside line past s
+    → ValidWhereResident line word past → ValidWhereResident line word (a ∷ past)
 words_other line word a past s ne inside words w l j p at q =
     let among : is_among_last (allocated past s) l ≡ true = inside w l p at in
     let same : set_of l ≡ s = allocated-set past s l 8 among in
@@ -29,7 +31,8 @@ words_other line word a past s ne inside words w l j p at q =
     words w l j p at q ∙ resident_here past s l j same among q ∙ sym (missed_since-other a past (16 * l + j) elsewhere) ∙ sym (resident_here (a ∷ past) s l j same still q)
 
 -- a fetch of a resident word
-pub words_hit : (line : ℕ → Option ℕ) (word : ℕ → ℕ → Bool) (a : ℕ) (past : List ℕ) (s : ℕ) → is_held past (line_of a) ≡ true → missed_since past a ≡ true → Inside line past s → ValidWhereResident line word past → ValidWhereResident line word (a ∷ past)
+pub words_hit : (line : ℕ → Option ℕ) (word : ℕ → ℕ → Bool) (a : ℕ) (past : List ℕ) (s : ℕ) → is_held past (line_of a) ≡ true → missed_since past a ≡ true
+    → Inside line past s → ValidWhereResident line word past → ValidWhereResident line word (a ∷ past)
 words_hit line word a past s held valid inside words w l j p at q =
     let among : is_among_last (allocated past s) l ≡ true = inside w l p at in
     let same : set_of l ≡ s = allocated-set past s l 8 among in
@@ -37,7 +40,8 @@ words_hit line word a past s held valid inside words w l j p at q =
     words w l j p at q ∙ resident_here past s l j same among q ∙ sym (missed_since-resident a past (16 * l + j) held valid) ∙ sym (resident_here (a ∷ past) s l j same still q)
 
 -- a fetch of a word that is not valid in a held line: in the line's place the word and its pair become valid
-pub words_filled : (line : ℕ → Option ℕ) (word new : ℕ → ℕ → Bool) (a : ℕ) (past : List ℕ) (s v : ℕ) → v < 8 → line v ≡ Some (line_of a) → is_held past (line_of a) ≡ true → missed_since past a ≡ false
+pub words_filled : (line : ℕ → Option ℕ) (word new : ℕ → ℕ → Bool) (a : ℕ) (past : List ℕ) (s v : ℕ) → v < 8 → line v ≡ Some (line_of a)
+    → is_held past (line_of a) ≡ true → missed_since past a ≡ false
     → ((j : ℕ) → j < 16 → new v j ≡ (eqb (a % 16 / 2) (j / 2) || word v j)) → ((w j : ℕ) → w < 8 → w ≢ v → j < 16 → new w j ≡ word w j)
     → Inside line past s → Apart line → ValidWhereResident line word past → ValidWhereResident line new (a ∷ past)
 words_filled line word new a past s v small here held missing filled others inside apart words w l j p at q =
@@ -67,10 +71,12 @@ words_filled line word new a past s v small here held missing filled others insi
     still = rw (allocated-held a past s held) among
 
 -- a line that is allocated into a place, with the word and its pair valid; what is in another place afterwards came from the place that `from` says
-pub words_allocated : (line after : ℕ → Option ℕ) (word new : ℕ → ℕ → Bool) (a : ℕ) (past : List ℕ) (v : ℕ) (from : ℕ → ℕ) → ((w : ℕ) → w < 8 → w ≢ v → from w < 8) → is_held past (line_of a) ≡ false
+pub words_allocated : (line after : ℕ → Option ℕ) (word new : ℕ → ℕ → Bool) (a : ℕ) (past : List ℕ) (v : ℕ) (from : ℕ → ℕ)
+    → ((w : ℕ) → w < 8 → w ≢ v → from w < 8) → is_held past (line_of a) ≡ false
     → after v ≡ Some (line_of a) → ((w : ℕ) → w < 8 → w ≢ v → after w ≡ line (from w))
     → ((j : ℕ) → j < 16 → new v j ≡ eqb (a % 16 / 2) (j / 2)) → ((w j : ℕ) → w < 8 → w ≢ v → j < 16 → new w j ≡ word (from w) j)
-    → Inside line past (set_of (line_of a)) → Inside after (a ∷ past) (set_of (line_of a)) → ValidWhereResident line word past → ValidWhereResident after new (a ∷ past)
+    → Inside line past (set_of (line_of a)) → Inside after (a ∷ past) (set_of (line_of a)) → ValidWhereResident line word past
+    → ValidWhereResident after new (a ∷ past)
 words_allocated line after word new a past v from below missing here kept pair others inside still words w l j p at q =
     elim (eqb w v) as (λ t. eqb w v ≡ t → new w j ≡ resident (a ∷ past) (16 * l + j)) [
       | true ↦ λ e.
@@ -101,7 +107,8 @@ words_allocated line after word new a past v from below missing here kept pair o
     new_line m e h = let bad : true ≡ false = sym h ∙ ap (λ x. is_among_last (allocated past s) x) (sym e) ∙ missing in absurd (cc)
 
 -- it is in no other place
-pub apart_allocated : (line after : ℕ → Option ℕ) (a : ℕ) (past : List ℕ) (v : ℕ) (from : ℕ → ℕ) → ((w : ℕ) → w < 8 → w ≢ v → from w < 8) → ((u w : ℕ) → u ≢ v → w ≢ v → from u ≡ from w → u ≡ w)
+pub apart_allocated : (line after : ℕ → Option ℕ) (a : ℕ) (past : List ℕ) (v : ℕ) (from : ℕ → ℕ) → ((w : ℕ) → w < 8 → w ≢ v → from w < 8)
+    → ((u w : ℕ) → u ≢ v → w ≢ v → from u ≡ from w → u ≡ w)
     → is_held past (line_of a) ≡ false → after v ≡ Some (line_of a) → ((w : ℕ) → w < 8 → w ≢ v → after w ≡ line (from w))
     → Inside line past (set_of (line_of a)) → Apart line → Apart after
 apart_allocated line after a past v from below single missing here kept inside apart u w l p q at at' =

@@ -44,7 +44,8 @@ line_is set past s i h = ap (λ ls. slice_get ls i) (sym h.lines) ∙ slice_get-
 pub plain_inside : (set : PlainSet) (past : List ℕ) (s : ℕ) → PlainSetHolds set past s → Inside (line_at set) past s
 plain_inside set past s h = λ i l p at. among_from_get (take 8 (allocated past s)) i l (line_is set past s i h ∙ at)
 
-pub plain_absent : (set : PlainSet) (past : List ℕ) (l : ℕ) → PlainSetHolds set past (set_of l) → ((i : ℕ) → i < 8 → line_at set i ≢ Some l) → is_held past l ≡ false
+pub plain_absent : (set : PlainSet) (past : List ℕ) (l : ℕ) → PlainSetHolds set past (set_of l) → ((i : ℕ) → i < 8 → line_at set i ≢ Some l)
+    → is_held past l ≡ false
 plain_absent set past l h none = not_among_from_get 8 (take 8 (allocated past (set_of l))) l (length-take-le 8 (allocated past (set_of l))) (λ i p e. none i p (sym (line_is set past (set_of l) i h) ∙ e))
 
 -- a fetch in another set
@@ -58,11 +59,13 @@ plain_other set a past s ne h = record {
 missed_here : (past : List ℕ) (a : ℕ) (v : Bool) → is_held past (line_of a) ≡ true → resident past a ≡ v → missed_since past a ≡ v
 missed_here past a v held e = sym (ap (λ t. t && missed_since past a) held) ∙ e
 
-word_here : (set : PlainSet) (past : List ℕ) (a i : ℕ) → PlainSetHolds set past (set_of (line_of a)) → i < 8 → line_at set i ≡ Some (line_of a) → word_at set i (a % 16) ≡ resident past a
+word_here : (set : PlainSet) (past : List ℕ) (a i : ℕ) → PlainSetHolds set past (set_of (line_of a)) → i < 8 → line_at set i ≡ Some (line_of a)
+    → word_at set i (a % 16) ≡ resident past a
 word_here set past a i h p at = let address : 16 * line_of a + a % 16 ≡ a = omega arith in rw address at (h.words i (line_of a) (a % 16) p at (omega arith))
 
 -- a fetch of a valid word
-pub plain_hit : (set : PlainSet) (a : ℕ) (past : List ℕ) (i : ℕ) → PlainSetHolds set past (set_of (line_of a)) → i < 8 → line_at set i ≡ Some (line_of a) → word_at set i (a % 16) ≡ true → PlainSetHolds set (a ∷ past) (set_of (line_of a))
+pub plain_hit : (set : PlainSet) (a : ℕ) (past : List ℕ) (i : ℕ) → PlainSetHolds set past (set_of (line_of a)) → i < 8 → line_at set i ≡ Some (line_of a)
+    → word_at set i (a % 16) ≡ true → PlainSetHolds set (a ∷ past) (set_of (line_of a))
 plain_hit set a past i h p at valid =
     let held : is_held past (line_of a) ≡ true = plain_inside set past (set_of (line_of a)) h i (line_of a) p at in
     let missed : missed_since past a ≡ true = missed_here past a true held (sym (word_here set past a i h p at) ∙ valid) in
@@ -82,8 +85,10 @@ lines_same : (set new : PlainSet) → map (λ h. h.line) new.lines.items ≡ map
 lines_same set new e = λ t i. let at : line_at new i ≡ line_at set i = sym (slice_get-map (λ h. h.line) new.lines.items i) ∙ ap (λ ls. slice_get ls i) e ∙ slice_get-map (λ h. h.line) set.lines.items i in at t
 
 -- a fetch of a word that is not valid, in a line that is held
-pub plain_filled : (set new : PlainSet) (a : ℕ) (past : List ℕ) (i : ℕ) → PlainSetHolds set past (set_of (line_of a)) → i < 8 → line_at set i ≡ Some (line_of a) → word_at set i (a % 16) ≡ false
-    → map (λ h. h.line) new.lines.items ≡ map (λ h. h.line) set.lines.items → ((j : ℕ) → j < 16 → word_at new i j ≡ (eqb (a % 16 / 2) (j / 2) || word_at set i j)) → ((v j : ℕ) → v ≢ i → word_at new v j ≡ word_at set v j)
+pub plain_filled : (set new : PlainSet) (a : ℕ) (past : List ℕ) (i : ℕ) → PlainSetHolds set past (set_of (line_of a)) → i < 8 → line_at set i ≡ Some (line_of a)
+    → word_at set i (a % 16) ≡ false
+    → map (λ h. h.line) new.lines.items ≡ map (λ h. h.line) set.lines.items
+    → ((j : ℕ) → j < 16 → word_at new i j ≡ (eqb (a % 16 / 2) (j / 2) || word_at set i j)) → ((v j : ℕ) → v ≢ i → word_at new v j ≡ word_at set v j)
     → PlainSetHolds new (a ∷ past) (set_of (line_of a))
 plain_filled set new a past i h p at invalid lines filled others =
     let held : is_held past (line_of a) ≡ true = plain_inside set past (set_of (line_of a)) h i (line_of a) p at in
@@ -112,8 +117,10 @@ slice_get-take (suc n) zero (x ∷ xs) h = refl
 slice_get-take (suc n) (suc i) (x ∷ xs) h = slice_get-take n i xs (omega arith)
 
 -- a fetch in a line that is not held
-pub plain_allocated : (set new : PlainSet) (a : ℕ) (past : List ℕ) → PlainSetHolds set past (set_of (line_of a)) → ((i : ℕ) → i < 8 → line_at set i ≢ Some (line_of a))
-    → map (λ h. h.line) new.lines.items ≡ line_of a ∷ map (λ h. h.line) (take 7 set.lines.items) → ((j : ℕ) → j < 16 → word_at new 0 j ≡ eqb (a % 16 / 2) (j / 2)) → ((i j : ℕ) → i < 7 → word_at new (suc i) j ≡ word_at set i j)
+pub plain_allocated : (set new : PlainSet) (a : ℕ) (past : List ℕ) → PlainSetHolds set past (set_of (line_of a))
+    → ((i : ℕ) → i < 8 → line_at set i ≢ Some (line_of a))
+    → map (λ h. h.line) new.lines.items ≡ line_of a ∷ map (λ h. h.line) (take 7 set.lines.items)
+    → ((j : ℕ) → j < 16 → word_at new 0 j ≡ eqb (a % 16 / 2) (j / 2)) → ((i j : ℕ) → i < 7 → word_at new (suc i) j ≡ word_at set i j)
     → PlainSetHolds new (a ∷ past) (set_of (line_of a))
 plain_allocated set new a past h none lines word words =
     let s : ℕ = set_of (line_of a) in

@@ -15,7 +15,8 @@ among_at lines l i small within is =
     let test : eqb (get_or (take 8 lines) i 0) l ≡ true = grind (arith, nat_tests) in
     list_any_at (λ m. eqb m l) (take 8 lines) i 0 place test
 
-not_among_first : (n : ℕ) (lines : List ℕ) (l : ℕ) → ((i : ℕ) → i < n → i < length lines → get_or lines i 0 ≢ l) → list_any (λ m. eqb m l) (take n lines) ≡ false
+not_among_first : (n : ℕ) (lines : List ℕ) (l : ℕ) → ((i : ℕ) → i < n → i < length lines → get_or lines i 0 ≢ l)
+    → list_any (λ m. eqb m l) (take n lines) ≡ false
 not_among_first zero lines l h = refl
 not_among_first (suc n) [] l h = refl
 not_among_first (suc n) (x ∷ lines) l h =
@@ -25,7 +26,8 @@ not_among_first (suc n) (x ∷ lines) l h =
     rw (test, rest) refl
 
 -- a line in a way is among the last 8
-pub ring_inside : (next : ℕ) (line : ℕ → Option ℕ) (lines : List ℕ) → GoesRound next line lines → (w l : ℕ) → w < 8 → line w ≡ Some l → is_among_last lines l ≡ true
+pub ring_inside : (next : ℕ) (line : ℕ → Option ℕ) (lines : List ℕ) → GoesRound next line lines → (w l : ℕ) → w < 8 → line w ≡ Some l
+    → is_among_last lines l ≡ true
 ring_inside next line lines r w l p at =
     elim (ltb w (length lines)) as (λ t. ltb w (length lines) ≡ t → is_among_last lines l ≡ true) [
       | true ↦ λ e.
@@ -43,7 +45,8 @@ ring_inside next line lines r w l p at =
     ] refl
 
 -- a line in no way is not among the last 8
-pub ring_absent : (next : ℕ) (line : ℕ → Option ℕ) (lines : List ℕ) (l : ℕ) → GoesRound next line lines → ((w : ℕ) → w < 8 → line w ≢ Some l) → is_among_last lines l ≡ false
+pub ring_absent : (next : ℕ) (line : ℕ → Option ℕ) (lines : List ℕ) (l : ℕ) → GoesRound next line lines → ((w : ℕ) → w < 8 → line w ≢ Some l)
+    → is_among_last lines l ≡ false
 ring_absent next line lines l r none =
     not_among_first 8 lines l (λ i p q e.
     let at : line ((length lines - 1 - i) % 8) ≡ Some (get_or lines (length lines - 1 - (length lines - 1 - i)) 0) = r.held (length lines - 1 - i) (omega arith) (omega arith) in
@@ -51,7 +54,8 @@ ring_absent next line lines l r none =
     none ((length lines - 1 - i) % 8) (omega arith) (at ∙ ap Some (ap (λ k. get_or lines k 0) place ∙ e)))
 
 -- one more line
-pub ring_more : (next after : ℕ) (line new : ℕ → Option ℕ) (lines : List ℕ) (l : ℕ) → GoesRound next line lines → after ≡ (next + 1) % 8 → new next ≡ Some l → ((w : ℕ) → w ≢ next → new w ≡ line w) → GoesRound after new (l ∷ lines)
+pub ring_more : (next after : ℕ) (line new : ℕ → Option ℕ) (lines : List ℕ) (l : ℕ) → GoesRound next line lines → after ≡ (next + 1) % 8 → new next ≡ Some l
+    → ((w : ℕ) → w ≢ next → new w ≡ line w) → GoesRound after new (l ∷ lines)
 ring_more next after line new lines l r step here kept = record {
   next_way = let e : next ≡ length lines % 8 = r.next_way in omega arith;
   held = λ k p q.

@@ -26,7 +26,8 @@ set_other set a past s ne h = record {
   words = words_other (line_in set) (word_in set) a past s ne (set_inside set past s h) h.words;
 }
 
-ring_same : (next after : ℕ) (line new : ℕ → Option ℕ) (lines others : List ℕ) → after ≡ next → new ≡ line → others ≡ lines → GoesRound next line lines → GoesRound after new others
+ring_same : (next after : ℕ) (line new : ℕ → Option ℕ) (lines others : List ℕ) → after ≡ next → new ≡ line → others ≡ lines → GoesRound next line lines
+    → GoesRound after new others
 ring_same next after line new lines others e f g h = rw (e, f, g) h
 
 apart_same : (line new : ℕ → Option ℕ) → new ≡ line → Apart line → Apart new
@@ -38,11 +39,13 @@ words_same line new word past e h = rw e h
 missed_here : (past : List ℕ) (a : ℕ) (v : Bool) → is_held past (line_of a) ≡ true → resident past a ≡ v → missed_since past a ≡ v
 missed_here past a v held e = sym (ap (λ t. t && missed_since past a) held) ∙ e
 
-pub word_here : (set : Set) (past : List ℕ) (a w : ℕ) → SetHolds set past (set_of (line_of a)) → w < 8 → line_in set w ≡ Some (line_of a) → word_in set w (a % 16) ≡ resident past a
+pub word_here : (set : Set) (past : List ℕ) (a w : ℕ) → SetHolds set past (set_of (line_of a)) → w < 8 → line_in set w ≡ Some (line_of a)
+    → word_in set w (a % 16) ≡ resident past a
 word_here set past a w h p at = let address : 16 * line_of a + a % 16 ≡ a = omega arith in rw address at (h.words w (line_of a) (a % 16) p at (omega arith))
 
 -- a fetch of a valid word
-pub set_hit : (set : Set) (a : ℕ) (past : List ℕ) (w : ℕ) → SetHolds set past (set_of (line_of a)) → w < 8 → line_in set w ≡ Some (line_of a) → word_in set w (a % 16) ≡ true → SetHolds set (a ∷ past) (set_of (line_of a))
+pub set_hit : (set : Set) (a : ℕ) (past : List ℕ) (w : ℕ) → SetHolds set past (set_of (line_of a)) → w < 8 → line_in set w ≡ Some (line_of a)
+    → word_in set w (a % 16) ≡ true → SetHolds set (a ∷ past) (set_of (line_of a))
 set_hit set a past w h p at valid =
     let held : is_held past (line_of a) ≡ true = line_held set past (line_of a) w h p at in
     let missed : missed_since past a ≡ true = missed_here past a true held (sym (word_here set past a w h p at) ∙ valid) in
@@ -53,8 +56,10 @@ set_hit set a past w h p at valid =
     }
 
 -- a fetch of a word that is not valid, in a line that is held
-pub set_filled : (set new : Set) (a : ℕ) (past : List ℕ) (w : ℕ) → SetHolds set past (set_of (line_of a)) → w < 8 → line_in set w ≡ Some (line_of a) → word_in set w (a % 16) ≡ false
-    → new.next ≡ set.next → ((v : ℕ) → line_in new v ≡ line_in set v) → ((j : ℕ) → word_in new w j ≡ (eqb (a % 16 / 2) (j / 2) || word_in set w j)) → ((v j : ℕ) → v ≢ w → word_in new v j ≡ word_in set v j)
+pub set_filled : (set new : Set) (a : ℕ) (past : List ℕ) (w : ℕ) → SetHolds set past (set_of (line_of a)) → w < 8 → line_in set w ≡ Some (line_of a)
+    → word_in set w (a % 16) ≡ false
+    → new.next ≡ set.next → ((v : ℕ) → line_in new v ≡ line_in set v) → ((j : ℕ) → word_in new w j ≡ (eqb (a % 16 / 2) (j / 2) || word_in set w j))
+    → ((v j : ℕ) → v ≢ w → word_in new v j ≡ word_in set v j)
     → SetHolds new (a ∷ past) (set_of (line_of a))
 set_filled set new a past w h p at invalid next lines filled others =
     let held : is_held past (line_of a) ≡ true = line_held set past (line_of a) w h p at in
@@ -68,7 +73,8 @@ set_filled set new a past w h p at invalid next lines filled others =
 
 -- a fetch in a line that is not held
 pub set_allocated : (set new : Set) (a : ℕ) (past : List ℕ) → SetHolds set past (set_of (line_of a)) → ((w : ℕ) → w < 8 → line_in set w ≢ Some (line_of a))
-    → new.next ≡ (set.next + 1) % 8 → line_in new set.next ≡ Some (line_of a) → ((j : ℕ) → word_in new set.next j ≡ eqb (a % 16 / 2) (j / 2)) → ((w : ℕ) → w ≢ set.next → line_in new w ≡ line_in set w) → ((w j : ℕ) → w ≢ set.next → word_in new w j ≡ word_in set w j)
+    → new.next ≡ (set.next + 1) % 8 → line_in new set.next ≡ Some (line_of a) → ((j : ℕ) → word_in new set.next j ≡ eqb (a % 16 / 2) (j / 2))
+    → ((w : ℕ) → w ≢ set.next → line_in new w ≡ line_in set w) → ((w j : ℕ) → w ≢ set.next → word_in new w j ≡ word_in set w j)
     → SetHolds new (a ∷ past) (set_of (line_of a))
 set_allocated set new a past h none next line word lines words =
     let missing : is_held past (line_of a) ≡ false = line_absent set past (line_of a) h none in

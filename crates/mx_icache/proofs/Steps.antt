@@ -19,11 +19,16 @@ near_elsewhere a b ne = elim (near a b) as (λ v. near a b ≡ v → near a b �
 pub near_word : (l v j : ℕ) → v < 16 → j < 16 → near (16 * l + v) (16 * l + j) ≡ eqb (v / 2) (j / 2)
 near_word l v j p q = grind (arith, nat_tests)
 
-allocated-cons : (a : ℕ) (past : List ℕ) (s : ℕ) → allocated (a ∷ past) s ≡ cond (eqb (set_of (line_of a)) s && not (is_among_last (allocated past s) (line_of a))) (line_of a ∷ allocated past s) (allocated past s)
+allocated-cons : (a : ℕ) (past : List ℕ) (s : ℕ)
+    → allocated (a ∷ past) s ≡ cond (eqb (set_of (line_of a)) s && not (is_among_last (allocated past s) (line_of a))) (line_of a ∷ allocated past s)
+    (allocated past s)
 unfolding allocated
 allocated-cons a past s = refl
 
-pub missed_since-cons : (a : ℕ) (past : List ℕ) (b : ℕ) → missed_since (a ∷ past) b ≡ cond (not (is_held past (line_of a)) && eqb (line_of a) (line_of b)) ((not (is_held past (line_of a)) || not (missed_since past a)) && near a b) (((not (is_held past (line_of a)) || not (missed_since past a)) && near a b) || missed_since past b)
+pub missed_since-cons : (a : ℕ) (past : List ℕ) (b : ℕ)
+    → missed_since (a ∷ past) b ≡ cond (not (is_held past (line_of a)) && eqb (line_of a) (line_of b))
+    ((not (is_held past (line_of a)) || not (missed_since past a)) && near a b)
+    (((not (is_held past (line_of a)) || not (missed_since past a)) && near a b) || missed_since past b)
 unfolding missed_since
 missed_since-cons a past b = refl
 
@@ -40,10 +45,12 @@ allocated-held a past s held =
     ] refl
 
 -- a fetch of a line that is not held allocates it
-pub allocated-missed : (a : ℕ) (past : List ℕ) → is_held past (line_of a) ≡ false → allocated (a ∷ past) (set_of (line_of a)) ≡ line_of a ∷ allocated past (set_of (line_of a))
+pub allocated-missed : (a : ℕ) (past : List ℕ) → is_held past (line_of a) ≡ false
+    → allocated (a ∷ past) (set_of (line_of a)) ≡ line_of a ∷ allocated past (set_of (line_of a))
 allocated-missed a past missing = let test : eqb (set_of (line_of a)) (set_of (line_of a)) ≡ true = grind (arith, nat_tests) in rw allocated-cons (rw (test, missing) refl)
 
-unchanged_word : (held missed before : Bool) → cond (not held && false) ((not held || not missed) && false) (((not held || not missed) && false) || before) ≡ before
+unchanged_word : (held missed before : Bool)
+    → cond (not held && false) ((not held || not missed) && false) (((not held || not missed) && false) || before) ≡ before
 unchanged_word true true before = refl
 unchanged_word true false before = refl
 unchanged_word false missed before = refl
@@ -56,11 +63,13 @@ missed_since-other a past b ne =
     rw missed_since-cons (rw (test, apart) (unchanged_word (is_held past (line_of a)) (missed_since past a) (missed_since past b)))
 
 -- a fetch of a resident word changes nothing
-pub missed_since-resident : (a : ℕ) (past : List ℕ) (b : ℕ) → is_held past (line_of a) ≡ true → missed_since past a ≡ true → missed_since (a ∷ past) b ≡ missed_since past b
+pub missed_since-resident : (a : ℕ) (past : List ℕ) (b : ℕ) → is_held past (line_of a) ≡ true → missed_since past a ≡ true
+    → missed_since (a ∷ past) b ≡ missed_since past b
 missed_since-resident a past b held valid = rw missed_since-cons (rw (held, valid) refl)
 
 -- a miss of a word in a held line adds the word and its pair
-pub missed_since-filled : (a : ℕ) (past : List ℕ) (b : ℕ) → is_held past (line_of a) ≡ true → missed_since past a ≡ false → missed_since (a ∷ past) b ≡ (near a b || missed_since past b)
+pub missed_since-filled : (a : ℕ) (past : List ℕ) (b : ℕ) → is_held past (line_of a) ≡ true → missed_since past a ≡ false
+    → missed_since (a ∷ past) b ≡ (near a b || missed_since past b)
 missed_since-filled a past b held missing = rw missed_since-cons (rw (held, missing) refl)
 
 -- a line that is allocated has the word and its pair alone
@@ -70,7 +79,8 @@ missed_since-allocated a past b missing same =
     rw missed_since-cons (rw (missing, test) refl)
 
 -- lines among those allocated in a set are of that set
-among_cons : (s l n x : ℕ) (before : List ℕ) (c : Bool) → (c ≡ true → set_of x ≡ s) → ((m : ℕ) → list_any (λ y. eqb y l) (take m before) ≡ true → set_of l ≡ s) → list_any (λ y. eqb y l) (take n (cond c (x ∷ before) before)) ≡ true → set_of l ≡ s
+among_cons : (s l n x : ℕ) (before : List ℕ) (c : Bool) → (c ≡ true → set_of x ≡ s) → ((m : ℕ) → list_any (λ y. eqb y l) (take m before) ≡ true → set_of l ≡ s)
+    → list_any (λ y. eqb y l) (take n (cond c (x ∷ before) before)) ≡ true → set_of l ≡ s
 among_cons s l n x before false first others h = others n h
 among_cons s l zero x before true first others h = absurd (cc)
 among_cons s l (suc n) x before true first others h =

@@ -15,12 +15,14 @@ use Rattle.mx_image.proofs.Laws.{image_spelled, file_spelled, file_links, code_a
 only_memory : (o : Option ImageError) (e : ImageError) → o ≡ None → o ≡ Some e → e ≡ Memory
 only_memory o e h k = absurd (cc)
 
-pub image_spells : (bs : List ℕ) (r : Result Image ImageError) → AreBytes bs → ReadsImage bs r → IfOk r (λ image. bs ≡ image_bytes image.code.items image.user_data.items)
+pub image_spells : (bs : List ℕ) (r : Result Image ImageError) → AreBytes bs → ReadsImage bs r
+    → IfOk r (λ image. bs ≡ image_bytes image.code.items image.user_data.items)
 image_spells bs (Ok image) a h =
     image_spelled bs a h.0 ∙ ap (λ xs. image_bytes xs (image_in bs).user_data) (sym h.1) ∙ ap (image_bytes image.code.items) (sym h.2)
 image_spells bs (Err e) a h = tt
 
-pub image_back : (bs : List ℕ) (r : Result Image ImageError) → ReadsImage bs r → (code user_data : List ℕ) → IsImage code user_data → bs ≡ image_bytes code user_data
+pub image_back : (bs : List ℕ) (r : Result Image ImageError) → ReadsImage bs r → (code user_data : List ℕ) → IsImage code user_data
+    → bs ≡ image_bytes code user_data
     → MatchResult r (λ image. (image.code.items ≡ code) × (image.user_data.items ≡ user_data)) (λ e. e ≡ Memory)
 image_back bs (Ok image) h code user_data k e =
     (h.1 ∙ ap (λ b. (image_in b).code) e ∙ code_again code user_data k, h.2 ∙ ap (λ b. (image_in b).user_data) e ∙ data_again code user_data k)
@@ -40,7 +42,8 @@ pub file_back : (bs : List ℕ) (r : Result ImageFile ImageError) → ReadsFile 
 file_back bs (Ok file) h f k e = h.1 ∙ ap file_in e ∙ file_again f k
 file_back bs (Err e) h f k s = ⊎_elim (λ m. m) (λ q. only_memory (file_refusal bs) e (ap file_refusal s ∙ file_accepted f k) q) h
 
-pub plain_back : (bs : List ℕ) (r : Result ImageFile ImageError) → ReadsFile bs r → (code user_data : List ℕ) → IsImage code user_data → bs ≡ image_bytes code user_data
+pub plain_back : (bs : List ℕ) (r : Result ImageFile ImageError) → ReadsFile bs r → (code user_data : List ℕ) → IsImage code user_data
+    → bs ≡ image_bytes code user_data
     → MatchResult r (λ file. contents_of file ≡ plain code user_data) (λ e. e ≡ Memory)
 plain_back bs (Ok file) h code user_data k e = h.1 ∙ ap file_in e ∙ plain_again code user_data k
 plain_back bs (Err e) h code user_data k s = ⊎_elim (λ m. m) (λ q. only_memory (file_refusal bs) e (ap file_refusal s ∙ plain_accepted code user_data k) q) h

@@ -207,7 +207,8 @@ numbers_2 bs v =
     ∙ ap (λ xs. xs ++ numbers m (drop (24 + 4 * (c + d)) bs)) (numbers-plus c d (drop 24 bs) ∙ ap (λ xs. numbers c (drop 24 bs) ++ numbers d xs) (drop-drop (4 * c) 24 bs)) in
     cc (ap number_in e8, ap number_in e12, ap number_in e16, ap number_in e20, ap (numbers ((c + d) + m)) e24, words)
 
-pub spelled_2 : (bs : List ℕ) → AreBytes bs → magic_refusal bs ≡ None → 8 ≤ length bs → number_at 4 bs ≡ 2 → refusal_2 bs ≡ None → bs ≡ file_bytes (file_in_2 bs)
+pub spelled_2 : (bs : List ℕ) → AreBytes bs → magic_refusal bs ≡ None → 8 ≤ length bs → number_at 4 bs ≡ 2 → refusal_2 bs ≡ None
+    → bs ≡ file_bytes (file_in_2 bs)
 spelled_2 bs a n l v h =
     let s = accepted_2 bs h in
     let c = number_at 12 bs in

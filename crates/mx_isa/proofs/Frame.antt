@@ -179,7 +179,8 @@ stores_at (MoveFrom d Md) at r md find = tt
 stores_at _ at r md find = tt
 
 -- a store sends its second source
-pub stores_word : (i : Inst) (at : ℕ) (r : Words) (md : ℕ) (find : ℕ → Found) (p : Sent) → (change i at r md find).stores ≡ Some p → p.word ≡ reg r (sources i).1
+pub stores_word : (i : Inst) (at : ℕ) (r : Words) (md : ℕ) (find : ℕ → Found) (p : Sent) → (change i at r md find).stores ≡ Some p
+    → p.word ≡ reg r (sources i).1
 stores_word (Store base v offset) at r md find p h = cc
 stores_word (MoveTo a Md) at r md find p h = absurd (cc)
 stores_word (MoveFrom d Md) at r md find p h = absurd (cc)
@@ -247,13 +248,15 @@ fits_in (Store base v offset) f = f
 fits_in _ f = tt
 
 -- different offsets that fit lead a register's value to different addresses
-pub offset_apart : (r : ℕ) (o o' : ℤ) → IsSignedField 16 o → IsSignedField 16 o' → o ≢ o' → word_of (r + cast_unsigned w32 o) ≢ word_of (r + cast_unsigned w32 o')
+pub offset_apart : (r : ℕ) (o o' : ℤ) → IsSignedField 16 o → IsSignedField 16 o' → o ≢ o'
+    → word_of (r + cast_unsigned w32 o) ≢ word_of (r + cast_unsigned w32 o')
 offset_apart r (pos m) (pos n) f f' ne = λ e. let d : m ≢ n = λ q. ne (ap pos q) in absurd (omega arith)
 offset_apart r (pos m) (negsuc n) f f' ne = λ e. absurd (omega arith)
 offset_apart r (negsuc m) (pos n) f f' ne = λ e. absurd (omega arith)
 offset_apart r (negsuc m) (negsuc n) f f' ne = λ e. let d : m ≢ n = λ q. ne (ap negsuc q) in absurd (omega arith)
 
-pub apart_at : (a b : Access) (r : Words) → IsSignedField 16 a.offset → IsSignedField 16 b.offset → (a.base ≡ b.base) × (a.offset ≢ b.offset) → address a r ≢ address b r
+pub apart_at : (a b : Access) (r : Words) → IsSignedField 16 a.offset → IsSignedField 16 b.offset → (a.base ≡ b.base) × (a.offset ≢ b.offset)
+    → address a r ≢ address b r
 apart_at a b r f g h = λ e. offset_apart (reg r a.base) a.offset b.offset f g h.1 (e ∙ ap (λ n. word_of (reg r n + cast_unsigned w32 b.offset)) (sym h.0))
 
 -- an address is a word

@@ -16,7 +16,8 @@ comes_more p xs from end h lt passes = record {
   same = omega (arith, prefix_len-drop_yes p xs end 0 lt passes, h.same);
 }
 
-pub comes_to_no : (p : ℕ → Bool) (xs : List ℕ) (from end : ℕ) → Comes p xs from end → end < length xs → p (get_or xs end 0) ≡ false → end ≡ from + prefix_len p (drop from xs)
+pub comes_to_no : (p : ℕ → Bool) (xs : List ℕ) (from end : ℕ) → Comes p xs from end → end < length xs → p (get_or xs end 0) ≡ false
+    → end ≡ from + prefix_len p (drop from xs)
 comes_to_no p xs from end h lt fails = omega (arith, prefix_len-drop_no p xs end 0 lt fails, h.same)
 
 pub comes_to_end : (p : ℕ → Bool) (xs : List ℕ) (from end : ℕ) → Comes p xs from end → length xs ≤ end → end ≡ from + prefix_len p (drop from xs)

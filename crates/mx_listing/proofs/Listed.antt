@@ -11,7 +11,8 @@ use Rattle.mx_link.specs.Linked.{IsLinked}
 use Rattle.mx_listing.specs.Listing.{Parts, listing_text, linked_parts, layout_parts, layout_listing}
 
 -- equal parts make equal records
-same_parts : (a b : Parts) → a.code ≡ b.code → a.origin ≡ b.origin → a.links ≡ b.links → a.noops ≡ b.noops → a.copies ≡ b.copies → a.rejected ≡ b.rejected → a ≡ b
+same_parts : (a b : Parts) → a.code ≡ b.code → a.origin ≡ b.origin → a.links ≡ b.links → a.noops ≡ b.noops → a.copies ≡ b.copies → a.rejected ≡ b.rejected
+    → a ≡ b
 same_parts a b code origin links noops copies rejected =
     ap (λ (x : List ℕ). record a { code = x }) code
     ∙ ap (λ (x : List Origin). record a { code = b.code; origin = x }) origin
@@ -20,7 +21,8 @@ same_parts a b code origin links noops copies rejected =
     ∙ ap (λ (x : ℕ). record b { copies = x; rejected = a.rejected }) copies
     ∙ ap (λ (x : ℕ). record b { rejected = x }) rejected
 
-pub listing-linked : (Proposes : Block → Plan → Type 0) (source : SourceValue) (place : Place) (l : Linked) → (k : IsLinked Proposes from_target source place l) → l.rejected ≡ 0 → listing_text source (linked_parts l) ≡ layout_listing source place k.sites
+pub listing-linked : (Proposes : Block → Plan → Type 0) (source : SourceValue) (place : Place) (l : Linked) → (k : IsLinked Proposes from_target source place l)
+    → l.rejected ≡ 0 → listing_text source (linked_parts l) ≡ layout_listing source place k.sites
 unfolding layout_listing
 listing-linked Proposes source place l k none =
     ap (listing_text source) (same_parts (linked_parts l) (layout_parts source place k.sites) k.code k.origin k.links k.noops k.copies none)

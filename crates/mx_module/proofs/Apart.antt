@@ -13,7 +13,8 @@ use Rattle.mx_module.specs.Joined.{AreApart}
 abbrev pub names : Labels → List (List ℕ)
 names ls = map (λ (p : List ℕ × Label). p.0) ls
 
-behind_it : (first : List ℕ) (es : Labels) (i : ℕ) (n : List ℕ) (l : Label) → AllByRecursion (λ y. bytes_eq first y ≡ false) (names es) → slice_get es i ≡ Some (n, l) → bytes_eq first n ≡ false
+behind_it : (first : List ℕ) (es : Labels) (i : ℕ) (n : List ℕ) (l : Label) → AllByRecursion (λ y. bytes_eq first y ≡ false) (names es)
+    → slice_get es i ≡ Some (n, l) → bytes_eq first n ≡ false
 behind_it first [] i n l h at = cc
 behind_it first (e ∷ es) zero n l h at = let q : e ≡ (n, l) = cc in ap (λ (p : List ℕ × Label). bytes_eq first p.0) (sym q) ∙ h.0
 behind_it first (e ∷ es) (suc i) n l h at = behind_it first es i n l h.1 at
@@ -27,7 +28,8 @@ absent_before (e ∷ es) zero n l h at = refl
 absent_before (e ∷ es) (suc i) n l h at =
     ap (λ b. cond b (Some e.1) (label_named (take i es) n)) (swapped e.0 n (behind_it e.0 es i n l h.0 at)) ∙ absent_before es i n l h.1 at
 
-none_after : (first : List ℕ) (xs ys : Labels) → AllByRecursion (λ y. bytes_eq first y ≡ false) (names (xs ++ ys)) → AllByRecursion (λ y. bytes_eq first y ≡ false) (names xs)
+none_after : (first : List ℕ) (xs ys : Labels) → AllByRecursion (λ y. bytes_eq first y ≡ false) (names (xs ++ ys))
+    → AllByRecursion (λ y. bytes_eq first y ≡ false) (names xs)
 none_after first [] ys h = tt
 none_after first (x ∷ xs) ys h = (h.0, none_after first xs ys h.1)
 
@@ -37,7 +39,8 @@ unfolding IsDistinct
 front_apart [] ys h = tt
 front_apart (x ∷ xs) ys h = (none_after x.0 xs ys h.0, front_apart xs ys h.1)
 
-pub both_none : (first : List ℕ) (xs ys : Labels) → AllByRecursion (λ y. bytes_eq first y ≡ false) (names xs) → AllByRecursion (λ y. bytes_eq first y ≡ false) (names ys)
+pub both_none : (first : List ℕ) (xs ys : Labels) → AllByRecursion (λ y. bytes_eq first y ≡ false) (names xs)
+    → AllByRecursion (λ y. bytes_eq first y ≡ false) (names ys)
     → AllByRecursion (λ y. bytes_eq first y ≡ false) (names (xs ++ ys))
 both_none first [] ys h k = k
 both_none first (x ∷ xs) ys h k = (h.0, both_none first xs ys h.1 k)
@@ -52,11 +55,13 @@ unfolding IsDistinct
 both_apart [] ys h k away = k
 both_apart (x ∷ xs) ys h k away = (both_none x.0 xs ys h.0 away.0, both_apart xs ys h.1 k away.1)
 
-none_behind : (first : List ℕ) (xs ys : Labels) → AllByRecursion (λ y. bytes_eq first y ≡ false) (names (xs ++ ys)) → AllByRecursion (λ y. bytes_eq first y ≡ false) (names ys)
+none_behind : (first : List ℕ) (xs ys : Labels) → AllByRecursion (λ y. bytes_eq first y ≡ false) (names (xs ++ ys))
+    → AllByRecursion (λ y. bytes_eq first y ≡ false) (names ys)
 none_behind first [] ys h = h
 none_behind first (x ∷ xs) ys h = none_behind first xs ys h.1
 
-renamed_at : (R : List ℕ × Label → List ℕ × Label) (es : Labels) (i : ℕ) (e : List ℕ × Label) → slice_get es i ≡ Some e → slice_get (map R es) i ≡ Some ((R e).0, (R e).1)
+renamed_at : (R : List ℕ × Label → List ℕ × Label) (es : Labels) (i : ℕ) (e : List ℕ × Label) → slice_get es i ≡ Some e
+    → slice_get (map R es) i ≡ Some ((R e).0, (R e).1)
 renamed_at R es i e at = slice_get-map R es i ∙ ap (option_map R) at
 
 take_renamed : (R : List ℕ × Label → List ℕ × Label) (es : Labels) (i : ℕ) → take i (map R es) ≡ map R (take i es)

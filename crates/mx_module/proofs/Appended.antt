@@ -58,6 +58,7 @@ pub first_of_three : (x y z : Option ℕ) → first_input (first_input x y) z �
 first_of_three (Some n) y z = refl
 first_of_three None y z = refl
 
-pub program_refused : (place : ℕ) (found : Option (ℕ × Fault)) (later : Option Refusal) (e : AsmError) → IsRefusal found e → IsJoinRefusal (refusal_or (line_of place found) later) (line_refusal place e)
+pub program_refused : (place : ℕ) (found : Option (ℕ × Fault)) (later : Option Refusal) (e : AsmError) → IsRefusal found e
+    → IsJoinRefusal (refusal_or (line_of place found) later) (line_refusal place e)
 program_refused place found later (asm.Refused line fault) h = ap (λ f. refusal_or (line_of place f) later) h
 program_refused place found later asm.Memory h = tt

@@ -45,12 +45,14 @@ either_good : (Good : List ℕ → Type 0) (name n : List ℕ) (a b : Bool) → 
 either_good Good name n true b h k e g = k refl
 either_good Good name n false b h k e g = subst Good (sym (e h)) g
 
-add_by : (Good : List ℕ → Type 0) (es : Exports) (name : List ℕ) (number : ℕ) (known : Bool) → Each Good es → Good name → Each Good (cond known es (es ++ (name, number) ∷ []))
+add_by : (Good : List ℕ → Type 0) (es : Exports) (name : List ℕ) (number : ℕ) (known : Bool) → Each Good es → Good name
+    → Each Good (cond known es (es ++ (name, number) ∷ []))
 add_by Good es name number true each g = each
 add_by Good es name number false each g = λ n is.
     either_good Good name n (is_some (export_line es n)) (bytes_eq n name) (sym (push_line es name n number) ∙ is) (each n) (bytes_eq-Decides n name).0 g
 
-with_good : (Good : List ℕ → Type 0) (es : Exports) (number : ℕ) (kind : LinkKind) (name : Option (List ℕ)) → Each Good es → GoodLink Good kind name → Each Good (with_export es number kind name)
+with_good : (Good : List ℕ → Type 0) (es : Exports) (number : ℕ) (kind : LinkKind) (name : Option (List ℕ)) → Each Good es → GoodLink Good kind name
+    → Each Good (with_export es number kind name)
 unfolding add_export
 with_good Good es number Export (Some name) each g = add_by Good es name number (is_some (export_line es name)) each g
 with_good Good es number Export None each g = each
@@ -81,7 +83,8 @@ plain_if true ws (Some n) h = cc
 plain_if false ws (Some n) h = name_plain ws n h
 plain_if b ws None h = tt
 
-plain_at : (number : ℕ) (kind : Option LinkKind) (ws : List Word) (later : List Link) → GoodLinks IsPlain later → GoodLinks IsPlain (with_link number kind ws later)
+plain_at : (number : ℕ) (kind : Option LinkKind) (ws : List Word) (later : List Link) → GoodLinks IsPlain later
+    → GoodLinks IsPlain (with_link number kind ws later)
 plain_at number None ws later g = g
 plain_at number (Some Import) ws later g = (tt, g)
 plain_at number (Some Export) ws later g = (plain_if (begins_label ws) (statement_words ws) (linked number Export ws).name refl, g)
@@ -118,7 +121,8 @@ refused_none : (place number : ℕ) (f : Option JoinFault) (later : Option Refus
 refused_none place number None later h = (refl, h)
 refused_none place number (Some fault) later h = cc
 
-fresh_links : (all : List ModuleValue) (place : ℕ) (m : ModuleValue) (links : List Link) → fault_in_links all place m links ≡ None → GoodLinks (IsFresh (take place all)) links
+fresh_links : (all : List ModuleValue) (place : ℕ) (m : ModuleValue) (links : List Link) → fault_in_links all place m links ≡ None
+    → GoodLinks (IsFresh (take place all)) links
 fresh_links all place m [] h = tt
 fresh_links all place m (l ∷ links) h =
     let two = refused_none place l.number (link_fault all place m l) (fault_in_links all place m links) h in
@@ -140,7 +144,8 @@ abbrev pub Unshared : ModuleValue → List ModuleValue → Type 0
 Unshared m [] = Unit {0}
 Unshared m (x ∷ xs) = ((n : List ℕ) → is_exported m n ≡ true → is_exported x n ≡ false) × Unshared m xs
 
-one_more : (m : ModuleValue) (before : List ModuleValue) (n : List ℕ) → is_some (first_exporter before n) ≡ true → is_some (first_exporter (before ++ m ∷ []) n) ≡ true
+one_more : (m : ModuleValue) (before : List ModuleValue) (n : List ℕ) → is_some (first_exporter before n) ≡ true
+    → is_some (first_exporter (before ++ m ∷ []) n) ≡ true
 one_more m [] n h = absurd (false≢true h)
 one_more m (x ∷ before) n h = by (is_exported x n) h (one_more m before n)
   where
@@ -162,7 +167,8 @@ clash : (b : Bool) → (b ≡ true → ⊥) → b ≡ false
 clash true h = absurd (h refl)
 clash false h = refl
 
-unshared : (all : List ModuleValue) (m : ModuleValue) (before rest : List ModuleValue) → all ≡ before ++ rest → Has m before → fault_in_modules all (length before) rest ≡ None → Unshared m rest
+unshared : (all : List ModuleValue) (m : ModuleValue) (before rest : List ModuleValue) → all ≡ before ++ rest → Has m before
+    → fault_in_modules all (length before) rest ≡ None → Unshared m rest
 unshared all m before [] e has h = tt
 unshared all m before (x ∷ rest) e has h =
     let two = refusal_none (fault_in_links all (length before) x x.links) (fault_in_modules all (length before + 1) rest) h in
@@ -174,7 +180,8 @@ unshared all m before (x ∷ rest) e has h =
     )
 
 -- the modules behind this one
-pub unshared_behind : (all : List ModuleValue) (m : ModuleValue) (before rest : List ModuleValue) → all ≡ before ++ m ∷ rest → fault_in_modules all (length before + 1) rest ≡ None → Unshared m rest
+pub unshared_behind : (all : List ModuleValue) (m : ModuleValue) (before rest : List ModuleValue) → all ≡ before ++ m ∷ rest
+    → fault_in_modules all (length before + 1) rest ≡ None → Unshared m rest
 unshared_behind all m before rest e h =
     unshared all m (before ++ m ∷ []) rest (e ∙ sym (append_assoc before (m ∷ []) rest)) (last_one m before)
     (subst (λ k. fault_in_modules all k rest ≡ None) (sym (length-append before (m ∷ []))) h)

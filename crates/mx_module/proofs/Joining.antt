@@ -10,7 +10,8 @@ use Rattle.mx_module.specs.Modules.{ModuleValue, modules_of}
 use Rattle.mx_module.specs.Joined.{Joins, JoinsModules, IsJoinRefusal, joined, join_fault, program, program_fault}
 use Rattle.mx_module.specs.ModuleView.{IsProgram, IsShort, text_bytes}
 
-pub is_program : (texts : List (Vec ℕ Global)) (ms : List ModuleValue) → ms ≡ modules_of (map text_bytes texts) → (length texts ≤ 16) × All IsShort texts → IsProgram ms
+pub is_program : (texts : List (Vec ℕ Global)) (ms : List ModuleValue) → ms ≡ modules_of (map text_bytes texts) → (length texts ≤ 16) × All IsShort texts
+    → IsProgram ms
 is_program texts ms e h = record {
   texts = map text_bytes texts;
   same = e;
@@ -22,11 +23,13 @@ joins_one : (texts : List (List ℕ)) (ms : List ModuleValue) (s : SourceValue) 
 unfolding joined join_fault
 joins_one texts ms s e h = record { faultless = sym (ap program_fault e) ∙ h.faultless; same = h.same ∙ ap program e; apart = h.apart }
 
-pub joins_texts : (texts : List (List ℕ)) (ms : List ModuleValue) → ms ≡ modules_of texts → (result : Result SourceValue JoinError) → IfOk result (JoinsModules ms) → IfOk result (Joins texts)
+pub joins_texts : (texts : List (List ℕ)) (ms : List ModuleValue) → ms ≡ modules_of texts → (result : Result SourceValue JoinError)
+    → IfOk result (JoinsModules ms) → IfOk result (Joins texts)
 joins_texts texts ms e (Ok s) h = joins_one texts ms s e h
 joins_texts texts ms e (Err error) h = tt
 
-pub refused_texts : (texts : List (List ℕ)) (ms : List ModuleValue) → ms ≡ modules_of texts → (result : Result SourceValue JoinError) → IfErr result (IsJoinRefusal (program_fault ms)) → IfErr result (IsJoinRefusal (join_fault texts))
+pub refused_texts : (texts : List (List ℕ)) (ms : List ModuleValue) → ms ≡ modules_of texts → (result : Result SourceValue JoinError)
+    → IfErr result (IsJoinRefusal (program_fault ms)) → IfErr result (IsJoinRefusal (join_fault texts))
 unfolding join_fault
 refused_texts texts ms e (Ok s) h = tt
 refused_texts texts ms e (Err error) h = subst (λ f. IsJoinRefusal f error) (ap program_fault e) h

@@ -93,7 +93,8 @@ own_by a b k false true f g e = absurd (not_plain b a k (g refl) (sym e))
 own_by a b k false false f g e = append_cancel_right a b (codes "..") (append_cancel_right (a ++ codes "..") (b ++ codes "..") (decimal k) e)
 
 -- and names of two modules
-other_by : (a b : List ℕ) (j k : ℕ) (p q : Bool) → j < k → k < 32 → (p ≡ true → IsPlain a) → (q ≡ true → IsPlain b) → (p ≡ true → q ≡ true → a ≡ b → ⊥) → named p a j ≡ named q b k → ⊥
+other_by : (a b : List ℕ) (j k : ℕ) (p q : Bool) → j < k → k < 32 → (p ≡ true → IsPlain a) → (q ≡ true → IsPlain b) → (p ≡ true → q ≡ true → a ≡ b → ⊥)
+    → named p a j ≡ named q b k → ⊥
 other_by a b j k true true lt le f g h e = h refl refl e
 other_by a b j k true false lt le f g h e = not_plain a b k (f refl) e
 other_by a b j k false true lt le f g h e = not_plain b a j (g refl) (sym e)
@@ -104,7 +105,8 @@ pub record IsOwn (m : ModuleValue) : Type 0 where
   pub plain : (n : List ℕ) → is_exported m n ≡ true → IsPlain n
   pub labels : AreApart m.labels
 
-own_each : (m : ModuleValue) (place : ℕ) (own : (n : List ℕ) → is_exported m n ≡ true → IsPlain n) (a : List ℕ) (es : Labels) → AllByRecursion (λ y. bytes_eq a y ≡ false) (names es)
+own_each : (m : ModuleValue) (place : ℕ) (own : (n : List ℕ) → is_exported m n ≡ true → IsPlain n) (a : List ℕ) (es : Labels)
+    → AllByRecursion (λ y. bytes_eq a y ≡ false) (names es)
     → AllByRecursion (λ y. bytes_eq (program_name m place a) y ≡ false) (names (map (renamed m place) es))
 own_each m place own a [] h = tt
 own_each m place own a (e ∷ es) h = (
@@ -113,7 +115,8 @@ own_each m place own a (e ∷ es) h = (
   own_each m place own a es h.1,
 )
 
-own_apart : (m : ModuleValue) (place : ℕ) → ((n : List ℕ) → is_exported m n ≡ true → IsPlain n) → (es : Labels) → AreApart es → AreApart (map (renamed m place) es)
+own_apart : (m : ModuleValue) (place : ℕ) → ((n : List ℕ) → is_exported m n ≡ true → IsPlain n) → (es : Labels) → AreApart es
+    → AreApart (map (renamed m place) es)
 unfolding IsDistinct
 own_apart m place own [] h = tt
 own_apart m place own (e ∷ es) h = (own_each m place own e.0 es h.0, own_apart m place own es h.1)
@@ -133,7 +136,8 @@ abbrev pub AllOwn : List ModuleValue → Type 0
 AllOwn [] = Unit {0}
 AllOwn (m ∷ ms) = IsOwn m × AllOwn ms
 
-later_away : (m : ModuleValue) (j : ℕ) (own : IsOwn m) (a : List ℕ) (k : ℕ) (rest : List ModuleValue) → j < k → k + length rest ≤ 31 → AllOwn rest → Unshared m rest
+later_away : (m : ModuleValue) (j : ℕ) (own : IsOwn m) (a : List ℕ) (k : ℕ) (rest : List ModuleValue) → j < k → k + length rest ≤ 31 → AllOwn rest
+    → Unshared m rest
     → AllByRecursion (λ y. bytes_eq (program_name m j a) y ≡ false) (names (labels_in k rest))
 later_away m j own a k [] lt le others un = tt
 later_away m j own a k (x ∷ rest) lt le others un =
@@ -141,13 +145,15 @@ later_away m j own a k (x ∷ rest) lt le others un =
     (each_away m j own a x k lt (omega arith) others.0 un.0 x.labels)
     (later_away m j own a (k + 1) rest (omega arith) (omega arith) others.1 un.1)
 
-all_away : (m : ModuleValue) (j : ℕ) (own : IsOwn m) (es : Labels) (k : ℕ) (rest : List ModuleValue) → j < k → k + length rest ≤ 31 → AllOwn rest → Unshared m rest
+all_away : (m : ModuleValue) (j : ℕ) (own : IsOwn m) (es : Labels) (k : ℕ) (rest : List ModuleValue) → j < k → k + length rest ≤ 31 → AllOwn rest
+    → Unshared m rest
     → AreAway (map (renamed m j) es) (labels_in k rest)
 all_away m j own [] k rest lt le others un = tt
 all_away m j own (e ∷ es) k rest lt le others un = (later_away m j own e.0 k rest lt le others un, all_away m j own es k rest lt le others un)
 
 -- all names of a program without faults of imports and exports are apart
-pub names_apart : (all before rest : List ModuleValue) → all ≡ before ++ rest → length before + length rest ≤ 31 → AllOwn rest → fault_in_modules all (length before) rest ≡ None → AreApart (labels_in (length before) rest)
+pub names_apart : (all before rest : List ModuleValue) → all ≡ before ++ rest → length before + length rest ≤ 31 → AllOwn rest
+    → fault_in_modules all (length before) rest ≡ None → AreApart (labels_in (length before) rest)
 unfolding IsDistinct
 names_apart all before [] e le own h = tt
 names_apart all before (m ∷ rest) e le own h =
@@ -160,7 +166,8 @@ names_apart all before (m ∷ rest) e le own h =
     (all_away m (length before) own.0 m.labels (length before + 1) rest (omega arith) (omega arith) own.1 (unshared_behind all m before rest e two.1))
 
 -- the labels of a text are apart
-new_first : (es : Labels) (n : List ℕ) (x : List ℕ) (l : Label) → AllByRecursion (λ y. bytes_eq x y ≡ false) (names es) → bytes_eq x n ≡ false → AllByRecursion (λ y. bytes_eq x y ≡ false) (names (es ++ (n, l) ∷ []))
+new_first : (es : Labels) (n : List ℕ) (x : List ℕ) (l : Label) → AllByRecursion (λ y. bytes_eq x y ≡ false) (names es) → bytes_eq x n ≡ false
+    → AllByRecursion (λ y. bytes_eq x y ≡ false) (names (es ++ (n, l) ∷ []))
 new_first [] n x l h k = (k, tt)
 new_first (e ∷ es) n x l h k = (h.0, new_first es n x l h.1 k)
 
@@ -175,7 +182,8 @@ push_apart (e ∷ es) n l h k =
     let two = not_found (bytes_eq n e.0) e.1 (label_named es n) k in
     (new_first es n e.0 l h.0 (swapped n e.0 two.0), push_apart es n l h.1 two.1)
 
-defined_by : (es : Labels) (n : List ℕ) (l : Label) (dotted : Bool) (found : Option Label) → label_named es n ≡ found → AreApart es → AreApart (cond (dotted || is_some found) es (es ++ (n, l) ∷ []))
+defined_by : (es : Labels) (n : List ℕ) (l : Label) (dotted : Bool) (found : Option Label) → label_named es n ≡ found → AreApart es
+    → AreApart (cond (dotted || is_some found) es (es ++ (n, l) ∷ []))
 defined_by es n l true found e h = h
 defined_by es n l false (Some x) e h = h
 defined_by es n l false None e h = push_apart es n l h e

@@ -74,7 +74,8 @@ module _ (P : Label → Type 0) where
   all_behind zero (m ∷ ms) h = h
   all_behind (suc k) (m ∷ ms) h = all_behind k ms h.1
 
-  chosen : (b : Bool) (m : ModuleValue) (o : Option ModuleValue) (n : List ℕ) → IfSome (label_named m.labels n) P → IfSome (label_in o n) P → IfSome (label_in (cond b (Some m) o) n) P
+  chosen : (b : Bool) (m : ModuleValue) (o : Option ModuleValue) (n : List ℕ) → IfSome (label_named m.labels n) P → IfSome (label_in o n) P
+      → IfSome (label_in (cond b (Some m) o) n) P
   chosen true m o n h k = h
   chosen false m o n h k = k
 
@@ -86,12 +87,14 @@ module _ (P : Label → Type 0) where
   or_has (Some m) b n h k = h
   or_has None b n h k = k
 
-  with_has : (labels : Labels) (n : List ℕ) (o : Option Label) → All (λ (p : List ℕ × Label). P p.1) labels → IfSome o P → All (λ (p : List ℕ × Label). P p.1) (with_label labels n o)
+  with_has : (labels : Labels) (n : List ℕ) (o : Option Label) → All (λ (p : List ℕ × Label). P p.1) labels → IfSome o P
+      → All (λ (p : List ℕ × Label). P p.1) (with_label labels n o)
   with_has labels n (Some l) h k = define_fits P labels l n h (λ d. k)
   with_has labels n None h k = h
 
   module _ (all : List ModuleValue) (place : ℕ) (own : AllLabels P all) where
-    import_has : (labels : Labels) (kind : LinkKind) (name : Option (List ℕ)) → All (λ (p : List ℕ × Label). P p.1) labels → All (λ (p : List ℕ × Label). P p.1) (with_import all place labels kind name)
+    import_has : (labels : Labels) (kind : LinkKind) (name : Option (List ℕ)) → All (λ (p : List ℕ × Label). P p.1) labels
+        → All (λ (p : List ℕ × Label). P p.1) (with_import all place labels kind name)
     import_has labels Import (Some n) h =
         with_has labels n (label_in (exporter all place n) n) h
         (or_has (first_exporter (take place all) n) (first_exporter (drop (place + 1) all) n) n
@@ -99,7 +102,8 @@ module _ (P : Label → Type 0) where
     import_has labels Import None h = h
     import_has labels Export name h = h
 
-    pub imports_have : (links : List Link) (labels : Labels) → All (λ (p : List ℕ × Label). P p.1) labels → All (λ (p : List ℕ × Label). P p.1) (with_imports all place labels links)
+    pub imports_have : (links : List Link) (labels : Labels) → All (λ (p : List ℕ × Label). P p.1) labels
+        → All (λ (p : List ℕ × Label). P p.1) (with_imports all place labels links)
     imports_have [] labels h = h
     imports_have (l ∷ links) labels h = imports_have links (with_import all place labels l.kind l.name) (import_has labels l.kind l.name h)
 
@@ -199,14 +203,16 @@ right_labelled : (i : ℕ) (xs ys : Labels) → is_labelled ys i ≡ true → is
 right_labelled i [] ys h = h
 right_labelled i (x ∷ xs) ys h = or_true (names_index i x.1) (is_labelled (xs ++ ys) i) (right_labelled i xs ys h)
 
-own_labelled : (J : Labels) (m : ModuleValue) (k : ℕ) (es : Labels) → ((i : ℕ) → is_labelled (map (renamed m k) es) i ≡ true → is_labelled J i ≡ true) → All (λ (p : List ℕ × Label). IsLabelled J p.1) es
+own_labelled : (J : Labels) (m : ModuleValue) (k : ℕ) (es : Labels) → ((i : ℕ) → is_labelled (map (renamed m k) es) i ≡ true → is_labelled J i ≡ true)
+    → All (λ (p : List ℕ × Label). IsLabelled J p.1) es
 own_labelled J m k [] up = All-nil (λ (p : List ℕ × Label). IsLabelled J p.1)
 own_labelled J m k (e ∷ es) up =
     All-cons (λ (p : List ℕ × Label). IsLabelled J p.1) e es
     (λ i is. up i (or_left (names_index i e.1) (is_labelled (map (renamed m k) es) i) is))
     (own_labelled J m k es (λ i is. up i (or_true (names_index i e.1) (is_labelled (map (renamed m k) es) i) is)))
 
-all_labelled : (J : Labels) (k : ℕ) (ms : List ModuleValue) → ((i : ℕ) → is_labelled (labels_in k ms) i ≡ true → is_labelled J i ≡ true) → AllLabels (IsLabelled J) ms
+all_labelled : (J : Labels) (k : ℕ) (ms : List ModuleValue) → ((i : ℕ) → is_labelled (labels_in k ms) i ≡ true → is_labelled J i ≡ true)
+    → AllLabels (IsLabelled J) ms
 all_labelled J k [] up = tt
 all_labelled J k (m ∷ ms) up = (
   own_labelled J m k m.labels (λ i is. up i (left_labelled i (map (renamed m k) m.labels) (labels_in (k + 1) ms) is)),
@@ -217,11 +223,13 @@ any_labelled : (J es : Labels) (i : ℕ) → All (λ (p : List ℕ × Label). Is
 any_labelled J [] i h is = absurd (false≢true is)
 any_labelled J (e ∷ es) i h is = by (names_index i e.1) is (All-head (λ (p : List ℕ × Label). IsLabelled J p.1) e es h i) (any_labelled J es i (All-tail (λ (p : List ℕ × Label). IsLabelled J p.1) e es h))
   where
-    by : (b : Bool) → b || is_labelled es i ≡ true → (b ≡ true → is_labelled J i ≡ true) → (is_labelled es i ≡ true → is_labelled J i ≡ true) → is_labelled J i ≡ true
+    by : (b : Bool) → b || is_labelled es i ≡ true → (b ≡ true → is_labelled J i ≡ true) → (is_labelled es i ≡ true → is_labelled J i ≡ true)
+        → is_labelled J i ≡ true
     by true is f g = f refl
     by false is f g = g is
 
-covered : (J : Labels) (count : ℕ) (all : List ModuleValue) (place : ℕ) (rest : List ModuleValue) → AllLabels (LabelFits count) all → AllLabels (IsLabelled J) all
+covered : (J : Labels) (count : ℕ) (all : List ModuleValue) (place : ℕ) (rest : List ModuleValue) → AllLabels (LabelFits count) all
+    → AllLabels (IsLabelled J) all
     → AllLabels (LabelFits count) rest → AllLabels (IsLabelled J) rest → Covers (IsPlace J count) count all place rest
 covered J count all place [] fit named own names = tt
 covered J count all place (m ∷ rest) fit named own names = (

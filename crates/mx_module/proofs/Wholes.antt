@@ -26,13 +26,15 @@ module _ (ms : List ModuleValue) (l : Listing) (named : Labels) (h : IsListingOf
   pub sound_lists : IsSource (program ms) → IsSource (listed l.statements.items l.lines.items l.user_data.items named)
   sound_lists sound = without_input (made l.statements.items l.lines.items l.user_data.items named l.input) (subst IsSource (sym whole) sound)
 
-  pub joins_lists' : (s : SourceValue) → fault_in_modules ms 0 ms ≡ None → AreApart (labels_in 0 ms) → s ≡ made l.statements.items l.lines.items l.user_data.items named l.input → JoinsModules ms s
+  pub joins_lists' : (s : SourceValue) → fault_in_modules ms 0 ms ≡ None → AreApart (labels_in 0 ms)
+      → s ≡ made l.statements.items l.lines.items l.user_data.items named l.input → JoinsModules ms s
   joins_lists' s none apart e = record {
     faultless = ap (λ f. refusal_or f (fault_in_lines ms 0 ms)) none ∙ h.faultless;
     same = e ∙ whole;
     apart = subst (λ (x : SourceValue). AreApart x.labels) (sym (e ∙ whole)) apart;
   }
 
-pub joins_lists : (ms : List ModuleValue) (l : Listing) (named : Labels) (s : SourceValue) → IsListingOfAll ms l → named ≡ labels_in 0 ms → fault_in_modules ms 0 ms ≡ None → AreApart (labels_in 0 ms)
+pub joins_lists : (ms : List ModuleValue) (l : Listing) (named : Labels) (s : SourceValue) → IsListingOfAll ms l → named ≡ labels_in 0 ms
+    → fault_in_modules ms 0 ms ≡ None → AreApart (labels_in 0 ms)
     → s ≡ made l.statements.items l.lines.items l.user_data.items named l.input → JoinsModules ms s
 joins_lists ms l named s h same = joins_lists' ms l named h same s

@@ -44,7 +44,8 @@ address_on : (p : Position) (ws : List Word) → p.address ≤ 65537 → (p.addr
 unfolding behind
 address_on p ws h = (omega arith, omega arith)
 
-pub lines_on : (lines : List (List ℕ)) (p : Position) → p.address ≤ 65537 → (p.address ≤ (position_at_end p lines).address) × ((position_at_end p lines).address ≤ 65537)
+pub lines_on : (lines : List (List ℕ)) (p : Position) → p.address ≤ 65537
+    → (p.address ≤ (position_at_end p lines).address) × ((position_at_end p lines).address ≤ 65537)
 lines_on [] p h = (omega arith, h)
 lines_on (line ∷ lines) p h =
     let here = address_on p (line_words line) h in

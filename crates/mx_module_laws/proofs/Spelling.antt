@@ -39,7 +39,8 @@ front_is_name b rest h =
     let n : prefix_len continues_name (b ∷ rest) ≡ suc (prefix_len continues_name rest) = ap (λ t. cond t (1 + prefix_len continues_name rest) 0) goes ∙ omega arith in
     ap (λ k. is_name (take k (b ∷ rest))) n ∙ ap (λ t. t && list_all continues_name (take (prefix_len continues_name rest) rest)) h ∙ front_passes continues_name rest
 
-name_at : (line : List ℕ) (at : ℕ) → at < length line → begins_name (slice_index line at) ≡ true → is_name (slice_range line at (at + prefix_len continues_name (drop at line))) ≡ true
+name_at : (line : List ℕ) (at : ℕ) → at < length line → begins_name (slice_index line at) ≡ true
+    → is_name (slice_range line at (at + prefix_len continues_name (drop at line))) ≡ true
 name_at line at lt h =
     let n = prefix_len continues_name (drop at line) in
     let k : (at + n) - at ≡ n = omega arith in

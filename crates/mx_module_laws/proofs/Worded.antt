@@ -136,7 +136,8 @@ module _ (labels : Labels) (near : All (λ (p : List ℕ × Label). IsNear p.1) 
       (lines_words (after p (line_words line)) (number + 1) lines)
 
 -- of modules whose labels stand at 65,537 or before
-pub modules_words : (all rest : List ModuleValue) (place : ℕ) → AllLabels IsNear all → AllLabels IsNear rest → All IsWord (values_in (effects_in all place rest))
+pub modules_words : (all rest : List ModuleValue) (place : ℕ) → AllLabels IsNear all → AllLabels IsNear rest
+    → All IsWord (values_in (effects_in all place rest))
 modules_words all [] place near h = All-nil IsWord
 modules_words all (m ∷ rest) place near h =
     let seen = seen_in all place m in

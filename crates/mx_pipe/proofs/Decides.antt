@@ -48,7 +48,8 @@ module _ {C : Type 0} (code : Code) (p : Pipe C) (m : Machine) (h : Holds code p
     psw = cond (d.restores && back) (psw_restored p.psw) p.psw;
   }
 
-  pub decides_so : (next : Fetch) → next ≡ cond back (fetch_from p.chain.pc1) (fetch_of (next_of d.target p.next.address)) → Holds code (after next) (decided code m)
+  pub decides_so : (next : Fetch) → next ≡ cond back (fetch_from p.chain.pc1) (fetch_of (next_of d.target p.next.address))
+      → Holds code (after next) (decided code m)
   decides_so next is = record {
     fetch = subst (λ l. IsFetched code l (squash (decision code m).cancels m.fetch)) (sym (ap (λ b. squashed_if b p.fetch) cancels_is)) (cut_fetched code (decision code m).cancels p.fetch m.fetch h.fetch);
     rf = subst (λ l. IsRead code l (squash (decision code m).cancels m.rf) m.core.regs) (sym (ap (λ b. squashed_if b p.rf) cancels_is)) (cut_read code (decision code m).cancels p.rf m.rf m.core.regs h.rf);

@@ -246,7 +246,8 @@ cut_fetched code true l (Some f) h = record { word = ap (squash true) h.word; in
 cut_fetched code false l None h = h
 cut_fetched code false l (Some f) h = h
 
-pub cut_read : (code : Code) (b : Bool) (l : Latched) (stage : Option Fetch) (regs : Words) → IsRead code l stage regs → IsRead code (squashed_if b l) (squash b stage) regs
+pub cut_read : (code : Code) (b : Bool) (l : Latched) (stage : Option Fetch) (regs : Words) → IsRead code l stage regs
+    → IsRead code (squashed_if b l) (squash b stage) regs
 cut_read code true l None regs h = record { word = ap (squash true) h.word; inst = refl; a = refl; b = refl }
 cut_read code true l (Some f) regs h = record { word = ap (squash true) h.word; inst = refl; a = refl; b = refl }
 cut_read code false l None regs h = h
@@ -263,7 +264,8 @@ module _ (code : Code) (l : Latched) (m : Machine) (h : IsMade code l m) where
   pub operand_is : l.a ≡ reg sees (sources (does l)).0
   operand_is = h.a ∙ ap (λ (x : ℕ × ℕ). reg sees x.0) (sym from)
 
-  pub result_is : l.result ≡ number_of m.psw.current.user m.chain (does l) (address_of l.word) (reg sees (sources (does l)).0) (reg sees (sources (does l)).1) m.core.md
+  pub result_is : l.result ≡ number_of m.psw.current.user m.chain (does l) (address_of l.word) (reg sees (sources (does l)).0)
+      (reg sees (sources (does l)).1) m.core.md
   result_is =
       h.result
       ∙ sym ((λ k. number_of m.psw.current.user m.chain (h.inst k) (address_of (h.word k)) (reg sees (sources (h.inst k)).0) (reg sees (sources (h.inst k)).1) m.core.md)

@@ -15,7 +15,8 @@ not_chosen false k h = refl
 
 module _ (p : ℕ → Bool) where
   -- the first piece of a list that has such an element
-  pub pieces-first : (text : List ℕ) (at : ℕ) → position p text ≡ Some at → slice_split p text ≡ take at text ∷ slice_split p (take (length text - (at + 1)) (drop (at + 1) text))
+  pub pieces-first : (text : List ℕ) (at : ℕ) → position p text ≡ Some at
+      → slice_split p text ≡ take at text ∷ slice_split p (take (length text - (at + 1)) (drop (at + 1) text))
   pieces-first text at h =
       let found = chosen (ltb (position_or_len p text) (length text)) (position_or_len p text) at h in
       let within : position_or_len p text < length text = grind (arith, nat_tests) in

@@ -27,7 +27,8 @@ module _ (P Q : Block → Plan → Type 0) (follows : (block : Block) (plan : Pl
         k.1,
   )
 
-  pub linked_follows : (filling : Filling) (source : SourceValue) (place : Place) (l : Linked) → IsLinked P filling source place l → IsLinked Q filling source place l
+  pub linked_follows : (filling : Filling) (source : SourceValue) (place : Place) (l : Linked) → IsLinked P filling source place l
+      → IsLinked Q filling source place l
   linked_follows filling source place l k = record {
     sites = k.sites;
     layout = k.layout;
@@ -55,10 +56,12 @@ module _ (P Q : Block → Plan → Type 0) (follows : (block : Block) (plan : Pl
   refusal_follows source place (Displacement line from to) r = too_long_follows source place _ r
   refusal_follows source place Memory r = r
 
-  pub if_linked : (filling : Filling) (source : SourceValue) (place : Place) (r : Result Linked LinkError) → IfOk r (IsLinked P filling source place) → IfOk r (IsLinked Q filling source place)
+  pub if_linked : (filling : Filling) (source : SourceValue) (place : Place) (r : Result Linked LinkError) → IfOk r (IsLinked P filling source place)
+      → IfOk r (IsLinked Q filling source place)
   if_linked filling source place (Ok l) h = linked_follows filling source place l h
   if_linked filling source place (Err e) h = tt
 
-  pub if_refused : (source : SourceValue) (place : Place) (r : Result Linked LinkError) → IfErr r (IsRefusal P source place) → IfErr r (IsRefusal Q source place)
+  pub if_refused : (source : SourceValue) (place : Place) (r : Result Linked LinkError) → IfErr r (IsRefusal P source place)
+      → IfErr r (IsRefusal Q source place)
   if_refused source place (Ok l) h = tt
   if_refused source place (Err e) h = refusal_follows source place e h

@@ -118,18 +118,21 @@ below_first Room l = omega arith
 
 module _ (block : Block) (plan : Plan) (rule : Rule) where
   -- up to a rule that is kept
-  pub kept_to : ((other : Rule) → rank other < rank rule → Keeps block plan other) → Keeps block plan rule → (other : Rule) → rank other ≤ rank rule → Keeps block plan other
+  pub kept_to : ((other : Rule) → rank other < rank rule → Keeps block plan other) → Keeps block plan rule → (other : Rule) → rank other ≤ rank rule
+      → Keeps block plan other
   kept_to below here other l = ⊎_elim
       (λ (b : rank other < rank rule). below other b)
       (λ (g : rank rule ≤ rank other). subst (Keeps block plan) (same_rule rule other (omega arith)) here)
       (cases_lt (rank other) (rank rule))
 
 pub kept_more : (block : Block) (plan : Plan) (rule later : Rule) → rank later ≡ rank rule + 1
-    → ((other : Rule) → rank other < rank rule → Keeps block plan other) → Keeps block plan rule → (other : Rule) → rank other < rank later → Keeps block plan other
+    → ((other : Rule) → rank other < rank rule → Keeps block plan other) → Keeps block plan rule → (other : Rule) → rank other < rank later
+    → Keeps block plan other
 kept_more block plan rule later e below here other l = kept_to block plan rule below here other (omega arith)
 
 -- what holds of lists holds of the same lists
-pub along : (P : List Inst → List Item → Type 0) (insts insts' : List Inst) (items items' : List Item) → insts ≡ insts' → items ≡ items' → P insts items → P insts' items'
+pub along : (P : List Inst → List Item → Type 0) (insts insts' : List Inst) (items items' : List Item) → insts ≡ insts' → items ≡ items' → P insts items
+    → P insts' items'
 along P insts insts' items items' e f h = subst (λ (l : List Item). P insts' l) f (subst (λ (l : List Inst). P l items) e h)
 
 pub known_of : (insts insts' : List Inst) (items items' : List Item) → insts ≡ insts' → items ≡ items' → EachOnce (length insts') items'

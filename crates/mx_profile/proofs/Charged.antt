@@ -46,7 +46,8 @@ charge_small true w m l = l
 charge_small false w m l = omega arith
 
 -- one more charge of at most m
-pub added_below : (a m : ℕ) (old new : List ℕ) (b : ℕ → Bool) (w : ℕ) → w ≤ m → ((k : ℕ) → slice_index old k ≤ a) → ((k : ℕ) → slice_index new k ≡ slice_index old k + cond (b k) w 0) → (k : ℕ) → slice_index new k ≤ a + m
+pub added_below : (a m : ℕ) (old new : List ℕ) (b : ℕ → Bool) (w : ℕ) → w ≤ m → ((k : ℕ) → slice_index old k ≤ a)
+    → ((k : ℕ) → slice_index new k ≡ slice_index old k + cond (b k) w 0) → (k : ℕ) → slice_index new k ≤ a + m
 added_below a m old new b w l below added k =
     let e = added k in
     let o = below k in

@@ -33,13 +33,15 @@ in_turn h m g x y z p q = ⊎_elim
 pub precedes_in_turn : (block : Block) (x y z m : ℕ) → IsHeight (insts_of block) block.input y m → Precedes block x y → Precedes block y z → Precedes block x z
 precedes_in_turn block x y z m q p r h g a b = in_turn h m g x y z (p h m a q) (r m g q b)
 
-pub precedes_higher : (block : Block) (x y k m : ℕ) → IsHeight (insts_of block) block.input x k → IsHeight (insts_of block) block.input y m → m < k → Precedes block x y
+pub precedes_higher : (block : Block) (x y k m : ℕ) → IsHeight (insts_of block) block.input x k → IsHeight (insts_of block) block.input y m → m < k
+    → Precedes block x y
 precedes_higher block x y k m p q l h g a b =
     let e = height_unique (insts_of block) block.input x h k a p in
     let f = height_unique (insts_of block) block.input y g m b q in
     inl (omega arith)
 
-pub precedes_as_high : (block : Block) (x y k m : ℕ) → IsHeight (insts_of block) block.input x k → IsHeight (insts_of block) block.input y m → m ≤ k → x ≤ y → Precedes block x y
+pub precedes_as_high : (block : Block) (x y k m : ℕ) → IsHeight (insts_of block) block.input x k → IsHeight (insts_of block) block.input y m → m ≤ k → x ≤ y
+    → Precedes block x y
 precedes_as_high block x y k m p q l o h g a b =
     let e = height_unique (insts_of block) block.input x h k a p in
     let f = height_unique (insts_of block) block.input y g m b q in
@@ -60,7 +62,8 @@ none_below block before = record {
   greatest = λ b e. absurd (cc);
 }
 
-pub no_candidate : (block : Block) (before : List Item) (x : ℕ) (best : Item) → BestBelow block before x best → (¬ IsCandidate block before x) → BestBelow block before (x + 1) best
+pub no_candidate : (block : Block) (before : List Item) (x : ℕ) (best : Item) → BestBelow block before x best → (¬ IsCandidate block before x)
+    → BestBelow block before (x + 1) best
 no_candidate block before x best h none = record {
   none = λ e y l. ⊎_elim (λ b. h.none e y b) (λ g. at y (omega arith)) (cases_lt y x);
   low = λ b e. (let l = h.low b e in omega arith);
@@ -82,7 +85,9 @@ pub record HasHeight (block : Block) (x : ℕ) : Type 0 where
   pub height : ℕ
   pub is : IsHeight (insts_of block) block.input x height
 
-pub one_candidate : (block : Block) (before : List Item) (x : ℕ) (best next : Item) → ((b : ℕ) → b < length (insts_of block) → HasHeight block b) → x < length (insts_of block) → BestBelow block before x best → IsCandidate block before x → (best ≡ Nop → next ≡ Op x) → ((b : ℕ) → best ≡ Op b → b ≤ x → IsBetter block b x next) → BestBelow block before (x + 1) next
+pub one_candidate : (block : Block) (before : List Item) (x : ℕ) (best next : Item) → ((b : ℕ) → b < length (insts_of block) → HasHeight block b)
+    → x < length (insts_of block) → BestBelow block before x best → IsCandidate block before x → (best ≡ Nop → next ≡ Op x)
+    → ((b : ℕ) → best ≡ Op b → b ≤ x → IsBetter block b x next) → BestBelow block before (x + 1) next
 one_candidate block before x best next known within h c n o = by_best best refl
   where
     here : (b : ℕ) → b ≡ x → IsCandidate block before b
@@ -132,14 +137,16 @@ pub record StandsBelow (items : List Item) (i k : ℕ) : Type 0 where
   pub below : at < i
   pub stands : StandsAt items at k
 
-pub better_later : (block : Block) (b x m k : ℕ) → IsHeight (insts_of block) block.input b m → IsHeight (insts_of block) block.input x k → m < k → IsBetter block b x (Op x)
+pub better_later : (block : Block) (b x m k : ℕ) → IsHeight (insts_of block) block.input b m → IsHeight (insts_of block) block.input x k → m < k
+    → IsBetter block b x (Op x)
 better_later block b x m k p q l = record {
   is = inr refl;
   precedes = λ j e. (let s : x ≡ j = op_same x j (Op x) refl e in
       (subst (λ (i : ℕ). Precedes block i b) s (precedes_higher block x b k m q p l), subst (λ (i : ℕ). Precedes block i x) s (precedes_self block x)));
 }
 
-pub better_earlier : (block : Block) (b x m k : ℕ) → IsHeight (insts_of block) block.input b m → IsHeight (insts_of block) block.input x k → k ≤ m → b ≤ x → IsBetter block b x (Op b)
+pub better_earlier : (block : Block) (b x m k : ℕ) → IsHeight (insts_of block) block.input b m → IsHeight (insts_of block) block.input x k → k ≤ m → b ≤ x
+    → IsBetter block b x (Op b)
 better_earlier block b x m k p q l o = record {
   is = inl refl;
   precedes = λ j e. (let s : b ≡ j = op_same b j (Op b) refl e in
@@ -161,7 +168,8 @@ both_first : (h g x y : ℕ) → (g < h) ⊎ ((g ≡ h) × (x ≤ y)) → (h < g
 both_first h g x y p q = ⊎_elim (λ l. ⊎_elim (λ m. absurd (omega arith)) (λ m. absurd (omega arith)) q) (λ l. ⊎_elim (λ m. absurd (omega arith)) (λ m. omega arith) q) p
 
 -- at most one item fills a place
-pub fills_unique : (block : Block) (before : List Item) (a b : Item) → ((x : ℕ) → x < length (insts_of block) → HasHeight block x) → Fills block before a → Fills block before b → a ≡ b
+pub fills_unique : (block : Block) (before : List Item) (a b : Item) → ((x : ℕ) → x < length (insts_of block) → HasHeight block x) → Fills block before a
+    → Fills block before b → a ≡ b
 fills_unique block before (Op k) (Op j) known f g =
     let h = known k (fills_low block before (Op k) f k refl) in
     let m = known j (fills_low block before (Op j) g j refl) in
@@ -171,13 +179,16 @@ fills_unique block before Nop (Op j) known f g = absurd (f j g.candidate)
 fills_unique block before Nop Nop known f g = refl
 
 -- what stands in a list with one item more
-pub low_push : (n : ℕ) (items : List Item) (item : Item) → ((p k : ℕ) → StandsAt items p k → k < n) → ((k : ℕ) → item ≡ Op k → k < n) → (p k : ℕ) → StandsAt (items ++ item ∷ []) p k → k < n
+pub low_push : (n : ℕ) (items : List Item) (item : Item) → ((p k : ℕ) → StandsAt items p k → k < n) → ((k : ℕ) → item ≡ Op k → k < n) → (p k : ℕ)
+    → StandsAt (items ++ item ∷ []) p k → k < n
 low_push n [] item h l zero k s = l k (same_Some item (Op k) s)
 low_push n [] item h l (suc p) k s = absurd (none-some (Op k) s)
 low_push n (x ∷ items) item h l zero k s = h 0 k s
 low_push n (x ∷ items) item h l (suc p) k s = low_push n items item (λ q j t. h (suc q) j t) l p k s
 
-pub rest_same : (block : Block) (before : List Item) (first second : Item) → ((x : ℕ) → x < length (insts_of block) → HasHeight block x) → Fills block (before ++ Op (terminator block) ∷ []) first → Fills block (before ++ Op (terminator block) ∷ [] ++ first ∷ []) second → RestFits block before → AllStand block (before ++ Op (terminator block) ∷ [] ++ first ∷ [] ++ second ∷ []) × (loads block second ≡ false)
+pub rest_same : (block : Block) (before : List Item) (first second : Item) → ((x : ℕ) → x < length (insts_of block) → HasHeight block x)
+    → Fills block (before ++ Op (terminator block) ∷ []) first → Fills block (before ++ Op (terminator block) ∷ [] ++ first ∷ []) second → RestFits block before
+    → AllStand block (before ++ Op (terminator block) ∷ [] ++ first ∷ [] ++ second ∷ []) × (loads block second ≡ false)
 rest_same block before first second known f g r =
     let behind = before ++ Op (terminator block) ∷ [] in
     let e : r.first ≡ first = fills_unique block behind r.first first known r.first_fills f in

@@ -57,7 +57,8 @@ record Front (block : Block) : Type 0 where
   ends : MayEnd block.end block items
 
 -- a list that grows ends, as it cannot cost more than all body instructions do
-front_from : (block : Block) (n : ℕ) (items : List Item) → total (insts_of block) (body_count block) ≤ length items + n → Grows block items → Cost block items → Front block
+front_from : (block : Block) (n : ℕ) (items : List Item) → total (insts_of block) (body_count block) ≤ length items + n → Grows block items → Cost block items
+    → Front block
 front_from block zero items room grows cost = ⊎_elim
     (λ yes. record { items = items; grows = grows; ends = yes })
     (λ none.

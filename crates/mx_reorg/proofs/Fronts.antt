@@ -57,7 +57,8 @@ grows_none block items e = record {
   going = λ p l. absurd (let n = ap length e in omega arith);
 }
 
-pub grows_push : (block : Block) (items : List Item) (item : Item) → Grows block items → (¬ MayEnd block.end block items) → Fills block items item → Grows block (items ++ item ∷ [])
+pub grows_push : (block : Block) (items : List Item) (item : Item) → Grows block items → (¬ MayEnd block.end block items) → Fills block items item
+    → Grows block (items ++ item ∷ [])
 grows_push block items item g going fills =
     let count = length-append items (item ∷ []) in
     record {
@@ -76,7 +77,8 @@ grows_push block items item g going fills =
           (cases_lt p (length items));
     }
 
-pub rest_of_slots : (block : Block) (before items : List Item) (second : Item) → HasSlots block before items second → AllStand block items → loads block second ≡ false → RestFits block before
+pub rest_of_slots : (block : Block) (before items : List Item) (second : Item) → HasSlots block before items second → AllStand block items
+    → loads block second ≡ false → RestFits block before
 rest_of_slots block before items second h all none = record {
   first = h.first;
   second = second;
@@ -86,13 +88,16 @@ rest_of_slots block before items second h all none = record {
   no_load = none;
 }
 
-pub slots_of_rest : (block : Block) (before items : List Item) (second : Item) → ((x : ℕ) → x < length (insts_of block) → HasHeight block x) → HasSlots block before items second → RestFits block before → AllStand block items × (loads block second ≡ false)
+pub slots_of_rest : (block : Block) (before items : List Item) (second : Item) → ((x : ℕ) → x < length (insts_of block) → HasHeight block x)
+    → HasSlots block before items second → RestFits block before → AllStand block items × (loads block second ≡ false)
 slots_of_rest block before items second known h r =
     let s = rest_same block before h.first second known h.first_fills h.second_fills r in
     (subst (λ (l : List Item). AllStand block l) (sym h.is) s.0, s.1)
 
 -- a front and what follows it
-pub greedy_from : (block : Block) (plan : Plan) (front rest : List Item) → Grows block front → MayEnd block.end block front → items_of plan ≡ front ++ rest → plan.place ≡ length front → length rest ≡ end_count block.end → (falls block.end ≡ false → slice_get rest 0 ≡ Some (Op (terminator block))) → ((q : ℕ) → 1 ≤ q → q < length rest → Fills block (front ++ take q rest) (slice_index_or rest q Nop)) → IsGreedy block plan
+pub greedy_from : (block : Block) (plan : Plan) (front rest : List Item) → Grows block front → MayEnd block.end block front → items_of plan ≡ front ++ rest
+    → plan.place ≡ length front → length rest ≡ end_count block.end → (falls block.end ≡ false → slice_get rest 0 ≡ Some (Op (terminator block)))
+    → ((q : ℕ) → 1 ≤ q → q < length rest → Fills block (front ++ take q rest) (slice_index_or rest q Nop)) → IsGreedy block plan
 greedy_from block plan front rest grows ends e place count t slots =
     let size = ap length e ∙ length-append front rest in
     record {
@@ -120,7 +125,9 @@ greedy_from block plan front rest grows ends e place count t slots =
     item_at p = ap (λ l. slice_index_or l p Nop) e
 
 -- the three items from the terminator on
-pub slots_filled : (block : Block) (front : List Item) (first second : Item) → Fills block (front ++ Op (terminator block) ∷ []) first → Fills block (front ++ Op (terminator block) ∷ [] ++ first ∷ []) second → (q : ℕ) → 1 ≤ q → q < 3 → Fills block (front ++ take q (Op (terminator block) ∷ first ∷ second ∷ [])) (slice_index_or (Op (terminator block) ∷ first ∷ second ∷ []) q Nop)
+pub slots_filled : (block : Block) (front : List Item) (first second : Item) → Fills block (front ++ Op (terminator block) ∷ []) first
+    → Fills block (front ++ Op (terminator block) ∷ [] ++ first ∷ []) second → (q : ℕ) → 1 ≤ q → q < 3
+    → Fills block (front ++ take q (Op (terminator block) ∷ first ∷ second ∷ [])) (slice_index_or (Op (terminator block) ∷ first ∷ second ∷ []) q Nop)
 slots_filled block front first second f g zero l m = absurd (omega arith)
 slots_filled block front first second f g (suc zero) l m = f
 slots_filled block front first second f g (suc (suc zero)) l m = subst (λ (l : List Item). Fills block l second) (append_assoc front (Op (terminator block) ∷ []) (first ∷ [])) g

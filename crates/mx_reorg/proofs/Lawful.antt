@@ -101,7 +101,8 @@ module _ (block : Block) (plan : Plan) (g : IsGreedy block plan) where
   falls_none _ t = absurd (false≢true t)
 
   -- what stands: the terminator at its place, elsewhere a candidate of the place
-  pub placed : (p k : ℕ) → StandsAt (items_of plan) p k → ((p ≡ plan.place) × ((falls block.end ≡ false) × (k ≡ terminator block))) ⊎ IsCandidate block (take p (items_of plan)) k
+  pub placed : (p k : ℕ) → StandsAt (items_of plan) p k
+      → ((p ≡ plan.place) × ((falls block.end ≡ false) × (k ≡ terminator block))) ⊎ IsCandidate block (take p (items_of plan)) k
   placed p k s = ⊎_elim
       (λ at. ⊎_elim
       (λ t. (let none = falls_none block.end t in let tail = g.tail in let within = slice_get_within (items_of plan) p (Op k) s in absurd (omega arith)))

@@ -78,7 +78,8 @@ spent_below insts items k (suc m) l =
     ap (λ n. n + cond (leb 1 (times m (ops (items ++ Op k ∷ [])))) (cost insts m) 0) rest
     ∙ ap (λ t. spent insts items m + cond (leb 1 t) (cost insts m) 0) (apart_kept m k items ne)
 
-spent_push : (insts : List Inst) (items : List Item) (k m : ℕ) → k < m → times k (ops items) ≡ 0 → spent insts (items ++ Op k ∷ []) m ≡ spent insts items m + cost insts k
+spent_push : (insts : List Inst) (items : List Item) (k m : ℕ) → k < m → times k (ops items) ≡ 0
+    → spent insts (items ++ Op k ∷ []) m ≡ spent insts items m + cost insts k
 spent_push insts items k zero l z = absurd (omega arith)
 spent_push insts items k (suc m) l z = ⊎_elim
     (λ e. at m e)
@@ -128,7 +129,8 @@ pub record LastLoads (block : Block) (items : List Item) : Type 0 where
 -- a list is no longer than what it has spent, and shorter where its last item is a load
 pub record Cost (block : Block) (items : List Item) : Type 0 where
   pub all : length items ≤ spent (insts_of block) items (body_count block)
-  pub loaded : (p k : ℕ) → StandsAt items p k → suc p ≡ length items → is_load (inst_at (insts_of block) k) ≡ true → length items + 1 ≤ spent (insts_of block) items (body_count block)
+  pub loaded : (p k : ℕ) → StandsAt items p k → suc p ≡ length items → is_load (inst_at (insts_of block) k) ≡ true
+      → length items + 1 ≤ spent (insts_of block) items (body_count block)
 
 pub cost_none : (block : Block) (items : List Item) → items ≡ [] → Cost block items
 cost_none block items e = record {
@@ -194,7 +196,8 @@ two : (insts : List Inst) (k : ℕ) → is_load (inst_at insts k) ≡ true → c
 two insts k e = let at : Bool → ℕ = λ t. cond t 2 1 in ap at e
 
 -- one item more
-pub cost_push : (block : Block) (items : List Item) (item : Item) → Fills block items item → (item ≡ Nop → LastLoads block items) → Cost block items → Cost block (items ++ item ∷ [])
+pub cost_push : (block : Block) (items : List Item) (item : Item) → Fills block items item → (item ≡ Nop → LastLoads block items) → Cost block items
+    → Cost block (items ++ item ∷ [])
 cost_push block items (Op k) f h c =
     let insts = insts_of block in
     let m = body_count block in
@@ -220,7 +223,8 @@ cost_push block items Nop f h c =
       loaded = λ p j s l load. absurd (let g : Nop ≡ Op j = last_item items Nop p j s l in cc);
     }
 
-leaves : (block : Block) (items : List Item) → falls block.end ≡ false → AllStand block items → EndsWithoutLoad (insts_of block) items → IsReady block items (terminator block) × RestFits block items
+leaves : (block : Block) (items : List Item) → falls block.end ≡ false → AllStand block items → EndsWithoutLoad (insts_of block) items
+    → IsReady block items (terminator block) × RestFits block items
 leaves block items e all q = (
   record {
     follows = λ y d.
@@ -243,7 +247,8 @@ leaves block items e all q = (
     one k s = more items (Op (terminator block) ∷ []) k s
 
 -- where all stand and the last item is not a load the front ends
-ends_all : (block : Block) (items : List Item) (end : End) → block.end ≡ end → AllStand block items → EndsWithoutLoad (insts_of block) items → MayEnd end block items
+ends_all : (block : Block) (items : List Item) (end : End) → block.end ≡ end → AllStand block items → EndsWithoutLoad (insts_of block) items
+    → MayEnd end block items
 ends_all block items Falls e all q = (all, q)
 ends_all block items Halts e all q = all
 ends_all block items (Branches target) e all q = leaves block items (ap falls e) all q
@@ -264,7 +269,8 @@ load_last block items f going = ⊎_elim
     (all_or_missing items (body_count block)))
     (last_or_not block items)
 
-pub cost_grows : (block : Block) (items : List Item) (item : Item) → Fills block items item → (¬ MayEnd block.end block items) → Cost block items → Cost block (items ++ item ∷ [])
+pub cost_grows : (block : Block) (items : List Item) (item : Item) → Fills block items item → (¬ MayEnd block.end block items) → Cost block items
+    → Cost block (items ++ item ∷ [])
 cost_grows block items item f going c =
     cost_push block items item f (λ e. load_last block items (subst (λ (x : Item). Fills block items x) e f) going) c
 

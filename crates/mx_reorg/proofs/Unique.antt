@@ -40,7 +40,8 @@ module _ (block : Block) (known : (x : ℕ) → x < length (insts_of block) → 
       g.least q.place less (subst (λ (l : List Item). MayEnd block.end block l) (sym (shorter (items_of p) (items_of q) n q.place low e)) h.ends)
 
   -- so they agree on one more item
-  item_same : (p q : Plan) (n : ℕ) → IsGreedy block p → IsGreedy block q → take n (items_of p) ≡ take n (items_of q) → n < length (items_of p) → n < length (items_of q) → slice_index_or (items_of p) n Nop ≡ slice_index_or (items_of q) n Nop
+  item_same : (p q : Plan) (n : ℕ) → IsGreedy block p → IsGreedy block q → take n (items_of p) ≡ take n (items_of q) → n < length (items_of p)
+      → n < length (items_of q) → slice_index_or (items_of p) n Nop ≡ slice_index_or (items_of q) n Nop
   item_same p q n g h e l m = ⊎_elim
       (λ at. ⊎_elim
       (λ also. ended at also)
@@ -64,7 +65,8 @@ module _ (block : Block) (known : (x : ℕ) → x < length (insts_of block) → 
           falls_none Falls t = refl
           falls_none _ t = absurd (false≢true t)
 
-  same_front : (p q : Plan) (n : ℕ) → IsGreedy block p → IsGreedy block q → n ≤ length (items_of p) → n ≤ length (items_of q) → take n (items_of p) ≡ take n (items_of q)
+  same_front : (p q : Plan) (n : ℕ) → IsGreedy block p → IsGreedy block q → n ≤ length (items_of p) → n ≤ length (items_of q)
+      → take n (items_of p) ≡ take n (items_of q)
   same_front p q zero g h l m = refl
   same_front p q (suc n) g h l m =
       let e = same_front p q n g h (omega arith) (omega arith) in

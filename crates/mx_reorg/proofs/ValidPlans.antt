@@ -49,14 +49,16 @@ module _ (block : Block) (plan : Plan) (g : IsGreedy block plan) (known : (x : �
   count_taken : length (take plan.place (items_of plan)) ≡ plan.place
   count_taken = let t = g.tail in let l : plan.place ≤ length (items_of plan) = omega arith in grind (arith, common_steps)
 
-  follows_terminator : (end : End) → block.end ≡ end → falls end ≡ false → MayEnd end block (take plan.place (items_of plan)) → (y : ℕ) → IsEdge (insts_of block) block.input y (terminator block) → Stands (take plan.place (items_of plan)) y
+  follows_terminator : (end : End) → block.end ≡ end → falls end ≡ false → MayEnd end block (take plan.place (items_of plan)) → (y : ℕ)
+      → IsEdge (insts_of block) block.input y (terminator block) → Stands (take plan.place (items_of plan)) y
   follows_terminator Falls e f m y d = absurd (false≢true (sym f))
   follows_terminator Halts e f m y d = m y (let b = body_before block plan g (ap falls e) in let l = d.later in omega arith)
   follows_terminator (Branches t) e f m y d = m.0.follows y d
   follows_terminator (Calls t) e f m y d = m.0.follows y d
   follows_terminator Jumps e f m y d = m.0.follows y d
 
-  apart_terminator : (end : End) → block.end ≡ end → falls end ≡ false → MayEnd end block (take plan.place (items_of plan)) → LeavesApart block (take plan.place (items_of plan)) (terminator block)
+  apart_terminator : (end : End) → block.end ≡ end → falls end ≡ false → MayEnd end block (take plan.place (items_of plan))
+      → LeavesApart block (take plan.place (items_of plan)) (terminator block)
   apart_terminator Falls e f m = absurd (false≢true (sym f))
   apart_terminator Halts e f m = λ p k s l. never _ _ (halt_reads (inst_at (insts_of block) (terminator block)) (dest (inst_at (insts_of block) k)) (last_halts e))
   apart_terminator (Branches t) e f m = m.0.apart
@@ -64,7 +66,8 @@ module _ (block : Block) (plan : Plan) (g : IsGreedy block plan) (known : (x : �
   apart_terminator Jumps e f m = m.0.apart
 
   -- the list is the front, the transfer and its slots
-  whole : falls block.end ≡ false → end_count block.end ≡ 3 → (r : RestFits block (take plan.place (items_of plan))) → items_of plan ≡ take plan.place (items_of plan) ++ Op (terminator block) ∷ [] ++ r.first ∷ [] ++ r.second ∷ []
+  whole : falls block.end ≡ false → end_count block.end ≡ 3 → (r : RestFits block (take plan.place (items_of plan)))
+      → items_of plan ≡ take plan.place (items_of plan) ++ Op (terminator block) ∷ [] ++ r.first ∷ [] ++ r.second ∷ []
   whole f c r =
       let items = items_of plan in
       let front = take plan.place items in
@@ -94,7 +97,8 @@ module _ (block : Block) (plan : Plan) (g : IsGreedy block plan) (known : (x : �
   body_stands (Calls t) e m = subst (λ (l : List Item). AllStand block l) (sym (whole (ap falls e) (ap end_count e) m.1)) m.1.all
   body_stands Jumps e m = subst (λ (l : List Item). AllStand block l) (sym (whole (ap falls e) (ap end_count e) m.1)) m.1.all
 
-  slots_quiet : falls block.end ≡ false → end_count block.end ≡ 3 → RestFits block (take plan.place (items_of plan)) → EndsWithoutLoad (insts_of block) (items_of plan)
+  slots_quiet : falls block.end ≡ false → end_count block.end ≡ 3 → RestFits block (take plan.place (items_of plan))
+      → EndsWithoutLoad (insts_of block) (items_of plan)
   slots_quiet f c r p k s l =
       let w = whole f c r in
       let last = last_item (take plan.place (items_of plan) ++ Op (terminator block) ∷ [] ++ r.first ∷ []) r.second p k (sym (ap (λ xs. slice_get xs p) w) ∙ s) (l ∙ ap length w) in

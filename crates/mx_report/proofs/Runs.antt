@@ -27,7 +27,8 @@ ended_halted code c = ⊎_elim
     (cases_Bool c.halted)
 
 -- a cycle answers whether the machine has halted after it
-pub answer_halted : (code : Code) (input : Option (List ℕ)) (m : Machine) (request : Bool) → (answer code input m request).halted ≡ (cycled resident code input m request).halted
+pub answer_halted : (code : Code) (input : Option (List ℕ)) (m : Machine) (request : Bool)
+    → (answer code input m request).halted ≡ (cycled resident code input m request).halted
 answer_halted code input m request = ⊎_elim
     (λ h. ap (λ (r : Cycled). r.halted) (cond-true m.halted _ _ h) ∙ sym h ∙ sym (ap (λ (n : Machine). n.halted) (cond-true m.halted m _ h)))
     (λ h. ⊎_elim
@@ -67,7 +68,8 @@ module _ (p : Program) (requests : List ℕ) where
   abbrev pub shown_line : ℕ → List ℕ
   shown_line n = trace_line n (cycled_at n) (state_at (suc n)).shown
 
-  pub next_trace : (t n : ℕ) → (state_at n).halted ≡ false → trace_text p requests (min t (suc n)) ≡ trace_text p requests (min t n) ++ cond (nat_lt n t) (shown_line n) []
+  pub next_trace : (t n : ℕ) → (state_at n).halted ≡ false
+      → trace_text p requests (min t (suc n)) ≡ trace_text p requests (min t n) ++ cond (nat_lt n t) (shown_line n) []
   next_trace t n going = ⊎_elim
       (λ lt.
       let longer : min t (suc n) ≡ suc n = omega arith in

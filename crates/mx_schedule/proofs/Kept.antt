@@ -22,7 +22,8 @@ pub record AreGreedy (n : ℕ) (sites : List Site) : Type 0 where
   pub none : n ≡ 0
   pub plans : All (λ (s : Site). IsGreedy s.block s.plan) sites
 
-one_more : (s : Site) (sites : List Site) → IsGreedy s.block s.plan → All (λ (s : Site). IsGreedy s.block s.plan) sites → All (λ (s : Site). IsGreedy s.block s.plan) (s ∷ sites)
+one_more : (s : Site) (sites : List Site) → IsGreedy s.block s.plan → All (λ (s : Site). IsGreedy s.block s.plan) sites
+    → All (λ (s : Site). IsGreedy s.block s.plan) (s ∷ sites)
 one_more s sites g all zero d l = g
 one_more s sites g all (suc k) d l = all k d (omega arith)
 
@@ -53,8 +54,10 @@ module _ (source : SourceValue) (place : Place) (found : Overlong) (t : IsOverlo
   pub overlong_rejected : t.rejected ≡ 0
   overlong_rejected = (kept_greedy t.rejected t.sites t.proposals t.kept).none
 
-pub linked_sites : (layout_of : SourceValue → List Site) → IsScheduler layout_of → (filling : Filling) (source : SourceValue) (l : Linked) → (k : IsLinked IsGreedy filling source board l) → layout_of source ≡ k.sites
+pub linked_sites : (layout_of : SourceValue → List Site) → IsScheduler layout_of → (filling : Filling) (source : SourceValue) (l : Linked)
+    → (k : IsLinked IsGreedy filling source board l) → layout_of source ≡ k.sites
 linked_sites layout_of is filling source l k = is source k.sites (linked_layout filling source board l k)
 
-pub overlong_sites : (layout_of : SourceValue → List Site) → IsScheduler layout_of → (source : SourceValue) (found : Overlong) → (t : IsOverlong IsGreedy source board found) → layout_of source ≡ t.sites
+pub overlong_sites : (layout_of : SourceValue → List Site) → IsScheduler layout_of → (source : SourceValue) (found : Overlong)
+    → (t : IsOverlong IsGreedy source board found) → layout_of source ≡ t.sites
 overlong_sites layout_of is source found t = is source t.sites (overlong_layout source board found t)

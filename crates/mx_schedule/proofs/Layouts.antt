@@ -52,7 +52,8 @@ greedy at [] (p ∷ plans) g = absurd g
 greedy at (b ∷ blocks) [] g = absurd g
 
 -- blocks of a source with their greedy plans are a layout of it
-pub laid_out : (source : SourceValue) (place : Place) (blocks : List Block) → AreBlocks source blocks → (sites : List Site) × IsLayout IsGreedy source place sites
+pub laid_out : (source : SourceValue) (place : Place) (blocks : List Block) → AreBlocks source blocks
+    → (sites : List Site) × IsLayout IsGreedy source place sites
 laid_out source place blocks are =
     let plans = plans_of blocks in (
       sites_at place.code blocks plans.0,
@@ -72,7 +73,8 @@ abbrev rest : List Block → List Block
 rest [] = []
 rest (b ∷ blocks) = blocks
 
-same_from : (at : ℕ) (sites others : List Site) → blocks_in sites ≡ blocks_in others → StandFrom at sites → StandFrom at others → All Greedy sites → All Greedy others → sites ≡ others
+same_from : (at : ℕ) (sites others : List Site) → blocks_in sites ≡ blocks_in others → StandFrom at sites → StandFrom at others → All Greedy sites
+    → All Greedy others → sites ≡ others
 same_from at [] [] e a b g h = refl
 same_from at [] (t ∷ others) e a b g h = absurd (let l : length (blocks_in []) ≡ length (blocks_in (t ∷ others)) = ap length e in omega arith)
 same_from at (s ∷ sites) [] e a b g h = absurd (let l : length (blocks_in (s ∷ sites)) ≡ length (blocks_in []) = ap length e in omega arith)

@@ -154,7 +154,8 @@ with_first source i m h =
     let blocks = h.rest.0 in
     (b.block ∷ blocks, (b.begins, b.is, subst (λ (n : ℕ). BlocksFrom source (i + n) (length source.statements) blocks) (sym b.count) h.rest.1))
 
-first_of_blocks : (source : SourceValue) (i : ℕ) → (¬ (i ≡ length source.statements)) → (blocks : List Block) → BlocksFrom source i (length source.statements) blocks → Found (Begins source i) (length source.statements)
+first_of_blocks : (source : SourceValue) (i : ℕ) → (¬ (i ≡ length source.statements)) → (blocks : List Block)
+    → BlocksFrom source i (length source.statements) blocks → Found (Begins source i) (length source.statements)
 first_of_blocks source i apart [] h = absurd (apart h)
 first_of_blocks source i apart (b ∷ blocks) h =
     let some = h.1.some in

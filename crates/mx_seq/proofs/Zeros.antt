@@ -18,7 +18,8 @@ get_or-padded (x ∷ xs) n zero a = refl
 get_or-padded (x ∷ xs) n (suc i) a = get_or-padded xs n i a
 
 -- a list that stands behind some of that element and before some more
-pub get_or-between : {A : Type 0} (m n : ℕ) (xs : List A) (i : ℕ) (a : A) → get_or ((replicate m a ++ xs) ++ replicate n a) i a ≡ cond (leb m i) (get_or xs (i - m) a) a
+pub get_or-between : {A : Type 0} (m n : ℕ) (xs : List A) (i : ℕ) (a : A)
+    → get_or ((replicate m a ++ xs) ++ replicate n a) i a ≡ cond (leb m i) (get_or xs (i - m) a) a
 get_or-between m n xs i a = get_or-padded (replicate m a ++ xs) n i a ∙
     ⊎_elim (λ h. get_or-append_right (replicate m a) xs m i a (length-replicate m a) h.1 ∙ sym (cond-true (leb m i) (get_or xs (i - m) a) a h.0))
     (λ h. let short : i < length (replicate m a) = before m i a h.1 in

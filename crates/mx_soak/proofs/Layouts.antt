@@ -33,12 +33,15 @@ pub record WasRun (code data_words requests : List ℕ) (budget : ℕ) (counted 
   pub counts : counted ≡ (run_of (program_of shipped code data_words None) requests budget).counts
   pub console : sent ≡ (run_of (program_of shipped code data_words None) requests budget).console
 
-run-told : (steps : ℕ) (code data_words requests : List ℕ) (budget : ℕ) (counts : Counted) (console : List ℕ) → WasRun code data_words requests budget counts console
+run-told : (steps : ℕ) (code data_words requests : List ℕ) (budget : ℕ) (counts : Counted) (console : List ℕ)
+    → WasRun code data_words requests budget counts console
     → soaked_text steps counts console code ≡ words_run_text steps code data_words requests budget
 run-told steps code data_words requests budget counts console w = λ i. soaked_text steps (w.counts i) (w.console i) code
 
-pub layout-told : (layout_of : SourceValue → List Site) → IsScheduler layout_of → (source : SourceValue) (l : Linked) → IsLinked IsGreedy from_target source board l
-    → (steps budget : ℕ) (requests : List ℕ) (counts : Counted) (console : List ℕ) → steps ≡ steps_of source → requests ≡ multiples 97 1000 → budget ≡ bound steps 1000
+pub layout-told : (layout_of : SourceValue → List Site) → IsScheduler layout_of → (source : SourceValue) (l : Linked)
+    → IsLinked IsGreedy from_target source board l
+    → (steps budget : ℕ) (requests : List ℕ) (counts : Counted) (console : List ℕ) → steps ≡ steps_of source → requests ≡ multiples 97 1000
+    → budget ≡ bound steps 1000
     → WasRun l.image.code.items l.image.user_data.items requests budget counts console
     → soaked_text steps counts console l.image.code.items ≡ layout_text source (layout_of source)
 layout-told layout_of is source l k steps budget requests counts console counted asked limit w =
@@ -48,6 +51,7 @@ layout-told layout_of is source l k steps budget requests counts console counted
     ∙ ap (λ (s : List Site). sites_text source steps s) (sym sites)
     ∙ ap (λ n. sites_text source n (layout_of source)) counted
 
-pub soak-told : (layout_of : SourceValue → List Site) (seed count : ℕ) (source : SourceValue) → source ≡ generated seed count → layout_text source (layout_of source) ≡ soak_text layout_of seed count
+pub soak-told : (layout_of : SourceValue → List Site) (seed count : ℕ) (source : SourceValue) → source ≡ generated seed count
+    → layout_text source (layout_of source) ≡ soak_text layout_of seed count
 unfolding soak_text
 soak-told layout_of seed count source e = ap (λ (s : SourceValue). layout_text s (layout_of s)) e

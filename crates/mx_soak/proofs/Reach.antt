@@ -56,7 +56,8 @@ link_low at (block ∷ blocks) i = ⊎_elim
     (λ f. (let e = cond-false (has_statement i block) at (padded_link (at + padded_size block) blocks i) f in let more = link_low (at + padded_size block) blocks i in omega arith))
     (cases_Bool (has_statement i block))
 
-link_high : (source : SourceValue) (first j at : ℕ) (blocks : List Block) (i : ℕ) → BlocksFrom source first j blocks → first ≤ i → padded_link at blocks i + 3 * first ≤ at + 3 * i
+link_high : (source : SourceValue) (first j at : ℕ) (blocks : List Block) (i : ℕ) → BlocksFrom source first j blocks → first ≤ i
+    → padded_link at blocks i + 3 * first ≤ at + 3 * i
 link_high source first j at [] i b l = omega arith
 link_high source first j at (block ∷ blocks) i b l = ⊎_elim
     (λ t. (let e = cond-true (has_statement i block) at (padded_link (at + padded_size block) blocks i) t in omega arith))
@@ -71,7 +72,8 @@ link_high source first j at (block ∷ blocks) i b l = ⊎_elim
 
 -- Branches.
 
-near_at : (i target : ℕ) (o : Option Statement) → option_map end_of o ≡ Some (Branches target) → ((s : Statement) → o ≡ Some s → IsNear i s) → (target ≤ i + 2) × (i ≤ target + 2)
+near_at : (i target : ℕ) (o : Option Statement) → option_map end_of o ≡ Some (Branches target) → ((s : Statement) → o ≡ Some s → IsNear i s)
+    → (target ≤ i + 2) × (i ≤ target + 2)
 near_at i target None e near = absurd (cc)
 near_at i target (Some (Plain inst)) e near = absurd (cc)
 near_at i target (Some (LaCode dest t)) e near = absurd (cc)
@@ -93,7 +95,8 @@ module _ (source : SourceValue) (near : AllNear source.statements) (link : ℕ �
     low : (t : ℕ) → t < first → link t ≤ at
     high : (t : ℕ) → t < first → at + 3 * t ≤ link t + 3 * first + 189
 
-  next_stands : (first at : ℕ) (block : Block) (blocks : List Block) → block.first ≡ first → IsBlockOf source block → Stands first at (block ∷ blocks) → Stands (first + size block) (at + padded_size block) blocks
+  next_stands : (first at : ℕ) (block : Block) (blocks : List Block) → block.first ≡ first → IsBlockOf source block → Stands first at (block ∷ blocks)
+      → Stands (first + size block) (at + padded_size block) blocks
   next_stands first at block blocks begins is s = record {
     ahead = λ t l. s.ahead t (omega arith) ∙ cond-false (has_statement t block) at (padded_link (at + padded_size block) blocks t) (outside t block.first (size block) (omega arith));
     low = λ t l. ⊎_elim
@@ -109,7 +112,8 @@ module _ (source : SourceValue) (near : AllNear source.statements) (link : ℕ �
       at_block : (t : ℕ) → first ≤ t → t < first + size block → link t ≡ at
       at_block t l m = s.ahead t l ∙ cond-true (has_statement t block) at (padded_link (at + padded_size block) blocks t) (inside t block.first (size block) (omega arith) (omega arith))
 
-  branch_reaches : (first j at : ℕ) (block : Block) (blocks : List Block) → BlocksFrom source first j (block ∷ blocks) → Stands first at (block ∷ blocks) → (target : ℕ) → block.end ≡ Branches target → reaches (at + padded_place block) (link target) ≡ true
+  branch_reaches : (first j at : ℕ) (block : Block) (blocks : List Block) → BlocksFrom source first j (block ∷ blocks) → Stands first at (block ∷ blocks)
+      → (target : ℕ) → block.end ≡ Branches target → reaches (at + padded_place block) (link target) ≡ true
   branch_reaches first j at block blocks b s target e =
       let is = b.1 in
       let some = is.some in
@@ -132,7 +136,8 @@ module _ (source : SourceValue) (near : AllNear source.statements) (link : ℕ �
       reach_near (at + padded_place block) (link target) (omega arith) (omega arith))
       (cases_lt target first)
 
-  ends_reached : (at : ℕ) (block : Block) (end : End) → ((target : ℕ) → end ≡ Branches target → reaches (at + padded_place block) (link target) ≡ true) → overlong_to source link at block (branch_target end) ≡ None
+  ends_reached : (at : ℕ) (block : Block) (end : End) → ((target : ℕ) → end ≡ Branches target → reaches (at + padded_place block) (link target) ≡ true)
+      → overlong_to source link at block (branch_target end) ≡ None
   ends_reached at block Falls h = refl
   ends_reached at block Halts h = refl
   ends_reached at block (Branches target) h = cond-true (reaches (at + padded_place block) (link target)) None _ (h target refl)
@@ -146,13 +151,15 @@ module _ (source : SourceValue) (near : AllNear source.statements) (link : ℕ �
       ∙ all_reach (first + size block) j (at + padded_size block) blocks b.2 (next_stands first at block blocks b.0 b.1 s)
 
 -- a source of near branches has no overlong branch
-pub near_fits : (source : SourceValue) (place : Place) (blocks : List Block) → AllNear source.statements → AreBlocks source blocks → overlong source place blocks ≡ None
+pub near_fits : (source : SourceValue) (place : Place) (blocks : List Block) → AllNear source.statements → AreBlocks source blocks
+    → overlong source place blocks ≡ None
 near_fits source place blocks near are =
     all_reach source near (padded_link place.code blocks) 0 (length source.statements) place.code blocks are
     (record { ahead = λ t l. refl; low = λ t l. absurd (omega arith); high = λ t l. absurd (omega arith) })
 
 -- a source of near branches is not refused for a displacement
-pub never_refused : (Proposes : Block → Plan → Type 0) (source : SourceValue) (place : Place) (e : LinkError) (line from to : ℕ) → AllNear source.statements → e ≡ Displacement line from to → IsRefusal Proposes source place e → ⊥
+pub never_refused : (Proposes : Block → Plan → Type 0) (source : SourceValue) (place : Place) (e : LinkError) (line from to : ℕ) → AllNear source.statements
+    → e ≡ Displacement line from to → IsRefusal Proposes source place e → ⊥
 never_refused Proposes source place e line from to near is refused =
     let found : Overlong = record { line = line; from = from; to = to } in
     let t : IsOverlong Proposes source place found = subst (λ (x : LinkError). IsRefusal Proposes source place x) is refused in

@@ -77,7 +77,8 @@ module _ (names : Label → Bool) where
   }
 
   -- a label of the place adds its line
-  lines_added : (labels : Labels) (n : List ℕ) (l : Label) → names l ≡ true → label_lines names (labels ++ (n, l) ∷ []) ≡ label_lines names labels ++ (n ++ codes ":\n")
+  lines_added : (labels : Labels) (n : List ℕ) (l : Label) → names l ≡ true
+      → label_lines names (labels ++ (n, l) ∷ []) ≡ label_lines names labels ++ (n ++ codes ":\n")
   lines_added labels n l h = flat_map-append (λ p. cond (names p.1) (ended (p.0 ++ codes ":")) []) labels ((n, l) ∷ [])
       ∙ (ap (λ b. label_lines names labels ++ (cond b (ended (n ++ codes ":")) [] ++ [])) h
       ∙ ap (λ t. label_lines names labels ++ t) (append-nil (ended (n ++ codes ":")) ∙ append_assoc n (codes ":") (10 ∷ [])))
@@ -102,11 +103,13 @@ module _ (names : Label → Bool) where
       some_text (b ∷ n) rest e = cc
 
   -- the first name, with one more label of the place
-  first_of_none : (labels : Labels) (n : List ℕ) (l : Label) → names l ≡ true → find (λ p. names p.1) labels ≡ None → first_name names (labels ++ (n, l) ∷ []) ≡ n
+  first_of_none : (labels : Labels) (n : List ℕ) (l : Label) → names l ≡ true → find (λ p. names p.1) labels ≡ None
+      → first_name names (labels ++ (n, l) ∷ []) ≡ n
   first_of_none labels n l h e = ap (λ o. unwrap_or (option_map (λ p. p.0) o) [])
       (find-append (λ p. names p.1) labels ((n, l) ∷ []) ∙ (ap (λ o. option_or o (cond (names l) (Some (n, l)) None)) e ∙ cond-true (names l) (Some (n, l)) None h))
 
-  first_of_some : (labels : Labels) (n : List ℕ) (l : Label) (x : List ℕ × Label) → find (λ p. names p.1) labels ≡ Some x → first_name names (labels ++ (n, l) ∷ []) ≡ first_name names labels
+  first_of_some : (labels : Labels) (n : List ℕ) (l : Label) (x : List ℕ × Label) → find (λ p. names p.1) labels ≡ Some x
+      → first_name names (labels ++ (n, l) ∷ []) ≡ first_name names labels
   first_of_some labels n l x e = ap (λ o. unwrap_or (option_map (λ p. p.0) o) [])
       (find-append (λ p. names p.1) labels ((n, l) ∷ []) ∙ (ap (λ o. option_or o (cond (names l) (Some (n, l)) None)) e ∙ sym e))
 
@@ -118,11 +121,13 @@ module _ (names : Label → Bool) where
     first = by_case (find (λ p. names p.1) labels) refl;
   }
     where
-      empty : (t : List ℕ) → t ≡ [] → new.lines.items ≡ t ++ (n ++ codes ":\n") → new.first ≡ cond (length t == 0) (length n) g.first → take new.first new.lines.items ≡ n
+      empty : (t : List ℕ) → t ≡ [] → new.lines.items ≡ t ++ (n ++ codes ":\n") → new.first ≡ cond (length t == 0) (length n) g.first
+          → take new.first new.lines.items ≡ n
       empty t e all at = ap (λ k. take k new.lines.items) (at ∙ ap (λ u. cond (length u == 0) (length n) g.first) e)
           ∙ (ap (λ u. take (length n) u) (all ∙ ap (λ u. u ++ (n ++ codes ":\n")) e) ∙ take-append_seam n (codes ":\n"))
 
-      full : (t : List ℕ) → (t ≡ [] → ⊥) → g.first ≤ length t → new.lines.items ≡ t ++ (n ++ codes ":\n") → new.first ≡ cond (length t == 0) (length n) g.first → take new.first new.lines.items ≡ take g.first t
+      full : (t : List ℕ) → (t ≡ [] → ⊥) → g.first ≤ length t → new.lines.items ≡ t ++ (n ++ codes ":\n") → new.first ≡ cond (length t == 0) (length n) g.first
+          → take new.first new.lines.items ≡ take g.first t
       full [] ne i all at = absurd (ne refl)
       full (b ∷ t) ne i all at = ap (λ k. take k new.lines.items) (at ∙ cond-suc (length t) (length n) g.first) ∙ (ap (λ u. take g.first u) all ∙ take-append-le g.first (b ∷ t) (n ++ codes ":\n") i)
 

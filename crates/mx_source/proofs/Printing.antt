@@ -55,11 +55,13 @@ words_step labels words i v text e =
     next = omega arith
 
 -- the end of the statements
-pub code_end : (labels : Labels) (statements : List Statement) (i : ℕ) → i ≡ length statements → code_text labels i (drop i statements) ≡ label_lines (names_index (length statements)) labels
+pub code_end : (labels : Labels) (statements : List Statement) (i : ℕ) → i ≡ length statements
+    → code_text labels i (drop i statements) ≡ label_lines (names_index (length statements)) labels
 code_end labels statements i e = ap (λ n. code_text labels n (drop n statements)) e ∙ ap (λ xs. code_text labels (length statements) xs) (drop-length statements)
 
 -- the end of the data words
-pub words_end : (labels : Labels) (words : List Value) (i : ℕ) → i ≡ length words → words_text labels (256 + i) (drop i words) ≡ label_lines (names_address (256 + length words)) labels
+pub words_end : (labels : Labels) (words : List Value) (i : ℕ) → i ≡ length words
+    → words_text labels (256 + i) (drop i words) ≡ label_lines (names_address (256 + length words)) labels
 words_end labels words i e = ap (λ n. words_text labels (256 + n) (drop n words)) e ∙ ap (λ xs. words_text labels (256 + length words) xs) (drop-length words)
 
 -- the parts of the canonical text

@@ -12,7 +12,8 @@ use Rattle.mx_squash.specs.Ordered.{Ascends, IsFound, AreOfOneSource}
 same_first : (b c : Block) → Some b ≡ Some c → b.first ≡ c.first
 same_first b c e = ap (λ (x : Block). x.first) (same_Some b c e)
 
-from_low : (source : SourceValue) (i j : ℕ) (blocks : List Block) → BlocksFrom source i j blocks → (k : ℕ) (b : Block) → slice_get blocks k ≡ Some b → i ≤ b.first
+from_low : (source : SourceValue) (i j : ℕ) (blocks : List Block) → BlocksFrom source i j blocks → (k : ℕ) (b : Block) → slice_get blocks k ≡ Some b
+    → i ≤ b.first
 from_low source i j [] h k b e = absurd (none-some b e)
 from_low source i j (c ∷ blocks) h zero b e = let s = same_first c b e in let f = h.0 in omega arith
 from_low source i j (c ∷ blocks) h (suc k) b e = let low = from_low source (i + size c) j blocks h.2 k b e in omega arith
@@ -34,7 +35,8 @@ ascends blocks h = ascends_from h.source 0 (length h.source.statements) blocks h
 abbrev pub site : Block → Plan → ℕ → Site
 site b p s = record { block = b; plan = p; start = s }
 
-pub sites_get : (blocks : List Block) (plans : List Plan) (starts : List ℕ) (i : ℕ) (b : Block) (p : Plan) (s : ℕ) → slice_get blocks i ≡ Some b → slice_get plans i ≡ Some p → slice_get starts i ≡ Some s → slice_get (sites blocks plans starts) i ≡ Some (site b p s)
+pub sites_get : (blocks : List Block) (plans : List Plan) (starts : List ℕ) (i : ℕ) (b : Block) (p : Plan) (s : ℕ) → slice_get blocks i ≡ Some b
+    → slice_get plans i ≡ Some p → slice_get starts i ≡ Some s → slice_get (sites blocks plans starts) i ≡ Some (site b p s)
 sites_get [] plans starts i b p s e f g = absurd (none-some b e)
 sites_get (b' ∷ blocks) [] starts i b p s e f g = absurd (none-some p f)
 sites_get (b' ∷ blocks) (p' ∷ plans) [] i b p s e f g = absurd (none-some s g)
@@ -45,7 +47,8 @@ sites_get (b' ∷ blocks) (p' ∷ plans) (s' ∷ starts) zero b p s e f g =
     λ k. Some (site (x k) (y k) (z k))
 sites_get (b' ∷ blocks) (p' ∷ plans) (s' ∷ starts) (suc i) b p s e f g = sites_get blocks plans starts i b p s e f g
 
-pub site_found : (test : Block → Bool) (blocks : List Block) (plans : List Plan) (starts : List ℕ) (i : ℕ) (p : Plan) (s : ℕ) (found : IsFound test blocks i) → slice_get plans i ≡ Some p → slice_get starts i ≡ Some s → site_of test (sites blocks plans starts) ≡ Some (site found.block p s)
+pub site_found : (test : Block → Bool) (blocks : List Block) (plans : List Plan) (starts : List ℕ) (i : ℕ) (p : Plan) (s : ℕ) (found : IsFound test blocks i)
+    → slice_get plans i ≡ Some p → slice_get starts i ≡ Some s → site_of test (sites blocks plans starts) ≡ Some (site found.block p s)
 site_found test [] plans starts i p s found f g = absurd (none-some found.block found.is)
 site_found test (b ∷ blocks) [] starts i p s found f g = absurd (none-some p f)
 site_found test (b ∷ blocks) (p' ∷ plans) [] i p s found f g = absurd (none-some s g)
@@ -65,7 +68,8 @@ site_found test (b ∷ blocks) (p' ∷ plans) (s' ∷ starts) (suc i) p s found 
     ap (λ t. cond t (Some (site b p' s')) (site_of test (sites blocks plans starts))) fails
     ∙ site_found test blocks plans starts i p s rest f g
 
-pub site_none : (test : Block → Bool) (blocks : List Block) (plans : List Plan) (starts : List ℕ) → ((i : ℕ) (b : Block) → slice_get blocks i ≡ Some b → test b ≡ false) → site_of test (sites blocks plans starts) ≡ None
+pub site_none : (test : Block → Bool) (blocks : List Block) (plans : List Plan) (starts : List ℕ)
+    → ((i : ℕ) (b : Block) → slice_get blocks i ≡ Some b → test b ≡ false) → site_of test (sites blocks plans starts) ≡ None
 site_none test [] plans starts h = refl
 site_none test (b ∷ blocks) [] starts h = refl
 site_none test (b ∷ blocks) (p ∷ plans) [] h = refl
@@ -74,7 +78,8 @@ site_none test (b ∷ blocks) (p ∷ plans) (s ∷ starts) h =
     ∙ site_none test blocks plans starts (λ i c e. h (suc i) c e)
 
 -- the site of the first block that passes, by what stands at its number
-pub goal_is : (test : Block → Bool) (blocks : List Block) (plans : List Plan) (starts : List ℕ) (i : ℕ) (b : Block) (p : Plan) (s : ℕ) → IsFound test blocks i → slice_get blocks i ≡ Some b → slice_get plans i ≡ Some p → slice_get starts i ≡ Some s → site_of test (sites blocks plans starts) ≡ Some (site b p s)
+pub goal_is : (test : Block → Bool) (blocks : List Block) (plans : List Plan) (starts : List ℕ) (i : ℕ) (b : Block) (p : Plan) (s : ℕ) → IsFound test blocks i
+    → slice_get blocks i ≡ Some b → slice_get plans i ≡ Some p → slice_get starts i ≡ Some s → site_of test (sites blocks plans starts) ≡ Some (site b p s)
 goal_is test blocks plans starts i b p s found e f g =
     let same : found.block ≡ b = same_Some found.block b (sym found.is ∙ e) in
     site_found test blocks plans starts i p s found f g ∙ ap (λ x. Some (site x p s)) same

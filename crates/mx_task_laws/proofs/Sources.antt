@@ -77,7 +77,8 @@ module _ (Proposes : Block → Plan → Type 0) (first second : SourceValue) (s 
   same : shared_program l l' ≡ program_in s
   same = λ k. shared (sym is.code k) (sym is.user_data k)
 
-  pub sources_mean : IsSharing first → IsSharing second → length first.user_data ≤ 32512 → IsUnstuckAt lower first (budget + 64) → IsUnstuckAt upper second (budget + 64)
+  pub sources_mean : IsSharing first → IsSharing second → length first.user_data ≤ 32512 → IsUnstuckAt lower first (budget + 64)
+      → IsUnstuckAt upper second (budget + 64)
       → MeanTheirSources (program_in s) l l' requests budget
   sources_mean f g few_data safe safe' =
       subst (λ q. MeanTheirSources q l l' requests budget) same

@@ -13,7 +13,8 @@ use Rattle.mx_task_laws.specs.Sources.{IsUnstuckAt, IsSharingText, linked_text}
 use Rattle.mx_task_laws.proofs.Meant.{means}
 use Rattle.mx_task_laws.proofs.Sources.{are_shared}
 
-laid : (place : Place) (text : List ℕ) (sites : List Site) → 256 ≤ place.user_data → place.code ≤ 34096 → IsSharingText place text sites → IsLaid (source_of place.user_data text) place sites
+laid : (place : Place) (text : List ℕ) (sites : List Site) → 256 ≤ place.user_data → place.code ≤ 34096 → IsSharingText place text sites
+    → IsLaid (source_of place.user_data text) place sites
 laid place text sites least short is =
     let few = is.few in
     text_laid place text sites least is.faultless (omega (arith, few, short)) is.layout is.reach

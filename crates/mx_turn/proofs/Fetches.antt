@@ -27,7 +27,8 @@ behind_two mark k (x ∷ []) = refl
 behind_two mark k (x ∷ y ∷ xs) = refl
 
 -- no mark moves an address
-same_addresses : (mark : Marked → Marked) → ((f : Marked) → (mark f).address ≡ f.address) → (n : ℕ) (xs : List Marked) → addresses (mark_first mark n xs) ≡ addresses xs
+same_addresses : (mark : Marked → Marked) → ((f : Marked) → (mark f).address ≡ f.address) → (n : ℕ) (xs : List Marked)
+    → addresses (mark_first mark n xs) ≡ addresses xs
 same_addresses mark same zero xs = refl
 same_addresses mark same (suc n) [] = refl
 same_addresses mark same (suc n) (x ∷ xs) = λ k. same x k ∷ same_addresses mark same n xs k
@@ -151,7 +152,8 @@ module _ (code : Code) (input : Option (List ℕ)) where
     abbrev at : Bool → ℕ → FetchState
     at halted stall = record s { fetches = unkilled f ∷ rest; halted = halted; stall = stall }
 
-    chained : (c : FetchState) → (c.psw.current.interrupts && (c.latch && is_some (held (slice_get rest 1)))) ≡ true → chain_of (saved (held (slice_get rest 1))) (saved (held (slice_get rest 0))) f ≡ chain_of (newest (drop 1 rest)) (newest rest) f
+    chained : (c : FetchState) → (c.psw.current.interrupts && (c.latch && is_some (held (slice_get rest 1)))) ≡ true
+        → chain_of (saved (held (slice_get rest 1))) (saved (held (slice_get rest 0))) f ≡ chain_of (newest (drop 1 rest)) (newest rest) f
     chained c h = chain_keeps f rest alike (and_parts c.latch _ (and_parts c.psw.current.interrupts _ h).1).1
 
     more : (stall : ℕ) → eqb (suc stall) 0 ≡ false
@@ -166,7 +168,8 @@ module _ (code : Code) (input : Option (List ℕ)) where
     keeps stall true h = absurd (true≢false h)
     keeps stall false h = refl
 
-    cycles : (halted : Bool) (stall : ℕ) → cycled resident code input (window code (at halted stall)) request ≡ window code (cycle_of code input (at halted stall) request)
+    cycles : (halted : Bool) (stall : ℕ)
+        → cycled resident code input (window code (at halted stall)) request ≡ window code (cycle_of code input (at halted stall) request)
     cycles true stall = refl
     cycles false zero = let c = begun code input (asked request (at false 0)) in finished c f rest _ c.halted (interrupted c) (chained c)
     cycles false (suc stall) = waits (suc stall) (eqb (suc stall) 0) (more stall)

@@ -25,7 +25,8 @@ use Rattle.mx_turn.specs.System.{system_change, seen, pops, restores}
 use Rattle.mx_turn.specs.Cycle.{Machine, shifted, commit_byte, mem_change, is_taken, entered, decision, decided, led, turned, reached, ended}
 use Rattle.mx_turn.specs.OneTurn.{as_fetch, UserSame, Follows, IsOnBoard, before_turn}
 
-system_user : (user : Bool) (c : Chain) (i : Inst) (at : ℕ) (r : Words) (md : ℕ) (find : ℕ → Found) → user ≡ true → system_change user c i at r md find ≡ change i at r md find
+system_user : (user : Bool) (c : Chain) (i : Inst) (at : ℕ) (r : Words) (md : ℕ) (find : ℕ → Found) → user ≡ true
+    → system_change user c i at r md find ≡ change i at r md find
 system_user user c (MoveFrom d s) at r md find e = ap (λ b. cond (b || is_md s) (change (MoveFrom d s) at r md find) (gives d (special c s))) e
 system_user user c _ at r md find e = refl
 
@@ -37,7 +38,8 @@ on_board : (p : Place) (a : ℕ) → IsOnBoard p → is_user p a ≡ true → is
 on_board p a b u = let h = b.console in let k = p.console_below in let w = p.within in grind (arith, nat_tests)
 
 -- a load of user data, or of the input, finds the same
-found_same : (p : Place) (input : Option (List ℕ)) (x : ℕ) (m m' : Words) (taken : ℕ) → IsOnBoard p → UserSame p m m' → is_user p x || (is_some input && eqb x p.input) ≡ true → (user_bus p input).load m' taken x ≡ (board true input).load m taken x
+found_same : (p : Place) (input : Option (List ℕ)) (x : ℕ) (m m' : Words) (taken : ℕ) → IsOnBoard p → UserSame p m m'
+    → is_user p x || (is_some input && eqb x p.input) ≡ true → (user_bus p input).load m' taken x ≡ (board true input).load m taken x
 found_same p input x m m' taken b u l =
     ⊎_elim
     (λ y. ap (λ t. cond t (plain_word (m' x)) (cond (eqb x p.input) (from_input input taken) (plain_word 0))) y
@@ -56,13 +58,15 @@ found_same p input x m m' taken b u l =
     equal : (x y : ℕ) → eqb x y ≡ true → x ≡ y
     equal x y h = grind (arith, nat_tests)
 
-loads_same : (p : Place) (input : Option (List ℕ)) (a : Option Access) (r m m' : Words) (taken : ℕ) → IsOnBoard p → UserSame p m m' → is_lawful p input a r ≡ true → FindsAlike a r ((user_bus p input).load m' taken) ((board true input).load m taken)
+loads_same : (p : Place) (input : Option (List ℕ)) (a : Option Access) (r m m' : Words) (taken : ℕ) → IsOnBoard p → UserSame p m m'
+    → is_lawful p input a r ≡ true → FindsAlike a r ((user_bus p input).load m' taken) ((board true input).load m taken)
 loads_same p input None r m m' taken b u l = tt
 loads_same p input (Some a) r m m' taken b u l = λ s.
     found_same p input (address a r) m m' taken b u
     (sym (ap (λ t. is_user p (address a r) || cond t (eqb (address a r) p.console) (is_some input && eqb (address a r) p.input)) s) ∙ l)
 
-stores_same : (p : Place) (input : Option (List ℕ)) (o : Option Sent) (m m' : Words) → IsOnBoard p → UserSame p m m' → UserSame p (stored (board true input) o m) (stored (user_bus p input) o m')
+stores_same : (p : Place) (input : Option (List ℕ)) (o : Option Sent) (m m' : Words) → IsOnBoard p → UserSame p m m'
+    → UserSame p (stored (board true input) o m) (stored (user_bus p input) o m')
 stores_same p input None m m' b u = u
 stores_same p input (Some o) m m' b u = λ a i. grind (arith, nat_tests, u a i, p.ordered, p.within, p.console_below, b.console)
 

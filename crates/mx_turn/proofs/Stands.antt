@@ -19,7 +19,8 @@ module _ {C : Type 0} (holds : C → List ℕ → Type 0) (t : Turns C) (p : Pro
   pub answers : (r : Cycled) → r ≡ answer (code_of_turns t) t.board.input now request → r ≡ answer_after p h request
   answers r e = e ∙ (λ k. answer (s.code k) (s.input k) (s.state k) request)
 
-  pub stands_on : (t' : Turns C) (past : List ℕ) (before : Words) → holds t'.cache (t'.next.address ∷ past) → t'.missed ≡ not (resident past t'.next.address) → KeepsProgram t t'
+  pub stands_on : (t' : Turns C) (past : List ℕ) (before : Words) → holds t'.cache (t'.next.address ∷ past) → t'.missed ≡ not (resident past t'.next.address)
+      → KeepsProgram t t'
       → machine_of t' past before (shown_of t') ≡ cycled resident (code_of_turns t) t.board.input now request → StandsFor holds t' p (h ++ request ∷ [])
   stands_on t' past before cache missed keeps e = record {
     past = past;

@@ -52,7 +52,8 @@ padded_at (i ∷ insts) n zero = refl
 padded_at (i ∷ insts) n (suc k) = padded_at insts n k
 
 -- what is read of two lists, one behind the other
-joined_at : (xs ys : List Inst) (k : ℕ) → unwrap_or (slice_get (xs ++ ys) k) idle ≡ cond (leb (length xs) k) (unwrap_or (slice_get ys (k - length xs)) idle) (unwrap_or (slice_get xs k) idle)
+joined_at : (xs ys : List Inst) (k : ℕ)
+    → unwrap_or (slice_get (xs ++ ys) k) idle ≡ cond (leb (length xs) k) (unwrap_or (slice_get ys (k - length xs)) idle) (unwrap_or (slice_get xs k) idle)
 joined_at xs ys k = ⊎_elim
     (λ lt. let first : leb (length xs) k ≡ false = grind (arith, nat_tests) in
     unwrap_or-slice_get (xs ++ ys) k idle

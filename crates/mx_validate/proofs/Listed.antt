@@ -71,7 +71,8 @@ stands_within items p k s = slice_get_within items p (Op k) s
 pub next_place : (P : ℕ → Type 0) (p : ℕ) → ((r : ℕ) → r < p → P r) → P p → (r : ℕ) → r < p + 1 → P r
 next_place P p below here r l = ⊎_elim (λ b. below r b) (λ g. let same : p ≡ r = omega arith in subst P same here) (cases_lt r p)
 
-times_more : (k : ℕ) (items : List Item) (i : ℕ) (d : Item) → i < length items → times k (ops (take (i + 1) items)) ≡ times k (ops (take i items)) + times k (ops (slice_index_or items i d ∷ []))
+times_more : (k : ℕ) (items : List Item) (i : ℕ) (d : Item) → i < length items
+    → times k (ops (take (i + 1) items)) ≡ times k (ops (take i items)) + times k (ops (slice_index_or items i d ∷ []))
 times_more k items i d l =
     ap (λ xs. times k (ops xs)) (take_more items i d l)
     ∙ ap (times k) (ops_append (take i items) (slice_index_or items i d ∷ []))
@@ -86,10 +87,12 @@ one_other k (Op j) ne = let apart : k ≢ j = λ e. ne (ap Op (sym e)) in grind 
 one_other k Nop ne = refl
 
 -- one item more
-pub times_op : (k : ℕ) (items : List Item) (i : ℕ) (d : Item) → i < length items → slice_index_or items i d ≡ Op k → times k (ops (take (i + 1) items)) ≡ times k (ops (take i items)) + 1
+pub times_op : (k : ℕ) (items : List Item) (i : ℕ) (d : Item) → i < length items → slice_index_or items i d ≡ Op k
+    → times k (ops (take (i + 1) items)) ≡ times k (ops (take i items)) + 1
 times_op k items i d l e = times_more k items i d l ∙ ap (λ n. times k (ops (take i items)) + n) (one_op k (slice_index_or items i d) e)
 
-pub times_other : (k : ℕ) (items : List Item) (i : ℕ) (d : Item) → i < length items → (slice_index_or items i d ≡ Op k → ⊥) → times k (ops (take (i + 1) items)) ≡ times k (ops (take i items))
+pub times_other : (k : ℕ) (items : List Item) (i : ℕ) (d : Item) → i < length items → (slice_index_or items i d ≡ Op k → ⊥)
+    → times k (ops (take (i + 1) items)) ≡ times k (ops (take i items))
 times_other k items i d l ne =
     times_more k items i d l
     ∙ ap (λ n. times k (ops (take i items)) + n) (one_other k (slice_index_or items i d) ne)

@@ -95,7 +95,8 @@ padded_times j k (x ∷ xs) =
     one_more j k (length xs) (times j (ops (nops (is_load x) (is_transfer x) ++ padded_from (suc k) xs))) rest
 
 -- a load is followed by a no-op
-load_padded : (inst : ℕ → Inst) (k : ℕ) (xs : List Inst) (p j : ℕ) → ((i : ℕ) → i < length xs → inst_at xs i ≡ inst (k + i)) → StandsAt (padded_from k xs) p j → is_load (inst j) ≡ true → slice_get (padded_from k xs) (suc p) ≡ Some Nop
+load_padded : (inst : ℕ → Inst) (k : ℕ) (xs : List Inst) (p j : ℕ) → ((i : ℕ) → i < length xs → inst_at xs i ≡ inst (k + i)) → StandsAt (padded_from k xs) p j
+    → is_load (inst j) ≡ true → slice_get (padded_from k xs) (suc p) ≡ Some Nop
 load_padded inst k [] p j h s l = absurd (cc)
 load_padded inst k (x ∷ xs) zero j h s l =
     let plain : j ≡ k = cc in
@@ -131,7 +132,8 @@ no_more : (xs : List Item) → xs ++ [] ≡ xs
 no_more xs = grind (arith, common_steps)
 
 -- one instruction more
-pub padded_more : (insts : List Inst) (k : ℕ) (d : Inst) → k < length insts → padded_from 0 (take (k + 1) insts) ≡ padded_from 0 (take k insts) ++ Op k ∷ no_ops_after (slice_index_or insts k d)
+pub padded_more : (insts : List Inst) (k : ℕ) (d : Inst) → k < length insts
+    → padded_from 0 (take (k + 1) insts) ≡ padded_from 0 (take k insts) ++ Op k ∷ no_ops_after (slice_index_or insts k d)
 padded_more insts k d l =
     let n : 0 + length (take k insts) ≡ k = grind (arith, common_steps) in
     let x = slice_index_or insts k d in
@@ -183,7 +185,8 @@ ended (Calls target) i f e = ap (λ l. suc (length l)) (jump_two i e)
 ended Jumps i f e = ap (λ l. suc (length l)) (jump_two i e)
 
 -- the padded list of the body, and what stands from the terminator on
-split_last : (end : End) (insts : List Inst) (l : Last end insts) → padded_from 0 insts ≡ padded_from 0 (take (length insts - 1) insts) ++ Op (length insts - 1) ∷ no_ops_after l.inst
+split_last : (end : End) (insts : List Inst) (l : Last end insts)
+    → padded_from 0 insts ≡ padded_from 0 (take (length insts - 1) insts) ++ Op (length insts - 1) ∷ no_ops_after l.inst
 split_last end insts l =
     let n = length insts in
     let some = l.some in
@@ -195,13 +198,16 @@ split_last end insts l =
 body_place : End → List Inst → ℕ
 body_place end insts = length (padded_from 0 (take (cond (falls end) (length insts) (length insts - 1)) insts))
 
-pub tail_of : (end : End) (insts : List Inst) → ends_as end insts ≡ true → length (padded_from 0 insts) ≡ length (padded_from 0 (take (cond (falls end) (length insts) (length insts - 1)) insts)) + end_count end
+pub tail_of : (end : End) (insts : List Inst) → ends_as end insts ≡ true
+    → length (padded_from 0 insts) ≡ length (padded_from 0 (take (cond (falls end) (length insts) (length insts - 1)) insts)) + end_count end
 tail_of end insts h = by_kind (falls end) refl
   where
-    by_kind : (f : Bool) → falls end ≡ f → length (padded_from 0 insts) ≡ length (padded_from 0 (take (cond (falls end) (length insts) (length insts - 1)) insts)) + end_count end
+    by_kind : (f : Bool) → falls end ≡ f
+        → length (padded_from 0 insts) ≡ length (padded_from 0 (take (cond (falls end) (length insts) (length insts - 1)) insts)) + end_count end
     by_kind true e = ap (λ l. length (padded_from 0 l)) (sym (all_taken insts)) ∙ falling end e
       where
-        falling : (d : End) → falls d ≡ true → length (padded_from 0 (take (length insts) insts)) ≡ length (padded_from 0 (take (cond (falls d) (length insts) (length insts - 1)) insts)) + end_count d
+        falling : (d : End) → falls d ≡ true
+            → length (padded_from 0 (take (length insts) insts)) ≡ length (padded_from 0 (take (cond (falls d) (length insts) (length insts - 1)) insts)) + end_count d
         falling Falls t = omega arith
         falling _ t = absurd (false≢true t)
     by_kind false e =
@@ -216,7 +222,8 @@ at_middle : (xs ys : List Item) (x : Item) → slice_get (xs ++ x ∷ ys) (lengt
 at_middle [] ys x = refl
 at_middle (y ∷ xs) ys x = at_middle xs ys x
 
-terminator_of : (end : End) (insts : List Inst) → ends_as end insts ≡ true → falls end ≡ false → StandsAt (padded_from 0 insts) (length (padded_from 0 (take (cond (falls end) (length insts) (length insts - 1)) insts))) (length insts - 1)
+terminator_of : (end : End) (insts : List Inst) → ends_as end insts ≡ true → falls end ≡ false
+    → StandsAt (padded_from 0 insts) (length (padded_from 0 (take (cond (falls end) (length insts) (length insts - 1)) insts))) (length insts - 1)
 terminator_of end insts h e =
     let l = last_of end insts h in
     let body = padded_from 0 (take (length insts - 1) insts) in
@@ -224,7 +231,8 @@ terminator_of end insts h e =
     ∙ ap (λ items. slice_get items (length body)) (split_last end insts l)
     ∙ at_middle body (no_ops_after l.inst) (Op (length insts - 1))
 
-padded_apart : (insts : List Inst) (p k j : ℕ) → StandsAt (padded_from 0 insts) p k → StandsAt (padded_from 0 insts) (suc p) j → feeds (inst_at insts k) (inst_at insts j) ≡ false
+padded_apart : (insts : List Inst) (p k j : ℕ) → StandsAt (padded_from 0 insts) p k → StandsAt (padded_from 0 insts) (suc p) j
+    → feeds (inst_at insts k) (inst_at insts j) ≡ false
 padded_apart insts p k j s t = ⊎_elim
     (λ l. let nop = load_padded (inst_at insts) 0 insts p k (λ i m. ap (inst_at insts) (zero_more i)) s l in absurd (cc))
     (λ l. ap (λ b. b && reads (inst_at insts j) (dest (inst_at insts k))) l)
@@ -264,7 +272,8 @@ valid_padded block plan h =
     at_padded insts p k items e s = sym (ap (λ l. slice_get l p) e) ∙ s
 
 -- no instruction of the body is a transfer
-pub quiet_body : (insts : List Inst) (k : ℕ) → GoesOn insts → k < length insts → (i : ℕ) → i < length (take k insts) → is_transfer (inst_at (take k insts) i) ≡ false
+pub quiet_body : (insts : List Inst) (k : ℕ) → GoesOn insts → k < length insts → (i : ℕ) → i < length (take k insts)
+    → is_transfer (inst_at (take k insts) i) ≡ false
 quiet_body insts k g l i m =
     let short : length (take k insts) ≡ k = grind (arith, common_steps) in
     let below : suc i < length insts = omega arith in

@@ -25,7 +25,8 @@ abbrev new_row : Text → Manner → Text → Row
 new_row id how v = record { id = id; values = v ∷ []; count = None; source = Some CommandLine; reading = how }
 
 -- a first use adds a row
-added : (id v : Text) (how : Manner) (rows : List Row) → has_row id rows ≡ false → with_values id how CommandLine (v ∷ []) (without id rows) ≡ rows ++ new_row id how v ∷ []
+added : (id v : Text) (how : Manner) (rows : List Row) → has_row id rows ≡ false
+    → with_values id how CommandLine (v ∷ []) (without id rows) ≡ rows ++ new_row id how v ∷ []
 added id v how [] h = refl
 added id v how (r ∷ rs) h =
     let parts = or_false (bytes_eq r.id id) (has_row id rs) h in
@@ -56,7 +57,8 @@ any_old p (r ∷ rs) x f = ap (λ b. p r || b) (any_old p rs x f)
 abbrev id_is : Text → Row → Bool
 id_is id r = bytes_eq r.id id
 
-value_found : (rows : List Row) (q : Reading) (name v other : Text) (how : Manner) (b : Bool) → Holds rows q → has_row name rows ≡ false → bytes_eq other names_id ≡ false → bytes_eq name other ≡ b
+value_found : (rows : List Row) (q : Reading) (name v other : Text) (how : Manner) (b : Bool) → Holds rows q → has_row name rows ≡ false
+    → bytes_eq other names_id ≡ false → bytes_eq name other ≡ b
     → first_of other (rows ++ new_row name how v ∷ []) ≡ value_of other (with_value q name v).given
 value_found rows q name v other how true h none apart t =
     let none' : has_row other rows ≡ false = subst (λ n. has_row n rows ≡ false) (bytes_same name other t) none in
@@ -64,7 +66,8 @@ value_found rows q name v other how true h none apart t =
 value_found rows q name v other how false h none apart t =
     rw (find_old (id_is other) rows (new_row name how v) t, t) (h.values other apart)
 
-row_found : (rows : List Row) (q : Reading) (name v other : Text) (how : Manner) (b : Bool) → Holds rows q → bytes_eq other names_id ≡ false → bytes_eq name other ≡ b
+row_found : (rows : List Row) (q : Reading) (name v other : Text) (how : Manner) (b : Bool) → Holds rows q → bytes_eq other names_id ≡ false
+    → bytes_eq name other ≡ b
     → has_row other (rows ++ new_row name how v ∷ []) ≡ is_given other (with_value q name v).given
 row_found rows q name v other how true h apart t = any_new (id_is other) rows (new_row name how v) t ∙ sym (rw t refl)
 row_found rows q name v other how false h apart t = any_old (id_is other) rows (new_row name how v) t ∙ h.given other apart ∙ sym (rw t refl)
@@ -90,7 +93,8 @@ named how word rows = with_values names_id how CommandLine (word ∷ []) rows
 same_id : (r : Row) (other : Text) → bytes_eq r.id names_id ≡ true → bytes_eq names_id other ≡ false → bytes_eq r.id other ≡ false
 same_id r other t f = subst (λ n. bytes_eq n other ≡ false) (sym (bytes_same r.id names_id t)) f
 
-named_other : (how : Manner) (word other : Text) (rows : List Row) → bytes_eq names_id other ≡ false → find (id_is other) (named how word rows) ≡ find (id_is other) rows
+named_other : (how : Manner) (word other : Text) (rows : List Row) → bytes_eq names_id other ≡ false
+    → find (id_is other) (named how word rows) ≡ find (id_is other) rows
 named_other how word other [] f = rw f refl
 named_other how word other (r ∷ rs) f = elim (cases_Bool (bytes_eq r.id names_id)) [
   | inl t ↦ rw (t, same_id r other t f) refl
@@ -104,7 +108,8 @@ named_row how word other (r ∷ rs) f = elim (cases_Bool (bytes_eq r.id names_id
   | inr g ↦ rw g (ap (λ b. bytes_eq r.id other || b) (named_row how word other rs f))
 ]
 
-named_names : (how : Manner) (word : Text) (rows : List Row) → unwrap_or (all_of names_id (named how word rows)) [] ≡ unwrap_or (all_of names_id rows) [] ++ word ∷ []
+named_names : (how : Manner) (word : Text) (rows : List Row)
+    → unwrap_or (all_of names_id (named how word rows)) [] ≡ unwrap_or (all_of names_id rows) [] ++ word ∷ []
 named_names how word [] = refl
 named_names how word (r ∷ rs) = elim (cases_Bool (bytes_eq r.id names_id)) [
   | inl t ↦ rw (t, t) refl

@@ -132,13 +132,15 @@ flags_unknown : (R : List Rule) (k : ℕ) (flags : Text) (h : Held) (c : ℕ) �
 unfolding flags_fault
 flags_unknown R k flags h c none first = rw (first, none) refl
 
-pub bundle_fault : (R : List Rule) (rows : List Row) (p : Pending) (b : Bool) (word flags : Text) → bytes_eq word (45 ∷ 45 ∷ []) ≡ false → long_of word ≡ None → short_of word ≡ Some flags
+pub bundle_fault : (R : List Rule) (rows : List Row) (p : Pending) (b : Bool) (word flags : Text) → bytes_eq word (45 ∷ 45 ∷ []) ≡ false → long_of word ≡ None
+    → short_of word ≡ Some flags
     → flags_fault R false (length flags) flags 0 (held_of rows p) ≡ kind.UnknownArgument ∷ []
     → turn_fault (shape_of R) [] (stands_at rows p b false) word ≡ kind.UnknownArgument ∷ []
 bundle_fault R rows p true word flags d l s f = rw (d, l, s, f) refl
 bundle_fault R rows p false word flags d l s f = rw (d, l, s, f) refl
 
-waits_bundle : (R : List Rule) (rows : List Row) (name word flags : Text) → bytes_eq word (45 ∷ 45 ∷ []) ≡ false → long_of word ≡ None → short_of word ≡ Some flags
+waits_bundle : (R : List Rule) (rows : List Row) (name word flags : Text) → bytes_eq word (45 ∷ 45 ∷ []) ≡ false → long_of word ≡ None
+    → short_of word ≡ Some flags
     → flags_fault R false (length flags) flags 0 (held_of rows (Some (name, []))) ≡ kind.UnknownArgument ∷ []
     → turn_fault (shape_of R) [] (waits_at rows name false) word ≡ kind.UnknownArgument ∷ []
 waits_bundle R rows name word flags d l s f = rw (d, l, s, f) refl
@@ -156,20 +158,23 @@ short_long x xs h = rw h refl
 short_short : (x : ℕ) (xs : Text) → (x == 45) ≡ false → short_of (45 ∷ x ∷ xs) ≡ Some (x ∷ xs)
 short_short x xs h = rw h refl
 
-pub short_fault : (R : List Rule) (rows : List Row) (p : Pending) (b : Bool) (x : ℕ) (xs : Text) → ((c : ℕ) → arg_by_short R c ≡ None) → (x == 45) ≡ false → chars (x ∷ xs) ≢ []
+pub short_fault : (R : List Rule) (rows : List Row) (p : Pending) (b : Bool) (x : ℕ) (xs : Text) → ((c : ℕ) → arg_by_short R c ≡ None) → (x == 45) ≡ false
+    → chars (x ∷ xs) ≢ []
     → turn_fault (shape_of R) [] (stands_at rows p b false) (45 ∷ x ∷ xs) ≡ kind.UnknownArgument ∷ []
 short_fault R rows p b x xs none h full =
     let first = head_of (chars (x ∷ xs)) full in
     bundle_fault R rows p b (45 ∷ x ∷ xs) (x ∷ xs) (short_dashes x xs h) (short_long x xs h) (short_short x xs h) (flags_unknown R (length xs) (x ∷ xs) (held_of rows p) first.0 (none first.0) first.1)
 
-pub waits_short : (R : List Rule) (rows : List Row) (name : Text) (x : ℕ) (xs : Text) → ((c : ℕ) → arg_by_short R c ≡ None) → (x == 45) ≡ false → chars (x ∷ xs) ≢ []
+pub waits_short : (R : List Rule) (rows : List Row) (name : Text) (x : ℕ) (xs : Text) → ((c : ℕ) → arg_by_short R c ≡ None) → (x == 45) ≡ false
+    → chars (x ∷ xs) ≢ []
     → turn_fault (shape_of R) [] (waits_at rows name false) (45 ∷ x ∷ xs) ≡ kind.UnknownArgument ∷ []
 waits_short R rows name x xs none h full =
     let first = head_of (chars (x ∷ xs)) full in
     waits_bundle R rows name (45 ∷ x ∷ xs) (x ∷ xs) (short_dashes x xs h) (short_long x xs h) (short_short x xs h) (flags_unknown R (length xs) (x ∷ xs) (held_of rows (Some (name, []))) first.0 (none first.0) first.1)
 
 -- the value of an option
-pub value_fault : (R : List Rule) (rows : List Row) (name word : Text) → is_option_word word ≡ false → turn_fault (shape_of R) [] (waits_at rows name false) word ≡ []
+pub value_fault : (R : List Rule) (rows : List Row) (name word : Text) → is_option_word word ≡ false
+    → turn_fault (shape_of R) [] (waits_at rows name false) word ≡ []
 value_fault R rows name word h = rw (no_dashes word h, no_long word h, no_short word h) refl
 
 pub value_walked : (R : List Rule) (rows : List Row) (name word : Text) → arg_by_id R name ≡ Some (option_built name) → is_option_word word ≡ false
@@ -186,7 +191,8 @@ unfolding walked
 waits_dashes R rows name = refl
 
 -- an option in place of a value
-pub no_value : (R : List Rule) (rows : List Row) (name : Text) → arg_by_id R name ≡ Some (option_built name) → settle_fault R false (held_of rows (Some (name, []))) ≡ kind.InvalidValue ∷ []
+pub no_value : (R : List Rule) (rows : List Row) (name : Text) → arg_by_id R name ≡ Some (option_built name)
+    → settle_fault R false (held_of rows (Some (name, []))) ≡ kind.InvalidValue ∷ []
 no_value R rows name k = rw k refl
 
 pub waits_unknown : (R : List Rule) (rows : List Row) (awaited word name : Text) (value : Option Text) → arg_by_long R name ≡ None
@@ -194,7 +200,8 @@ pub waits_unknown : (R : List Rule) (rows : List Row) (awaited word name : Text)
     → turn_fault (shape_of R) [] (waits_at rows awaited false) word ≡ kind.UnknownArgument ∷ []
 waits_unknown R rows awaited word name value k d l = rw (d, l, k) refl
 
-pub waits_option : (R : List Rule) (rows : List Row) (awaited word name : Text) (value : Option Text) → arg_by_long R name ≡ Some (option_built name) → arg_by_id R awaited ≡ Some (option_built awaited)
+pub waits_option : (R : List Rule) (rows : List Row) (awaited word name : Text) (value : Option Text) → arg_by_long R name ≡ Some (option_built name)
+    → arg_by_id R awaited ≡ Some (option_built awaited)
     → bytes_eq word (45 ∷ 45 ∷ []) ≡ false → long_of word ≡ Some (name, value)
     → turn_fault (shape_of R) [] (waits_at rows awaited false) word ≡ kind.InvalidValue ∷ []
 waits_option R rows awaited word name (Some value) k a d l = rw (d, l, k, a) refl
@@ -206,7 +213,8 @@ pub missing_fault : (R : List Rule) (rows : List Row) (name word : Text) → arg
 missing_fault R rows name word i k = rw (i, and_false (bytes_eq name names_id), k) refl
 
 -- a use that is settled
-pub name_settles : (R : List Rule) (rows : List Row) (word : Text) → arg_by_id R names_id ≡ Some names_built → settle_fault R false (held_of rows (Some (names_id, word ∷ []))) ≡ []
+pub name_settles : (R : List Rule) (rows : List Row) (word : Text) → arg_by_id R names_id ≡ Some names_built
+    → settle_fault R false (held_of rows (Some (names_id, word ∷ []))) ≡ []
 name_settles R rows word k = rw k refl
 
 pub value_settles : (R : List Rule) (rows : List Row) (name value : Text) → arg_by_id R name ≡ Some (option_built name) → has_row name rows ≡ false
@@ -217,15 +225,18 @@ pub value_repeats : (R : List Rule) (rows : List Row) (name value : Text) → ar
     → settle_fault R false (held_of rows (Some (name, value ∷ []))) ≡ kind.ArgumentConflict ∷ []
 value_repeats R rows name value k h = rw (k, h) refl
 
-pub attached_settles : (R : List Rule) (rows : List Row) (p : Pending) (name value : Text) → settle_fault R false (held_of rows p) ≡ [] → has_row name (settled_rows R p rows) ≡ false
+pub attached_settles : (R : List Rule) (rows : List Row) (p : Pending) (name value : Text) → settle_fault R false (held_of rows p) ≡ []
+    → has_row name (settled_rows R p rows) ≡ false
     → or_else (react_fault R false (option_built name) (value ∷ []) (held_of rows p)) [] ≡ []
 attached_settles R rows p name value s h = rw (s, h) refl
 
-pub attached_repeats : (R : List Rule) (rows : List Row) (p : Pending) (name value : Text) → settle_fault R false (held_of rows p) ≡ [] → has_row name (settled_rows R p rows) ≡ true
+pub attached_repeats : (R : List Rule) (rows : List Row) (p : Pending) (name value : Text) → settle_fault R false (held_of rows p) ≡ []
+    → has_row name (settled_rows R p rows) ≡ true
     → or_else (react_fault R false (option_built name) (value ∷ []) (held_of rows p)) [] ≡ kind.ArgumentConflict ∷ []
 attached_repeats R rows p name value s h = rw (s, h) refl
 
-pub settled_name : (R : List Rule) (rows : List Row) (word : Text) → arg_by_id R names_id ≡ Some names_built → settled_rows R (Some (names_id, word ∷ [])) rows ≡ used names_built (word ∷ []) rows
+pub settled_name : (R : List Rule) (rows : List Row) (word : Text) → arg_by_id R names_id ≡ Some names_built
+    → settled_rows R (Some (names_id, word ∷ [])) rows ≡ used names_built (word ∷ []) rows
 settled_name R rows word k = rw k refl
 
 pub settled_value : (R : List Rule) (rows : List Row) (name value : Text) → arg_by_id R name ≡ Some (option_built name)

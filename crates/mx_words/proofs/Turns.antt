@@ -95,13 +95,15 @@ text_tail x xs h = λ e.
     let bad : false ≡ true = sym (ap test e) ∙ h in
     absurd (cc)
 
-moved : (options : List Text) (rules : List Rule) (st to : State) (w v : Walk) (word : Text) → turn_fault (shape_of rules) [] w word ≡ [] → walked rules [] w word ≡ v
+moved : (options : List Text) (rules : List Rule) (st to : State) (w v : Walk) (word : Text) → turn_fault (shape_of rules) [] w word ≡ []
+    → walked rules [] w word ≡ v
     → after_word options st word ≡ to → Matches options rules to v → Turn options rules st w word
 moved options rules st to w v word f e s m =
     goes f (subst (λ x. Matches options rules x (walked rules [] w word)) (sym s) (subst (λ x. Matches options rules to x) (sym e) m))
 
 -- a name
-name_stands : (options : List Text) (rules : List Rule) (rows : List Row) (p : Pending) (q : Reading) (word : Text) (t : Bool) → Serves options rules → Holds (settled_rows rules p rows) q
+name_stands : (options : List Text) (rules : List Rule) (rows : List Row) (p : Pending) (q : Reading) (word : Text) (t : Bool) → Serves options rules
+    → Holds (settled_rows rules p rows) q
     → Stands rules (with_name q word) (stands_at (settled_rows rules p rows) (Some (names_id, word ∷ [])) true t) t
 name_stands options rules rows p q word t s h = record {
   rows = settled_rows rules p rows;
@@ -112,7 +114,8 @@ name_stands options rules rows p q word t s h = record {
   settles = name_settles rules (settled_rows rules p rows) word s.by_id;
 }
 
-value_stands : (options : List Text) (rules : List Rule) (rows : List Row) (name value : Text) (q : Reading) → IsKnown rules name → Holds rows q → has_row name rows ≡ false
+value_stands : (options : List Text) (rules : List Rule) (rows : List Row) (name value : Text) (q : Reading) → IsKnown rules name → Holds rows q
+    → has_row name rows ≡ false
     → Stands rules (with_value q name value) (stands_at rows (Some (name, value ∷ [])) false false) false
 value_stands options rules rows name value q k h none = record {
   rows = rows;
@@ -124,8 +127,10 @@ value_stands options rules rows name value q k h none = record {
 }
 
 -- `--name` and `--name=value`, of an option of the command
-long_known : (options : List Text) (rules : List Rule) (rows : List Row) (p : Pending) (b : Bool) (q : Reading) (word name : Text) (value : Option Text) → IsKnown rules name → is_known options name ≡ true
-    → bytes_eq word (45 ∷ 45 ∷ []) ≡ false → long_of word ≡ Some (name, value) → Holds (settled_rows rules p rows) q → settle_fault rules false (held_of rows p) ≡ []
+long_known : (options : List Text) (rules : List Rule) (rows : List Row) (p : Pending) (b : Bool) (q : Reading) (word name : Text) (value : Option Text)
+    → IsKnown rules name → is_known options name ≡ true
+    → bytes_eq word (45 ∷ 45 ∷ []) ≡ false → long_of word ≡ Some (name, value) → Holds (settled_rows rules p rows) q
+    → settle_fault rules false (held_of rows p) ≡ []
     → (g : Bool) → has_row name (settled_rows rules p rows) ≡ g → after_word options (ready q) word ≡ cond (not g) (after_option q name value) refused
     → Turn options rules (ready q) (stands_at rows p b false) word
 long_known options rules rows p b q word name (Some v) k o d l h s false none a =
@@ -150,8 +155,10 @@ long_known options rules rows p b q word name None k o d l h s true there a =
     (alone_fault rules rows p b word name k.long d l ∙ or_else_none _ s)
     (alone_walked rules rows p b word name k.long d l) a (again (settled_rows rules p rows) name refl o there)
 
-long_ready : (options : List Text) (rules : List Rule) (rows : List Row) (p : Pending) (b : Bool) (q : Reading) (z : ℕ) (zs : Text) → Serves options rules → Holds (settled_rows rules p rows) q
-    → settle_fault rules false (held_of rows p) ≡ [] → (o : Bool) → is_known options (name_and_value (z ∷ zs)).0 ≡ o → Turn options rules (ready q) (stands_at rows p b false) (45 ∷ 45 ∷ z ∷ zs)
+long_ready : (options : List Text) (rules : List Rule) (rows : List Row) (p : Pending) (b : Bool) (q : Reading) (z : ℕ) (zs : Text) → Serves options rules
+    → Holds (settled_rows rules p rows) q
+    → settle_fault rules false (held_of rows p) ≡ [] → (o : Bool) → is_known options (name_and_value (z ∷ zs)).0 ≡ o
+    → Turn options rules (ready q) (stands_at rows p b false) (45 ∷ 45 ∷ z ∷ zs)
 long_ready options rules rows p b q z zs s h e true o =
     let np : Text × Option Text = name_and_value (z ∷ zs) in
     let k = s.known np.0 o in
@@ -163,7 +170,8 @@ long_ready options rules rows p b q z zs s h e false o =
     stops (full kind.UnknownArgument _ (unknown_fault rules rows p b (45 ∷ 45 ∷ z ∷ zs) np.0 np.1 (s.unknown np.0 o) refl refl))
     (ap (λ x. cond (x && not (is_given np.0 q.given)) (after_option q np.0 np.1) refused) o)
 
-at_ready : (options : List Text) (rules : List Rule) (rows : List Row) (p : Pending) (b : Bool) (q : Reading) (word : Text) → Serves options rules → is_utf8 word ≡ true → Holds (settled_rows rules p rows) q
+at_ready : (options : List Text) (rules : List Rule) (rows : List Row) (p : Pending) (b : Bool) (q : Reading) (word : Text) → Serves options rules
+    → is_utf8 word ≡ true → Holds (settled_rows rules p rows) q
     → settle_fault rules false (held_of rows p) ≡ [] → Class word → Turn options rules (ready q) (stands_at rows p b false) word
 at_ready options rules rows p b q word s u h e (plain c) =
     moved options rules (ready q) (ready (with_name q word)) (stands_at rows p b false) _ word (name_fault rules rows p b word s.index c ∙ e) (name_walked rules rows p b word s.index c)
@@ -189,7 +197,8 @@ waits_long options rules rows name z zs s k false o =
     let np : Text × Option Text = name_and_value (z ∷ zs) in
     full kind.UnknownArgument _ (waits_unknown rules rows name (45 ∷ 45 ∷ z ∷ zs) np.0 np.1 (s.unknown np.0 o) refl refl)
 
-at_awaits : (options : List Text) (rules : List Rule) (rows : List Row) (name : Text) (q : Reading) (word : Text) → Serves options rules → is_utf8 word ≡ true → Holds rows q
+at_awaits : (options : List Text) (rules : List Rule) (rows : List Row) (name : Text) (q : Reading) (word : Text) → Serves options rules → is_utf8 word ≡ true
+    → Holds rows q
     → is_known options name ≡ true → has_row name rows ≡ false → Class word → Turn options rules (awaits name q) (waits_at rows name false) word
 at_awaits options rules rows name q word s u h k none (plain c) =
     moved options rules (awaits name q) (ready (with_value q name word)) (waits_at rows name false) _ word (value_fault rules rows name word c) (value_walked rules rows name word (s.known name k).by_id c)
@@ -204,15 +213,18 @@ at_awaits options rules rows name q word s u h k none (short x xs is n) =
     subst (λ y. Turn options rules (awaits name q) (waits_at rows name false) y) (sym is)
     (stops (full kind.UnknownArgument _ (waits_short rules rows name x xs s.short n (text_tail x xs (subst (λ y. is_utf8 y ≡ true) is u)))) refl)
 
-at_trailing : (options : List Text) (rules : List Rule) (rows : List Row) (p : Pending) (b : Bool) (q : Reading) (word : Text) → Serves options rules → Holds (settled_rows rules p rows) q
+at_trailing : (options : List Text) (rules : List Rule) (rows : List Row) (p : Pending) (b : Bool) (q : Reading) (word : Text) → Serves options rules
+    → Holds (settled_rows rules p rows) q
     → settle_fault rules false (held_of rows p) ≡ [] → Turn options rules (trailing q) (stands_at rows p b true) word
 at_trailing options rules rows p b q word s h e =
     moved options rules (trailing q) (trailing (with_name q word)) (stands_at rows p b true) _ word (trailing_fault rules rows p b word s.index ∙ e) (trailing_walked rules rows p b word s.index)
     refl (name_stands options rules rows p q word true s h)
 
 -- what is pending does not settle
-unsettled_long : (options : List Text) (rules : List Rule) (rows : List Row) (p : Pending) (b : Bool) (word name : Text) (value : Option Text) → Serves options rules → settle_fault rules false (held_of rows p) ≢ []
-    → bytes_eq word (45 ∷ 45 ∷ []) ≡ false → long_of word ≡ Some (name, value) → (o : Bool) → is_known options name ≡ o → turn_fault (shape_of rules) [] (stands_at rows p b false) word ≢ []
+unsettled_long : (options : List Text) (rules : List Rule) (rows : List Row) (p : Pending) (b : Bool) (word name : Text) (value : Option Text)
+    → Serves options rules → settle_fault rules false (held_of rows p) ≢ []
+    → bytes_eq word (45 ∷ 45 ∷ []) ≡ false → long_of word ≡ Some (name, value) → (o : Bool) → is_known options name ≡ o
+    → turn_fault (shape_of rules) [] (stands_at rows p b false) word ≢ []
 unsettled_long options rules rows p b word name value s n d l false o = full kind.UnknownArgument _ (unknown_fault rules rows p b word name value (s.unknown name o) d l)
 unsettled_long options rules rows p b word name (Some v) s n d l true o =
     λ e. or_else_fails _ _ (or_else_fails _ _ n) (sym (attached_fault rules rows p b word name v (s.known name o).long d l) ∙ e)
@@ -248,7 +260,8 @@ at_again options rules rows name word s u k there (short x xs is n) =
     subst (λ y. Turn options rules refused (waits_at rows name false) y) (sym is)
     (stops (full kind.UnknownArgument _ (waits_short rules rows name x xs s.short n (text_tail x xs (subst (λ y. is_utf8 y ≡ true) is u)))) refl)
 
-at_refused : (options : List Text) (rules : List Rule) (w : Walk) (word : Text) → Serves options rules → is_utf8 word ≡ true → Fails options rules w → Turn options rules refused w word
+at_refused : (options : List Text) (rules : List Rule) (w : Walk) (word : Text) → Serves options rules → is_utf8 word ≡ true → Fails options rules w
+    → Turn options rules refused w word
 at_refused options rules w word s u (unsettled rows p b true is n) =
     subst (λ x. Turn options rules refused x word) (sym is) (stops (λ e. n (sym (trailing_fault rules rows p b word s.index) ∙ e)) refl)
 at_refused options rules w word s u (unsettled rows p b false is n) =
@@ -258,7 +271,8 @@ at_refused options rules w word s u (again rows name is k there) =
 at_refused options rules w word s u (missing rows name is k) =
     subst (λ x. Turn options rules refused x word) (sym is) (stops (full kind.InvalidValue _ (missing_fault rules rows name word s.index (s.known name k).by_id)) refl)
 
-pub turn : (options : List Text) (rules : List Rule) (st : State) (w : Walk) (word : Text) → Serves options rules → is_utf8 word ≡ true → Matches options rules st w → Turn options rules st w word
+pub turn : (options : List Text) (rules : List Rule) (st : State) (w : Walk) (word : Text) → Serves options rules → is_utf8 word ≡ true
+    → Matches options rules st w → Turn options rules st w word
 turn options rules (ready q) w word s u m =
     subst (λ x. Turn options rules (ready q) x word) (sym m.is) (at_ready options rules m.rows m.pending m.calm q word s u m.holds m.settles (classify word))
 turn options rules (awaits name q) w word s u m =

@@ -49,13 +49,15 @@ from_nil : (options : List Text) (rules : List Rule) (w : Walk) → Serves optio
 unfolding walk_fault
 from_nil options rules w s = finish_is options rules w.held s
 
-waits_faults : (options : List Text) (rules : List Rule) (w : Walk) (rows : List Row) (name : Text) (t : Bool) → Serves options rules → w ≡ waits_at rows name t → is_known options name ≡ true → from rules w [] ≢ []
+waits_faults : (options : List Text) (rules : List Rule) (w : Walk) (rows : List Row) (name : Text) (t : Bool) → Serves options rules → w ≡ waits_at rows name t
+    → is_known options name ≡ true → from rules w [] ≢ []
 waits_faults options rules w rows name t s e k =
     let fault : from rules w [] ≡ kind.InvalidValue ∷ [] =
     ap (λ x. from rules x []) e ∙ from_nil options rules (waits_at rows name t) s ∙ no_value rules rows name (s.known name k).by_id in
     λ f. let bad : [] ≡ kind.InvalidValue ∷ [] = sym f ∙ fault in absurd (cc)
 
-stands_ends : (options : List Text) (rules : List Rule) (w : Walk) (q : Reading) (t : Bool) → Serves options rules → Stands rules q w t → Concludes (Some q) rules w []
+stands_ends : (options : List Text) (rules : List Rule) (w : Walk) (q : Reading) (t : Bool) → Serves options rules → Stands rules q w t
+    → Concludes (Some q) rules w []
 stands_ends options rules w q t s m = (
   ap (λ x. from rules x []) m.is ∙ from_nil options rules (stands_at m.rows m.pending m.calm t) s ∙ m.settles,
   subst (λ x. Holds (finished rules x.held) q) (sym m.is) (subst (λ r. Holds r q) (sym (s.defaults (settled_rows rules m.pending m.rows))) m.holds),
@@ -74,11 +76,13 @@ stays_refused : (options words : List Text) → ended (fold (after_word options)
 stays_refused options [] = refl
 stays_refused options (word ∷ rest) = stays_refused options rest
 
-same_from : (rules : List Rule) (w : Walk) (word : Text) (rest : List Text) → turn_fault (shape_of rules) [] w word ≡ [] → from rules w (word ∷ rest) ≡ from rules (walked rules [] w word) rest
+same_from : (rules : List Rule) (w : Walk) (word : Text) (rest : List Text) → turn_fault (shape_of rules) [] w word ≡ []
+    → from rules w (word ∷ rest) ≡ from rules (walked rules [] w word) rest
 unfolding walk_fault
 same_from rules w word rest h = rw h refl
 
-next_word : (r : Option Reading) (rules : List Rule) (w : Walk) (word : Text) (rest : List Text) → turn_fault (shape_of rules) [] w word ≡ [] → Concludes r rules (walked rules [] w word) rest → Concludes r rules w (word ∷ rest)
+next_word : (r : Option Reading) (rules : List Rule) (w : Walk) (word : Text) (rest : List Text) → turn_fault (shape_of rules) [] w word ≡ []
+    → Concludes r rules (walked rules [] w word) rest → Concludes r rules w (word ∷ rest)
 next_word (Some q) rules w word rest h c = (same_from rules w word rest h ∙ c.0, c.1)
 next_word None rules w word rest h c = λ f. c (sym (same_from rules w word rest h) ∙ f)
 
@@ -91,7 +95,8 @@ abbrev pub AreText : List Text → Type 0
 AreText [] = Unit {0}
 AreText (word ∷ rest) = (is_utf8 word ≡ true) × AreText rest
 
-concludes : (options : List Text) (rules : List Rule) (words : List Text) (st : State) (w : Walk) → Serves options rules → AreText words → Matches options rules st w
+concludes : (options : List Text) (rules : List Rule) (words : List Text) (st : State) (w : Walk) → Serves options rules → AreText words
+    → Matches options rules st w
     → Concludes (ended (fold (after_word options) st words)) rules w words
 concludes options rules [] st w s t m = ends options rules st w s m
 concludes options rules (word ∷ rest) st w s t m = elim (turn options rules st w word s t.0 m) [

@@ -20,10 +20,12 @@ known_nop : (n j : ℕ) → Nop ≡ Op j → j < n
 known_nop n j e = absurd (cc)
 
 -- a place within the plan, and what was put there
-put_at : (plan before after : Plan) (at : ℕ) (x : Item) → EndsAs plan (suc at) before → at < length (items_of plan) → (items_of after ≡ slice_set (items_of before) at x) × (after.place ≡ before.place) → IsPut before at x after
+put_at : (plan before after : Plan) (at : ℕ) (x : Item) → EndsAs plan (suc at) before → at < length (items_of plan)
+    → (items_of after ≡ slice_set (items_of before) at x) × (after.place ≡ before.place) → IsPut before at x after
 put_at plan before after at x kept l h = record { within = let size = kept.size in omega arith; items = h.0; place = h.1 }
 
-known_after : (block : Block) (before after : Plan) (at : ℕ) (x : Item) → ((k : ℕ) → x ≡ Op k → k < length (insts_of block)) → AreKnown block (items_of before) → items_of after ≡ slice_set (items_of before) at x → AreKnown block (items_of after)
+known_after : (block : Block) (before after : Plan) (at : ℕ) (x : Item) → ((k : ℕ) → x ≡ Op k → k < length (insts_of block)) → AreKnown block (items_of before)
+    → items_of after ≡ slice_set (items_of before) at x → AreKnown block (items_of after)
 known_after block before after at x fits known e = subst (AreKnown block) (sym e) (known_put block (items_of before) at x fits known)
 
 moved : (plan other : Plan) (from at : ℕ) → at ≡ from → EndsAs plan at other → EndsAs plan from other

@@ -7,7 +7,8 @@ use Rattle.mx_faults.proofs.shown.first_shown.Given as goal
 
 abbrev pub invariant-loop-rest : goal.invariant-loop-rest
 invariant-loop-rest l = record {
-  same : first_shown (kind_by l.labels) l.fault l.place (map role l.left) (map word l.rest) ≡ first_shown (kind_by l.labels) l.fault 1 (map role l.roles) (map word l.words);
+  same : first_shown (kind_by l.labels) l.fault l.place (map role l.left) (map word l.rest) ≡ first_shown (kind_by l.labels) l.fault 1 (map role l.roles)
+      (map word l.words);
   few : l.place + length l.rest ≡ length l.words + 1;
 }
 

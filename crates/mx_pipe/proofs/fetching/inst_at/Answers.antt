@@ -8,7 +8,9 @@ use Rattle.mx_code.specs.Delay.{Code, code_from, idle}
 use Rattle.mx_pipe.proofs.fetching.inst_at.Goals as goal
 
 -- the user's code is asked for from 4096 on alone
-chosen : (b : Bool) (x y : Option ℕ) → unwrap_or (option_and_then inst_of (cond b x y)) idle ≡ cond b (cond b (unwrap_or (option_and_then inst_of x) idle) idle) (unwrap_or (option_and_then inst_of y) idle)
+chosen : (b : Bool) (x y : Option ℕ)
+    → unwrap_or (option_and_then inst_of (cond b x y)) idle ≡ cond b (cond b (unwrap_or (option_and_then inst_of x) idle) idle)
+    (unwrap_or (option_and_then inst_of y) idle)
 chosen true x y = refl
 chosen false x y = refl
 

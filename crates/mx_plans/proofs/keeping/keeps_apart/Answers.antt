@@ -10,7 +10,8 @@ use Rattle.mx_validate.specs.Validity.{KeepsApart}
 use Rattle.mx_validate.proofs.Listed.{stands_at, at_stands, stands_within}
 use Rattle.mx_plans.proofs.keeping.keeps_apart.Goals as goal
 
-fed : (insts : List Inst) (items : List Item) (p k j : ℕ) (d : Item) → 1 ≤ p → p < length items → KeepsApart insts items → slice_index_or items (p - 1) d ≡ Op k → slice_index_or items p d ≡ Op j → feeds (inst_at insts k) (inst_at insts j) ≡ true → ⊥
+fed : (insts : List Inst) (items : List Item) (p k j : ℕ) (d : Item) → 1 ≤ p → p < length items → KeepsApart insts items → slice_index_or items (p - 1) d ≡ Op k
+    → slice_index_or items p d ≡ Op j → feeds (inst_at insts k) (inst_at insts j) ≡ true → ⊥
 fed insts items p k j d low l apart e f t =
     let P : ℕ → Type 0 = λ n. StandsAt items n j in
     let same : p ≡ suc (p - 1) = omega arith in

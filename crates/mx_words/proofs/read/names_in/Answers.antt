@@ -7,7 +7,8 @@ use Rattle.mx_words.specs.Command.{names_id, texts}
 use Rattle.mx_words.proofs.read.names_in.Goals as goal
 
 -- what `get_strs` gives
-names_are : (r : Option (List Text)) (f : Found) → r ≡ option_map raw_values (matched_of f names_id) → unwrap_or r [] ≡ unwrap_or (all_of names_id (rows_of f)) []
+names_are : (r : Option (List Text)) (f : Found) → r ≡ option_map raw_values (matched_of f names_id)
+    → unwrap_or r [] ≡ unwrap_or (all_of names_id (rows_of f)) []
 names_are r f e = ap (λ x. unwrap_or x []) (e ∙ raw_values-rows f names_id)
 
 pub returns-in-None : goal.returns-in-None

@@ -11,7 +11,8 @@ abbrev value_texts : List (Option (Bor Text)) → List (Option Text)
 value_texts = map (option_map (λ s. s.now))
 
 -- one value more
-more_values : (f : Text → Option Text) (options : List (Bor Text)) (values : List (Option (Bor Text))) (value : Option (Bor Text)) (i : ℕ) (d : Bor Text) → i < length options
+more_values : (f : Text → Option Text) (options : List (Bor Text)) (values : List (Option (Bor Text))) (value : Option (Bor Text)) (i : ℕ) (d : Bor Text)
+    → i < length options
     → value_texts values ≡ map f (texts (take i options)) → option_map (λ s. s.now) value ≡ f (get_or options i d).now
     → value_texts (values ++ value ∷ []) ≡ map f (texts (take (i + 1) options))
 more_values f options values value i d h before next =

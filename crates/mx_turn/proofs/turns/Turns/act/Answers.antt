@@ -69,7 +69,8 @@ module _ (g : given.Over) (c : After-wait g) (past : List ℕ) (before : Words) 
       c.wait.ensures.state past' before' (shown_of s5) (subst (λ x. g.C.FetchCache.holds x past') (sym (c.end-ended.ensures.cache ∙ c.show.ensures.cache ∙ c.commit-byte.ensures.cache)) holds)
       ∙ (λ k. let d : Machine = machine_of s3 past' before' (shown_is k) in let n : Machine = record d { counts = counts_is k } in waited resident n)
 
-  acts : g.C.FetchCache.holds s0.cache past' → s0.missed ≡ not (resident past s0.next.address) → machine_of s5 past' before' (shown_of s5) ≡ acted resident code s0.board.input m
+  acts : g.C.FetchCache.holds s0.cache past' → s0.missed ≡ not (resident past s0.next.address)
+      → machine_of s5 past' before' (shown_of s5) ≡ acted resident code s0.board.input m
   acts holds missed =
       acted_is resident code s0.board.input m reaches (machine_of s3 past' before' (shown_of s2)) (machine_of s5 past' before' (shown_of s5))
       s3.missed c.end-ended.result.squashed c.end-ended.result.taken
