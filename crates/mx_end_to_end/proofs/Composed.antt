@@ -21,13 +21,13 @@ use Rattle.mx_meaning.specs.Boards.{board}
 use Rattle.mx_link_laws.specs.Runs.{IsLaid, Linking, IsLinking, linked_run, Matches}
 use Rattle.mx_link_laws.proofs.Shown.{is_clean, halts_only, sends}
 use Rattle.mx_link_laws.proofs.Shown.{halts as halts_soon}
-use Rattle.mx_end_to_end.specs.EndToEnd.{source_run, IsUnstuck, linking, EndsAsMeant, MeansItsSource}
+use Rattle.mx_end_to_end.specs.EndToEnd.{source_run, IsUnstuck, EndsAsMeant, MeansItsSource}
 use Rattle.mx_end_to_end.proofs.Delays.{prefix_then, delay_sends, delay_halted}
 use Rattle.mx_end_to_end.proofs.Meanings.{meaning_sends, unstuck_before, halts_unstuck, sent_by_halt}
 
 module _ (source : SourceValue) (sites : List Site) (bytes : List ℕ) (laid : IsLaid source board sites) where
   abbrev l : Linking
-  l = linking source sites bytes
+  l = record { filling = from_target; source = source; place = board; sites = sites; bytes = bytes }
 
   is_linking : IsLinking l
   is_linking = record { laid = laid; filled = inl refl }
@@ -78,7 +78,7 @@ module _ (source : SourceValue) (sites : List Site) (bytes : List ℕ) (laid : I
         (is_clean l run.passed is_linking (unstuck_passed u)).1
         (meaning_sends source board bytes (run.passed + 64) (budget + 64) (let e = passed in omega arith)))
 
-    matches_on : (s : State) → EndsAs board run (D run.passed) → Matches l (D run.passed).core s → Matches l run.last.core s
+    matches_on : (s : State) → EndsAs board run (D run.passed) → Matches board sites (D run.passed).core s → Matches board sites run.last.core s
     matches_on s e h = record {
       registers = λ n some few. ap (λ (f : Words). f n) e.regs ∙ h.registers n some few;
       md = e.md ∙ h.md;

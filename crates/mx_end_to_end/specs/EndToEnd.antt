@@ -11,7 +11,7 @@ use Rattle.mx_order.specs.Laws.{IsPrefix}
 use Rattle.mx_turn.specs.Handler.{shipped}
 use Rattle.mx_turn.specs.Program.{Program, program_of}
 use Rattle.mx_turn.specs.Run.{Run, run_of, bound}
-use Rattle.mx_link_laws.specs.Runs.{IsLaid, Linking, Matches, block_ahead}
+use Rattle.mx_link_laws.specs.Runs.{IsLaid, Matches, block_ahead}
 use Rattle.mx_reorg.specs.Greedy.{IsGreedy}
 use Rattle.mx_asm.specs.Texts.{source_of, text_fault}
 use Rattle.mx_meaning.specs.Boards.{board}
@@ -29,15 +29,11 @@ source_run source sites requests bytes budget = run_of (source_program source si
 abbrev pub IsUnstuck : SourceValue → List ℕ → ℕ → Type 0
 IsUnstuck source bytes n = is_stuck (meaning source board bytes n).state.mark ≡ false
 
--- the source as it is linked at the board's place, its slots filled from their targets
-abbrev pub linking : SourceValue → List Site → List ℕ → Linking
-linking source sites bytes = record { filling = from_target; source = source; place = board; sites = sites; bytes = bytes }
-
 -- the meaning halts after n steps, and the run ends with its console and its state
 pub record EndsAsMeant (source : SourceValue) (sites : List Site) (bytes : List ℕ) (run : Run) (n : ℕ) : Type 0 where
   pub halts : HaltsIn source board bytes n
   pub console : run.console ≡ (meaning source board bytes n).console
-  pub state : Matches (linking source sites bytes) run.last.core (meaning source board bytes n).state
+  pub state : Matches board sites run.last.core (meaning source board bytes n).state
 
 -- The run does what the source means: it sends no more, it halts only where the meaning halts, and then with its state, and it halts and sends
 -- within the bound of cycles. A block runs in an order of its own and has 64 statements at most: so the meaning is not to get stuck in 64 steps more.

@@ -41,7 +41,7 @@ LinkedCodeIsClean =
 -- after j steps linked code shows what the meaning shows after n statements
 pub record Shows (l : Linking) (j n : ℕ) : Type 0 where
   pub console : (linked_run l j).console ≡ (meant l n).console
-  pub state : Matches l (linked_run l j).core (meant l n).state
+  pub state : Matches l.place l.sites (linked_run l j).core (meant l n).state
 
 pub record HaltsSoon (l : Linking) (n : ℕ) : Type 0 where
   pub steps : ℕ

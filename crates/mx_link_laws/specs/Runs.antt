@@ -69,9 +69,10 @@ linked_run l j = delay (code_in l) l.place (given l.source.input l.bytes) (data_
 abbrev pub RunsClean : Linking → ℕ → Type 0
 RunsClean l j = IsClean (code_in l) (inside l) l.place (given l.source.input l.bytes) (data_in l) j
 
--- the machine holds what the meaning holds: registers 1 to 31 and user data, places of code being their addresses, MD, and the number of input bytes taken
-pub record Matches (l : Linking) (core : Core) (s : State) : Type 0 where
-  pub registers : (n : ℕ) → 1 ≤ n → n ≤ 31 → core.regs n ≡ value_word (link_map l.place l.sites) (s.regs n)
-  pub user_data : (a : ℕ) → is_user l.place a ≡ true → core.mem a ≡ value_word (link_map l.place l.sites) (s.mem a)
+-- The machine holds what the meaning holds: registers 1 to 31 and user data, places of code being their addresses in a layout, MD, and
+-- the number of input bytes taken.
+pub record Matches (place : Place) (sites : List Site) (core : Core) (s : State) : Type 0 where
+  pub registers : (n : ℕ) → 1 ≤ n → n ≤ 31 → core.regs n ≡ value_word (link_map place sites) (s.regs n)
+  pub user_data : (a : ℕ) → is_user place a ≡ true → core.mem a ≡ value_word (link_map place sites) (s.mem a)
   pub md : core.md ≡ s.md
   pub taken : core.taken ≡ s.taken
