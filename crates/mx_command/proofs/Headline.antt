@@ -37,20 +37,27 @@ use Rattle.mx_command.specs.Headline.{Headline}
 
 module _ (held : Held) where
   -- a file that is held within its limit is read
-  pub read_is : (kind : FileKind) (name bytes : List ℕ) (next : List ℕ → Protocol) → Holds held kind name bytes → resolved (Reads kind name next) held ≡ resolved (next bytes) held
+  pub read_is :
+      (kind : FileKind) (name bytes : List ℕ) (next : List ℕ → Protocol) → Holds held kind name bytes
+      → resolved (Reads kind name next) held ≡ resolved (next bytes) held
   read_is kind name bytes next h =
       ap (λ o. answered kind (reading_of kind o) (λ b. resolved (next b) held)) h.there
-      ∙ ap (λ (r : Reading). answered kind r (λ b. resolved (next b) held)) (cond-false (nat_lt (limit_of kind) (length bytes)) TooLong (Given bytes) (within (limit_of kind) (length bytes) h.within))
+      ∙ ap (λ (r : Reading). answered kind r (λ b. resolved (next b) held))
+      (cond-false (nat_lt (limit_of kind) (length bytes)) TooLong (Given bytes) (within (limit_of kind) (length bytes) h.within))
     where
       within : (m n : ℕ) → n ≤ m → nat_lt m n ≡ false
       within m n l = grind (arith, nat_tests)
 
-  pub requests_are : (name : Option (List ℕ)) (requests : List ℕ) (next : List ℕ → Protocol) → AreRequests held name requests → resolved (requests_protocol name next) held ≡ resolved (next requests) held
+  pub requests_are :
+      (name : Option (List ℕ)) (requests : List ℕ) (next : List ℕ → Protocol) → AreRequests held name requests
+      → resolved (requests_protocol name next) held ≡ resolved (next requests) held
   requests_are None requests next h = ap (λ r. resolved (next r) held) (sym h)
   requests_are (Some name) requests next h =
       read_is Interrupts name h.0 (λ b. by_requests (requests_of b) next) h.1 ∙ ap (λ r. resolved (by_requests r next) held) h.2
 
-  pub input_is : (name : Option (List ℕ)) (bytes : List ℕ) (next : List ℕ → Protocol) → IsInput held name bytes → resolved (input_protocol name next) held ≡ resolved (next bytes) held
+  pub input_is :
+      (name : Option (List ℕ)) (bytes : List ℕ) (next : List ℕ → Protocol) → IsInput held name bytes
+      → resolved (input_protocol name next) held ≡ resolved (next bytes) held
   input_is None bytes next h = ap (λ r. resolved (next r) held) (sym h)
   input_is (Some name) bytes next h = read_is Input name bytes next h
 
@@ -77,7 +84,8 @@ module _ (asked : Option Command) (held : Held) (a : Accepted asked held) where
   answer_is layout_of is =
       ap (λ o. resolved (protocol_of layout_of o) held) a.asks
       ∙ read_is held Source a.name a.text (linked_protocol layout_of (run_protocol a.files a.limits)) a.is_text
-      ∙ ap (λ f. resolved (unless_faulty f (unless_overlong (overlong source board (blocks_in (layout_of source))) (next (layout_of source)))) held) a.faultless
+      ∙ ap (λ f. resolved (unless_faulty f (unless_overlong (overlong source board (blocks_in (layout_of source))) (next (layout_of source)))) held)
+      a.faultless
       ∙ ap (λ (s : List Site). resolved (unless_overlong (overlong source board (blocks_in s)) (next s)) held) (is source a.sites a.layout)
       ∙ ap (λ o. resolved (unless_overlong o (next a.sites)) held) a.reach
       ∙ requests_are held a.files.interrupts a.requests _ a.are_requests
@@ -88,7 +96,8 @@ module _ (asked : Option Command) (held : Held) (a : Accepted asked held) where
   means = text_means a.text a.sites a.requests a.input a.limits.budget a.faultless a.layout a.reach
 
   run_is_told : (result : Status) (tells : Bool) (told' : Told) (before after : Option (List ℕ))
-      → Delivered (program_answer (source_program source a.sites a.input) code_words a.requests a.limits) result (record { tells = tells; held = held }) told' before after
+      → Delivered (program_answer (source_program source a.sites a.input) code_words a.requests a.limits) result
+      (record { tells = tells; held = held }) told' before after
       → Headline asked held a result before after
   unfolding program_answer
   run_is_told result tells told' before after d = record {
@@ -101,7 +110,8 @@ module _ (asked : Option Command) (held : Held) (a : Accepted asked held) where
   }
 
   -- where the answer was delivered, the headline holds of it
-  pub delivered_is_headline : (layout_of : Layouts) → IsScheduler layout_of → (result : Status) (tells : Bool) (told' : Told) (before after : Option (List ℕ))
+  pub delivered_is_headline :
+      (layout_of : Layouts) → IsScheduler layout_of → (result : Status) (tells : Bool) (told' : Told) (before after : Option (List ℕ))
       → Delivered (resolved (protocol_of layout_of asked) held) result (record { tells = tells; held = held }) told' before after
       → Headline asked held a result before after
   delivered_is_headline layout_of is result tells told' before after d = run_is_told result tells told' before after

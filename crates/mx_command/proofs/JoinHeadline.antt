@@ -47,7 +47,8 @@ module _ (held : Held) where
   all_short [] [] number h = All-nil (λ (text : List ℕ). length text ≤ 4194304)
   all_short [] (text ∷ texts) number h = absurd h
   all_short (name ∷ names) [] number h = absurd h
-  all_short (name ∷ names) (text ∷ texts) number h = All-cons (λ (text : List ℕ). length text ≤ 4194304) text texts h.0.within (all_short names texts (number + 1) h.1)
+  all_short (name ∷ names) (text ∷ texts) number h =
+      All-cons (λ (text : List ℕ). length text ≤ 4194304) text texts h.0.within (all_short names texts (number + 1) h.1)
 
 module _ (asked : Option Command) (held : Held) (a : AcceptedModules asked held) where
   answer_is : (layout_of : Layouts) → resolved (protocol_of layout_of asked) held ≡ prints Done (printed (joined a.texts))
@@ -65,12 +66,14 @@ module _ (asked : Option Command) (held : Held) (a : AcceptedModules asked held)
   }
 
   text_is_told : (result : Status) (tells : Bool) (told' : Told) (before after : Option (List ℕ))
-      → Delivered (prints Done (printed (joined a.texts))) result (record { tells = tells; held = held }) told' before after → JoinHeadline asked held a result before after
+      → Delivered (prints Done (printed (joined a.texts))) result (record { tells = tells; held = held }) told' before after
+      → JoinHeadline asked held a result before after
   text_is_told result tells told' before after d = record {
     status = d.status;
     output = d.output;
     reads_back = λ short. joined_reads a.texts (are_joined short);
-    means = λ short bytes n. same_means (joined a.texts) (source_of 256 (printed (joined a.texts))) (joined_reads a.texts (are_joined short)).same board bytes n;
+    means = λ short bytes n. same_means (joined a.texts) (source_of 256 (printed (joined a.texts)))
+        (joined_reads a.texts (are_joined short)).same board bytes n;
   }
 
   -- where the answer was delivered, it is that text

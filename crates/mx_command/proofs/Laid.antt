@@ -29,14 +29,17 @@ pub faulty : (layout_of : Layouts) (next : AfterLayout) (text : List ℕ) (line 
     → linked_protocol layout_of next text ≡ Answers (prints Refused (fault_line line fault))
 faulty layout_of next text line fault e =
     let source = source_of 256 text in
-    ap (λ (found : Option (ℕ × Fault)). unless_faulty found (unless_overlong (overlong source board (blocks_in (layout_of source))) (next source (layout_of source)))) e
+    ap (λ (found : Option (ℕ × Fault)). unless_faulty found
+    (unless_overlong (overlong source board (blocks_in (layout_of source))) (next source (layout_of source)))) e
 
 -- a text without a fault
-unfaulty : (layout_of : Layouts) (next : AfterLayout) (text : List ℕ) (source : SourceValue) → text_fault 256 65536 text ≡ None → source ≡ source_of 256 text
+unfaulty :
+    (layout_of : Layouts) (next : AfterLayout) (text : List ℕ) (source : SourceValue) → text_fault 256 65536 text ≡ None → source ≡ source_of 256 text
     → linked_protocol layout_of next text ≡ unless_overlong (overlong source board (blocks_in (layout_of source))) (next source (layout_of source))
 unfaulty layout_of next text source e is =
     let read = source_of 256 text in
-    ap (λ (found : Option (ℕ × Fault)). unless_faulty found (unless_overlong (overlong read board (blocks_in (layout_of read))) (next read (layout_of read)))) e
+    ap (λ (found : Option (ℕ × Fault)). unless_faulty found
+    (unless_overlong (overlong read board (blocks_in (layout_of read))) (next read (layout_of read)))) e
     ∙ ap (λ (s : SourceValue). unless_overlong (overlong s board (blocks_in (layout_of s))) (next s (layout_of s))) (sym is)
 
 module _ (layout_of : Layouts) (is : IsScheduler layout_of) (source : SourceValue) where
@@ -47,22 +50,32 @@ module _ (layout_of : Layouts) (is : IsScheduler layout_of) (source : SourceValu
     too_long found t =
         let same : layout_of source ≡ t.sites = overlong_sites layout_of is source found t in
         unfaulty layout_of next text source e read
-        ∙ ap (λ (o : Option Overlong). unless_overlong o (next source (layout_of source))) (ap (λ (l : List Site). overlong source board (blocks_in l)) same ∙ t.is)
+        ∙ ap (λ (o : Option Overlong). unless_overlong o (next source (layout_of source)))
+        (ap (λ (l : List Site). overlong source board (blocks_in l)) same ∙ t.is)
 
     -- linked
     pub linked_text : (l : Linked) → IsLinked IsGreedy from_target source board l → linked_protocol layout_of next text ≡ next source (layout_of source)
     linked_text l k =
         let same : layout_of source ≡ k.sites = linked_sites layout_of is from_target source l k in
         unfaulty layout_of next text source e read
-        ∙ ap (λ (o : Option Overlong). unless_overlong o (next source (layout_of source))) (ap (λ (s : List Site). overlong source board (blocks_in s)) same ∙ k.reach)
+        ∙ ap (λ (o : Option Overlong). unless_overlong o (next source (layout_of source)))
+        (ap (λ (s : List Site). overlong source board (blocks_in s)) same ∙ k.reach)
 
   module _ (l : Linked) (k : IsLinked IsGreedy from_target source board l) where
-    pub run_linked : (files : Files) (limits : Limits) → machine_protocol files limits l.image.code.items l.image.user_data.items (is_some source.input) ≡ run_protocol files limits source (layout_of source)
+    pub run_linked :
+        (files : Files) (limits : Limits) → machine_protocol files limits l.image.code.items l.image.user_data.items (is_some source.input)
+        ≡ run_protocol files limits source (layout_of source)
     run_linked files limits =
         (λ i. machine_protocol files limits (k.code i) (k.user_data i) (is_some source.input))
         ∙ ap (run_protocol files limits source) (sym (linked_sites layout_of is from_target source l k))
 
-    pub contents_linked : ◌≡◌ {A = Contents} (record { code = l.image.code.items; user_data = l.image.user_data.items; input = is_some source.input; links = l.links.items }) (linked_contents source (layout_of source))
+    pub contents_linked :
+        ◌≡◌ {A = Contents} (record {
+          code = l.image.code.items;
+          user_data = l.image.user_data.items;
+          input = is_some source.input;
+          links = l.links.items;
+        }) (linked_contents source (layout_of source))
     contents_linked =
         (λ i. record { code = k.code i; user_data = k.user_data i; input = is_some source.input; links = k.links i })
         ∙ ap (linked_contents source) (sym (linked_sites layout_of is from_target source l k))

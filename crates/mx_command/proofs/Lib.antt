@@ -1,3 +1,4 @@
+pub mod Readings
 pub mod Own
 pub mod Ended
 pub mod GreedyLayouts

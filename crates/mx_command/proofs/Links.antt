@@ -28,21 +28,27 @@ origins_count : (s : Site) (c : Copied) (p : ℕ) (items : List Item) → length
 origins_count s c p [] = refl
 origins_count s c p (item ∷ items) = ap suc (origins_count s c (suc p) items)
 
-insts_count : (link : ℕ → ℕ) (statements : List Statement) (c : Copied) (at : ℕ) (origins : List Origin) → length (insts_from link statements c at origins) ≡ length origins
+insts_count :
+    (link : ℕ → ℕ) (statements : List Statement) (c : Copied) (at : ℕ) (origins : List Origin)
+    → length (insts_from link statements c at origins) ≡ length origins
 insts_count link statements c at [] = refl
 insts_count link statements c at (origin ∷ origins) = ap suc (insts_count link statements c (suc at) origins)
 
-flat_count : (words : Site → List Inst) → ((s : Site) → length (words s) ≡ plan_size s.plan) → (sites : List Site) → length (flat_map words sites) ≡ total sites
+flat_count :
+    (words : Site → List Inst) → ((s : Site) → length (words s) ≡ plan_size s.plan) → (sites : List Site)
+    → length (flat_map words sites) ≡ total sites
 unfolding total
 flat_count words each [] = refl
 flat_count words each (s ∷ sites) =
-    length-append (words s) (flat_map words sites) ∙ ap (λ n. n + length (flat_map words sites)) (each s) ∙ ap (λ n. plan_size s.plan + n) (flat_count words each sites)
+    length-append (words s) (flat_map words sites) ∙ ap (λ n. n + length (flat_map words sites)) (each s)
+    ∙ ap (λ n. plan_size s.plan + n) (flat_count words each sites)
 
 pub code_count : (filling : Filling) (source : SourceValue) (sites : List Site) → length (linked_code filling source board sites) ≡ total sites
 code_count filling source sites =
     length-map (insts_of filling (link_map board sites) source.statements sites) word_of_row
     ∙ flat_count (λ s. insts_from (link_map board sites) source.statements (filling sites s) s.start (origins_at s (filling sites s)))
-    (λ s. insts_count (link_map board sites) source.statements (filling sites s) s.start (origins_at s (filling sites s)) ∙ origins_count s (filling sites s) 0 (items_of s.plan))
+    (λ s. insts_count (link_map board sites) source.statements (filling sites s) s.start (origins_at s (filling sites s))
+    ∙ origins_count s (filling sites s) 0 (items_of s.plan))
     sites
 
 abbrev Between : ℕ → ℕ → ℕ → Type 0
@@ -70,7 +76,9 @@ links_all P link each i zero k d l = absurd (omega arith)
 links_all P link each i (suc n) zero d l = each i
 links_all P link each i (suc n) (suc k) d l = links_all P link each (suc i) n k d (omega arith)
 
-pub links_fit : (filling : Filling) (source : SourceValue) (sites : List Site) → IsSource source → LinksFit (length (linked_code filling source board sites)) (links_of source board sites)
+pub links_fit :
+    (filling : Filling) (source : SourceValue) (sites : List Site) → IsSource source
+    → LinksFit (length (linked_code filling source board sites)) (links_of source board sites)
 links_fit filling source sites is = record {
   few = (let count = links_count (link_map board sites) 0 (suc (length source.statements)) in let most = is.few_statements in omega arith);
   within = subst (λ (n : ℕ). All (IsLink n) (links_of source board sites)) (sym (code_count filling source sites))

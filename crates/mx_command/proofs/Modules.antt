@@ -15,32 +15,42 @@ use Rattle.mx_command.specs.Protocols.{join_answer, modules_protocol}
 -- what is performed by the names that are left, behind these texts, is performed by all names
 abbrev pub Continues : Told → List (List ℕ) → List (List ℕ) → List (List ℕ) → Counts → Counts → Type 0
 Continues told names left found before now =
-    (after : Counts) (answer : Answer) → Performed told (modules_protocol left found) now after answer → Performed told (modules_protocol names []) before after answer
+    (after : Counts) (answer : Answer) → Performed told (modules_protocol left found) now after answer
+    → Performed told (modules_protocol names []) before after answer
 
-module _ (told : Told) (names rest found : List (List ℕ)) (name : List ℕ) (number : ℕ) (before now later : Counts) (e : number ≡ length found + 1) (goes : Continues told names (name ∷ rest) found before now) where
+module _ (told : Told) (names rest found : List (List ℕ)) (name : List ℕ) (number : ℕ) (before now later : Counts) (e : number ≡ length found + 1)
+    (goes : Continues told names (name ∷ rest) found before now) where
   -- behind the next file
   pub reads_next : (text : List ℕ)
-      → ((next : List ℕ → Protocol) (after : Counts) (answer : Answer) → Performed told (next text) later after answer → Performed told (Reads (Module number) name next) now after answer)
+      → ((next : List ℕ → Protocol) (after : Counts) (answer : Answer) → Performed told (next text) later after answer
+      → Performed told (Reads (Module number) name next) now after answer)
       → Continues told names rest (found ++ text ∷ []) before later
   reads_next text given = λ after answer performed.
       let next : List ℕ → Protocol = λ t. modules_protocol rest (found ++ t ∷ []) in
       goes after answer (subst (λ n. Performed told (Reads (Module n) name next) now after answer) e (given next after answer performed))
 
   -- a fault of the next file is the answer
-  pub read_fails : (answer : Answer) → ((next : List ℕ → Protocol) → Performed told (Reads (Module number) name next) now later answer) → Performed told (modules_protocol names []) before later answer
+  pub read_fails :
+      (answer : Answer) → ((next : List ℕ → Protocol) → Performed told (Reads (Module number) name next) now later answer)
+      → Performed told (modules_protocol names []) before later answer
   read_fails answer failed =
       let next : List ℕ → Protocol = λ t. modules_protocol rest (found ++ t ∷ []) in
       goes later answer (subst (λ n. Performed told (Reads (Module n) name next) now later answer) e (failed next))
 
 -- behind the last file
-pub all_read : (told : Told) (names found : List (List ℕ)) (before now : Counts) → Continues told names [] found before now → Performed told (modules_protocol names []) before now (join_answer found)
+pub all_read :
+    (told : Told) (names found : List (List ℕ)) (before now : Counts) → Continues told names [] found before now
+    → Performed told (modules_protocol names []) before now (join_answer found)
 all_read told names found before now goes = goes now (join_answer found) (refl, refl)
 
 -- the name at a place is the first of those from there on
-left_more : (names : List (Bor (List ℕ))) (i : ℕ) (d : Bor (List ℕ)) → i < length names → texts (drop i names) ≡ (get_or names i d).now ∷ texts (drop (i + 1) names)
+left_more :
+    (names : List (Bor (List ℕ))) (i : ℕ) (d : Bor (List ℕ)) → i < length names
+    → texts (drop i names) ≡ (get_or names i d).now ∷ texts (drop (i + 1) names)
 left_more names i d lt = at_drop_more texts names i d lt
 
-module _ (told here : Told) (names : List (Bor (List ℕ))) (i : ℕ) (d : Bor (List ℕ)) (found : List (List ℕ)) (number : ℕ) (before now later : Counts) (lt : i < length names)
+module _ (told here : Told) (names : List (Bor (List ℕ))) (i : ℕ) (d : Bor (List ℕ)) (found : List (List ℕ)) (number : ℕ) (before now later : Counts)
+    (lt : i < length names)
     (e : number ≡ length found + 1) (same : here ≡ told) (goes : Continues told (texts names) (texts (drop i names)) found before now) where
   abbrev name : List ℕ
   name = (get_or names i d).now
@@ -50,20 +60,24 @@ module _ (told here : Told) (names : List (Bor (List ℕ))) (i : ℕ) (d : Bor (
 
   -- the file of the name at this place gives a text, and the next one is read
   pub next_is_read : (r : Result (Vec ℕ Global) Reply) (text : Vec ℕ Global) → r ≡ Ok text
-      → IfOk r (λ bytes. (next : List ℕ → Protocol) (after : Counts) (answer : Answer) → Performed here (next bytes.items) later after answer → Performed here (Reads (Module number) name next) now after answer)
+      → IfOk r (λ bytes. (next : List ℕ → Protocol) (after : Counts) (answer : Answer) → Performed here (next bytes.items) later after answer
+      → Performed here (Reads (Module number) name next) now after answer)
       → Continues told (texts names) (texts (drop (i + 1) names)) (found ++ text.items ∷ []) before later
   next_is_read r text is given =
       let by_text = subst
-      (λ q. IfOk q (λ bytes. (next : List ℕ → Protocol) (after : Counts) (answer : Answer) → Performed here (next bytes.items) later after answer → Performed here (Reads (Module number) name next) now after answer))
+      (λ q. IfOk q (λ bytes. (next : List ℕ → Protocol) (after : Counts) (answer : Answer) → Performed here (next bytes.items) later after answer
+      → Performed here (Reads (Module number) name next) now after answer))
       is given in
       reads_next told (texts names) (texts (drop (i + 1) names)) found name number before now later e goes_on text.items
-      (subst (λ (t : Told). (next : List ℕ → Protocol) (after : Counts) (answer : Answer) → Performed t (next text.items) later after answer → Performed t (Reads (Module number) name next) now after answer) same by_text)
+      (subst (λ (t : Told). (next : List ℕ → Protocol) (after : Counts) (answer : Answer) → Performed t (next text.items) later after answer
+      → Performed t (Reads (Module number) name next) now after answer) same by_text)
 
   -- or it has a fault, which is the answer
   pub next_fails : (r : Result (Vec ℕ Global) Reply) (reply : Reply) → r ≡ Err reply
       → IfErr r (λ given. (next : List ℕ → Protocol) → Performed here (Reads (Module number) name next) now later (reply_answer given))
       → Performed told (modules_protocol (texts names) []) before later (reply_answer reply)
   next_fails r reply is failed =
-      let by_reply = subst (λ q. IfErr q (λ given. (next : List ℕ → Protocol) → Performed here (Reads (Module number) name next) now later (reply_answer given))) is failed in
+      let by_reply = subst (λ q. IfErr q (λ given. (next : List ℕ → Protocol)
+      → Performed here (Reads (Module number) name next) now later (reply_answer given))) is failed in
       read_fails told (texts names) (texts (drop (i + 1) names)) found name number before now later e goes_on (reply_answer reply)
       (subst (λ (t : Told). (next : List ℕ → Protocol) → Performed t (Reads (Module number) name next) now later (reply_answer reply)) same by_reply)

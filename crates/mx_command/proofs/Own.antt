@@ -72,21 +72,28 @@ answers_program : (p : Program) (code requests : List ℕ) (limits : Limits) →
 unfolding program_answer
 answers_program p code requests limits = printed_answer _ _ (answered_ending _)
 
-answers_by_requests : (read : Result (List ℕ) EventError) (next : List ℕ → Protocol) → ((requests : List ℕ) → HasAnswers (next requests)) → HasAnswers (by_requests read next)
+answers_by_requests :
+    (read : Result (List ℕ) EventError) (next : List ℕ → Protocol) → ((requests : List ℕ) → HasAnswers (next requests))
+    → HasAnswers (by_requests read next)
 answers_by_requests (Ok requests) next has = has requests
 answers_by_requests (Err fault) next has = printed_answer _ _ refl
 
-answers_requests : (name : Option (List ℕ)) (next : List ℕ → Protocol) → ((requests : List ℕ) → HasAnswers (next requests)) → HasAnswers (requests_protocol name next)
+answers_requests :
+    (name : Option (List ℕ)) (next : List ℕ → Protocol) → ((requests : List ℕ) → HasAnswers (next requests))
+    → HasAnswers (requests_protocol name next)
 answers_requests None next has = has _
 answers_requests (Some name) next has = λ bytes. answers_by_requests (requests_of bytes) next has
 
-answers_input : (name : Option (List ℕ)) (next : List ℕ → Protocol) → ((bytes : List ℕ) → HasAnswers (next bytes)) → HasAnswers (input_protocol name next)
+answers_input :
+    (name : Option (List ℕ)) (next : List ℕ → Protocol) → ((bytes : List ℕ) → HasAnswers (next bytes)) → HasAnswers (input_protocol name next)
 answers_input None next has = has _
 answers_input (Some name) next has = has
 
-pub answers_machine : (files : Files) (limits : Limits) (code user_data : List ℕ) (asks : Bool) → HasAnswers (machine_protocol files limits code user_data asks)
+pub answers_machine :
+    (files : Files) (limits : Limits) (code user_data : List ℕ) (asks : Bool) → HasAnswers (machine_protocol files limits code user_data asks)
 answers_machine files limits code user_data asks =
-    answers_requests files.interrupts _ (λ requests. answers_input files.input _ (λ bytes. answers_program (program_of shipped code user_data (given asks bytes)) code requests limits))
+    answers_requests files.interrupts _ (λ requests. answers_input files.input _
+    (λ bytes. answers_program (program_of shipped code user_data (given asks bytes)) code requests limits))
 
 answered_mark : (m : Mark) → is_answered (status_of m) ≡ true
 answered_mark meant.Going = refl
@@ -105,7 +112,9 @@ answers_overlong : (found : Option Overlong) (next : Protocol) → HasAnswers ne
 answers_overlong (Some found) next has = printed_answer _ _ refl
 answers_overlong None next has = has
 
-answers_linked : (layout_of : Layouts) (next : AfterLayout) → ((source : SourceValue) → HasAnswers (next source (layout_of source))) → (text : List ℕ) → HasAnswers (linked_protocol layout_of next text)
+answers_linked :
+    (layout_of : Layouts) (next : AfterLayout) → ((source : SourceValue) → HasAnswers (next source (layout_of source))) → (text : List ℕ)
+    → HasAnswers (linked_protocol layout_of next text)
 answers_linked layout_of next has text = answers_faulty (text_fault 256 65536 text) _ (answers_overlong _ _ (has (source_of 256 text)))
 
 answers_refused : (refusal : Option ImageError) (next : Protocol) → HasAnswers next → HasAnswers (unless_refused refusal next)
@@ -120,7 +129,8 @@ answers_shared : (q : Program) (requests : List ℕ) (budget : ℕ) → IsAnswer
 unfolding shared_answer
 answers_shared q requests budget = printed_answer _ _ (answered_ending _)
 
-pub answers_sharing : (interrupts : Option (List ℕ)) (budget : ℕ) (code user_data : List ℕ) → HasAnswers (sharing_protocol interrupts budget code user_data)
+pub answers_sharing :
+    (interrupts : Option (List ℕ)) (budget : ℕ) (code user_data : List ℕ) → HasAnswers (sharing_protocol interrupts budget code user_data)
 answers_sharing interrupts budget code user_data = answers_requests interrupts _ (λ requests. answers_shared (shared code user_data) requests budget)
 
 answers_far : (program : ℕ) (found : Option Overlong) (next : Protocol) → HasAnswers next → HasAnswers (unless_far program found next)
@@ -131,13 +141,17 @@ answers_wrong : (program : ℕ) (cause : Option (List ℕ)) (next : Protocol) �
 answers_wrong program (Some cause) next has = printed_answer _ _ refl
 answers_wrong program None next has = has
 
-answers_pair : (layout_of : Layouts) (interrupts : Option (List ℕ)) (budget : ℕ) (first second : SourceValue) → HasAnswers (pair_protocol layout_of interrupts budget first second)
+answers_pair :
+    (layout_of : Layouts) (interrupts : Option (List ℕ)) (budget : ℕ) (first second : SourceValue)
+    → HasAnswers (pair_protocol layout_of interrupts budget first second)
 answers_pair layout_of interrupts budget first second =
     answers_far 1 (overlong first lower (blocks_in (layout_of first))) _
     (answers_far 2 (overlong second upper (blocks_in (upper_layout layout_of second))) _
     (answers_sharing interrupts budget (pair_code layout_of first second) (pair_data layout_of first second)))
 
-answers_assembled : (program : ℕ) (place : Place) (next : SourceValue → Protocol) → ((source : SourceValue) → HasAnswers (next source)) → (text : List ℕ) → HasAnswers (assembled_protocol program place next text)
+answers_assembled :
+    (program : ℕ) (place : Place) (next : SourceValue → Protocol) → ((source : SourceValue) → HasAnswers (next source)) → (text : List ℕ)
+    → HasAnswers (assembled_protocol program place next text)
 answers_assembled program place next has text = answers_wrong program (wrong_with place text) _ (has (source_of place.user_data text))
 
 pub answers_measured : (source : SourceValue) (sites : List Site) (found : Option (ℕ × Fault)) → IsAnswer (measured source sites found)
@@ -153,19 +167,26 @@ answers_session : (s : Session) → IsAnswer (session_answer s)
 unfolding session_answer
 answers_session s = printed_answer _ _ (answered_session _)
 
-answers_stopped : (files : Files) (limits : SessionLimits) (code user_data : List ℕ) (asks : Bool) (address : ℕ) → HasAnswers (session_protocol files limits code user_data asks address)
+answers_stopped :
+    (files : Files) (limits : SessionLimits) (code user_data : List ℕ) (asks : Bool) (address : ℕ)
+    → HasAnswers (session_protocol files limits code user_data asks address)
 answers_stopped files limits code user_data asks address =
     answers_requests files.interrupts _ (λ requests. answers_input files.input _ (λ bytes.
     answers_session (session (program_of shipped code user_data (given asks bytes)) requests address limits.stops limits.watch limits.budget)))
 
-answers_unlabelled : (name : List ℕ) (found : Option ℕ) (next : ℕ → Protocol) → ((index : ℕ) → HasAnswers (next index)) → HasAnswers (unless_unlabelled name found next)
+answers_unlabelled :
+    (name : List ℕ) (found : Option ℕ) (next : ℕ → Protocol) → ((index : ℕ) → HasAnswers (next index))
+    → HasAnswers (unless_unlabelled name found next)
 answers_unlabelled name None next has = printed_answer _ _ refl
 answers_unlabelled name (Some index) next has = has index
 
-answers_labelled : (layout_of : Layouts) (label : List ℕ) (files : Files) (limits : SessionLimits) (source : SourceValue) → HasAnswers (labelled_protocol layout_of label files limits source)
+answers_labelled :
+    (layout_of : Layouts) (label : List ℕ) (files : Files) (limits : SessionLimits) (source : SourceValue)
+    → HasAnswers (labelled_protocol layout_of label files limits source)
 answers_labelled layout_of label files limits source =
     answers_unlabelled label (statement_named source label) _ (λ index. answers_overlong _ _
-    (answers_stopped files limits (linked_code from_nowhere source board (layout_of source)) (linked_data source board (layout_of source)) (is_some source.input)
+    (answers_stopped files limits (linked_code from_nowhere source board (layout_of source)) (linked_data source board (layout_of source))
+    (is_some source.input)
     (link_map board (layout_of source) index)))
 
 answers_printed : (found : Option Refusal) (source : SourceValue) → IsAnswer (printed_unless found source)
@@ -180,9 +201,12 @@ pub has_answers : (layout_of : Layouts) (asked : Command) → HasAnswers (protoc
 has_answers layout_of (Run source files limits) =
     answers_linked layout_of (run_protocol files limits)
     (λ read. answers_machine files limits (linked_code from_target read board (layout_of read)) (linked_data read board (layout_of read)) (is_some read.input))
-has_answers layout_of (Meaning source steps input) = λ text. answers_faulty (text_fault 256 65536 text) _ (answers_input input _ (λ bytes. answers_meaning (source_of 256 text) board bytes steps))
-has_answers layout_of (Build source target) = answers_linked layout_of (build_protocol target) (λ read. written_answer target (file_bytes (linked_contents read (layout_of read))))
-has_answers layout_of (Exec image files limits) = λ bytes. answers_refused (file_refusal bytes) _ (answers_machine files limits (file_in bytes).code (file_in bytes).user_data (file_in bytes).input)
+has_answers layout_of (Meaning source steps input) =
+    λ text. answers_faulty (text_fault 256 65536 text) _ (answers_input input _ (λ bytes. answers_meaning (source_of 256 text) board bytes steps))
+has_answers layout_of (Build source target) =
+    answers_linked layout_of (build_protocol target) (λ read. written_answer target (file_bytes (linked_contents read (layout_of read))))
+has_answers layout_of (Exec image files limits) =
+    λ bytes. answers_refused (file_refusal bytes) _ (answers_machine files limits (file_in bytes).code (file_in bytes).user_data (file_in bytes).input)
 has_answers layout_of (Listing source) = answers_linked layout_of list_protocol (λ read. printed_answer Done (layout_listing read board (layout_of read)) refl)
 has_answers layout_of (Best source) = λ text. answers_measured (source_of 256 text) (layout_of (source_of 256 text)) (text_fault 256 65536 text)
 has_answers layout_of (Gen seed count) = printed_answer _ _ refl
@@ -216,14 +240,19 @@ pub own_answers : (layout_of : Layouts) (asked : Option Command) → HasOwnAnswe
 own_answers layout_of None = record { status = refl; done = λ h. absurd (cc) }
 own_answers layout_of (Some asked) = own_protocol (protocol_of layout_of (Some asked)) (has_answers layout_of asked)
 
-pub fault_is_replied : (shelf : Told) (kind : FileKind) (name : List ℕ) (before after : Counts) (answer : Answer) → IsFault shelf kind name before after answer → IsReplied answer
+pub fault_is_replied :
+    (shelf : Told) (kind : FileKind) (name : List ℕ) (before after : Counts) (answer : Answer) → IsFault shelf kind name before after answer
+    → IsReplied answer
 fault_is_replied shelf kind name before after answer (inl (is, why)) = inr (ap (λ a. a.status) is)
 fault_is_replied shelf kind name before after answer (inr (is, why)) = inr (ap (λ a. a.status) is)
 
-pub performed_is_replied : (shelf : Told) (p : Protocol) (before after : Counts) (answer : Answer) → HasAnswers p → Performed shelf p before after answer → IsReplied answer
+pub performed_is_replied :
+    (shelf : Told) (p : Protocol) (before after : Counts) (answer : Answer) → HasAnswers p → Performed shelf p before after answer → IsReplied answer
 performed_is_replied shelf (Answers given) before after answer has (same, is) = inl (ap (λ a. is_answered a.status) is ∙ has.answered)
-performed_is_replied shelf (Reads kind name next) before after answer has (between, read, inl (same, faulty)) = fault_is_replied shelf kind name before between answer faulty
-performed_is_replied shelf (Reads kind name next) before after answer has (between, read, inr (bytes, found, rest)) = performed_is_replied shelf (next bytes) between after answer (has bytes) rest
+performed_is_replied shelf (Reads kind name next) before after answer has (between, read, inl (same, faulty)) =
+    fault_is_replied shelf kind name before between answer faulty
+performed_is_replied shelf (Reads kind name next) before after answer has (between, read, inr (bytes, found, rest)) =
+    performed_is_replied shelf (next bytes) between after answer (has bytes) rest
 
 -- a reply has a status that can be put out
 pub replied_status : (answer : Answer) → IsReplied answer → HasStatus answer
@@ -237,7 +266,8 @@ replied_asks answer (inr is) e = let bad : ReadFault ≡ Usage = sym is ∙ e in
 
 -- what a command performs is what its value asks for
 pub by_command : (layout_of : Layouts) (shelf : Told) (before after : Counts) (answer : Answer) (asked meant : GivenCommand) → asked ≡ meant
-    → Performed shelf (protocol_of layout_of (Some (seen_command meant))) before after answer → Performed shelf (protocol_of layout_of (Some (seen_command asked))) before after answer
+    → Performed shelf (protocol_of layout_of (Some (seen_command meant))) before after answer
+    → Performed shelf (protocol_of layout_of (Some (seen_command asked))) before after answer
 by_command layout_of shelf before after answer asked meant is performed =
     subst (λ (c : GivenCommand). Performed shelf (protocol_of layout_of (Some (seen_command c))) before after answer) (sym is) performed
 

@@ -31,7 +31,8 @@ use Rattle.mx_command.proofs.Headline.{read_is, requests_are}
 use Rattle.mx_command.proofs.Pairs.{lower_is, upper_is}
 
 -- nothing is wrong with a text that may share the machine
-nothing_wrong : (place : Place) (text : List ℕ) (sites : List Site) → 256 ≤ place.user_data → IsSharingText place text sites → wrong_with place text ≡ None
+nothing_wrong :
+    (place : Place) (text : List ℕ) (sites : List Site) → 256 ≤ place.user_data → IsSharingText place text sites → wrong_with place text ≡ None
 nothing_wrong place text sites least s =
     let source = source_of place.user_data text in
     let each = (faultless_source place.user_data place.end text least place.ordered place.within s.faultless).a_line_each in
@@ -56,7 +57,9 @@ module _ (asked : Option Command) (held : Held) (a : AcceptedPair asked held) wh
   laid sites others = unless_far 1 (overlong first lower (blocks_in sites)) (unless_far 2 (overlong second upper (blocks_in others)) (run sites others))
 
   -- what the files determine is the answer of the run
-  answer_is : (layout_of : Layouts) → IsScheduler layout_of → resolved (protocol_of layout_of asked) held ≡ shared_answer (pair_program asked held a) a.requests a.budget
+  answer_is :
+      (layout_of : Layouts) → IsScheduler layout_of → resolved (protocol_of layout_of asked) held
+      ≡ shared_answer (pair_program asked held a) a.requests a.budget
   answer_is layout_of is =
       let pair : SourceValue → SourceValue → Protocol = pair_protocol layout_of a.interrupts a.budget in
       let others : SourceValue → Protocol = λ one. Reads Second a.second_name (assembled_protocol 2 upper (pair one)) in
@@ -65,8 +68,10 @@ module _ (asked : Option Command) (held : Held) (a : AcceptedPair asked held) wh
       ∙ ap (λ w. resolved (unless_wrong 1 w (others first)) held) (nothing_wrong lower a.first a.lower_sites (omega arith) a.first_shares)
       ∙ read_is held Second a.second_name a.second (assembled_protocol 2 upper (pair first)) a.is_second
       ∙ ap (λ w. resolved (unless_wrong 2 w (pair first second)) held) (nothing_wrong upper a.second a.upper_sites (omega arith) a.second_shares)
-      ∙ (λ k. resolved (laid (lower_is layout_of is first a.lower_sites a.first_shares.layout k) (upper_is layout_of is second a.upper_sites a.second_shares.layout k)) held)
-      ∙ ap (λ o. resolved (unless_far 1 o (unless_far 2 (overlong second upper (blocks_in a.upper_sites)) (run a.lower_sites a.upper_sites))) held) a.first_shares.reach
+      ∙ (λ k. resolved (laid (lower_is layout_of is first a.lower_sites a.first_shares.layout k)
+      (upper_is layout_of is second a.upper_sites a.second_shares.layout k)) held)
+      ∙ ap (λ o. resolved (unless_far 1 o (unless_far 2 (overlong second upper (blocks_in a.upper_sites)) (run a.lower_sites a.upper_sites))) held)
+      a.first_shares.reach
       ∙ ap (λ o. resolved (unless_far 2 o (run a.lower_sites a.upper_sites)) held) a.second_shares.reach
       ∙ requests_are held a.interrupts a.requests _ a.are_requests
 

@@ -64,8 +64,10 @@ moved_layout source sites l = record {
 }
 
 -- plans that are taken for greedy proposals are greedy
-pub placed_layout : (source : SourceValue) (place : Place) (proposals : List Plan) (p : IsPlaced IsGreedy source place proposals) → IsLayout IsGreedy source place p.sites
-placed_layout source place proposals p = record { blocks = p.layout.blocks; stand = p.layout.stand; plans = (kept_greedy p.rejected p.sites proposals p.kept).plans }
+pub placed_layout :
+    (source : SourceValue) (place : Place) (proposals : List Plan) (p : IsPlaced IsGreedy source place proposals) → IsLayout IsGreedy source place p.sites
+placed_layout source place proposals p =
+    record { blocks = p.layout.blocks; stand = p.layout.stand; plans = (kept_greedy p.rejected p.sites proposals p.kept).plans }
 
 module _ (layout_of : Layouts) (is : IsScheduler layout_of) (source : SourceValue) where
   pub lower_is : (sites : List Site) → IsLayout IsGreedy source lower sites → layout_of source ≡ sites
@@ -132,7 +134,9 @@ none_wrong None None None h = (refl, refl, refl)
 no_more : (xs : List ℕ) (n : ℕ) → slice_get xs n ≡ None → length xs ≤ n
 no_more xs n h = within (slice_get_cases xs n).1
   where
-    within : ((x : ℕ) × (n < length xs) × (slice_get xs n ≡ Some x) × (get_or xs n x ≡ x)) ⊎ ((length xs ≤ n) × (slice_get xs n ≡ None)) → length xs ≤ n
+    within :
+        ((x : ℕ) × (n < length xs) × (slice_get xs n ≡ Some x) × (get_or xs n x ≡ x)) ⊎ ((length xs ≤ n) × (slice_get xs n ≡ None))
+        → length xs ≤ n
     within (inl (x, inside, some, value)) = let bad : None ≡ Some x = sym h ∙ some in absurd (cc)
     within (inr (past, none)) = past
 

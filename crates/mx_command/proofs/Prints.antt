@@ -45,21 +45,27 @@ program_prints : (p : Program) (code requests : List ℕ) (limits : Limits) → 
 unfolding program_answer
 program_prints p code requests limits = refl
 
-requests_print : (read : Result (List ℕ) EventError) (next : List ℕ → Protocol) → ((requests : List ℕ) → OnlyPrints (next requests)) → OnlyPrints (by_requests read next)
+requests_print :
+    (read : Result (List ℕ) EventError) (next : List ℕ → Protocol) → ((requests : List ℕ) → OnlyPrints (next requests))
+    → OnlyPrints (by_requests read next)
 requests_print (Ok requests) next prints = prints requests
 requests_print (Err fault) next prints = refl
 
-files_print : (name : Option (List ℕ)) (next : List ℕ → Protocol) → ((requests : List ℕ) → OnlyPrints (next requests)) → OnlyPrints (requests_protocol name next)
+files_print :
+    (name : Option (List ℕ)) (next : List ℕ → Protocol) → ((requests : List ℕ) → OnlyPrints (next requests))
+    → OnlyPrints (requests_protocol name next)
 files_print None next prints = prints _
 files_print (Some name) next prints = λ bytes. requests_print (requests_of bytes) next prints
 
-input_prints : (name : Option (List ℕ)) (next : List ℕ → Protocol) → ((bytes : List ℕ) → OnlyPrints (next bytes)) → OnlyPrints (input_protocol name next)
+input_prints :
+    (name : Option (List ℕ)) (next : List ℕ → Protocol) → ((bytes : List ℕ) → OnlyPrints (next bytes)) → OnlyPrints (input_protocol name next)
 input_prints None next prints = prints _
 input_prints (Some name) next prints = prints
 
 machine_prints : (files : Files) (limits : Limits) (code user_data : List ℕ) (asks : Bool) → OnlyPrints (machine_protocol files limits code user_data asks)
 machine_prints files limits code user_data asks =
-    files_print files.interrupts _ (λ requests. input_prints files.input _ (λ bytes. program_prints (program_of shipped code user_data (given asks bytes)) code requests limits))
+    files_print files.interrupts _ (λ requests. input_prints files.input _
+    (λ bytes. program_prints (program_of shipped code user_data (given asks bytes)) code requests limits))
 
 meaning_prints : (source : SourceValue) (place : Place) (input : List ℕ) (n : ℕ) → (meaning_answer source place input n).file ≡ None
 unfolding meaning_answer
@@ -73,7 +79,9 @@ overlong_prints : (found : Option Overlong) (next : Protocol) → OnlyPrints nex
 overlong_prints (Some found) next prints = refl
 overlong_prints None next prints = prints
 
-linked_prints : (layout_of : Layouts) (next : AfterLayout) → ((source : SourceValue) → OnlyPrints (next source (layout_of source))) → (text : List ℕ) → OnlyPrints (linked_protocol layout_of next text)
+linked_prints :
+    (layout_of : Layouts) (next : AfterLayout) → ((source : SourceValue) → OnlyPrints (next source (layout_of source))) → (text : List ℕ)
+    → OnlyPrints (linked_protocol layout_of next text)
 linked_prints layout_of next prints text = faulty_prints (text_fault 256 65536 text) _ (overlong_prints _ _ (prints (source_of 256 text)))
 
 refused_prints : (refusal : Option ImageError) (next : Protocol) → OnlyPrints next → OnlyPrints (unless_refused refusal next)
@@ -92,13 +100,17 @@ wrong_prints : (program : ℕ) (cause : Option (List ℕ)) (next : Protocol) →
 wrong_prints program (Some cause) next prints = refl
 wrong_prints program None next prints = prints
 
-pair_prints : (layout_of : Layouts) (interrupts : Option (List ℕ)) (budget : ℕ) (first second : SourceValue) → OnlyPrints (pair_protocol layout_of interrupts budget first second)
+pair_prints :
+    (layout_of : Layouts) (interrupts : Option (List ℕ)) (budget : ℕ) (first second : SourceValue)
+    → OnlyPrints (pair_protocol layout_of interrupts budget first second)
 pair_prints layout_of interrupts budget first second =
     far_prints 1 (overlong first lower (blocks_in (layout_of first))) _
     (far_prints 2 (overlong second upper (blocks_in (upper_layout layout_of second))) _
     (files_print interrupts _ (λ requests. shared_prints (shared (pair_code layout_of first second) (pair_data layout_of first second)) requests budget)))
 
-assembled_prints : (program : ℕ) (place : Place) (next : SourceValue → Protocol) → ((source : SourceValue) → OnlyPrints (next source)) → (text : List ℕ) → OnlyPrints (assembled_protocol program place next text)
+assembled_prints :
+    (program : ℕ) (place : Place) (next : SourceValue → Protocol) → ((source : SourceValue) → OnlyPrints (next source)) → (text : List ℕ)
+    → OnlyPrints (assembled_protocol program place next text)
 assembled_prints program place next prints text = wrong_prints program (wrong_with place text) _ (prints (source_of place.user_data text))
 
 measured_prints : (source : SourceValue) (sites : List Site) (found : Option (ℕ × Fault)) → (measured source sites found).file ≡ None
@@ -109,16 +121,22 @@ session_prints : (s : Session) → (session_answer s).file ≡ None
 unfolding session_answer
 session_prints s = refl
 
-stopped_prints : (files : Files) (limits : SessionLimits) (code user_data : List ℕ) (asks : Bool) (address : ℕ) → OnlyPrints (session_protocol files limits code user_data asks address)
+stopped_prints :
+    (files : Files) (limits : SessionLimits) (code user_data : List ℕ) (asks : Bool) (address : ℕ)
+    → OnlyPrints (session_protocol files limits code user_data asks address)
 stopped_prints files limits code user_data asks address =
     files_print files.interrupts _ (λ requests. input_prints files.input _ (λ bytes.
     session_prints (session (program_of shipped code user_data (given asks bytes)) requests address limits.stops limits.watch limits.budget)))
 
-unlabelled_prints : (name : List ℕ) (found : Option ℕ) (next : ℕ → Protocol) → ((index : ℕ) → OnlyPrints (next index)) → OnlyPrints (unless_unlabelled name found next)
+unlabelled_prints :
+    (name : List ℕ) (found : Option ℕ) (next : ℕ → Protocol) → ((index : ℕ) → OnlyPrints (next index))
+    → OnlyPrints (unless_unlabelled name found next)
 unlabelled_prints name None next prints = refl
 unlabelled_prints name (Some index) next prints = prints index
 
-labelled_prints : (layout_of : Layouts) (label : List ℕ) (files : Files) (limits : SessionLimits) (source : SourceValue) → OnlyPrints (labelled_protocol layout_of label files limits source)
+labelled_prints :
+    (layout_of : Layouts) (label : List ℕ) (files : Files) (limits : SessionLimits) (source : SourceValue)
+    → OnlyPrints (labelled_protocol layout_of label files limits source)
 labelled_prints layout_of label files limits source =
     unlabelled_prints label (statement_named source label) _ (λ index. overlong_prints _ _
     (stopped_prints files limits (linked_code from_nowhere source board (layout_of source)) (linked_data source board (layout_of source)) (is_some source.input)

@@ -24,7 +24,8 @@ module _ (layout_of : Layouts) (is : IsScheduler layout_of) (source : SourceValu
   abbrev after : ℕ → Protocol
   after index = unless_overlong (overlong source board (blocks_in (layout_of source))) (stopped_protocol files limits index source (layout_of source))
 
-  pub unlabelled : statement_named source label ≡ None → labelled_protocol layout_of label files limits source ≡ Answers (prints Refused (no_label_line label))
+  pub unlabelled :
+      statement_named source label ≡ None → labelled_protocol layout_of label files limits source ≡ Answers (prints Refused (no_label_line label))
   unlabelled e = ap (λ (o : Option ℕ). unless_unlabelled label o after) e
 
   module _ (index : ℕ) (named : statement_named source label ≡ Some index) where
@@ -37,7 +38,8 @@ module _ (layout_of : Layouts) (is : IsScheduler layout_of) (source : SourceValu
         (ap (λ (l : List Site). overlong source board (blocks_in l)) same ∙ t.is)
 
     pub linked_plain : (l : Linked) (k : IsLinked IsGreedy from_nowhere source board l)
-        → session_protocol files limits l.image.code.items l.image.user_data.items (is_some source.input) (link_map board k.sites index) ≡ labelled_protocol layout_of label files limits source
+        → session_protocol files limits l.image.code.items l.image.user_data.items (is_some source.input) (link_map board k.sites index)
+        ≡ labelled_protocol layout_of label files limits source
     linked_plain l k =
         let same : layout_of source ≡ k.sites = linked_sites layout_of is from_nowhere source l k in
         (λ i. session_protocol files limits (k.code i) (k.user_data i) (is_some source.input) (link_map board k.sites index))

@@ -53,7 +53,8 @@ labelled_by (p ∷ labels) name i e = ⊎_elim
     let here : Some p.1 ≡ Some (Code i) = sym (cond-true (bytes_eq name p.0) (Some p.1) (label_named labels name) h) ∙ e in
     let same : p.1 ≡ Code i = cc here in
     ap (λ b. b || is_labelled labels i) (same_index i p.1 same))
-    (λ h. either_way (names_index i p.1) (is_labelled labels i) (labelled_by labels name i (sym (cond-false (bytes_eq name p.0) (Some p.1) (label_named labels name) h) ∙ e)))
+    (λ h. either_way (names_index i p.1) (is_labelled labels i)
+    (labelled_by labels name i (sym (cond-false (bytes_eq name p.0) (Some p.1) (label_named labels name) h) ∙ e)))
     (cases_Bool (bytes_eq name p.0))
 
 -- a statement that was found stands at a label
@@ -65,7 +66,9 @@ found_at : (count i j : ℕ) (b : Bool) → ltb j count ≡ b → cond b (Some j
 found_at count i j true e h = (cc h, grind (arith, nat_tests, e))
 found_at count i j false e h = absurd (cc h)
 
-found_by : (labels : List (List ℕ × Label)) (name : List ℕ) (count i : ℕ) (l : Option Label) → label_named labels name ≡ l → option_and_then (statement_at count) l ≡ Some i → Found labels count i
+found_by :
+    (labels : List (List ℕ × Label)) (name : List ℕ) (count i : ℕ) (l : Option Label) → label_named labels name ≡ l
+    → option_and_then (statement_at count) l ≡ Some i → Found labels count i
 found_by labels name count i None e h = absurd (cc h)
 found_by labels name count i (Some (Data a)) e h = absurd (cc h)
 found_by labels name count i (Some (Code j)) e h =
@@ -78,7 +81,9 @@ found_by labels name count i (Some (Code j)) e h =
 -- a labelled statement is a leader
 labelled_leads : (source : SourceValue) (i : ℕ) → is_labelled source.labels i ≡ true → is_leader source i ≡ true
 labelled_leads source zero h = refl
-labelled_leads source (suc i) h = ap (λ b. eqb (cond (b || (ends_there (slice_get source.statements i) || eqb (gap (is_labelled source.labels) source.statements i) 63)) 0 (suc (gap (is_labelled source.labels) source.statements i))) 0) h
+labelled_leads source (suc i) h =
+    ap (λ b. eqb (cond (b || (ends_there (slice_get source.statements i) || eqb (gap (is_labelled source.labels) source.statements i) 63)) 0
+    (suc (gap (is_labelled source.labels) source.statements i))) 0) h
 
 user_word : (a : ℕ) → 256 ≤ a → a ≤ 65535 → is_user board a ≡ true
 user_word a low high = grind (arith, nat_tests)
@@ -99,7 +104,8 @@ module _ (asked : Option Command) (held : Held) (a : AcceptedStops asked held) w
   -- what the files determine is the answer of the session
   answer_is : (layout_of : Layouts) → IsScheduler layout_of → resolved (protocol_of layout_of asked) held ≡ session_answer (accepted_session asked held a)
   answer_is layout_of is =
-      let after : ℕ → Protocol = λ index. unless_overlong (overlong source board (blocks_in (layout_of source))) (stopped_protocol a.files a.limits index source (layout_of source)) in
+      let after : ℕ → Protocol = λ index. unless_overlong (overlong source board (blocks_in (layout_of source)))
+      (stopped_protocol a.files a.limits index source (layout_of source)) in
       ap (λ o. resolved (protocol_of layout_of o) held) a.asks
       ∙ read_is held Source a.name a.text (debug_protocol layout_of a.label a.files a.limits) a.is_text
       ∙ ap (λ f. resolved (unless_faulty f (labelled_protocol layout_of a.label a.files a.limits source)) held) a.faultless
@@ -108,7 +114,8 @@ module _ (asked : Option Command) (held : Held) (a : AcceptedStops asked held) w
       ∙ ap (λ o. resolved (unless_overlong o (next a.sites)) held) a.reach
       ∙ requests_are held a.files.interrupts a.requests _ a.are_requests
       ∙ input_is held a.files.input a.input _ a.is_input
-      ∙ ap (λ i. session_answer (session (program_of shipped code_words data_words i) a.requests (link_map board a.sites a.index) a.limits.stops a.limits.watch a.limits.budget)) (given_is source.input a.input)
+      ∙ ap (λ i. session_answer (session (program_of shipped code_words data_words i) a.requests
+      (link_map board a.sites a.index) a.limits.stops a.limits.watch a.limits.budget)) (given_is source.input a.input)
 
   means : IsUnstuck source a.input (a.limits.budget + 64) → StopsAsMeant (accepted_stops asked held a)
   means unstuck =
@@ -126,7 +133,8 @@ module _ (asked : Option Command) (held : Held) (a : AcceptedStops asked held) w
   session_is_told result tells told' before after d = record { status = d.status; output = d.output; means = means }
 
   -- where the answer was delivered, it is that of such a session
-  pub delivered_is_stops : (layout_of : Layouts) → IsScheduler layout_of → (result : Status) (tells : Bool) (told' : Told) (before after : Option (List ℕ))
+  pub delivered_is_stops :
+      (layout_of : Layouts) → IsScheduler layout_of → (result : Status) (tells : Bool) (told' : Told) (before after : Option (List ℕ))
       → Delivered (resolved (protocol_of layout_of asked) held) result (record { tells = tells; held = held }) told' before after
       → StopsHeadline asked held a result before after
   delivered_is_stops layout_of is result tells told' before after d = session_is_told result tells told' before after

@@ -21,12 +21,14 @@ returns-in-Err-clause-performed g c = λ layout_of is.
     let source = c.args.source.now in
     let named : statement_named source c.args.label.now ≡ Some c.in-Some.index = sym c.in-Some.ensures.statement in
     let found = subst
-    (λ r. IfErr r (λ reply. (found : Overlong) × IsOverlong IsGreedy source board found × (reply_answer reply ≡ prints Refused (overlong_line found.line found.from found.to))))
+    (λ r. IfErr r (λ reply. (found : Overlong) × IsOverlong IsGreedy source board found
+    × (reply_answer reply ≡ prints Refused (overlong_line found.line found.from found.to))))
     c.in-Err.is c.in_ok-linked.ensures.refused in
     let told : Told = g.S.Shelf.told c.args.shelf.now in
     let before : Counts = g.S.Shelf.counts c.args.shelf.now in
     subst (λ (p : Protocol). Performed told p before before (reply_answer c.in-Err.reply))
-    (sym (too_far layout_of is source c.args.label.now (seen_files c.args.files.now) c.args.limits.now c.in-Some.index named found.0 found.1 ∙ ap Answers (sym found.2)))
+    (sym (too_far layout_of is source c.args.label.now (seen_files c.args.files.now) c.args.limits.now c.in-Some.index named found.0 found.1
+    ∙ ap Answers (sym found.2)))
     (refl, refl)
 
 pub returns-clause-performed : goal.returns-clause-performed
@@ -39,7 +41,8 @@ returns-clause-performed g c = λ layout_of is.
     let told : Told = g.S.Shelf.told c.args.shelf.now in
     let before : Counts = g.S.Shelf.counts c.args.shelf.now in
     let last : Counts = g.S.Shelf.counts c.debug_image.new.shelf in
-    let k : IsLinked IsGreedy from_nowhere source board linked = subst (λ r. IfOk r (λ l. IsLinked IsGreedy from_nowhere source board l)) c.in-Ok.is c.in_ok-linked.ensures.linked in
+    let k : IsLinked IsGreedy from_nowhere source board linked =
+    subst (λ r. IfOk r (λ l. IsLinked IsGreedy from_nowhere source board l)) c.in-Ok.is c.in_ok-linked.ensures.linked in
     let asks = c.is_some-asks.ensures ∙ ap is_some c.input.ensures in
     subst (λ (p : Protocol). Performed told p before last (reply_answer c.in_ok-reply-2.reply))
     ((λ i. session_protocol files limits linked.image.code.items linked.image.user_data.items (asks i) (c.address_of-address.ensures.address k i))

@@ -29,7 +29,8 @@ returns-then-eq-clause-statement c =
     c.statement_at.ensures
     ∙ (λ k. statement_at (length (c.statements-count.ensures.value k)) label)
     ∙ sym (ap (option_and_then (statement_at (length c.args.source.now.statements))) named)
-    ∙ (λ k. option_and_then (statement_at (length c.args.source.now.statements)) (label_named (c.labels-labels.ensures.value k) (c.as_bytes-wanted.ensures.value k)))
+    ∙ (λ k. option_and_then (statement_at (length c.args.source.now.statements))
+    (label_named (c.labels-labels.ensures.value k) (c.as_bytes-wanted.ensures.value k)))
 
 pub loop-i-preserved : goal.loop-i-preserved
 loop-i-preserved c =
@@ -49,7 +50,9 @@ returns-clause-statement c =
     let labels = named_labels entries in
     let i = c.loop-i.i in
     let wanted = c.as_bytes-wanted.result.now in
-    let past : length labels ≤ i = (let n : length labels ≡ length entries = length-map entries (λ p. (name_bytes p.0, p.1)) in omega (arith, n, c.len-i-end.ensures.len, c.loop-i-test.false)) in
+    let past : length labels ≤ i = (let n : length labels ≡ length entries = length-map entries (λ p. (name_bytes p.0, p.1)) in
+    omega (arith, n, c.len-i-end.ensures.len, c.loop-i-test.false)) in
     let named : label_named labels wanted ≡ None = c.loop-i.invariant ∙ none_named labels wanted i past in
     sym (ap (option_and_then (statement_at (length c.args.source.now.statements))) named)
-    ∙ (λ k. option_and_then (statement_at (length c.args.source.now.statements)) (label_named (c.labels-labels.ensures.value k) (c.as_bytes-wanted.ensures.value k)))
+    ∙ (λ k. option_and_then (statement_at (length c.args.source.now.statements))
+    (label_named (c.labels-labels.ensures.value k) (c.as_bytes-wanted.ensures.value k)))

@@ -6,6 +6,7 @@ use Rattle.mx_answer.specs.Protocol.{Protocol, Reads, Performed}
 use Rattle.mx_answer.specs.Replies.{reply_answer}
 use Rattle.mx_simulate.specs.Machines.{Files}
 use Rattle.mx_command.specs.Protocols.{exec_protocol}
+use Rattle.mx_command.proofs.Readings.{FileGiven, FileRefused}
 use Rattle.mx_command.proofs.images.exec_reply.Goals as goal
 
 pub returns-in-Err-clause-performed : goal.returns-in-Err-clause-performed
@@ -16,7 +17,7 @@ returns-in-Err-clause-performed g c =
     let files : Files = record { interrupts = option_map (λ s. s.now) c.args.files.now.interrupts; input = option_map (λ s. s.now) c.args.files.now.input } in
     let next : List ℕ → Protocol = exec_protocol files c.args.limits.now in
     subst
-    (λ r. IfErr r (λ reply. (next : List ℕ → Protocol) → Performed told (Reads Image c.args.image.now next) before between (reply_answer reply)))
+    (λ r. IfErr r (FileRefused told Image c.args.image.now before between))
     c.in-Err.is c.in_ok-bytes.ensures.refused next
 
 pub returns-clause-performed : goal.returns-clause-performed
@@ -30,8 +31,10 @@ returns-clause-performed g c =
     let next : List ℕ → Protocol = exec_protocol files c.args.limits.now in
     let same : told_between ≡ told = c.in_ok-bytes.ensures.told_stays in
     let by_bytes = subst
-    (λ r. IfOk r (λ bytes. (next : List ℕ → Protocol) (after : Counts) (answer : Answer) → Performed told (next bytes.items) between after answer → Performed told (Reads Image c.args.image.now next) before after answer))
+    (λ r. IfOk r (λ bytes. FileGiven told Image c.args.image.now before between bytes.items))
     c.in-Ok.is c.in_ok-bytes.ensures.given in
     let ran : Performed told_between (next c.in-Ok.bytes.items) between last (reply_answer c.in_ok-reply.reply) =
-    subst (λ bytes. Performed told_between (next bytes) between last (reply_answer c.in_ok-reply.reply)) c.as_slice.ensures.value c.in_ok-reply.ensures.performed in
-    by_bytes next last (reply_answer c.in_ok-reply.reply) (subst (λ t. Performed t (next c.in-Ok.bytes.items) between last (reply_answer c.in_ok-reply.reply)) same ran)
+    subst (λ bytes. Performed told_between (next bytes) between last (reply_answer c.in_ok-reply.reply)) c.as_slice.ensures.value
+    c.in_ok-reply.ensures.performed in
+    by_bytes next last (reply_answer c.in_ok-reply.reply) (subst
+    (λ t. Performed t (next c.in-Ok.bytes.items) between last (reply_answer c.in_ok-reply.reply)) same ran)

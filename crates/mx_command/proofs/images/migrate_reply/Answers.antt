@@ -5,6 +5,7 @@ use Rattle.mx_io.specs.Shelves.{Told, Counts}
 use Rattle.mx_answer.specs.Protocol.{Protocol, Answers, Reads, Performed}
 use Rattle.mx_answer.specs.Replies.{reply_answer}
 use Rattle.mx_command.specs.Protocols.{migrate_answer}
+use Rattle.mx_command.proofs.Readings.{FileGiven, FileRefused}
 use Rattle.mx_command.proofs.images.migrate_reply.Goals as goal
 
 pub returns-in-Err-clause-performed : goal.returns-in-Err-clause-performed
@@ -14,7 +15,7 @@ returns-in-Err-clause-performed g c =
     let between : Counts = g.S.Shelf.counts c.read_named.new.shelf in
     let next : List ℕ → Protocol = λ bytes. Answers (migrate_answer c.args.target.now bytes) in
     subst
-    (λ r. IfErr r (λ reply. (next : List ℕ → Protocol) → Performed told (Reads Image c.args.image.now next) before between (reply_answer reply)))
+    (λ r. IfErr r (FileRefused told Image c.args.image.now before between))
     c.in-Err.is c.in_ok-bytes.ensures.refused next
 
 pub returns-clause-performed : goal.returns-clause-performed
@@ -24,7 +25,7 @@ returns-clause-performed g c =
     let between : Counts = g.S.Shelf.counts c.read_named.new.shelf in
     let next : List ℕ → Protocol = λ bytes. Answers (migrate_answer c.args.target.now bytes) in
     let by_bytes = subst
-    (λ r. IfOk r (λ bytes. (next : List ℕ → Protocol) (after : Counts) (answer : Answer) → Performed told (next bytes.items) between after answer → Performed told (Reads Image c.args.image.now next) before after answer))
+    (λ r. IfOk r (λ bytes. FileGiven told Image c.args.image.now before between bytes.items))
     c.in-Ok.is c.in_ok-bytes.ensures.given in
     let answered : reply_answer c.in_ok-reply.reply ≡ migrate_answer c.args.target.now c.in-Ok.bytes.items =
     c.in_ok-reply.ensures ∙ ap (λ bytes. migrate_answer c.args.target.now bytes) c.as_slice.ensures.value in

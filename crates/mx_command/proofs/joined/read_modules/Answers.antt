@@ -23,7 +23,8 @@ loop-name-preserved g c =
     let text = c.in-Ok.text in
     let counted : number ≡ length found + 1 = let a = v.number in let b = v.count in omega (arith, a, b) in
     let more : c.add.new.self ≡ found ++ text.items ∷ [] = c.in_ok-add.ensures.added ∙ ap (λ t. found ++ t ∷ []) c.as_slice.ensures.value in
-    let goes = next_is_read told told_here names i _ found number before now later c.loop-name-test.true counted same v.goes c.in_ok-text.field-0 text c.in-Ok.is c.in_ok-text.ensures.given in
+    let goes = next_is_read told told_here names i _ found number before now later c.loop-name-test.true counted same v.goes c.in_ok-text.field-0 text
+    c.in-Ok.is c.in_ok-text.ensures.given in
     let b = v.number in
     record {
       count = ap length more ∙ length-append found (text.items ∷ []) ∙ ap (λ n. n + 1) v.count;
@@ -48,4 +49,5 @@ returns-in-Err-clause-refused g c =
     let number = c.loop-name.number in
     let found = c.loop-name.joiner in
     let counted : number ≡ length found + 1 = let a = v.number in let b = v.count in omega (arith, a, b) in
-    next_fails told told_here c.args.names.now c.loop-name.name-index _ found number before now later c.loop-name-test.true counted same v.goes c.in_ok-text.field-0 c.in-Err.reply c.in-Err.is c.in_ok-text.ensures.refused
+    next_fails told told_here c.args.names.now c.loop-name.name-index _ found number before now later c.loop-name-test.true counted same v.goes
+    c.in_ok-text.field-0 c.in-Err.reply c.in-Err.is c.in_ok-text.ensures.refused

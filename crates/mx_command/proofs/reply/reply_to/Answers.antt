@@ -15,4 +15,5 @@ returns-in_ok-reply-in-Some-clause-performed g c = λ layout_of is.
     let after : Counts = g.S.Shelf.counts c.command_reply.new.shelf in
     let asked : Some (seen_command c.in-Some.asked) ≡ command_of (map string_bytes c.args.words.now) =
     sym (ap (option_map seen_command) c.in-Some.is) ∙ c.in_ok-asked.ensures.command in
-    subst (λ (a : Option Command). Performed told (protocol_of layout_of a) before after (reply_answer c.in_ok-reply-in-Some.reply)) asked (c.in_ok-reply-in-Some.ensures.performed layout_of is)
+    subst (λ (a : Option Command). Performed told (protocol_of layout_of a) before after (reply_answer c.in_ok-reply-in-Some.reply)) asked
+    (c.in_ok-reply-in-Some.ensures.performed layout_of is)

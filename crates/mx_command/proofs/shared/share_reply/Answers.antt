@@ -10,6 +10,7 @@ use Rattle.mx_tasks.specs.Places.{lower, upper}
 use Rattle.mx_sharing.specs.Runs.{sharing_protocol}
 use Rattle.mx_command.specs.Protocols.{Layouts, assembled_protocol, pair_protocol}
 use Rattle.mx_command.proofs.Own.{performed_is_replied, answers_sharing}
+use Rattle.mx_command.proofs.Readings.{SourceGiven, SourceRefused}
 use Rattle.mx_command.proofs.shared.share_reply.Goals as goal
 
 pub returns-in-Err-clause-performed : goal.returns-in-Err-clause-performed
@@ -20,8 +21,9 @@ returns-in-Err-clause-performed g c = λ layout_of is.
     let first : Counts = g.S.Shelf.counts one in
     let interrupts : Option (List ℕ) = option_map (λ s. s.now) c.args.interrupts in
     subst
-    (λ r. IfErr r (λ reply. (next : SourceValue → Protocol) → Performed told (Reads First c.args.first.now (assembled_protocol 1 lower next)) before first (reply_answer reply)))
-    c.in-Err.is c.in_ok-source.ensures.refused (λ a. Reads Second c.args.second.now (assembled_protocol 2 upper (pair_protocol layout_of interrupts c.args.budget a)))
+    (λ r. IfErr r (SourceRefused told First c.args.first.now 1 lower before first))
+    c.in-Err.is c.in_ok-source.ensures.refused (λ a. Reads Second c.args.second.now
+    (assembled_protocol 2 upper (pair_protocol layout_of interrupts c.args.budget a)))
 
 pub returns-in-Err-2-clause-performed : goal.returns-in-Err-2-clause-performed
 returns-in-Err-2-clause-performed g c = λ layout_of is.
@@ -37,10 +39,10 @@ returns-in-Err-2-clause-performed g c = λ layout_of is.
     let answer : Answer = reply_answer c.in-Err-2.reply in
     let same : told_one ≡ told = c.in_ok-source.ensures.told_stays in
     let by_first = subst
-    (λ r. IfOk r (λ s. (next : SourceValue → Protocol) (after : Counts) (answer : Answer) → Performed told (next s) first after answer → Performed told (Reads First c.args.first.now (assembled_protocol 1 lower next)) before after answer))
+    (λ r. IfOk r (SourceGiven told First c.args.first.now 1 lower before first))
     c.in-Ok.is c.in_ok-source.ensures.given in
     let refused = subst
-    (λ r. IfErr r (λ reply. (next : SourceValue → Protocol) → Performed told_one (Reads Second c.args.second.now (assembled_protocol 2 upper next)) first second (reply_answer reply)))
+    (λ r. IfErr r (SourceRefused told_one Second c.args.second.now 2 upper first second))
     c.in-Err-2.is c.in_ok-source-2.ensures.refused (pair c.in-Ok.source) in
     by_first (λ a. Reads Second c.args.second.now (assembled_protocol 2 upper (pair a))) second answer
     (subst (λ (t : Told). Performed t (Reads Second c.args.second.now (assembled_protocol 2 upper (pair c.in-Ok.source))) first second answer) same refused)
@@ -59,15 +61,17 @@ returns-in-Err-3-clause-performed g c = λ layout_of is.
     let answer : Answer = reply_answer c.in-Err-3.reply in
     let same : told_one ≡ told = c.in_ok-source.ensures.told_stays in
     let by_first = subst
-    (λ r. IfOk r (λ s. (next : SourceValue → Protocol) (after : Counts) (answer : Answer) → Performed told (next s) first after answer → Performed told (Reads First c.args.first.now (assembled_protocol 1 lower next)) before after answer))
+    (λ r. IfOk r (SourceGiven told First c.args.first.now 1 lower before first))
     c.in-Ok.is c.in_ok-source.ensures.given in
     let by_second = subst
-    (λ r. IfOk r (λ s. (next : SourceValue → Protocol) (after : Counts) (answer : Answer) → Performed told_one (next s) second after answer → Performed told_one (Reads Second c.args.second.now (assembled_protocol 2 upper next)) first after answer))
+    (λ r. IfOk r (SourceGiven told_one Second c.args.second.now 2 upper first second))
     c.in-Ok-2.is c.in_ok-source-2.ensures.given in
     let far = subst
-    (λ r. IfErr r (λ reply. (layout_of : Layouts) → IsScheduler layout_of → (interrupts : Option (List ℕ)) (budget : ℕ) → pair_protocol layout_of interrupts budget c.in-Ok.source c.in-Ok-2.source ≡ Answers (reply_answer reply)))
+    (λ r. IfErr r (λ reply. (layout_of : Layouts) → IsScheduler layout_of → (interrupts : Option (List ℕ)) (budget : ℕ)
+    → pair_protocol layout_of interrupts budget c.in-Ok.source c.in-Ok-2.source ≡ Answers (reply_answer reply)))
     c.in-Err-3.is c.in_ok-image.ensures.refused layout_of is interrupts c.args.budget in
-    let stopped : Performed told_one (pair c.in-Ok.source c.in-Ok-2.source) second second answer = subst (λ (p : Protocol). Performed told_one p second second answer) (sym far) (refl, refl) in
+    let stopped : Performed told_one (pair c.in-Ok.source c.in-Ok-2.source) second second answer =
+    subst (λ (p : Protocol). Performed told_one p second second answer) (sym far) (refl, refl) in
     by_first (λ a. Reads Second c.args.second.now (assembled_protocol 2 upper (pair a))) second answer
     (subst (λ (t : Told). Performed t (Reads Second c.args.second.now (assembled_protocol 2 upper (pair c.in-Ok.source))) first second answer) same
     (by_second (pair c.in-Ok.source) second answer stopped))
@@ -90,10 +94,10 @@ returns-clause-performed g c = λ layout_of is.
     let same : told_one ≡ told = c.in_ok-source.ensures.told_stays in
     let same_two : told_two ≡ told_one = c.in_ok-source-2.ensures.told_stays in
     let by_first = subst
-    (λ r. IfOk r (λ s. (next : SourceValue → Protocol) (after : Counts) (answer : Answer) → Performed told (next s) first after answer → Performed told (Reads First c.args.first.now (assembled_protocol 1 lower next)) before after answer))
+    (λ r. IfOk r (SourceGiven told First c.args.first.now 1 lower before first))
     c.in-Ok.is c.in_ok-source.ensures.given in
     let by_second = subst
-    (λ r. IfOk r (λ s. (next : SourceValue → Protocol) (after : Counts) (answer : Answer) → Performed told_one (next s) second after answer → Performed told_one (Reads Second c.args.second.now (assembled_protocol 2 upper next)) first after answer))
+    (λ r. IfOk r (SourceGiven told_one Second c.args.second.now 2 upper first second))
     c.in-Ok-2.is c.in_ok-source-2.ensures.given in
     let linked = subst
     (λ r. IfOk r (λ i. (layout_of : Layouts) → IsScheduler layout_of → (interrupts : Option (List ℕ)) (budget : ℕ)
@@ -101,7 +105,8 @@ returns-clause-performed g c = λ layout_of is.
     c.in-Ok-3.is c.in_ok-image.ensures.given layout_of is interrupts c.args.budget in
     let ran : Performed told_one (pair c.in-Ok.source c.in-Ok-2.source) second last answer =
     subst (λ (p : Protocol). Performed told_one p second last answer) (sym linked)
-    (subst (λ (t : Told). Performed t (sharing_protocol interrupts c.args.budget image.code.items image.user_data.items) second last answer) same_two c.in_ok-reply.ensures.performed) in
+    (subst (λ (t : Told). Performed t (sharing_protocol interrupts c.args.budget image.code.items image.user_data.items) second last answer) same_two
+    c.in_ok-reply.ensures.performed) in
     by_first (λ a. Reads Second c.args.second.now (assembled_protocol 2 upper (pair a))) last answer
     (subst (λ (t : Told). Performed t (Reads Second c.args.second.now (assembled_protocol 2 upper (pair c.in-Ok.source))) first last answer) same
     (by_second (pair c.in-Ok.source) last answer ran))
@@ -114,6 +119,7 @@ returns-clause-replied g c =
     let last : Counts = g.S.Shelf.counts c.run_shared.new.shelf in
     let interrupts : Option (List ℕ) = option_map (λ s. s.now) c.args.interrupts in
     let image = c.in-Ok-3.image in
-    performed_is_replied told_two (sharing_protocol interrupts c.args.budget image.code.items image.user_data.items) second last (reply_answer c.in_ok-reply.reply)
+    performed_is_replied told_two (sharing_protocol interrupts c.args.budget image.code.items image.user_data.items) second last
+    (reply_answer c.in_ok-reply.reply)
     (answers_sharing interrupts c.args.budget image.code.items image.user_data.items)
     c.in_ok-reply.ensures.performed

@@ -19,7 +19,8 @@ returns-in-Err c = λ layout_of is.
     let text = c.args.text.now in
     let source = source_of 256 text in
     let refused = subst
-    (λ r. IfErr r (λ reply. (line : ℕ) × (fault : Fault) × (text_fault 256 65536 text ≡ Some (line, fault)) × (reply_answer reply ≡ prints Refused (fault_line line fault))))
+    (λ r. IfErr r (λ reply. (line : ℕ) × (fault : Fault) × (text_fault 256 65536 text ≡ Some (line, fault))
+    × (reply_answer reply ≡ prints Refused (fault_line line fault))))
     c.in-Err.is c.in_ok-source.ensures.refused in
     refused.3 ∙ sym (ap (measured source (layout_of source)) refused.2)
 

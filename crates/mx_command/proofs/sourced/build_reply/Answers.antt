@@ -14,6 +14,7 @@ use Rattle.mx_schedule.specs.Schedule.{IsScheduler}
 use Rattle.mx_command.specs.Protocols.{Layouts, AfterLayout, linked_protocol, build_protocol}
 use Rattle.mx_command.specs.Replied.{is_answered}
 use Rattle.mx_command.proofs.Laid.{contents_linked}
+use Rattle.mx_command.proofs.Readings.{ProgramGiven, ProgramRefused}
 use Rattle.mx_command.proofs.sourced.build_reply.Goals as goal
 
 pub returns-in-Err-clause-performed : goal.returns-in-Err-clause-performed
@@ -22,7 +23,7 @@ returns-in-Err-clause-performed g c = λ layout_of is.
     let before : Counts = g.S.Shelf.counts c.args.shelf.now in
     let between : Counts = g.S.Shelf.counts c.read_program.new.shelf in
     subst
-    (λ r. IfErr r (λ reply. (layout_of : Layouts) → IsScheduler layout_of → (next : AfterLayout) → Performed told (Reads Source c.args.source.now (linked_protocol layout_of next)) before between (reply_answer reply)))
+    (λ r. IfErr r (ProgramRefused told c.args.source.now before between))
     c.in-Err.is c.in_ok-program.ensures.refused layout_of is (build_protocol c.args.target.now)
 
 pub returns-clause-performed : goal.returns-clause-performed
@@ -31,11 +32,14 @@ returns-clause-performed g c = λ layout_of is.
     let before : Counts = g.S.Shelf.counts c.args.shelf.now in
     let between : Counts = g.S.Shelf.counts c.read_program.new.shelf in
     let program = c.in-Ok.program in
-    let linked : IsLinked IsGreedy from_target program.source board program.linked = subst (λ r. IfOk r (λ p. IsLinked IsGreedy from_target p.source board p.linked)) c.in-Ok.is c.in_ok-program.ensures.linked in
+    let linked : IsLinked IsGreedy from_target program.source board program.linked =
+    subst (λ r. IfOk r (λ p. IsLinked IsGreedy from_target p.source board p.linked)) c.in-Ok.is c.in_ok-program.ensures.linked in
     let by_program = subst
-    (λ r. IfOk r (λ p. (layout_of : Layouts) → IsScheduler layout_of → (next : AfterLayout) (after : Counts) (answer : Answer) → Performed told (next p.source (layout_of p.source)) between after answer → Performed told (Reads Source c.args.source.now (linked_protocol layout_of next)) before after answer))
+    (λ r. IfOk r (λ p. ProgramGiven told c.args.source.now before between p.source))
     c.in-Ok.is c.in_ok-program.ensures.given in
-    let answered : Answers (reply_answer c.in_ok-reply.reply) ≡ (build_protocol c.args.target.now) program.source (layout_of program.source) = ap Answers (c.in_ok-reply.ensures ∙ ap (λ (f : Contents). writes c.args.target.now (file_bytes f)) (contents_linked layout_of is program.source program.linked linked)) in
+    let answered : Answers (reply_answer c.in_ok-reply.reply) ≡ (build_protocol c.args.target.now) program.source (layout_of program.source) =
+    ap Answers (c.in_ok-reply.ensures ∙ ap (λ (f : Contents). writes c.args.target.now (file_bytes f))
+    (contents_linked layout_of is program.source program.linked linked)) in
     by_program layout_of is (build_protocol c.args.target.now) between (reply_answer c.in_ok-reply.reply)
     (subst (λ (p : Protocol). Performed told p between between (reply_answer c.in_ok-reply.reply)) answered (refl, refl))
 

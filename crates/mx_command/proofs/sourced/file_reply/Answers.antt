@@ -12,4 +12,5 @@ write_file-requires c =
     let linked = c.args.linked in
     let k = c.requires in
     subst (λ (code : List ℕ). LinksFit (length code) linked.links.items) (sym k.code)
-    (subst (λ (links : List ℕ). LinksFit (length (linked_code from_target source board k.sites)) links) (sym k.links) (links_fit from_target source k.sites c.statements-statements.ensures.source))
+    (subst (λ (links : List ℕ). LinksFit (length (linked_code from_target source board k.sites)) links) (sym k.links)
+    (links_fit from_target source k.sites c.statements-statements.ensures.source))

@@ -12,6 +12,7 @@ use Rattle.mx_answer.specs.Replies.{reply_answer}
 use Rattle.mx_schedule.specs.Schedule.{IsScheduler}
 use Rattle.mx_command.specs.Protocols.{Layouts, AfterLayout, linked_protocol, list_protocol}
 use Rattle.mx_command.proofs.Laid.{listing_linked}
+use Rattle.mx_command.proofs.Readings.{ProgramGiven, ProgramRefused}
 use Rattle.mx_command.proofs.sourced.list_reply.Goals as goal
 
 pub returns-in-Err-clause-performed : goal.returns-in-Err-clause-performed
@@ -20,7 +21,7 @@ returns-in-Err-clause-performed g c = λ layout_of is.
     let before : Counts = g.S.Shelf.counts c.args.shelf.now in
     let between : Counts = g.S.Shelf.counts c.read_program.new.shelf in
     subst
-    (λ r. IfErr r (λ reply. (layout_of : Layouts) → IsScheduler layout_of → (next : AfterLayout) → Performed told (Reads Source c.args.source.now (linked_protocol layout_of next)) before between (reply_answer reply)))
+    (λ r. IfErr r (ProgramRefused told c.args.source.now before between))
     c.in-Err.is c.in_ok-program.ensures.refused layout_of is list_protocol
 
 pub returns-clause-performed : goal.returns-clause-performed
@@ -29,10 +30,12 @@ returns-clause-performed g c = λ layout_of is.
     let before : Counts = g.S.Shelf.counts c.args.shelf.now in
     let between : Counts = g.S.Shelf.counts c.read_program.new.shelf in
     let program = c.in-Ok.program in
-    let linked : IsLinked IsGreedy from_target program.source board program.linked = subst (λ r. IfOk r (λ p. IsLinked IsGreedy from_target p.source board p.linked)) c.in-Ok.is c.in_ok-program.ensures.linked in
+    let linked : IsLinked IsGreedy from_target program.source board program.linked =
+    subst (λ r. IfOk r (λ p. IsLinked IsGreedy from_target p.source board p.linked)) c.in-Ok.is c.in_ok-program.ensures.linked in
     let by_program = subst
-    (λ r. IfOk r (λ p. (layout_of : Layouts) → IsScheduler layout_of → (next : AfterLayout) (after : Counts) (answer : Answer) → Performed told (next p.source (layout_of p.source)) between after answer → Performed told (Reads Source c.args.source.now (linked_protocol layout_of next)) before after answer))
+    (λ r. IfOk r (λ p. ProgramGiven told c.args.source.now before between p.source))
     c.in-Ok.is c.in_ok-program.ensures.given in
-    let answered : Answers (prints Done c.in_ok-output.output.items) ≡ list_protocol program.source (layout_of program.source) = ap Answers (ap (prints Done) (c.in_ok-output.ensures ∙ listing_linked layout_of is program.source program.linked linked)) in
+    let answered : Answers (prints Done c.in_ok-output.output.items) ≡ list_protocol program.source (layout_of program.source) =
+    ap Answers (ap (prints Done) (c.in_ok-output.ensures ∙ listing_linked layout_of is program.source program.linked linked)) in
     by_program layout_of is list_protocol between (prints Done c.in_ok-output.output.items)
     (subst (λ (p : Protocol). Performed told p between between (prints Done c.in_ok-output.output.items)) answered (refl, refl))

@@ -5,6 +5,7 @@ use Rattle.mx_io.specs.Shelves.{Told, Counts}
 use Rattle.mx_answer.specs.Protocol.{Protocol, Reads, Performed}
 use Rattle.mx_answer.specs.Replies.{reply_answer}
 use Rattle.mx_command.specs.Protocols.{meaning_protocol}
+use Rattle.mx_command.proofs.Readings.{FileGiven, FileRefused}
 use Rattle.mx_command.proofs.sourced.told_reply.Goals as goal
 
 pub returns-in-Err-clause-performed : goal.returns-in-Err-clause-performed
@@ -14,7 +15,7 @@ returns-in-Err-clause-performed g c =
     let between : Counts = g.S.Shelf.counts c.read_named.new.shelf in
     let next : List ℕ → Protocol = meaning_protocol c.args.steps (option_map (λ s. s.now) c.args.input) in
     subst
-    (λ r. IfErr r (λ reply. (next : List ℕ → Protocol) → Performed told (Reads Source c.args.source.now next) before between (reply_answer reply)))
+    (λ r. IfErr r (FileRefused told Source c.args.source.now before between))
     c.in-Err.is c.in_ok-text.ensures.refused next
 
 pub returns-clause-performed : goal.returns-clause-performed
@@ -27,8 +28,10 @@ returns-clause-performed g c =
     let next : List ℕ → Protocol = meaning_protocol c.args.steps (option_map (λ s. s.now) c.args.input) in
     let same : told_between ≡ told = c.in_ok-text.ensures.told_stays in
     let by_text = subst
-    (λ r. IfOk r (λ bytes. (next : List ℕ → Protocol) (after : Counts) (answer : Answer) → Performed told (next bytes.items) between after answer → Performed told (Reads Source c.args.source.now next) before after answer))
+    (λ r. IfOk r (λ bytes. FileGiven told Source c.args.source.now before between bytes.items))
     c.in-Ok.is c.in_ok-text.ensures.given in
     let ran : Performed told_between (next c.in-Ok.text.items) between last (reply_answer c.in_ok-reply.reply) =
-    subst (λ text. Performed told_between (next text) between last (reply_answer c.in_ok-reply.reply)) c.as_slice.ensures.value c.in_ok-reply.ensures.performed in
-    by_text next last (reply_answer c.in_ok-reply.reply) (subst (λ t. Performed t (next c.in-Ok.text.items) between last (reply_answer c.in_ok-reply.reply)) same ran)
+    subst (λ text. Performed told_between (next text) between last (reply_answer c.in_ok-reply.reply)) c.as_slice.ensures.value c.in_ok-reply.ensures.performed
+    in
+    by_text next last (reply_answer c.in_ok-reply.reply) (subst
+    (λ t. Performed t (next c.in-Ok.text.items) between last (reply_answer c.in_ok-reply.reply)) same ran)

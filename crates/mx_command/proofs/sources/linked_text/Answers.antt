@@ -27,6 +27,7 @@ returns-in-Err-2-clause-refused c = λ layout_of is next.
     let source = c.in-Ok.source in
     let read = subst (λ r. IfOk r (λ s. (text_fault 256 65536 text ≡ None) × (s ≡ source_of 256 text))) c.in-Ok.is c.in_ok-source.ensures.source in
     let found = subst
-    (λ r. IfErr r (λ reply. (found : Overlong) × IsOverlong IsGreedy source board found × (reply_answer reply ≡ prints Refused (overlong_line found.line found.from found.to))))
+    (λ r. IfErr r (λ reply. (found : Overlong) × IsOverlong IsGreedy source board found
+    × (reply_answer reply ≡ prints Refused (overlong_line found.line found.from found.to))))
     c.in-Err-2.is c.in_ok-linked.ensures.refused in
     laid.too_long layout_of is source next text read.0 read.1 found.0 found.1 ∙ ap Answers (sym found.2)

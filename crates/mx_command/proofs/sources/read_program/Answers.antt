@@ -6,6 +6,7 @@ use Rattle.mx_answer.specs.Protocol.{Protocol, Answers, Reads, Performed}
 use Rattle.mx_answer.specs.Replies.{reply_answer}
 use Rattle.mx_schedule.specs.Schedule.{IsScheduler}
 use Rattle.mx_command.specs.Protocols.{Layouts, AfterLayout, linked_protocol}
+use Rattle.mx_command.proofs.Readings.{FileGiven, FileRefused}
 use Rattle.mx_command.proofs.sources.read_program.Goals as goal
 
 pub returns-in-Err-clause-refused : goal.returns-in-Err-clause-refused
@@ -14,7 +15,7 @@ returns-in-Err-clause-refused g c = λ layout_of is next.
     let before : Counts = g.S.Shelf.counts c.args.shelf.now in
     let between : Counts = g.S.Shelf.counts c.read_named.new.shelf in
     subst
-    (λ r. IfErr r (λ reply. (next : List ℕ → Protocol) → Performed told (Reads Source c.args.name.now next) before between (reply_answer reply)))
+    (λ r. IfErr r (FileRefused told Source c.args.name.now before between))
     c.in-Err.is c.in_ok-text.ensures.refused (linked_protocol layout_of next)
 
 pub returns-in-Ok-2-clause-given : goal.returns-in-Ok-2-clause-given
@@ -23,13 +24,15 @@ returns-in-Ok-2-clause-given g c = λ layout_of is next after answer performed.
     let before : Counts = g.S.Shelf.counts c.args.shelf.now in
     let between : Counts = g.S.Shelf.counts c.read_named.new.shelf in
     let by_text = subst
-    (λ r. IfOk r (λ bytes. (next : List ℕ → Protocol) (after : Counts) (answer : Answer) → Performed told (next bytes.items) between after answer → Performed told (Reads Source c.args.name.now next) before after answer))
+    (λ r. IfOk r (λ bytes. FileGiven told Source c.args.name.now before between bytes.items))
     c.in-Ok.is c.in_ok-text.ensures.given in
     let linked = subst
-    (λ r. IfOk r (λ p. (layout_of : Layouts) → IsScheduler layout_of → (next : AfterLayout) → linked_protocol layout_of next c.as_slice.result.now ≡ next p.source (layout_of p.source)))
+    (λ r. IfOk r (λ p. (layout_of : Layouts) → IsScheduler layout_of → (next : AfterLayout)
+    → linked_protocol layout_of next c.as_slice.result.now ≡ next p.source (layout_of p.source)))
     c.in-Ok-2.is c.in_ok-program.ensures.given in
     by_text (linked_protocol layout_of next) after answer
-    (subst (λ (p : Protocol). Performed told p between after answer) (sym (linked layout_of is next) ∙ ap (linked_protocol layout_of next) c.as_slice.ensures.value) performed)
+    (subst (λ (p : Protocol). Performed told p between after answer)
+    (sym (linked layout_of is next) ∙ ap (linked_protocol layout_of next) c.as_slice.ensures.value) performed)
 
 pub returns-clause-refused : goal.returns-clause-refused
 returns-clause-refused g c = λ layout_of is next.
@@ -38,10 +41,12 @@ returns-clause-refused g c = λ layout_of is next.
     let between : Counts = g.S.Shelf.counts c.read_named.new.shelf in
     let answer : Answer = reply_answer c.in-Err-2.reply in
     let by_text = subst
-    (λ r. IfOk r (λ bytes. (next : List ℕ → Protocol) (after : Counts) (answer : Answer) → Performed told (next bytes.items) between after answer → Performed told (Reads Source c.args.name.now next) before after answer))
+    (λ r. IfOk r (λ bytes. FileGiven told Source c.args.name.now before between bytes.items))
     c.in-Ok.is c.in_ok-text.ensures.given in
     let refused = subst
-    (λ r. IfErr r (λ reply. (layout_of : Layouts) → IsScheduler layout_of → (next : AfterLayout) → linked_protocol layout_of next c.as_slice.result.now ≡ Answers (reply_answer reply)))
+    (λ r. IfErr r (λ reply. (layout_of : Layouts) → IsScheduler layout_of → (next : AfterLayout)
+    → linked_protocol layout_of next c.as_slice.result.now ≡ Answers (reply_answer reply)))
     c.in-Err-2.is c.in_ok-program.ensures.refused in
     by_text (linked_protocol layout_of next) between answer
-    (subst (λ (p : Protocol). Performed told p between between answer) (sym (refused layout_of is next) ∙ ap (linked_protocol layout_of next) c.as_slice.ensures.value) (refl, refl))
+    (subst (λ (p : Protocol). Performed told p between between answer)
+    (sym (refused layout_of is next) ∙ ap (linked_protocol layout_of next) c.as_slice.ensures.value) (refl, refl))
