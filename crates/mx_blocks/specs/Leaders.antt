@@ -22,7 +22,8 @@ abbrev pub ends_there : Option Statement → Bool
 ends_there None = false
 ends_there (Some s) = ends_block s
 
--- how far statement i is from the last leader: leaders are statement 0, each labelled statement, each statement after a transfer or a halt, and each 64th statement of a run without these
+-- how far statement i is from the last leader: leaders are statement 0, each labelled statement, each statement after a transfer
+-- or a halt, and each 64th statement of a run without these
 abbrev pub gap : (ℕ → Bool) → List Statement → ℕ → ℕ
 gap labelled statements zero = 0
 gap labelled statements (suc i) =

@@ -23,7 +23,8 @@ run_with filling source sites requests bytes budget =
     run_of (program_of shipped (linked_code filling source board sites) (linked_data source board sites) (given source.input bytes)) requests budget
 
 -- the figures are those of the source, laid out by what is proposed, and of its run
-pub record AreFigures (Proposes : Block → Plan → Type 0) (filling : Filling) (source : SourceValue) (requests bytes : List ℕ) (budget : ℕ) (f : Figures) : Type 0 where
+pub record AreFigures (Proposes : Block → Plan → Type 0) (filling : Filling) (source : SourceValue)
+    (requests bytes : List ℕ) (budget : ℕ) (f : Figures) : Type 0 where
   pub sites : List Site
   pub proposals : List Plan
   pub rejected : ℕ

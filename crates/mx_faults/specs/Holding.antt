@@ -112,7 +112,9 @@ has_too_many_instructions l = nat_lt 20000 (instructions (and_before l))
 
 -- F13: the data words up to this line's end past the last address, or a data label would stand there
 abbrev pub has_full_data : LineInText → Bool
-has_full_data l = nat_lt l.end (l.low + data_words (and_before l)) || (is_data (section_behind l.before) && has_label (line_words l.line) && nat_le l.end (l.low + data_words l.before))
+has_full_data l =
+    nat_lt l.end (l.low + data_words (and_before l))
+    || (is_data (section_behind l.before) && has_label (line_words l.line) && nat_le l.end (l.low + data_words l.before))
 
 -- F14: the line has more than 255 bytes without its line end
 abbrev pub is_too_long : LineInText → Bool

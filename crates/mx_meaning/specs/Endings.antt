@@ -20,4 +20,5 @@ mark_after (Some e) = mark_of e
 -- the text of a run, by the progress that the code keeps
 unfoldable pub told_text : List ℕ → State → List ℕ → Progress → List ℕ
 told_text lines s console progress =
-    ((mark_text lines s.index (mark_of progress.ending) ++ count_line (codes "steps") progress.steps) ++ console_lines console) ++ last_text (mark_of progress.ending) s
+    ((mark_text lines s.index (mark_of progress.ending) ++ count_line (codes "steps") progress.steps) ++ console_lines console)
+    ++ last_text (mark_of progress.ending) s

@@ -44,7 +44,9 @@ value_text (Int word) = word_text word
 value_text (Code i) = codes "code " ++ decimal i
 
 abbrev pub registers_text : State → List ℕ
-registers_text s = (line (codes "registers") ++ lines_from (λ n. register_line n (value_text (value_in s.regs n))) 31 1) ++ named_line (codes "md") (word_text s.md)
+registers_text s =
+    (line (codes "registers") ++ lines_from (λ n. register_line n (value_text (value_in s.regs n))) 31 1)
+    ++ named_line (codes "md") (word_text s.md)
 
 -- registers are told at a halt alone
 abbrev pub last_text : Mark → State → List ℕ

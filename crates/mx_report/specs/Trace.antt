@@ -17,7 +17,9 @@ abbrev pub spaced : List ℕ → List ℕ
 spaced text = 32 ∷ text
 
 abbrev pub stages_text : Latches → List ℕ
-stages_text l = (((spaced (stage_text l.fetch) ++ spaced (stage_text l.rf)) ++ spaced (stage_text l.alu)) ++ spaced (stage_text l.mem)) ++ spaced (stage_text l.wb)
+stages_text l =
+    (((spaced (stage_text l.fetch) ++ spaced (stage_text l.rf)) ++ spaced (stage_text l.alu)) ++ spaced (stage_text l.mem))
+    ++ spaced (stage_text l.wb)
 
 abbrev pub numbers_text : Latches → List ℕ
 numbers_text l = (spaced (word_text l.a) ++ spaced (word_text l.b)) ++ spaced (word_text l.result)

@@ -18,7 +18,8 @@ console_of name bytes = count_line name (length bytes) ++ line bytes
 -- how the run ended, its counts, and the console of each program
 unfoldable pub shared_text : Bool → Counted → List ℕ → List ℕ → List ℕ
 shared_text halted counts first second =
-    ((line (cond halted (codes "halted") (codes "out of budget")) ++ counts_text counts) ++ console_of (codes "first") first) ++ console_of (codes "second") second
+    ((line (cond halted (codes "halted") (codes "out of budget")) ++ counts_text counts) ++ console_of (codes "first") first)
+    ++ console_of (codes "second") second
 
 -- the answer of a program that shares the machine among two, with requests at these cycles
 unfoldable pub shared_answer : Program → List ℕ → ℕ → Answer
@@ -28,4 +29,5 @@ shared_answer q requests budget =
 
 -- an image of two programs, with the interrupt file that is named
 abbrev pub sharing_protocol : Option (List ℕ) → ℕ → List ℕ → List ℕ → Protocol
-sharing_protocol interrupts budget code_words data_words = requests_protocol interrupts (λ requests. Answers (shared_answer (shared code_words data_words) requests budget))
+sharing_protocol interrupts budget code_words data_words =
+    requests_protocol interrupts (λ requests. Answers (shared_answer (shared code_words data_words) requests budget))
