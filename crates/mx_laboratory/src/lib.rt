@@ -1,6 +1,7 @@
 //! The commands for people who look: pictures of a run. What their words are, and how each is answered.
 #![tactic(auto)]
 
+mod checked;
 mod compared;
 mod drawn;
 mod given;
@@ -9,6 +10,7 @@ mod planned;
 mod printed;
 mod profiled;
 mod ran;
+mod sentence;
 mod top;
 mod words;
 

@@ -22,8 +22,8 @@ pub struct LinkedSource {
     pub linked: Linked,
 }
 
-// The text of a fault.
-fn fault_text(fault: Fault) -> &'static str {
+/// The text of a fault.
+pub fn fault_text(fault: Fault) -> &'static str {
     match fault {
         Fault::BadByte => "F1 BadByte",
         Fault::BadToken => "F2 BadToken",

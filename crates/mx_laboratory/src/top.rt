@@ -1,4 +1,5 @@
 //! The top call.
+use crate::checked::check_reply;
 use crate::compared::compare_reply;
 use crate::drawn::draw_reply;
 use crate::planned::plans_reply;
@@ -41,6 +42,7 @@ fn answered_by<S: Shelf>(
 ) -> Result<Reply, Memory> {
     match name {
         "draw" => draw_reply(alloc, shelf, matches),
+        "check" => check_reply(alloc, shelf, matches),
         "profile" => profile_reply(alloc, shelf, matches),
         "compare" => compare_reply(alloc, shelf, matches),
         "plans" => plans_reply(alloc, shelf, matches),

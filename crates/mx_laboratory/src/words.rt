@@ -1,4 +1,5 @@
 //! The words of the command line.
+use crate::checked::check_command;
 use crate::compared::compare_command;
 use crate::planned::plans_command;
 use crate::profiled::profile_command;
@@ -109,6 +110,7 @@ fn command_line<'a>(alloc: Global) -> Result<Command<'a>, AllocError> {
         .subcommand_required(true)
         .arg_required_else_help(true)
         .subcommand(draw_command(alloc)?)?
+        .subcommand(check_command(alloc)?)?
         .subcommand(profile_command(alloc)?)?
         .subcommand(compare_command(alloc)?)?
         .subcommand(plans_command(alloc)?)
