@@ -69,7 +69,7 @@ impl Cases for Kind {
             Kind::Puts => puts::puts(rt, line),
             Kind::Repeated => repeated::repeated(alloc, before(line, " -> ")?),
             Kind::Listed => repeated::listed(alloc, line),
-            Kind::Shared => shared::shared(rt, line),
+            Kind::Shared => shared::shared(rt, before(line, " -> ")?),
             Kind::AtEach => shared::at_each(rt, line),
         }
     }

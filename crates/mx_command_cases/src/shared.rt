@@ -19,8 +19,14 @@ impl Consoles {
             && whole.second.as_bytes().starts_with(self.second.as_bytes())
     }
 
-    fn is_empty(&self) -> bool {
-        self.first.is_empty() || self.second.is_empty()
+    /// Which of the two programs prints anything.
+    fn who_prints(&self) -> &'static str {
+        match (self.first.is_empty(), self.second.is_empty()) {
+            (false, false) => "both",
+            (false, true) => "first",
+            (true, false) => "second",
+            (true, true) => "none",
+        }
     }
 }
 
@@ -67,21 +73,19 @@ fn shared_run<R: Files + AllocGlobal>(rt: &R, sources: &str, requests: &[u8]) ->
     })
 }
 
-/// Whether both print something when they share the machine, and each only what its meaning prints first, for the case
-/// `REQUESTS: FIRST SECOND`.
-pub fn shared<R: Files + AllocGlobal>(rt: &R, line: &str) -> Result<String> {
+/// Which of two programs prints anything when they share the machine, where each prints only what its meaning prints
+/// first, for the case `REQUESTS: FIRST SECOND -> WHO`.
+pub fn shared<R: Files + AllocGlobal>(rt: &R, case: &str) -> Result<String> {
     let alloc = rt.alloc();
-    let requests = stored(rt, before(line, ": ")?)?.context("no such file")?;
-    let sources = behind(line, ": ")?;
+    let requests = stored(rt, before(case, ": ")?)?.context("no such file")?;
+    let sources = behind(case, ": ")?;
     let run = shared_run(rt, sources, requests.as_slice())?;
-    let note = if run.is_empty() {
-        ", of no output"
-    } else if !run.begin(&meanings(rt, sources)?) {
-        ", otherwise"
+    let who = if run.begin(&meanings(rt, sources)?) {
+        run.who_prints()
     } else {
-        ""
+        "otherwise"
     };
-    Ok(format!(in alloc; "{line}{note}")?)
+    Ok(format!(in alloc; "{case} -> {who}")?)
 }
 
 /// How many requests, one alone in each of the cycles from 0 on, leave each console the front of that of its meaning, for

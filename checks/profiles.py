@@ -1,0 +1,153 @@
+#!/usr/bin/env python3
+"""Compares `profile` with `run`, `list`, `meaning` and a small interpreter on drawn sources. By hand, and no part of the gate.
+
+usage: checks/profiles.py [SOURCES]
+
+It needs mx_lab and mx_run as ./mx leaves them. The sources, 300 of them if no number is given, are those of `gen`, each with
+drawn interrupts. Of each profile: the sums are the counts of `run`; each line's count is how often the interpreter, which is
+written from docs/SOURCE.md, executes it, and all together are the steps of `meaning`; the copies stand where `list` has them.
+"""
+import os
+import random
+import re
+import subprocess
+import sys
+import tempfile
+
+TOP = os.path.dirname(os.path.dirname(os.path.abspath(__file__)))
+COST = re.compile(r" *(\d+) +(\d+) +(\d+) +(\d+) +(\d+)  (.*)")
+COUNTS = ("cycles", "fetches", "misses", "squashes", "interrupts")
+WORD = 2**32
+
+
+def answered(program, *words):
+    """Returns the exit status of a program and what it prints."""
+    done = subprocess.run([f"{TOP}/crates/{program}/out/{program}", *words], capture_output=True, check=False)
+    return done.returncode, done.stdout.decode("latin-1")
+
+
+def signed(word):
+    return word - WORD if word >= WORD // 2 else word
+
+
+class Meaning:
+    """Executes the sources of `gen`, and counts how often each line is executed."""
+
+    def __init__(self, text):
+        self.labels, self.items = {}, []
+        for number, line in enumerate(text.splitlines(), 1):
+            if line.endswith(":"):
+                self.labels[line[:-1]] = len(self.items)
+            else:
+                name, _, operands = line.partition(" ")
+                self.items.append((number, name, [it.lstrip("#") for it in operands.split(",")]))
+        self.registers, self.data, self.executed = {"r0": 0}, {}, {}
+
+    def value(self, register):
+        return self.registers.get(register, 0)
+
+    def keep(self, register, value):
+        if register != "r0":
+            self.registers[register] = value % WORD
+
+    def address(self, operand):
+        offset, base = operand.rstrip("]").split("[")
+        return (int(offset) + self.value(base)) % WORD
+
+    def step(self, name, given, after):
+        """Executes an item and returns the index of the next one."""
+        if name in ("bne", "blt"):
+            a, b = self.value(given[0]), self.value(given[1])
+            holds = a != b if name == "bne" else signed(a) < signed(b)
+            return self.labels[given[2]] if holds else after
+        if name == "ld":
+            self.keep(given[1], self.data.get(self.address(given[0]), 0))
+        elif name == "st":
+            self.data[self.address(given[0])] = self.value(given[1])
+        elif name == "addi":
+            self.keep(given[2], self.value(given[0]) + int(given[1]))
+        else:
+            a, b = self.value(given[0]), self.value(given[1])
+            self.keep(given[2], {"add": a + b, "sub": a - b, "xor": a ^ b}[name])
+        return after
+
+    def run(self):
+        at = 0
+        while True:
+            number, name, given = self.items[at]
+            self.executed[number] = self.executed.get(number, 0) + 1
+            if name == "halt":
+                return
+            at = self.step(name, given, at + 1)
+
+
+def counts_of(text):
+    """Returns the numbers of the lines `NAME N`."""
+    return {name: int(n) for name, n in re.findall(r"^([a-z ]+) (\d+)$", text, re.M)}
+
+
+def profiled(source, text):
+    """Returns the costs and the copies of the lines of a profile, the costs of its named rows, and its counts."""
+    rows = text.split("\n")
+    assert rows.pop(0).split() == ["count", "cycles", "stalls", "no-ops", "cancelled", "source"]
+    costs, copies, named = {}, {}, {}
+    for number, line in enumerate(source.splitlines(), 1):
+        row = rows.pop(0)
+        found = COST.fullmatch(row)
+        assert (found[6] if found else row.lstrip()) == line, (row, line)
+        if found:
+            costs[number] = [int(it) for it in found.groups()[:5]]
+        if rows[0].strip().startswith("copies at "):
+            copies[number] = rows.pop(0).split()[2:]
+    while COST.fullmatch(rows[0]):
+        *numbers, name = COST.fullmatch(rows.pop(0)).groups()
+        named[name] = [int(it) for it in numbers]
+    return costs, copies, named, counts_of("\n".join(rows))
+
+
+def check(seed, count, folder):
+    source = answered("mx_run", "gen", str(seed), str(count))[1]
+    path, at = f"{folder}/a.s", f"{folder}/at"
+    draw = random.Random(seed)
+    requests = sorted(draw.sample(range(draw.choice((60, 600, 6000))), draw.randrange(1, 40)))
+    with open(path, "w", encoding="ascii") as file:
+        file.write(source)
+    with open(at, "w", encoding="ascii") as file:
+        file.write("".join(f"{it}\n" for it in requests))
+    meaning = Meaning(source)
+    meaning.run()
+    status, text = answered("mx_lab", "profile", path, "--interrupts", at)
+    costs, copies, named, counts = profiled(source, text)
+    run = answered("mx_run", "run", path, "--interrupts", at)
+    ran = counts_of(run[1])
+    assert status == run[0] == 0
+    # the sums
+    assert {it: counts[it] for it in COUNTS} == {it: ran[it] for it in COUNTS}
+    columns = [sum(column) for column in zip(*costs.values(), named["the handler"], named["behind the code"])]
+    assert columns == named["together"]
+    assert columns[1] + counts["waiting"] == ran["cycles"]
+    assert columns[1] - columns[2] == ran["fetches"]
+    assert columns[3] == counts["noops passed"]
+    assert columns[4] <= 2 * ran["squashes"] and (ran["interrupts"] > 0) == (named["the handler"][1] > 0)
+    # the lines
+    assert {number: cost[0] for number, cost in costs.items()} == {number: meaning.executed.get(number, 0) for number, *_ in meaning.items}
+    steps = counts_of(answered("mx_run", "meaning", path)[1])["steps"]
+    assert sum(cost[0] for cost in costs.values()) == steps
+    listed = {}
+    for address, line in re.findall(r"^([0-9a-f]{8}) [0-9a-f]{8} \+(\d+)$", answered("mx_run", "list", path)[1], re.M):
+        listed.setdefault(int(line), []).append(address)
+    assert copies == listed
+    return ran["interrupts"], sum(len(it) for it in copies.values()), ran["squashes"]
+
+
+def main(words):
+    sources = int(words[0]) if words else 300
+    totals = [0, 0, 0]
+    with tempfile.TemporaryDirectory() as folder:
+        for seed in range(1, sources + 1):
+            found = check(seed, 1 + seed * 7 % 120, folder)
+            totals = [a + b for a, b in zip(totals, found)]
+    print(f"{sources} sources agree: {totals[0]} interrupts, {totals[1]} copies, {totals[2]} squashes")
+
+
+main(sys.argv[1:])
