@@ -94,13 +94,16 @@ if [ "$status" -eq 0 ] && cmp -s out wanted; then tell ok 'the plans of the list
 status=$?
 if [ "$status" -eq 4 ] && [ "$(cat out)" = 'read fault: plans failed' ]; then tell ok 'no plan file'; else tell "status $status" 'no plan file'; fi
 
+# consoled FILE: what a program sent, of a report or of the text of a meaning, with a `?` for each byte 0
+consoled() { sed -n '/^console/,/^registers/p' "$1" | tr '\0' '?'; }
+
 # scheduled SOURCE: what the scheduler of the examples proposes is accepted, and the run has the console of the meaning
 scheduled() {
     "$top/mx" plans "$1" --print | "$top/examples/schedule.py" "$1" >file
     "$top/mx" plans "$1" file --input hello.s >out
     "$top/mx" meaning "$1" --input hello.s >wanted
     if grep -q '^plan ' out; then tell "$(head -n 1 out)" "the plans of schedule.py for $1"
-    elif [ "$(sed -n '/^console/,/^registers/p' out)" = "$(sed -n '/^console/,/^registers/p' wanted)" ]; then tell ok "the plans of schedule.py for $1"
+    elif [ "$(consoled out)" = "$(consoled wanted)" ]; then tell ok "the plans of schedule.py for $1"
     else tell 'another console' "the plans of schedule.py for $1"; fi
 }
 for source in calls countdown echo full_slots greeting hello load_last two_loads; do scheduled "$source.s"; done
