@@ -1,6 +1,7 @@
 -- What the statement of a line does: its instruction or its data words.
 use Rattle.std.specs.Prelude.{ℕ, Bool, true, false, ◌==◌, List, [], ◌∷◌, replicate, Option, Some, None, Result, Ok, Err, codes, if◌then◌else◌}
 use Rattle.std.specs.Str.{str_eq_ignore_ascii_case}
+use Rattle.mx_isa.specs.declared.board.TheConstants.{MAX_DATA_WORDS}
 use Rattle.mx_source.specs.declared.statement.Label.{Label}
 use Rattle.mx_source.specs.declared.statement.Label.TheVariants as label
 use Rattle.mx_source.specs.declared.statement.Statement.{Statement}
@@ -99,7 +100,7 @@ word_values labels words = do
 
 -- the number behind `.space`
 unfoldable pub space_count : List Word → Result ℕ Fault
-space_count (Number negative value ∷ []) = if in_range 0 65280 negative value then Ok value else Err NumberOutOfRange
+space_count (Number negative value ∷ []) = if in_range 0 MAX_DATA_WORDS negative value then Ok value else Err NumberOutOfRange
 space_count _ = Err BadDirective
 
 -- data stand in the data section

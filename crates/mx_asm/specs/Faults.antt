@@ -1,5 +1,7 @@
 -- The fault of a line within its text, and the first faulty line.
 use Rattle.std.specs.Prelude.{ℕ, ◌+◌, Bool, true, false, ◌&&◌, ◌||◌, nat_le, nat_lt, ◌==◌, List, [], ◌∷◌, length, Option, Some, None, Result, Ok, Err, if◌then◌else◌}
+use Rattle.mx_asm.specs.declared.fault.TheConstants.{MAX_LINE_BYTES}
+use Rattle.mx_isa.specs.declared.board.TheConstants.{MAX_STATEMENTS}
 use Rattle.mx_asm.specs.declared.fault.Fault.{Fault}
 use Rattle.mx_asm.specs.declared.fault.Fault.TheVariants.{UnknownMnemonic, BadOperands, BadRegister, NumberOutOfRange, DuplicateLabel, BadDirective, TooManyInstructions, DataFull, LineTooLong}
 use Rattle.mx_asm.specs.declared.position.Section.{Section}
@@ -35,9 +37,9 @@ is_full end p words = nat_lt end (after p words).address || stands_past end p wo
 abbrev pub layout_fault : ℕ → Position → ℕ → List Word → Option Fault
 layout_fault end p long words =
     if has_dotted_label words then Some BadDirective
-    else (if nat_lt 20000 (after p words).index then Some TooManyInstructions
+    else (if nat_lt MAX_STATEMENTS (after p words).index then Some TooManyInstructions
     else (if is_full end p words then Some DataFull
-    else (if nat_lt 255 long then Some LineTooLong else None)))
+    else (if nat_lt MAX_LINE_BYTES long then Some LineTooLong else None)))
 
 -- the lesser of the fault of a statement and of a label that is defined again, which comes behind the early faults and before all others
 abbrev pub with_repeat : Bool → Fault → Fault

@@ -1,5 +1,6 @@
 -- What may stand in a source with these labels and so many statements.
 use Rattle.std.specs.Prelude.{ℕ, ◌<◌, Bool, true, false, List, All, Result, IfOk}
+use Rattle.mx_isa.specs.declared.board.TheConstants.{DATA_END}
 use Rattle.mx_source.specs.declared.statement.Label.{Label}
 use Rattle.mx_source.specs.declared.statement.Label.TheVariants.{Code, Data}
 use Rattle.mx_source.specs.declared.statement.Statement.{Statement}
@@ -18,7 +19,7 @@ LabelsFit count labels = All (λ (p : List ℕ × Label). LabelFits count p.1) l
 -- what a label names there is a place of the source, or an address below 65536
 abbrev pub NamedFits : List (List ℕ × Label) → ℕ → Label → Type 0
 NamedFits labels count (Code i) = IsPlace labels count i
-NamedFits labels count (Data a) = a < 65536
+NamedFits labels count (Data a) = a < DATA_END
 
 -- a statement that was read fits in whatever source
 abbrev pub FitsAlone : Result Statement Fault → Type 0

@@ -1,5 +1,6 @@
 -- What the program keeps of all lines.
 use Rattle.std.specs.Prelude.{◌≡◌, ℕ, ◌+◌, ◌≤◌, List, [], All, length, Option, Some, None}
+use Rattle.mx_isa.specs.declared.board.TheConstants.{MAX_STATEMENTS}
 use Rattle.mx_source.specs.Labels.{IsPlace}
 use Rattle.mx_source.specs.Statements.{StatementFits, ValueFits}
 use Rattle.mx_asm.specs.declared.fault.Fault.{Fault}
@@ -25,7 +26,7 @@ pub record IsListingOf (labels : Labels) (end : ℕ) (from : Position) (all : Li
   pub count : from.index + length l.statements.items ≡ (position_at_end from all).index
   pub each : length l.lines.items ≡ length l.statements.items
   pub words : from.address + length l.user_data.items ≡ (position_at_end from all).address
-  pub few : (position_at_end from all).index ≤ 20000
+  pub few : (position_at_end from all).index ≤ MAX_STATEMENTS
   pub within : (position_at_end from all).address ≤ end
   pub statements_fit : (count : ℕ) → LabelsFit count labels → All (StatementFits (IsPlace labels count)) l.statements.items
   pub values_fit : (count : ℕ) → LabelsFit count labels → All (ValueFits (IsPlace labels count)) l.user_data.items

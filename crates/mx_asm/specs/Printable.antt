@@ -2,6 +2,7 @@
 use Rattle.std.specs.Prelude.{◌≡◌, ℕ, ◌+◌, ◌^◌, ◌≤◌, ◌<◌, Bool, true, false, ◌&&◌, List, [], ◌∷◌, length, map, All, None, Result, MatchResult, is_some}
 use Rattle.std.specs.List.{list_all, IsDistinct}
 use Rattle.std.specs.Str.{bytes_eq}
+use Rattle.mx_isa.specs.declared.board.TheConstants.{DATA_BASE, DATA_END}
 use Rattle.mx_lex.specs.Bytes.{begins_name, continues_name}
 use Rattle.mx_isa.specs.Registers.{IsRegister}
 use Rattle.mx_isa.specs.declared.inst.Inst.{Inst}
@@ -34,7 +35,7 @@ pub record IsLabelName (name : List ℕ) : Type 0 where
 -- a data label names one of so many data words, or the address behind them
 abbrev pub IsWithin : ℕ → Label → Type 0
 IsWithin count (label.Code i) = Unit {0}
-IsWithin count (label.Data a) = a ≤ 256 + count
+IsWithin count (label.Data a) = a ≤ DATA_BASE + count
 
 -- the registers of an instruction that is a statement
 abbrev pub HasRegisters : Inst → Type 0
@@ -79,8 +80,8 @@ pub record IsSameProgram (s t : SourceValue) : Type 0 where
 
 -- the canonical text of a source has no fault, and reads as the same program
 pub record ReadsBack (s : SourceValue) : Type 0 where
-  pub faultless : text_fault 256 65536 (printed s) ≡ None
-  pub same : IsSameProgram s (source_of 256 (printed s))
+  pub faultless : text_fault DATA_BASE DATA_END (printed s) ≡ None
+  pub same : IsSameProgram s (source_of DATA_BASE (printed s))
 
 -- what assembling a text answers where it is the canonical text of a printable source: the same program, or that memory ran out
 abbrev pub ReadsPrinted : List ℕ → Result SourceValue AsmError → Type 0

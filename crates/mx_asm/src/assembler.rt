@@ -1,5 +1,7 @@
 //! The assembler.
 ghost use Rattle.std.specs.Prelude.{◌≡◌, ◌≤◌, [], length, IfOk, IfErr};
+ghost use Rattle.mx_io.specs.declared.limits.TheConstants.{MAX_SOURCE_BYTES};
+ghost use Rattle.mx_isa.specs.declared.board.TheConstants.{DATA_BASE, DATA_END, MAX_STATEMENTS};
 ghost use Rattle.mx_lex.specs.Lines.{lines_of};
 ghost use Rattle.mx_asm.specs.Faults.{first_fault, first_repeat};
 ghost use Rattle.mx_asm.specs.Faults;
@@ -19,6 +21,7 @@ use crate::lines::split_line;
 use crate::listing::{Listing, add};
 use crate::position::Position;
 use indexmap::IndexMap;
+use mx_isa::{DATA_BASE, DATA_END};
 use mx_source::{Label, Name, Source};
 use std::alloc::Global;
 
@@ -33,10 +36,10 @@ pub fn read_lines(
     from: Position,
     end: u32,
 ) -> Result<Listing, AsmError>
-    requires few { length lines.now ≤ 4194304 }
-    requires room { from.index ≤ 20000 }
+    requires few { length lines.now ≤ MAX_SOURCE_BYTES }
+    requires room { from.index ≤ MAX_STATEMENTS }
     requires order { from.address ≤ end }
-    requires within { end ≤ 65536 }
+    requires within { end ≤ DATA_END }
     requires repeated { first_repeat from [] 1 (texts lines.now) ≡ repeated }
     ensures read { IfOk result (IsListingOf labels.now end from (texts lines.now)) }
     ensures refused { IfErr result (IsRefusal (first_fault labels.now end from [] 1 (texts lines.now))) }
@@ -67,10 +70,10 @@ fn read_text(
     from: Position,
     end: u32,
 ) -> Result<Listing, AsmError>
-    requires short { length text.now ≤ 4194304 }
-    requires room { from.index ≤ 20000 }
+    requires short { length text.now ≤ MAX_SOURCE_BYTES }
+    requires room { from.index ≤ MAX_STATEMENTS }
     requires order { from.address ≤ end }
-    requires within { end ≤ 65536 }
+    requires within { end ≤ DATA_END }
     requires repeated { first_repeat from [] 1 (lines_of text.now) ≡ repeated }
     ensures read { IfOk result (IsListingOf labels.now end from (lines_of text.now)) }
     ensures refused { IfErr result (IsRefusal (first_fault labels.now end from [] 1 (lines_of text.now))) }
@@ -123,12 +126,12 @@ fn is_line(found: Option<u32>, number: u32) -> bool
 /// `Memory` where there is no room for the source. The canonical text of a printable source is not
 /// refused.
 pub fn assemble(alloc: Global, text: &[u8]) -> Result<Source, AsmError>
-    requires { length text.now ≤ 4194304 }
-    ensures source { IfOk result (ReadsAs 256 65536 text.now) }
-    ensures refused { IfErr result (IsRefusal (text_fault 256 65536 text.now)) }
+    requires { length text.now ≤ MAX_SOURCE_BYTES }
+    ensures source { IfOk result (ReadsAs DATA_BASE DATA_END text.now) }
+    ensures refused { IfErr result (IsRefusal (text_fault DATA_BASE DATA_END text.now)) }
     ensures printed { ReadsPrinted text.now result }
 {
-    assemble_at(alloc, text, 256, 65536)
+    assemble_at(alloc, text, DATA_BASE, DATA_END)
 }
 
 /// The source that a text reads as, its data words and data labels from one address to before another.
@@ -137,10 +140,10 @@ pub fn assemble(alloc: Global, text: &[u8]) -> Result<Source, AsmError>
 ///
 /// Those of `assemble`.
 pub fn assemble_at(alloc: Global, text: &[u8], user_data: u32, end: u32) -> Result<Source, AsmError>
-    requires low { 256 ≤ user_data }
+    requires low { DATA_BASE ≤ user_data }
     requires order { user_data ≤ end }
-    requires within { end ≤ 65536 }
-    requires short { length text.now ≤ 4194304 }
+    requires within { end ≤ DATA_END }
+    requires short { length text.now ≤ MAX_SOURCE_BYTES }
     ensures source { IfOk result (ReadsAs user_data end text.now) }
     ensures refused { IfErr result (IsRefusal (text_fault user_data end text.now)) }
 {

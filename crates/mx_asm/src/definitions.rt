@@ -1,5 +1,6 @@
 //! The labels of a text.
 ghost use Rattle.std.specs.Prelude.{◌≡◌, ◌+◌, ◌^◌, ◌≤◌, ◌<◌, ◌-◌, [], None, map, length, IfOk, OnOk};
+ghost use Rattle.mx_io.specs.declared.limits.TheConstants.{MAX_SOURCE_BYTES};
 ghost use Rattle.mx_lex.specs.Lines.{lines_of};
 ghost use Rattle.mx_asm.specs.Faults.{first_repeat};
 ghost use Rattle.mx_asm.specs.Faults;
@@ -60,7 +61,7 @@ pub fn define_all<'a>(
     lines: &[&'a [u8]],
     from: Position,
 ) -> Result<Definitions<'a>, AllocError>
-    requires few { length lines.now ≤ 4194304 }
+    requires few { length lines.now ≤ MAX_SOURCE_BYTES }
     requires room { from.index + length lines.now < 2 ^ 32 }
     requires near { from.address ≤ 65537 }
     ensures labels { IfOk result (λ d. d.labels ≡ labels_from from [] (texts lines.now)) }
@@ -85,7 +86,7 @@ pub(crate) fn define_text<'a>(
     text: &'a [u8],
     from: Position,
 ) -> Result<Definitions<'a>, AllocError>
-    requires short { length text.now ≤ 4194304 }
+    requires short { length text.now ≤ MAX_SOURCE_BYTES }
     requires room { from.index + length text.now < 2 ^ 32 }
     requires near { from.address ≤ 65537 }
     ensures labels { IfOk result (λ d. d.labels ≡ labels_from from [] (lines_of text.entry.now)) }

@@ -1,11 +1,13 @@
 //! Directives.
 ghost use Rattle.std.specs.Prelude.{◌≡◌, ◌≤◌, map, IfOk};
+ghost use Rattle.mx_isa.specs.declared.board.TheConstants.{MAX_DATA_WORDS};
 ghost use Rattle.mx_asm.specs.Directives;
 ghost use Rattle.mx_asm.specs.Shapes.{word};
 
 use crate::fault::Fault;
 use crate::mnemonic::spells;
 use crate::word::Word;
+use mx_isa::MAX_DATA_WORDS;
 
 /// What a name with a `.` stands for.
 #[derive(Clone, Copy)]
@@ -51,11 +53,11 @@ pub fn directive_named(name: &[u8]) -> Option<Directive>
 #[tactic(auto, unfolding(crate::specs::Directives::space_count))]
 pub fn space_count(words: &[Word]) -> Result<u32, Fault>
     ensures count { result ≡ Directives.space_count (map word words.now) }
-    ensures few { IfOk result (λ k. k ≤ 65280) }
+    ensures few { IfOk result (λ k. k ≤ MAX_DATA_WORDS) }
 {
     match words {
         [Word::Number { negative, value }] => {
-            let most = if *negative { 0 } else { 65280 };
+            let most = if *negative { 0 } else { MAX_DATA_WORDS as u64 };
             if *value > most {
                 return Err(Fault::NumberOutOfRange);
             }

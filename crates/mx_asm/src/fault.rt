@@ -4,6 +4,9 @@ use mx_io::Memory;
 use std::alloc::{AllocError, AllocFailed};
 use thiserror::Error;
 
+/// How many bytes a line has at most.
+pub const MAX_LINE_BYTES: usize = 255;
+
 /// What is wrong with a line. A line has the first of these that holds of it.
 #[derive(Clone, Copy, Debug, PartialEq, Eq, Error)]
 pub enum Fault {

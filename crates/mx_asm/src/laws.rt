@@ -1,5 +1,6 @@
 //! Laws of the assembler.
 ghost use Rattle.std.specs.Prelude.{◌≡◌, ◌≤◌, ℕ, List, None};
+ghost use Rattle.mx_isa.specs.declared.board.TheConstants.{DATA_BASE, DATA_END};
 ghost use Rattle.mx_source.specs.SourceValue.{SourceValue, IsSource};
 ghost use Rattle.mx_asm.specs.Printable.{IsPrintable, ReadsBack};
 ghost use Rattle.mx_asm.specs.Texts.{source_of, text_fault};
@@ -11,5 +12,5 @@ pub fn printed_reads_back()
 
 /// What a text without faults reads as keeps to what each source does.
 pub fn faultless_is_source()
-    ensures { (low end : ℕ) (text : List ℕ) → 256 ≤ low → low ≤ end → end ≤ 65536 → text_fault low end text ≡ None → IsSource (source_of low text) }
+    ensures { (low end : ℕ) (text : List ℕ) → DATA_BASE ≤ low → low ≤ end → end ≤ DATA_END → text_fault low end text ≡ None → IsSource (source_of low text) }
 {}

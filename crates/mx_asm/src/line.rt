@@ -1,5 +1,6 @@
 //! What a line does, or its fault.
 ghost use Rattle.std.specs.Prelude.{◌≡◌, ◌≤◌, ◌<◌, ◌-◌, ◌^◌, ℕ, None, Some, Ok, map, length, IfOk, IfErr};
+ghost use Rattle.mx_isa.specs.declared.board.TheConstants.{MAX_STATEMENTS};
 ghost use Rattle.mx_asm.specs.Directives.{effect_of};
 ghost use Rattle.mx_asm.specs.Effects.{effect, EffectFits, IsFaultOf};
 ghost use Rattle.mx_asm.specs.Faults;
@@ -9,12 +10,14 @@ ghost use Rattle.mx_asm.specs.Positions;
 ghost use Rattle.mx_asm.specs.Shapes.{word};
 ghost use Rattle.mx_asm.specs.Words.{words_of};
 
+use crate::MAX_LINE_BYTES;
 use crate::effect::{Effect, effect_of};
 use crate::fault::{Fault, LineError};
 use crate::front::{has_dotted_label, has_label, statement_words};
 use crate::labels::Labels;
 use crate::position::{Position, Section};
 use crate::word::{Word, read_words};
+use mx_isa::MAX_STATEMENTS;
 use std::alloc::Global;
 
 /// What a line does, and where the next one stands.
@@ -58,16 +61,16 @@ fn layout_fault(
 ) -> Option<Fault>
     requires { next.now ≡ Positions.after position.now (map word words.now) }
     ensures fault { result ≡ Faults.layout_fault end position.now long (map word words.now) }
-    ensures few { result ≡ None → next.now.index ≤ 20000 }
+    ensures few { result ≡ None → next.now.index ≤ MAX_STATEMENTS }
     ensures within { result ≡ None → next.now.address ≤ end }
 {
     if has_dotted_label(words) {
         Some(Fault::BadDirective)
-    } else if next.index > 20_000 {
+    } else if next.index > MAX_STATEMENTS as u32 {
         Some(Fault::TooManyInstructions)
     } else if next.address > end || stands_past(end, position, words) {
         Some(Fault::DataFull)
-    } else if long > 255 {
+    } else if long > MAX_LINE_BYTES {
         Some(Fault::LineTooLong)
     } else {
         None
@@ -108,7 +111,7 @@ pub fn read_line<'a>(
     ensures faultless { IfOk result (λ r. Faults.words_fault labels.now end position.now repeated (length line.entry.now) (words_of line.entry.now) ≡ None) }
     ensures effect { IfOk result (λ r. effect_of labels.now position.now.section (Positions.statement_words (line_words line.entry.now)) ≡ Ok (effect r.effect)) }
     ensures next { IfOk result (λ r. r.next ≡ Positions.after position.now (line_words line.entry.now)) }
-    ensures few { IfOk result (λ r. r.next.index ≤ 20000) }
+    ensures few { IfOk result (λ r. r.next.index ≤ MAX_STATEMENTS) }
     ensures within { IfOk result (λ r. r.next.address ≤ end) }
     ensures fits { (count : ℕ) → LabelsFit count labels.now → IfOk result (λ r. EffectFits labels.now count (effect r.effect)) }
     ensures fault { IfErr result (IsFaultOf (Faults.words_fault labels.now end position.now repeated (length line.entry.now) (words_of line.entry.now))) }

@@ -1,5 +1,6 @@
 //! What the labels in operands name.
 ghost use Rattle.std.specs.Prelude.{◌≡◌, ◌≤◌, ◌<◌, ℕ, IfOk};
+ghost use Rattle.mx_isa.specs.declared.board.TheConstants.{DATA_END};
 ghost use Rattle.mx_isa.specs.Fields.{IsSignedField};
 ghost use Rattle.mx_source.specs.Labels.{IsPlace};
 ghost use Rattle.mx_asm.specs.Fitting.{LabelsFit, NamedFits};
@@ -40,7 +41,7 @@ pub fn code_label(labels: &Labels, name: &[u8]) -> Result<u32, Fault>
 pub fn data_label(labels: &Labels, name: &[u8]) -> Result<u32, Fault>
     ensures address { result ≡ Operands.data_label labels.now name.now }
     ensures near { IfOk result (λ a. a ≤ 65537) }
-    ensures fits { (count : ℕ) → LabelsFit count labels.now → IfOk result (λ a. a < 65536) }
+    ensures fits { (count : ℕ) → LabelsFit count labels.now → IfOk result (λ a. a < DATA_END) }
 {
     match any_label(labels, name)? {
         Label::Data(address) => Ok(address),

@@ -8,7 +8,7 @@ ghost use Rattle.mx_asm.specs.Words;
 ghost use Rattle.mx_asm.specs.Shapes.{word};
 
 use crate::fault::{Fault, LineError};
-use mx_lex::{Kind, Lexer, Token};
+use mx_lex::{Kind, Lexer, Token, is_allowed};
 
 /// A token with what it says.
 #[derive(Clone, Copy)]
@@ -75,13 +75,6 @@ fn has_bad_byte(line: &[u8]) -> bool
         }
     }
     false
-}
-
-/// The byte may stand outside comments.
-fn is_allowed(byte: u8) -> bool
-    ensures { result ≡ Bytes.is_allowed byte }
-{
-    (b' '..=b'~').contains(&byte) || byte == b'\t'
 }
 
 /// What a token of the line says.

@@ -4,6 +4,7 @@ use Rattle.std.specs.Char.{is_ascii_digit}
 use Rattle.std.specs.List.{slice_split, prefix_len, filter_map, list_any}
 use Rattle.std.specs.Option.{option_or}
 use Rattle.std.specs.Str.Lines.{strip_carriage_return}
+use Rattle.mx_board.specs.declared.requests.TheConstants.{MAX_REQUESTS}
 use Rattle.mx_board.specs.declared.requests.EventError.{EventError}
 use Rattle.mx_board.specs.declared.requests.EventError.TheVariants.{BadLine, TooMany, NotAscending}
 
@@ -55,7 +56,7 @@ may_follow before n = length before == 0 || nat_lt (slice_index before (length b
 abbrev pub fault_of_number : List ℕ → ℕ → Option ℕ → Option EventError
 fault_of_number before at None = Some (BadLine at)
 fault_of_number before at (Some n) =
-    if nat_le 65536 (length before) then Some (TooMany at) else if may_follow before n then None else Some (NotAscending at)
+    if nat_le MAX_REQUESTS (length before) then Some (TooMany at) else if may_follow before n then None else Some (NotAscending at)
 
 -- the fault of a line after these numbers, if it has one
 abbrev pub fault_of : List ℕ → ℕ → List ℕ → Option EventError

@@ -1,11 +1,14 @@
 //! The data words, the console and the input.
 ghost use Rattle.std.specs.Prelude.{◌≡◌, ◌<◌, ◌≤◌, length, IfOk, option_map, slice_index, cond, suc};
 ghost use Rattle.std.specs.Option.{option_copied};
+ghost use Rattle.mx_isa.specs.declared.board.TheConstants.{DATA_END, CONSOLE, MAX_DATA_WORDS};
+ghost use Rattle.mx_io.specs.declared.limits.TheConstants.{MAX_FILE_BYTES};
 ghost use Rattle.mx_board.specs.Contents.{bytes_in};
 ghost use Rattle.mx_board.specs.Data.{board, words_of, words_at_start};
 ghost use Rattle.mx_isa.specs.UserBus.{from_input};
 
 use mx_io::Memory;
+use mx_isa::{CONSOLE, DATA_BASE, DATA_END, INPUT};
 use std::alloc::{AllocError, Global};
 use std::marker::Model;
 
@@ -31,15 +34,15 @@ impl Model for Board {
 
 // The words from 256 on, and 0 elsewhere.
 fn starting_words(alloc: Global, user_data: &[u32]) -> Result<Vec<u32>, AllocError>
-    requires { length user_data.now ≤ 65280 }
-    ensures count { IfOk result (λ v. length v.items ≡ 65536) }
-    ensures console { IfOk result (λ v. slice_index v.items 255 ≡ 0) }
+    requires { length user_data.now ≤ MAX_DATA_WORDS }
+    ensures count { IfOk result (λ v. length v.items ≡ DATA_END) }
+    ensures console { IfOk result (λ v. slice_index v.items CONSOLE ≡ 0) }
     ensures words { IfOk result (λ v. slice_index v.items ≡ words_at_start user_data.now) }
 {
     let mut words = Vec::new(alloc);
-    words.resize(256, 0)?;
+    words.resize(DATA_BASE as usize, 0)?;
     words.extend_from_slice(user_data)?;
-    words.resize(65_536, 0)?;
+    words.resize(DATA_END as usize, 0)?;
     Ok(words)
 }
 
@@ -57,8 +60,8 @@ impl Board {
     /// A board with these words from 256 on, and 0 elsewhere, and with this input, of which no byte is
     /// taken. At most 65,280 words, and 1,048,576 bytes of input.
     pub fn new(alloc: Global, user_data: &[u32], input: Option<&[u8]>) -> Result<Board, Memory>
-        requires words { length user_data.now ≤ 65280 }
-        requires bytes { bytes_in (option_copied input) ≤ 1048576 }
+        requires words { length user_data.now ≤ MAX_DATA_WORDS }
+        requires bytes { bytes_in (option_copied input) ≤ MAX_FILE_BYTES }
         ensures words { IfOk result (λ b. words_of b ≡ words_at_start user_data.now) }
         ensures input { IfOk result (λ b. b.input ≡ option_copied input.entry) }
         ensures taken { IfOk result (λ b. b.taken ≡ 0) }
@@ -77,10 +80,10 @@ impl Board {
         ensures word { result ≡ ((board user self.old.input).load (words_of self.old) self.old.taken address).word }
         ensures state { self.new ≡ record self.old { taken = cond ((board user self.old.input).load (words_of self.old) self.old.taken address).takes (suc self.old.taken) self.old.taken } }
     {
-        if address >= 256 || !user {
+        if address >= DATA_BASE || !user {
             return self.found(address);
         }
-        if address == 254 {
+        if address == INPUT {
             return self.take();
         }
         0
@@ -89,10 +92,10 @@ impl Board {
     // A word of the memory; the console reads 0, and so does what is beyond the memory.
     fn found(&self, address: u32) -> u32
         ensures word { result ≡ words_of self.now address }
-        ensures console { address ≡ 255 → result ≡ 0 }
-        ensures beyond { 65536 ≤ address → result ≡ 0 }
+        ensures console { address ≡ CONSOLE → result ≡ 0 }
+        ensures beyond { DATA_END ≤ address → result ≡ 0 }
     {
-        if address < 65536 {
+        if address < DATA_END {
             self.words[address as usize]
         } else {
             0
@@ -126,11 +129,11 @@ impl Board {
         ensures taken { self.new.taken ≡ self.old.taken }
         ensures byte { result ≡ (board user self.old.input).byte address word }
     {
-        if address == 255 {
+        if address == CONSOLE {
             return Some((word % 256) as u8);
         }
-        if address < 65536 {
-            if address >= 256 {
+        if address < DATA_END {
+            if address >= DATA_BASE {
                 self.words[address as usize] = word;
             } else if !user {
                 self.words[address as usize] = word;
@@ -141,7 +144,7 @@ impl Board {
 
     /// The word at an address below 65536, as it stands.
     pub fn word(&self, address: u32) -> u32
-        requires { address < 65536 }
+        requires { address < DATA_END }
         ensures { result ≡ words_of self.now address }
     {
         self.words[address as usize]

@@ -6,4 +6,4 @@ mod requests;
 
 pub use board::Board;
 pub use mx_io::Memory;
-pub use requests::{EventError, Requests};
+pub use requests::{EventError, MAX_REQUESTS, Requests};

@@ -5,12 +5,17 @@ ghost use Rattle.std.specs.List.{position, prefix_len};
 ghost use Rattle.std.specs.List.Sorted.{IsStrictlyIncreasing};
 ghost use Rattle.std.specs.Char.{is_ascii_digit};
 ghost use Rattle.std.specs.Str.Lines.{strip_carriage_return};
+ghost use Rattle.mx_board.specs.declared.requests.TheConstants.{MAX_REQUESTS};
+ghost use Rattle.mx_io.specs.declared.limits.TheConstants.{MAX_FILE_BYTES};
 ghost use Rattle.mx_board.specs.RequestFile.{pieces, is_blank, is_blank_line, without_blanks, number_of_digits, number_of, may_follow, fault_of, requests_of, is_wanted};
 
 use mx_io::Memory;
 use std::alloc::Global;
 use std::marker::Model;
 use thiserror::Error;
+
+/// How many requests a file of interrupt cycles names at most.
+pub const MAX_REQUESTS: usize = 65_536;
 
 /// Why a file of interrupt cycles is refused, with the number of the first faulty line.
 #[derive(Clone, Copy, Debug, PartialEq, Eq, Error)]
@@ -38,12 +43,13 @@ pub struct Requests {
 impl Model for Requests {
     ghost use Rattle.std.specs.Prelude.{ℕ, List, ◌≤◌, length};
     ghost use Rattle.std.specs.List.Sorted.{IsStrictlyIncreasing};
+    ghost use Rattle.mx_board.specs.declared.requests.TheConstants.{MAX_REQUESTS};
 
     ghost Value = { List ℕ };
 
     ghost view = { λ r. r.cycles.items };
 
-    ghost invariant = { λ r. (length r.cycles.items ≤ 65536) × IsStrictlyIncreasing r.cycles.items };
+    ghost invariant = { λ r. (length r.cycles.items ≤ MAX_REQUESTS) × IsStrictlyIncreasing r.cycles.items };
 }
 
 // The place of the first line feed.
@@ -134,7 +140,7 @@ fn read_line(before: &[u32], line: u32, text: &[u8]) -> Result<Option<u32>, Even
     let Some(number) = number_of(text) else {
         return Err(EventError::BadLine { line });
     };
-    if before.len() >= 65_536 {
+    if before.len() >= MAX_REQUESTS {
         return Err(EventError::TooMany { line });
     }
     if may_follow(before, number) {
@@ -180,7 +186,7 @@ fn is_among(cycles: &[u32], cycle: u32) -> bool
 impl Requests {
     /// The requests that an interrupt file of at most 1,048,576 bytes names, or its first faulty line.
     pub fn parse(alloc: Global, bytes: &[u8]) -> Result<Requests, EventError>
-        requires { length bytes.now ≤ 1048576 }
+        requires { length bytes.now ≤ MAX_FILE_BYTES }
         ensures ok { IfOk result (λ requests. requests_of bytes.now ≡ Ok requests) }
         ensures err { IfErr result (λ fault. fault ≢ EventError.Memory → requests_of bytes.now ≡ Err fault) }
     {
@@ -200,7 +206,7 @@ impl Requests {
 
     /// These requests, at most 65,536, each greater than the one before.
     pub fn of(alloc: Global, list: &[u32]) -> Result<Requests, Memory>
-        requires count { length list.now ≤ 65536 }
+        requires count { length list.now ≤ MAX_REQUESTS }
         requires ascending { IsStrictlyIncreasing list.now }
         ensures { IfOk result (λ requests. requests ≡ list.now) }
     {
@@ -220,7 +226,7 @@ impl Requests {
     /// The cycles in which a request comes.
     pub fn list(&self) -> &[u32]
         ensures list { result.now ≡ self.now }
-        ensures count { length self.now ≤ 65536 }
+        ensures count { length self.now ≤ MAX_REQUESTS }
         ensures ascending { IsStrictlyIncreasing self.now }
     {
         &self.cycles

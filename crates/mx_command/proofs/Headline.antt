@@ -25,7 +25,7 @@ use Rattle.mx_answer.specs.Protocol.{Protocol, Reads, Reading, Given, TooLong, r
 use Rattle.mx_io.specs.Shelves.{Told}
 use Rattle.mx_answer.specs.Delivery.{Delivered}
 use Rattle.mx_simulate.specs.Simulated.{program_answer}
-use Rattle.mx_simulate.specs.Machines.{given, by_requests, requests_protocol, input_protocol}
+use Rattle.mx_simulate.specs.Machines.{if_asked, by_requests, requests_protocol, input_protocol}
 use Rattle.mx_asm.specs.Texts.{source_of}
 use Rattle.mx_meaning.specs.Boards.{board}
 use Rattle.mx_end_to_end.specs.EndToEnd.{source_program, MeansItsSource}
@@ -61,7 +61,7 @@ module _ (held : Held) where
   input_is None bytes next h = ap (λ r. resolved (next r) held) (sym h)
   input_is (Some name) bytes next h = read_is Input name bytes next h
 
-pub given_is : (line : Option ℕ) (bytes : List ℕ) → given (is_some line) bytes ≡ meant.given line bytes
+pub given_is : (line : Option ℕ) (bytes : List ℕ) → if_asked (is_some line) bytes ≡ meant.given line bytes
 given_is None bytes = refl
 given_is (Some line) bytes = refl
 

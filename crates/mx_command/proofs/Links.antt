@@ -5,16 +5,13 @@ use Rattle.std.specs.Prelude.{All}
 use Rattle.std.specs.List.{flat_map}
 use Rattle.mx_isa.specs.declared.Inst.{Inst}
 use Rattle.mx_code.specs.Codes.{word_of_row}
-use Rattle.mx_source.specs.declared.Statement.{Statement}
 use Rattle.mx_source.specs.SourceValue.{SourceValue, IsSource}
-use Rattle.mx_blocks.specs.declared.Item.{Item}
 use Rattle.mx_validate.specs.Padded.{items_of}
-use Rattle.mx_squash.specs.declared.Copied.{Copied}
 use Rattle.mx_squash.specs.Copies.{Site}
 use Rattle.mx_layout.specs.Layout.{plan_size, link_of, has_statement}
-use Rattle.mx_link.specs.declared.Origin.{Origin}
-use Rattle.mx_link.specs.Origins.{Filling, origins_from, origins_at}
+use Rattle.mx_link.specs.Origins.{Filling, origins_at}
 use Rattle.mx_link.specs.Words.{insts_from, insts_of}
+use Rattle.mx_link.proofs.Sizes.{length-origins_from, length-insts_from}
 use Rattle.mx_link.specs.Linked.{map_from, link_map, links_of, linked_code}
 use Rattle.mx_image.specs.Contents.{IsLink, LinksFit}
 use Rattle.mx_meaning.specs.Boards.{board}
@@ -23,16 +20,6 @@ use Rattle.mx_meaning.specs.Boards.{board}
 pub total : List Site → ℕ
 total [] = 0
 total (s ∷ sites) = plan_size s.plan + total sites
-
-origins_count : (s : Site) (c : Copied) (p : ℕ) (items : List Item) → length (origins_from s c p items) ≡ length items
-origins_count s c p [] = refl
-origins_count s c p (item ∷ items) = ap suc (origins_count s c (suc p) items)
-
-insts_count :
-    (link : ℕ → ℕ) (statements : List Statement) (c : Copied) (at : ℕ) (origins : List Origin)
-    → length (insts_from link statements c at origins) ≡ length origins
-insts_count link statements c at [] = refl
-insts_count link statements c at (origin ∷ origins) = ap suc (insts_count link statements c (suc at) origins)
 
 flat_count :
     (words : Site → List Inst) → ((s : Site) → length (words s) ≡ plan_size s.plan) → (sites : List Site)
@@ -47,8 +34,8 @@ pub code_count : (filling : Filling) (source : SourceValue) (sites : List Site) 
 code_count filling source sites =
     length-map (insts_of filling (link_map board sites) source.statements sites) word_of_row
     ∙ flat_count (λ s. insts_from (link_map board sites) source.statements (filling sites s) s.start (origins_at s (filling sites s)))
-    (λ s. insts_count (link_map board sites) source.statements (filling sites s) s.start (origins_at s (filling sites s))
-    ∙ origins_count s (filling sites s) 0 (items_of s.plan))
+    (λ s. length-insts_from (link_map board sites) source.statements (filling sites s) s.start (origins_at s (filling sites s))
+    ∙ length-origins_from s (filling sites s) 0 (items_of s.plan))
     sites
 
 abbrev Between : ℕ → ℕ → ℕ → Type 0

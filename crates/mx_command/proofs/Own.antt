@@ -33,7 +33,7 @@ use Rattle.mx_module.specs.LinkFaults.{Refusal}
 use Rattle.mx_module.specs.Joined.{joined, join_fault}
 use Rattle.mx_simulate.specs.declared.Limits.{Limits}
 use Rattle.mx_simulate.specs.Simulated.{program_answer}
-use Rattle.mx_simulate.specs.Machines.{Files, given, by_requests, requests_protocol, input_protocol, machine_protocol}
+use Rattle.mx_simulate.specs.Machines.{Files, if_asked, by_requests, requests_protocol, input_protocol, machine_protocol}
 use Rattle.mx_debug.specs.declared.Ending.{Ending}
 use Rattle.mx_debug.specs.declared.Ending.TheVariants as ending
 use Rattle.mx_debug.specs.Sessions.{Session, session}
@@ -93,7 +93,7 @@ pub answers_machine :
     (files : Files) (limits : Limits) (code user_data : List ℕ) (asks : Bool) → HasAnswers (machine_protocol files limits code user_data asks)
 answers_machine files limits code user_data asks =
     answers_requests files.interrupts _ (λ requests. answers_input files.input _
-    (λ bytes. answers_program (program_of shipped code user_data (given asks bytes)) code requests limits))
+    (λ bytes. answers_program (program_of shipped code user_data (if_asked asks bytes)) code requests limits))
 
 answered_mark : (m : Mark) → is_answered (status_of m) ≡ true
 answered_mark meant.Going = refl
@@ -172,7 +172,7 @@ answers_stopped :
     → HasAnswers (session_protocol files limits code user_data asks address)
 answers_stopped files limits code user_data asks address =
     answers_requests files.interrupts _ (λ requests. answers_input files.input _ (λ bytes.
-    answers_session (session (program_of shipped code user_data (given asks bytes)) requests address limits.stops limits.watch limits.budget)))
+    answers_session (session (program_of shipped code user_data (if_asked asks bytes)) requests address limits.stops limits.watch limits.budget)))
 
 answers_unlabelled :
     (name : List ℕ) (found : Option ℕ) (next : ℕ → Protocol) → ((index : ℕ) → HasAnswers (next index))

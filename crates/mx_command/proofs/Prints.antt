@@ -30,7 +30,7 @@ use Rattle.mx_module.specs.LinkFaults.{Refusal}
 use Rattle.mx_module.specs.Joined.{joined, join_fault}
 use Rattle.mx_simulate.specs.declared.Limits.{Limits}
 use Rattle.mx_simulate.specs.Simulated.{program_answer}
-use Rattle.mx_simulate.specs.Machines.{Files, given, by_requests, requests_protocol, input_protocol, machine_protocol}
+use Rattle.mx_simulate.specs.Machines.{Files, if_asked, by_requests, requests_protocol, input_protocol, machine_protocol}
 use Rattle.mx_debug.specs.Sessions.{Session, session}
 use Rattle.mx_sessions.specs.declared.SessionLimits.{SessionLimits}
 use Rattle.mx_sessions.specs.Sessions.{session_answer, session_protocol}
@@ -65,7 +65,7 @@ input_prints (Some name) next prints = prints
 machine_prints : (files : Files) (limits : Limits) (code user_data : List ℕ) (asks : Bool) → OnlyPrints (machine_protocol files limits code user_data asks)
 machine_prints files limits code user_data asks =
     files_print files.interrupts _ (λ requests. input_prints files.input _
-    (λ bytes. program_prints (program_of shipped code user_data (given asks bytes)) code requests limits))
+    (λ bytes. program_prints (program_of shipped code user_data (if_asked asks bytes)) code requests limits))
 
 meaning_prints : (source : SourceValue) (place : Place) (input : List ℕ) (n : ℕ) → (meaning_answer source place input n).file ≡ None
 unfolding meaning_answer
@@ -126,7 +126,7 @@ stopped_prints :
     → OnlyPrints (session_protocol files limits code user_data asks address)
 stopped_prints files limits code user_data asks address =
     files_print files.interrupts _ (λ requests. input_prints files.input _ (λ bytes.
-    session_prints (session (program_of shipped code user_data (given asks bytes)) requests address limits.stops limits.watch limits.budget)))
+    session_prints (session (program_of shipped code user_data (if_asked asks bytes)) requests address limits.stops limits.watch limits.budget)))
 
 unlabelled_prints :
     (name : List ℕ) (found : Option ℕ) (next : ℕ → Protocol) → ((index : ℕ) → OnlyPrints (next index))

@@ -3,11 +3,11 @@ use Rattle.std.specs.Prelude.{◌≡◌, ◌≢◌, ℕ, ◌+◌, ◌≤◌, ◌
 use Rattle.mx_io.specs.Counts.{Rose, with_more}
 use Rattle.mx_io.specs.Shelves.{Counts}
 use Rattle.mx_source.specs.SourceValue.{SourceValue}
-use Rattle.mx_source.specs.Meaning.{Run as Meant, meaning, HaltsIn}
+use Rattle.mx_source.specs.Meaning.{Run, meaning, HaltsIn}
 use Rattle.mx_order.specs.Laws.{IsPrefix}
 use Rattle.mx_link.specs.Origins.{from_target}
 use Rattle.mx_link.specs.Linked.{linked_code}
-use Rattle.mx_turn.specs.Run.{Run, bound}
+use Rattle.mx_turn.specs.Run.{MachineRun, bound}
 use Rattle.mx_report.specs.Driving.{trace_text}
 use Rattle.mx_simulate.specs.Simulated.{run_text}
 use Rattle.mx_answer.specs.declared.Status.{Status}
@@ -35,7 +35,7 @@ module _ (asked : Option Command) (held : Held) (a : Accepted asked held) where
   accepted_source = source_of 256 a.text
 
   -- what its linked code does on the pipelined machine
-  abbrev pub accepted_run : Run
+  abbrev pub accepted_run : MachineRun
   accepted_run = source_run accepted_source a.sites a.requests a.input a.limits.budget
 
   -- the trace and the report of that run
@@ -45,7 +45,7 @@ module _ (asked : Option Command) (held : Held) (a : Accepted asked held) where
       run_text accepted_run trace (linked_code from_target accepted_source board a.sites) a.limits.dump
 
   -- what the source means, executed one statement after the other
-  abbrev pub meant : ℕ → Meant
+  abbrev pub meant : ℕ → Run
   meant n = meaning accepted_source board a.input n
 
   -- where the meaning is not stuck within the budget and a block more

@@ -3,7 +3,7 @@ use Rattle.std.specs.Prelude.{◌≡◌, ℕ, ◌+◌, cond, true, false, List, 
 use Rattle.mx_io.specs.Counts.{with_more}
 use Rattle.mx_squash.specs.Copies.{Site}
 use Rattle.mx_turn.specs.Program.{Program}
-use Rattle.mx_turn.specs.Run.{Run, run_of}
+use Rattle.mx_turn.specs.Run.{MachineRun, run_of}
 use Rattle.mx_link_laws.specs.Runs.{Linking}
 use Rattle.mx_tasks.specs.Places.{lower, upper}
 use Rattle.mx_tasks.specs.Sharing.{task_console}
@@ -47,7 +47,7 @@ module _ (asked : Option Command) (held : Held) (a : AcceptedPair asked held) wh
   abbrev pub pair_program : Program
   pair_program = shared_program first_linked second_linked
 
-  abbrev pub pair_run : Run
+  abbrev pub pair_run : MachineRun
   pair_run = run_of pair_program a.requests a.budget
 
   -- the status says how the run ended, exactly its report was put out, and where neither meaning is stuck within the budget and a block more, both

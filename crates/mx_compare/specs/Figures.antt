@@ -9,16 +9,16 @@ use Rattle.mx_squash.specs.Copies.{Site}
 use Rattle.mx_layout.specs.Layout.{IsLayout}
 use Rattle.mx_layout.specs.Kept.{AreKept}
 use Rattle.mx_link.specs.Origins.{Filling}
-use Rattle.mx_link.specs.Words.{noops_in}
+use Rattle.mx_code.specs.NoOps.{noops_in}
 use Rattle.mx_link.specs.Linked.{linked_code, linked_data}
 use Rattle.mx_turn.specs.Handler.{shipped}
 use Rattle.mx_turn.specs.Program.{program_of}
-use Rattle.mx_turn.specs.Run.{Run, run_of}
+use Rattle.mx_turn.specs.Run.{MachineRun, run_of}
 use Rattle.mx_meaning.specs.Boards.{board}
 use Rattle.mx_compare.specs.declared.figures.Figures.{Figures}
 
 -- the run of a source with this layout, its slots filled so
-abbrev pub run_with : Filling → SourceValue → List Site → List ℕ → List ℕ → ℕ → Run
+abbrev pub run_with : Filling → SourceValue → List Site → List ℕ → List ℕ → ℕ → MachineRun
 run_with filling source sites requests bytes budget =
     run_of (program_of shipped (linked_code filling source board sites) (linked_data source board sites) (given source.input bytes)) requests budget
 

@@ -13,6 +13,7 @@ use crate::{Ending, Stop, Stopped};
 use mx_board::Requests;
 use mx_io::Memory;
 use mx_isa::Reg;
+use mx_text::push_byte;
 use mx_turn::{Cycled, Machine, Stage};
 use std::alloc::{AllocError, Global};
 
@@ -91,19 +92,6 @@ fn stop_of<M: Machine>(machine: &M, cycle: u32, bytes: u32, watch: u32) -> Stop
         registers: registers_of(machine),
         md: machine.md(),
         word: machine.user_data(watch),
-    }
-}
-
-/// Appends a byte, if there is one.
-fn push_byte(console: &mut Vec<u8>, byte: Option<u8>) -> Result<(), AllocError>
-    ensures { OnOk result (console.new.items ≡ console.old.items ++ option_to_list byte) }
-{
-    match byte {
-        Some(byte) => {
-            console.push(byte)?;
-            Ok(())
-        }
-        None => Ok(()),
     }
 }
 

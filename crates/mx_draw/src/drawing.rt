@@ -9,7 +9,7 @@ use crate::Frame;
 use mx_board::Requests;
 use mx_io::Memory;
 use mx_isa::Reg;
-use mx_report::push_byte;
+use mx_text::push_byte;
 use mx_turn::Machine;
 use std::alloc::{AllocError, Global};
 

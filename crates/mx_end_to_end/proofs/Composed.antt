@@ -4,7 +4,7 @@ use Rattle.mx_isa.specs.Words.{Words}
 use Rattle.mx_code.specs.Decoding.{inst_of}
 use Rattle.mx_code.specs.Delay.{Delay, code_from, data_from}
 use Rattle.mx_source.specs.SourceValue.{SourceValue}
-use Rattle.mx_source.specs.Meaning.{Run as MeaningRun, State, given, meaning, HaltsIn}
+use Rattle.mx_source.specs.Meaning.{Run, State, given, meaning, HaltsIn}
 use Rattle.mx_squash.specs.Copies.{Site}
 use Rattle.mx_link.specs.Origins.{from_target}
 use Rattle.mx_link.specs.Linked.{linked_code, linked_data}
@@ -12,7 +12,7 @@ use Rattle.mx_order.specs.Laws.{IsPrefix}
 use Rattle.mx_turn.specs.Handler.{shipped}
 use Rattle.mx_turn.specs.Cycle.{start as machine_start}
 use Rattle.mx_turn.specs.Program.{program_of, memory_of}
-use Rattle.mx_turn.specs.Run.{Run, bits, bound}
+use Rattle.mx_turn.specs.Run.{MachineRun, bits, bound}
 use Rattle.mx_turn.specs.OneTurn.{IsOnBoard}
 use Rattle.mx_interrupts.specs.Laws.{EndsAs, RunsAs}
 use Rattle.mx_interrupts.proofs.Runs.{passed_few, length_bits}
@@ -41,7 +41,7 @@ module _ (source : SourceValue) (sites : List Site) (bytes : List ℕ) (laid : I
   abbrev data_words : List ℕ
   data_words = linked_data source board sites
 
-  abbrev M : ℕ → MeaningRun
+  abbrev M : ℕ → Run
   M m = meaning source board bytes m
 
   -- the linked code on the machine with delay slots
@@ -52,7 +52,7 @@ module _ (source : SourceValue) (sites : List Site) (bytes : List ℕ) (laid : I
   at_board = record { console = refl; input = refl }
 
   module _ (requests : List ℕ) (budget : ℕ) where
-    abbrev run : Run
+    abbrev run : MachineRun
     run = source_run source sites requests bytes budget
 
     passed : run.passed ≤ budget

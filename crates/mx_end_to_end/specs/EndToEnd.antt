@@ -10,7 +10,7 @@ use Rattle.mx_link.specs.Linked.{linked_code, linked_data}
 use Rattle.mx_order.specs.Laws.{IsPrefix}
 use Rattle.mx_turn.specs.Handler.{shipped}
 use Rattle.mx_turn.specs.Program.{Program, program_of}
-use Rattle.mx_turn.specs.Run.{Run, run_of, bound}
+use Rattle.mx_turn.specs.Run.{MachineRun, run_of, bound}
 use Rattle.mx_link_laws.specs.Runs.{IsLaid, Matches, block_ahead}
 use Rattle.mx_reorg.specs.Greedy.{IsGreedy}
 use Rattle.mx_asm.specs.Texts.{source_of, text_fault}
@@ -22,7 +22,7 @@ source_program source sites bytes =
     program_of shipped (linked_code from_target source board sites) (linked_data source board sites) (given source.input bytes)
 
 -- its run with requests at these cycles
-abbrev pub source_run : SourceValue → List Site → List ℕ → List ℕ → ℕ → Run
+abbrev pub source_run : SourceValue → List Site → List ℕ → List ℕ → ℕ → MachineRun
 source_run source sites requests bytes budget = run_of (source_program source sites bytes) requests budget
 
 -- the meaning is not stuck within n steps
@@ -30,7 +30,7 @@ abbrev pub IsUnstuck : SourceValue → List ℕ → ℕ → Type 0
 IsUnstuck source bytes n = is_stuck (meaning source board bytes n).state.mark ≡ false
 
 -- the meaning halts after n steps, and the run ends with its console and its state
-pub record EndsAsMeant (source : SourceValue) (sites : List Site) (bytes : List ℕ) (run : Run) (n : ℕ) : Type 0 where
+pub record EndsAsMeant (source : SourceValue) (sites : List Site) (bytes : List ℕ) (run : MachineRun) (n : ℕ) : Type 0 where
   pub halts : HaltsIn source board bytes n
   pub console : run.console ≡ (meaning source board bytes n).console
   pub state : Matches board sites run.last.core (meaning source board bytes n).state

@@ -1,5 +1,6 @@
 -- The forms of a statement, and what stands in the places of its operands.
 use Rattle.std.specs.Prelude.{ℕ, Bool, true, false, ◌&&◌, not, is_none, List, [], ◌∷◌, zip, Option, Some, if◌then◌else◌}
+use Rattle.mx_isa.specs.declared.board.TheConstants.{MAX_DATA_WORDS}
 use Rattle.mx_isa.specs.declared.inst.Special.{Special}
 use Rattle.mx_isa.specs.declared.inst.Special.TheVariants.{Pc1, Pc2, Pc3}
 use Rattle.mx_asm.specs.declared.position.Section.{Section}
@@ -163,7 +164,7 @@ is_outside (Immediate, Number negative value) = not (in_range 65536 65535 negati
 is_outside (ShiftCount, Number negative value) = not (in_range 0 31 negative value)
 is_outside (Offset, Number negative value) = not (in_range 65536 65535 negative value)
 is_outside (DataValue, Number negative value) = not (in_range 2147483648 4294967295 negative value)
-is_outside (WordCount, Number negative value) = not (in_range 0 65280 negative value)
+is_outside (WordCount, Number negative value) = not (in_range 0 MAX_DATA_WORDS negative value)
 is_outside _ = false
 
 -- a name in the place of a label is none of a text in which each name has this kind, or is no label

@@ -54,7 +54,8 @@ IsLeast l (Some least) = (holds l least ≡ true) × ((fault : Fault) → number
 abbrev pub assembled_fault : ℕ → ℕ → List ℕ → ℕ → Option Fault
 assembled_fault low end text place =
     let lines = lines_of text in
-    line_fault (text_labels low text) end (position_at_end (start low) (take place lines)) (labels_from (start low) [] (take place lines)) (get_or lines place [])
+    line_fault (text_labels low text) end
+    (position_at_end (start low) (take place lines)) (labels_from (start low) [] (take place lines)) (get_or lines place [])
 
 -- a line of a text, by its place
 abbrev pub text_line : ℕ → ℕ → List ℕ → ℕ → LineInText

@@ -1,6 +1,8 @@
 -- Each of the fourteen faults as a predicate of its own on a line within its text.
 use Rattle.std.specs.Prelude.{ℕ, ◌+◌, Bool, true, false, not, ◌||◌, ◌&&◌, ◌==◌, nat_lt, nat_le, List, [], ◌∷◌, ◌++◌, length, take, get_or, find, Option, Some, None, is_err, if◌then◌else◌}
 use Rattle.std.specs.List.{list_any}
+use Rattle.mx_asm.specs.declared.fault.TheConstants.{MAX_LINE_BYTES}
+use Rattle.mx_isa.specs.declared.board.TheConstants.{MAX_STATEMENTS}
 use Rattle.mx_lex.specs.Bytes.{is_allowed}
 use Rattle.mx_lex.specs.Tokens.{tokens_of}
 use Rattle.mx_asm.specs.declared.position.Section.{Section}
@@ -108,7 +110,7 @@ has_bad_directive l = is_misplaced (section_behind l.before) (form (statement l.
 
 -- F12: with this line there are more than 20,000 instructions
 abbrev pub has_too_many_instructions : LineInText → Bool
-has_too_many_instructions l = nat_lt 20000 (instructions (and_before l))
+has_too_many_instructions l = nat_lt MAX_STATEMENTS (instructions (and_before l))
 
 -- F13: the data words up to this line's end past the last address, or a data label would stand there
 abbrev pub has_full_data : LineInText → Bool
@@ -118,7 +120,7 @@ has_full_data l =
 
 -- F14: the line has more than 255 bytes without its line end
 abbrev pub is_too_long : LineInText → Bool
-is_too_long l = nat_lt 255 (length l.line)
+is_too_long l = nat_lt MAX_LINE_BYTES (length l.line)
 
 -- a fault holds of a line within its text
 abbrev pub holds : LineInText → Fault → Bool

@@ -1,6 +1,8 @@
 -- How the program goes over the lines of a text. Only private functions cite this.
 use Rattle.std.specs.Prelude.{◌≡◌, ℕ, ◌+◌, ◌-◌, Bool, nat_lt, List, [], ◌∷◌, take, get_or, option_map, Option, Some, None, if◌then◌else◌}
 use Rattle.std.specs.List.{cons_option}
+use Rattle.mx_asm.specs.declared.fault.TheConstants.{MAX_LINE_BYTES}
+use Rattle.mx_isa.specs.declared.board.TheConstants.{MAX_STATEMENTS}
 use Rattle.mx_asm.specs.declared.fault.Fault.{Fault}
 use Rattle.mx_asm.specs.declared.fault.Fault.TheVariants as f
 use Rattle.mx_asm.specs.declared.position.Section.{Section}
@@ -25,13 +27,14 @@ with_number number o = option_map (λ fault. (number, fault)) o
 abbrev pub walked : Labels → ℕ → Position → Labels → ℕ → List (List ℕ) → List (ℕ × Fault)
 walked labels end p earlier number [] = []
 walked labels end p earlier number (line ∷ lines) =
-    cons_option (with_number number (line_fault labels end p earlier line)) (walked labels end (after p (line_words line)) (with_labels p earlier (line_words line)) (number + 1) lines)
+    cons_option (with_number number (line_fault labels end p earlier line))
+    (walked labels end (after p (line_words line)) (with_labels p earlier (line_words line)) (number + 1) lines)
 
 -- the last three faults of a line that stands at a position
 abbrev pub place_fault : ℕ → Position → ℕ → List Word → Option Fault
 place_fault end p long words =
-    if nat_lt 20000 (after p words).index then Some f.TooManyInstructions
-    else (if is_full end p words then Some f.DataFull else (if nat_lt 255 long then Some f.LineTooLong else None))
+    if nat_lt MAX_STATEMENTS (after p words).index then Some f.TooManyInstructions
+    else (if is_full end p words then Some f.DataFull else (if nat_lt MAX_LINE_BYTES long then Some f.LineTooLong else None))
 
 -- a fault, or that of a label that is defined again
 abbrev pub or_repeat : Bool → Option Fault → Option Fault

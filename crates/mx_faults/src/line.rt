@@ -1,5 +1,6 @@
 //! The fault of a line that stands anywhere in a text.
 ghost use Rattle.std.specs.Prelude.{◌≡◌, ◌≤◌, [], map, length, IfOk};
+ghost use Rattle.mx_isa.specs.declared.board.TheConstants.{DATA_END};
 ghost use Rattle.mx_asm.specs.Faults;
 ghost use Rattle.mx_asm.specs.Positions;
 ghost use Rattle.mx_asm.specs.Shapes.{word};
@@ -7,8 +8,10 @@ ghost use Rattle.mx_faults.specs.Walking;
 ghost use Rattle.mx_faults.specs.Walking.{at_front};
 
 use mx_asm::{
-    AsmError, Fault, Labels, Position, Section, Word, define_all, read_lines, stands_past,
+    AsmError, Fault, Labels, MAX_LINE_BYTES, Position, Section, Word, define_all, read_lines,
+    stands_past,
 };
+use mx_isa::MAX_STATEMENTS;
 use std::alloc::{AllocError, Global};
 
 /// From where to before where data words stand.
@@ -29,11 +32,11 @@ pub fn place_fault(
     requires { next.now ≡ Positions.after position.now (map word words.now) }
     ensures { result ≡ Walking.place_fault end position.now long (map word words.now) }
 {
-    if next.index > 20_000 {
+    if next.index > MAX_STATEMENTS as u32 {
         Some(Fault::TooManyInstructions)
     } else if next.address > end || stands_past(end, position, words) {
         Some(Fault::DataFull)
-    } else if long > 255 {
+    } else if long > MAX_LINE_BYTES {
         Some(Fault::LineTooLong)
     } else {
         None
@@ -83,7 +86,7 @@ pub fn fault_alone(
     line: &[u8],
 ) -> Result<Option<Fault>, AllocError>
     requires order { bounds.now.data_start ≤ bounds.now.end }
-    requires within { bounds.now.end ≤ 65536 }
+    requires within { bounds.now.end ≤ DATA_END }
     ensures { IfOk result (λ o. o ≡ Faults.line_fault labels.now bounds.now.end (at_front section bounds.now.data_start) [] line.now) }
 {
     let lines = [line];

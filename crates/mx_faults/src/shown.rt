@@ -13,7 +13,7 @@ ghost use Rattle.mx_faults.specs.Walking.{kind_by};
 use crate::role::{Role, places};
 use crate::span::{Span, bad_byte_span, bad_token_span, token_span};
 use mx_asm::{Fault, Labels, Section, Word, is_dotted, spells, statement_words};
-use mx_isa::Special;
+use mx_isa::{MAX_DATA_WORDS, Special};
 use mx_source::Label;
 use std::alloc::{AllocError, Global};
 
@@ -107,7 +107,7 @@ fn is_outside(role: &Role, found: &Word) -> bool
             Role::Immediate | Role::Offset => !is_within(65536, 65535, *negative, *value),
             Role::ShiftCount => !is_within(0, 31, *negative, *value),
             Role::DataValue => !is_within(0x8000_0000, 0xffff_ffff, *negative, *value),
-            Role::WordCount => !is_within(0, 65280, *negative, *value),
+            Role::WordCount => !is_within(0, MAX_DATA_WORDS as u64, *negative, *value),
             _ => false,
         },
         _ => false,

@@ -6,27 +6,13 @@ ghost use Rattle.mx_lex.specs.Tokens.{tokens_of};
 ghost use Rattle.mx_lex.specs.Tokens;
 ghost use Rattle.mx_faults.specs.Showing;
 
-use mx_lex::{Kind, LexFault, Lexer};
+use mx_lex::{Kind, LexFault, Lexer, is_allowed, name_end};
 
 /// Bytes of a line: from `start` to before `end`.
 #[derive(Clone, Copy, Debug, PartialEq, Eq)]
 pub struct Span {
     pub start: usize,
     pub end: usize,
-}
-
-/// The byte may stand outside comments.
-fn is_allowed(byte: u8) -> bool
-    ensures { result ≡ Bytes.is_allowed byte }
-{
-    (b' '..=b'~').contains(&byte) || byte == b'\t'
-}
-
-/// A name may go on with the byte.
-fn continues_name(byte: u8) -> bool
-    ensures { result ≡ Bytes.continues_name byte }
-{
-    byte.is_ascii_alphabetic() || byte == b'_' || byte == b'.' || char::from(byte).is_digit(10)
 }
 
 /// Where the bytes from the front on end that may stand outside comments.
@@ -36,18 +22,6 @@ fn allowed_end(line: &[u8]) -> usize
 {
     let mut end = 0;
     while end < line.len() && is_allowed(line[end]) {
-        end += 1;
-    }
-    end
-}
-
-/// Where the bytes of a name from a place on end.
-fn name_end(line: &[u8], at: usize) -> usize
-    requires { at ≤ length line.now }
-    ensures end { result ≡ at + prefix_len Bytes.continues_name (drop at line.now) }
-{
-    let mut end = at;
-    while end < line.len() && continues_name(line[end]) {
         end += 1;
     }
     end

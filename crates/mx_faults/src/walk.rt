@@ -1,6 +1,8 @@
 //! All faulty lines of a text.
 ghost use Rattle.std.specs.Prelude.{◌≡◌, ◌≤◌, ◌<◌, ◌+◌, ◌-◌, ◌^◌, ◌++◌, [], map, length, take, All, IfOk, IfSome, OnOk};
 ghost use Rattle.std.specs.List.{cons_option};
+ghost use Rattle.mx_isa.specs.declared.board.TheConstants.{DATA_END};
+ghost use Rattle.mx_io.specs.declared.limits.TheConstants.{MAX_SOURCE_BYTES};
 ghost use Rattle.mx_asm.specs.Faults;
 ghost use Rattle.mx_asm.specs.Positions;
 ghost use Rattle.mx_asm.specs.Positions.{line_words};
@@ -58,7 +60,7 @@ fn see<'a>(
     requires room { position.now.index < 2 ^ 32 - 1 }
     requires near { position.now.address ≤ 65537 }
     requires order { bounds.now.data_start ≤ bounds.now.end }
-    requires within { bounds.now.end ≤ 65536 }
+    requires within { bounds.now.end ≤ DATA_END }
     ensures fault { IfOk result (λ s. s.fault ≡ Faults.line_fault labels.now bounds.now.end position.now earlier.old line.entry.now) }
     ensures span { IfOk result (λ s. IfSome s.fault (IsShownAs labels.now earlier.old position.now line.entry.now s.span)) }
     ensures next { IfOk result (λ s. s.next ≡ Positions.after position.now (Positions.line_words line.entry.now)) }
@@ -101,9 +103,9 @@ fn walk(
     lines: &[&[u8]],
     at_most: u32,
 ) -> Result<Vec<LineFault>, AllocError>
-    requires few { length lines.now ≤ 4194304 }
+    requires few { length lines.now ≤ MAX_SOURCE_BYTES }
     requires order { bounds.now.data_start ≤ bounds.now.end }
-    requires within { bounds.now.end ≤ 65536 }
+    requires within { bounds.now.end ≤ DATA_END }
     ensures spans { IfOk result (λ v. All (IsShown labels.now bounds.now.data_start (texts lines.now)) v.items) }
     ensures found { IfOk result (λ v. map numbered v.items ≡ take at_most (walked labels.now bounds.now.end (Positions.start bounds.now.data_start) [] 1 (texts lines.now))) }
 {
@@ -131,8 +133,8 @@ fn found_in(
     at_most: u32,
 ) -> Result<Vec<LineFault>, AllocError>
     requires order { bounds.now.data_start ≤ bounds.now.end }
-    requires within { bounds.now.end ≤ 65536 }
-    requires short { length text.now ≤ 4194304 }
+    requires within { bounds.now.end ≤ DATA_END }
+    requires short { length text.now ≤ MAX_SOURCE_BYTES }
     ensures found { IfOk result (λ v. map numbered v.items ≡ take at_most (faults_in bounds.now.data_start bounds.now.end text.now)) }
     ensures spans { IfOk result (λ v. All (HasSpan bounds.now.data_start bounds.now.end text.now) v.items) }
 {
@@ -155,8 +157,8 @@ pub fn assemble_all(
     at_most: u32,
 ) -> Result<Vec<LineFault>, Memory>
     requires order { data_start ≤ end }
-    requires within { end ≤ 65536 }
-    requires short { length text.now ≤ 4194304 }
+    requires within { end ≤ DATA_END }
+    requires short { length text.now ≤ MAX_SOURCE_BYTES }
     ensures faults { IfOk result (λ v. map numbered v.items ≡ take at_most (faults_in data_start end text.now)) }
     ensures spans { IfOk result (λ v. All (HasSpan data_start end text.now) v.items) }
     ensures first { 0 < at_most → IfOk result (λ v. first (map numbered v.items) ≡ text_fault data_start end text.now) }

@@ -1,5 +1,6 @@
 -- The generated source.
 use Rattle.std.specs.Prelude.{ℕ, zero, suc, ◌+◌, ◌*◌, ◌/◌, ◌%◌, ◌^◌, ◌==◌, pos, negsuc, if◌then◌else◌, ◌∷◌, decimal, length}
+use Rattle.mx_isa.specs.declared.board.TheConstants.{DATA_BASE, CONSOLE}
 use Rattle.mx_isa.specs.declared.inst.Cond.TheVariants.{Ne, Lt}
 use Rattle.mx_isa.specs.declared.inst.Op.{Op}
 use Rattle.mx_isa.specs.declared.inst.Op.TheVariants.{Add, Sub, Xor}
@@ -26,7 +27,7 @@ abbrev pub third : ℕ → ℕ
 third x = 1 + x / 2 ^ 14 % 8
 
 abbrev pub address : ℕ → ℕ
-address x = 256 + x / 2 ^ 17 % 64
+address x = DATA_BASE + x / 2 ^ 17 % 64
 
 -- addi r0,#n,r
 abbrev pub set : ℕ → ℕ → Draft → Draft
@@ -57,7 +58,7 @@ item x j d =
     else (if kind x == 3 then put (Plain (Store 0 (first x) (pos (address x)))) d
     else (if kind x == 4 then put (Plain (Load 0 (third x) (pos (address x)))) d
     else (if kind x == 5 then round j (first x) (second x) (third x) d
-    else (if kind x == 6 then put (Plain (Store 0 (first x) (pos 255))) d
+    else (if kind x == 6 then put (Plain (Store 0 (first x) (pos CONSOLE))) d
     else skip j (first x) (second x) (third x) d))))))
 
 -- so many items, from the number j on, each with a draw

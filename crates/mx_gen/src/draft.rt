@@ -1,5 +1,6 @@
 //! A source as it grows.
 ghost use Rattle.std.specs.Prelude.{◌≡◌, ◌<◌, ◌≤◌, ◌∷◌, ◌^◌, decimal, length, OnOk, IfOk};
+ghost use Rattle.mx_isa.specs.declared.board.TheConstants.{MAX_STATEMENTS};
 ghost use Rattle.mx_source.specs.Names.{name_bytes};
 ghost use Rattle.mx_source.specs.SourceValue.{IsSource};
 ghost use Rattle.mx_gen.specs.Drafts.{empty, put, name, finished};
@@ -45,7 +46,7 @@ impl Draft {
 
     /// The index of the next statement.
     pub(crate) fn index(&self) -> u32
-        requires { length self.now.statements ≤ 20000 }
+        requires { length self.now.statements ≤ MAX_STATEMENTS }
         ensures { result ≡ length self.now.statements }
     {
         self.statements.len() as u32
@@ -72,7 +73,7 @@ impl Draft {
     /// Puts a label on the next line, of a letter and a number.
     pub(crate) fn name(&mut self, alloc: Global, letter: u8, j: u32) -> Result<(), Memory>
         requires line { self.old.line < 2 ^ 31 }
-        requires few { length self.old.statements ≤ 20000 }
+        requires few { length self.old.statements ≤ MAX_STATEMENTS }
         requires new { IsNew (letter ∷ decimal j) self.old.labels }
         ensures { OnOk result (self.new ≡ name (letter ∷ decimal j) self.old) }
     {

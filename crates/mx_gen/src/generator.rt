@@ -1,5 +1,6 @@
 //! The generated source.
 ghost use Rattle.std.specs.Prelude.{◌≡◌, ◌<◌, ◌≤◌, ◌^◌, ◌∷◌, ℕ, List, pos, decimal, length, OnOk, IfOk};
+ghost use Rattle.mx_isa.specs.declared.board.TheConstants.{MAX_STATEMENTS};
 ghost use Rattle.mx_gen.specs.Drafts.{put};
 ghost use Rattle.mx_gen.specs.Generated.{kind, first, second, third, address, opening, compute, round, skip, item, generated};
 ghost use Rattle.mx_isa.specs.declared.place.Place.{Place as AnyPlace};
@@ -8,7 +9,7 @@ ghost use Rattle.mx_gen.specs.Near.{AllNear};
 ghost use Rattle.mx_gen.specs.Sound.{IsSound, IsNew};
 
 use crate::draft::Draft;
-use mx_isa::{Cond, Inst, Op, Reg};
+use mx_isa::{CONSOLE, Cond, DATA_BASE, Inst, Op, Reg};
 use mx_source::{Memory, Source, Statement};
 use std::alloc::Global;
 
@@ -68,7 +69,7 @@ fn read(x: u32) -> Drawn
         first: register(1 + x / 0x100 % 8),
         second: register(1 + x / 0x800 % 8),
         third: register(1 + x / 0x4000 % 8),
-        address: (256 + x / 0x2_0000 % 64) as i32,
+        address: (DATA_BASE + x / 0x2_0000 % 64) as i32,
     }
 }
 
@@ -114,7 +115,7 @@ fn add_item(alloc: Global, draft: &mut Draft, x: u32, j: u32) -> Result<(), Memo
         6 => draft.put(&Statement::Plain(Inst::Store {
             base: zero,
             value: a,
-            offset: 255,
+            offset: CONSOLE as i32,
         })),
         _ => skip(alloc, draft, j, a, b, c),
     }
@@ -131,7 +132,7 @@ fn compute(draft: &mut Draft, op: Op, a: Reg, b: Reg, dest: Reg) -> Result<(), M
 /// An addition, three times.
 fn round(alloc: Global, draft: &mut Draft, j: u32, a: Reg, b: Reg, c: Reg) -> Result<(), Memory>
     requires line { draft.old.line < 2 ^ 30 }
-    requires few { length draft.old.statements < 20000 }
+    requires few { length draft.old.statements < MAX_STATEMENTS }
     requires new { IsNew (76 ∷ decimal j) draft.old.labels }
     ensures { OnOk result (draft.new ≡ round j a b c draft.old) }
 {

@@ -9,7 +9,7 @@ use Rattle.mx_code.specs.Clean.{is_inside, Watched, watch_start}
 use Rattle.mx_turn.specs.Cycle.{start}
 use Rattle.mx_turn.specs.Handler.{shipped}
 use Rattle.mx_turn.specs.Program.{program_of}
-use Rattle.mx_turn.specs.Run.{Run, run_of, bits}
+use Rattle.mx_turn.specs.Run.{MachineRun, run_of, bits}
 use Rattle.mx_turn.specs.OneTurn.{IsOnBoard}
 use Rattle.mx_interrupts.specs.Laws.{RunsAs, IsCleanImage}
 use Rattle.mx_handler.proofs.Pauses.{erased, Setting, Handled, IsLawful}
@@ -35,7 +35,7 @@ module _ (handler_words user_words data_words : List ℕ) (p : Place) (input : O
   abbrev words : Words
   words = data_from 256 data_words
 
-  abbrev run : Run
+  abbrev run : MachineRun
   run = run_of (program handler_words user_words inside p input data_words) requests budget
 
   -- the steps that are done

@@ -6,11 +6,11 @@ use Rattle.mx_code.specs.Delay.{Delay, code_from, data_from, delay}
 use Rattle.mx_code.specs.Clean.{is_inside, IsClean}
 use Rattle.mx_turn.specs.OneTurn.{UserSame, IsOnBoard}
 use Rattle.mx_turn.specs.Program.{program_of}
-use Rattle.mx_turn.specs.Run.{Run, run_of}
+use Rattle.mx_turn.specs.Run.{MachineRun, run_of}
 use Rattle.mx_turn.specs.Handler.{shipped}
 
 -- registers, MD, user data and the number of input bytes taken are equal, and system word 0 counts the interrupts taken
-pub record EndsAs (p : Place) (run : Run) (d : Delay) : Type 0 where
+pub record EndsAs (p : Place) (run : MachineRun) (d : Delay) : Type 0 where
   pub regs : run.last.core.regs ≡ d.core.regs
   pub md : run.last.core.md ≡ d.core.md
   pub mem : UserSame p run.last.core.mem d.core.mem
@@ -18,7 +18,7 @@ pub record EndsAs (p : Place) (run : Run) (d : Delay) : Type 0 where
   pub counted : run.last.core.mem 0 ≡ run.counts.interrupts % 2 ^ 32
 
 -- the run has the console, it halted or not alike, and where it halted the end is the same
-pub record RunsAs (p : Place) (run : Run) (d : Delay) : Type 0 where
+pub record RunsAs (p : Place) (run : MachineRun) (d : Delay) : Type 0 where
   pub console : run.console ≡ d.console
   pub halted : run.halted ≡ d.halted
   pub ends : run.halted ≡ true → EndsAs p run d

@@ -19,8 +19,17 @@ pub const CONSOLE: u32 = 255;
 /// The address of the input.
 pub const INPUT: u32 = 254;
 
+/// The last address that the board has for data, and that a link has.
+pub const LAST_ADDRESS: u32 = 65_535;
+
 /// How many statements a source has at most.
 pub const MAX_STATEMENTS: usize = 20_000;
+
+/// How many code words an image has at most: three for each statement.
+pub const MAX_CODE_WORDS: usize = 60_000;
+
+/// How many data words an image has at most: those of user data.
+pub const MAX_DATA_WORDS: usize = 65_280;
 
 impl Place {
     /// The place of the board.

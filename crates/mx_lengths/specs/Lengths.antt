@@ -50,7 +50,8 @@ part name n = name ++ decimal n
 abbrev pub block_line : List ℕ → Block → List ℕ
 block_line lines block =
     line (((((part (codes "line ") (slice_index lines block.first) ++ part (codes " size ") (size block))
-    ++ part (codes " padded ") (padded_length block)) ++ part (codes " list ") (greedy_length block)) ++ codes " best ") ++ searched_text (searched_length block))
+    ++ part (codes " padded ") (padded_length block)) ++ part (codes " list ") (greedy_length block))
+    ++ codes " best ") ++ searched_text (searched_length block))
 
 abbrev pub sum_lines : List Block → List ℕ
 sum_lines blocks =

@@ -44,7 +44,11 @@ number_at line at =
 
 -- a token of one byte
 abbrev pub mark_of : ℕ → Option Kind
-mark_of b = if b == 44 then Some Comma else (if b == 91 then Some Open else (if b == 93 then Some Close else (if b == 35 then Some Hash else (if b == 58 then Some Colon else None))))
+mark_of b =
+    if b == 44 then Some Comma
+    else (if b == 91 then Some Open
+    else (if b == 93 then Some Close
+    else (if b == 35 then Some Hash else (if b == 58 then Some Colon else None))))
 
 abbrev pub mark_or_number_at : List ℕ → ℕ → Option Kind → Result Token LexFault
 mark_or_number_at line at (Some kind) = Ok (token kind at (at + 1))

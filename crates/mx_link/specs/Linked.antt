@@ -11,7 +11,8 @@ use Rattle.mx_layout.specs.Kept.{AreKept}
 use Rattle.mx_layout.specs.Overlong.{overlong}
 use Rattle.mx_link.specs.declared.linked.Linked.{Linked}
 use Rattle.mx_link.specs.Origins.{Filling, origins_of, copies_in}
-use Rattle.mx_link.specs.Words.{code_of, words_of, noops_in}
+use Rattle.mx_code.specs.NoOps.{noops_in}
+use Rattle.mx_link.specs.Words.{code_of, words_of}
 
 -- a map at n indices from i on
 abbrev pub map_from : (ℕ → ℕ) → ℕ → ℕ → List ℕ

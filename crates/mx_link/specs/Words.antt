@@ -1,6 +1,6 @@
 -- The words of linked code and data.
-use Rattle.std.specs.Prelude.{ℕ, suc, ◌+◌, ◌-◌, ◌==◌, ℤ, pos, negsuc, cond, leb, List, [], ◌∷◌, length, map, Option, Some, None, slice_get}
-use Rattle.std.specs.List.{filter, flat_map}
+use Rattle.std.specs.Prelude.{ℕ, suc, ◌+◌, ◌-◌, ℤ, pos, negsuc, cond, leb, List, [], ◌∷◌, map, Option, Some, None, slice_get}
+use Rattle.std.specs.List.{flat_map}
 use Rattle.mx_isa.specs.declared.Inst.{Inst}
 use Rattle.mx_isa.specs.declared.Inst.TheVariants.{Addi, Jspci}
 use Rattle.mx_isa.specs.declared.Inst.TheVariants.{Branch as BranchInst}
@@ -59,7 +59,3 @@ value_word link (Code i) = link i
 
 abbrev pub words_of : (ℕ → ℕ) → List Value → List ℕ
 words_of link values = map (value_word link) values
-
--- the words that are the no-op
-abbrev pub noops_in : List ℕ → ℕ
-noops_in code = length (filter (λ w. w == 0x40000000) code)

@@ -1,13 +1,13 @@
 //! Linked instructions.
 ghost use Rattle.std.specs.Prelude.{◌≡◌, ◌≤◌, ◌<◌, ◌^◌, length, All, slice_get, slice_index};
-ghost use Rattle.mx_code.specs.Delay.{idle};
 ghost use Rattle.mx_source.specs.Statements.{StatementFits};
 ghost use Rattle.mx_squash.specs.Copies.{no_copies};
 ghost use Rattle.mx_link.specs.Words.{displacement, linked_inst, linked_statement, inst_at};
 
 use crate::Origin;
 use mx_blocks::Item;
-use mx_isa::{Inst, Op, Reg};
+use mx_code::IDLE;
+use mx_isa::{Inst, Reg};
 use mx_source::Statement;
 use mx_squash::Copied;
 
@@ -18,18 +18,6 @@ fn displacement(from: u32, to: u32) -> i32
     ensures { result ≡ displacement from to }
 {
     to as i32 - from as i32
-}
-
-/// The no-op.
-fn idle() -> Inst
-    ensures { result ≡ idle }
-{
-    Inst::Compute {
-        a: Reg::ZERO,
-        dest: Reg::ZERO,
-        b: Reg::ZERO,
-        op: Op::Add,
-    }
 }
 
 /// No word is copied.
@@ -88,7 +76,7 @@ fn linked_at(statements: &[Statement], i: u32, links: &[u32], copied: &Copied, a
 {
     match statements.get(i as usize) {
         Some(statement) => linked_inst(statement, links, copied, at),
-        None => idle(),
+        None => IDLE,
     }
 }
 
@@ -108,6 +96,6 @@ pub(crate) fn inst_at(
     match origin {
         Origin::Own(i) => linked_at(statements, i, links, copied, at),
         Origin::Copy(i) => linked_at(statements, i, links, &no_copies(), at),
-        Origin::Pad => idle(),
+        Origin::Pad => IDLE,
     }
 }

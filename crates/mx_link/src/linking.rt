@@ -4,7 +4,8 @@ ghost use Rattle.mx_source.specs.Statements.{ValueFits};
 ghost use Rattle.mx_source.specs.SourceValue.{IsSource};
 ghost use Rattle.mx_layout.specs.Overlong.{IsRefusal};
 ghost use Rattle.mx_link.specs.Origins.{from_target, from_nowhere, origins_of, copies_in};
-ghost use Rattle.mx_link.specs.Words.{code_of, words_of, value_word, noops_in};
+ghost use Rattle.mx_link.specs.Words.{code_of, words_of, value_word};
+ghost use Rattle.mx_code.specs.NoOps.{noops_in};
 ghost use Rattle.mx_link.specs.Parts.{filling_of, sites_of, link_in, IsLaidOut, HaveRegisters};
 ghost use Rattle.mx_link.specs.Linked.{IsLinked};
 
@@ -153,7 +154,7 @@ fn noops_in(code: &[u32]) -> u32
     requires { length code.now ≤ 60000 }
     ensures { result ≡ noops_in code.now }
 {
-    code.iter().filter(|word| **word == 0x4000_0000).count() as u32
+    mx_code::noops_in(code) as u32
 }
 
 /// How many words are copies.

@@ -18,7 +18,7 @@ use Rattle.mx_isa.specs.Arithmetic.{condition_holds}
 use Rattle.mx_depend.specs.Graphs.{inst_at as inst_number}
 use Rattle.mx_source.specs.declared.statement.Statement.{Statement}
 use Rattle.mx_source.specs.declared.statement.Statement.TheVariants.{Plain, LaCode, Branch, Call, CallReg, JumpReg, Halt}
-use Rattle.mx_source.specs.Labels.{is_labelled, IsPlace}
+use Rattle.mx_source.specs.Labels.{IsPlace}
 use Rattle.mx_source.specs.Statements.{StatementFits}
 use Rattle.mx_source.specs.SourceValue.{SourceValue}
 use Rattle.mx_source.specs.Values.{value_in}
@@ -27,8 +27,8 @@ use Rattle.mx_blocks.specs.declared.block.Block.{Block}
 use Rattle.mx_blocks.specs.declared.block.Item.{Item}
 use Rattle.mx_blocks.specs.declared.block.Item.TheVariants.{Op, Nop}
 use Rattle.mx_blocks.specs.declared.block.End.TheVariants.{Falls as FallsEnd, Jumps as JumpsEnd}
-use Rattle.mx_blocks.specs.Leaders.{ends_there, gap, is_leader, end_of, size, IsBlockOf, BlocksFrom}
-use Rattle.mx_blocks.proofs.Splits.{gap_small}
+use Rattle.mx_blocks.specs.Leaders.{is_leader, end_of, size, IsBlockOf, BlocksFrom}
+use Rattle.mx_blocks.proofs.LeadersBegin.{block_small}
 use Rattle.mx_validate.specs.Padded.{items_of, falls, body_count}
 use Rattle.mx_squash.specs.declared.copying.Copied.{Copied}
 use Rattle.mx_squash.specs.Copies.{reaches, Site, site_of, is_target, always_goes, terminator, is_branch_end}
@@ -98,31 +98,6 @@ next_links source i j at (s ∷ list) h st (suc k) d l =
     ap (λ c. cond c at (link_of (at + plan_size s.plan) list (r.block.first + size r.block)))
     (behind_block (r.block.first + size r.block) s.block (omega arith))
     ∙ next_links source (i + size s.block) j (at + plan_size s.plan) list h.2 st.1 k d (omega arith)
-
--- a block has at most 64 statements
-gap_in :
-    (source : SourceValue) (b : Block) → IsBlockOf source b → (t : ℕ) → t < size b
-    → gap (is_labelled source.labels) source.statements (b.first + t) ≡ t
-gap_in source b h zero l = ap (gap (is_labelled source.labels) source.statements) (let e : b.first + 0 ≡ b.first = omega arith in e) ∙ eqb-true _ 0 h.leader
-gap_in source b h (suc t) l =
-    let on : b.first + suc t ≡ suc (b.first + t) = omega arith in
-    let quiet = h.inner (suc t) (omega arith) l in
-    ap (gap (is_labelled source.labels) source.statements) on
-    ∙ counts (is_labelled source.labels (suc (b.first + t)) ||
-    (ends_there (slice_get source.statements (b.first + t)) || eqb (gap (is_labelled source.labels) source.statements (b.first + t)) 63))
-    (gap (is_labelled source.labels) source.statements (b.first + t)) (ap (is_leader source) (sym on) ∙ quiet)
-    ∙ ap (λ n. suc n) (gap_in source b h t (omega arith))
-  where
-    counts : (c : Bool) (n : ℕ) → eqb (cond c 0 (suc n)) 0 ≡ false → cond c 0 (suc n) ≡ suc n
-    counts true n e = absurd (false_true (sym e))
-    counts false n e = refl
-
-few_statements : (source : SourceValue) (b : Block) → IsBlockOf source b → size b ≤ 64
-few_statements source b h =
-    let some = h.some in
-    let g = gap_in source b h (size b - 1) (omega arith) in
-    let m = gap_small (is_labelled source.labels) source.statements (b.first + (size b - 1)) in
-    omega arith
 
 left_below : (n : ℕ) (f g : Item) → AreBelow n (f ∷ g ∷ []) → AreBelow n (f ∷ [])
 left_below n (Op k) g h = (h.0, tt)
@@ -195,7 +170,7 @@ module _ (known : Known) where
     abbrev lay : LayAt first
     lay = record {
       planned = planned;
-      few = few_statements source s.block st.of.block;
+      few = block_small source s.block st.of.block;
       body = body (linked_site known s st);
       next = next_is ∙ ap (λ a. a + plan_size s.plan) (sym st.of.start);
       lead = st.of.block.next;

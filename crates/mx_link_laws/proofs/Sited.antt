@@ -30,6 +30,7 @@ use Rattle.mx_link.specs.Words.{linked_inst, linked_statement, inst_at, insts_fr
 use Rattle.mx_link.specs.Parts.{origin_at}
 use Rattle.mx_link.proofs.Bodies.{inst_is, is_last_of}
 use Rattle.mx_link.proofs.Fits.{inst_fits}
+use Rattle.mx_link.proofs.Sizes.{length-origins_from}
 use Rattle.mx_order.specs.Laws.{unplaced, IsPlanned}
 use Rattle.mx_order.specs.Parts.{AreBelow}
 use Rattle.mx_order.proofs.Split.{body_within, body_goes_on}
@@ -105,10 +106,6 @@ insts_append link statements c at (x ∷ xs) ys =
     ap (λ l. inst_at link statements c at x ∷ l)
     (insts_append link statements c (suc at) xs ys ∙ ap (λ n. insts_from link statements c (suc at) xs ++ insts_from link statements c n ys)
     (let e : suc at + length xs ≡ at + suc (length xs) = omega arith in e))
-
-origins_length : (s : Site) (c : Copied) (p : ℕ) (items : List Item) → length (origins_from s c p items) ≡ length items
-origins_length s c p [] = refl
-origins_length s c p (x ∷ items) = ap (λ n. suc n) (origins_length s c (suc p) items)
 
 module _ (here : LinkedSite) where
   open here use {source, well_formed as is, link, site as s, copied as c, block as b, valid as v, goes as g}
@@ -266,7 +263,7 @@ module _ (here : LinkedSite) where
       ∙ (λ k. words_from 0 xs ++ insts_from link source.statements c (there_on k) (origins_from s c (here_on k) ys))
     where
       there_on : s.start + 0 + length (origins_from s c 0 xs) ≡ s.start + length xs
-      there_on = let e = origins_length s c 0 xs in omega arith
+      there_on = let e = length-origins_from s c 0 xs in omega arith
 
       here_on : 0 + length xs ≡ length xs
       here_on = omega arith

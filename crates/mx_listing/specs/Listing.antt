@@ -11,7 +11,7 @@ use Rattle.mx_link.specs.declared.linked.Linked.{Linked}
 use Rattle.mx_link.specs.declared.linked.Origin.{Origin}
 use Rattle.mx_link.specs.declared.linked.Origin.TheVariants.{Own, Copy, Pad}
 use Rattle.mx_link.specs.Origins.{from_target, origins_of, copies_in}
-use Rattle.mx_link.specs.Words.{noops_in}
+use Rattle.mx_code.specs.NoOps.{noops_in}
 use Rattle.mx_link.specs.Linked.{linked_code, links_of}
 use Rattle.mx_text.specs.Text.{word_text, line, named_line, count_line, lines_from}
 use Rattle.mx_turn.specs.Handler.{shipped}

@@ -8,6 +8,7 @@ ghost use Rattle.mx_meaning.specs.Endings.{mark_of, mark_after};
 
 use mx_seq::{Seq, Stepped};
 use mx_source::Why;
+use mx_text::push_byte;
 use std::alloc::AllocError;
 
 /// How a run stands after its steps.
@@ -23,19 +24,6 @@ pub enum Ending {
 pub struct Progress {
     pub steps: u32,
     pub ending: Ending,
-}
-
-// Appends a byte, if there is one.
-fn push_byte(console: &mut Vec<u8>, byte: Option<u8>) -> Result<(), AllocError>
-    ensures { OnOk result (console.new.items ≡ console.old.items ++ option_to_list byte) }
-{
-    match byte {
-        Some(byte) => {
-            console.push(byte)?;
-            Ok(())
-        }
-        None => Ok(()),
-    }
 }
 
 // One step of a program that goes on, and how it ended, if it did.

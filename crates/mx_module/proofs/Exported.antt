@@ -110,7 +110,8 @@ export_by true before line h = cc
 export_by false true line h = cc
 export_by false false line h = refl
 
-fresh_by : (all : List ModuleValue) (place : ℕ) (m : ModuleValue) (number : ℕ) (kind : LinkKind) (name : Option (List ℕ)) → link_fault all place m (record { number = number; kind = kind; name = name }) ≡ None
+fresh_by : (all : List ModuleValue) (place : ℕ) (m : ModuleValue) (number : ℕ) (kind : LinkKind) (name : Option (List ℕ))
+    → link_fault all place m (record { number = number; kind = kind; name = name }) ≡ None
     → GoodLink (IsFresh (take place all)) kind name
 fresh_by all place m number Export (Some n) h =
     export_by (not (is_label m n)) (is_some (first_exporter (take place all) n)) (is_before (export_line (exports_of m) n) number) h

@@ -111,7 +111,7 @@ fn push_row(
 }
 
 // Appends the byte that a cycle sent, as a character where it is a letter, a digit or another sign that stands for itself.
-fn push_byte(text: &mut String, x: u64, byte: u8) -> Result<(), AllocError> {
+fn push_sent_byte(text: &mut String, x: u64, byte: u8) -> Result<(), AllocError> {
     if byte.is_ascii_alphanumeric() {
         let sign = char::from(byte);
         write!(text, "<text class=\"g\" x=\"{x}\" y=\"46\">'{sign}'</text>")
@@ -143,7 +143,7 @@ fn push_head(
         push_word(text, x, 32, "req")?;
     }
     match frame.cycled.byte {
-        Some(byte) => push_byte(text, x, byte),
+        Some(byte) => push_sent_byte(text, x, byte),
         None => Ok(()),
     }
 }

@@ -1,5 +1,6 @@
 -- What the latches and the register file have to do with the definition's state.
 use Rattle.std.specs.Prelude.{◌≡◌, ℕ, Bool, false, cond, List, ◌∷◌, Option, Some, slice_index}
+use Rattle.mx_isa.specs.declared.board.TheConstants.{CODE_BASE}
 use Rattle.mx_isa.specs.Words.{Words, reg, write}
 use Rattle.mx_isa.specs.Views.{sources, dest}
 use Rattle.mx_code.specs.Decoding.{inst_of}
@@ -19,7 +20,7 @@ use Rattle.mx_pipe.specs.Made.{allowed, md_behind, md_kept}
 
 -- what each address of code does
 abbrev pub code_of_pipe : {C : Type 0} → Pipe C → Code
-code_of_pipe p = code_with (code_from inst_of 0 p.handler.items) (code_from inst_of 4096 p.code.items)
+code_of_pipe p = code_with (code_from inst_of 0 p.handler.items) (code_from inst_of CODE_BASE p.code.items)
 
 -- a latch before the operands of its word are read
 pub record IsFetched (code : Code) (l : Latched) (stage : Option Fetch) : Type 0 where

@@ -1,5 +1,6 @@
 //! The word that is fetched.
 ghost use Rattle.std.specs.Prelude.{◌≡◌, ◌<◌, ◌^◌, ◌-◌, IfSome, Some, unwrap_or, slice_get, option_and_then, leb, if◌then◌else◌};
+ghost use Rattle.mx_isa.specs.declared.board.TheConstants.{CODE_BASE};
 ghost use Rattle.mx_code.specs.Decoding.{inst_of};
 ghost use Rattle.mx_code.specs.Delay.{code_from, idle};
 ghost use Rattle.mx_turn.specs.Decoded.{ShiftFits};
@@ -9,7 +10,7 @@ ghost use Rattle.mx_pipe.specs.Latched.{does};
 
 use crate::Latch;
 use mx_code::decode;
-use mx_isa::Inst;
+use mx_isa::{CODE_BASE, Inst};
 use mx_pcchain::Fetched;
 
 // What a word does, if it spells an instruction.
@@ -36,10 +37,10 @@ fn word_at(words: &[u32], place: usize) -> Option<u32>
 
 // The word at an address, if there is one: the user's words stand from 4,096 on, those of the handler from 0 on.
 fn word_of(code: &[u32], handler: &[u32], address: u32) -> Option<u32>
-    ensures { result ≡ (if leb 4096 address then slice_get code.now (address - 4096) else slice_get handler.now address) }
+    ensures { result ≡ (if leb CODE_BASE address then slice_get code.now (address - CODE_BASE) else slice_get handler.now address) }
 {
-    if address >= 4096 {
-        word_at(code, (address - 4096) as usize)
+    if address >= CODE_BASE {
+        word_at(code, (address - CODE_BASE) as usize)
     } else {
         word_at(handler, address as usize)
     }
@@ -48,7 +49,7 @@ fn word_of(code: &[u32], handler: &[u32], address: u32) -> Option<u32>
 // What the word at an address does.
 #[inline(always)]
 fn inst_at(code: &[u32], handler: &[u32], address: u32) -> Option<Inst>
-    ensures what { unwrap_or result idle ≡ code_with (code_from inst_of 0 handler.now) (code_from inst_of 4096 code.now) address }
+    ensures what { unwrap_or result idle ≡ code_with (code_from inst_of 0 handler.now) (code_from inst_of CODE_BASE code.now) address }
     ensures fits { IfSome result ShiftFits }
 {
     decoded(word_of(code, handler, address))
@@ -58,7 +59,7 @@ fn inst_at(code: &[u32], handler: &[u32], address: u32) -> Option<Inst>
 #[inline(always)]
 pub fn fetch(latch: &mut Latch, code: &[u32], handler: &[u32], next: Fetched)
     ensures word { latch.new.word ≡ Some next }
-    ensures inst { does latch.new ≡ live (code_with (code_from inst_of 0 handler.now) (code_from inst_of 4096 code.now)) (Some next) }
+    ensures inst { does latch.new ≡ live (code_with (code_from inst_of 0 handler.now) (code_from inst_of CODE_BASE code.now)) (Some next) }
 {
     latch.word = Some(next);
     latch.inst = if next.squashed {

@@ -1,6 +1,8 @@
 //! The pipeline.
 ghost use Rattle.std.specs.Prelude.{◌≡◌, ◌≤◌, IfOk, [], length};
 ghost use Rattle.std.specs.Option.{option_copied};
+ghost use Rattle.mx_io.specs.declared.limits.TheConstants.{MAX_FILE_BYTES};
+ghost use Rattle.mx_isa.specs.declared.board.TheConstants.{CODE_BASE};
 ghost use Rattle.mx_board.specs.Contents.{bytes_in};
 ghost use Rattle.mx_turn.specs.declared.latches.Stage.{Stage};
 ghost use Rattle.mx_turn.specs.Handler.{shipped};
@@ -12,6 +14,7 @@ use mx_board::Board;
 use mx_code::Image;
 use mx_icache::FetchCache;
 use mx_io::Memory;
+use mx_isa::CODE_BASE;
 use mx_pcchain::{Chain, Fetched, Psw};
 use mx_turn::{Counts, Latches, SHIPPED, Stage, fetch_of};
 use std::alloc::Global;
@@ -93,7 +96,7 @@ impl<C: FetchCache> Pipe<C> {
         input: Option<&[u8]>,
         cache: C,
     ) -> Result<Pipe<C>, Memory>
-        requires bytes { bytes_in (option_copied input) ≤ 1048576 }
+        requires bytes { bytes_in (option_copied input) ≤ MAX_FILE_BYTES }
         requires empty { C.holds cache [] }
         ensures { IfOk result (λ t. StandsFor C.holds t
             (program_of shipped image.now.code.items image.now.user_data.items (option_copied input.entry)) []) }
@@ -110,8 +113,8 @@ impl<C: FetchCache> Pipe<C> {
         input: Option<&[u8]>,
         cache: C,
     ) -> Result<Pipe<C>, Memory>
-        requires words { length handler.now ≤ 4096 }
-        requires bytes { bytes_in (option_copied input) ≤ 1048576 }
+        requires words { length handler.now ≤ CODE_BASE }
+        requires bytes { bytes_in (option_copied input) ≤ MAX_FILE_BYTES }
         requires empty { C.holds cache [] }
         ensures { IfOk result (λ t. StandsFor C.holds t
             (program_of handler.now image.now.code.items image.now.user_data.items (option_copied input.entry)) []) }
@@ -127,7 +130,7 @@ impl<C: FetchCache> Pipe<C> {
             wb: Latch::cleared(None),
             file: [0; 32],
             md: 0,
-            next: fetch_of(4096),
+            next: fetch_of(CODE_BASE),
             wait: Wait::NotAsked,
             asked: false,
             halted: false,

@@ -5,7 +5,7 @@ use Rattle.mx_answer.specs.declared.Status.TheVariants.{Halted, OutOfBudget}
 use Rattle.mx_answer.specs.Answer.{prints}
 use Rattle.mx_turn.specs.Handler.{shipped}
 use Rattle.mx_turn.specs.Program.{Program, program_of}
-use Rattle.mx_turn.specs.Run.{Run, run_of}
+use Rattle.mx_turn.specs.Run.{MachineRun, run_of}
 use Rattle.mx_report.specs.Driving.{trace_text}
 use Rattle.mx_simulate.specs.Simulated.{image_answer, program_answer, run_text}
 use Rattle.mx_planned.specs.Planned.{run_report}
@@ -17,7 +17,7 @@ module _ (code user_data : List ℕ) (input : Option (List ℕ)) (requests : Lis
   abbrev p : Program
   p = program_of shipped code user_data input
 
-  abbrev r : Run
+  abbrev r : MachineRun
   r = run_of p requests budget
 
   pub report_is : image_answer code user_data input requests (record { budget = budget; trace = 0; dump = None })

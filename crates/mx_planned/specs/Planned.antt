@@ -8,7 +8,7 @@ use Rattle.mx_link.specs.Origins.{from_target}
 use Rattle.mx_link.specs.Linked.{IsLinked}
 use Rattle.mx_turn.specs.Handler.{shipped}
 use Rattle.mx_turn.specs.Program.{program_of}
-use Rattle.mx_turn.specs.Run.{Run, run_of}
+use Rattle.mx_turn.specs.Run.{MachineRun, run_of}
 use Rattle.mx_answer.specs.declared.Status.TheVariants.{Halted, OutOfBudget}
 use Rattle.mx_answer.specs.Answer.{Answer, prints}
 use Rattle.mx_meaning.specs.Boards.{board}
@@ -19,12 +19,12 @@ use Rattle.mx_plans.specs.Says.{IsProposed}
 use Rattle.mx_planned.specs.Verdicts.{AreTold}
 
 -- the run of the image of a linked source, under the shipped handler, with requests at these cycles and these bytes as its input
-abbrev pub image_run : SourceValue → Linked → List ℕ → List ℕ → ℕ → Run
+abbrev pub image_run : SourceValue → Linked → List ℕ → List ℕ → ℕ → MachineRun
 image_run source linked requests bytes budget =
     run_of (program_of shipped linked.image.code.items linked.image.user_data.items (given source.input bytes)) requests budget
 
 -- the report of a run of an image with these code words
-abbrev pub run_report : List ℕ → Run → List ℕ
+abbrev pub run_report : List ℕ → MachineRun → List ℕ
 run_report code run = report_text run.halted run.counts run.console code run.last.core None
 
 -- The answer where the source is linked by what the lines of a file propose: its branches are in reach.

@@ -1,15 +1,11 @@
 -- The report of a run.
-use Rattle.std.specs.Prelude.{ℕ, ◌-◌, ◌==◌, min, Bool, cond, List, [], ◌++◌, length, codes, Option, Some, None}
-use Rattle.std.specs.List.{filter}
+use Rattle.std.specs.Prelude.{ℕ, ◌-◌, min, Bool, cond, List, [], ◌++◌, length, codes, Option, Some, None}
 use Rattle.mx_isa.specs.Words.{Words, reg}
 use Rattle.mx_isa.specs.Effect.{Core}
+use Rattle.mx_code.specs.NoOps.{noops_in}
 use Rattle.mx_text.specs.Text.{word_text, line, named_line, count_line, register_line, lines_from, word_line, console_lines}
 use Rattle.mx_turn.specs.Counted.{Counted}
 use Rattle.mx_report.specs.declared.reports.Dump.{Dump}
-
--- the words that are the no-op
-abbrev pub noop_count : List ℕ → ℕ
-noop_count code = length (filter (λ w. w == 0x40000000) code)
 
 abbrev pub counts_text : Counted → List ℕ
 counts_text c =
@@ -17,7 +13,7 @@ counts_text c =
     ++ count_line (codes "squashes") c.squashes) ++ count_line (codes "interrupts") c.interrupts
 
 abbrev pub words_text : List ℕ → List ℕ
-words_text code = count_line (codes "words") (length code) ++ count_line (codes "noops") (noop_count code)
+words_text code = count_line (codes "words") (length code) ++ count_line (codes "noops") (noops_in code)
 
 abbrev pub registers_text : Core → List ℕ
 registers_text core =

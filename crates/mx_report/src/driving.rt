@@ -10,6 +10,7 @@ ghost use Rattle.mx_report.specs.Trace.{line_of, trace_line};
 use crate::traces::push_trace_line;
 use mx_board::Requests;
 use mx_io::Memory;
+use mx_text::push_byte;
 use mx_turn::{Counts, Cycled, Latches, Machine};
 use std::alloc::{AllocError, Global};
 
@@ -20,19 +21,6 @@ pub struct Driven {
     pub counts: Counts,
     pub console: Vec<u8>,
     pub trace: Vec<u8>,
-}
-
-/// Appends a byte, if there is one.
-pub fn push_byte(console: &mut Vec<u8>, byte: Option<u8>) -> Result<(), AllocError>
-    ensures { OnOk result (console.new.items ≡ console.old.items ++ option_to_list byte) }
-{
-    match byte {
-        Some(byte) => {
-            console.push(byte)?;
-            Ok(())
-        }
-        None => Ok(()),
-    }
 }
 
 // Appends the line of a cycle. The machine is as the cycle left it.

@@ -5,6 +5,6 @@ mod driving;
 mod reports;
 mod traces;
 
-pub use driving::{Driven, drive, push_byte};
+pub use driving::{Driven, drive};
 pub use reports::{Dump, push_counts, report};
 pub use traces::trace_line;

@@ -4,10 +4,10 @@ ghost use Rattle.std.specs.Fmt.{decimal};
 ghost use Rattle.mx_isa.specs.Words.{reg};
 ghost use Rattle.mx_text.specs.Text.{word_text, line, named_line, count_line, register_line, lines_from, word_line, console_lines};
 ghost use Rattle.mx_turn.specs.Program.{Program, state_after};
-ghost use Rattle.mx_report.specs.Report.{noop_count, counts_text, words_text, registers_text, dump_text, last_text, head_text, report_text};
+ghost use Rattle.mx_report.specs.Report.{counts_text, words_text, registers_text, dump_text, last_text, head_text, report_text};
 
 use crate::Driven;
-use mx_code::Image;
+use mx_code::{Image, noops_in};
 use mx_io::Memory;
 use mx_isa::Reg;
 use mx_text::{
@@ -21,13 +21,6 @@ use std::alloc::{AllocError, Global};
 pub struct Dump {
     pub at: u32,
     pub count: u32,
-}
-
-// How many of the words are the no-op.
-fn noop_count(code: &[u32]) -> usize
-    ensures { result ≡ noop_count code.now }
-{
-    code.iter().filter(|word| **word == 0x4000_0000).count()
 }
 
 /// Appends the counts of a machine, a line each.
@@ -46,7 +39,7 @@ fn push_words(alloc: Global, text: &mut Vec<u8>, code: &[u32]) -> Result<(), All
     ensures { OnOk result (text.new.items ≡ text.old.items ++ words_text code.now) }
 {
     push_count(alloc, text, "words", code.len() as u64)?;
-    push_count(alloc, text, "noops", noop_count(code) as u64)
+    push_count(alloc, text, "noops", noops_in(code) as u64)
 }
 
 // Appends the line of a register.

@@ -1,11 +1,15 @@
 //! Runs the command that the words of its command line ask for, on the system's files and its standard output.
 #![tactic(auto)]
 
+use mx_answer::Status;
 use mx_command::command;
 use mx_io::{RealShelf, RealSink};
 use std::env;
 use std::io::ErrorKind;
 use std::process::ExitCode;
+
+/// The exit status where a word is not UTF-8.
+const NOT_TEXT: u8 = 10;
 
 fn main(rt: HostRuntime) -> ExitCode {
     let alloc = rt.alloc();
@@ -13,9 +17,9 @@ fn main(rt: HostRuntime) -> ExitCode {
         Ok(args) => args,
         Err(error) => {
             let code = if error.kind() == ErrorKind::OutOfMemory {
-                6
+                Status::Memory.number()
             } else {
-                10
+                NOT_TEXT
             };
             return ExitCode::from(code);
         }
@@ -23,7 +27,7 @@ fn main(rt: HostRuntime) -> ExitCode {
     let mut words = Vec::new(alloc);
     for word in args.skip(1) {
         if words.push(word).is_err() {
-            return ExitCode::from(6);
+            return ExitCode::from(Status::Memory.number());
         }
     }
     let mut shelf = RealShelf::new(&rt);

@@ -2,6 +2,8 @@
 use Rattle.std.specs.Prelude.{ℕ, ◌≤◌, eqb, ◌&&◌, Bool, List, length, All, Option, Some, None, is_some, slice_get}
 use Rattle.std.specs.Prelude.{Vec}
 use Rattle.std.specs.Global.{Global}
+use Rattle.mx_io.specs.declared.limits.TheConstants.{MAX_FILE_BYTES}
+use Rattle.mx_isa.specs.declared.board.TheConstants.{MAX_STATEMENTS}
 use Rattle.mx_source.specs.declared.statement.Statement.{Statement}
 use Rattle.mx_source.specs.Statements.{StatementFits}
 use Rattle.mx_source.specs.Meaning.{Program}
@@ -12,11 +14,11 @@ Fits = StatementFits (λ i. Unit {0})
 
 abbrev pub few_bytes : Option (List ℕ) → Type 0
 few_bytes None = Unit {0}
-few_bytes (Some bytes) = length bytes ≤ 1048576
+few_bytes (Some bytes) = length bytes ≤ MAX_FILE_BYTES
 
 -- what runs keeps to this
 pub record IsProgram (p : Program) : Type 0 where
-  pub few : length p.statements ≤ 20000
+  pub few : length p.statements ≤ MAX_STATEMENTS
   pub fit : All Fits p.statements
   pub short : few_bytes p.input
 

@@ -1,5 +1,6 @@
 //! A state of a program, and what statements do to it.
 ghost use Rattle.std.specs.Prelude.{◌≡◌, ◌<◌, suc, length, is_some, true};
+ghost use Rattle.mx_isa.specs.declared.board.TheConstants.{MAX_STATEMENTS};
 ghost use Rattle.mx_isa.specs.Arithmetic.{CountFits};
 
 use crate::program::Program;
@@ -69,7 +70,7 @@ impl Machine {
     /// Goes to the place that a register holds, and puts the next place into another.
     fn jump(&mut self, a: Reg, dest: Reg) -> Stepped
         requires going { self.old.mark ≡ Mark.Going }
-        requires inside { self.old.index < 20000 }
+        requires inside { self.old.index < MAX_STATEMENTS }
         ensures { Does (jumps (value_in (values_of self.old.registers) a) dest (machine_state self.old)) self.old self.new result }
     {
         match self.registers.get(a) {
@@ -81,7 +82,7 @@ impl Machine {
     /// A branch.
     fn branch(&mut self, a: Reg, b: Reg, cond: Cond, target: u32) -> Stepped
         requires going { self.old.mark ≡ Mark.Going }
-        requires inside { self.old.index < 20000 }
+        requires inside { self.old.index < MAX_STATEMENTS }
         ensures { Does (branches a b cond target (machine_state self.old)) self.old self.new result }
     {
         let (Value::Int(x), Value::Int(y)) = (self.registers.get(a), self.registers.get(b)) else {
@@ -98,7 +99,7 @@ impl Machine {
     /// Puts a value into a register, and goes on.
     fn put(&mut self, dest: Reg, value: Value) -> Stepped
         requires going { self.old.mark ≡ Mark.Going }
-        requires inside { self.old.index < 20000 }
+        requires inside { self.old.index < MAX_STATEMENTS }
         ensures { Does (goes (suc self.old.index) dest value (machine_state self.old)) self.old self.new result }
     {
         self.go(self.index + 1, dest, value)
@@ -107,7 +108,7 @@ impl Machine {
     /// A load.
     fn load(&mut self, program: &Program, base: Reg, dest: Reg, offset: i32) -> Stepped
         requires going { self.old.mark ≡ Mark.Going }
-        requires inside { self.old.index < 20000 }
+        requires inside { self.old.index < MAX_STATEMENTS }
         requires room { length self.old.user_data ≡ program.now.place.end }
         ensures { Does (perform program.now (Inst.Load base dest offset) (machine_state self.old)) self.old self.new result }
     {
@@ -128,7 +129,7 @@ impl Machine {
     /// Puts the next byte of the input into a register, or all bits set where there is none left.
     fn take(&mut self, program: &Program, dest: Reg) -> Stepped
         requires going { self.old.mark ≡ Mark.Going }
-        requires inside { self.old.index < 20000 }
+        requires inside { self.old.index < MAX_STATEMENTS }
         requires input { is_some program.now.input ≡ true }
         ensures { Does (takes (from_input program.now.input self.old.taken) dest (machine_state self.old)) self.old self.new result }
     {
@@ -144,7 +145,7 @@ impl Machine {
     /// A store.
     fn store(&mut self, program: &Program, base: Reg, value: Reg, offset: i32) -> Stepped
         requires going { self.old.mark ≡ Mark.Going }
-        requires inside { self.old.index < 20000 }
+        requires inside { self.old.index < MAX_STATEMENTS }
         requires room { length self.old.user_data ≡ program.now.place.end }
         ensures { Does (perform program.now (Inst.Store base value offset) (machine_state self.old)) self.old self.new result }
     {
@@ -173,7 +174,7 @@ impl Machine {
     /// A compute instruction.
     fn compute(&mut self, program: &Program, a: Reg, dest: Reg, b: Reg, op: Op) -> Stepped
         requires going { self.old.mark ≡ Mark.Going }
-        requires inside { self.old.index < 20000 }
+        requires inside { self.old.index < MAX_STATEMENTS }
         requires fits { CountFits op }
         ensures { Does (perform program.now (Inst.Compute a dest b op) (machine_state self.old)) self.old self.new result }
     {
@@ -193,7 +194,7 @@ impl Machine {
     /// An addition of a number.
     fn add(&mut self, program: &Program, a: Reg, dest: Reg, imm: i32) -> Stepped
         requires going { self.old.mark ≡ Mark.Going }
-        requires inside { self.old.index < 20000 }
+        requires inside { self.old.index < MAX_STATEMENTS }
         ensures { Does (perform program.now (Inst.Addi a dest imm) (machine_state self.old)) self.old self.new result }
     {
         let Value::Int(x) = self.registers.get(a) else {
@@ -205,7 +206,7 @@ impl Machine {
     /// A move to MD.
     fn move_to(&mut self, program: &Program, a: Reg) -> Stepped
         requires going { self.old.mark ≡ Mark.Going }
-        requires inside { self.old.index < 20000 }
+        requires inside { self.old.index < MAX_STATEMENTS }
         ensures { Does (perform program.now (Inst.MoveTo a Special.Md) (machine_state self.old)) self.old self.new result }
     {
         let Value::Int(x) = self.registers.get(a) else {
@@ -219,7 +220,7 @@ impl Machine {
     /// A move from MD.
     fn move_from(&mut self, program: &Program, dest: Reg) -> Stepped
         requires going { self.old.mark ≡ Mark.Going }
-        requires inside { self.old.index < 20000 }
+        requires inside { self.old.index < MAX_STATEMENTS }
         ensures { Does (perform program.now (Inst.MoveFrom dest Special.Md) (machine_state self.old)) self.old self.new result }
     {
         self.put(dest, Value::Int(self.md))
@@ -228,7 +229,7 @@ impl Machine {
     /// An instruction that is a statement as it is.
     fn perform(&mut self, program: &Program, inst: &Inst) -> Stepped
         requires going { self.old.mark ≡ Mark.Going }
-        requires inside { self.old.index < 20000 }
+        requires inside { self.old.index < MAX_STATEMENTS }
         requires room { length self.old.user_data ≡ program.now.place.end }
         requires plain { IsPlain inst.now }
         requires fits { InstFits inst.now }
@@ -258,7 +259,7 @@ impl Machine {
     /// A statement.
     pub(crate) fn execute(&mut self, program: &Program, statement: &Statement) -> Stepped
         requires going { self.old.mark ≡ Mark.Going }
-        requires inside { self.old.index < 20000 }
+        requires inside { self.old.index < MAX_STATEMENTS }
         requires room { length self.old.user_data ≡ program.now.place.end }
         requires fits { Fits statement.now }
         ensures { Does (execute program.now (Some statement.now) (machine_state self.old)) self.old self.new result }

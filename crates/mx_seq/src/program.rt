@@ -3,6 +3,8 @@ ghost use Rattle.std.specs.Prelude.{◌≡◌, ◌≤◌, ◌<◌, ◌==◌, len
 ghost use Rattle.std.specs.Bool.{OnTrue};
 ghost use Rattle.std.specs.Option.{option_copied};
 ghost use Rattle.std.specs.List.{slice_get};
+ghost use Rattle.mx_io.specs.declared.limits.TheConstants.{MAX_FILE_BYTES};
+ghost use Rattle.mx_isa.specs.declared.board.TheConstants.{MAX_STATEMENTS};
 ghost use Rattle.mx_isa.specs.UserBus.{is_user};
 ghost use Rattle.mx_source.specs.Meaning.{program, given};
 ghost use Rattle.mx_seq.specs.Programs.{Fits, bytes_in, byte_of, is_input};
@@ -39,7 +41,7 @@ impl Program {
         place: Place,
         input: &[u8],
     ) -> Result<Program, Memory>
-        requires { length input.now ≤ 1048576 }
+        requires { length input.now ≤ MAX_FILE_BYTES }
         ensures { IfOk result (λ p. p ≡ program source.now place input.now) }
     {
         let Ok(statements) = Vec::from_slice(alloc, source.statements()) else {
@@ -58,7 +60,7 @@ impl Program {
     /// The statement at an index.
     pub(crate) fn statement(&self, index: u32) -> Option<&Statement>
         ensures value { option_copied result ≡ slice_get self.now.statements index }
-        ensures inside { OnSome result (index < 20000) }
+        ensures inside { OnSome result (index < MAX_STATEMENTS) }
         ensures fits { IfSome result (λ s. Fits s.now) }
     {
         self.statements.get(index as usize)
@@ -89,7 +91,7 @@ impl Program {
     /// The byte of the input after so many.
     pub(crate) fn byte(&self, taken: u32) -> Option<u8>
         ensures value { result ≡ byte_of self.now.input taken }
-        ensures inside { OnSome result (taken < 1048576) }
+        ensures inside { OnSome result (taken < MAX_FILE_BYTES) }
     {
         match &self.input {
             Some(bytes) => bytes.get(taken as usize).copied(),

@@ -1,5 +1,6 @@
 //! A program that is executed one statement at a time.
 ghost use Rattle.std.specs.Prelude.{◌≡◌, ◌+◌, ◌≤◌, length, IfOk, IsTrue, true};
+ghost use Rattle.mx_io.specs.declared.limits.TheConstants.{MAX_FILE_BYTES};
 ghost use Rattle.mx_isa.specs.UserBus.{is_user};
 
 use crate::machine::{Machine, Mark, Stepped};
@@ -32,7 +33,7 @@ impl Seq {
     /// `Memory` where there is no room for its statements, data words and input.
     pub fn new(alloc: Global, source: &Source, place: Place, input: &[u8]) -> Result<Seq, Memory>
         requires room { place.user_data + length source.now.user_data ≤ place.end }
-        requires few { length input.now ≤ 1048576 }
+        requires few { length input.now ≤ MAX_FILE_BYTES }
         ensures program { IfOk result (λ seq. program_of seq ≡ program source.now place input.now) }
         ensures state { IfOk result (λ seq. state_of seq ≡ start source.now place) }
     {

@@ -10,7 +10,7 @@ use Rattle.mx_turn.specs.Program.{program_of}
 use Rattle.mx_debug.specs.declared.Ending.{Ending}
 use Rattle.mx_debug.specs.declared.Ending.TheVariants.{Stopped, Halted, OutOfBudget}
 use Rattle.mx_debug.specs.Sessions.{Session, session, stops_of, ending_of, console_of}
-use Rattle.mx_simulate.specs.Machines.{Files, given, requests_protocol, input_protocol}
+use Rattle.mx_simulate.specs.Machines.{Files, if_asked, requests_protocol, input_protocol}
 use Rattle.mx_sessions.specs.declared.runs.SessionLimits.{SessionLimits}
 use Rattle.mx_sessions.specs.Texts.{session_text}
 
@@ -39,4 +39,4 @@ abbrev pub session_protocol : Files → SessionLimits → List ℕ → List ℕ 
 session_protocol files limits code user_data asks address =
     requests_protocol files.interrupts (λ requests.
     input_protocol files.input (λ bytes.
-    Answers (image_answer code user_data (given asks bytes) requests address limits)))
+    Answers (image_answer code user_data (if_asked asks bytes) requests address limits)))

@@ -4,7 +4,7 @@ ghost use Rattle.std.specs.Option.{option_copied};
 ghost use Rattle.mx_board.specs.Contents.{bytes_in};
 ghost use Rattle.mx_answer.specs.Protocol.{Performed};
 ghost use Rattle.mx_answer.specs.Replies.{reply_answer};
-ghost use Rattle.mx_simulate.specs.Machines.{given};
+ghost use Rattle.mx_simulate.specs.Machines.{if_asked};
 ghost use Rattle.mx_sessions.specs.Sessions.{IsAsked, status_of, image_answer, session_protocol};
 
 use crate::texts::session_text;
@@ -38,8 +38,8 @@ fn status_of(ending: Ending) -> Status
 }
 
 // The input that a program is given, if it asks for one.
-fn given(asks: bool, bytes: &[u8]) -> Option<&[u8]>
-    ensures { option_copied result ≡ given asks bytes.entry.now }
+fn if_asked(asks: bool, bytes: &[u8]) -> Option<&[u8]>
+    ensures { option_copied result ≡ if_asked asks bytes.entry.now }
 {
     if asks { Some(bytes) } else { None }
 }
@@ -102,7 +102,7 @@ pub fn debug_image<S: Shelf>(
         Ok(input) => input,
         Err(reply) => return Ok(reply),
     };
-    let input = given(asks, input.as_slice());
+    let input = if_asked(asks, input.as_slice());
     let reply = debug(alloc, image, input, &requests, address, limits)?;
     Ok(reply)
 }

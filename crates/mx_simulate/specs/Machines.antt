@@ -42,13 +42,13 @@ input_protocol None next = next []
 input_protocol (Some name) next = Reads Input name next
 
 -- the input of a program that asks for one
-abbrev pub given : Bool → List ℕ → Option (List ℕ)
-given true bytes = Some bytes
-given false bytes = None
+abbrev pub if_asked : Bool → List ℕ → Option (List ℕ)
+if_asked true bytes = Some bytes
+if_asked false bytes = None
 
 -- an image, which asks for an input or not, with the files and the limits of a run
 abbrev pub machine_protocol : Files → Limits → List ℕ → List ℕ → Bool → Protocol
 machine_protocol files limits code user_data asks =
     requests_protocol files.interrupts (λ requests.
     input_protocol files.input (λ bytes.
-    Answers (image_answer code user_data (given asks bytes) requests limits)))
+    Answers (image_answer code user_data (if_asked asks bytes) requests limits)))

@@ -4,14 +4,14 @@ use Rattle.mx_answer.specs.declared.Status.TheVariants.{Halted, OutOfBudget}
 use Rattle.mx_answer.specs.Answer.{Answer, prints}
 use Rattle.mx_turn.specs.Handler.{shipped}
 use Rattle.mx_turn.specs.Program.{Program, program_of}
-use Rattle.mx_turn.specs.Run.{Run, run_of}
+use Rattle.mx_turn.specs.Run.{MachineRun, run_of}
 use Rattle.mx_report.specs.declared.Dump.{Dump}
 use Rattle.mx_simulate.specs.declared.simulated.Limits.{Limits}
 use Rattle.mx_report.specs.Driving.{trace_text}
 use Rattle.mx_report.specs.Report.{report_text}
 
 -- the trace and the report of a run
-abbrev pub run_text : Run → List ℕ → List ℕ → Option Dump → List ℕ
+abbrev pub run_text : MachineRun → List ℕ → List ℕ → Option Dump → List ℕ
 run_text r trace code dump = trace ++ report_text r.halted r.counts r.console code r.last.core dump
 
 -- the answer of a program whose image has these code words, with requests at these cycles

@@ -3,7 +3,7 @@ ghost use Rattle.std.specs.Prelude.{◌≡◌, IfOk, option_map, List, ℕ};
 ghost use Rattle.std.specs.Option.{option_copied};
 ghost use Rattle.mx_answer.specs.Protocol.{Performed};
 ghost use Rattle.mx_answer.specs.Replies.{reply_answer};
-ghost use Rattle.mx_simulate.specs.Machines.{machine_protocol, given};
+ghost use Rattle.mx_simulate.specs.Machines.{machine_protocol, if_asked};
 
 use crate::files::{read_input, read_requests};
 use crate::{Limits, simulate};
@@ -22,8 +22,8 @@ pub struct RunFiles<'a> {
 }
 
 // The input that a program is given, if it asks for one.
-fn given(asks: bool, bytes: &[u8]) -> Option<&[u8]>
-    ensures { option_copied result ≡ given asks bytes.entry.now }
+fn if_asked(asks: bool, bytes: &[u8]) -> Option<&[u8]>
+    ensures { option_copied result ≡ if_asked asks bytes.entry.now }
 {
     if asks { Some(bytes) } else { None }
 }
@@ -55,7 +55,7 @@ pub fn run_image<S: Shelf>(
     let reply = simulate(
         alloc,
         image,
-        given(asks, input.as_slice()),
+        if_asked(asks, input.as_slice()),
         &requests,
         limits,
     )?;

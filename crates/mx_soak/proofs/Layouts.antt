@@ -11,7 +11,7 @@ use Rattle.mx_reorg.specs.Greedy.{IsGreedy}
 use Rattle.mx_turn.specs.Counted.{Counted}
 use Rattle.mx_turn.specs.Handler.{shipped}
 use Rattle.mx_turn.specs.Program.{program_of}
-use Rattle.mx_turn.specs.Run.{Run, run_of, bound}
+use Rattle.mx_turn.specs.Run.{MachineRun, run_of, bound}
 use Rattle.mx_meaning.specs.Boards.{board}
 use Rattle.mx_schedule.specs.Schedule.{IsScheduler}
 use Rattle.mx_schedule.proofs.Kept.{linked_sites}
@@ -20,7 +20,7 @@ use Rattle.mx_soak.specs.Soak.{multiples, steps_of, soaked_text, layout_text, so
 -- the text of a run of these words
 abbrev words_run_text : ℕ → List ℕ → List ℕ → List ℕ → ℕ → List ℕ
 words_run_text steps code data_words requests budget =
-    let r : Run = run_of (program_of shipped code data_words None) requests budget in
+    let r : MachineRun = run_of (program_of shipped code data_words None) requests budget in
     soaked_text steps r.counts r.console code
 
 -- the text of a layout of which the steps are given

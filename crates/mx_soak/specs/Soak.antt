@@ -12,7 +12,7 @@ use Rattle.mx_meaning.specs.Told.{steps_in}
 use Rattle.mx_turn.specs.Counted.{Counted}
 use Rattle.mx_turn.specs.Handler.{shipped}
 use Rattle.mx_turn.specs.Program.{program_of}
-use Rattle.mx_turn.specs.Run.{Run, run_of, bound}
+use Rattle.mx_turn.specs.Run.{MachineRun, run_of, bound}
 use Rattle.mx_report.specs.Report.{counts_text, words_text}
 
 -- the first k multiples of n
@@ -30,7 +30,7 @@ steps_of source = steps_within source 40009
 
 -- the run of a layout of a source under the shipped handler, without input, with a request in each of the cycles 97 to 97,000
 -- that are multiples of 97, within the bound for so many instructions
-abbrev pub layout_run : SourceValue → List Site → ℕ → Run
+abbrev pub layout_run : SourceValue → List Site → ℕ → MachineRun
 layout_run source sites steps =
     run_of (program_of shipped (linked_code from_target source board sites) (linked_data source board sites) None) (multiples 97 1000) (bound steps 1000)
 

@@ -1,7 +1,7 @@
 //! What is told of a run.
 ghost use Rattle.std.specs.Prelude.{◌≡◌, ◌++◌, codes, OnOk, IfOk};
 ghost use Rattle.mx_text.specs.Text.{count_line};
-ghost use Rattle.mx_link.specs.Words.{noops_in};
+ghost use Rattle.mx_code.specs.NoOps.{noops_in};
 ghost use Rattle.mx_report.specs.Report.{counts_text, words_text};
 ghost use Rattle.mx_soak.specs.Soak.{soaked_text};
 

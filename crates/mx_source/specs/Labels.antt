@@ -1,13 +1,14 @@
 -- What labels name.
 use Rattle.std.specs.Prelude.{◌≡◌, ℕ, ◌≤◌, ◌<◌, ◌==◌, Bool, true, false, List}
 use Rattle.std.specs.List.{list_any}
+use Rattle.mx_isa.specs.declared.board.TheConstants.{DATA_BASE, DATA_END}
 use Rattle.mx_source.specs.declared.statement.Label.{Label}
 use Rattle.mx_source.specs.declared.statement.Label.TheVariants.{Code, Data}
 
--- a code label names a statement of so many or the end, a data label an address from 256 to 65535
+-- a code label names a statement of so many or the end, a data label an address of user data
 abbrev pub LabelFits : ℕ → Label → Type 0
 LabelFits count (Code i) = i ≤ count
-LabelFits count (Data a) = (256 ≤ a) × (a < 65536)
+LabelFits count (Data a) = (DATA_BASE ≤ a) × (a < DATA_END)
 
 -- the label is a code label of this index
 abbrev pub names_index : ℕ → Label → Bool

@@ -2,6 +2,7 @@
 use Rattle.std.specs.Prelude.{ℕ, suc, ℤ, Bool, true, false, cond, ◌||◌, List, [], ◌∷◌, ◌++◌, Option, Some, None, codes, decimal, find, unwrap_or, option_map}
 use Rattle.std.specs.Fmt.{signed_decimal}
 use Rattle.std.specs.List.{list_any, flat_map, join_with_byte}
+use Rattle.mx_isa.specs.declared.board.TheConstants.{DATA_BASE}
 use Rattle.mx_isa.specs.declared.inst.Op.{Op}
 use Rattle.mx_isa.specs.declared.inst.Op.TheVariants.{Add, Sub, Subnc, And, Or, Xor, Bic, Not, Rotlb, Mstart, Mstep, Dstep, Asr, Sh}
 use Rattle.mx_isa.specs.declared.inst.Cond.{Cond}
@@ -116,7 +117,7 @@ has_words (v ∷ rest) = true
 -- the data section, where there are data words or data labels
 abbrev pub data_text : Labels → List Value → List ℕ
 data_text labels words =
-    cond (has_words words || list_any (λ p. is_data_label p.1) labels) (ended (codes ".data") ++ words_text labels 256 words) []
+    cond (has_words words || list_any (λ p. is_data_label p.1) labels) (ended (codes ".data") ++ words_text labels DATA_BASE words) []
 
 abbrev pub input_text : Option ℕ → List ℕ
 input_text None = []

@@ -1,5 +1,6 @@
 -- What a source is, as lists.
 use Rattle.std.specs.Prelude.{◌≡◌, ℕ, ◌≤◌, List, length, All, Option, None}
+use Rattle.mx_isa.specs.declared.board.TheConstants.{MAX_STATEMENTS, MAX_DATA_WORDS}
 use Rattle.mx_source.specs.declared.statement.Value.{Value}
 use Rattle.mx_source.specs.declared.statement.Label.{Label}
 use Rattle.mx_source.specs.declared.statement.Statement.{Statement}
@@ -21,8 +22,8 @@ source_of statements lines user_data labels =
 
 -- what each source keeps to
 pub record IsSource (s : SourceValue) : Type 0 where
-  pub few_statements : length s.statements ≤ 20000
-  pub few_words : length s.user_data ≤ 65280
+  pub few_statements : length s.statements ≤ MAX_STATEMENTS
+  pub few_words : length s.user_data ≤ MAX_DATA_WORDS
   pub a_line_each : length s.lines ≡ length s.statements
   pub labels_fit : All (λ (p : List ℕ × Label). LabelFits (length s.statements) p.1) s.labels
   pub statements_fit : All (StatementFits (IsPlace s.labels (length s.statements))) s.statements

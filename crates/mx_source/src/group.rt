@@ -3,6 +3,7 @@ ghost use Rattle.std.specs.Prelude.{◌≡◌, ℕ, ◌≤◌, ◌<◌, ◌++◌
 ghost use Rattle.mx_source.specs.Sections.{names_at, is_place};
 
 use crate::Label;
+use mx_isa::DATA_BASE;
 use std::alloc::{AllocError, Global};
 
 /// Which places: those of statements, or those of data words.
@@ -19,7 +20,7 @@ impl Section {
     {
         match (self, label) {
             (Section::Code, Label::Code(i)) => Some(*i as usize),
-            (Section::Data, Label::Data(a)) if *a >= 256 => Some((*a - 256) as usize),
+            (Section::Data, Label::Data(a)) if *a >= DATA_BASE => Some((*a - DATA_BASE) as usize),
             _ => None,
         }
     }

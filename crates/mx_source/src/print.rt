@@ -2,6 +2,7 @@
 ghost use Rattle.std.specs.Prelude.{◌≡◌, ◌+◌, ◌<◌, ◌≤◌, ◌||◌, ◌++◌, ◌∷◌, [], length, All, false, IfOk, OnOk, codes};
 ghost use Rattle.std.specs.List.{list_any};
 ghost use Rattle.indexmap.specs.IndexMap.{values};
+ghost use Rattle.mx_isa.specs.declared.board.TheConstants.{DATA_BASE, MAX_DATA_WORDS};
 ghost use Rattle.mx_source.specs.Names.{named_labels};
 ghost use Rattle.mx_source.specs.Labels.{is_data_label};
 ghost use Rattle.mx_source.specs.Statements.{StatementFits, ValueFits};
@@ -71,7 +72,7 @@ fn data_section(
     words: &[Value],
     labels: &IndexMap<Name, Label>,
 ) -> Result<(), AllocError>
-    requires few { length words.now ≤ 65280 }
+    requires few { length words.now ≤ MAX_DATA_WORDS }
     requires fit { All (ValueFits (λ i. i < length places.now)) words.now }
     requires groups { AreGroups Section.Code (named_labels labels.now.entries) places.now }
     ensures { OnOk result (text.new ≡ text.old ++ data_text (named_labels labels.now.entries) words.now) }
@@ -108,7 +109,7 @@ fn user_data(
     requires groups { length at.now ≡ length words.now + 1 }
     requires fit { All (ValueFits (λ i. i < length places.now)) words.now }
     ensures { OnOk result ((labels : Labels) → AreGroups Section.Code labels places.now → AreGroups Section.Data labels at.now →
-        text.new ≡ text.old ++ words_text labels 256 words.now) }
+        text.new ≡ text.old ++ words_text labels DATA_BASE words.now) }
 {
     for (i, word) in words.iter().enumerate() {
         text.put(at[i].lines())?;

@@ -57,7 +57,8 @@ placed_laid Proposes source place proposals p s short = record {
   reach = p.reach;
 }
 
-module _ (Proposes : Block → Plan → Type 0) (first second : SourceValue) (s : Shared) (is : IsShared Proposes first second s) (requests : List ℕ) (budget : ℕ) where
+module _ (Proposes : Block → Plan → Type 0) (first second : SourceValue) (s : Shared)
+    (is : IsShared Proposes first second s) (requests : List ℕ) (budget : ℕ) where
   laid : IsSharing first → IsSharing second → length first.user_data ≤ 32512 → AreLaid first second is.at_lower.sites is.at_upper.sites
   laid f g few_data = record {
     first_laid = placed_laid Proposes first lower s.first_proposals.items is.at_lower f (omega arith);

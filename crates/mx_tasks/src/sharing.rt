@@ -7,7 +7,7 @@ ghost use Rattle.mx_tasks.specs.Shared.{IsShared, IsShareRefusal};
 ghost use Rattle.mx_tasks.specs.declared.sharing.ShareError.TheVariants.{Displacement as ShareDisplacement, Memory as ShareMemory};
 
 use mx_blocks::Plan;
-use mx_code::Image;
+use mx_code::{Image, NO_OP};
 use mx_isa::Place;
 use mx_link::{LinkError, link};
 use mx_source::Source;
@@ -32,9 +32,6 @@ pub const UPPER: Place = Place {
     console: 255,
     input: 254,
 };
-
-/// The instruction that does nothing.
-const NO_OP: u32 = 0x4000_0000;
 
 /// How many code words, and data words, the first program's place has.
 const LOWER_CODE: usize = 30_000;

@@ -4,6 +4,6 @@
 mod text;
 
 pub use text::{
-    push_console, push_count, push_decimal, push_line, push_named, push_register, push_word,
-    push_word_line,
+    push_byte, push_console, push_count, push_decimal, push_line, push_named, push_register,
+    push_word, push_word_line,
 };

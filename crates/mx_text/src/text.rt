@@ -3,6 +3,7 @@
 //! Each function fails only where there is no memory, and the text is then as it was.
 ghost use Rattle.std.specs.Prelude.{◌≡◌, ◌++◌, ◌∷◌, ◌<◌, OnOk, OnErr};
 ghost use Rattle.std.specs.Fmt.{decimal};
+ghost use Rattle.std.specs.Option.{option_to_list};
 ghost use Rattle.mx_text.specs.Text.{hex_digit, word_text, line, named_line, count_line, register_line, word_line, console_lines};
 ghost use Rattle.mx_text.specs.Parts.{joined};
 
@@ -50,6 +51,20 @@ fn push_parts(text: &mut Vec<u8>, parts: &[&[u8]]) -> Result<(), AllocError>
         }
     }
     Ok(())
+}
+
+/// Appends a byte, if there is one.
+pub fn push_byte(text: &mut Vec<u8>, byte: Option<u8>) -> Result<(), AllocError>
+    ensures ok { OnOk result (text.new.items ≡ text.old.items ++ option_to_list byte) }
+    ensures err { OnErr result (text.new.items ≡ text.old.items) }
+{
+    match byte {
+        Some(byte) => {
+            text.push(byte)?;
+            Ok(())
+        }
+        None => Ok(()),
+    }
 }
 
 /// Appends a word as eight hexadecimal digits in lower case.

@@ -44,7 +44,9 @@ killed_second (x ∷ []) = refl
 killed_second (x ∷ y ∷ xs) = refl
 
 -- a squashed fetch in its stage
-squashed_held : (cancels : Bool) (a : ℕ) (q k : Bool) → (let f : Marked = record { address = a; squashed = q; killed = k } in held (Some (squash_if cancels f)) ≡ squash cancels (held (Some f)))
+squashed_held : (cancels : Bool) (a : ℕ) (q k : Bool)
+    → (let f : Marked = record { address = a; squashed = q; killed = k } in
+    held (Some (squash_if cancels f)) ≡ squash cancels (held (Some f)))
 squashed_held cancels a q true = refl
 squashed_held cancels a q false = refl
 
@@ -58,7 +60,9 @@ KilledAlike [] = Unit {0}
 KilledAlike (x ∷ []) = Unit {0}
 KilledAlike (x ∷ y ∷ xs) = x.killed ≡ true → y.killed ≡ true
 
-stays : (a : ℕ) (q k : Bool) → k ≡ false → (let f : Marked = record { address = a; squashed = q; killed = k } in let g : Fetch = record { address = a; squashed = q } in saved (held (Some f)) ≡ g)
+stays : (a : ℕ) (q k : Bool) → k ≡ false
+    → (let f : Marked = record { address = a; squashed = q; killed = k } in
+    let g : Fetch = record { address = a; squashed = q } in saved (held (Some f)) ≡ g)
 stays a q true h = absurd (true≢false h)
 stays a q false h = refl
 
@@ -160,11 +164,15 @@ module _ (code : Code) (input : Option (List ℕ)) where
     more stall = grind (arith, nat_tests)
 
     -- a stalled cycle is left
-    waits : (stall : ℕ) (e : Bool) → e ≡ false → (let s : FetchState = asked request (at false stall) in let m : Machine = window code s in cond e (acted resident code input m) (record m { stall = stall - 1; counts = after_stall m.counts }) ≡ window code (cond e (turn_of code input s) (stalled s)))
+    waits : (stall : ℕ) (e : Bool) → e ≡ false
+        → (let s : FetchState = asked request (at false stall) in let m : Machine = window code s in
+        cond e (acted resident code input m) (record m { stall = stall - 1; counts = after_stall m.counts })
+        ≡ window code (cond e (turn_of code input s) (stalled s)))
     waits stall true h = absurd (true≢false h)
     waits stall false h = refl
 
-    keeps : (stall : ℕ) (e : Bool) → e ≡ false → (let s : FetchState = asked request (at false stall) in (cond e (turn_of code input s) (stalled s)).fetches ≡ unkilled f ∷ rest)
+    keeps : (stall : ℕ) (e : Bool) → e ≡ false
+        → (let s : FetchState = asked request (at false stall) in (cond e (turn_of code input s) (stalled s)).fetches ≡ unkilled f ∷ rest)
     keeps stall true h = absurd (true≢false h)
     keeps stall false h = refl
 

@@ -87,7 +87,10 @@ lawful x y z h = grind arith
 apart_from : (i : Inst) (r : ℕ) → reads i r ≡ false → (n : ℕ) → reads i n ≡ true → n ≡ r → n ≡ 0
 apart_from i r h n k e = absurd (false≢true (sym h ∙ ap (reads i) (sym e) ∙ k))
 
-module _ (code code' : Code) (inside : ℕ → Bool) (p : Place) (input : Option (List ℕ)) (m : Machine) (d : Delay) (stall : ℕ) (latch : Bool) (counts : Counted) (at_board : IsOnBoard p) (f : Follows p m d) (goes : m.halted ≡ false) (quiet : is_taken m ≡ false) (apart : reads (does code' d.first) m.slot.register ≡ false) (clean : is_clean_step code' inside p input d ≡ true) (same_word : code d.first.address ≡ code' d.first.address) where
+module _ (code code' : Code) (inside : ℕ → Bool) (p : Place) (input : Option (List ℕ))
+    (m : Machine) (d : Delay) (stall : ℕ) (latch : Bool) (counts : Counted) (at_board : IsOnBoard p)
+    (f : Follows p m d) (goes : m.halted ≡ false) (quiet : is_taken m ≡ false) (apart : reads (does code' d.first) m.slot.register ≡ false)
+    (clean : is_clean_step code' inside p input d ≡ true) (same_word : code d.first.address ≡ code' d.first.address) where
   -- the word that acts, and what it decides in the machine with delay slots
   abbrev i : Inst
   i = does code' d.first

@@ -41,16 +41,21 @@ module _ (resident : List ℕ → ℕ → Bool) (code : Code) (input : Option (L
   pub cycled_acted : m.halted ≡ false → eqb m.stall 0 ≡ true → acted resident code input (latched request m) ≡ cycled resident code input m request
   cycled_acted e f = sym (cond-false _ m _ e ∙ cond-true _ _ _ f)
 
-  pub cycled_stalled : m.halted ≡ false → eqb m.stall 0 ≡ false → (let l : Machine = latched request m in let n : Machine = record l { stall = m.stall - 1; counts = after_stall m.counts } in n ≡ cycled resident code input m request)
+  pub cycled_stalled : m.halted ≡ false → eqb m.stall 0 ≡ false
+      → (let l : Machine = latched request m in
+      let n : Machine = record l { stall = m.stall - 1; counts = after_stall m.counts } in
+      n ≡ cycled resident code input m request)
   cycled_stalled e f = sym (cond-false _ m _ e ∙ cond-false _ _ _ f)
 
-  pub answer_halted : m.halted ≡ true → (let r : Cycled = record { byte = None; taken = false; halted = true; stalled = false } in r ≡ answer code input m request)
+  pub answer_halted : m.halted ≡ true
+      → (let r : Cycled = record { byte = None; taken = false; halted = true; stalled = false } in r ≡ answer code input m request)
   answer_halted e = sym (cond-true _ _ _ e)
 
   pub answer_acted : m.halted ≡ false → eqb m.stall 0 ≡ true → acted_answer code input (latched request m) ≡ answer code input m request
   answer_acted e f = sym (cond-false _ _ _ e ∙ cond-true _ _ _ f)
 
-  pub answer_stalled : m.halted ≡ false → eqb m.stall 0 ≡ false → (let r : Cycled = record { byte = None; taken = false; halted = false; stalled = true } in r ≡ answer code input m request)
+  pub answer_stalled : m.halted ≡ false → eqb m.stall 0 ≡ false
+      → (let r : Cycled = record { byte = None; taken = false; halted = false; stalled = true } in r ≡ answer code input m request)
   answer_stalled e f = sym (cond-false _ _ _ e ∙ cond-false _ _ _ f)
 
 -- a turn that acts, by its steps: the commit, what it shows, its end, the counts, the wait

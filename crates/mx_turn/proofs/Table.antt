@@ -71,7 +71,8 @@ joined_at xs ys k = ⊎_elim
 abbrev spelled : List ℕ → ℕ → Inst
 spelled words k = unwrap_or (option_and_then inst_of (slice_get words k)) idle
 
-module _ (handler user : List ℕ) (padded : List Inst) (full : length padded ≡ 4096) (is : padded ≡ map what_of handler ++ replicate (4096 - length handler) idle) where
+module _ (handler user : List ℕ) (padded : List Inst) (full : length padded ≡ 4096)
+    (is : padded ≡ map what_of handler ++ replicate (4096 - length handler) idle) where
   below : (a : ℕ) → unwrap_or (slice_get padded a) idle ≡ code_from inst_of 0 handler a
   below a =
       let same : a ≡ a - 0 = omega arith in

@@ -1,5 +1,6 @@
 -- The machine cycle by cycle, with the stages of the last completed turn.
 use Rattle.std.specs.Prelude.{ℕ, ◌-◌, Bool, true, false, cond, eqb, not, ◌&&◌, ◌||◌, List, [], ◌∷◌, Option, Some, None, is_some}
+use Rattle.mx_isa.specs.declared.board.TheConstants.{CODE_BASE}
 use Rattle.mx_isa.specs.declared.inst.Inst.{Inst}
 use Rattle.mx_isa.specs.Words.{Words, reg}
 use Rattle.mx_isa.specs.Effect.{Change, Decision, Core, Bus, decides, apply, sent}
@@ -55,7 +56,8 @@ bus_of input m = board m.psw.current.user input
 -- what the word in MEM changes
 abbrev pub mem_change : Code → Option (List ℕ) → Machine → Change
 mem_change code input m =
-    system_change m.psw.current.user m.chain (live code m.mem) (address_of m.mem) (seen m.slot m.core.regs) m.core.md ((bus_of input m).load m.core.mem m.core.taken)
+    system_change m.psw.current.user m.chain (live code m.mem) (address_of m.mem) (seen m.slot m.core.regs) m.core.md
+    ((bus_of input m).load m.core.mem m.core.taken)
 
 -- the word in MEM commits as a whole
 abbrev pub committed : Code → Option (List ℕ) → Machine → Machine
@@ -194,7 +196,7 @@ answer code input m request =
 -- before the first cycle, with these data words: user mode, interrupts on, and nothing in the cache
 abbrev pub start : Words → Machine
 start data_words = record {
-  next = fetch_of 4096;
+  next = fetch_of CODE_BASE;
   fetch = None;
   rf = None;
   alu = None;

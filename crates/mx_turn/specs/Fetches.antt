@@ -1,5 +1,6 @@
 -- The machine cycle by cycle, over the list F of all its fetches; t is the current turn.
 use Rattle.std.specs.Prelude.{◌≡◌, ℕ, zero, suc, ◌+◌, ◌-◌, Bool, true, false, cond, eqb, not, ◌&&◌, ◌||◌, List, [], ◌∷◌, map, drop, slice_get, Option, Some, None, is_some}
+use Rattle.mx_isa.specs.declared.board.TheConstants.{CODE_BASE}
 use Rattle.mx_isa.specs.declared.inst.Inst.{Inst}
 use Rattle.mx_isa.specs.Words.{Words, reg}
 use Rattle.mx_isa.specs.Effect.{Change, Decision, Core, decides, apply, sent}
@@ -224,7 +225,7 @@ cycle_answer code input s request =
 -- before the first cycle: F is the fetch of address 4096, which waits, since the cache is empty
 abbrev pub fetches_start : Words → FetchState
 fetches_start data_words = record {
-  fetches = unkilled (fetch_of 4096) ∷ [];
+  fetches = unkilled (fetch_of CODE_BASE) ∷ [];
   stall = 2;
   latch = false;
   core = record { regs = λ n. 0; md = 0; mem = data_words; taken = 0 };

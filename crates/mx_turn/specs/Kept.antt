@@ -32,10 +32,10 @@ machine_of t past before shown = record {
   past = past;
   stall = t.stall;
   latch = t.latch;
-  core = record { regs = slice_index t.file; md = t.md; mem = words_of t.board; taken = t.board.taken };
+  core = record { regs = slice_index t.registers.file; md = t.registers.md; mem = words_of t.board; taken = t.board.taken };
   before = before;
-  slot = t.slot;
-  chain = t.chain;
+  slot = t.registers.slot;
+  chain = t.registers.chain;
   psw = t.psw;
   halted = t.halted;
   shown = shown;
@@ -44,13 +44,13 @@ machine_of t past before shown = record {
 
 -- what the last completed turn showed of the stages, the mode and the chain
 abbrev pub looked_of : {C : Type 0} → Turns C → Looked
-looked_of t = unwrap_or t.looked (record { fetch = t.fetch; rf = t.rf; alu = t.alu; user = t.psw.current.user; chain = t.chain })
+looked_of t = unwrap_or t.looked (record { fetch = t.fetch; rf = t.rf; alu = t.alu; user = t.psw.current.user; chain = t.registers.chain })
 
 -- all that it showed, from that and from what is left of it: nothing changes the registers between turns
 abbrev pub shown_by : {C : Type 0} → Turns C → Looked → Latches
 shown_by t l =
     let i = live (code_of_turns t) l.alu in
-    let sees = seen t.slot (slice_index t.file) in
+    let sees = seen t.registers.slot (slice_index t.registers.file) in
     let a = reg sees (sources i).0 in
     let b = reg sees (sources i).1 in
     record {
@@ -61,7 +61,7 @@ shown_by t l =
       wb = stage_of t.wb;
       a = a;
       b = b;
-      result = number_of l.user l.chain i (address_of l.alu) a b t.md;
+      result = number_of l.user l.chain i (address_of l.alu) a b t.registers.md;
     }
 
 abbrev pub shown_of : {C : Type 0} → Turns C → Latches
@@ -105,7 +105,7 @@ Tells answers t result = (past : List ℕ) (before : Words) (shown : Latches) �
 abbrev pub Commits : {C : Type 0} → Turns C → Turns C → Type 0
 Commits t t' =
     (past : List ℕ) (before : Words) (shown : Latches)
-    → machine_of t' (t.next.address ∷ past) (slice_index t.file) shown
+    → machine_of t' (t.next.address ∷ past) (slice_index t.registers.file) shown
     ≡ committed (code_of_turns t) t.board.input (shifted (machine_of t past before shown))
 
 -- what the turn shows is kept
@@ -133,5 +133,5 @@ Acts holds t t' =
     (past : List ℕ) (before : Words) (shown : Latches)
     → holds t.cache (t.next.address ∷ past)
     → t.missed ≡ not (resident past t.next.address)
-    → machine_of t' (t.next.address ∷ past) (slice_index t.file) (shown_of t')
+    → machine_of t' (t.next.address ∷ past) (slice_index t.registers.file) (shown_of t')
     ≡ acted resident (code_of_turns t) t.board.input (machine_of t past before shown)

@@ -1,5 +1,6 @@
 -- What one user turn of the machine has to do with one step of the machine with delay slots.
 use Rattle.std.specs.Prelude.{◌≡◌, ℕ, Bool, true, false, List, Option, Some}
+use Rattle.mx_isa.specs.declared.board.TheConstants.{CONSOLE, INPUT}
 use Rattle.mx_isa.specs.declared.place.Place.{Place}
 use Rattle.mx_isa.specs.Words.{Words}
 use Rattle.mx_isa.specs.Views.{reads}
@@ -32,8 +33,8 @@ pub record Follows (p : Place) (m : Machine) (d : Delay) : Type 0 where
 
 -- the console and the input are where the board has them
 pub record IsOnBoard (p : Place) : Type 0 where
-  pub console : p.console ≡ 255
-  pub input : p.input ≡ 254
+  pub console : p.console ≡ CONSOLE
+  pub input : p.input ≡ INPUT
 
 -- the machine before the next turn acts: only the wait, requests and counts come between
 abbrev pub before_turn : ℕ → Bool → Counted → Machine → Machine

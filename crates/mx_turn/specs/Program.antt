@@ -1,5 +1,6 @@
 -- What a machine runs, and its state after a list of request bits.
 use Rattle.std.specs.Prelude.{ℕ, Bool, cond, leb, List, Option}
+use Rattle.mx_isa.specs.declared.board.TheConstants.{CODE_BASE, DATA_BASE}
 use Rattle.mx_isa.specs.Words.{Words}
 use Rattle.mx_code.specs.Delay.{Code, code_from, data_from}
 use Rattle.mx_code.specs.Decoding.{inst_of}
@@ -20,15 +21,15 @@ program_of handler user data_words input = record { user_words = user; handler_w
 
 -- the handler's code below 4096, and the user's from there on
 abbrev pub code_with : Code → Code → Code
-code_with handler user a = cond (leb 4096 a) (user a) (handler a)
+code_with handler user a = cond (leb CODE_BASE a) (user a) (handler a)
 
 -- what every code address does
 abbrev pub code_of : Program → Code
-code_of p = code_with (code_from inst_of 0 p.handler_words) (code_from inst_of 4096 p.user_words)
+code_of p = code_with (code_from inst_of 0 p.handler_words) (code_from inst_of CODE_BASE p.user_words)
 
 -- the data words at the start
 abbrev pub memory_of : Program → Words
-memory_of p = data_from 256 p.data_words
+memory_of p = data_from DATA_BASE p.data_words
 
 -- the machine after these request bits
 abbrev pub state_after : Program → List Bool → Machine

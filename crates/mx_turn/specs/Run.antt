@@ -1,6 +1,7 @@
 -- A run within a budget of cycles, and the bound on a run of compiled code.
 use Rattle.std.specs.Prelude.{ℕ, zero, suc, ◌+◌, ◌*◌, Bool, false, eqb, leb, not, ◌==◌, ◌&&◌, List, [], ◌∷◌, ◌++◌, Option, Some, None, option_to_list}
 use Rattle.std.specs.List.{list_any}
+use Rattle.mx_isa.specs.declared.board.TheConstants.{CODE_BASE}
 use Rattle.mx_pcchain.specs.Fetch.{Fetch}
 use Rattle.mx_icache.specs.Residency.{resident}
 use Rattle.mx_turn.specs.Counted.{Counted, one}
@@ -29,7 +30,7 @@ console_after p h = bytes_on p (start (memory_of p)) h
 -- a fetch of user code, squashed or not, which no interrupt killed
 abbrev pub is_users : Option Fetch → Bool
 is_users None = false
-is_users (Some f) = leb 4096 f.address
+is_users (Some f) = leb CODE_BASE f.address
 
 -- the coming cycle acts, and a fetch of user code then reaches MEM
 abbrev pub passes : Machine → Bool
@@ -40,7 +41,7 @@ abbrev pub passed_on : Program → Machine → List Bool → ℕ
 passed_on p m [] = 0
 passed_on p m (request ∷ requests) = one (passes m) + passed_on p (cycled resident (code_of p) p.input m request) requests
 
-pub record Run : Type 0 where
+pub record MachineRun : Type 0 where
   pub halted : Bool
   pub counts : Counted
   pub console : List ℕ
@@ -48,7 +49,7 @@ pub record Run : Type 0 where
   pub last : Machine
 
 -- what a program does with requests at these cycles, until it halts or the budget of cycles is spent; a machine that has halted stays as it is
-abbrev pub run_of : Program → List ℕ → ℕ → Run
+abbrev pub run_of : Program → List ℕ → ℕ → MachineRun
 run_of p requests budget =
     let h = bits requests budget in
     record {

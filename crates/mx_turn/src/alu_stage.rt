@@ -4,7 +4,7 @@ ghost use Rattle.std.specs.Int.{w32, cast_unsigned};
 ghost use Rattle.mx_isa.specs.Effect.{decides, offset_by};
 ghost use Rattle.mx_turn.specs.System.{pops, restores, seen};
 
-use crate::registers::{LoadSlot, sees};
+use crate::registers::Registers;
 use mx_isa::{Inst, Reg, holds};
 
 /// Where a word leads, if not to the next one; whether it cancels the two words behind it; whether it pops the chain in
@@ -69,9 +69,9 @@ pub fn branches(holds: bool, at: u32, squash: bool, by: i32) -> Decided
 
 /// What the word in ALU, at an address, decides by the registers that it sees.
 #[inline(always)]
-pub fn decide(inst: &Inst, at: u32, slot: &LoadSlot, file: &[u32; 32]) -> Decided
-    ensures target { result.target ≡ (decides inst.now at (seen slot.now (slice_index file.now))).target }
-    ensures cancels { result.cancels ≡ (decides inst.now at (seen slot.now (slice_index file.now))).cancels }
+pub fn decide(inst: &Inst, at: u32, registers: &Registers) -> Decided
+    ensures target { result.target ≡ (decides inst.now at (seen registers.now.slot (slice_index registers.now.file))).target }
+    ensures cancels { result.cancels ≡ (decides inst.now at (seen registers.now.slot (slice_index registers.now.file))).cancels }
     ensures code_address { IfSome result.target (λ a. a < 2 ^ 31) }
     ensures pops { result.pops ≡ pops inst.now }
     ensures restores { result.restores ≡ restores inst.now }
@@ -84,11 +84,11 @@ pub fn decide(inst: &Inst, at: u32, slot: &LoadSlot, file: &[u32; 32]) -> Decide
             squash,
             by,
         } => {
-            let goes = holds(*cond, sees(file, slot, *a), sees(file, slot, *b));
+            let goes = holds(*cond, registers.sees(*a), registers.sees(*b));
             branches(goes, at, *squash, *by)
         }
         Inst::Jspci { a, dest: _, imm } => {
-            goes_to(sees(file, slot, *a).wrapping_add(imm.cast_unsigned()) % (1 << 31))
+            goes_to(registers.sees(*a).wrapping_add(imm.cast_unsigned()) % (1 << 31))
         }
         Inst::Jpc => Decided {
             target: None,

@@ -1,5 +1,6 @@
 //! Code words, decoded once.
 ghost use Rattle.std.specs.Prelude.{◌≡◌, ◌≤◌, ◌-◌, ◌++◌, IfOk, All, map, length, replicate};
+ghost use Rattle.mx_isa.specs.declared.board.TheConstants.{CODE_BASE, MAX_CODE_WORDS};
 ghost use Rattle.mx_code.specs.Decoding.{inst_of};
 ghost use Rattle.mx_code.specs.Delay.{idle, code_from};
 ghost use Rattle.mx_turn.specs.Decoded.{what_of, code_in, ShiftFits};
@@ -7,9 +8,9 @@ ghost use Rattle.mx_turn.specs.Stages.{live};
 ghost use Rattle.mx_turn.specs.Program.{code_with};
 
 use crate::held::Held;
-use mx_code::decode;
+use mx_code::{IDLE, decode};
 use mx_io::Memory;
-use mx_isa::{Inst, Op, Reg};
+use mx_isa::{CODE_BASE, Inst};
 use std::alloc::{AllocError, Global};
 use std::marker::Model;
 
@@ -31,14 +32,6 @@ impl Model for Decoded {
 
     ghost invariant = { λ d. All ShiftFits d.insts.items × (length d.insts.items ≤ 2 ^ 31) };
 }
-
-/// The no-op.
-pub const IDLE: Inst = Inst::Compute {
-    a: Reg::ZERO,
-    dest: Reg::ZERO,
-    b: Reg::ZERO,
-    op: Op::Add,
-};
 
 // What a word does; one that spells nothing does nothing.
 fn what_of(word: u32) -> Inst
@@ -65,12 +58,12 @@ fn all_of(alloc: Global, words: &[u32]) -> Result<Vec<Inst>, AllocError>
 
 // What the words of a handler and those of the user do.
 fn both(alloc: Global, handler: &[u32], user: &[u32]) -> Result<Vec<Inst>, AllocError>
-    requires handler { length handler.now ≤ 4096 }
-    ensures what { IfOk result (λ v. v.items ≡ (map what_of handler.now ++ replicate (4096 - length handler.now) idle) ++ map what_of user.now) }
+    requires handler { length handler.now ≤ CODE_BASE }
+    ensures what { IfOk result (λ v. v.items ≡ (map what_of handler.now ++ replicate (CODE_BASE - length handler.now) idle) ++ map what_of user.now) }
     ensures fits { IfOk result (λ v. All ShiftFits v.items) }
 {
     let mut insts = all_of(alloc, handler)?;
-    insts.resize(4096, IDLE)?;
+    insts.resize(CODE_BASE as usize, IDLE)?;
     insts.extend_from_slice(&all_of(alloc, user)?)?;
     Ok(insts)
 }
@@ -79,9 +72,9 @@ impl Decoded {
     /// These words, decoded.
     #[tactic(auto, using(crate::proofs::Table::code_is))]
     pub fn new(alloc: Global, handler: &[u32], user: &[u32]) -> Result<Decoded, Memory>
-        requires handler { length handler.now ≤ 4096 }
-        requires user { length user.now ≤ 60000 }
-        ensures { IfOk result (λ d. code_in d ≡ code_with (code_from inst_of 0 handler.now) (code_from inst_of 4096 user.now)) }
+        requires handler { length handler.now ≤ CODE_BASE }
+        requires user { length user.now ≤ MAX_CODE_WORDS }
+        ensures { IfOk result (λ d. code_in d ≡ code_with (code_from inst_of 0 handler.now) (code_from inst_of CODE_BASE user.now)) }
     {
         match both(alloc, handler, user) {
             Ok(insts) => Ok(Decoded { insts }),

@@ -1,5 +1,6 @@
 //! What a machine is, however it is kept.
 ghost use Rattle.std.specs.Prelude.{◌≡◌, ◌<◌, ◌≤◌, ◌+◌, ◌^◌, ℕ, Bool, List, [], ◌∷◌, ◌++◌};
+ghost use Rattle.mx_isa.specs.declared.board.TheConstants.{DATA_END};
 ghost use Rattle.mx_isa.specs.Words.{reg};
 
 use crate::{Counts, Latches};
@@ -47,7 +48,7 @@ pub trait Machine {
 
     /// The data word at an address below 65536.
     fn user_data(&self, address: u32) -> u32
-        requires { address < 65536 }
+        requires { address < DATA_END }
         ensures { (p : Program) (h : List Bool) → stands self.now p h → result ≡ (state_after p h).core.mem address };
 
     /// The number of input bytes taken.

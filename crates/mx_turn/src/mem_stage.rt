@@ -2,7 +2,7 @@
 ghost use Rattle.std.specs.Prelude.{◌≡◌, ◌≢◌, ◌<◌, ◌^◌, slice_index, cond, suc, None, false, if◌then◌else◌};
 ghost use Rattle.mx_isa.specs.Arithmetic.{CountFits};
 ghost use Rattle.mx_isa.specs.Words.{reg, write};
-ghost use Rattle.mx_isa.specs.Effect.{Sent, stored, sent, or_kept, offset_by};
+ghost use Rattle.mx_isa.specs.Effect.{stored, sent, or_kept};
 ghost use Rattle.mx_isa.specs.Views.{is_halt, is_md};
 ghost use Rattle.mx_pcchain.specs.Chain.{special, with_special};
 ghost use Rattle.mx_board.specs.Data.{board, words_of};
@@ -10,7 +10,7 @@ ghost use Rattle.mx_turn.specs.Decoded.{ShiftFits};
 ghost use Rattle.mx_turn.specs.System.{moved, no_slot, slot_of, seen};
 ghost use Rattle.mx_turn.specs.Commits.{change_of};
 
-use crate::registers::{LoadSlot, no_slot, read, sees, set};
+use crate::registers::{LoadSlot, Registers, no_slot, read, set};
 use mx_board::Board;
 use mx_isa::{Inst, Op, Reg, Special, compute};
 use mx_pcchain::Chain;
@@ -22,129 +22,129 @@ pub struct Committed {
     pub halted: bool,
 }
 
-// A register and an offset.
-fn address_of(file: &[u32; 32], slot: &LoadSlot, base: Reg, offset: i32) -> u32
-    ensures { result ≡ offset_by (seen slot.now (slice_index file.now)) base offset }
-{
-    sees(file, slot, base).wrapping_add(offset.cast_unsigned())
-}
-
-// The word is no load, and nothing but its change is learned of it.
-fn plain(slot: &mut LoadSlot) -> Committed
-    ensures answer { result ≡ record { byte = None; halted = false } }
-    ensures slot { slot.new ≡ no_slot }
-{
-    *slot = no_slot();
-    Committed {
-        byte: None,
-        halted: false,
+impl Registers {
+    // The word is no load, and this is learned of it.
+    fn learned(&mut self, byte: Option<u8>, halted: bool) -> Committed
+        ensures answer { result ≡ record { byte = byte; halted = halted } }
+        ensures state { self.new ≡ record self.old { slot = no_slot } }
+    {
+        self.slot = no_slot();
+        Committed { byte, halted }
     }
-}
 
-/// The word in MEM, at an address, commits: its registers, MD, data and chain.
-// Once a cycle: a call costs a third of it, since what comes back is read in other widths than it is written in.
-#[inline(always)]
-pub fn commit(
-    inst: &Inst,
-    at: u32,
-    user: bool,
-    slot: &mut LoadSlot,
-    file: &mut [u32; 32],
-    md: &mut u32,
-    chain: &mut Chain,
-    memory: &mut Board,
-) -> Committed
-    requires fits { ShiftFits inst.now }
-    requires code_address { at < 2 ^ 31 }
-    ensures regs { let c = change_of user chain.old inst.now at slot.old file.old md.old memory.old in
-        slice_index file.new ≡ write (slice_index file.old) c.dest c.value }
-    ensures md { let c = change_of user chain.old inst.now at slot.old file.old md.old memory.old in
-        md.new ≡ or_kept c.new_md md.old }
-    ensures words { let c = change_of user chain.old inst.now at slot.old file.old md.old memory.old in
-        words_of memory.new ≡ stored (board user memory.old.input) c.stores (words_of memory.old) }
-    ensures input { memory.new.input ≡ memory.old.input }
-    ensures taken { let c = change_of user chain.old inst.now at slot.old file.old md.old memory.old in
-        memory.new.taken ≡ cond c.takes (suc memory.old.taken) memory.old.taken }
-    ensures byte { let c = change_of user chain.old inst.now at slot.old file.old md.old memory.old in
-        result.byte ≡ sent (board user memory.old.input) c.stores }
-    ensures slot { slot.new ≡ slot_of inst.now (slice_index file.old) }
-    ensures chain { chain.new ≡ moved user inst.now (seen slot.old (slice_index file.old)) chain.old }
-    ensures halted { result.halted ≡ is_halt inst.now }
-{
-    match inst {
-        Inst::Load { base, dest, offset } => {
-            let address = address_of(file, slot, *base, *offset);
-            let value = read(file, *dest);
-            let word = memory.load(address, user);
-            set(file, *dest, word);
-            *slot = LoadSlot {
-                register: *dest,
-                value,
-            };
-            Committed {
-                byte: None,
-                halted: false,
-            }
-        }
-        Inst::Store {
-            base,
+    // The word is no load, and nothing but its change is learned of it.
+    fn plain(&mut self) -> Committed
+        ensures answer { result ≡ record { byte = None; halted = false } }
+        ensures state { self.new ≡ record self.old { slot = no_slot } }
+    {
+        self.learned(None, false)
+    }
+
+    // A register takes a word, and nothing else is learned.
+    fn put(&mut self, dest: Reg, word: u32) -> Committed
+        ensures answer { result ≡ record { byte = None; halted = false } }
+        ensures regs { slice_index self.new.file ≡ write (slice_index self.old.file) dest word }
+        ensures slot { self.new.slot ≡ no_slot }
+        ensures md { self.new.md ≡ self.old.md }
+        ensures chain { self.new.chain ≡ self.old.chain }
+    {
+        set(&mut self.file, dest, word);
+        self.plain()
+    }
+
+    // A register takes a loaded word, which the next word does not see.
+    fn load(&mut self, dest: Reg, word: u32) -> Committed
+        ensures answer { result ≡ record { byte = None; halted = false } }
+        ensures regs { slice_index self.new.file ≡ write (slice_index self.old.file) dest word }
+        ensures slot { self.new.slot ≡ record { register = dest; value = reg (slice_index self.old.file) dest } }
+        ensures md { self.new.md ≡ self.old.md }
+        ensures chain { self.new.chain ≡ self.old.chain }
+    {
+        let value = read(&self.file, dest);
+        set(&mut self.file, dest, word);
+        self.slot = LoadSlot {
+            register: dest,
             value,
-            offset,
-        } => {
-            let address = address_of(file, slot, *base, *offset);
-            let byte = memory.store(address, sees(file, slot, *value), user);
-            *slot = no_slot();
-            Committed {
-                byte,
-                halted: false,
-            }
-        }
-        Inst::Branch { .. } => plain(slot),
-        Inst::Compute { a, dest, b, op } => {
-            let (value, new_md) = compute(*op, sees(file, slot, *a), sees(file, slot, *b), *md);
-            set(file, *dest, value);
-            *md = new_md;
-            plain(slot)
-        }
-        Inst::Addi { a, dest, imm } => {
-            let value = address_of(file, slot, *a, *imm);
-            set(file, *dest, value);
-            plain(slot)
-        }
-        Inst::MoveFrom { dest, special } => {
-            move_from(*dest, *special, user, file, *md, chain);
-            plain(slot)
-        }
-        Inst::MoveTo { a, special } => {
-            let word = sees(file, slot, *a);
-            move_to(word, *special, user, md, chain);
-            plain(slot)
-        }
-        Inst::Jspci { a: _, dest, imm: _ } => {
-            set(file, *dest, at + 3);
-            plain(slot)
-        }
-        Inst::Jpc => plain(slot),
-        Inst::Jpcrs => plain(slot),
-        Inst::Halt => {
-            *slot = no_slot();
-            Committed {
-                byte: None,
-                halted: true,
-            }
+        };
+        Committed {
+            byte: None,
+            halted: false,
         }
     }
-}
 
-// A register takes MD, or a saved fetch in system mode.
-fn move_from(dest: Reg, name: Special, user: bool, file: &mut [u32; 32], md: u32, chain: &Chain)
-    ensures { slice_index file.new ≡ (if is_md name then write (slice_index file.old) dest md else (if user then slice_index file.old else write (slice_index file.old) dest (special chain.now name))) }
-{
-    match name {
-        Special::Md => set(file, dest, md),
-        Special::Pc1 => from_chain(dest, chain.pc1, user, file),
-        Special::Pc2 => from_chain(dest, chain.pc2, user, file),
-        Special::Pc3 => from_chain(dest, chain.pc3, user, file),
+    // A register takes MD, or a saved fetch in system mode.
+    fn move_from(&mut self, dest: Reg, name: Special, user: bool) -> Committed
+        ensures answer { result ≡ record { byte = None; halted = false } }
+        ensures regs { let old = slice_index self.old.file in
+            slice_index self.new.file ≡ (if is_md name then write old dest self.old.md
+            else (if user then old else write old dest (special self.old.chain name))) }
+        ensures slot { self.new.slot ≡ no_slot }
+        ensures md { self.new.md ≡ self.old.md }
+        ensures chain { self.new.chain ≡ self.old.chain }
+    {
+        match name {
+            Special::Md => set(&mut self.file, dest, self.md),
+            Special::Pc1 => from_chain(dest, self.chain.pc1, user, &mut self.file),
+            Special::Pc2 => from_chain(dest, self.chain.pc2, user, &mut self.file),
+            Special::Pc3 => from_chain(dest, self.chain.pc3, user, &mut self.file),
+        }
+        self.plain()
+    }
+
+    /// The word in MEM, at an address, commits: its registers, MD, data and chain.
+    // Once a cycle: a call costs a third of it, since what comes back is read in other widths than it is written in.
+    #[inline(always)]
+    pub fn commit(&mut self, inst: &Inst, at: u32, user: bool, memory: &mut Board) -> Committed
+        requires fits { ShiftFits inst.now }
+        requires code_address { at < 2 ^ 31 }
+        ensures regs { let c = change_of user self.old inst.now at memory.old in
+            slice_index self.new.file ≡ write (slice_index self.old.file) c.dest c.value }
+        ensures md { self.new.md ≡ or_kept (change_of user self.old inst.now at memory.old).new_md self.old.md }
+        ensures words { let c = change_of user self.old inst.now at memory.old in
+            words_of memory.new ≡ stored (board user memory.old.input) c.stores (words_of memory.old) }
+        ensures input { memory.new.input ≡ memory.old.input }
+        ensures taken { memory.new.taken ≡ cond (change_of user self.old inst.now at memory.old).takes (suc memory.old.taken) memory.old.taken }
+        ensures byte { result.byte ≡ sent (board user memory.old.input) (change_of user self.old inst.now at memory.old).stores }
+        ensures slot { self.new.slot ≡ slot_of inst.now (slice_index self.old.file) }
+        ensures chain { self.new.chain ≡ moved user inst.now (seen self.old.slot (slice_index self.old.file)) self.old.chain }
+        ensures halted { result.halted ≡ is_halt inst.now }
+    {
+        match inst {
+            Inst::Load { base, dest, offset } => {
+                let address = self.address_of(*base, *offset);
+                let word = memory.load(address, user);
+                self.load(*dest, word)
+            }
+            Inst::Store {
+                base,
+                value,
+                offset,
+            } => {
+                let address = self.address_of(*base, *offset);
+                let byte = memory.store(address, self.sees(*value), user);
+                self.learned(byte, false)
+            }
+            Inst::Branch { .. } => self.plain(),
+            Inst::Compute { a, dest, b, op } => {
+                let (value, new_md) = compute(*op, self.sees(*a), self.sees(*b), self.md);
+                self.md = new_md;
+                self.put(*dest, value)
+            }
+            Inst::Addi { a, dest, imm } => {
+                let value = self.address_of(*a, *imm);
+                self.put(*dest, value)
+            }
+            Inst::MoveFrom { dest, special } => self.move_from(*dest, *special, user),
+            Inst::MoveTo { a, special } => {
+                let word = self.sees(*a);
+                move_to(word, *special, user, &mut self.md, &mut self.chain);
+                self.plain()
+            }
+            Inst::Jspci { a: _, dest, imm: _ } => self.put(*dest, at + 3),
+            Inst::Jpc => self.plain(),
+            Inst::Jpcrs => self.plain(),
+            Inst::Halt => self.learned(None, true),
+        }
     }
 }
 

@@ -1,9 +1,11 @@
-//! The register file, and what a word sees of it.
+//! The registers, and what a word sees of them.
 ghost use Rattle.std.specs.Prelude.{◌≡◌, ◌==◌, slice_index, if◌then◌else◌};
 ghost use Rattle.mx_isa.specs.Words.{reg, write};
+ghost use Rattle.mx_isa.specs.Effect.{offset_by};
 ghost use Rattle.mx_turn.specs.System.{no_slot, seen};
 
 use mx_isa::Reg;
+use mx_pcchain::Chain;
 use std::marker::Model;
 
 /// A register that the next word still sees with an old value, since a load has just written it; r0 for none.
@@ -21,6 +23,32 @@ impl Model for LoadSlot {
     ghost view = { λ s. record { register = s.register; value = s.value } };
 
     ghost inverse = { λ s. record { register = s.register; value = s.value } };
+}
+
+/// What a word that commits finds and leaves beside the data: the register file, the load that the next word does not see, MD,
+/// and the saved fetches.
+#[derive(Clone, Copy)]
+pub struct Registers {
+    pub file: [u32; 32],
+    pub slot: LoadSlot,
+    pub md: u32,
+    pub chain: Chain,
+}
+
+impl Registers {
+    /// A register as the next word sees it.
+    pub fn sees(&self, r: Reg) -> u32
+        ensures { result ≡ reg (seen self.now.slot (slice_index self.now.file)) r }
+    {
+        sees(&self.file, &self.slot, r)
+    }
+
+    /// A register as the next word sees it, and an offset.
+    pub fn address_of(&self, base: Reg, offset: i32) -> u32
+        ensures { result ≡ offset_by (seen self.now.slot (slice_index self.now.file)) base offset }
+    {
+        self.sees(base).wrapping_add(offset.cast_unsigned())
+    }
 }
 
 /// No register was loaded.

@@ -1,6 +1,8 @@
 //! The machine that commits each word as a whole.
 ghost use Rattle.std.specs.Prelude.{◌≡◌, ◌<◌, IfSome, ◌≤◌, ◌+◌, ◌^◌, ℕ, Bool, not, ◌&&◌, ◌||◌, length, slice_index, IfOk, Some, None, List, if◌then◌else◌, [], ◌∷◌};
 ghost use Rattle.std.specs.Option.{option_copied};
+ghost use Rattle.mx_io.specs.declared.limits.TheConstants.{MAX_FILE_BYTES};
+ghost use Rattle.mx_isa.specs.declared.board.TheConstants.{CODE_BASE};
 ghost use Rattle.mx_isa.specs.Words.{Words};
 ghost use Rattle.mx_board.specs.Contents.{bytes_in};
 ghost use Rattle.mx_icache.specs.Residency.{resident};
@@ -16,8 +18,7 @@ ghost use Rattle.mx_turn.specs.Kept.{code_of_turns, machine_of, shown_of, looked
 use crate::alu_stage::{Decided, decide};
 use crate::decoded::Decoded;
 use crate::held::{Coming, Held};
-use crate::mem_stage::commit;
-use crate::registers::{LoadSlot, no_slot, read, sees};
+use crate::registers::{Registers, no_slot, read};
 use crate::shown::number_of;
 use crate::stages::{led, popped, restored, saved, squash, stage_of};
 use crate::{Counts, Cycled, Latches, Machine};
@@ -25,7 +26,7 @@ use mx_board::Board;
 use mx_code::Image;
 use mx_icache::FetchCache;
 use mx_io::Memory;
-use mx_isa::{Inst, Reg};
+use mx_isa::{CODE_BASE, Inst, Reg};
 use mx_pcchain::{Chain, Psw};
 use std::alloc::Global;
 
@@ -77,8 +78,7 @@ struct Ended {
 #[derive(Drop)]
 pub struct Turns<C> {
     code: Decoded,
-    file: [u32; 32],
-    md: u32,
+    registers: Registers,
     board: Board,
     next: Coming,
     fetch: Held,
@@ -89,8 +89,6 @@ pub struct Turns<C> {
     missed: bool,
     stall: u8,
     latch: bool,
-    slot: LoadSlot,
-    chain: Chain,
     psw: Psw,
     halted: bool,
     // What the last completed turn showed, if that is no longer what the stages, the mode and the chain are.
@@ -125,16 +123,7 @@ impl<C: FetchCache> Turns<C> {
         self.alu = self.rf;
         self.rf = self.fetch;
         self.fetch = self.next.held();
-        let committed = commit(
-            &inst,
-            at,
-            user,
-            &mut self.slot,
-            &mut self.file,
-            &mut self.md,
-            &mut self.chain,
-            &mut self.board,
-        );
+        let committed = self.registers.commit(&inst, at, user, &mut self.board);
         self.halted = committed.halted;
         committed.byte
     }
@@ -164,7 +153,7 @@ impl<C: FetchCache> Turns<C> {
                 rf: self.rf,
                 alu: self.alu,
                 user: self.psw.current.user,
-                chain: self.chain,
+                chain: self.registers.chain,
             },
         }
     }
@@ -175,8 +164,8 @@ impl<C: FetchCache> Turns<C> {
     {
         let inst = self.live(looked.alu);
         let operands = inst.sources();
-        let a = sees(&self.file, &self.slot, operands.0);
-        let b = sees(&self.file, &self.slot, operands.1);
+        let a = self.registers.sees(operands.0);
+        let b = self.registers.sees(operands.1);
         let at = looked.alu.address();
         Latches {
             fetch: stage_of(looked.fetch.stage()),
@@ -186,7 +175,15 @@ impl<C: FetchCache> Turns<C> {
             wb: stage_of(self.wb.stage()),
             a,
             b,
-            result: number_of(&inst, at, a, b, self.md, looked.user, &looked.chain),
+            result: number_of(
+                &inst,
+                at,
+                a,
+                b,
+                self.registers.md,
+                looked.user,
+                &looked.chain,
+            ),
         }
     }
 
@@ -222,10 +219,15 @@ impl<C: FetchCache> Turns<C> {
         ensures counts { self.new.counts ≡ self.old.counts }
     {
         self.looked = Some(self.look());
-        self.next = Coming::of(led(back, &self.chain, decided.target, self.next.fetched()));
+        self.next = Coming::of(led(
+            back,
+            &self.registers.chain,
+            decided.target,
+            self.next.fetched(),
+        ));
         self.fetch = Held::of(squash(decided.cancels, self.fetch.stage()));
         self.rf = Held::of(squash(decided.cancels, self.rf.stage()));
-        self.chain = popped(back, self.chain);
+        self.registers.chain = popped(back, self.registers.chain);
         self.psw = restored(decided.restores && back, self.psw);
     }
 
@@ -240,11 +242,16 @@ impl<C: FetchCache> Turns<C> {
         ensures missed { self.new.missed ≡ self.old.missed }
         ensures counts { self.new.counts ≡ self.old.counts }
     {
-        let decided = decide(inst, self.alu.address(), &self.slot, &self.file);
+        let decided = decide(inst, self.alu.address(), &self.registers);
         let back = self.goes_back(&decided);
         // Most transfers cancel and pop nothing: for them, too, nothing but the next fetch is written.
         if !either(back, decided.cancels) {
-            self.next = Coming::of(led(false, &self.chain, decided.target, self.next.fetched()));
+            self.next = Coming::of(led(
+                false,
+                &self.registers.chain,
+                decided.target,
+                self.next.fetched(),
+            ));
             return false;
         }
         self.turn_aside(&decided, back);
@@ -281,7 +288,7 @@ impl<C: FetchCache> Turns<C> {
         ensures counts { self.new.counts ≡ self.old.counts }
     {
         self.looked = Some(self.look());
-        self.chain.enter(
+        self.registers.chain.enter(
             saved(self.alu.stage()),
             saved(self.rf.stage()),
             saved(self.fetch.stage()),
@@ -380,7 +387,7 @@ impl<C: FetchCache> Turns<C> {
         input: Option<&[u8]>,
         cache: C,
     ) -> Result<Turns<C>, Memory>
-        requires bytes { bytes_in (option_copied input) ≤ 1048576 }
+        requires bytes { bytes_in (option_copied input) ≤ MAX_FILE_BYTES }
         requires empty { C.holds cache [] }
         ensures { IfOk result (λ t. StandsFor C.holds t
             (program_of shipped image.now.code.items image.now.user_data.items (option_copied input.entry)) []) }
@@ -397,21 +404,25 @@ impl<C: FetchCache> Turns<C> {
         input: Option<&[u8]>,
         cache: C,
     ) -> Result<Turns<C>, Memory>
-        requires words { length handler.now ≤ 4096 }
-        requires bytes { bytes_in (option_copied input) ≤ 1048576 }
+        requires words { length handler.now ≤ CODE_BASE }
+        requires bytes { bytes_in (option_copied input) ≤ MAX_FILE_BYTES }
         requires empty { C.holds cache [] }
         ensures { IfOk result (λ t. StandsFor C.holds t
             (program_of handler.now image.now.code.items image.now.user_data.items (option_copied input.entry)) []) }
     {
         let code = Decoded::new(alloc, handler, &image.code)?;
         let board = Board::new(alloc, &image.user_data, input)?;
-        let next = Coming::at(4096);
+        let next = Coming::at(CODE_BASE);
         let mut cache = cache;
-        let hit = cache.fetch(4096);
+        let hit = cache.fetch(CODE_BASE);
         Ok(Turns {
             code,
-            file: [0; 32],
-            md: 0,
+            registers: Registers {
+                file: [0; 32],
+                slot: no_slot(),
+                md: 0,
+                chain: Chain::new(),
+            },
             board,
             next,
             fetch: Held::empty(),
@@ -422,8 +433,6 @@ impl<C: FetchCache> Turns<C> {
             missed: !hit,
             stall: stall_of(hit),
             latch: false,
-            slot: no_slot(),
-            chain: Chain::new(),
             psw: Psw::start(),
             halted: false,
             looked: None,
@@ -466,11 +475,11 @@ impl<C: FetchCache> Machine for Turns<C> {
     }
 
     fn register(&self, r: Reg) -> u32 {
-        read(&self.file, r)
+        read(&self.registers.file, r)
     }
 
     fn md(&self) -> u32 {
-        self.md
+        self.registers.md
     }
 
     fn user_data(&self, address: u32) -> u32 {

@@ -3,7 +3,7 @@ use Rattle.mx_blocks.specs.declared.Plan.{Plan}
 use Rattle.mx_layout.specs.Kept.{AreKept}
 use Rattle.mx_layout.specs.Overlong.{overlong}
 use Rattle.mx_link.specs.Origins.{copies_in}
-use Rattle.mx_link.specs.Words.{noops_in}
+use Rattle.mx_code.specs.NoOps.{noops_in}
 use Rattle.mx_link.specs.Linked.{link_map}
 use Rattle.mx_link.specs.Parts.{filling_of, sites_of, link_in}
 use Rattle.mx_layout.proofs.Sited.{blocks_in-sites}

@@ -5,7 +5,7 @@ use Rattle.mx_answer.specs.declared.Status.TheVariants.{Halted, OutOfBudget}
 use Rattle.mx_answer.specs.Answer.{prints}
 use Rattle.mx_turn.specs.Handler.{shipped}
 use Rattle.mx_turn.specs.Program.{Program, program_of, state_after}
-use Rattle.mx_turn.specs.Run.{Run, run_of}
+use Rattle.mx_turn.specs.Run.{MachineRun, run_of}
 use Rattle.mx_turn.specs.Cycle.{Machine}
 use Rattle.mx_report.specs.Driving.{trace_text}
 use Rattle.mx_report.specs.Report.{report_text}
@@ -19,7 +19,7 @@ returns c =
     let p : Program = program_of shipped code c.args.image.now.user_data.items (option_copied c.args.input) in
     let requests : List ℕ = c.args.requests.now in
     let limits = c.args.limits.now in
-    let r : Run = run_of p requests limits.budget in
+    let r : MachineRun = run_of p requests limits.budget in
     let start = c.in_ok-machine.ensures in
     let driven = c.in_ok-driven.ensures in
     let last = driven.stands p start in

@@ -40,7 +40,7 @@ module _ (g : given.Over) (c : After-wait g) (past : List ℕ) (before : Words) 
   past' = s0.next.address ∷ past
 
   abbrev before' : Words
-  before' = slice_index s0.file
+  before' = slice_index s0.registers.file
 
   same1 : code_of_turns s1 ≡ code
   same1 = ap code_in c.commit-byte.ensures.program.code
@@ -64,7 +64,10 @@ module _ (g : given.Over) (c : After-wait g) (past : List ℕ) (before : Words) 
   shown_is : shown_of s5 ≡ shown_of s2
   shown_is = c.wait.ensures.shown ∙ c.end-ended.ensures.shown
 
-  waits_is : g.C.FetchCache.holds s0.cache past' → (let d : Machine = machine_of s3 past' before' (shown_of s2) in let n : Machine = record d { counts = after_turn s3.missed c.end-ended.result.squashed c.end-ended.result.taken m.counts } in machine_of s5 past' before' (shown_of s5) ≡ waited resident n)
+  waits_is : g.C.FetchCache.holds s0.cache past'
+      → (let d : Machine = machine_of s3 past' before' (shown_of s2) in
+      let n : Machine = record d { counts = after_turn s3.missed c.end-ended.result.squashed c.end-ended.result.taken m.counts } in
+      machine_of s5 past' before' (shown_of s5) ≡ waited resident n)
   waits_is holds =
       c.wait.ensures.state past' before' (shown_of s5) (subst (λ x. g.C.FetchCache.holds x past') (sym (c.end-ended.ensures.cache ∙ c.show.ensures.cache ∙ c.commit-byte.ensures.cache)) holds)
       ∙ (λ k. let d : Machine = machine_of s3 past' before' (shown_is k) in let n : Machine = record d { counts = counts_is k } in waited resident n)
@@ -87,7 +90,7 @@ pub returns-clause-answer : goal.returns-clause-answer
 returns-clause-answer g c = λ past before shown.
     let s2 = c.show.new.self in
     let past' : List ℕ = c.args.self.now.next.address ∷ past in
-    let before' : Words = slice_index c.args.self.now.file in
+    let before' : Words = slice_index c.args.self.now.registers.file in
     λ k. record {
       byte = c.commit-byte.ensures.byte past before shown k;
       taken = (c.end-ended.ensures.taken past' before' (shown_of s2) ∙ ap takes (reaches_is g c past before shown)) k;

@@ -35,7 +35,7 @@ pub returns-clause-next : goal.returns-clause-next
 returns-clause-next g c = λ p h s.
     let self = c.args.self.now in
     let m : Machine = machine_of self s.past s.before (shown_of self) in
-    stands_on g.C.FetchCache.holds self p h s c.args.request c.act.new.self (self.next.address ∷ s.past) (slice_index self.file)
+    stands_on g.C.FetchCache.holds self p h s c.args.request c.act.new.self (self.next.address ∷ s.past) (slice_index self.registers.file)
     (c.act.ensures.cache (self.next.address ∷ s.past) s.cache)
     (c.act.ensures.missed (self.next.address ∷ s.past) s.cache)
     (record { code = c.act.ensures.program.code; input = c.act.ensures.program.input })
