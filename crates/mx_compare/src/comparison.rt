@@ -15,6 +15,7 @@ use mx_link::LinkError;
 use mx_reorg::ListProposer;
 use mx_source::Source;
 use mx_validate::{Proposer, padded};
+use mx_watch::Watcher;
 use std::alloc::Global;
 
 /// Proposes the padded plan.
@@ -46,31 +47,39 @@ pub struct Comparison {
     pub best: Figures,
 }
 
+/// What the runs of a source are given: their requests, their input and their budget of cycles.
+#[derive(Clone, Copy)]
+pub struct Conditions<'a> {
+    pub requests: &'a Requests,
+    pub input: &'a [u8],
+    pub budget: u32,
+}
+
 /// What a source and its run come to by padded plans, by greedy plans without and with copies, and by shortest plans
-/// with copies.
+/// with copies. A watcher is told how far each run has come.
 ///
 /// # Errors
 ///
 /// Those of `link`.
-pub fn compare(
+pub fn compare<W: Watcher>(
     alloc: Global,
     source: &Source,
-    requests: &Requests,
-    input: &[u8],
-    budget: u32,
+    conditions: &Conditions,
+    watcher: W,
 ) -> Result<Comparison, LinkError>
-    requires { length input.now ≤ 1048576 }
-    ensures figures { IfOk result (IsComparison source.now requests.now input.now budget) }
+    requires { length conditions.now.input.now ≤ 1048576 }
+    ensures figures { IfOk result
+        (IsComparison source.now conditions.now.requests.now conditions.now.input.now conditions.now.budget) }
     ensures refused { IfErr result (IsRefused source.now) }
 {
     let by = &mut PaddedProposer;
-    let padded = figures_of(alloc, source, by, false, requests, input, budget)?;
+    let padded = figures_of(alloc, source, by, false, conditions, watcher)?;
     let by = &mut ListProposer;
-    let list = figures_of(alloc, source, by, false, requests, input, budget)?;
+    let list = figures_of(alloc, source, by, false, conditions, watcher)?;
     let by = &mut ListProposer;
-    let copies = figures_of(alloc, source, by, true, requests, input, budget)?;
+    let copies = figures_of(alloc, source, by, true, conditions, watcher)?;
     let by = &mut BestProposer;
-    let best = figures_of(alloc, source, by, true, requests, input, budget)?;
+    let best = figures_of(alloc, source, by, true, conditions, watcher)?;
     Ok(Comparison {
         padded,
         list,

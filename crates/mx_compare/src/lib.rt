@@ -7,7 +7,7 @@ mod rows;
 mod slots;
 mod table;
 
-pub use comparison::{Comparison, compare};
+pub use comparison::{Comparison, Conditions, compare};
 pub use figures::Figures;
 pub use rows::figures_of;
 pub use slots::Slots;

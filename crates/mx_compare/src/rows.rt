@@ -11,17 +11,16 @@ ghost use Rattle.mx_turn.specs.Run.{run_of};
 ghost use Rattle.mx_meaning.specs.Boards.{board};
 ghost use Rattle.mx_compare.specs.Figures.{AreFigures};
 
-use crate::Figures;
 use crate::slots::slots_of;
-use mx_board::Requests;
+use crate::{Conditions, Figures};
 use mx_icache::LineCache;
 use mx_io::Memory;
 use mx_link::{LinkError, Linked, link, link_plain};
 use mx_meaning::BOARD;
-use mx_pipe::Pipe;
 use mx_report::{Driven, drive};
 use mx_source::Source;
 use mx_validate::Proposer;
+use mx_watch::{Watcher, watched_pipe};
 use std::alloc::Global;
 
 /// The input that a source is given, if it has one.
@@ -67,24 +66,33 @@ fn has_halted(driven: &Driven) -> bool
 }
 
 /// The figures of a linked source.
-fn measured(
+fn measured<W: Watcher>(
     alloc: Global,
     source: &Source,
     linked: &Linked,
-    requests: &Requests,
-    input: &[u8],
-    budget: u32,
+    conditions: &Conditions,
+    watcher: W,
 ) -> Result<Figures, Memory>
-    requires { length input.now ≤ 1048576 }
+    requires { length conditions.now.input.now ≤ 1048576 }
     ensures words { IfOk result (λ f. f.words ≡ length linked.now.image.code.items) }
     ensures noops { IfOk result (λ f. f.noops ≡ linked.now.noops) }
-    ensures cycles { IfOk result (λ f. f.cycles ≡ (run_of (program_of shipped linked.now.image.code.items linked.now.image.user_data.items (given source.now.input input.now)) requests.now budget).counts.cycles) }
-    ensures halted { IfOk result (λ f. f.halted ≡ (run_of (program_of shipped linked.now.image.code.items linked.now.image.user_data.items (given source.now.input input.now)) requests.now budget).halted) }
+    ensures cycles { IfOk result (λ f. f.cycles ≡ (run_of
+        (program_of shipped linked.now.image.code.items linked.now.image.user_data.items (given source.now.input conditions.now.input.now))
+        conditions.now.requests.now conditions.now.budget).counts.cycles) }
+    ensures halted { IfOk result (λ f. f.halted ≡ (run_of
+        (program_of shipped linked.now.image.code.items linked.now.image.user_data.items (given source.now.input conditions.now.input.now))
+        conditions.now.requests.now conditions.now.budget).halted) }
 {
     let (transfers, loads) = slots_of(source.statements(), linked.origin.as_slice());
-    let input = given_to(source, input);
-    let mut machine = Pipe::new(alloc, &linked.image, input, LineCache::new())?;
-    let driven = drive(alloc, &mut machine, requests, budget, 0)?;
+    let input = given_to(source, conditions.input);
+    let mut machine = watched_pipe(alloc, &linked.image, input, LineCache::new(), watcher)?;
+    let driven = drive(
+        alloc,
+        &mut machine,
+        conditions.requests,
+        conditions.budget,
+        0,
+    )?;
     Ok(Figures {
         words: linked.image.code.len(),
         noops: linked.noops,
@@ -96,24 +104,24 @@ fn measured(
 }
 
 /// The figures of a source that is linked by what a scheduler proposes, its slots filled from their targets or not, and
-/// run under the shipped handler with these requests.
+/// run under the shipped handler with these conditions. A watcher is told how far the run has come.
 ///
 /// # Errors
 ///
 /// Those of `link`.
-pub fn figures_of<P: Proposer>(
+pub fn figures_of<P: Proposer, W: Watcher>(
     alloc: Global,
     source: &Source,
     proposer: &mut P,
     copies: bool,
-    requests: &Requests,
-    input: &[u8],
-    budget: u32,
+    conditions: &Conditions,
+    watcher: W,
 ) -> Result<Figures, LinkError>
-    requires { length input.now ≤ 1048576 }
-    ensures figures { IfOk result (AreFigures P.proposes (cond copies from_target from_nowhere) source.now requests.now input.now budget) }
+    requires { length conditions.now.input.now ≤ 1048576 }
+    ensures figures { IfOk result (AreFigures P.proposes (cond copies from_target from_nowhere) source.now
+        conditions.now.requests.now conditions.now.input.now conditions.now.budget) }
     ensures refused { IfErr result (IsRefusal P.proposes source.now board) }
 {
     let linked = linked_by(alloc, source, proposer, copies)?;
-    Ok(measured(alloc, source, &linked, requests, input, budget)?)
+    Ok(measured(alloc, source, &linked, conditions, watcher)?)
 }

@@ -4,6 +4,7 @@
 use mx_answer::Status;
 use mx_io::{RealShelf, RealSink};
 use mx_laboratory::lab;
+use mx_watch::OnTerminal;
 use std::env;
 use std::io::ErrorKind;
 use std::process::ExitCode;
@@ -32,6 +33,12 @@ fn main(rt: HostRuntime) -> ExitCode {
     }
     let mut shelf = RealShelf::new(&rt);
     let mut out = RealSink::new(&rt);
-    let status = lab(alloc, words.as_slice(), &mut shelf, &mut out);
+    let status = lab(
+        alloc,
+        words.as_slice(),
+        &mut shelf,
+        &mut out,
+        OnTerminal::new(&rt),
+    );
     ExitCode::from(status.number())
 }

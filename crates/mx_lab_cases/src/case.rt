@@ -2,6 +2,7 @@
 use anyhow::Result;
 use mx_io::{MemoryShelf, MemorySink};
 use mx_laboratory::lab;
+use mx_watch::Unwatched;
 use std::alloc::Global;
 use std::fs;
 use std::rt::Files;
@@ -46,7 +47,7 @@ pub fn run<R: Files + AllocGlobal>(rt: &R, line: &str) -> Result<Ended> {
     let words = words_of(alloc, line)?;
     let mut shelf = files_of(rt, line)?;
     let mut output = MemorySink::new(alloc, PIECE, ROOM)?;
-    let status = lab(alloc, words.as_slice(), &mut shelf, &mut output).number();
+    let status = lab(alloc, words.as_slice(), &mut shelf, &mut output, Unwatched).number();
     Ok(Ended { status, output })
 }
 

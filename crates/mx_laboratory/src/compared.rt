@@ -5,9 +5,10 @@ use crate::ran::read_run;
 use crate::words::{run_options, source_arg};
 use clap::{ArgMatches, Command};
 use mx_answer::{Reply, Status};
-use mx_compare::{compare, table_of};
+use mx_compare::{Conditions, compare, table_of};
 use mx_io::{Memory, Shelf};
 use mx_link::LinkError;
+use mx_watch::Watcher;
 use std::alloc::{AllocError, Global};
 
 /// The words of `compare`.
@@ -19,23 +20,22 @@ pub fn compare_command<'a>(alloc: Global) -> Result<Command<'a>, AllocError> {
 }
 
 /// The reply to `compare SOURCE`.
-pub fn compare_reply<S: Shelf>(
+pub fn compare_reply<S: Shelf, W: Watcher>(
     alloc: Global,
     shelf: &mut S,
     matches: &ArgMatches,
+    watcher: W,
 ) -> Result<Reply, Memory> {
     let run = match read_run(alloc, shelf, matches)? {
         Ok(run) => run,
         Err(reply) => return Ok(reply),
     };
-    let compared = compare(
-        alloc,
-        &run.program.source,
-        &run.requests,
-        run.input.as_slice(),
-        run.budget,
-    );
-    match compared {
+    let conditions = Conditions {
+        requests: &run.requests,
+        input: run.input.as_slice(),
+        budget: run.budget,
+    };
+    match compare(alloc, &run.program.source, &conditions, watcher) {
         Ok(comparison) => printed(Status::Done, table_of(alloc, &comparison)),
         Err(LinkError::Displacement { line, from, to }) => overlong_reply(alloc, line, from, to),
         Err(LinkError::Memory) => Err(Memory),

@@ -16,7 +16,7 @@ use mx_draw::{Drawing, draw, rows_of};
 use mx_icache::LineCache;
 use mx_io::{Memory, Shelf};
 use mx_pictures::{Subject, html, kanata, svg, text, vcd};
-use mx_pipe::Pipe;
+use mx_watch::{Watcher, watched_pipe};
 use std::alloc::Global;
 
 // Which cycles are drawn: the first one, and how many.
@@ -36,19 +36,22 @@ fn span_given(matches: &ArgMatches) -> Span
     Span { from, count }
 }
 
-// Draws cycles of the run of an image, under the shipped handler.
-fn drawing_of(
+// Draws cycles of the run of an image, under the shipped handler. A watcher is told how far the run has come.
+fn drawing_of<W: Watcher>(
     alloc: Global,
     image: &Image,
     input: Option<&[u8]>,
     requests: &Requests,
     span: Span,
+    watcher: W,
 ) -> Result<Drawing, Memory>
     requires bytes { bytes_in (option_copied input) ≤ 1048576 }
     requires span { span.from + span.count < 2 ^ 32 }
-    ensures { IfOk result (λ d. IsDrawing (program_of shipped image.now.code.items image.now.user_data.items (option_copied input.entry)) requests.now span.from span.count d) }
+    ensures { IfOk result (λ d. IsDrawing
+        (program_of shipped image.now.code.items image.now.user_data.items (option_copied input.entry))
+        requests.now span.from span.count d) }
 {
-    let mut machine = Pipe::new(alloc, image, input, LineCache::new())?;
+    let mut machine = watched_pipe(alloc, image, input, LineCache::new(), watcher)?;
     let drawing = draw(alloc, &mut machine, requests, span.from, span.count)?;
     Ok(drawing)
 }
@@ -67,10 +70,11 @@ fn picture(alloc: Global, form: &str, subject: &Subject) -> Result<Vec<u8>, Memo
 }
 
 /// The reply to `draw SOURCE`.
-pub fn draw_reply<S: Shelf>(
+pub fn draw_reply<S: Shelf, W: Watcher>(
     alloc: Global,
     shelf: &mut S,
     matches: &ArgMatches,
+    watcher: W,
 ) -> Result<Reply, Memory> {
     let run = match read_run(alloc, shelf, matches)? {
         Ok(run) => run,
@@ -84,6 +88,7 @@ pub fn draw_reply<S: Shelf>(
         run.asked_input(),
         &run.requests,
         span,
+        watcher,
     )?;
     let subject = Subject {
         text: program.text.as_slice(),

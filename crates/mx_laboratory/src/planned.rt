@@ -13,6 +13,7 @@ use mx_planned::planned_reply;
 use mx_plans::{PlanError, PlanLine, print_plans, read_plans};
 use mx_simulate::{read_input, read_requests};
 use mx_source::Source;
+use mx_watch::Watcher;
 use std::alloc::{AllocError, Global};
 
 /// The most bytes of a plan file.
@@ -95,11 +96,12 @@ fn plans_of<S: Shelf>(
 }
 
 // The reply that runs a source by the plans of a file.
-fn run_reply<S: Shelf>(
+fn run_reply<S: Shelf, W: Watcher>(
     alloc: Global,
     shelf: &mut S,
     source: &Source,
     matches: &ArgMatches,
+    watcher: W,
 ) -> Result<Reply, Memory> {
     let plans = match plans_of(alloc, shelf, source, word_given(matches, "FILE"))? {
         Ok(plans) => plans,
@@ -121,6 +123,7 @@ fn run_reply<S: Shelf>(
         &requests,
         input.as_slice(),
         budget,
+        watcher,
     ) {
         Ok(reply) => Ok(reply),
         Err(LinkError::Displacement { line, from, to }) => overlong_reply(alloc, line, from, to),
@@ -129,17 +132,18 @@ fn run_reply<S: Shelf>(
 }
 
 /// The reply to `plans SOURCE FILE`, or to `plans SOURCE --print`.
-pub fn plans_reply<S: Shelf>(
+pub fn plans_reply<S: Shelf, W: Watcher>(
     alloc: Global,
     shelf: &mut S,
     matches: &ArgMatches,
+    watcher: W,
 ) -> Result<Reply, Memory> {
     let source = match read_source(alloc, shelf, word_given(matches, "SOURCE"))? {
         Ok(source) => source,
         Err(reply) => return Ok(reply),
     };
     if !matches.get_flag("print") {
-        return run_reply(alloc, shelf, &source, matches);
+        return run_reply(alloc, shelf, &source, matches, watcher);
     }
     Ok(Reply::Prints {
         status: Status::Done,

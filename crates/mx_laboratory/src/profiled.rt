@@ -15,8 +15,8 @@ use mx_board::Requests;
 use mx_code::Image;
 use mx_icache::LineCache;
 use mx_io::{Memory, Shelf};
-use mx_pipe::Pipe;
 use mx_profile::{Profile, profile, profile_text};
+use mx_watch::{Watcher, watched_pipe};
 use std::alloc::{AllocError, Global};
 
 /// The words of `profile`.
@@ -27,18 +27,21 @@ pub fn profile_command<'a>(alloc: Global) -> Result<Command<'a>, AllocError> {
     run_options(alloc, bare)
 }
 
-// The profile of the run of an image, under the shipped handler.
-fn profile_of(
+// The profile of the run of an image, under the shipped handler. A watcher is told how far the run has come.
+fn profile_of<W: Watcher>(
     alloc: Global,
     image: &Image,
     input: Option<&[u8]>,
     requests: &Requests,
     budget: u32,
+    watcher: W,
 ) -> Result<Profile, Memory>
     requires { bytes_in (option_copied input) ≤ 1048576 }
-    ensures { IfOk result (IsProfile (program_of shipped image.now.code.items image.now.user_data.items (option_copied input.entry)) requests.now (vec_len image.now.code) budget) }
+    ensures { IfOk result (IsProfile
+        (program_of shipped image.now.code.items image.now.user_data.items (option_copied input.entry))
+        requests.now (vec_len image.now.code) budget) }
 {
-    let mut machine = Pipe::new(alloc, image, input, LineCache::new())?;
+    let mut machine = watched_pipe(alloc, image, input, LineCache::new(), watcher)?;
     let profile = profile(alloc, &mut machine, image.code.len(), requests, budget)?;
     Ok(profile)
 }
@@ -53,10 +56,11 @@ fn status_of(profile: &Profile) -> Status {
 }
 
 /// The reply to `profile SOURCE`.
-pub fn profile_reply<S: Shelf>(
+pub fn profile_reply<S: Shelf, W: Watcher>(
     alloc: Global,
     shelf: &mut S,
     matches: &ArgMatches,
+    watcher: W,
 ) -> Result<Reply, Memory> {
     let run = match read_run(alloc, shelf, matches)? {
         Ok(run) => run,
@@ -69,6 +73,7 @@ pub fn profile_reply<S: Shelf>(
         run.asked_input(),
         &run.requests,
         run.budget,
+        watcher,
     )?;
     let text = profile_text(
         alloc,

@@ -9,6 +9,7 @@ use clap::error::ErrorKind;
 use clap::{ArgMatches, Error};
 use mx_answer::{Reply, Status};
 use mx_io::{Memory, Shelf, ShelfFault, Sink, put_all};
+use mx_watch::Watcher;
 use std::alloc::Global;
 
 // The status of words that ask for no command: those that ask for help or the version are answered by it.
@@ -34,27 +35,33 @@ fn words_reply(alloc: Global, error: &Error) -> Result<Reply, Memory> {
 }
 
 // The reply of a command. Another one is added here and in `command_line`.
-fn answered_by<S: Shelf>(
+fn answered_by<S: Shelf, T: Watcher>(
     alloc: Global,
     name: &str,
     matches: &ArgMatches,
     shelf: &mut S,
+    watcher: T,
 ) -> Result<Reply, Memory> {
     match name {
-        "draw" => draw_reply(alloc, shelf, matches),
+        "draw" => draw_reply(alloc, shelf, matches, watcher),
         "check" => check_reply(alloc, shelf, matches),
-        "profile" => profile_reply(alloc, shelf, matches),
-        "compare" => compare_reply(alloc, shelf, matches),
-        "plans" => plans_reply(alloc, shelf, matches),
+        "profile" => profile_reply(alloc, shelf, matches, watcher),
+        "compare" => compare_reply(alloc, shelf, matches, watcher),
+        "plans" => plans_reply(alloc, shelf, matches, watcher),
         _ => Err(Memory),
     }
 }
 
 // The reply to the words.
-fn reply_to<S: Shelf>(alloc: Global, words: &[String], shelf: &mut S) -> Result<Reply, Memory> {
+fn reply_to<S: Shelf, T: Watcher>(
+    alloc: Global,
+    words: &[String],
+    shelf: &mut S,
+    watcher: T,
+) -> Result<Reply, Memory> {
     match read_words(alloc, words) {
         Ok(matches) => match matches.subcommand() {
-            Some((name, found)) => answered_by(alloc, name, found, shelf),
+            Some((name, found)) => answered_by(alloc, name, found, shelf, watcher),
             None => Err(Memory),
         },
         Err(error) => words_reply(alloc, &error),
@@ -76,15 +83,18 @@ fn put_out<S: Shelf, W: Sink>(reply: Reply, shelf: &mut S, out: &mut W) -> Statu
     }
 }
 
-/// Runs the command that the words, those after the program's name, ask for. It reads files from the shelf, puts all that
-/// it prints into the sink, and answers how it ended.
-pub fn lab<S: Shelf, W: Sink>(
+/// Runs the command that the words, those after the program's name, ask for. It reads files from the shelf, tells the
+/// watcher how far a run has come, puts all that it prints into the sink, and answers how it ended.
+pub fn lab<S: Shelf, W: Sink, T: Watcher>(
     alloc: Global,
     words: &[String],
     shelf: &mut S,
     out: &mut W,
+    watcher: T,
 ) -> Status {
-    match reply_to(alloc, words, shelf) {
+    let reply = reply_to(alloc, words, shelf, watcher);
+    watcher.done();
+    match reply {
         Ok(reply) => put_out(reply, shelf, out),
         Err(_) => Status::Memory,
     }

@@ -1,5 +1,5 @@
 //! The run of a source by plans.
-ghost use Rattle.std.specs.Prelude.{◌≡◌, ◌≤◌, ◌++◌, OnOk, IfOk, IfErr, List, ℕ, length};
+ghost use Rattle.std.specs.Prelude.{◌≡◌, ◌≤◌, ◌++◌, None, OnOk, IfOk, IfErr, List, ℕ, length};
 ghost use Rattle.std.specs.Option.{option_copied};
 ghost use Rattle.mx_source.specs.SourceValue.{IsSource};
 ghost use Rattle.mx_source.specs.Meaning.{given};
@@ -8,6 +8,8 @@ ghost use Rattle.mx_link.specs.Linked.{IsLinked};
 ghost use Rattle.mx_link.specs.Origins.{from_target};
 ghost use Rattle.mx_link.specs.Parts.{HaveRegisters};
 ghost use Rattle.mx_answer.specs.Answer.{prints};
+ghost use Rattle.mx_board.specs.Contents.{bytes_in};
+ghost use Rattle.mx_simulate.specs.Simulated.{image_answer};
 ghost use Rattle.mx_answer.specs.Replies.{reply_answer};
 ghost use Rattle.mx_answer.specs.declared.Status.{Status as HowItEnds};
 ghost use Rattle.mx_meaning.specs.Boards.{board};
@@ -19,11 +21,15 @@ use crate::verdicts::told;
 use mx_answer::Reply;
 use mx_blocks::blocks;
 use mx_board::Requests;
+use mx_code::Image;
+use mx_icache::LineCache;
+use mx_io::Memory;
 use mx_link::{LinkError, Linked};
 use mx_meaning::BOARD;
 use mx_plans::{PlanLine, link_planned};
-use mx_simulate::{Limits, simulate};
+use mx_simulate::{Limits, simulate_on};
 use mx_source::Source;
+use mx_watch::{Watcher, watched_pipe};
 use std::alloc::{AllocError, Global};
 
 /// The input that a source is given, if it has one.
@@ -64,19 +70,44 @@ fn behind(mut lines: Vec<u8>, reply: Reply) -> Result<Reply, AllocError>
     }
 }
 
+/// Runs an image under the shipped handler, with an input or none, and reports the run. A watcher is told how far it has come.
+fn report_watched<W: Watcher>(
+    alloc: Global,
+    image: &Image,
+    input: Option<&[u8]>,
+    requests: &Requests,
+    budget: u32,
+    watcher: W,
+) -> Result<Reply, Memory>
+    requires { bytes_in (option_copied input) ≤ 1048576 }
+    ensures { IfOk result (λ r. reply_answer r
+        ≡ image_answer image.now.code.items image.now.user_data.items (option_copied input.entry) requests.now
+        (record { budget = budget; trace = 0; dump = None })) }
+{
+    let mut machine = watched_pipe(alloc, image, input, LineCache::new(), watcher)?;
+    let limits = Limits {
+        budget,
+        trace: 0,
+        dump: None,
+    };
+    simulate_on(alloc, &mut machine, image, requests, &limits)
+}
+
 /// Links a source by the plans that the lines of a file say, and runs it under the shipped handler with these requests:
 /// a line for each plan that is rejected, and the report of the run. A rejected plan does not run: its block is padded.
+/// A watcher is told how far the run has come.
 ///
 /// # Errors
 ///
 /// Those of `link`.
-pub fn planned_reply(
+pub fn planned_reply<W: Watcher>(
     alloc: Global,
     source: &Source,
     plans: &[PlanLine],
     requests: &Requests,
     input: &[u8],
     budget: u32,
+    watcher: W,
 ) -> Result<Reply, LinkError>
     requires { length input.now ≤ 1048576 }
     ensures planned { IfOk result (λ r. IsRunByPlans source.now (marks_of_lines plans.now) requests.now input.now budget (reply_answer r)) }
@@ -90,12 +121,7 @@ pub fn planned_reply(
         blocks.as_slice(),
         linked.proposals.as_slice(),
     )?;
-    let limits = Limits {
-        budget,
-        trace: 0,
-        dump: None,
-    };
     let given = given_to(source, input);
-    let run = simulate(alloc, &linked.image, given, requests, &limits)?;
+    let run = report_watched(alloc, &linked.image, given, requests, budget, watcher)?;
     Ok(behind(lines, run)?)
 }

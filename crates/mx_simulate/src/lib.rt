@@ -7,4 +7,4 @@ mod simulated;
 
 pub use files::{read_input, read_requests};
 pub use runs::{RunFiles, run_image};
-pub use simulated::{Limits, simulate};
+pub use simulated::{Limits, simulate, simulate_on};

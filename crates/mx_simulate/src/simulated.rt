@@ -1,9 +1,10 @@
 //! One run of an image, and its report.
-ghost use Rattle.std.specs.Prelude.{◌≡◌, ◌≤◌, ◌++◌, IfOk, cond, min};
+ghost use Rattle.std.specs.Prelude.{◌≡◌, ◌≤◌, ◌++◌, [], IfOk, cond, min};
 ghost use Rattle.std.specs.Option.{option_copied};
 ghost use Rattle.mx_board.specs.Contents.{bytes_in};
+ghost use Rattle.mx_turn.specs.Program.{Program};
 ghost use Rattle.mx_answer.specs.Replies.{reply_answer};
-ghost use Rattle.mx_simulate.specs.Simulated.{image_answer};
+ghost use Rattle.mx_simulate.specs.Simulated.{image_answer, program_answer};
 
 use mx_answer::{Reply, Status};
 use mx_board::Requests;
@@ -12,6 +13,7 @@ use mx_icache::LineCache;
 use mx_io::Memory;
 use mx_pipe::Pipe;
 use mx_report::{Dump, drive, report};
+use mx_turn::Machine;
 use std::alloc::Global;
 
 /// What is asked of a run: how many cycles it may take, how many of them are traced, and which data words are printed.
@@ -33,6 +35,24 @@ fn status_of(halted: bool) -> Status
     }
 }
 
+/// Runs a machine that stands for the program of an image, from its start and with these requests, and reports the run.
+pub fn simulate_on<M: Machine>(
+    alloc: Global,
+    machine: &mut M,
+    image: &Image,
+    requests: &Requests,
+    limits: &Limits,
+) -> Result<Reply, Memory>
+    requires start { M.cycles machine.old ≡ 0 }
+    ensures { IfOk result (λ r. (p : Program) → M.stands machine.old p []
+        → reply_answer r ≡ program_answer p image.now.code.items requests.now limits.now) }
+{
+    let driven = drive(alloc, machine, requests, limits.budget, limits.trace)?;
+    let output = report(alloc, &driven, machine, image, limits.dump)?;
+    let status = status_of(driven.halted);
+    Ok(Reply::Prints { status, output })
+}
+
 /// Runs an image with an input or none, under the shipped handler and with these requests, and reports the run.
 pub fn simulate(
     alloc: Global,
@@ -45,8 +65,5 @@ pub fn simulate(
     ensures { IfOk result (λ r. reply_answer r ≡ image_answer image.now.code.items image.now.user_data.items (option_copied input.entry) requests.now limits.now) }
 {
     let mut machine = Pipe::new(alloc, image, input, LineCache::new())?;
-    let driven = drive(alloc, &mut machine, requests, limits.budget, limits.trace)?;
-    let output = report(alloc, &driven, &machine, image, limits.dump)?;
-    let status = status_of(driven.halted);
-    Ok(Reply::Prints { status, output })
+    simulate_on(alloc, &mut machine, image, requests, limits)
 }

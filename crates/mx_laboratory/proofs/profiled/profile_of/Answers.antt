@@ -6,7 +6,8 @@ use Rattle.mx_profile.specs.Tallies.{IsProfile}
 use Rattle.mx_laboratory.proofs.profiled.profile_of.Goals as goal
 
 pub returns : goal.returns
-returns c =
+returns g c =
     let image = c.args.image.now in
     let p : Program = program_of shipped image.code.items image.user_data.items (option_copied c.args.input) in
-    subst (λ words. IsProfile p c.args.requests.now words c.args.budget c.in_ok-profile.profile) c.len.ensures (c.in_ok-profile.ensures.profile p c.in_ok-machine.ensures)
+    subst (λ words. IsProfile p c.args.requests.now words c.args.budget c.in_ok-profile.profile) c.len.ensures
+    (c.in_ok-profile.ensures.profile p c.in_ok-machine.ensures)

@@ -15,7 +15,7 @@ use Rattle.mx_planned.proofs.Reported.{report_is}
 use Rattle.mx_planned.proofs.planned.planned_reply.Goals as goal
 
 pub told-requires : goal.told-requires
-told-requires c =
+told-requires g c =
     let source = c.args.source.now in
     let proposes = IsProposed source (marks_of_lines c.args.plans.now) in
     let linked = c.in_ok-linked.linked in
@@ -26,7 +26,7 @@ told-requires c =
     ∙ ap length (sym c.as_slice.ensures.value)
 
 pub returns-clause-planned : goal.returns-clause-planned
-returns-clause-planned c =
+returns-clause-planned g c =
     let source = c.args.source.now in
     let requests = c.args.requests.now in
     let bytes = c.args.input.now in
