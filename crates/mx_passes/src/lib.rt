@@ -1,0 +1,2 @@
+//! How often the machine with delay slots executes the word at an address.
+#![tactic(auto)]
