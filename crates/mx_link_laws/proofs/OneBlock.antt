@@ -257,7 +257,7 @@ module _ (setting : Setting) where
     abbrev r2 : Run
     r2 = run_for p n r
 
-    front_is : length front ≡ place
+    pub front_is : length front ≡ place
     front_is = pre_length p.input w.planned
 
     inner_is : length inner ≡ body_count w.block
@@ -272,7 +272,7 @@ module _ (setting : Setting) where
     len_all : length all ≡ len
     len_all = length-map (items_of w.plan) (item_inst w.insts)
 
-    body_done : (k : ℕ) → n ≡ length inner + k → BodyRun link p i at inner r true nowhere
+    pub body_done : (k : ℕ) → n ≡ length inner + k → BodyRun link p i at inner r true nowhere
     body_done k e = body_run link p shorts i at inner r true nowhere going here w.body
         (not_stuck_before p k r1 (ap (λ (u : Run). is_stuck u.state.mark) (sym (run_add p (length inner) k r) ∙ run_same p (length inner + k) n r (sym e))
         ∙ safe))
@@ -280,7 +280,7 @@ module _ (setting : Setting) where
     inner_plain : ArePlain inner
     inner_plain = all_plain link p.statements i inner w.body
 
-    front_plain : ArePlain front
+    pub front_plain : ArePlain front
     front_plain = plain_pre p.input w.planned inner_plain
 
     did_is :
@@ -471,7 +471,7 @@ module _ (setting : Setting) where
           sym did_are ∙ did_is (doing_all base all d0) r2 R1 (run_along p.place p.input base all R0).leads
           (all_made ∙ ran_end) m.core m.bytes transfer_clean all_free
 
-      len3 : len ≡ place + 3
+      pub len3 : len ≡ place + 3
       len3 = len_parts ∙ ap (λ l. place + length l) three
 
       many_by : (k : ℕ) → length (ops (f ∷ g ∷ [])) ≤ k → n ≤ place + 1 + k
@@ -487,16 +487,16 @@ module _ (setting : Setting) where
       item_plain : (x : Item) → AreBelow (body_count w.block) (x ∷ []) → IsPlain (item_inst w.insts x)
       item_plain x h = plain_item w.insts (body_count w.block) x h (plain_body p.input w.planned inner_plain)
 
-      plain_f : IsPlain fw
+      pub plain_f : IsPlain fw
       plain_f = item_plain f (left_below (body_count w.block) f g below)
 
-      plain_g : IsPlain gw
+      pub plain_g : IsPlain gw
       plain_g = item_plain g (right_below (body_count w.block) f g below)
 
       bound : at + 5 < 2 ^ 31
       bound = let fl = front_is in let l3 = len3 in let sm = small (i + n) in let nx = w.next in omega arith
 
-      standing : {x y : Inst} → Behind x y → IsPlain x → IsPlain y → Ended machine front ender x y base
+      pub standing : {x y : Inst} → Behind x y → IsPlain x → IsPlain y → Ended machine front ender x y base
       standing st px py = record { at = st; plain = front_plain; plain_f = px; plain_g = py; on = on; low = low i; h = bound }
 
       own_standing : {x y : Inst} → x ≡ fw → y ≡ gw → Behind x y → Ended machine front ender fw gw base

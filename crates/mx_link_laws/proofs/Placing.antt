@@ -31,7 +31,7 @@ use Rattle.mx_blocks.specs.Leaders.{is_leader, end_of, size, IsBlockOf, BlocksFr
 use Rattle.mx_blocks.proofs.LeadersBegin.{block_small}
 use Rattle.mx_validate.specs.Padded.{items_of, falls, body_count}
 use Rattle.mx_squash.specs.declared.copying.Copied.{Copied}
-use Rattle.mx_squash.specs.Copies.{reaches, Site, site_of, is_target, always_goes, terminator, is_branch_end}
+use Rattle.mx_squash.specs.Copies.{reaches, Site, site_of, is_target, always_goes, terminator, is_branch_end, may_stay}
 use Rattle.mx_layout.specs.Layout.{link_of, plan_size, StandFrom, blocks_in, has_statement}
 use Rattle.mx_link.specs.Origins.{own, goal_of}
 use Rattle.mx_link.specs.Words.{displacement, linked_inst, inst_at}
@@ -72,7 +72,7 @@ in_block : (t : ℕ) (b : Block) → b.first ≡ t → 1 ≤ size b → has_stat
 in_block t b e l = grind (arith, nat_tests)
 
 -- behind each block the next one begins
-next_links :
+pub next_links :
     (source : SourceValue) (i j at : ℕ) (list : List Site) → BlocksFrom source i j (blocks_in list) → StandFrom at list
     → All (λ (s : Site). link_of at list (s.block.first + size s.block) ≡ s.start + plan_size s.plan) list
 next_links source i j at [] h st k d l = absurd (omega arith)
@@ -143,31 +143,31 @@ module _ (known : Known) where
   StoodAt s = Stood known s
 
   module _ (s : Site) (st : StoodAt s) (next_is : link (s.block.first + size s.block) ≡ s.start + plan_size s.plan) where
-    abbrev c : Copied
+    abbrev pub c : Copied
     c = filling all s
 
     abbrev first : ℕ
     first = s.block.first
 
-    abbrev n : ℕ
+    abbrev pub n : ℕ
     n = body_count s.block
 
     abbrev list : List Inst
     list = insts_at known s st
 
-    abbrev parts : Parts s.block s.plan
+    abbrev pub parts : Parts s.block s.plan
     parts = has_parts s.block s.plan st.of.valid
 
-    abbrev front : List Item
+    abbrev pub front : List Item
     front = parts.front
 
-    abbrev back : List Item
+    abbrev pub back : List Item
     back = parts.back
 
     abbrev planned : PlannedBlock p.input
     planned = planned_at known s st parts
 
-    abbrev lay : LayAt first
+    abbrev pub lay : LayAt first
     lay = record {
       planned = planned;
       few = block_small source s.block st.of.block;
@@ -186,7 +186,7 @@ module _ (known : Known) where
     goes_here : Goes source link s c
     goes_here = goes known s st.of
 
-    place_is : s.plan.place ≡ length front
+    pub place_is : s.plan.place ≡ length front
     place_is = parts.place
 
     inner_is : length (take n list) ≡ n
@@ -242,22 +242,43 @@ module _ (known : Known) where
         inst_there (linked_site known s st) n w
         ∙ ap (linked_inst link c (s.start + s.plan.place)) (same_Some t.statement z (sym t.is_there ∙ ap (slice_get source.statements) on ∙ l.at))
 
-    falls_end : (z : Statement) → Last z → end_of z ≡ FallsEnd → EndAt first lay
+    -- a transfer to a statement that it names has the copies of its site, and a jump has none
+    abbrev pub HasCopies : EndAt first lay → Type 0
+    HasCopies (Falls f none st) = Unit {0}
+    HasCopies (Stops f one stop is st) = Unit {0}
+    HasCopies (Moves b slots kind filled lead st) =
+        (slots.target ≡ goal_of s.block.end) × (slots.count ≡ c.count) × (slots.squash ≡ c.squash) × (slots.sure ≡ not (may_stay s.block))
+    HasCopies (Jumps b jump st) = site_of (is_target s.block.end) all ≡ None
+
+    -- how the block ends, with its copies
+    pub record CopiedEnd : Type 0 where
+      pub end : EndAt first lay
+      pub copies : HasCopies end
+
+    falls_end : (z : Statement) → Last z → end_of z ≡ FallsEnd → CopiedEnd
     falls_end z l e =
         let none : back ≡ [] = subst (λ x. EndsWith x n back) e (end_parts z l) in
-        Falls (ap falls (l.end ∙ e)) none
-        (subst (StandsHere (link first)) (sym (words_all [] none)) (stands_here [] [] none refl))
+        record {
+          end =
+              Falls (ap falls (l.end ∙ e)) none
+              (subst (StandsHere (link first)) (sym (words_all [] none)) (stands_here [] [] none refl));
+          copies = tt;
+        }
 
-    stops_end : Last Halt → EndAt first lay
+    stops_end : Last Halt → CopiedEnd
     stops_end l =
         let f : falls s.block.end ≡ false = ap falls l.end in
         let one : back ≡ Op n ∷ [] = end_parts Halt l in
         let b = last_is f in
         let some = st.of.block.some in
         let w : n < size s.block = omega arith in
-        Stops f one (behind_body Halt l f) (ender_is Halt l f)
-        (subst (StandsHere (link first)) (sym (words_all (Op n ∷ []) one))
-        (stands_here (Op n ∷ []) (inst_number list n ∷ []) one (λ k. ender_word w k ∷ [])))
+        record {
+          end =
+              Stops f one (behind_body Halt l f) (ender_is Halt l f)
+              (subst (StandsHere (link first)) (sym (words_all (Op n ∷ []) one))
+              (stands_here (Op n ∷ []) (inst_number list n ∷ []) one (λ k. ender_word w k ∷ [])));
+          copies = tt;
+        }
 
     at_low : s.start + s.plan.place < 2 ^ 31
     at_low =
@@ -338,22 +359,26 @@ module _ (known : Known) where
           stands_here (Op n ∷ t.first ∷ t.second ∷ []) (inst_number list n ∷ first_slot ∷ second_slot ∷ []) t.is (three_words w)
 
       -- to the block at the goal
-      moves : Kind (setting known) first lay slots → is_leader source slots.target ≡ true → EndAt first lay
-      moves kind lead =
-          Moves transfers slots kind
-          (filled_there known slotted)
-          (inl lead)
-          stand_three
+      moves : Kind (setting known) first lay slots → is_leader source slots.target ≡ true → CopiedEnd
+      moves kind lead = record {
+        end = Moves transfers slots kind (filled_there known slotted) (inl lead) stand_three;
+        copies = (refl, refl, refl, refl);
+      }
 
       -- by a register
       jumps_end :
           (a d : ℕ) (z : Statement) → Last z → end_of z ≡ JumpsEnd → ((u : State) → execute p (Some z) u ≡ jumps (value_in u.regs a) d u)
-          → inst_number list n ≡ Jspci a d (pos 0) → EndAt first lay
+          → inst_number list n ≡ Jspci a d (pos 0) → CopiedEnd
       jumps_end a d z l e means ender =
-          let own = own_slots known slotted (ap (λ q. site_of (is_target q) all) (l.end ∙ e) ∙ never all) in
-          Jumps transfers
-          (record { a = a; d = d; means = λ u. ap (λ o. execute p o u) (behind_body z l f_not) ∙ means u; is = ender })
-          (subst (StandsHere (link first)) (λ k. words list front ++ inst_number list n ∷ own.first k ∷ own.second k ∷ []) stand_three)
+          let none = ap (λ q. site_of (is_target q) all) (l.end ∙ e) ∙ never all in
+          let own = own_slots known slotted none in
+          record {
+            end =
+                Jumps transfers
+                (record { a = a; d = d; means = λ u. ap (λ o. execute p o u) (behind_body z l f_not) ∙ means u; is = ender })
+                (subst (StandsHere (link first)) (λ k. words list front ++ inst_number list n ∷ own.first k ∷ own.second k ∷ []) stand_three);
+            copies = none;
+          }
 
       branches : (a b : ℕ) (condition : Cond) (u : ℕ) → Last (Branch a b condition u) → IsBranch (setting known) first lay slots
       branches a b condition u l =
@@ -391,7 +416,7 @@ module _ (known : Known) where
             is = ender_is (Call d u) l f_not ∙ ap (λ v. Jspci 0 d (pos (link v + c.count))) goal;
           }
 
-    ends : (z : Statement) → Last z → StatementFits (IsPlace source.labels (length source.statements)) z → EndAt first lay
+    ends : (z : Statement) → Last z → StatementFits (IsPlace source.labels (length source.statements)) z → CopiedEnd
     ends (Plain i) l fit = falls_end (Plain i) l refl
     ends (LaCode d t) l fit = falls_end (LaCode d t) l refl
     ends (Branch a b condition t) l fit =
@@ -410,10 +435,10 @@ module _ (known : Known) where
         jumps_end not_on (end_parts (JumpReg a) l) a 0 (JumpReg a) l refl (λ u. refl) (ender_is (JumpReg a) l not_on)
     ends Halt l fit = stops_end l
 
-    end : EndAt first lay
-    end = by_last (slice_get source.statements (first + final)) refl
+    pub ended : CopiedEnd
+    ended = by_last (slice_get source.statements (first + final)) refl
       where
-        by_last : (o : Option Statement) → slice_get source.statements (first + final) ≡ o → EndAt first lay
+        by_last : (o : Option Statement) → slice_get source.statements (first + final) ≡ o → CopiedEnd
         by_last None e = absurd (none-some s.block.end (sym (ap (option_map end_of) (there_on ∙ e)) ∙ st.of.block.end))
           where
             there_on : slice_get source.statements (first + size s.block - 1) ≡ slice_get source.statements (first + final)
@@ -436,7 +461,7 @@ module _ (known : Known) where
     placed_first t e found =
         subst PlacedAt e (record {
           lay = lay;
-          end = end;
+          end = ended.end;
           place = (let q = place_most first in let r = place_is in let x = ap (λ u. place_in (site_of (λ b. eqb b.first u) all)) e ∙ ap place_in found in
               omega arith);
           long = ap len_of e ∙ ap plan_words found;

@@ -186,7 +186,7 @@ module _ (known : Known) where
   watched_so : (j : ℕ) → Linked j ≡ watch_for (code_in l) (inside l) l.place input j (watch_start l.place (data_in l))
   watched_so j = ap (watch_for (code_in l) (inside l) l.place input j) begins_so
 
-  runs_so : (j : ℕ) → (Linked j).at ≡ linked_run l j
+  pub runs_so : (j : ℕ) → (Linked j).at ≡ linked_run l j
   runs_so j = ap (λ (x : Watched). x.at) (watched_so j) ∙ watched (code_in l) (inside l) l.place input j (watch_start l.place (data_in l))
 
   clean_so : (j : ℕ) → IsSafe l (j + 64) → RunsClean l j × IsPrefix (linked_run l j).console (meant l (j + 64)).console

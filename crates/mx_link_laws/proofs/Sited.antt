@@ -90,7 +90,7 @@ are_body link statements i (x ∷ xs) h = (
 )
 
 -- items one behind the other
-origins_append :
+pub origins_append :
     (s : Site) (c : Copied) (p : ℕ) (xs ys : List Item) → origins_from s c p (xs ++ ys) ≡ origins_from s c p xs ++ origins_from s c (p + length xs) ys
 origins_append s c p [] ys = ap (λ n. origins_from s c n ys) (let e : p ≡ p + 0 = omega arith in e)
 origins_append s c p (x ∷ xs) ys =
@@ -219,7 +219,7 @@ module _ (here : LinkedSite) where
   pub end_word : (k : ℕ) → k < size s.block → own_word at (Op k) ≡ inst_number insts k
   end_word k l = ap (linked_statement link c at) (there k l).is_there ∙ sym (inst_there k l)
 
-  not_copied : (p : ℕ) → p ≤ s.plan.place → copied_to c s.plan.place p ≡ Nop
+  pub not_copied : (p : ℕ) → p ≤ s.plan.place → copied_to c s.plan.place p ≡ Nop
   not_copied p h = none (eqb p (s.plan.place + 1)) (eqb p (s.plan.place + 2)) (grind (arith, nat_tests)) (grind (arith, nat_tests))
     where
       none : (x y : Bool) → x ≡ false → y ≡ false → cond x (slice_index_or c.from 0 Nop) (cond y (slice_index_or c.from 1 Nop) Nop) ≡ Nop

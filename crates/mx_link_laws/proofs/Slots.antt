@@ -71,7 +71,7 @@ item_stands code inside b list (y ∷ items) (suc k) x h e =
     let on : b + 1 + k ≡ b + suc k = omega arith in
     record { at = ap code (sym on) ∙ r.at; within = ap inside (sym on) ∙ r.within }
 
-nop_is : (x : Item) → is_nop (Some x) ≡ true → x ≡ Nop
+pub nop_is : (x : Item) → is_nop (Some x) ≡ true → x ≡ Nop
 nop_is Nop e = refl
 nop_is (Op k) e = absurd (false_true e)
 
@@ -218,31 +218,31 @@ second_copied true true h = refl
 second_copied true false h = absurd (omega arith)
 second_copied false b h = absurd (omega arith)
 
-at_most_two : (a b : Bool) → cond a (cond b 2 1) 0 ≤ 2
+pub at_most_two : (a b : Bool) → cond a (cond b 2 1) 0 ≤ 2
 at_most_two true true = omega arith
 at_most_two true false = omega arith
 at_most_two false b = omega arith
 
-record Counted (fed : Bool) (n m : ℕ) : Type 0 where
-  not_fed : fed ≡ false
-  all_of : n ≡ m
+pub record Counted (fed : Bool) (n m : ℕ) : Type 0 where
+  pub not_fed : fed ≡ false
+  pub all_of : n ≡ m
 
-counted : (far fed : Bool) (m : ℕ) → 1 ≤ cond (far || fed) 0 m → Counted fed (cond (far || fed) 0 m) m
+pub counted : (far fed : Bool) (m : ℕ) → 1 ≤ cond (far || fed) 0 m → Counted fed (cond (far || fed) 0 m) m
 counted true fed m h = absurd (omega arith)
 counted false true m h = absurd (omega arith)
 counted false false m h = record { not_fed = refl; all_of = refl }
 
-record RoomForBoth (r : ℕ) (a b : Bool) : Type 0 where
-  first : a ≡ true
-  second : b ≡ true
-  two : r ≡ 2
+pub record RoomForBoth (r : ℕ) (a b : Bool) : Type 0 where
+  pub first : a ≡ true
+  pub second : b ≡ true
+  pub two : r ≡ 2
 
-record RoomForOne (r : ℕ) (stays b : Bool) : Type 0 where
-  second : b ≡ true
-  surely : stays ≡ false
-  one : r ≡ 1
+pub record RoomForOne (r : ℕ) (stays b : Bool) : Type 0 where
+  pub second : b ≡ true
+  pub surely : stays ≡ false
+  pub one : r ≡ 1
 
-room_cases :
+pub room_cases :
     (e : End) (stays a b : Bool) → (is_branch_end e ≡ false → stays ≡ false) → 1 ≤ room_for e stays a b
     → RoomForBoth (room_for e stays a b) a b ⊎ RoomForOne (room_for e stays a b) stays b
 room_cases (Branches t) stays true true f h = inl (record { first = refl; second = refl; two = refl })
@@ -261,18 +261,18 @@ reads_none : (i : Inst) → reads i 0 ≡ false
 reads_none i = grind arith
 
 -- no copies
-from_zero : (free n : ℕ) (x y : Item) → n ≡ 0 → filled free n x y ≡ Nop ∷ Nop ∷ []
+pub from_zero : (free n : ℕ) (x y : Item) → n ≡ 0 → filled free n x y ≡ Nop ∷ Nop ∷ []
 from_zero free n x y e = cond-true (eqb n 0) _ _ (grind (arith, nat_tests))
 
-from_second : (free n : ℕ) (x y : Item) → free ≡ 1 → n ≡ 1 → filled free n x y ≡ Nop ∷ x ∷ []
+pub from_second : (free n : ℕ) (x y : Item) → free ≡ 1 → n ≡ 1 → filled free n x y ≡ Nop ∷ x ∷ []
 from_second free n x y e f = cond-false (eqb n 0) _ _ (grind (arith, nat_tests)) ∙ cond-true (eqb free 1) _ _ (grind (arith, nat_tests))
 
-from_first : (free n : ℕ) (x y : Item) → free ≡ 2 → n ≡ 1 → filled free n x y ≡ x ∷ Nop ∷ []
+pub from_first : (free n : ℕ) (x y : Item) → free ≡ 2 → n ≡ 1 → filled free n x y ≡ x ∷ Nop ∷ []
 from_first free n x y e f =
     cond-false (eqb n 0) _ _ (grind (arith, nat_tests)) ∙ cond-false (eqb free 1) _ _ (grind (arith, nat_tests))
     ∙ cond-true (eqb n 1) _ _ (grind (arith, nat_tests))
 
-from_both : (free n : ℕ) (x y : Item) → free ≡ 2 → n ≡ 2 → filled free n x y ≡ x ∷ y ∷ []
+pub from_both : (free n : ℕ) (x y : Item) → free ≡ 2 → n ≡ 2 → filled free n x y ≡ x ∷ y ∷ []
 from_both free n x y e f =
     cond-false (eqb n 0) _ _ (grind (arith, nat_tests)) ∙ cond-false (eqb free 1) _ _ (grind (arith, nat_tests))
     ∙ cond-false (eqb n 1) _ _ (grind (arith, nat_tests))
@@ -350,10 +350,10 @@ module _ (known : Known) (here : Slotted known) where
   items_are : items_of s.plan ≡ parts.front ++ Op (body_count s.block) ∷ f ∷ g ∷ []
   items_are = parts.whole ∙ ap (λ l. parts.front ++ l) three
 
-  slot_f : slot s.plan 1 ≡ Some f
+  pub slot_f : slot s.plan 1 ≡ Some f
   slot_f = (λ k. slice_get (items_are k) (parts.place k + 1)) ∙ get_front parts.front (Op (body_count s.block)) f g 0
 
-  slot_g : slot s.plan 2 ≡ Some g
+  pub slot_g : slot s.plan 2 ≡ Some g
   slot_g = (λ k. slice_get (items_are k) (parts.place k + 2)) ∙ get_front parts.front (Op (body_count s.block)) f g 1
 
   -- copies from a target

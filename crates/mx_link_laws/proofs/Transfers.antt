@@ -194,7 +194,7 @@ module _ (setting : Setting) where
           → Filling slots → Behind slots → Onward
       passing = passes setting entered b kind
 
-      run_is : (o : Option Statement) → end_statement i w ≡ o → r2 ≡ said p o r1
+      pub run_is : (o : Option Statement) → end_statement i w ≡ o → r2 ≡ said p o r1
       run_is o e =
           let run = run_b setting entered b kind in
           to_end setting entered b kind
@@ -210,10 +210,10 @@ module _ (setting : Setting) where
       next_link = behind_slots setting entered b kind
 
       -- on to statement j, with a value in a register
-      abbrev landed : ℕ → ℕ → Value → Run
+      abbrev pub landed : ℕ → ℕ → Value → Run
       landed j d v = record { state = record r1.state { index = j; regs = write_value r1.state.regs d v }; console = r1.console ++ [] }
 
-      abbrev stepped_to : Step → Run
+      abbrev pub stepped_to : Step → Run
       stepped_to t = record { state = t.after; console = r1.console ++ option_to_list t.byte }
 
       abbrev by_inst : Inst → Ran
@@ -230,11 +230,11 @@ module _ (setting : Setting) where
       }
 
       -- whether a branch goes
-      abbrev holds : Cond → ℕ → ℕ → Bool
+      abbrev pub holds : Cond → ℕ → ℕ → Bool
       holds condition a c = condition_holds condition (reg (core r1.state).regs a) (reg (core r1.state).regs c)
 
       -- what the meaning does at a branch whose operands are words
-      branch_meant :
+      pub branch_meant :
           (slots : Slots setting) (k : IsBranch i w slots) → r2 ≡ landed (cond (holds k.condition k.a k.c) slots.target (suc r1.state.index)) 0 (Int 0)
       branch_meant slots k =
           let go = λ (a c : ℕ). cond (condition_holds k.condition a c) slots.target (suc r1.state.index) in
@@ -253,14 +253,14 @@ module _ (setting : Setting) where
           ∙ ap (λ t. stepped_to (cond t (stuck CodeOperand r1.state) new)) none
           ∙ (λ j. landed (go (wa j) (wc j)) 0 (Int 0))
 
-      abbrev branch_word : (slots : Slots setting) → IsBranch i w slots → Inst
+      abbrev pub branch_word : (slots : Slots setting) → IsBranch i w slots → Inst
       branch_word slots k = BranchInst k.a k.c k.condition slots.squash k.by
 
       -- what it decides, by whether its condition holds
-      abbrev branch_decides : (slots : Slots setting) → IsBranch i w slots → Bool → Decision
+      abbrev pub branch_decides : (slots : Slots setting) → IsBranch i w slots → Bool → Decision
       branch_decides slots k v = cond v (away ((at + cast_unsigned w32 k.by) % 2 ^ 31)) (onward slots.squash)
 
-      branches : (slots : Slots setting) → IsBranch i w slots → Filling slots → Leading slots.target → Behind slots → Onward
+      pub branches : (slots : Slots setting) → IsBranch i w slots → Filling slots → Leading slots.target → Behind slots → Onward
       branches slots k filled lead st = by_test (holds k.condition k.a k.c) refl
         where
           decided : (v : Bool) → holds k.condition k.a k.c ≡ v → decides ender at (core r1.state).regs ≡ branch_decides slots k v
@@ -291,7 +291,7 @@ module _ (setting : Setting) where
         taken = r1.state.taken;
       }
 
-      calls : (slots : Slots setting) → slots.count ≤ 2 → IsCall i w slots → Filling slots → Leading slots.target → Behind slots → Onward
+      pub calls : (slots : Slots setting) → slots.count ≤ 2 → IsCall i w slots → Filling slots → Leading slots.target → Behind slots → Onward
       calls slots few k filled lead st =
           let to = link slots.target + slots.count in
           let e = run_is (Some (Call k.d slots.target)) k.statement in
@@ -302,7 +302,7 @@ module _ (setting : Setting) where
           lead filled st
 
       -- by a register: both slots hold items of the block's own plan
-      abbrev own_slots : ℕ → Slots setting
+      abbrev pub own_slots : ℕ → Slots setting
       own_slots t = record {
         target = t;
         count = 0;
@@ -312,7 +312,7 @@ module _ (setting : Setting) where
         second = item_inst w.insts b.g;
       }
 
-      jumps_by : (k : IsJump i w) → StandBehind i w (item_inst w.insts b.f) (item_inst w.insts b.g) → CodesLead r1 → Onward
+      pub jumps_by : (k : IsJump i w) → StandBehind i w (item_inst w.insts b.f) (item_inst w.insts b.g) → CodesLead r1 → Onward
       jumps_by k st codes = by_value (value_in r1.state.regs k.a) refl
         where
           run_to : (v : Value) → value_in r1.state.regs k.a ≡ v → r2 ≡ stepped_to (jumps v k.d r1.state)
@@ -331,10 +331,10 @@ module _ (setting : Setting) where
               (lands (Jspci k.a k.d (pos 0)) t k.d (CodeValue (suc r1.state.index)) k.is (run_to (CodeValue t) e) (linked_jump k.a k.d (pos 0) t) refl)
               (codes k.a t e) (Own refl refl refl refl) st
 
-    moves_on : (T : Inst) → ender ≡ T → is_transfer T ≡ true → is_halt T ≡ false → is_load T ≡ false → MovesOn setting entered
+    pub moves_on : (T : Inst) → ender ≡ T → is_transfer T ≡ true → is_halt T ≡ false → is_load T ≡ false → MovesOn setting entered
     moves_on T is t h l = record { moves = ap is_transfer is ∙ t; on = ap is_halt is ∙ h; no_load = ap is_load is ∙ l }
 
-    few_copies : (slots : Slots setting) (f g : Item) → Filled setting w.insts f g slots → slots.count ≤ 2
+    pub few_copies : (slots : Slots setting) (f g : Item) → Filled setting w.insts f g slots → slots.count ≤ 2
     few_copies slots f g (Own none clear first second) = omega arith
     few_copies slots f g (InSecond one surely ng first head free leads) = omega arith
     few_copies slots f g (InFirst one set nf ng head second leads) = omega arith

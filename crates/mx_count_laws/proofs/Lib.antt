@@ -1,0 +1,11 @@
+pub mod Tally
+pub mod Marks
+pub mod Weights
+pub mod Copies
+pub mod Leads
+pub mod Block
+pub mod Ways
+pub mod Sums
+pub mod Runs
+pub mod Counted
+pub mod Starts
