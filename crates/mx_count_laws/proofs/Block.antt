@@ -1,50 +1,38 @@
 -- One block: from its first word to where the next one goes on, the words of statement q that are executed are the block's own,
--- each once, and those of the next block that stood in its slots (`counted_on`), or, where it halts, its own alone (`counted_stop`).
-use Rattle.std.proofs.Common.{◌≡◌, ℕ, pos, zero, suc, ◌+◌, ◌-◌, ◌%◌, ◌^◌, ◌<◌, ◌≤◌, Bool, true, false, cond, not, List, [], ◌∷◌, ◌++◌, ◌⊎◌, length, length-append, Option, Some, None, refl, sym, ap, ◌∙◌, subst, arith, inl, inr}
-use Rattle.std.specs.Prelude.{slice_get}
-use Rattle.std.specs.Int.{w32, cast_unsigned}
+-- each once, and those of the next block that stood in its slots (`CountedOn`), or, where it halts, its own alone (`CountedStop`).
+use Rattle.std.proofs.Common.{◌≡◌, ℕ, suc, ◌+◌, ◌-◌, ◌^◌, ◌<◌, ◌≤◌, Bool, true, false, cond, List, [], ◌∷◌, ◌++◌, length, length-append, refl, sym, ap, ◌∙◌, subst, arith}
 use Rattle.std.proofs.lemmas.Bool.{cond-true}
 use Rattle.mx_isa.specs.declared.inst.Inst.{Inst}
-use Rattle.mx_isa.specs.declared.inst.Inst.TheVariants.{Jspci}
-use Rattle.mx_isa.specs.declared.inst.Inst.TheVariants.{Branch as BranchInst}
-use Rattle.mx_isa.specs.Words.{reg}
-use Rattle.mx_isa.specs.Effect.{Decision, decides, offset_by}
+use Rattle.mx_isa.specs.Effect.{Decision, decides}
 use Rattle.mx_code.specs.Delay.{Delay, next_of}
 use Rattle.mx_code.specs.Clean.{Watched}
-use Rattle.mx_source.specs.declared.statement.Statement.TheVariants.{Call}
-use Rattle.mx_source.specs.declared.statement.Value.{Value}
-use Rattle.mx_source.specs.declared.statement.Value.TheVariants.{Int, Code as CodeValue}
-use Rattle.mx_source.specs.Values.{value_in}
-use Rattle.mx_source.specs.Meaning.{Going, Run, jumps, run_for, is_stuck}
+use Rattle.mx_source.specs.Meaning.{Going, Run, run_for, is_stuck}
 use Rattle.mx_blocks.specs.declared.block.Item.{Item}
 use Rattle.mx_blocks.specs.declared.block.Item.TheVariants.{Op, Nop}
 use Rattle.mx_blocks.specs.Leaders.{size}
 use Rattle.mx_validate.specs.Padded.{insts_of, items_of, falls, body_count}
 use Rattle.mx_squash.specs.declared.copying.Copied.{Copied}
-use Rattle.mx_squash.specs.Copies.{Site, site_of, is_target, may_stay}
+use Rattle.mx_squash.specs.Copies.{Site, may_stay}
 use Rattle.mx_layout.specs.Layout.{plan_size}
 use Rattle.mx_link.proofs.Sizes.{length-origins_from}
-use Rattle.mx_link.specs.Origins.{own, over, copied_to, goal_of, origins_from, origins_at}
+use Rattle.mx_link.specs.Origins.{own, over, goal_of, origins_from}
 use Rattle.mx_link.specs.Parts.{origin_at}
 use Rattle.mx_order.specs.Parts.{AreBelow}
-use Rattle.mx_order.proofs.Words.{item_inst}
-use Rattle.mx_link_laws.proofs.Going.{Did, IsPlain, ArePlain, Stands, idle_plain, did_all, starts, for, for_same}
+use Rattle.mx_link_laws.proofs.Going.{Did, IsPlain, Stands, did_all, starts, for, for_same}
 use Rattle.mx_link_laws.proofs.Ends.{Ended, slots_taken, slots_cancelled}
-use Rattle.mx_link_laws.proofs.Matching.{linked, linked_value, core_of}
-use Rattle.mx_link_laws.proofs.Saying.{said, BodyRun}
 use Rattle.mx_link_laws.proofs.Planned.{bodies_length, pre_length}
 use Rattle.mx_link_laws.proofs.Sited.{origins_append, not_copied}
 use Rattle.mx_link_laws.proofs.Slots.{linked_site, Slotted}
 use Rattle.mx_link_laws.proofs.Layouts.{Standing, setting}
-use Rattle.mx_link_laws.proofs.Placing.{lay, HasCopies}
-use Rattle.mx_link_laws.proofs.OneBlock.{Slots as TheSlots, Filled, Own, InSecond, InFirst, InBoth, LeadsAt, Entered, GoesOn, StopsAt, MovesOn, Transfers, did_of, falls_on, stops, body_done, decision, run_b, behind_it, behind_slots, front_plain, plain_f, plain_g, standing as stand_there}
-use Rattle.mx_link_laws.proofs.Transfers.{Lay, EndOf, Falls, Stops, Moves, Jumps, Branches, Calls, IsBranch, IsCall, IsJump, CodesLead, inner_of, front_of, ender_of, at_of, end_statement, front_stands, StandBehind, moves_on, few_copies, branch_meant, branches, calls, jumps_by, run_is, holds, branch_decides}
-use Rattle.mx_link_laws.proofs.Setting.{Known, Machine, Setting, machine_of}
+use Rattle.mx_link_laws.proofs.Placing.{lay}
+use Rattle.mx_link_laws.proofs.OneBlock.{Entered, GoesOn, StopsAt, MovesOn, Transfers, did_of, body_done, front_plain, standing as stand_there}
+use Rattle.mx_link_laws.proofs.Transfers.{Lay, inner_of, front_of, ender_of, at_of, StandBehind}
+use Rattle.mx_link_laws.proofs.Setting.{Machine, Setting, machine_of}
 use Rattle.mx_count_laws.specs.Counts.{is_of}
-use Rattle.mx_count_laws.proofs.Tally.{one, span, span_last, tally, tally_same, word_there, stretch, stretch_more, ends_tally}
+use Rattle.mx_count_laws.proofs.Tally.{one, span, span_last, tally, tally_same, first_there, stretch, stretch_more, ends_tally}
 use Rattle.mx_count_laws.proofs.Marks.{Marked, marked_left, marked_right, marked_span, weigh}
 use Rattle.mx_count_laws.proofs.Weights.{weight, weight_append}
-use Rattle.mx_count_laws.proofs.Copies.{Counting, MarkedSite, first_slot, second_slot, own_items, slotting, no_copies_there}
+use Rattle.mx_count_laws.proofs.Copies.{Counting, MarkedSite, first_slot, second_slot, own_items, slotting}
 use Rattle.mx_count_laws.proofs.Leads.{leads_word}
 
 false_true : false ≡ true → ⊥
@@ -158,7 +146,9 @@ module _ (counting : Counting) where
         ∙ ap (λ x. one (is_of q (over (goal_of s.block.end) x (own first (Op body))))) none
 
     -- all words up to the terminator
-    ended_span : (items : List Item) → w.parts.back ≡ Op body ∷ items → span T (suc (length pre)) base ≡ own_weight w.parts.front + one (is_of q (own first (Op body)))
+    ended_span :
+        (items : List Item) → w.parts.back ≡ Op body ∷ items
+        → span T (suc (length pre)) base ≡ own_weight w.parts.front + one (is_of q (own first (Op body)))
     ended_span items e =
         let a = front_span in
         let b = ender_weight items e in
@@ -240,13 +230,13 @@ module _ (counting : Counting) where
           let k : len ≡ length pre = omega arith in
           let sm = small (first + n) in
           let nx = w.next in
-          let there = word_there T machine pre base d0 stands (front_plain here entered) (low first) (omega arith) len (omega arith) in
+          let there = first_there T machine pre base d0 stands (front_plain here entered) (low first) (omega arith) len (omega arith) in
           let on : base + len ≡ link (first + n) + 0 = omega arith in
           let counts = stretch T machine pre base d0 stands (front_plain here entered) (low first) (omega arith) len (omega arith) in
           let whole = ap (λ m. span T m base) k ∙ front_span in
           let own_all = own_parts in
           let back = ap own_weight none in
-          counts_on g (first + n) 0 ix (ap (λ (x : Watched). x.at.first.address) there.1 ∙ on) (omega arith)
+          counts_on g (first + n) 0 ix (there ∙ on) (omega arith)
 
       -- a block that halts
       pub stops_count : (w.parts.back ≡ Op body ∷ []) → Stands cd ins base pre → Halts → CountedStop
@@ -321,7 +311,10 @@ module _ (counting : Counting) where
             let counts = tally_same T machine len (length pre + 1 + 1 + 1) begun l2
             ∙ ends_tally T machine pre ender x y base is_ended d0 k z cancels leads low_z high_z
             ∙ ap (λ m. span T (length pre + 1) base + cond k 0 m) slots_marked in
-            record { address = ap (λ (t : Watched). t.at.first.address) (for_same machine len (length pre + 1 + 2) begun l1) ∙ by_slots k cancels; counted = omega arith }
+            record {
+              address = ap (λ (t : Watched). t.at.first.address) (for_same machine len (length pre + 1 + 2) begun l1) ∙ by_slots k cancels;
+              counted = omega arith;
+            }
           where
             by_slots : (k : Bool) → d.cancels ≡ k → (steps (length pre + 1 + 2) begun).at.first.address ≡ z
             by_slots false e = ap (λ (t : Watched). t.at.first.address) (slots_taken machine pre ender x y base is_ended d0 z e leads low_z high_z)

@@ -1,15 +1,14 @@
 -- Linked code counts as its source means: the test of a statement marks the words of each site (`counting_of`), the steps that hit
 -- are those that execute a word of the statement (`executed_is`), and these are its visits, where the run has halted.
-use Rattle.std.proofs.Common.{◌≡◌, ℕ, zero, suc, ◌+◌, ◌≤◌, Bool, true, false, cond, List, length, refl, sym, ap, ◌∙◌, arith}
+use Rattle.std.proofs.Common.{◌≡◌, ℕ, zero, suc, ◌+◌, List, refl, sym, ap, ◌∙◌}
 use Rattle.mx_code.specs.Delay.{Delay}
 use Rattle.mx_validate.specs.Padded.{items_of}
 use Rattle.mx_link.proofs.Sizes.{length-origins_from}
 use Rattle.mx_link.specs.declared.linked.Origin.{Origin}
 use Rattle.mx_link.specs.Origins.{origins_at, origins_of}
-use Rattle.mx_link_laws.specs.Runs.{Linking, IsLinking, linked_run}
 use Rattle.mx_link_laws.proofs.Setting.{Known}
 use Rattle.mx_link_laws.proofs.Shown.{known_of, runs_so, halts_only}
-use Rattle.mx_count_laws.specs.Counts.{statement_executed, visits}
+use Rattle.mx_count_laws.specs.Counts.{statement_executed}
 use Rattle.mx_count_laws.specs.Laws.{LinkedCodeCounts}
 use Rattle.mx_count_laws.proofs.Tally.{one, hits}
 use Rattle.mx_count_laws.proofs.Marks.{is_word_of, sites_marked, words_marked}

@@ -1,21 +1,19 @@
 -- The words of a block before its terminator's place, from its first word on (`leads_word`), and that each of them counts where its
 -- address passes (`leads_tally`).
-use Rattle.std.proofs.Common.{◌≡◌, ℕ, zero, suc, ◌+◌, ◌^◌, ◌<◌, ◌≤◌, Bool, true, false, cond, eqb, List, ◌⊎◌, length, length-append, Option, Some, None, refl, sym, ap, ◌∙◌, arith, ⊎_elim, inl, inr}
-use Rattle.std.proofs.lemmas.Bool.{eqb-true, cases_lt}
+use Rattle.std.proofs.Common.{◌≡◌, ℕ, zero, suc, ◌+◌, ◌^◌, ◌<◌, ◌≤◌, Bool, true, false, cond, eqb, List, length, length-append, Option, Some, None, refl, ap, ◌∙◌, arith, ⊎_elim}
+use Rattle.std.proofs.lemmas.Bool.{eqb-true}
 use Rattle.mx_isa.specs.declared.inst.Inst.{Inst}
-use Rattle.mx_code.specs.Clean.{Watched}
-use Rattle.mx_blocks.specs.Leaders.{is_leader}
 use Rattle.mx_squash.specs.Copies.{Site, site_of}
 use Rattle.mx_layout.proofs.Links.{site_found}
-use Rattle.mx_link_laws.proofs.Going.{Did, ArePlain, Stands, starts, for, for_same}
+use Rattle.mx_link_laws.proofs.Going.{Did, ArePlain, Stands, starts, for}
 use Rattle.mx_link_laws.proofs.Saying.{all_plain}
 use Rattle.mx_link_laws.proofs.Planned.{plain_pre, pre_length}
 use Rattle.mx_link_laws.proofs.OneBlock.{LeadsAt}
 use Rattle.mx_link_laws.proofs.Transfers.{inner_of, front_of, front_stands}
 use Rattle.mx_link_laws.proofs.Layouts.{place_in, Facts, facts, setting}
 use Rattle.mx_link_laws.proofs.Placing.{placed}
-use Rattle.mx_link_laws.proofs.Setting.{Known, Machine, Setting, machine_of}
-use Rattle.mx_count_laws.proofs.Tally.{span, tally, word_there, stretch}
+use Rattle.mx_link_laws.proofs.Setting.{Known, Machine, machine_of}
+use Rattle.mx_count_laws.proofs.Tally.{span, tally, first_there, stretch}
 
 module _ (known : Known) (T : ℕ → Bool) where
   open known use {linking.{source, place, sites as all}, bare}
@@ -78,8 +76,7 @@ module _ (known : Known) (T : ℕ → Bool) where
   leads_word zero j d lead = let e : link j ≡ link j + 0 = omega arith in e
   leads_word (suc k) j d lead =
       let h = head_words j (suc k) lead (omega arith) in
-      let w = word_there T machine h.insts (link j) d h.stands h.plain (low j) h.high (suc k) h.short in
-      ap (λ (x : Watched). x.at.first.address) w.1
+      first_there T machine h.insts (link j) d h.stands h.plain (low j) h.high (suc k) h.short
 
   pub leads_tally : (k j : ℕ) (d : Did) → LeadsAt (setting known) k j → tally T machine k (starts machine (link j) d) ≡ span T k (link j)
   leads_tally zero j d lead = refl

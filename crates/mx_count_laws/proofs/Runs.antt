@@ -1,16 +1,16 @@
 -- Whole runs, a step a block. The invariant is `Came m e`: after m statements a block starts, after e words the machine is where the
 -- block's own run is after those of its words that were done in slots before it, and the words of statement q among the e words
 -- are the visits of the meaning so far and what those words weigh. A block takes it to the next one, or the run ends (`Over`).
-use Rattle.std.proofs.Common.{◌≡◌, ℕ, zero, suc, ◌+◌, ◌-◌, ◌<◌, ◌≤◌, Bool, true, false, cond, eqb, List, [], ◌∷◌, ◌⊎◌, length, take, Option, Some, None, refl, sym, ap, ◌∙◌, subst, arith, ⊎_elim, inl, inr}
+use Rattle.std.proofs.Common.{◌≡◌, ℕ, zero, suc, ◌+◌, ◌-◌, ◌<◌, ◌≤◌, Bool, true, false, cond, eqb, List, [], ◌∷◌, ◌⊎◌, length, take, Some, None, refl, sym, ap, ◌∙◌, subst, arith, ⊎_elim, inl, inr}
 use Rattle.std.proofs.lemmas.Option.{slice_get_past}
 use Rattle.std.proofs.lemmas.Bool.{cases_lt}
 use Rattle.std.proofs.lemmas.List.{length-take-le}
 use Rattle.mx_isa.specs.declared.inst.Inst.{Inst}
 use Rattle.mx_code.specs.Delay.{Delay}
 use Rattle.mx_code.specs.Clean.{Watched}
-use Rattle.mx_source.specs.Meaning.{Going, Halted, Mark, Run, run_for, start, is_stuck, HaltsIn}
+use Rattle.mx_source.specs.Meaning.{Going, Halted, Run, run_for, start, is_stuck, HaltsIn}
 use Rattle.mx_blocks.specs.declared.block.Block.{Block as BlockOf}
-use Rattle.mx_blocks.specs.Leaders.{size, is_leader}
+use Rattle.mx_blocks.specs.Leaders.{size}
 use Rattle.mx_validate.specs.Padded.{insts_of, items_of, falls, body_count}
 use Rattle.mx_squash.specs.Copies.{Site, site_of}
 use Rattle.mx_layout.specs.Layout.{plan_size}
@@ -27,7 +27,7 @@ use Rattle.mx_link_laws.proofs.Placing.{next_links, ended}
 use Rattle.mx_link_laws.proofs.Setting.{Machine, Setting, machine_of, short}
 use Rattle.mx_count_laws.specs.Counts.{goes_on_with, visits}
 use Rattle.mx_count_laws.proofs.Tally.{one, span, tally, tally_same, tally_add, tally_kept, tally_halted}
-use Rattle.mx_count_laws.proofs.Weights.{weight, weight_once, is_within, passed, passed_is}
+use Rattle.mx_count_laws.proofs.Weights.{weight, weight_once, passed, passed_is}
 use Rattle.mx_count_laws.proofs.Copies.{Counting, MarkedSite}
 use Rattle.mx_count_laws.proofs.Leads.{leads_tally}
 use Rattle.mx_count_laws.proofs.Block.{Block, Coming, CountedOn, CountedStop}
@@ -45,7 +45,8 @@ body_most b some = by_end (falls b.end)
     by_end false = omega arith
 
 module _ (counting : Counting) where
-  open counting use {known, q, test as T, marks, known.{linking as l, linking.{source, place, sites as all, bytes}, laid.{well_formed as is, layout as h}, bare}}
+  open counting use {known, q, test as T, marks}
+  open known use {linking as l, linking.{source, place, sites as all, bytes}, laid.{well_formed as is, layout as h}, bare}
   open setting known use {program as p, link, leader, place_of}
 
   abbrev pub here : Setting
@@ -169,7 +170,9 @@ module _ (counting : Counting) where
       omega arith
 
   -- what the plan's words weigh is how often the meaning comes to the statement
-  weight_is : (block : Block counting) → weight q (first_of counting block) (items_of block.site.plan) ≡ passed q (first_of counting block) (size_of counting block)
+  weight_is :
+      (block : Block counting) → weight q (first_of counting block) (items_of block.site.plan)
+      ≡ passed q (first_of counting block) (size_of counting block)
   weight_is block =
       let i = first_of counting block in
       let n = size_of counting block in

@@ -2,17 +2,16 @@
 use Rattle.std.proofs.Common.{◌≡◌, ℕ, zero, suc, ◌+◌, ◌-◌, ◌<◌, ◌≤◌, true, false, length, refl, sym, ap, ◌∙◌, subst, arith, ⊎_elim, inl}
 use Rattle.std.proofs.lemmas.Bool.{cases_lt}
 use Rattle.mx_source.specs.Meaning.{Going, Run, run_for, is_stuck}
-use Rattle.mx_link.specs.Origins.{Filling, from_nowhere}
-use Rattle.mx_link_laws.specs.Laws.{IsBlockStart, planned_words}
-use Rattle.mx_link_laws.specs.Runs.{Linking, IsLinking}
+use Rattle.mx_link.specs.Origins.{Filling}
+use Rattle.mx_link_laws.specs.Laws.{planned_words}
 use Rattle.mx_link_laws.proofs.Saying.{is_going, not_stuck_before, run_add, stays_for}
 use Rattle.mx_link_laws.proofs.Layouts.{setting}
 use Rattle.mx_link_laws.proofs.Setting.{Known}
 use Rattle.mx_count_laws.specs.Laws.{LinkedBlocksCount}
 use Rattle.mx_count_laws.proofs.Tally.{span}
 use Rattle.mx_count_laws.proofs.Copies.{Counting}
-use Rattle.mx_count_laws.proofs.Block.{first as first_of, n as size_of}
-use Rattle.mx_count_laws.proofs.Runs.{M, index, count, visited, r0, Came, comes_first, At, block_at, inner, Next, Final, run_block, past_end}
+use Rattle.mx_count_laws.proofs.Block.{n as size_of}
+use Rattle.mx_count_laws.proofs.Runs.{M, index, count, visited, r0, Came, comes_first, block_at, inner, Next, Final, run_block, past_end}
 use Rattle.mx_count_laws.proofs.Counted.{counting_of, executed_is}
 
 false_true : false ≡ true → ⊥

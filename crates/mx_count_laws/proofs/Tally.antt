@@ -1,12 +1,12 @@
 -- Counting the steps of a run that execute a word whose address passes a test. A stretch of words counts once for each of its
 -- addresses that passes (`stretch`), a terminator and its slots likewise, unless it squashes them (`ends_tally`).
-use Rattle.std.proofs.Common.{◌≡◌, ℕ, zero, suc, ◌+◌, ◌^◌, ◌<◌, ◌≤◌, Bool, true, false, cond, not, ◌&&◌, List, [], ◌∷◌, ◌++◌, length, take, drop, refl, sym, ap, ◌∙◌, subst, arith}
+use Rattle.std.proofs.Common.{◌≡◌, ℕ, zero, suc, ◌+◌, ◌^◌, ◌<◌, ◌≤◌, Bool, true, false, cond, not, ◌&&◌, List, [], ◌∷◌, length, take, drop, refl, sym, ap, ◌∙◌, subst, arith}
 use Rattle.std.proofs.lemmas.List.{length-take-le, take-append-drop}
 use Rattle.mx_isa.specs.declared.inst.Inst.{Inst}
 use Rattle.mx_isa.specs.Effect.{Decision, decides}
 use Rattle.mx_code.specs.Delay.{Delay, queued, squash, next_of}
 use Rattle.mx_code.specs.Clean.{Watched}
-use Rattle.mx_link_laws.proofs.Going.{Did, ArePlain, Stands, stands_left, stands_right, did, did_all, queue, starts, for, for_same, for_add, once, cancelled, goes, Keeps, keeps_for, halted_for}
+use Rattle.mx_link_laws.proofs.Going.{Did, ArePlain, Stands, stands_left, stands_right, did, did_all, starts, for, for_same, for_add, once, cancelled, goes, Keeps, keeps_for, halted_for}
 use Rattle.mx_link_laws.proofs.Ends.{Ended, past_transfer, one_taken}
 use Rattle.mx_link_laws.proofs.Setting.{Machine}
 
@@ -101,7 +101,7 @@ module _ (T : ℕ → Bool) where
     -- a stretch of plain words
     module _ (insts : List Inst) (b : ℕ) (s : Did) (stands : Stands code inside b insts) (plain : ArePlain insts) (low : p.code ≤ b)
         (small : b + length insts + 2 < 2 ^ 31) where
-      pub word_there : (k : ℕ) → k ≤ length insts → (d : Did) × (steps k (begins b s) ≡ begins (b + k) d)
+      word_there : (k : ℕ) → k ≤ length insts → (d : Did) × (steps k (begins b s) ≡ begins (b + k) d)
       word_there k h =
           let taken : length (take k insts) ≡ k = length-take-le k insts h in
           let st = stands_left code inside b (take k insts) (drop k insts)
@@ -111,6 +111,9 @@ module _ (T : ℕ → Bool) where
                 ∙ goes machine (take k insts) b s st (plain_front k insts plain) low (omega arith)
                 ∙ ap (λ n. begins (b + n) (did_all machine b (take k insts) s)) taken,
           )
+
+      pub first_there : (k : ℕ) → k ≤ length insts → (steps k (begins b s)).at.first.address ≡ b + k
+      first_there k h = let w = word_there k h in ap (λ (x : Watched). x.at.first.address) w.1
 
       -- counts once for each of its addresses that passes
       pub stretch : (k : ℕ) → k ≤ length insts → tally k (begins b s) ≡ span k b

@@ -1,7 +1,5 @@
 -- One block by how it ends: what its words count (`counted`), whichever way it goes.
-use Rattle.std.proofs.Common.{◌≡◌, ℕ, pos, suc, ◌+◌, ◌%◌, ◌^◌, ◌<◌, ◌≤◌, Bool, true, false, cond, not, List, [], ◌∷◌, ◌⊎◌, length, Option, Some, None, refl, sym, ap, ◌∙◌, subst, arith, inl, inr}
-use Rattle.std.specs.Int.{w32, cast_unsigned}
-use Rattle.mx_isa.specs.declared.inst.Inst.{Inst}
+use Rattle.std.proofs.Common.{◌≡◌, ℕ, pos, suc, ◌+◌, ◌%◌, ◌^◌, Bool, true, false, cond, not, ◌⊎◌, length, Some, None, refl, sym, ap, ◌∙◌, subst, arith, inl, inr}
 use Rattle.mx_isa.specs.declared.inst.Inst.TheVariants.{Jspci}
 use Rattle.mx_isa.specs.declared.inst.Inst.TheVariants.{Branch as BranchInst}
 use Rattle.mx_isa.specs.Words.{reg}

@@ -1,6 +1,6 @@
 -- How many items of a plan are a statement: one, where it is a statement of the block, since each stands once (`weight_once`), as
 -- many as the statements that the meaning goes through in the block (`passed_is`).
-use Rattle.std.proofs.Common.{◌≡◌, ℕ, zero, suc, ◌+◌, ◌-◌, ◌<◌, ◌≤◌, Bool, true, false, cond, eqb, leb, ltb, ◌&&◌, List, [], ◌∷◌, ◌++◌, length, refl, sym, ap, ◌∙◌, arith}
+use Rattle.std.proofs.Common.{◌≡◌, ℕ, zero, suc, ◌+◌, ◌-◌, Bool, true, false, cond, eqb, leb, ltb, ◌&&◌, List, [], ◌∷◌, ◌++◌, refl, ◌∙◌, arith}
 use Rattle.std.proofs.lemmas.Bool.Decides.{nat_tests}
 use Rattle.mx_blocks.specs.declared.block.Item.{Item}
 use Rattle.mx_blocks.specs.declared.block.Item.TheVariants.{Op, Nop}
