@@ -257,7 +257,7 @@ module _ (setting : Setting) where
     abbrev r2 : Run
     r2 = run_for p n r
 
-    pub front_is : length front ≡ place
+    front_is : length front ≡ place
     front_is = pre_length p.input w.planned
 
     inner_is : length inner ≡ body_count w.block
@@ -471,7 +471,7 @@ module _ (setting : Setting) where
           sym did_are ∙ did_is (doing_all base all d0) r2 R1 (run_along p.place p.input base all R0).leads
           (all_made ∙ ran_end) m.core m.bytes transfer_clean all_free
 
-      pub len3 : len ≡ place + 3
+      len3 : len ≡ place + 3
       len3 = len_parts ∙ ap (λ l. place + length l) three
 
       many_by : (k : ℕ) → length (ops (f ∷ g ∷ [])) ≤ k → n ≤ place + 1 + k

@@ -143,25 +143,25 @@ module _ (known : Known) where
   StoodAt s = Stood known s
 
   module _ (s : Site) (st : StoodAt s) (next_is : link (s.block.first + size s.block) ≡ s.start + plan_size s.plan) where
-    abbrev pub c : Copied
+    abbrev c : Copied
     c = filling all s
 
     abbrev first : ℕ
     first = s.block.first
 
-    abbrev pub n : ℕ
+    abbrev n : ℕ
     n = body_count s.block
 
     abbrev list : List Inst
     list = insts_at known s st
 
-    abbrev pub parts : Parts s.block s.plan
+    abbrev parts : Parts s.block s.plan
     parts = has_parts s.block s.plan st.of.valid
 
-    abbrev pub front : List Item
+    abbrev front : List Item
     front = parts.front
 
-    abbrev pub back : List Item
+    abbrev back : List Item
     back = parts.back
 
     abbrev planned : PlannedBlock p.input
@@ -186,7 +186,7 @@ module _ (known : Known) where
     goes_here : Goes source link s c
     goes_here = goes known s st.of
 
-    pub place_is : s.plan.place ≡ length front
+    place_is : s.plan.place ≡ length front
     place_is = parts.place
 
     inner_is : length (take n list) ≡ n

@@ -210,7 +210,7 @@ module _ (setting : Setting) where
       next_link = behind_slots setting entered b kind
 
       -- on to statement j, with a value in a register
-      abbrev pub landed : ℕ → ℕ → Value → Run
+      abbrev landed : ℕ → ℕ → Value → Run
       landed j d v = record { state = record r1.state { index = j; regs = write_value r1.state.regs d v }; console = r1.console ++ [] }
 
       abbrev pub stepped_to : Step → Run
@@ -253,7 +253,7 @@ module _ (setting : Setting) where
           ∙ ap (λ t. stepped_to (cond t (stuck CodeOperand r1.state) new)) none
           ∙ (λ j. landed (go (wa j) (wc j)) 0 (Int 0))
 
-      abbrev pub branch_word : (slots : Slots setting) → IsBranch i w slots → Inst
+      abbrev branch_word : (slots : Slots setting) → IsBranch i w slots → Inst
       branch_word slots k = BranchInst k.a k.c k.condition slots.squash k.by
 
       -- what it decides, by whether its condition holds
@@ -302,7 +302,7 @@ module _ (setting : Setting) where
           lead filled st
 
       -- by a register: both slots hold items of the block's own plan
-      abbrev pub own_slots : ℕ → Slots setting
+      abbrev own_slots : ℕ → Slots setting
       own_slots t = record {
         target = t;
         count = 0;
