@@ -17,7 +17,7 @@ use Rattle.mx_meaning.specs.Boards.{board}
 use Rattle.mx_end_to_end.specs.EndToEnd.{source_program, source_run, IsUnstuck, EndsAsMeant}
 use Rattle.mx_asked.specs.Commands.{Command}
 use Rattle.mx_command.specs.Accepted.{Held, Accepted}
-use Rattle.mx_link_laws.specs.Runs.{block_ahead}
+use Rattle.mx_link_laws.specs.Matches.{block_ahead}
 
 -- no count of faults rose: of the shelf in reading and in writing, and of the sink
 pub record AreQuiet (counts counts' : Counts) (writes writes' puts puts' : ℕ) : Type 0 where

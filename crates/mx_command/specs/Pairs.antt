@@ -15,7 +15,7 @@ use Rattle.mx_answer.specs.declared.Status.{Status}
 use Rattle.mx_answer.specs.declared.Status.TheVariants.{Halted, OutOfBudget}
 use Rattle.mx_asked.specs.Commands.{Command, Share}
 use Rattle.mx_command.specs.Accepted.{Held, Holds, AreRequests}
-use Rattle.mx_link_laws.specs.Runs.{block_ahead}
+use Rattle.mx_link_laws.specs.Matches.{block_ahead}
 
 -- `share` is asked for, of two texts that may share the machine, and the interrupt file that is named can be used
 pub record AcceptedPair (asked : Option Command) (held : Held) : Type 0 where

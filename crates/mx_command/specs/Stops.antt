@@ -19,7 +19,7 @@ use Rattle.mx_sessions.specs.Texts.{session_text}
 use Rattle.mx_asked.specs.Commands.{Command, Debug}
 use Rattle.mx_command.specs.Protocols.{statement_named}
 use Rattle.mx_command.specs.Accepted.{Held, Holds, AreRequests, IsInput}
-use Rattle.mx_link_laws.specs.Runs.{block_ahead}
+use Rattle.mx_link_laws.specs.Matches.{block_ahead}
 
 -- `debug` is asked for, of a text without faults that has a statement at this code label and in which no branch is overlong, and
 -- the other files that it names can be used

@@ -2,7 +2,8 @@
 use Rattle.std.specs.Prelude.{◌≡◌, ℕ, ◌+◌, ◌≤◌, true}
 use Rattle.mx_source.specs.Meaning.{HaltsIn}
 use Rattle.mx_link.specs.Origins.{from_nowhere}
-use Rattle.mx_link_laws.specs.Runs.{Linking, IsLinking, linked_run, block_ahead}
+use Rattle.mx_link_laws.specs.Runs.{Linking, IsLinking, linked_run}
+use Rattle.mx_link_laws.specs.Matches.{block_ahead}
 use Rattle.mx_link_laws.specs.Laws.{IsSafe, IsBlockStart, planned_words}
 use Rattle.mx_count_laws.specs.Counts.{statement_executed, visits}
 

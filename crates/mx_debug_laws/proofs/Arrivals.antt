@@ -15,7 +15,7 @@ use Rattle.mx_turn.specs.Counted.{one}
 use Rattle.mx_turn.specs.Stages.{stage_of}
 use Rattle.mx_turn.specs.Cycle.{Machine, is_taken, entered, decided, turned, reached, ended, takes, latched, acted, acted_answer, cycled, answer, start}
 use Rattle.mx_turn.specs.Handler.{shipped}
-use Rattle.mx_turn.specs.Program.{Program, code_of}
+use Rattle.mx_turn.specs.Program.{Program, code_of, program_of}
 use Rattle.mx_turn.specs.Run.{is_requested, bits, console_after, is_users, passes}
 use Rattle.mx_turn.specs.OneTurn.{as_fetch, UserSame, IsOnBoard}
 use Rattle.mx_turn.proofs.Steps.{after_one_more}
@@ -159,7 +159,7 @@ module _ (code : Code) (input : Option (List ℕ)) (a : ℕ) (m : Machine) (b : 
   }
 
 module _ (user_words data_words : List ℕ) (p : Place) (input : Option (List ℕ)) (at_board : IsOnBoard p) (at_code : p.code ≡ 4096)
-    (requests : List ℕ) (budget : ℕ) (clean : IsCleanImage user_words data_words p input budget) (a : ℕ) (high : 4096 ≤ a) where
+    (requests : List ℕ) (budget : ℕ) (clean : IsCleanImage (program_of shipped user_words data_words input) p budget) (a : ℕ) (high : 4096 ≤ a) where
   abbrev user : Code
   user = code_from inst_of 4096 user_words
 

@@ -16,7 +16,8 @@ use Rattle.mx_layout.proofs.Links.{link_within}
 use Rattle.mx_link.specs.Origins.{from_nowhere}
 use Rattle.mx_link.specs.Linked.{linked_code, linked_data}
 use Rattle.mx_turn.specs.Cycle.{Machine}
-use Rattle.mx_turn.specs.Program.{Program, state_after}
+use Rattle.mx_turn.specs.Program.{Program, program_of, state_after}
+use Rattle.mx_turn.specs.Handler.{shipped}
 use Rattle.mx_turn.specs.Run.{bits, console_after, run_of, bound}
 use Rattle.mx_turn.specs.OneTurn.{IsOnBoard}
 use Rattle.mx_interrupts.specs.Laws.{IsCleanImage}
@@ -69,7 +70,7 @@ module _ (d : Debugged) (known : AtLeader d) (user : is_user board d.watch ≡ t
   on_board : IsOnBoard board
   on_board = record { console = refl; input = refl }
 
-  clean : IsCleanImage code_words data_words board input d.budget
+  clean : IsCleanImage (program_of shipped code_words data_words input) board d.budget
   clean = (is_clean (plain d known) d.budget (is_plain d known) safe).0
 
   high : 4096 ≤ a

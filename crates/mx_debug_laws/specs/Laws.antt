@@ -12,7 +12,8 @@ use Rattle.mx_turn.specs.Handler.{shipped}
 use Rattle.mx_turn.specs.Program.{Program, program_of}
 use Rattle.mx_turn.specs.Run.{bound}
 use Rattle.mx_meaning.specs.Boards.{board}
-use Rattle.mx_link_laws.specs.Runs.{IsLaid, block_ahead}
+use Rattle.mx_link_laws.specs.Runs.{IsLaid}
+use Rattle.mx_link_laws.specs.Matches.{block_ahead}
 use Rattle.mx_end_to_end.specs.EndToEnd.{IsUnstuck}
 use Rattle.mx_debug.specs.declared.Stop.{Stop}
 use Rattle.mx_debug.specs.Sessions.{Session, session, stops_of, console_of}

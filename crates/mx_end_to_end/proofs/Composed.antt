@@ -18,7 +18,8 @@ use Rattle.mx_interrupts.specs.Laws.{EndsAs, RunsAs}
 use Rattle.mx_interrupts.proofs.Runs.{passed_few, length_bits}
 use Rattle.mx_interrupts.proofs.Ends.{runs_as, gets_on}
 use Rattle.mx_meaning.specs.Boards.{board}
-use Rattle.mx_link_laws.specs.Runs.{IsLaid, Linking, IsLinking, linked_run, Matches}
+use Rattle.mx_link_laws.specs.Runs.{IsLaid, Linking, IsLinking, linked_run}
+use Rattle.mx_link_laws.specs.Matches.{Matches}
 use Rattle.mx_link_laws.proofs.Shown.{is_clean, halts_only, sends}
 use Rattle.mx_link_laws.proofs.Shown.{halts as halts_soon}
 use Rattle.mx_end_to_end.specs.EndToEnd.{source_run, IsUnstuck, EndsAsMeant, MeansItsSource}

@@ -11,7 +11,8 @@ use Rattle.mx_order.specs.Laws.{IsPrefix}
 use Rattle.mx_turn.specs.Handler.{shipped}
 use Rattle.mx_turn.specs.Program.{Program, program_of}
 use Rattle.mx_turn.specs.Run.{MachineRun, run_of, bound}
-use Rattle.mx_link_laws.specs.Runs.{IsLaid, Matches, block_ahead}
+use Rattle.mx_link_laws.specs.Runs.{IsLaid}
+use Rattle.mx_link_laws.specs.Matches.{Matches, block_ahead}
 use Rattle.mx_reorg.specs.Greedy.{IsGreedy}
 use Rattle.mx_asm.specs.Texts.{source_of, text_fault}
 use Rattle.mx_meaning.specs.Boards.{board}

@@ -4,14 +4,14 @@ use Rattle.std.proofs.lemmas.Bool.{cases_Bool}
 use Rattle.mx_isa.specs.declared.place.Place.{Place}
 use Rattle.mx_isa.specs.Words.{Words}
 use Rattle.mx_code.specs.Decoding.{inst_of}
-use Rattle.mx_code.specs.Delay.{Code, code_from, data_from, delay}
+use Rattle.mx_code.specs.Delay.{Code, code_from, delay}
 use Rattle.mx_code.specs.Clean.{is_inside, Watched, watch_start}
 use Rattle.mx_turn.specs.Cycle.{start}
 use Rattle.mx_turn.specs.Handler.{shipped}
-use Rattle.mx_turn.specs.Program.{program_of}
+use Rattle.mx_turn.specs.Program.{Program, program_of, memory_of}
 use Rattle.mx_turn.specs.Run.{MachineRun, run_of, bits}
 use Rattle.mx_turn.specs.OneTurn.{IsOnBoard}
-use Rattle.mx_interrupts.specs.Laws.{RunsAs, IsCleanImage}
+use Rattle.mx_interrupts.specs.Laws.{RunsAs, IsCleanImage, delay_of}
 use Rattle.mx_handler.proofs.Pauses.{erased, Setting, Handled, IsLawful}
 use Rattle.mx_handler.proofs.Phases.{halted_alike, ended_in_user}
 use Rattle.mx_interrupts.proofs.Watched.{watched_at, clean_for_fewer}
@@ -20,7 +20,7 @@ use Rattle.mx_interrupts.proofs.Cycles.{stands_start}
 use Rattle.mx_interrupts.proofs.Runs.{program, steps, Ran, runs, passed_few, length_bits, asked_few}
 
 module _ (handler_words user_words data_words : List ℕ) (p : Place) (input : Option (List ℕ)) (at_board : IsOnBoard p) (at_code : p.code ≡ 4096)
-    (requests : List ℕ) (budget : ℕ) (clean : IsCleanImage user_words data_words p input budget)
+    (requests : List ℕ) (budget : ℕ) (clean : IsCleanImage (program_of handler_words user_words data_words input) p budget)
     (handled : 1 ≤ length requests
     → Handled (setting (code_from inst_of 0 handler_words) (code_from inst_of 4096 user_words) (is_inside p (length user_words)) p input)) where
   abbrev handler : Code
@@ -33,7 +33,7 @@ module _ (handler_words user_words data_words : List ℕ) (p : Place) (input : O
   inside = is_inside p (length user_words)
 
   abbrev words : Words
-  words = data_from 256 data_words
+  words = memory_of (program_of handler_words user_words data_words input)
 
   abbrev run : MachineRun
   run = run_of (program handler_words user_words inside p input data_words) requests budget
@@ -92,17 +92,19 @@ shipped_handles : (code_words : List ℕ) (p : Place) (input : Option (List ℕ)
 shipped_handles code_words p input b = shipped_handled (code_from inst_of 4096 code_words) (is_inside p (length code_words)) p input b
 
 pub runs_as : (code_words data_words : List ℕ) (input : Option (List ℕ)) (requests : List ℕ) (budget : ℕ) (p : Place)
-    → IsOnBoard p → p.code ≡ 4096 → IsCleanImage code_words data_words p input budget
-    → let user = code_from inst_of 4096 code_words in
-    let words = data_from 256 data_words in
-    let r = run_of (program_of shipped code_words data_words input) requests budget in
-    RunsAs p r (delay user p input words r.passed)
+    → IsOnBoard p → p.code ≡ 4096
+    → let q = program_of shipped code_words data_words input in
+    IsCleanImage q p budget
+    → let r = run_of q requests budget in
+    RunsAs p r (delay_of q p r.passed)
 runs_as code_words data_words input requests budget p b c clean =
     as_delay shipped code_words data_words p input b c requests budget clean (λ e. shipped_handles code_words p input b)
 
 pub gets_on : (code_words data_words : List ℕ) (input : Option (List ℕ)) (requests : List ℕ) (budget : ℕ) (p : Place)
-    → IsOnBoard p → p.code ≡ 4096 → IsCleanImage code_words data_words p input budget
-    → let r = run_of (program_of shipped code_words data_words input) requests budget in
+    → IsOnBoard p → p.code ≡ 4096
+    → let q = program_of shipped code_words data_words input in
+    IsCleanImage q p budget
+    → let r = run_of q requests budget in
     (r.counts.interrupts ≤ length requests) × ((w : ℕ) → 3 * (w + 3) + 78 * length requests ≤ budget → (w ≤ r.passed) ⊎ (r.halted ≡ true))
 gets_on code_words data_words input requests budget p b c clean = (
   few_taken shipped code_words data_words p input b c requests budget clean (λ e. shipped_handles code_words p input b),
@@ -113,16 +115,15 @@ gets_on code_words data_words input requests budget p b c clean = (
 unasked : {A : Type 0} → 1 ≤ length {A = ℕ} [] → A
 unasked h = absurd (omega (arith, h))
 
-pub undisturbed_as : (handler_words code_words data_words : List ℕ) (input : Option (List ℕ)) (budget : ℕ) (p : Place)
-    → IsOnBoard p → p.code ≡ 4096 → IsCleanImage code_words data_words p input budget
-    → let r = run_of (program_of handler_words code_words data_words input) [] budget in
-    RunsAs p r (delay (code_from inst_of 4096 code_words) p input (data_from 256 data_words) r.passed)
-undisturbed_as handler_words code_words data_words input budget p b c clean =
-    as_delay handler_words code_words data_words p input b c [] budget clean (λ h. unasked h)
+pub undisturbed_as : (q : Program) (budget : ℕ) (p : Place)
+    → IsOnBoard p → p.code ≡ 4096 → IsCleanImage q p budget
+    → let r = run_of q [] budget in
+    RunsAs p r (delay_of q p r.passed)
+undisturbed_as q budget p b c clean = as_delay q.handler_words q.user_words q.data_words p q.input b c [] budget clean (λ h. unasked h)
 
-pub undisturbed : (handler_words code_words data_words : List ℕ) (input : Option (List ℕ)) (budget : ℕ) (p : Place)
-    → IsOnBoard p → p.code ≡ 4096 → IsCleanImage code_words data_words p input budget
-    → let r = run_of (program_of handler_words code_words data_words input) [] budget in
+pub undisturbed : (q : Program) (budget : ℕ) (p : Place)
+    → IsOnBoard p → p.code ≡ 4096 → IsCleanImage q p budget
+    → let r = run_of q [] budget in
     (w : ℕ) → 3 * (w + 3) ≤ budget → (w ≤ r.passed) ⊎ (r.halted ≡ true)
-undisturbed handler_words code_words data_words input budget p b c clean w h =
-    passes_by handler_words code_words data_words p input b c [] budget clean (λ e. unasked e) w (omega (arith, h))
+undisturbed q budget p b c clean w h =
+    passes_by q.handler_words q.user_words q.data_words p q.input b c [] budget clean (λ e. unasked e) w (omega (arith, h))

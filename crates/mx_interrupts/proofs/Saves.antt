@@ -3,20 +3,20 @@ use Rattle.std.proofs.Common.{◌≡◌, ℕ, zero, suc, ◌+◌, ◌-◌, ◌%�
 use Rattle.mx_isa.specs.declared.place.Place.{Place}
 use Rattle.mx_isa.specs.Words.{Words}
 use Rattle.mx_code.specs.Decoding.{inst_of}
-use Rattle.mx_code.specs.Delay.{Code, code_from, data_from, delay}
+use Rattle.mx_code.specs.Delay.{Code, code_from, delay}
 use Rattle.mx_code.specs.Clean.{is_inside, Watched, watch_start}
 use Rattle.mx_icache.specs.Residency.{resident}
 use Rattle.mx_pcchain.specs.Chain.{chain_of}
 use Rattle.mx_turn.specs.Counted.{one}
 use Rattle.mx_turn.specs.Stages.{saved}
 use Rattle.mx_turn.specs.Cycle.{Machine, entered, start, cycled, after_bits}
-use Rattle.mx_turn.specs.Program.{Program, code_of, program_of}
+use Rattle.mx_turn.specs.Program.{Program, code_of, program_of, memory_of}
 use Rattle.mx_turn.specs.Handler.{shipped}
 use Rattle.mx_turn.specs.Run.{is_requested, bits, passes, passed_on, run_of}
 use Rattle.mx_turn.specs.OneTurn.{IsOnBoard, Follows}
 use Rattle.mx_turn.proofs.Steps.{after_one_more}
 use Rattle.mx_handler.specs.Returns.{with_shipped}
-use Rattle.mx_interrupts.specs.Laws.{IsCleanImage}
+use Rattle.mx_interrupts.specs.Laws.{IsCleanImage, delay_of}
 use Rattle.mx_interrupts.specs.Saves.{before_cycle, takes_in, in_cycle, Saved, IsTurn26}
 use Rattle.mx_handler.proofs.Pauses.{Setting, Pause, IsLawful}
 use Rattle.mx_handler.proofs.Interrupted.{after_append, Interrupted, interrupted, InPause, pause_goes, pause_ends}
@@ -42,7 +42,7 @@ bits_more requests n (suc k) =
     )
 
 module _ (user_words data_words : List ℕ) (p : Place) (input : Option (List ℕ)) (at_board : IsOnBoard p) (at_code : p.code ≡ 4096)
-    (requests : List ℕ) (budget : ℕ) (clean : IsCleanImage user_words data_words p input budget) where
+    (requests : List ℕ) (budget : ℕ) (clean : IsCleanImage (program_of shipped user_words data_words input) p budget) where
   abbrev user : Code
   user = code_from inst_of 4096 user_words
 
@@ -50,7 +50,7 @@ module _ (user_words data_words : List ℕ) (p : Place) (input : Option (List �
   inside = is_inside p (length user_words)
 
   abbrev words : Words
-  words = data_from 256 data_words
+  words = memory_of (program_of shipped user_words data_words input)
 
   abbrev pub q : Program
   q = program shipped user_words inside p input data_words
@@ -166,14 +166,13 @@ module _ (user_words data_words : List ℕ) (p : Place) (input : Option (List �
     )
 
 pub saves_all : (code_words data_words : List ℕ) (input : Option (List ℕ)) (requests : List ℕ) (budget : ℕ) (p : Place)
-    → IsOnBoard p → p.code ≡ 4096 → IsCleanImage code_words data_words p input budget
+    → IsOnBoard p → p.code ≡ 4096
+    → let r = program_of shipped code_words data_words input in
+    IsCleanImage r p budget
     → (n : ℕ) → n < budget
-    → let user = code_from inst_of 4096 code_words in
-    let words = data_from 256 data_words in
-    let r = program_of shipped code_words data_words input in
-    takes_in r requests n ≡ true
+    → takes_in r requests n ≡ true
     → let m = before_cycle r requests (suc n) in
-    let d = delay user p input words (run_of r requests (suc n)).passed in
+    let d = delay_of r p (run_of r requests (suc n)).passed in
     Saved p m d
     × ((j : ℕ) → n < j → IsTurn26 m (before_cycle r requests j)
     → Follows p (in_cycle r requests j) d × ((in_cycle r requests j).core.mem 0 ≡ (m.core.mem 0 + 1) % 2 ^ 32))

@@ -2,10 +2,10 @@
 use Rattle.std.specs.Prelude.{◌≡◌, ℕ, ◌+◌, ◌*◌, ◌%◌, ◌^◌, ◌≤◌, true, ◌⊎◌, List, [], length, Option}
 use Rattle.mx_isa.specs.declared.place.Place.{Place}
 use Rattle.mx_code.specs.Decoding.{inst_of}
-use Rattle.mx_code.specs.Delay.{Delay, code_from, data_from, delay}
+use Rattle.mx_code.specs.Delay.{Code, Delay, code_from, delay}
 use Rattle.mx_code.specs.Clean.{is_inside, IsClean}
 use Rattle.mx_turn.specs.OneTurn.{UserSame, IsOnBoard}
-use Rattle.mx_turn.specs.Program.{program_of}
+use Rattle.mx_turn.specs.Program.{Program, program_of, memory_of}
 use Rattle.mx_turn.specs.Run.{MachineRun, run_of}
 use Rattle.mx_turn.specs.Handler.{shipped}
 
@@ -23,10 +23,17 @@ pub record RunsAs (p : Place) (run : MachineRun) (d : Delay) : Type 0 where
   pub halted : run.halted ≡ d.halted
   pub ends : run.halted ≡ true → EndsAs p run d
 
--- Code of these words at a place on the board is clean for n steps.
-abbrev pub IsCleanImage : List ℕ → List ℕ → Place → Option (List ℕ) → ℕ → Type 0
-IsCleanImage code_words data_words p input n =
-    IsClean (code_from inst_of 4096 code_words) (is_inside p (length code_words)) p input (data_from 256 data_words) n
+-- A program's own code, from 4096 on
+abbrev pub user_code : Program → Code
+user_code q = code_from inst_of 4096 q.user_words
+
+-- The program's code at a place, with the data words that its run begins with, is clean for n steps.
+abbrev pub IsCleanImage : Program → Place → ℕ → Type 0
+IsCleanImage q p n = IsClean (user_code q) (is_inside p (length q.user_words)) p q.input (memory_of q) n
+
+-- the machine with delay slots after n steps of it
+abbrev pub delay_of : Program → Place → ℕ → Delay
+delay_of q p n = delay (user_code q) p q.input (memory_of q) n
 
 -- Whatever interrupts come, the run of clean code does what the machine with delay slots does in as many steps as words passed.
 abbrev pub RunIsDelay : Type 0
@@ -34,9 +41,10 @@ RunIsDelay =
     (code_words data_words : List ℕ) (input : Option (List ℕ)) (requests : List ℕ) (budget : ℕ) (p : Place)
     → IsOnBoard p
     → p.code ≡ 4096
-    → IsCleanImage code_words data_words p input budget
-    → let run = run_of (program_of shipped code_words data_words input) requests budget in
-    RunsAs p run (delay (code_from inst_of 4096 code_words) p input (data_from 256 data_words) run.passed)
+    → let q = program_of shipped code_words data_words input in
+    IsCleanImage q p budget
+    → let run = run_of q requests budget in
+    RunsAs p run (delay_of q p run.passed)
 
 -- Each request is taken once at most; and each word has passed, or the run halted, once the budget has three cycles for each word, three more
 -- for the first turns, and 78 for each request, an interrupt being 26 turns.
@@ -45,27 +53,28 @@ RunGetsOn =
     (code_words data_words : List ℕ) (input : Option (List ℕ)) (requests : List ℕ) (budget : ℕ) (p : Place)
     → IsOnBoard p
     → p.code ≡ 4096
-    → IsCleanImage code_words data_words p input budget
-    → let run = run_of (program_of shipped code_words data_words input) requests budget in
+    → let q = program_of shipped code_words data_words input in
+    IsCleanImage q p budget
+    → let run = run_of q requests budget in
     (run.counts.interrupts ≤ length requests)
     × ((w : ℕ) → 3 * (w + 3) + 78 * length requests ≤ budget → (w ≤ run.passed) ⊎ (run.halted ≡ true))
 
 -- Without requests it is so whatever handler stands below: no word of it takes effect.
 abbrev pub UndisturbedRunIsDelay : Type 0
 UndisturbedRunIsDelay =
-    (handler_words code_words data_words : List ℕ) (input : Option (List ℕ)) (budget : ℕ) (p : Place)
+    (q : Program) (budget : ℕ) (p : Place)
     → IsOnBoard p
     → p.code ≡ 4096
-    → IsCleanImage code_words data_words p input budget
-    → let run = run_of (program_of handler_words code_words data_words input) [] budget in
-    RunsAs p run (delay (code_from inst_of 4096 code_words) p input (data_from 256 data_words) run.passed)
+    → IsCleanImage q p budget
+    → let run = run_of q [] budget in
+    RunsAs p run (delay_of q p run.passed)
 
 -- And three cycles for each word and three more words are enough.
 abbrev pub UndisturbedRunGetsOn : Type 0
 UndisturbedRunGetsOn =
-    (handler_words code_words data_words : List ℕ) (input : Option (List ℕ)) (budget : ℕ) (p : Place)
+    (q : Program) (budget : ℕ) (p : Place)
     → IsOnBoard p
     → p.code ≡ 4096
-    → IsCleanImage code_words data_words p input budget
-    → let run = run_of (program_of handler_words code_words data_words input) [] budget in
+    → IsCleanImage q p budget
+    → let run = run_of q [] budget in
     (w : ℕ) → 3 * (w + 3) ≤ budget → (w ≤ run.passed) ⊎ (run.halted ≡ true)

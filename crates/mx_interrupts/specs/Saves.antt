@@ -1,15 +1,14 @@
 -- What an interrupt saves of clean code, and what the shipped handler gives back.
 use Rattle.std.specs.Prelude.{◌≡◌, ℕ, suc, ◌+◌, ◌%◌, ◌^◌, ◌<◌, Bool, true, false, List, Option}
 use Rattle.mx_isa.specs.declared.place.Place.{Place}
-use Rattle.mx_code.specs.Decoding.{inst_of}
-use Rattle.mx_code.specs.Delay.{Delay, code_from, data_from, delay}
+use Rattle.mx_code.specs.Delay.{Delay}
 use Rattle.mx_pcchain.specs.Chain.{chain_of}
 use Rattle.mx_turn.specs.Cycle.{Machine, reached, latched}
 use Rattle.mx_turn.specs.OneTurn.{as_fetch, UserSame, Follows, IsOnBoard}
 use Rattle.mx_turn.specs.Program.{Program, program_of, code_of, state_after, answer_after}
 use Rattle.mx_turn.specs.Run.{is_requested, bits, run_of}
 use Rattle.mx_turn.specs.Handler.{shipped}
-use Rattle.mx_interrupts.specs.Laws.{IsCleanImage}
+use Rattle.mx_interrupts.specs.Laws.{IsCleanImage, delay_of}
 
 -- the machine before a cycle, and an interrupt that is taken in it
 abbrev pub before_cycle : Program → List ℕ → ℕ → Machine
@@ -43,12 +42,12 @@ InterruptSaves =
     (code_words data_words : List ℕ) (input : Option (List ℕ)) (requests : List ℕ) (budget : ℕ) (p : Place)
     → IsOnBoard p
     → p.code ≡ 4096
-    → IsCleanImage code_words data_words p input budget
-    → (n : ℕ) → n < budget
     → let q = program_of shipped code_words data_words input in
-    takes_in q requests n ≡ true
+    IsCleanImage q p budget
+    → (n : ℕ) → n < budget
+    → takes_in q requests n ≡ true
     → let m = before_cycle q requests (suc n) in
-    let d = delay (code_from inst_of 4096 code_words) p input (data_from 256 data_words) (run_of q requests (suc n)).passed in
+    let d = delay_of q p (run_of q requests (suc n)).passed in
     Saved p m d
     × ((j : ℕ) → n < j → IsTurn26 m (before_cycle q requests j)
     → Follows p (in_cycle q requests j) d × ((in_cycle q requests j).core.mem 0 ≡ (m.core.mem 0 + 1) % 2 ^ 32))

@@ -7,6 +7,7 @@ pub mod Planned
 pub mod OneBlock
 pub mod Transfers
 pub mod Whole
+pub mod Starts
 pub mod Codes
 pub mod Imaged
 pub mod Sited

@@ -30,7 +30,8 @@ use Rattle.mx_link_laws.proofs.Codes.{registers_lead}
 use Rattle.mx_link_laws.proofs.OneBlock.{IsAt}
 use Rattle.mx_link_laws.proofs.Layouts.{setting}
 use Rattle.mx_link_laws.proofs.Placing.{placed}
-use Rattle.mx_link_laws.proofs.Whole.{Placed, Begun, FetchesLeader, D, from, M_stays, runs_clean, halts_soon as soon_halted, halted_back, sent_soon, sum_of_plans, block_starts, sum_grows, some_words, block_at_fetch}
+use Rattle.mx_link_laws.proofs.Whole.{Placed, Begun, D, from, M_stays, runs_clean, halts_soon as soon_halted, halted_back, sent_soon, sum_of_plans}
+use Rattle.mx_link_laws.proofs.Starts.{FetchesLeader, block_starts, sum_grows, some_words, block_at_fetch}
 use Rattle.mx_link_laws.proofs.Setting.{FillsSo, Known, Setting}
 
 false_true : false ≡ true → ⊥

@@ -8,7 +8,8 @@ use Rattle.mx_layout.specs.Layout.{plan_size}
 use Rattle.mx_link.specs.Origins.{from_nowhere}
 use Rattle.mx_link.specs.Linked.{link_map}
 use Rattle.mx_order.specs.Laws.{IsPrefix}
-use Rattle.mx_link_laws.specs.Runs.{Linking, IsLinking, linked_run, RunsClean, Matches, block_ahead}
+use Rattle.mx_link_laws.specs.Runs.{Linking, IsLinking, linked_run, RunsClean}
+use Rattle.mx_link_laws.specs.Matches.{Matches, block_ahead}
 
 -- what the source means, after so many statements
 abbrev pub meant : Linking → ℕ → Run

@@ -1,3 +1,4 @@
 pub mod Runs
+pub mod Matches
 pub mod Laws
 pub mod Results

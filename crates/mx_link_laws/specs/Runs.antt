@@ -1,28 +1,21 @@
--- Linked code on the machine with delay slots, and what its states show of the meaning.
-use Rattle.std.specs.Prelude.{◌≡◌, ℕ, ◌+◌, ◌*◌, ◌≤◌, Bool, true, List, length, All, ◌⊎◌, None}
+-- Linked code on the machine with delay slots.
+use Rattle.std.specs.Prelude.{◌≡◌, ℕ, ◌+◌, ◌*◌, ◌≤◌, Bool, List, length, All, ◌⊎◌, None}
 use Rattle.mx_isa.specs.declared.Place.{Place}
 use Rattle.mx_isa.specs.Words.{Words}
-use Rattle.mx_isa.specs.Effect.{Core}
-use Rattle.mx_isa.specs.UserBus.{is_user}
 use Rattle.mx_code.specs.Codes.{HasRegisters}
 use Rattle.mx_code.specs.Decoding.{inst_of as spelled_inst}
 use Rattle.mx_code.specs.Delay.{Code, code_from, data_from, Delay, delay}
 use Rattle.mx_code.specs.Clean.{is_inside, IsClean}
 use Rattle.mx_source.specs.declared.Statement.{Statement}
 use Rattle.mx_source.specs.SourceValue.{SourceValue, IsSource}
-use Rattle.mx_source.specs.Meaning.{State, given}
+use Rattle.mx_source.specs.Meaning.{given}
 use Rattle.mx_blocks.specs.Leaders.{inst_of}
 use Rattle.mx_validate.specs.Validity.{Valid}
 use Rattle.mx_squash.specs.Copies.{Site}
 use Rattle.mx_layout.specs.Layout.{IsLayout, blocks_in}
 use Rattle.mx_layout.specs.Overlong.{overlong}
 use Rattle.mx_link.specs.Origins.{Filling, from_target, from_nowhere}
-use Rattle.mx_link.specs.Words.{value_word}
-use Rattle.mx_link.specs.Linked.{link_map, linked_code, linked_data}
-
--- a block has at most this many statements, and runs in an order of its own: what is said of the meaning looks so far ahead
-abbrev pub block_ahead : ℕ
-block_ahead = 64
+use Rattle.mx_link.specs.Linked.{linked_code, linked_data}
 
 -- a source, laid out at a place that has room for it, with branches that reach their targets
 pub record IsLaid (source : SourceValue) (place : Place) (sites : List Site) : Type 0 where
@@ -68,11 +61,3 @@ linked_run l j = delay (code_in l) l.place (given l.source.input l.bytes) (data_
 -- the first steps of linked code are clean
 abbrev pub RunsClean : Linking → ℕ → Type 0
 RunsClean l j = IsClean (code_in l) (inside l) l.place (given l.source.input l.bytes) (data_in l) j
-
--- The machine holds what the meaning holds: registers 1 to 31 and user data, places of code being their addresses in a layout, MD, and
--- the number of input bytes taken.
-pub record Matches (place : Place) (sites : List Site) (core : Core) (s : State) : Type 0 where
-  pub registers : (n : ℕ) → 1 ≤ n → n ≤ 31 → core.regs n ≡ value_word (link_map place sites) (s.regs n)
-  pub user_data : (a : ℕ) → is_user place a ≡ true → core.mem a ≡ value_word (link_map place sites) (s.mem a)
-  pub md : core.md ≡ s.md
-  pub taken : core.taken ≡ s.taken

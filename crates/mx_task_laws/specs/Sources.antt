@@ -13,7 +13,8 @@ use Rattle.mx_link.specs.Origins.{from_target}
 use Rattle.mx_link.specs.Parts.{HaveRegisters}
 use Rattle.mx_asm.specs.Texts.{source_of, text_fault}
 use Rattle.mx_turn.specs.Program.{Program}
-use Rattle.mx_link_laws.specs.Runs.{Linking, block_ahead}
+use Rattle.mx_link_laws.specs.Runs.{Linking}
+use Rattle.mx_link_laws.specs.Matches.{block_ahead}
 use Rattle.mx_tasks.specs.Sharing.{shared}
 use Rattle.mx_tasks.specs.Places.{lower, upper}
 use Rattle.mx_tasks.specs.declared.sharing.Shared.{Shared}
