@@ -28,7 +28,8 @@ use Rattle.mx_simulate.specs.Simulated.{program_answer}
 use Rattle.mx_simulate.specs.Machines.{if_asked, by_requests, requests_protocol, input_protocol}
 use Rattle.mx_asm.specs.Texts.{source_of}
 use Rattle.mx_meaning.specs.Boards.{board}
-use Rattle.mx_end_to_end.specs.EndToEnd.{source_program, MeansItsSource}
+use Rattle.mx_end_to_end.specs.EndToEnd.{source_program}
+use Rattle.mx_end_to_end.specs.Laws.{MeansItsSource}
 use Rattle.mx_end_to_end.proofs.Accepted.{text_means}
 use Rattle.mx_asked.specs.Commands.{Command}
 use Rattle.mx_command.specs.Protocols.{unless_faulty, unless_overlong, Layouts, linked_protocol, run_protocol, protocol_of}

@@ -9,8 +9,7 @@ use Rattle.std.proofs.lemmas.List.{take_at}
 use Rattle.std.proofs.lemmas.List.FromFn.{get_or-map-range_with_len}
 use Rattle.mx_isa.specs.Words.{Words, reg}
 use Rattle.mx_isa.specs.UserBus.{is_user}
-use Rattle.mx_code.specs.Decoding.{inst_of}
-use Rattle.mx_code.specs.Delay.{Delay, code_from, data_from}
+use Rattle.mx_code.specs.Delay.{Delay}
 use Rattle.mx_source.specs.Meaning.{given}
 use Rattle.mx_layout.proofs.Links.{link_within}
 use Rattle.mx_link.specs.Origins.{from_nowhere}
@@ -23,7 +22,7 @@ use Rattle.mx_turn.specs.OneTurn.{IsOnBoard}
 use Rattle.mx_interrupts.specs.Laws.{IsCleanImage}
 use Rattle.mx_interrupts.proofs.Ends.{runs_as, gets_on}
 use Rattle.mx_meaning.specs.Boards.{board}
-use Rattle.mx_link_laws.specs.Runs.{linked_run}
+use Rattle.mx_link_laws.specs.Runs.{code_in, data_in, linked_run}
 use Rattle.mx_link_laws.specs.Laws.{IsSafe, planned_words}
 use Rattle.mx_link_laws.proofs.Shown.{is_clean}
 use Rattle.mx_end_to_end.specs.EndToEnd.{IsUnstuck}
@@ -186,7 +185,7 @@ module _ (d : Debugged) (known : AtLeader d) (user : is_user board d.watch ≡ t
       (λ (q : run.halted ≡ true). ⊎_elim
       (λ (g : planned m < run.passed). let z : suc (planned m) ≤ run.passed = omega (arith, g) in z)
       (λ (g : run.passed ≤ planned m).
-      let stays = delay_halted (code_from inst_of 4096 code_words) board input (data_from 256 data_words) run.passed (planned m) g (sym r.halted ∙ q) in
+      let stays = delay_halted (code_in (plain d known)) board input (data_in (plain d known)) run.passed (planned m) g (sym r.halted ∙ q) in
       absurd (clash (D (planned m)).halted b.going (ap (λ (x : Delay). x.halted) stays ∙ sym r.halted ∙ q)))
       (cases_lt (planned m) run.passed))
       ((gets_on code_words data_words input d.requests d.budget board on_board refl clean).1 (suc (planned m)) (omega (arith, most, room)))

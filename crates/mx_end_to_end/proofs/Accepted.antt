@@ -13,7 +13,7 @@ use Rattle.mx_asm.specs.Texts.{source_of, text_fault}
 use Rattle.mx_asm.proofs.Sourced.{faultless_source}
 use Rattle.mx_meaning.specs.Boards.{board}
 use Rattle.mx_link_laws.specs.Runs.{IsLaid}
-use Rattle.mx_end_to_end.specs.EndToEnd.{MeansItsSource}
+use Rattle.mx_end_to_end.specs.Laws.{MeansItsSource}
 use Rattle.mx_end_to_end.proofs.Composed.{run_means}
 use Rattle.mx_end_to_end.proofs.Registers.{text_registers}
 

@@ -1,8 +1,7 @@
 -- The machine with interrupts does what the machine with delay slots does, and that does what the source means.
 use Rattle.std.proofs.Common.{◌≡◌, ℕ, ◌+◌, ◌*◌, ◌≤◌, ◌⊎◌, true, List, length, Option, refl, sym, ap, ◌∙◌, subst, arith, ⊎_elim, inl}
 use Rattle.mx_isa.specs.Words.{Words}
-use Rattle.mx_code.specs.Decoding.{inst_of}
-use Rattle.mx_code.specs.Delay.{Delay, code_from, data_from}
+use Rattle.mx_code.specs.Delay.{Delay}
 use Rattle.mx_source.specs.SourceValue.{SourceValue}
 use Rattle.mx_source.specs.Meaning.{Run, State, given, meaning, HaltsIn}
 use Rattle.mx_squash.specs.Copies.{Site}
@@ -18,11 +17,12 @@ use Rattle.mx_interrupts.specs.Laws.{EndsAs, RunsAs}
 use Rattle.mx_interrupts.proofs.Runs.{passed_few, length_bits}
 use Rattle.mx_interrupts.proofs.Ends.{runs_as, gets_on}
 use Rattle.mx_meaning.specs.Boards.{board}
-use Rattle.mx_link_laws.specs.Runs.{IsLaid, Linking, IsLinking, linked_run}
+use Rattle.mx_link_laws.specs.Runs.{IsLaid, Linking, IsLinking, code_in, data_in, linked_run}
 use Rattle.mx_link_laws.specs.Matches.{Matches}
 use Rattle.mx_link_laws.proofs.Shown.{is_clean, halts_only, sends}
 use Rattle.mx_link_laws.proofs.Shown.{halts as halts_soon}
-use Rattle.mx_end_to_end.specs.EndToEnd.{source_run, IsUnstuck, EndsAsMeant, MeansItsSource}
+use Rattle.mx_end_to_end.specs.EndToEnd.{source_run, IsUnstuck, EndsAsMeant}
+use Rattle.mx_end_to_end.specs.Laws.{MeansItsSource}
 use Rattle.mx_end_to_end.proofs.Delays.{prefix_then, delay_sends, delay_halted}
 use Rattle.mx_end_to_end.proofs.Meanings.{meaning_sends, unstuck_before, halts_unstuck, sent_by_halt}
 
@@ -108,7 +108,7 @@ module _ (source : SourceValue) (sites : List Site) (bytes : List ℕ) (laid : I
         ⊎_elim
         (λ (q : 3 * n ≤ run.passed).
         r.halted
-        ∙ ap (λ (d : Delay). d.halted) (delay_halted (code_from inst_of 4096 code_words) board input (data_from 256 data_words) x.steps run.passed (let e = x.soon in omega (arith, e, q)) x.halted)
+        ∙ ap (λ (d : Delay). d.halted) (delay_halted (code_in l) board input (data_in l) x.steps run.passed (let e = x.soon in omega (arith, e, q)) x.halted)
         ∙ x.halted)
         (λ (q : run.halted ≡ true). q)
         (advances u (3 * n) (omega (arith, room)))
@@ -121,7 +121,7 @@ module _ (source : SourceValue) (sites : List Site) (bytes : List ℕ) (laid : I
         subst (λ x. IsPrefix (M m).console x) (sym r.console)
         (prefix_then (M m).console (D (3 * (m + 64))).console (D run.passed).console
         (sends l m is_linking (unstuck_before source board bytes (m + 64) (budget + 64) (omega (arith, room)) u))
-        (delay_sends (code_from inst_of 4096 code_words) board input (data_from 256 data_words) (3 * (m + 64)) run.passed q)))
+        (delay_sends (code_in l) board input (data_in l) (3 * (m + 64)) run.passed q)))
         (λ (q : run.halted ≡ true).
         let x = halts_of u q in
         let y = x.2 in

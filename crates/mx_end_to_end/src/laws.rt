@@ -1,5 +1,5 @@
 //! Laws over the definitions.
-ghost use Rattle.mx_end_to_end.specs.EndToEnd.{RunMeansItsSource, TextMeansItsSource};
+ghost use Rattle.mx_end_to_end.specs.Laws.{RunMeansItsSource, TextMeansItsSource};
 
 /// The run of a source that is linked by valid plans, with its branches in reach, on the pipelined machine, whatever interrupts
 /// come: it sends a prefix of what the meaning sends; where it halts, so does the meaning, with its console, registers and data;

@@ -13,7 +13,8 @@ use Rattle.mx_turn.specs.Program.{program_of}
 use Rattle.mx_turn.specs.Run.{run_of}
 use Rattle.mx_meaning.specs.Boards.{board}
 use Rattle.mx_link_laws.specs.Runs.{IsLaid}
-use Rattle.mx_end_to_end.specs.EndToEnd.{source_run, MeansItsSource}
+use Rattle.mx_end_to_end.specs.EndToEnd.{source_run}
+use Rattle.mx_end_to_end.specs.Laws.{MeansItsSource}
 use Rattle.mx_end_to_end.proofs.Composed.{run_means}
 use Rattle.mx_planned.specs.Planned.{image_run}
 

@@ -13,7 +13,8 @@ use Rattle.mx_answer.specs.declared.Status.TheVariants.{Halted, OutOfBudget}
 use Rattle.mx_answer.specs.Answer.{Answer, prints}
 use Rattle.mx_meaning.specs.Boards.{board}
 use Rattle.mx_report.specs.Report.{report_text}
-use Rattle.mx_end_to_end.specs.EndToEnd.{source_run, MeansItsSource}
+use Rattle.mx_end_to_end.specs.EndToEnd.{source_run}
+use Rattle.mx_end_to_end.specs.Laws.{MeansItsSource}
 use Rattle.mx_plans.specs.declared.Mark.{Mark}
 use Rattle.mx_plans.specs.Says.{IsProposed}
 use Rattle.mx_planned.specs.Verdicts.{AreTold}
