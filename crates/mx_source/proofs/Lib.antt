@@ -1,2 +1,3 @@
 pub mod Grouped
+pub mod LabelTables
 pub mod Printing

@@ -3,6 +3,7 @@
 
 mod group;
 mod grouping;
+mod label_table;
 mod laws;
 mod name;
 mod print;
@@ -10,6 +11,7 @@ mod source;
 mod statement;
 mod text;
 
+pub use label_table::LabelTable;
 pub use laws::names_are_their_bytes;
 pub use mx_io::Memory;
 pub use mx_isa::Place;
