@@ -8,7 +8,6 @@ pub mod Fronts
 pub mod LabelBounds
 pub mod Labelled
 pub mod Listed
-pub mod Named
 pub mod Pieces
 pub mod PrintedLines
 pub mod PrintedTexts

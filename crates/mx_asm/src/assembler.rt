@@ -10,7 +10,6 @@ ghost use Rattle.mx_asm.specs.Listings.{IsListingOf, IsRefusal};
 ghost use Rattle.mx_asm.specs.Printable.{ReadsPrinted};
 ghost use Rattle.mx_asm.specs.Texts.{ReadsAs, text_fault};
 ghost use Rattle.mx_asm.specs.Words.{texts};
-ghost use Rattle.mx_source.specs.Names.{named_labels};
 ghost use Rattle.mx_source.specs.SourceValue.{IsSource, source_of};
 
 use crate::definitions::{Definitions, define_text};
@@ -20,9 +19,8 @@ use crate::line::read_line;
 use crate::lines::split_line;
 use crate::listing::{Listing, add};
 use crate::position::Position;
-use indexmap::IndexMap;
 use mx_isa::{DATA_BASE, DATA_END};
-use mx_source::{Label, Name, Source};
+use mx_source::{LabelTable, Source};
 use std::alloc::Global;
 
 /// What all lines do from a position on, or the first faulty line.
@@ -160,9 +158,9 @@ pub fn assemble_at(alloc: Global, text: &[u8], user_data: u32, end: u32) -> Resu
 }
 
 /// The source of a listing and its labels.
-pub fn listed_source(listing: Listing, labels: IndexMap<Name, Label>) -> Source
-    requires { IsSource (source_of listing.statements.items listing.lines.items listing.user_data.items (named_labels labels.entries)) }
-    ensures { result ≡ record { statements = listing.statements.items; lines = listing.lines.items; user_data = listing.user_data.items; labels = named_labels labels.entries; input = listing.input } }
+pub fn listed_source(listing: Listing, labels: LabelTable) -> Source
+    requires { IsSource (source_of listing.statements.items listing.lines.items listing.user_data.items labels) }
+    ensures { result ≡ record { statements = listing.statements.items; lines = listing.lines.items; user_data = listing.user_data.items; labels = labels; input = listing.input } }
 {
     let Listing {
         statements,

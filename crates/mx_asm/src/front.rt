@@ -1,7 +1,5 @@
 //! The labels at the front of a line.
-ghost use Rattle.std.specs.Prelude.{◌≡◌, ◌≤◌, [], ◌∷◌, ◌++◌, true, length, map, None, OnOk, IfOk};
-ghost use Rattle.mx_source.specs.Names.{named_labels};
-ghost use Rattle.mx_asm.specs.Operands.{label_named};
+ghost use Rattle.std.specs.Prelude.{◌≡◌, ◌≤◌, true, length, map, OnOk, IfOk};
 ghost use Rattle.mx_asm.specs.LabelTable.{IsNear};
 ghost use Rattle.mx_asm.specs.Positions;
 ghost use Rattle.mx_asm.specs.Shapes.{word};
@@ -9,8 +7,7 @@ ghost use Rattle.mx_asm.specs.Shapes.{word};
 use crate::directive::is_dotted;
 use crate::labels::Labels;
 use crate::word::Word;
-use indexmap::IndexMap;
-use mx_source::{Label, Name};
+use mx_source::Label;
 use std::alloc::{AllocError, Global};
 
 /// A name and a `:` stand at the front.
@@ -83,23 +80,6 @@ pub fn define_own<'a>(
     }
     labels.define(name, label)?;
     Ok(false)
-}
-
-/// Adds a label under a name of its own.
-pub fn add_named(
-    alloc: Global,
-    named: &mut IndexMap<Name, Label>,
-    name: &[u8],
-    label: Label,
-) -> Result<(), AllocError>
-    requires { label_named (named_labels named.old.entries) name.now ≡ None }
-    ensures { OnOk result (named_labels named.new.entries ≡ named_labels named.old.entries ++ (name.now, label) ∷ []) }
-{
-    let Ok(key) = Name::new(alloc, name) else {
-        return Err(AllocError);
-    };
-    named.insert(key, label)?;
-    Ok(())
 }
 
 /// A name that begins with `.` stands in the place of a label.

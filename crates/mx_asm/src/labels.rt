@@ -1,9 +1,8 @@
 //! The labels of a text.
 ghost use Rattle.std.specs.Prelude.{◌≡◌};
 
-use crate::front::add_named;
 use indexmap::IndexMap;
-use mx_source::{Label, Name};
+use mx_source::{Label, LabelTable};
 use std::alloc::{AllocError, Global};
 use std::marker::Model;
 
@@ -27,7 +26,6 @@ impl<'a> Model for Labels<'a> {
 
 impl<'a> Labels<'a> {
     ghost use Rattle.std.specs.Prelude.{◌≡◌, [], ◌∷◌, ◌++◌, IsSome, is_some, None, OnOk, OnErr, IfOk, IfSome};
-    ghost use Rattle.mx_source.specs.Names.{named_labels};
     ghost use Rattle.mx_asm.specs.LabelTable.{IsNear};
     ghost use Rattle.mx_asm.specs.Operands.{label_named};
 
@@ -73,15 +71,15 @@ impl<'a> Labels<'a> {
     }
 
     /// The same labels under names of their own.
-    pub fn named(&self, alloc: Global) -> Result<IndexMap<Name, Label>, AllocError>
-        ensures { IfOk result (λ own. named_labels own.entries ≡ self.now) }
+    pub fn named(&self, alloc: Global) -> Result<LabelTable, AllocError>
+        ensures { IfOk result (λ own. own ≡ self.now) }
     {
-        let mut own = IndexMap::with_capacity(alloc, self.table.len())?;
+        let mut own = LabelTable::new(alloc);
         for i in 0..self.table.len() {
             let Some((name, label)) = self.table.get_index(i) else {
                 unreachable!();
             };
-            add_named(alloc, &mut own, name, *label)?;
+            own.push(name, *label)?;
         }
         Ok(own)
     }

@@ -1,14 +1,12 @@
 //! A source as it grows.
 ghost use Rattle.std.specs.Prelude.{◌≡◌, ◌<◌, ◌≤◌, ◌∷◌, ◌^◌, decimal, length, OnOk, IfOk};
 ghost use Rattle.mx_isa.specs.declared.board.TheConstants.{MAX_STATEMENTS};
-ghost use Rattle.mx_source.specs.Names.{name_bytes};
 ghost use Rattle.mx_source.specs.SourceValue.{IsSource};
 ghost use Rattle.mx_gen.specs.Drafts.{empty, put, name, finished};
 ghost use Rattle.mx_gen.specs.Sound.{IsNew};
 
-use indexmap::IndexMap;
 use itoa::Buffer;
-use mx_source::{Label, Memory, Name, Source, Statement};
+use mx_source::{Label, LabelTable, Memory, Source, Statement};
 use std::alloc::{AllocError, Global};
 use std::marker::Model;
 use std::slice;
@@ -18,7 +16,7 @@ use std::slice;
 pub(crate) struct Draft {
     statements: Vec<Statement>,
     lines: Vec<u32>,
-    labels: IndexMap<Name, Label>,
+    labels: LabelTable,
     line: u32,
 }
 
@@ -39,7 +37,7 @@ impl Draft {
         Draft {
             statements: Vec::new(alloc),
             lines: Vec::new(alloc),
-            labels: IndexMap::new(alloc),
+            labels: LabelTable::new(alloc),
             line: 1,
         }
     }
@@ -79,7 +77,7 @@ impl Draft {
     {
         let name = label_name(alloc, letter, j)?;
         let label = Label::Code(self.index());
-        let Ok(_) = self.labels.insert(name, label) else {
+        let Ok(()) = self.labels.push(name.as_slice(), label) else {
             return Err(Memory);
         };
         self.line += 1;
@@ -97,13 +95,14 @@ impl Draft {
             labels,
             line: _,
         } = self;
-        Source::make(statements, lines, Vec::new(*labels.allocator()), labels)
+        let user_data = Vec::new(*statements.allocator());
+        Source::make(statements, lines, user_data, labels)
     }
 }
 
 /// A letter and a number in decimal.
-fn label_name(alloc: Global, letter: u8, j: u32) -> Result<Name, Memory>
-    ensures { IfOk result (λ name. name_bytes name ≡ letter ∷ decimal j) }
+fn label_name(alloc: Global, letter: u8, j: u32) -> Result<Vec<u8>, Memory>
+    ensures { IfOk result (λ name. name.items ≡ letter ∷ decimal j) }
 {
     let mut buffer = Buffer::new();
     let number = buffer.format(j).as_bytes();
@@ -111,5 +110,5 @@ fn label_name(alloc: Global, letter: u8, j: u32) -> Result<Name, Memory>
     if bytes.push(letter).is_err() || bytes.extend_from_slice(number).is_err() {
         return Err(Memory);
     }
-    Name::new(alloc, bytes.as_slice())
+    Ok(bytes)
 }

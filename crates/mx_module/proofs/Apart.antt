@@ -1,43 +1,13 @@
 -- Labels whose names differ.
-use Rattle.std.proofs.Common.{◌≡◌, ℕ, suc, zero, Bool, false, true, List, [], ◌∷◌, ◌++◌, map, take, cond, Option, Some, None, refl, ap, sym, ◌∙◌, subst}
-use Rattle.std.specs.List.{IsDistinct, AllByRecursion, slice_get}
-use Rattle.std.specs.Option.{option_map}
+use Rattle.std.proofs.Common.{◌≡◌, ℕ, false, List, [], ◌∷◌, ◌++◌, map}
+use Rattle.std.specs.List.{IsDistinct, AllByRecursion}
 use Rattle.std.specs.Str.{bytes_eq}
-use Rattle.std.proofs.lemmas.Option.{slice_get-map}
 use Rattle.mx_source.specs.declared.Label.{Label}
 use Rattle.mx_asm.specs.Instructions.{Labels}
-use Rattle.mx_asm.specs.Operands.{label_named}
-use Rattle.mx_asm.proofs.Tabled.{swapped}
 use Rattle.mx_module.specs.Joined.{AreApart}
 
 abbrev pub names : Labels → List (List ℕ)
 names ls = map (λ (p : List ℕ × Label). p.0) ls
-
-behind_it : (first : List ℕ) (es : Labels) (i : ℕ) (n : List ℕ) (l : Label) → AllByRecursion (λ y. bytes_eq first y ≡ false) (names es)
-    → slice_get es i ≡ Some (n, l) → bytes_eq first n ≡ false
-behind_it first [] i n l h at = cc
-behind_it first (e ∷ es) zero n l h at = let q : e ≡ (n, l) = cc in ap (λ (p : List ℕ × Label). bytes_eq first p.0) (sym q) ∙ h.0
-behind_it first (e ∷ es) (suc i) n l h at = behind_it first es i n l h.1 at
-
--- a label's name is not among those before it
-pub absent_before : (es : Labels) (i : ℕ) (n : List ℕ) (l : Label) → AreApart es → slice_get es i ≡ Some (n, l) → label_named (take i es) n ≡ None
-unfolding IsDistinct
-absent_before [] zero n l h at = refl
-absent_before [] (suc i) n l h at = refl
-absent_before (e ∷ es) zero n l h at = refl
-absent_before (e ∷ es) (suc i) n l h at =
-    ap (λ b. cond b (Some e.1) (label_named (take i es) n)) (swapped e.0 n (behind_it e.0 es i n l h.0 at)) ∙ absent_before es i n l h.1 at
-
-none_after : (first : List ℕ) (xs ys : Labels) → AllByRecursion (λ y. bytes_eq first y ≡ false) (names (xs ++ ys))
-    → AllByRecursion (λ y. bytes_eq first y ≡ false) (names xs)
-none_after first [] ys h = tt
-none_after first (x ∷ xs) ys h = (h.0, none_after first xs ys h.1)
-
--- the first of them are apart
-pub front_apart : (xs ys : Labels) → AreApart (xs ++ ys) → AreApart xs
-unfolding IsDistinct
-front_apart [] ys h = tt
-front_apart (x ∷ xs) ys h = (none_after x.0 xs ys h.0, front_apart xs ys h.1)
 
 pub both_none : (first : List ℕ) (xs ys : Labels) → AllByRecursion (λ y. bytes_eq first y ≡ false) (names xs)
     → AllByRecursion (λ y. bytes_eq first y ≡ false) (names ys)
@@ -54,28 +24,3 @@ pub both_apart : (xs ys : Labels) → AreApart xs → AreApart ys → AreAway xs
 unfolding IsDistinct
 both_apart [] ys h k away = k
 both_apart (x ∷ xs) ys h k away = (both_none x.0 xs ys h.0 away.0, both_apart xs ys h.1 k away.1)
-
-none_behind : (first : List ℕ) (xs ys : Labels) → AllByRecursion (λ y. bytes_eq first y ≡ false) (names (xs ++ ys))
-    → AllByRecursion (λ y. bytes_eq first y ≡ false) (names ys)
-none_behind first [] ys h = h
-none_behind first (x ∷ xs) ys h = none_behind first xs ys h.1
-
-renamed_at : (R : List ℕ × Label → List ℕ × Label) (es : Labels) (i : ℕ) (e : List ℕ × Label) → slice_get es i ≡ Some e
-    → slice_get (map R es) i ≡ Some ((R e).0, (R e).1)
-renamed_at R es i e at = slice_get-map R es i ∙ ap (option_map R) at
-
-take_renamed : (R : List ℕ × Label → List ℕ × Label) (es : Labels) (i : ℕ) → take i (map R es) ≡ map R (take i es)
-take_renamed R [] zero = refl
-take_renamed R [] (suc i) = refl
-take_renamed R (e ∷ es) zero = refl
-take_renamed R (e ∷ es) (suc i) = ap (λ xs. R e ∷ xs) (take_renamed R es i)
-
--- a renamed label's name is not among the others and those before it
-pub absent_among : (R : List ℕ × Label → List ℕ × Label) (old es : Labels) (i : ℕ) (e : List ℕ × Label) → AreApart (old ++ map R es) → slice_get es i ≡ Some e
-    → label_named (old ++ map R (take i es)) (R e).0 ≡ None
-unfolding IsDistinct
-absent_among R [] es i e h at = ap (λ xs. label_named xs (R e).0) (sym (take_renamed R es i)) ∙ absent_before (map R es) i (R e).0 (R e).1 h (renamed_at R es i e at)
-absent_among R (o ∷ old) es i e h at =
-    ap (λ b. cond b (Some o.1) (label_named (old ++ map R (take i es)) (R e).0))
-    (swapped o.0 (R e).0 (behind_it o.0 (map R es) i (R e).0 (R e).1 (none_behind o.0 old (map R es) h.0) (renamed_at R es i e at)))
-    ∙ absent_among R old es i e h.1 at

@@ -11,7 +11,6 @@ use Rattle.mx_module.specs.declared.error.JoinFault.TheVariants.{Line}
 use Rattle.mx_module.specs.declared.error.JoinError.{JoinError}
 use Rattle.mx_module.specs.declared.error.JoinError.TheVariants as errors
 use Rattle.mx_module.specs.Joined.{fault_in_lines, effects_in}
-use Rattle.mx_source.specs.Names.{named_labels}
 use Rattle.mx_asm.specs.Words.{texts}
 use Rattle.mx_asm.specs.Faults.{first_repeat}
 use Rattle.mx_module.specs.declared.link.Link.{Link as Kept}
@@ -32,7 +31,7 @@ module_value m = record { start = m.start; lines = texts m.lines.items; links = 
 pub record IsKept (m : Inside) : Type 0 where
   pub few : length m.lines.items ≤ 4194304
   pub exports : m.exports ≡ exports_from [] (map link_value m.links.items)
-  pub named : named_labels m.named.entries ≡ m.labels
+  pub named : m.named ≡ m.labels
   pub repeated : m.repeated ≡ first_repeat m.start [] 1 (texts m.lines.items)
 
 -- the bytes of a text

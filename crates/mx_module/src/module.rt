@@ -6,11 +6,10 @@ ghost use Rattle.mx_module.specs.ModuleView.{text_bytes, IsShort};
 use crate::exports::Exports;
 use crate::link::Link;
 use crate::plain::{Parts, parts_of};
-use indexmap::IndexMap;
 use mx_asm::{
     AsmError, Definitions, Labels, Listing, Position, Section, define_all, lines_of, read_lines,
 };
-use mx_source::{Label, Name};
+use mx_source::{Label, LabelTable};
 use std::alloc::{AllocError, Global};
 use std::marker::Model;
 
@@ -21,7 +20,7 @@ pub struct Module<'a> {
     lines: Vec<&'a [u8]>,
     links: Vec<Link<'a>>,
     labels: Labels<'a>,
-    named: IndexMap<Name, Label>,
+    named: LabelTable,
     repeated: Option<u32>,
     exports: Exports<'a>,
 }
@@ -39,7 +38,6 @@ impl<'a> Model for Module<'a> {
 
 impl<'a> Module<'a> {
     ghost use Rattle.std.specs.Prelude.{◌≡◌, ◌+◌, ◌≤◌, ◌<◌, ◌^◌, [], length, map, replicate, IfOk, IfErr, IfSome, Option};
-    ghost use Rattle.mx_source.specs.Names.{named_labels};
     ghost use Rattle.mx_asm.specs.Faults.{first_fault};
     ghost use Rattle.mx_asm.specs.LabelTable.{IsNear};
     ghost use Rattle.mx_asm.specs.Listings.{IsListingOf, IsRefusal};
@@ -112,8 +110,8 @@ impl<'a> Module<'a> {
     }
 
     /// Its labels, under names of their own.
-    pub fn named(&self) -> &IndexMap<Name, Label>
-        ensures { named_labels result.now.entries ≡ self.now.labels }
+    pub fn named(&self) -> &LabelTable
+        ensures { result.now ≡ self.now.labels }
     {
         &self.named
     }

@@ -1,4 +1,3 @@
-pub mod Names
 pub mod Labels
 pub mod LabelTable
 pub mod Statements

@@ -1,4 +1,3 @@
-use Rattle.mx_source.specs.Names.{named_labels}
 use Rattle.mx_source.specs.SourceValue.{SourceValue}
 use Rattle.mx_source.specs.declared.source.Source.TheInside.{Inside}
 
@@ -8,6 +7,6 @@ source_value s = record {
   statements = s.statements.items;
   lines = s.lines.items;
   user_data = s.user_data.items;
-  labels = named_labels s.labels.entries;
+  labels = s.labels;
   input = s.input;
 }

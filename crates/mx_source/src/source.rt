@@ -1,8 +1,7 @@
 //! Sources.
 ghost use Rattle.std.specs.Prelude.{◌≡◌, Some, None, IfOk};
 
-use crate::{Label, Name, Statement, Value, print};
-use indexmap::IndexMap;
+use crate::{LabelTable, Statement, Value, print};
 use mx_io::Memory;
 use std::alloc::Global;
 use std::marker::Model;
@@ -17,7 +16,7 @@ pub struct Source {
     statements: Vec<Statement>,
     lines: Vec<u32>,
     user_data: Vec<Value>,
-    labels: IndexMap<Name, Label>,
+    labels: LabelTable,
     input: Option<u32>,
 }
 
@@ -33,7 +32,6 @@ impl Model for Source {
 }
 
 impl Source {
-    ghost use Rattle.mx_source.specs.Names.{named_labels};
     ghost use Rattle.mx_source.specs.SourceValue.{SourceValue, IsSource, source_of};
     ghost use Rattle.mx_source.specs.Printed.{printed};
 
@@ -43,10 +41,10 @@ impl Source {
         statements: Vec<Statement>,
         lines: Vec<u32>,
         user_data: Vec<Value>,
-        labels: IndexMap<Name, Label>,
+        labels: LabelTable,
     ) -> Source
-        requires { IsSource (source_of statements.items lines.items user_data.items (named_labels labels.entries)) }
-        ensures { result ≡ source_of statements.items lines.items user_data.items (named_labels labels.entries) }
+        requires { IsSource (source_of statements.items lines.items user_data.items labels) }
+        ensures { result ≡ source_of statements.items lines.items user_data.items labels }
     {
         Source {
             statements,
@@ -102,8 +100,8 @@ impl Source {
     }
 
     /// The labels, in order of their definitions.
-    pub fn labels(&self) -> &IndexMap<Name, Label>
-        ensures value { named_labels result.now.entries ≡ self.now.labels }
+    pub fn labels(&self) -> &LabelTable
+        ensures value { result.now ≡ self.now.labels }
         ensures source { IsSource self.now }
     {
         &self.labels

@@ -1,9 +1,8 @@
 //! A source that sends its first input byte, and then jumps by a word.
-use indexmap::IndexMap;
 use mx_answer::{Reply, Status};
 use mx_isa::{Inst, Reg};
 use mx_meaning::meaning_reply;
-use mx_source::{Source, Statement};
+use mx_source::{LabelTable, Source, Statement};
 use std::alloc::Global;
 use std::test::Fail;
 
@@ -25,7 +24,7 @@ fn sends_and_jumps(alloc: Global) -> Result<Source, Fail> {
         Statement::JumpReg { a: one },
     ]?;
     let lines = vec![in alloc; 2, 3, 4]?;
-    Ok(Source::make(statements, lines, Vec::new(alloc), IndexMap::new(alloc)).with_input(1))
+    Ok(Source::make(statements, lines, Vec::new(alloc), LabelTable::new(alloc)).with_input(1))
 }
 
 #[test]

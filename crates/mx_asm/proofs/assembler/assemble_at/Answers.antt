@@ -3,7 +3,6 @@ use Rattle.mx_lex.specs.Lines.{lines_of}
 use Rattle.mx_asm.specs.Positions.{labels_from}
 use Rattle.mx_asm.specs.Listings.{IsListingOf, IsRefusal}
 use Rattle.mx_asm.specs.Faults.{first_fault}
-use Rattle.mx_source.specs.Names.{named_labels}
 use Rattle.mx_asm.proofs.Whole.{whole_fault, whole_reads, whole_fits}
 use Rattle.mx_asm.proofs.assembler.assemble_at.Goals as goal
 
@@ -13,7 +12,7 @@ listed_source-requires c =
     let lines = lines_of c.args.text.now in
     let defined = c.in_ok-labels.ensures.labels ∙ ap (λ p. labels_from p [] lines) c.start-start.ensures in
     let listing = subst (λ p. IsListingOf labels c.args.end p lines c.in-Ok.listing) c.start-start.ensures c.in-Ok.ensures.read in
-    whole_fits c.args.user_data c.args.end c.args.text.now lines labels (named_labels c.in_ok-named-in-Ok.field-0.entries) refl defined c.in_ok-named-in-Ok.ensures
+    whole_fits c.args.user_data c.args.end c.args.text.now lines labels c.in_ok-named-in-Ok.field-0 refl defined c.in_ok-named-in-Ok.ensures
     c.in-Ok.listing c.requires.low c.requires.within listing
 
 pub returns-in-Ok-clause-source : goal.returns-in-Ok-clause-source
@@ -22,7 +21,7 @@ returns-in-Ok-clause-source c =
     let lines = lines_of c.args.text.now in
     let defined = c.in_ok-labels.ensures.labels ∙ ap (λ p. labels_from p [] lines) c.start-start.ensures in
     let listing = subst (λ p. IsListingOf labels c.args.end p lines c.in-Ok.listing) c.start-start.ensures c.in-Ok.ensures.read in
-    whole_reads c.args.user_data c.args.end c.args.text.now lines labels (named_labels c.in_ok-named-in-Ok.field-0.entries) refl defined c.in_ok-named-in-Ok.ensures
+    whole_reads c.args.user_data c.args.end c.args.text.now lines labels c.in_ok-named-in-Ok.field-0 refl defined c.in_ok-named-in-Ok.ensures
     c.in-Ok.listing c.listed_source.result listing c.listed_source.ensures
 
 pub returns-clause-refused : goal.returns-clause-refused

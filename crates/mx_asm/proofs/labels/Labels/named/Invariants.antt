@@ -1,8 +1,7 @@
 use Rattle.std.proofs.Common.{◌≡◌, map, take}
-use Rattle.mx_source.specs.Names.{named_labels}
 use Rattle.mx_asm.specs.LabelTable.{named}
 use Rattle.mx_asm.proofs.labels.Labels.named.Given as goal
 
 -- the labels so far
 abbrev pub invariant-loop-i : goal.invariant-loop-i
-invariant-loop-i l = named_labels l.own.entries ≡ map named (take l.i l.self-inside.table.entries)
+invariant-loop-i l = l.own ≡ map named (take l.i l.self-inside.table.entries)

@@ -1,6 +1,0 @@
-use Rattle.mx_asm.proofs.Named.{named_push}
-use Rattle.mx_asm.proofs.front.add_named.Goals as goal
-
-pub returns : goal.returns
-returns c = named_push c.args.named.now.entries c.insert.new.self.entries c.in-Ok.key c.args.label c.args.name.now c.in-Ok.ensures c.requires
-    c.in_ok-insert.ensures.entries
