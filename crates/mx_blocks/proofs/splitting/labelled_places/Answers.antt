@@ -1,6 +1,8 @@
-use Rattle.std.proofs.Common.{◌≡◌, ◌+◌, ◌||◌, ◌∷◌, false, length, drop, slice_index_or, replicate, sym, ap, ◌∙◌, arith}
+use Rattle.std.proofs.Common.{◌≡◌, ◌+◌, ◌||◌, false, length, drop, slice_index_or, replicate, sym, ap, ◌∙◌, arith}
 use Rattle.std.specs.List.{list_any}
+use Rattle.std.proofs.Math.ListN.{get_or}
 use Rattle.std.proofs.lemmas.List.{length-replicate, get_or-replicate, at_drop_more, drop_all}
+use Rattle.mx_source.specs.declared.statement.Label.TheVariants.{Code}
 use Rattle.mx_source.specs.Labels.{is_labelled, names_index}
 use Rattle.mx_blocks.proofs.Splits.{any_named, or_assoc, or_false}
 use Rattle.mx_blocks.proofs.splitting.labelled_places.Goals as goal
@@ -24,15 +26,14 @@ pub loop-label-preserved : goal.loop-label-preserved
 loop-label-preserved c =
     let k = c.loop-label.label-index in
     let items = c.values-label-items.result.now in
-    let label = c.label-item.result in (
+    let label = get_or items k (Code 0) in (
       c.mark.ensures.len ∙ c.loop-label.invariant.0,
       λ i l.
           let old = slice_index_or c.loop-label.marks.items i false in
           let rest = list_any (names_index i) (drop (k + 1) items) in
           ap (λ b. b || rest) (c.mark.ensures.marks i (omega (arith, l, c.loop-label.invariant.0)))
           ∙ or_assoc old (names_index i label) rest
-          ∙ ap (λ x. old || list_any (names_index i) (x ∷ drop (k + 1) items)) c.label-item.is
-          ∙ sym (at_drop_more (λ xs. old || list_any (names_index i) xs) items k label (omega (arith, c.loop-label-test.true)))
+          ∙ sym (at_drop_more (λ xs. old || list_any (names_index i) xs) items k (Code 0) (omega (arith, c.loop-label-test.true)))
           ∙ c.loop-label.invariant.1 i l,
     )
 
