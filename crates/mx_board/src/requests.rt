@@ -1,15 +1,17 @@
 //! The cycles in which interrupts are requested.
-ghost use Rattle.std.specs.Prelude.{◌≡◌, ◌≢◌, ◌≤◌, ◌<◌, ◌==◌, ◌∷◌, ◌++◌, [], length, IfOk, IfErr, OnOk, IfSome, IfNone};
+ghost use Rattle.std.specs.Prelude.{◌≡◌, true, ◌≢◌, ◌≤◌, ◌<◌, ◌==◌, ◌∷◌, ◌++◌, [], length, IfOk, IfErr, OnOk, IfSome, IfNone};
 ghost use Rattle.std.specs.Option.{option_to_list};
-ghost use Rattle.std.specs.List.{position, prefix_len};
+ghost use Rattle.std.specs.List.{prefix_len};
 ghost use Rattle.std.specs.List.Sorted.{IsStrictlyIncreasing};
 ghost use Rattle.std.specs.Char.{is_ascii_digit};
+ghost use Rattle.std.specs.Str.{all_ascii_digits};
 ghost use Rattle.std.specs.Str.Lines.{strip_carriage_return};
 ghost use Rattle.mx_board.specs.declared.requests.TheConstants.{MAX_REQUESTS};
 ghost use Rattle.mx_io.specs.declared.limits.TheConstants.{MAX_FILE_BYTES};
-ghost use Rattle.mx_board.specs.RequestFile.{pieces, is_blank, is_blank_line, without_blanks, number_of_digits, number_of, may_follow, fault_of, requests_of, is_wanted};
+ghost use Rattle.mx_board.specs.RequestFile.{is_blank, is_blank_line, without_blanks, number_of_digits, number_of, may_follow, fault_of, requests_of, is_wanted};
 
 use mx_io::Memory;
+use mx_text::split_line;
 use std::alloc::Global;
 use std::marker::Model;
 use thiserror::Error;
@@ -52,25 +54,6 @@ impl Model for Requests {
     ghost invariant = { λ r. (length r.cycles.items ≤ MAX_REQUESTS) × IsStrictlyIncreasing r.cycles.items };
 }
 
-// The place of the first line feed.
-fn line_feed(text: &[u8]) -> Option<usize>
-    ensures { result ≡ position (λ b. b == 10) text.now }
-{
-    text.iter().position(|b| *b == b'\n')
-}
-
-// The bytes before the first line feed, and those behind it, if there is one.
-fn first_piece(text: &[u8]) -> (&[u8], Option<&[u8]>)
-    ensures last { IfNone result.1 (pieces text.now ≡ result.0.now ∷ []) }
-    ensures more { IfSome result.1 (λ rest. pieces text.now ≡ result.0.now ∷ pieces rest.now) }
-    ensures shorter { IfSome result.1 (λ rest. length rest.now < length text.now) }
-{
-    match line_feed(text) {
-        Some(at) => (&text[..at], Some(&text[at + 1..])),
-        None => (text, None),
-    }
-}
-
 // A line without a carriage return at its end.
 fn without_return(piece: &[u8]) -> &[u8]
     ensures { result.now ≡ strip_carriage_return piece.now }
@@ -104,16 +87,14 @@ fn is_blank_line(line: &[u8]) -> bool
 
 // The number that digits write, where it has 32 bits.
 fn number_of_digits(digits: &[u8]) -> Option<u32>
+    requires some { 0 < length digits.now }
+    requires digits { all_ascii_digits digits.now ≡ true }
     ensures { result ≡ number_of_digits digits.now }
 {
-    let mut number = 0u64;
-    for digit in digits {
-        number = number * 10 + u64::from(digit.saturating_sub(b'0'));
-        if number > u64::from(u32::MAX) {
-            return None;
-        }
+    match std::str::from_utf8(digits) {
+        Ok(text) => text.parse().ok(),
+        Err(_) => None,
     }
-    Some(number as u32)
 }
 
 // The number of a line: blanks, one or more digits, and blanks.
@@ -194,7 +175,7 @@ impl Requests {
         let mut line = 1u32;
         let mut text = bytes;
         'lines: loop {
-            let (piece, rest) = first_piece(text);
+            let (piece, rest) = split_line(text);
             add_line(&mut cycles, line, without_return(piece))?;
             let Some(rest) = rest else {
                 return Ok(Requests { cycles });

@@ -1,4 +1,3 @@
-pub mod Cuts
 pub mod Greedy
 pub mod Kept
 pub mod Rules

@@ -5,8 +5,9 @@ ghost use Rattle.mx_plans.specs.Marks.{is_terminator};
 ghost use Rattle.mx_plans.specs.Files.{after_word, after_piece, line_marks, line_said, plans_in, marks_of_lines, IsRefused};
 
 use crate::mark::{Mark, is_terminator, mark_of};
-use crate::pieces::{first_line, first_piece};
+use crate::pieces::first_piece;
 use arrayvec::ArrayVec;
+use mx_text::split_line;
 use std::alloc::Global;
 use thiserror::Error;
 
@@ -121,7 +122,7 @@ pub fn read_plans(alloc: Global, blocks: usize, text: &[u8]) -> Result<Vec<PlanL
     let mut lines = Vec::new(alloc);
     let mut left = text;
     'lines: loop {
-        let (line, rest) = first_line(left);
+        let (line, rest) = split_line(left);
         match line_said(lines.len() < blocks, line) {
             Ok(said) => {
                 if lines.push(said).is_err() {

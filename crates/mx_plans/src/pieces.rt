@@ -1,26 +1,7 @@
-//! The lines of a text, and the pieces of a line.
-ghost use Rattle.std.specs.Prelude.{◌≡◌, ◌<◌, ◌∷◌, [], ◌==◌, length, IfSome, IfNone};
+//! The pieces of a line.
+ghost use Rattle.std.specs.Prelude.{◌≡◌, ◌<◌, ◌∷◌, [], length, IfSome, IfNone};
 ghost use Rattle.std.specs.List.{position};
-ghost use Rattle.mx_plans.specs.Files.{lines_in, pieces_in, is_gap};
-
-/// The place of the first line feed.
-fn line_feed(text: &[u8]) -> Option<usize>
-    ensures { result ≡ position (λ b. b == 10) text.now }
-{
-    text.iter().position(|b| *b == b'\n')
-}
-
-/// The bytes before the first line feed, and those behind it, if there is one.
-pub(crate) fn first_line(text: &[u8]) -> (&[u8], Option<&[u8]>)
-    ensures last { IfNone result.1 (lines_in text.now ≡ result.0.now ∷ []) }
-    ensures more { IfSome result.1 (λ rest. lines_in text.now ≡ result.0.now ∷ lines_in rest.now) }
-    ensures shorter { IfSome result.1 (λ rest. length rest.now < length text.now) }
-{
-    match line_feed(text) {
-        Some(at) => (&text[..at], Some(&text[at + 1..])),
-        None => (text, None),
-    }
-}
+ghost use Rattle.mx_plans.specs.Files.{pieces_in, is_gap};
 
 /// The place of the first gap.
 fn gap(line: &[u8]) -> Option<usize>

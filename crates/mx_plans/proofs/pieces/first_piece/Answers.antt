@@ -1,6 +1,6 @@
 use Rattle.std.proofs.Common.{sym}
 use Rattle.mx_plans.specs.Files.{is_gap}
-use Rattle.mx_plans.proofs.Cuts.{pieces-first, pieces-last}
+use Rattle.mx_text.proofs.Cuts.{pieces-first, pieces-last}
 use Rattle.mx_plans.proofs.pieces.first_piece.Goals as goal
 
 pub returns-in-Some-clause-more : goal.returns-in-Some-clause-more

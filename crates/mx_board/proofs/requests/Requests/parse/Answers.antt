@@ -9,4 +9,4 @@ invariant_of-result c = reading_keeps c.args.bytes.now c.lines.cycles.items c.li
 
 pub lines-preserved : goal.lines-preserved
 lines-preserved c =
-    reading_goes_on c.args.bytes.now c.lines.cycles.items c.lines.line c.lines.text.now c.first_piece.result.0.now c.without_return.result.now c.in-Some.rest.now c.add_line.new.cycles.items c.lines.invariant (rw c.in-Some.is at c.first_piece.ensures.more) c.without_return.ensures (rw c.in-Some.is at c.first_piece.ensures.shorter) c.in_ok-add_line.ensures.clean c.in_ok-add_line.ensures.added
+    reading_goes_on c.args.bytes.now c.lines.cycles.items c.lines.line c.lines.text.now c.split_line.result.0.now c.without_return.result.now c.in-Some.rest.now c.add_line.new.cycles.items c.lines.invariant (rw c.in-Some.is at c.split_line.ensures.more) c.without_return.ensures (rw c.in-Some.is at c.split_line.ensures.shorter) c.in_ok-add_line.ensures.clean c.in_ok-add_line.ensures.added
