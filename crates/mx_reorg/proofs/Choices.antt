@@ -11,7 +11,8 @@ use Rattle.mx_blocks.specs.declared.block.Item.{Item}
 use Rattle.mx_blocks.specs.declared.block.Item.TheVariants.{Op, Nop}
 use Rattle.mx_blocks.specs.Items.{StandsAt}
 use Rattle.mx_validate.specs.Padded.{insts_of, body_count, falls}
-use Rattle.mx_reorg.specs.Greedy.{IsCandidate, Precedes, IsBetter, Fills, AllStand, RestFits, terminator, loads}
+use Rattle.mx_reorg.specs.Greedy.{IsCandidate, Precedes, Fills, AllStand, RestFits, terminator, loads}
+use Rattle.mx_reorg.specs.Making.{IsBetter}
 
 pub height_unique : (insts : List Inst) (input : Bool) (x h g : ℕ) → IsHeight insts input x h → IsHeight insts input x g → h ≡ g
 height_unique insts input x h g a b =

@@ -13,7 +13,8 @@ use Rattle.mx_blocks.specs.declared.block.Item.TheVariants.{Op, Nop}
 use Rattle.mx_blocks.specs.Items.{StandsAt, ops, times}
 use Rattle.mx_validate.specs.Padded.{insts_of, falls, body_count}
 use Rattle.mx_validate.proofs.Listed.{stands_counts, counted_stands}
-use Rattle.mx_reorg.specs.Greedy.{Stands, IsReady, IsCandidate, IsBetter, Fills}
+use Rattle.mx_reorg.specs.Greedy.{Stands, IsReady, IsCandidate, Fills}
+use Rattle.mx_reorg.specs.Making.{IsBetter}
 use Rattle.mx_reorg.proofs.Choices.{HasHeight, BestBelow, none_below, no_candidate, one_candidate, better_later, better_earlier, best_fills, op_same, op_not_nop}
 use Rattle.mx_reorg.proofs.Spent.{body_low}
 

@@ -13,7 +13,8 @@ use Rattle.mx_blocks.specs.declared.block.Item.{Item}
 use Rattle.mx_blocks.specs.declared.block.Item.TheVariants.{Op, Nop}
 use Rattle.mx_validate.specs.Padded.{insts_of, falls, body_count}
 use Rattle.mx_validate.specs.Validity.{end_count}
-use Rattle.mx_reorg.specs.Greedy.{Stands, Fills, AllStand, RestFits, MayEnd, Grows, terminator, loads}
+use Rattle.mx_reorg.specs.Greedy.{Stands, Fills, AllStand, RestFits, MayEnd, terminator, loads}
+use Rattle.mx_reorg.specs.Making.{Grows}
 use Rattle.mx_reorg.specs.GreedyPlans.{GreedyExists}
 use Rattle.mx_reorg.proofs.Choices.{rest_same}
 use Rattle.mx_reorg.proofs.Fronts.{grows_none, grows_push, greedy_from, slots_filled}

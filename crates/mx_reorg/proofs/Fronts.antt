@@ -12,7 +12,8 @@ use Rattle.mx_blocks.specs.declared.block.Item.TheVariants.{Op, Nop}
 use Rattle.mx_blocks.specs.Items.{StandsAt}
 use Rattle.mx_validate.specs.Padded.{insts_of, items_of, falls}
 use Rattle.mx_validate.specs.Validity.{end_count}
-use Rattle.mx_reorg.specs.Greedy.{Fills, AllStand, RestFits, HasSlots, MayEnd, Grows, IsGreedy, terminator, loads}
+use Rattle.mx_reorg.specs.Greedy.{Fills, AllStand, RestFits, MayEnd, IsGreedy, terminator, loads}
+use Rattle.mx_reorg.specs.Making.{HasSlots, Grows}
 use Rattle.mx_reorg.proofs.Choices.{HasHeight, fills_low, rest_same}
 
 take_behind : (front rest : List Item) (p q : ℕ) → p ≡ length front + q → take p (front ++ rest) ≡ front ++ take q rest

@@ -39,11 +39,6 @@ abbrev pub Precedes : Block → ℕ → ℕ → Type 0
 Precedes block x y =
     (h g : ℕ) → IsHeight (insts_of block) block.input x h → IsHeight (insts_of block) block.input y g → (g < h) ⊎ ((g ≡ h) × (x ≤ y))
 
--- of two candidates, b below x, the one that precedes the other
-pub record IsBetter (block : Block) (b x : ℕ) (item : Item) : Type 0 where
-  pub is : (item ≡ Op b) ⊎ (item ≡ Op x)
-  pub precedes : (k : ℕ) → item ≡ Op k → Precedes block k b × Precedes block k x
-
 -- the candidate of greatest height, then least number
 pub record IsBest (block : Block) (before : List Item) (x : ℕ) : Type 0 where
   pub candidate : IsCandidate block before x
@@ -91,21 +86,3 @@ pub record IsGreedy (block : Block) (plan : Plan) : Type 0 where
   pub terminator : falls block.end ≡ false → StandsAt (items_of plan) plan.place (terminator block)
   -- nothing follows a halt, and two items follow a transfer
   pub tail : length (items_of plan) ≡ plan.place + end_count block.end
-
--- each item fills its place, and the terminator could not stand at any of these
-pub record Grows (block : Block) (items : List Item) : Type 0 where
-  pub filled : (p : ℕ) → p < length items → Fills block (take p items) (slice_index_or items p Nop)
-  pub going : (p : ℕ) → p < length items → ¬ MayEnd block.end block (take p items)
-
--- all that stands before the terminator's place
-pub record IsFront (block : Block) (items : List Item) : Type 0 where
-  pub grows : Grows block items
-  pub ends : MayEnd block.end block items
-  pub short : length items ≤ 128
-
--- a front, followed by the terminator and what fills its two slots
-pub record HasSlots (block : Block) (before items : List Item) (second : Item) : Type 0 where
-  pub first : Item
-  pub is : items ≡ before ++ Op (terminator block) ∷ [] ++ first ∷ [] ++ second ∷ []
-  pub first_fills : Fills block (before ++ Op (terminator block) ∷ []) first
-  pub second_fills : Fills block (before ++ Op (terminator block) ∷ [] ++ first ∷ []) second

@@ -5,7 +5,8 @@ ghost use Rattle.mx_depend.specs.Independence.{feeds};
 ghost use Rattle.mx_depend.specs.Graphs.{IsGraph, has_bit, inst_at};
 ghost use Rattle.mx_blocks.specs.Items.{StandsAt};
 ghost use Rattle.mx_validate.specs.Padded.{insts_of, body_count};
-ghost use Rattle.mx_reorg.specs.Greedy.{Stands, LeavesApart, IsReady, IsCandidate, IsBetter, Fills, AllStand, loads};
+ghost use Rattle.mx_reorg.specs.Greedy.{Stands, LeavesApart, IsReady, IsCandidate, Fills, AllStand, loads};
+ghost use Rattle.mx_reorg.specs.Making.{IsBetter};
 
 use mx_blocks::{Block, End, Item};
 use mx_depend::{Graph, feeds, with_bit};

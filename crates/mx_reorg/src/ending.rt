@@ -4,7 +4,8 @@ ghost use Rattle.mx_depend.specs.Graphs.{IsGraph};
 ghost use Rattle.mx_blocks.specs.Items.{StandsAt};
 ghost use Rattle.mx_validate.specs.Padded.{insts_of};
 ghost use Rattle.mx_validate.specs.Validity.{EndsWithoutLoad};
-ghost use Rattle.mx_reorg.specs.Greedy.{IsReady, MayEnd, RestFits, HasSlots, terminator};
+ghost use Rattle.mx_reorg.specs.Greedy.{IsReady, MayEnd, RestFits, terminator};
+ghost use Rattle.mx_reorg.specs.Making.{HasSlots};
 
 use crate::choosing::{all_stand, is_ready, loads, next_item, placed_in};
 use arrayvec::ArrayVec;
@@ -99,9 +100,8 @@ fn copy_of(before: &[Item]) -> ArrayVec<Item, 131>
     ensures { result.items ≡ before.now }
 {
     let mut items = ArrayVec::new();
-    for item in before {
-        items.push(*item);
-    }
+    // There is room for all of them.
+    let _copied = items.try_extend_from_slice(before);
     items
 }
 

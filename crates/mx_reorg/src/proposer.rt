@@ -4,7 +4,8 @@ ghost use Rattle.mx_blocks.specs.declared.block.Plan.{Plan};
 ghost use Rattle.mx_depend.specs.Graphs.{IsGraph};
 ghost use Rattle.mx_validate.specs.Padded.{insts_of};
 ghost use Rattle.mx_validate.specs.Validity.{Valid};
-ghost use Rattle.mx_reorg.specs.Greedy.{IsFront, IsGreedy};
+ghost use Rattle.mx_reorg.specs.Greedy.{IsGreedy};
+ghost use Rattle.mx_reorg.specs.Making.{IsFront};
 
 use crate::choosing::next_item;
 use crate::ending::{may_end, push_slots, push_terminator};

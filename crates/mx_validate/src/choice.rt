@@ -58,9 +58,8 @@ fn copy_of(plan: &Plan) -> Plan
     ensures { result ≡ plan.now }
 {
     let mut items = ArrayVec::new();
-    for item in plan.items.as_slice() {
-        items.push(*item);
-    }
+    // There is room for all of them, as there was in the plan.
+    let _copied = items.try_extend_from_slice(plan.items.as_slice());
     Plan {
         items,
         place: plan.place,

@@ -1,7 +1,7 @@
 use Rattle.std.proofs.Common.{◌≡◌, ℕ, ◌≤◌, sym, subst}
 use Rattle.mx_blocks.specs.declared.block.Item.TheVariants.{Op}
 use Rattle.mx_validate.specs.Padded.{insts_of}
-use Rattle.mx_reorg.specs.Greedy.{IsBetter}
+use Rattle.mx_reorg.specs.Making.{IsBetter}
 use Rattle.mx_reorg.proofs.Choices.{op_same, better_later, better_earlier}
 use Rattle.mx_reorg.proofs.choosing.better.Goals as goal
 

@@ -2,7 +2,8 @@ use Rattle.std.proofs.Common.{◌≡◌, Bool, true, false, List, sym, ap, ◌�
 use Rattle.std.specs.Prelude.{not}
 use Rattle.std.proofs.lemmas.Bool.{false≢true}
 use Rattle.mx_blocks.specs.declared.block.Item.{Item}
-use Rattle.mx_reorg.specs.Greedy.{HasSlots, AllStand}
+use Rattle.mx_reorg.specs.Greedy.{AllStand}
+use Rattle.mx_reorg.specs.Making.{HasSlots}
 use Rattle.mx_reorg.proofs.Choices.{heights_known}
 use Rattle.mx_reorg.proofs.Fronts.{rest_of_slots, slots_of_rest}
 use Rattle.mx_reorg.proofs.ending.rest_fits.Goals as goal

@@ -3,7 +3,8 @@ use Rattle.std.proofs.lemmas.Bool.{false≢true}
 use Rattle.mx_blocks.specs.declared.block.Item.{Item}
 use Rattle.mx_blocks.specs.Items.{StandsAt}
 use Rattle.mx_validate.specs.Padded.{insts_of, body_count}
-use Rattle.mx_reorg.specs.Greedy.{Fills, MayEnd, Grows}
+use Rattle.mx_reorg.specs.Greedy.{Fills, MayEnd}
+use Rattle.mx_reorg.specs.Making.{Grows}
 use Rattle.mx_reorg.proofs.Fronts.{grows_low, grows_none, grows_push}
 use Rattle.mx_reorg.proofs.Spent.{Cost, total, cost_none, cost_grows, short, few}
 use Rattle.mx_reorg.proofs.proposer.front_of.Goals as goal

@@ -1,6 +1,6 @@
 use Rattle.std.proofs.Common.{◌-◌, ◌≤◌, length}
 use Rattle.mx_validate.specs.Padded.{insts_of, body_count}
-use Rattle.mx_reorg.specs.Greedy.{Grows}
+use Rattle.mx_reorg.specs.Making.{Grows}
 use Rattle.mx_reorg.proofs.Spent.{Cost, total}
 use Rattle.mx_reorg.proofs.proposer.front_of.Given as goal
 
