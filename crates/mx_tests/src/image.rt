@@ -23,6 +23,13 @@ fn reads_and_writes_version_1(rt: HostRuntime) -> Result<(), Fail> {
             "{n} bytes"
         );
     }
+    let mut longer = bytes.clone()?;
+    longer.push(0)?;
+    let more = read_image(rt.alloc(), &longer);
+    assert!(rt;
+        more == Err(ImageError::Trailing { at: 28 }),
+        "one byte more"
+    );
     Ok(())
 }
 

@@ -68,6 +68,9 @@ fn a_sink_over_a_slice_fills_it(rt: HostRuntime) {
         assert_eq!(rt; sink.put(b""), Ok(0));
     }
     assert_eq!(rt; bytes.as_slice(), b"abcd".as_slice());
+    let mut more = *b"....";
+    assert_eq!(rt; SliceSink::new(&mut more).put(b"ab"), Ok(2));
+    assert_eq!(rt; more.as_slice(), b"ab..".as_slice());
 }
 
 #[test]
@@ -80,6 +83,24 @@ fn the_files_of_the_system_are_read_and_written(rt: HostRuntime) -> Result<(), F
     let over = shelf.read(rt.alloc(), name, 4).err();
     fs::remove_file(&rt, name)?;
     assert_eq!(rt; held.as_slice(), b"words".as_slice());
+    assert!(rt; over == Some(ShelfFault::TooLong));
+    Ok(())
+}
+
+// Its bytes are asked for in pieces.
+#[test]
+fn a_long_file_of_the_system_is_read_whole(rt: HostRuntime) -> Result<(), Fail> {
+    let name = "mx_io_long_file";
+    let mut bytes = Vec::new(rt.alloc());
+    for n in 0..10_001u32 {
+        bytes.push((n % 251) as u8)?;
+    }
+    let mut shelf = RealShelf::new(&rt);
+    shelf.write(name, &bytes)?;
+    let held = shelf.read(rt.alloc(), name, 10_001)?;
+    let over = shelf.read(rt.alloc(), name, 10_000).err();
+    fs::remove_file(&rt, name)?;
+    assert!(rt; held == bytes);
     assert!(rt; over == Some(ShelfFault::TooLong));
     Ok(())
 }

@@ -1,6 +1,7 @@
 //! The images of small programs.
 ghost use Rattle.std.specs.Prelude.{◌≤◌, length};
 
+use crate::turns::console_of;
 use arrayvec::ArrayVec;
 use mx_asm::assemble;
 use mx_blocks::{Block, End, Item, Plan};
@@ -176,6 +177,29 @@ impl Proposer for Reversed {
 }
 
 #[test]
+fn rejects_a_reversed_block_without_copies(rt: HostRuntime) -> Result<(), Fail> {
+    let source = source_of(rt.alloc(), COUNTS_DOWN)?;
+    let _few = source.statements();
+    let program = link_plain(rt.alloc(), &source, Place::board(), &mut Reversed)?;
+    let code = [
+        0xc004_0030,
+        0xc002_0033,
+        0x8802_00ff,
+        0xc043_ffff,
+        0x0844_fffe,
+        0x4000_0000,
+        0x4000_0000,
+        0xe000_0000,
+    ];
+    assert_eq!(rt; program.rejected, 1);
+    assert_eq!(rt; program.copies, 0);
+    assert!(rt; program.image.code.as_slice() == code.as_slice());
+    let console = console_of(rt.alloc(), &program.image.code, 1000)?;
+    assert_eq!(rt; console.as_str(), "321");
+    Ok(())
+}
+
+#[test]
 fn rejects_a_reversed_block(rt: HostRuntime) -> Result<(), Fail> {
     let source = source_of(rt.alloc(), COUNTS_DOWN)?;
     let program = linked_by(rt.alloc(), &source, &mut Reversed)?;
@@ -183,5 +207,7 @@ fn rejects_a_reversed_block(rt: HostRuntime) -> Result<(), Fail> {
     assert_eq!(rt; program.proposals.len(), 3);
     assert_eq!(rt; program.image.code.as_slice().first(), Some(&0xc004_0030));
     assert_eq!(rt; program.copies, 2);
+    let console = console_of(rt.alloc(), &program.image.code, 1000)?;
+    assert_eq!(rt; console.as_str(), "321");
     Ok(())
 }

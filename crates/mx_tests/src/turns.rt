@@ -106,6 +106,24 @@ fn told(
     Ok(text)
 }
 
+/// What a run without data and requests sends.
+pub(crate) fn console_of(alloc: Global, code: &[u32], budget: u32) -> Result<String, Fail> {
+    let mut machine = machine(alloc, code, &[])?;
+    Ok(drive(alloc, &mut machine, &[], budget)?)
+}
+
+/// The cycles in which an interrupt is taken.
+fn taken_in(alloc: Global, code: &[u32], requests: &[u32], budget: u32) -> Result<Vec<u32>, Fail> {
+    let mut machine = machine(alloc, code, &[])?;
+    let mut taken = Vec::new(alloc);
+    for cycle in 0..budget {
+        if machine.cycle(requests.contains(&cycle)).taken {
+            taken.push(cycle)?;
+        }
+    }
+    Ok(taken)
+}
+
 #[test]
 fn budgets_cut_a_run(rt: HostRuntime) -> Result<(), Fail> {
     let ten = told(rt.alloc(), &HELLO, &[], &[], 10)?;
@@ -129,6 +147,8 @@ fn interrupts_return_to_what_they_killed(rt: HostRuntime) -> Result<(), Fail> {
     // The request waits until ALU holds a word.
     let early = told(rt.alloc(), &HELLO, &[], &[0], 1000)?;
     assert_eq!(rt; early.as_str(), "32/15/62 0 1 48 0 0 0 1 H");
+    let cycles = taken_in(rt.alloc(), &HELLO, &[0], 1000)?;
+    assert_eq!(rt; cycles.as_slice(), [6].as_slice());
     // The halt comes first.
     let late = told(rt.alloc(), &HELLO, &[], &[11], 1000)?;
     assert_eq!(rt; late.as_str(), "6/3/12 0 0 48 0 0 0 0 H");
@@ -143,6 +163,11 @@ fn requests_in_every_cycle_are_taken_one_after_the_other(rt: HostRuntime) -> Res
     }
     let storm = told(rt.alloc(), &COUNTDOWN, &[], &requests, 1000)?;
     assert_eq!(rt; storm.as_str(), "225/18/261 1 8 30 30 0 0 8 321");
+    let cycles = taken_in(rt.alloc(), &COUNTDOWN, &requests, 1000)?;
+    assert_eq!(rt;
+        cycles.as_slice(),
+        [6, 56, 82, 108, 134, 160, 186, 212].as_slice()
+    );
     Ok(())
 }
 
@@ -176,6 +201,8 @@ fn multiplication_steps_survive_interrupts(rt: HostRuntime) -> Result<(), Fail> 
         interrupted.as_str(),
         "143/32/207 0 4 ffffffff 7 fffffff9 0 4 "
     );
+    let cycles = taken_in(rt.alloc(), &code, &TENS, 1000)?;
+    assert_eq!(rt; cycles.as_slice(), [10, 60, 86, 112].as_slice());
     Ok(())
 }
 
