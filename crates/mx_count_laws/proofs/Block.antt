@@ -28,7 +28,7 @@ use Rattle.mx_link_laws.proofs.Placing.{lay}
 use Rattle.mx_link_laws.proofs.OneBlock.{Entered, GoesOn, StopsAt, MovesOn, Transfers, did_of, body_done, front_plain, standing as stand_there}
 use Rattle.mx_link_laws.proofs.Transfers.{Lay, inner_of, front_of, ender_of, at_of, StandBehind}
 use Rattle.mx_link_laws.proofs.Setting.{Machine, Setting, machine_of}
-use Rattle.mx_count_laws.specs.Counts.{is_of}
+use Rattle.mx_passes.specs.Gathered.{is_of}
 use Rattle.mx_count_laws.proofs.Tally.{one, span, span_last, tally, tally_same, first_there, stretch, stretch_more, ends_tally}
 use Rattle.mx_count_laws.proofs.Marks.{Marked, marked_left, marked_right, marked_span, weigh}
 use Rattle.mx_count_laws.proofs.Weights.{weight, weight_append}

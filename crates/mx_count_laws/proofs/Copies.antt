@@ -18,7 +18,7 @@ use Rattle.mx_link_laws.proofs.Layouts.{Goal, goal_is, Standing, standing, setti
 use Rattle.mx_link_laws.proofs.Setting.{Known}
 use Rattle.mx_link_laws.proofs.Sited.{not_copied}
 use Rattle.mx_link_laws.proofs.Slots.{nop_is, at_most_two, counted, RoomForBoth, RoomForOne, room_cases, from_zero, from_second, from_first, from_both, linked_site, Slotted, slot_f, slot_g}
-use Rattle.mx_count_laws.specs.Counts.{is_of}
+use Rattle.mx_passes.specs.Gathered.{is_of}
 use Rattle.mx_count_laws.proofs.Tally.{one, span}
 use Rattle.mx_count_laws.proofs.Marks.{Marked, marked_at}
 use Rattle.mx_count_laws.proofs.Weights.{weight}

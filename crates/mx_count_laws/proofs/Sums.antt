@@ -7,7 +7,8 @@ use Rattle.mx_link.specs.declared.linked.Origin.{Origin}
 use Rattle.mx_link.specs.declared.linked.Origin.TheVariants.{Pad}
 use Rattle.mx_link_laws.specs.Runs.{Linking, linked_run}
 use Rattle.mx_passes.specs.Executions.{executes}
-use Rattle.mx_count_laws.specs.Counts.{is_of, executed, executed_from}
+use Rattle.mx_passes.specs.Gathered.{is_of, gathered}
+use Rattle.mx_count_laws.specs.Counts.{executed}
 use Rattle.mx_count_laws.proofs.Tally.{one, hits}
 use Rattle.mx_count_laws.proofs.Marks.{is_word_of}
 
@@ -90,11 +91,11 @@ one_hit q a os s =
     by_test false v w k e = refl
 
 module _ (l : Linking) (q : ℕ) where
-  none_yet : (a : ℕ) (os : List Origin) → executed_from l q 0 a os ≡ 0
+  none_yet : (a : ℕ) (os : List Origin) → gathered (executed l 0) q a os ≡ 0
   none_yet a [] = refl
   none_yet a (o ∷ os) = let rest = none_yet (suc a) os in let z = nothing (is_of q o) 0 refl in omega arith
 
-  one_step : (j a : ℕ) (os : List Origin) → executed_from l q (suc j) a os ≡ executed_from l q j a os + words_hit q a os (linked_run l j)
+  one_step : (j a : ℕ) (os : List Origin) → gathered (executed l (suc j)) q a os ≡ gathered (executed l j) q a os + words_hit q a os (linked_run l j)
   one_step j a [] = refl
   one_step j a (o ∷ os) =
       let rest = one_step j (suc a) os in
@@ -110,7 +111,7 @@ module _ (l : Linking) (q : ℕ) where
   steps_hit a os zero = 0
   steps_hit a os (suc j) = steps_hit a os j + one (hits (is_word_of a os q) (linked_run l j))
 
-  pub all_executed : (a : ℕ) (os : List Origin) (j : ℕ) → executed_from l q j a os ≡ steps_hit a os j
+  pub all_executed : (a : ℕ) (os : List Origin) (j : ℕ) → gathered (executed l j) q a os ≡ steps_hit a os j
   all_executed a os zero = none_yet a os
   all_executed a os (suc j) =
       let h = all_executed a os j in

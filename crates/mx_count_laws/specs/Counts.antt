@@ -1,31 +1,19 @@
 -- How often linked code executes the words of a statement, and how often the meaning of its source is at that statement.
-use Rattle.std.specs.Prelude.{ℕ, zero, suc, ◌+◌, Bool, false, cond, eqb, List, [], ◌∷◌}
+use Rattle.std.specs.Prelude.{ℕ, zero, suc, ◌+◌, Bool, false, cond, eqb}
 use Rattle.mx_source.specs.Meaning.{Mark, Going, given}
-use Rattle.mx_link.specs.declared.linked.Origin.{Origin}
-use Rattle.mx_link.specs.declared.linked.Origin.TheVariants.{Own, Copy, Pad}
 use Rattle.mx_link.specs.Origins.{origins_of}
 use Rattle.mx_link_laws.specs.Runs.{Linking, code_in, data_in}
 use Rattle.mx_link_laws.specs.Laws.{meant}
 use Rattle.mx_passes.specs.Executions.{executions}
-
--- a word is the statement's own or a copy of it
-abbrev pub is_of : ℕ → Origin → Bool
-is_of i (Own k) = eqb k i
-is_of i (Copy k) = eqb k i
-is_of i Pad = false
+use Rattle.mx_passes.specs.Gathered.{gathered}
 
 -- how many of the first j steps of linked code execute the word at an address
 abbrev pub executed : Linking → ℕ → ℕ → ℕ
 executed l j a = executions (code_in l) l.place (given l.source.input l.bytes) (data_in l) a j
 
--- how many execute a word of statement i, of words with these origins that stand from an address on
-abbrev pub executed_from : Linking → ℕ → ℕ → ℕ → List Origin → ℕ
-executed_from l i j a [] = 0
-executed_from l i j a (origin ∷ origins) = cond (is_of i origin) (executed l j a) 0 + executed_from l i j (suc a) origins
-
--- and of all words of linked code
+-- and how many a word of statement i
 abbrev pub statement_executed : Linking → ℕ → ℕ → ℕ
-statement_executed l i j = executed_from l i j l.place.code (origins_of l.filling l.sites)
+statement_executed l i j = gathered (executed l j) i l.place.code (origins_of l.filling l.sites)
 
 -- a run that stands so and is at a statement goes on with this one
 abbrev pub goes_on_with : ℕ → Mark → ℕ → Bool

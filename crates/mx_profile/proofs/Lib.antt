@@ -3,3 +3,4 @@ pub mod Counted
 pub mod Totals
 pub mod Charged
 pub mod Still
+pub mod Gathered

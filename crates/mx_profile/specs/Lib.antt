@@ -1,2 +1,3 @@
 pub mod Charges
 pub mod Tallies
+pub mod Lines

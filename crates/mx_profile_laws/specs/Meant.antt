@@ -1,0 +1,40 @@
+-- What the profile of a source's run counts of a statement, told by the source's meaning.
+use Rattle.std.specs.Prelude.{◌≡◌, ℕ, ◌+◌, ◌<◌, ◌≤◌, ◌^◌, true, List, length}
+use Rattle.mx_source.specs.SourceValue.{SourceValue}
+use Rattle.mx_source.specs.Meaning.{HaltsIn}
+use Rattle.mx_squash.specs.Copies.{Site}
+use Rattle.mx_link.specs.Origins.{from_target, origins_of}
+use Rattle.mx_link.specs.Linked.{linked_code}
+use Rattle.mx_meaning.specs.Boards.{board}
+use Rattle.mx_link_laws.specs.Runs.{IsLaid, Linking}
+use Rattle.mx_link_laws.specs.Matches.{block_ahead}
+use Rattle.mx_count_laws.specs.Counts.{visits}
+use Rattle.mx_end_to_end.specs.EndToEnd.{source_program, IsUnstuck}
+use Rattle.mx_profile.specs.declared.lines.LineCost.{LineCost}
+use Rattle.mx_profile.specs.declared.tally.Profile.{Profile}
+use Rattle.mx_profile.specs.Lines.{executed_of, CountsStatements}
+use Rattle.mx_profile.specs.Tallies.{IsProfile}
+
+-- a source that is linked at the board's place, with these bytes as its input
+abbrev pub linking_of : SourceValue → List Site → List ℕ → Linking
+linking_of source sites bytes = record { filling = from_target; source = source; place = board; sites = sites; bytes = bytes }
+
+-- the meaning halts within the budget, and each statement was executed as often as the meaning was at it
+pub record ProfiledAsMeant (source : SourceValue) (sites : List Site) (bytes : List ℕ) (budget : ℕ) (costs : List LineCost) : Type 0 where
+  pub statements : ℕ
+  pub few : statements ≤ budget
+  pub halts : HaltsIn source board bytes statements
+  pub counts : (i : ℕ) → i < length source.statements → executed_of costs i ≡ visits (linking_of source sites bytes) i statements
+
+-- So do the costs of the statements of a source, by the profile of its run under the shipped handler, where that has halted and the meaning is
+-- not stuck within 64 statements more than the budget has cycles.
+abbrev pub ProfileIsMeant : Type 0
+ProfileIsMeant =
+    (source : SourceValue) (sites : List Site) (requests bytes : List ℕ) (budget : ℕ) (profile : Profile) (costs : List LineCost)
+    → IsLaid source board sites
+    → budget < 2 ^ 64
+    → IsUnstuck source bytes (budget + block_ahead)
+    → IsProfile (source_program source sites bytes) requests (length (linked_code from_target source board sites)) budget profile
+    → CountsStatements (length source.statements) (origins_of from_target sites) profile.tally costs
+    → profile.halted ≡ true
+    → ProfiledAsMeant source sites bytes budget costs
