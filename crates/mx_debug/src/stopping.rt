@@ -3,6 +3,7 @@ ghost use Rattle.std.specs.Prelude.{◌≡◌, ◌≤◌, ◌<◌, ◌+◌, ◌+
 ghost use Rattle.std.specs.Int.{IsInRange};
 ghost use Rattle.std.specs.List.{range_with_len};
 ghost use Rattle.std.specs.Option.{option_to_list};
+ghost use Rattle.mx_isa.specs.declared.board.TheConstants.{DATA_BASE, DATA_END, LAST_ADDRESS};
 ghost use Rattle.mx_isa.specs.Words.{reg};
 ghost use Rattle.mx_turn.specs.Program.{Program, state_after, answer_after};
 ghost use Rattle.mx_turn.specs.Run.{bits, console_after};
@@ -82,7 +83,7 @@ fn registers_of<M: Machine>(machine: &M) -> [u32; 32]
 
 /// What is told of a stop.
 fn stop_of<M: Machine>(machine: &M, cycle: u32, bytes: u32, watch: u32) -> Stop
-    requires { watch < 65536 }
+    requires { watch < DATA_END }
     ensures { (p : Program) (h : List Bool) → M.stands machine.now p h
         → result ≡ stop_with cycle bytes watch (state_after p h).core }
 {
@@ -103,7 +104,7 @@ fn push_if_stop<M: Machine>(
     asked: &Asked,
     found: &mut Found,
 ) -> Result<(), AllocError>
-    requires watch { asked.now.watch < 65536 }
+    requires watch { asked.now.watch < DATA_END }
     requires short { length found.old.console.items < 2 ^ 32 }
     ensures console { OnOk result (found.new.console.items ≡ found.old.console.items) }
     ensures few { OnOk result (length found.new.stops.items ≤ length found.old.stops.items + 1) }
@@ -129,7 +130,7 @@ fn run_cycle<M: Machine>(
     found: &mut Found,
 ) -> Result<bool, AllocError>
     requires counted { M.cycles machine.old < 2 ^ 63 }
-    requires watch { asked.now.watch < 65536 }
+    requires watch { asked.now.watch < DATA_END }
     requires early { cycle < 2 ^ 31 }
     requires short { length found.old.console.items ≤ cycle }
     ensures halted { IfOk result (λ halted. (p : Program) → M.stands machine.old p (bits requests.now cycle) → halted ≡ (state_after p (bits requests.now (suc cycle))).halted) }
@@ -160,7 +161,7 @@ fn run_cycles<M: Machine>(
     found: &mut Found,
 ) -> Result<Ending, AllocError>
     requires start { M.cycles machine.old ≡ 0 }
-    requires watch { asked.now.watch < 65536 }
+    requires watch { asked.now.watch < DATA_END }
     requires limit { 1 ≤ limit }
     requires budget { budget ≤ 100000000 }
     requires console { found.old.console.items ≡ [] }
@@ -198,7 +199,7 @@ pub fn stops<M: Machine>(
     requires start { M.cycles machine.old ≡ 0 }
     requires address { address < 2 ^ 31 }
     requires limit { IsInRange 1 1000 limit }
-    requires watch { IsInRange 256 65535 watch }
+    requires watch { IsInRange DATA_BASE LAST_ADDRESS watch }
     requires budget { budget ≤ 100000000 }
     ensures stops { IfOk result (λ s. (p : Program) → M.stands machine.old p [] → s.stops.items ≡ stops_of (session p requests.now address limit watch budget)) }
     ensures console { IfOk result (λ s. (p : Program) → M.stands machine.old p [] → s.console.items ≡ console_of (session p requests.now address limit watch budget)) }

@@ -1,5 +1,6 @@
 -- What an image file keeps, as lists.
 use Rattle.std.specs.Prelude.{ℕ, ◌+◌, ◌≤◌, ◌<◌, ◌^◌, Bool, false, List, [], length, All}
+use Rattle.mx_isa.specs.declared.board.TheConstants.{CODE_BASE, MAX_CODE_WORDS, MAX_DATA_WORDS}
 use Rattle.mx_image.specs.declared.file.ImageFile.{ImageFile}
 
 -- code words, data words, whether the program asks for an input, and the link map
@@ -18,7 +19,7 @@ plain code user_data = record { code = code; user_data = user_data; input = fals
 
 -- a link is the address of a code word, or the one after the last
 abbrev pub IsLink : ℕ → ℕ → Type 0
-IsLink words link = (4096 ≤ link) × (link ≤ 4096 + words)
+IsLink words link = (CODE_BASE ≤ link) × (link ≤ CODE_BASE + words)
 
 -- at most 20,001 links
 pub record LinksFit (words : ℕ) (links : List ℕ) : Type 0 where
@@ -31,8 +32,8 @@ AreWords ws = All (λ w. w < 2 ^ 32) ws
 
 -- an image's words, within its limits
 pub record IsImage (code user_data : List ℕ) : Type 0 where
-  pub code_few : length code ≤ 60000
-  pub data_few : length user_data ≤ 65280
+  pub code_few : length code ≤ MAX_CODE_WORDS
+  pub data_few : length user_data ≤ MAX_DATA_WORDS
   pub code_words : AreWords code
   pub data_words : AreWords user_data
 

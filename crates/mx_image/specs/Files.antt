@@ -1,6 +1,7 @@
 -- The bytes of an image file, what bytes hold, and why bytes are no image file.
 use Rattle.std.specs.Prelude.{◌≡◌, ◌⊎◌, ℕ, ◌+◌, ◌*◌, Bool, true, false, ◌==◌, ◌||◌, nat_lt, nat_eq, if◌then◌else◌, List, [], ◌∷◌, ◌++◌, length, take, drop, Option, Some, None, position}
 use Rattle.std.specs.List.{starts_with}
+use Rattle.mx_isa.specs.declared.board.TheConstants.{CODE_BASE, MAX_CODE_WORDS, MAX_DATA_WORDS}
 use Rattle.mx_image.specs.declared.error.ImageError.{ImageError}
 use Rattle.mx_image.specs.declared.error.ImageError.TheVariants.{BadMagic, Truncated, BadRange, Trailing}
 use Rattle.mx_image.specs.Bytes.{words_bytes, number_at, numbers}
@@ -72,7 +73,7 @@ field_refusal at most bs = or_next (short_refusal (at + 4) bs) (if nat_lt most (
 
 -- a number that is no link
 abbrev pub is_outside : ℕ → ℕ → Bool
-is_outside words link = nat_lt link 4096 || nat_lt (4096 + words) link
+is_outside words link = nat_lt link CODE_BASE || nat_lt (CODE_BASE + words) link
 
 -- the place of the first number that is no link
 abbrev pub outside_refusal : ℕ → Option ℕ → Option ImageError
@@ -87,8 +88,8 @@ links_refusal bs = outside_refusal (links_offset bs) (position (is_outside (numb
 abbrev pub refusal_1 : List ℕ → Option ImageError
 refusal_1 bs =
     let end = 16 + 4 * (number_at 8 bs + number_at 12 bs) in
-    or_next (field_refusal 8 60000 bs)
-    (or_next (field_refusal 12 65280 bs)
+    or_next (field_refusal 8 MAX_CODE_WORDS bs)
+    (or_next (field_refusal 12 MAX_DATA_WORDS bs)
     (or_next (short_refusal end bs) (long_refusal end bs)))
 
 -- the first refusal of version 2 after the version
@@ -96,8 +97,8 @@ abbrev pub refusal_2 : List ℕ → Option ImageError
 refusal_2 bs =
     let end = links_offset bs + 4 * number_at 20 bs in
     or_next (field_refusal 8 1 bs)
-    (or_next (field_refusal 12 60000 bs)
-    (or_next (field_refusal 16 65280 bs)
+    (or_next (field_refusal 12 MAX_CODE_WORDS bs)
+    (or_next (field_refusal 16 MAX_DATA_WORDS bs)
     (or_next (field_refusal 20 20001 bs)
     (or_next (short_refusal end bs)
     (or_next (links_refusal bs) (long_refusal end bs))))))

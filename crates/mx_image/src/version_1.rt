@@ -1,5 +1,6 @@
 //! Version 1, an image alone: `MXIM`, then the version, the numbers of code and data words, and these words.
 ghost use Rattle.std.specs.Prelude.{◌≡◌, ◌≤◌, ◌+◌, ◌*◌, ◌⊎◌, ℕ, List, length, drop, Some, None, IfOk, MatchResult};
+ghost use Rattle.mx_isa.specs.declared.board.TheConstants.{MAX_CODE_WORDS, MAX_DATA_WORDS};
 ghost use Rattle.mx_image.specs.Bytes.{number_at, numbers};
 ghost use Rattle.mx_image.specs.Sizes.{SizesOf1};
 ghost use Rattle.mx_image.specs.Contents.{IsImage};
@@ -11,14 +12,15 @@ use crate::fields::{MAGIC, Sizes, check_head, check_long, check_short, field};
 use crate::words::{number_at, push_word, push_words, words_at};
 use mx_code::Image;
 use mx_io::Memory;
+use mx_isa::{MAX_CODE_WORDS, MAX_DATA_WORDS};
 use std::alloc::{AllocError, Global};
 
 /// The sizes that version 1 gives.
 fn sizes_1(bytes: &[u8]) -> Result<Sizes, ImageError>
     ensures { MatchResult result (SizesOf1 bytes.now) (λ e. refusal_1 bytes.now ≡ Some e) }
 {
-    let code = field(bytes, 8, 60_000)?;
-    let user_data = field(bytes, 12, 65_280)?;
+    let code = field(bytes, 8, MAX_CODE_WORDS as u32)?;
+    let user_data = field(bytes, 12, MAX_DATA_WORDS as u32)?;
     let end = 16 + 4 * (code + user_data);
     check_short(bytes, end)?;
     check_long(bytes, end)?;
@@ -31,8 +33,8 @@ fn sizes_1(bytes: &[u8]) -> Result<Sizes, ImageError>
 
 /// The image of the words from an offset on.
 pub fn image_at(alloc: Global, bytes: &[u8], at: usize, sizes: Sizes) -> Result<Image, AllocError>
-    requires code { sizes.code ≤ 60000 }
-    requires user_data { sizes.user_data ≤ 65280 }
+    requires code { sizes.code ≤ MAX_CODE_WORDS }
+    requires user_data { sizes.user_data ≤ MAX_DATA_WORDS }
     requires whole { at + 4 * (sizes.code + sizes.user_data) ≤ length bytes.now }
     ensures code { IfOk result (λ image. image.code.items ≡ numbers sizes.code (drop at bytes.now)) }
     ensures user_data { IfOk result (λ image. image.user_data.items ≡ numbers sizes.user_data (drop (at + 4 * sizes.code) bytes.now)) }

@@ -1,6 +1,7 @@
 //! Version 2, an image with the flag of the input and the link map: `MXIM`, then the version, the flag, the numbers of code
 //! words, data words and links, and these.
 ghost use Rattle.std.specs.Prelude.{◌≡◌, ◌≤◌, ◌+◌, ◌*◌, ◌⊎◌, ℕ, List, length, drop, Some, None, IfOk, MatchResult, position};
+ghost use Rattle.mx_isa.specs.declared.board.TheConstants.{MAX_CODE_WORDS};
 ghost use Rattle.mx_image.specs.Bytes.{number_at, numbers};
 ghost use Rattle.mx_image.specs.Sizes.{SizesOf2};
 ghost use Rattle.mx_image.specs.Contents.{Contents, contents_of, plain, LinksFit, IsImage, IsFile};
@@ -12,6 +13,7 @@ use crate::version_1::{image_at, read_1};
 use crate::words::{number_at, push_word, push_words, words_at};
 use crate::{ImageError, ImageFile};
 use mx_io::Memory;
+use mx_isa::{CODE_BASE, MAX_CODE_WORDS, MAX_DATA_WORDS};
 use std::alloc::{AllocError, Global};
 
 /// The flag and the sizes that version 2 gives; what its links are and what follows them is not looked at.
@@ -19,8 +21,8 @@ fn sizes_2(bytes: &[u8]) -> Result<Sizes, ImageError>
     ensures { MatchResult result (SizesOf2 bytes.now) (λ e. refusal_2 bytes.now ≡ Some e) }
 {
     field(bytes, 8, 1)?;
-    let code = field(bytes, 12, 60_000)?;
-    let user_data = field(bytes, 16, 65_280)?;
+    let code = field(bytes, 12, MAX_CODE_WORDS as u32)?;
+    let user_data = field(bytes, 16, MAX_DATA_WORDS as u32)?;
     let links = field(bytes, 20, 20_001)?;
     check_short(bytes, 24 + 4 * (code + user_data) + 4 * links)?;
     Ok(Sizes {
@@ -32,17 +34,19 @@ fn sizes_2(bytes: &[u8]) -> Result<Sizes, ImageError>
 
 /// The place of the first number that is the address of no code word and not the one after the last.
 fn first_outside(words: usize, links: &[u32]) -> Option<usize>
-    requires { words ≤ 60000 }
+    requires { words ≤ MAX_CODE_WORDS }
     ensures { result ≡ position (is_outside words) links.now }
 {
-    let last = 4096 + words as u32;
-    links.iter().position(|link| *link < 4096 || last < *link)
+    let last = CODE_BASE + words as u32;
+    links
+        .iter()
+        .position(|link| *link < CODE_BASE || last < *link)
 }
 
 /// Refuses a link that is outside.
 fn check_links(from: usize, words: usize, links: &[u32]) -> Result<(), ImageError>
     requires from { from ≤ 600000 }
-    requires words { words ≤ 60000 }
+    requires words { words ≤ MAX_CODE_WORDS }
     requires links { length links.now ≤ 20001 }
     ensures { MatchResult result (λ _. outside_refusal from (position (is_outside words) links.now) ≡ None) (λ e. outside_refusal from (position (is_outside words) links.now) ≡ Some e) }
 {

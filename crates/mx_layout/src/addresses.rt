@@ -1,5 +1,6 @@
 //! Sizes of blocks, and the addresses at which they stand.
 ghost use Rattle.std.specs.Prelude.{◌≡◌, ◌≤◌, ◌+◌, ◌++◌, map, replicate, sum, IfOk, OnOk, length};
+ghost use Rattle.mx_isa.specs.declared.board.TheConstants.{LAST_ADDRESS};
 ghost use Rattle.mx_layout.specs.Layout.{plan_size};
 ghost use Rattle.mx_layout.specs.Overlong.{padded_size};
 ghost use Rattle.mx_layout.specs.Addresses.{starts_from, statement_starts};
@@ -38,7 +39,7 @@ fn plan_size(plan: &Plan) -> u32
 
 /// The address of each block's first word, where blocks of these sizes stand from an address on.
 pub(crate) fn starts_of(alloc: Global, first: u32, sizes: &[u32]) -> Result<Vec<u32>, AllocError>
-    requires { first + sum sizes.now ≤ 65535 }
+    requires { first + sum sizes.now ≤ LAST_ADDRESS }
     ensures { IfOk result (λ starts. starts.items ≡ starts_from first sizes.now) }
 {
     let mut starts = Vec::new(alloc);
@@ -59,7 +60,7 @@ pub(crate) fn links_of(
     sizes: &[u32],
 ) -> Result<Vec<u32>, AllocError>
     requires sizes { length sizes.now ≡ length blocks.now }
-    requires room { first + sum sizes.now ≤ 65535 }
+    requires room { first + sum sizes.now ≤ LAST_ADDRESS }
     ensures { IfOk result (λ links. links.items ≡ statement_starts first blocks.now sizes.now) }
 {
     let mut links = Vec::new(alloc);

@@ -1,5 +1,6 @@
 //! The layout of a source.
 ghost use Rattle.std.specs.Prelude.{◌≡◌, ◌≤◌, ◌+◌, ◌*◌, ℕ, true, None, Some, All, IfOk, IfErr, length, slice_index};
+ghost use Rattle.mx_isa.specs.declared.board.TheConstants.{LAST_ADDRESS};
 ghost use Rattle.mx_validate.specs.Validity.{Valid};
 ghost use Rattle.mx_squash.specs.Copies.{Site, sites, reaches};
 ghost use Rattle.mx_layout.specs.Layout.{IsLayout, link_of, end_of};
@@ -44,7 +45,7 @@ pub fn lay_out<P: Proposer>(
     place: Place,
     proposer: &mut P,
 ) -> Result<Layout, LinkError>
-    requires { place.code + 3 * length source.now.statements ≤ 65535 }
+    requires { place.code + 3 * length source.now.statements ≤ LAST_ADDRESS }
     ensures plans { IfOk result (λ l. length l.plans.items ≡ length l.blocks.items) }
     ensures starts { IfOk result (λ l. length l.starts.items ≡ length l.blocks.items) }
     ensures layout { IfOk result (λ l. IsLayout Valid source.now place (sites l.blocks.items l.plans.items l.starts.items)) }

@@ -1,5 +1,6 @@
 //! Whether each branch reaches its target, had each block its padded plan.
 ghost use Rattle.std.specs.Prelude.{◌≡◌, ◌≤◌, ◌<◌, ◌+◌, ◌*◌, ◌^◌, ℕ, None, OnOk, IfErr, map, sum, length, slice_index};
+ghost use Rattle.mx_isa.specs.declared.board.TheConstants.{LAST_ADDRESS};
 ghost use Rattle.mx_source.specs.SourceValue.{IsSource};
 ghost use Rattle.mx_blocks.specs.Leaders.{AreBlocks, IsBlockOf};
 ghost use Rattle.mx_layout.specs.Overlong.{padded_link, padded_size, branch_target, overlong_to, overlong_from, IsReported};
@@ -21,7 +22,7 @@ pub(crate) fn check_reach(
     blocks: &[Block],
 ) -> Result<(), LinkError>
     requires blocks { AreBlocks source.now blocks.now }
-    requires room { first + 3 * length source.now.statements ≤ 65535 }
+    requires room { first + 3 * length source.now.statements ≤ LAST_ADDRESS }
     ensures reached { OnOk result (overlong_from source.now (padded_link first blocks.now) first blocks.now ≡ None) }
     ensures refused { IfErr result (IsReported (overlong_from source.now (padded_link first blocks.now) first blocks.now)) }
 {
@@ -40,7 +41,7 @@ fn check_branches(
 ) -> Result<(), LinkError>
     requires blocks { AreBlocks source.now blocks.now }
     requires sizes { sizes.now ≡ map padded_size blocks.now }
-    requires room { first + sum sizes.now ≤ 65535 }
+    requires room { first + sum sizes.now ≤ LAST_ADDRESS }
     requires count { length source.now.statements < length links.now }
     requires links { (i : ℕ) → i ≤ length source.now.statements → slice_index links.now i ≡ padded_link first blocks.now i }
     ensures reached { OnOk result (overlong_from source.now (padded_link first blocks.now) first blocks.now ≡ None) }
@@ -57,7 +58,7 @@ fn check_branches(
 /// Refuses the branch at the end of a block that begins at an address, if it does not reach its target by the link map.
 fn check_branch(source: &Source, at: u32, block: &Block, links: &[u32]) -> Result<(), LinkError>
     requires block { IsBlockOf source.now block.now }
-    requires at { at ≤ 65535 }
+    requires at { at ≤ LAST_ADDRESS }
     requires count { length source.now.statements < length links.now }
     ensures source { IsSource source.now }
     ensures reached { OnOk result (overlong_to source.now (slice_index links.now) at block.now (branch_target block.now.end) ≡ None) }

@@ -1,5 +1,6 @@
 -- What linking works with: a source that is laid out, the words of one block, and what fills its slots.
 use Rattle.std.specs.Prelude.{◌≡◌, ℕ, ◌+◌, ◌*◌, ◌≤◌, true, List, length, map, All, Some, slice_get, slice_index}
+use Rattle.mx_isa.specs.declared.board.TheConstants.{LAST_ADDRESS}
 use Rattle.mx_isa.specs.declared.Place.{Place}
 use Rattle.mx_isa.specs.declared.Inst.{Inst}
 use Rattle.mx_isa.specs.Fields.{InstFits}
@@ -51,7 +52,7 @@ pub record IsLaidOut (source : SourceValue) (l : Layout) : Type 0 where
   pub links : (i : ℕ) → i ≤ length source.statements → link_in l i ≡ link_of place.code (sites_of l) i
   pub short : end_of place.code (sites_of l) ≤ place.code + 3 * length source.statements
   pub reach : Reach place (sites_of l)
-  pub room : place.code + 3 * length source.statements ≤ 65535
+  pub room : place.code + 3 * length source.statements ≤ LAST_ADDRESS
 
 -- where the word at place p of a site's plan comes from, with copies
 abbrev pub origin_at : Site → Copied → ℕ → Item → Origin

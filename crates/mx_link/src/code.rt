@@ -1,5 +1,6 @@
 //! The code of a source that is laid out.
 ghost use Rattle.std.specs.Prelude.{◌≡◌, ◌<◌, ◌≤◌, ◌+◌, ◌++◌, ◌∷◌, [], ℕ, length, Some, All, IfOk, OnOk, slice_get, slice_index};
+ghost use Rattle.mx_isa.specs.declared.board.TheConstants.{LAST_ADDRESS, MAX_STATEMENTS};
 ghost use Rattle.mx_isa.specs.Fields.{InstFits};
 ghost use Rattle.mx_code.specs.Codes.{word_of_row, HasRegisters};
 ghost use Rattle.mx_source.specs.Statements.{StatementFits};
@@ -60,10 +61,10 @@ fn push_block(
     copied: &Copied,
 ) -> Result<(), AllocError>
     requires fit { All (StatementFits (λ i. i < length links.now)) statements.now }
-    requires short { All (λ link. link ≤ 65535) links.now }
-    requires within { start + length (items_of plan.now) ≤ 65535 }
-    requires first { block.now.first ≤ 20000 }
-    requires goal { goal_of block.now.end ≤ 20000 }
+    requires short { All (λ link. link ≤ LAST_ADDRESS) links.now }
+    requires within { start + length (items_of plan.now) ≤ LAST_ADDRESS }
+    requires first { block.now.first ≤ MAX_STATEMENTS }
+    requires goal { goal_of block.now.end ≤ MAX_STATEMENTS }
     requires fits { HasWords (slice_index links.now) statements.now
         (site block.now plan.now start) copied.now }
     ensures words { OnOk result (code.new.words.items ≡ code.old.words.items
@@ -88,7 +89,7 @@ fn copied_at(layout: &Layout, k: usize, slots: Slots) -> Copied
     requires plans { length layout.now.plans.items ≡ length layout.now.blocks.items }
     requires starts { length layout.now.starts.items ≡ length layout.now.blocks.items }
     requires blocks { AreOfOneSource layout.now.blocks.items }
-    requires few { length layout.now.blocks.items ≤ 20000 }
+    requires few { length layout.now.blocks.items ≤ MAX_STATEMENTS }
     ensures { (s : Site) → slice_get (sites_of layout.now) k ≡ Some s
         → result ≡ filling_of slots (sites_of layout.now) s }
 {

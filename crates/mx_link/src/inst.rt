@@ -1,5 +1,6 @@
 //! Linked instructions.
 ghost use Rattle.std.specs.Prelude.{◌≡◌, ◌≤◌, ◌<◌, ◌^◌, length, All, slice_get, slice_index};
+ghost use Rattle.mx_isa.specs.declared.board.TheConstants.{LAST_ADDRESS};
 ghost use Rattle.mx_source.specs.Statements.{StatementFits};
 ghost use Rattle.mx_squash.specs.Copies.{no_copies};
 ghost use Rattle.mx_link.specs.Words.{displacement, linked_inst, linked_statement, inst_at};
@@ -34,8 +35,8 @@ pub(crate) fn no_copies() -> Copied
 /// The instruction of a statement that stands at an address.
 fn linked_inst(statement: &Statement, links: &[u32], copied: &Copied, at: u32) -> Inst
     requires fits { StatementFits (λ i. i < length links.now) statement.now }
-    requires short { All (λ link. link ≤ 65535) links.now }
-    requires at { at ≤ 65535 }
+    requires short { All (λ link. link ≤ LAST_ADDRESS) links.now }
+    requires at { at ≤ LAST_ADDRESS }
     ensures { result ≡ linked_inst (slice_index links.now) copied.now at statement.now }
 {
     match *statement {
@@ -70,8 +71,8 @@ fn linked_inst(statement: &Statement, links: &[u32], copied: &Copied, at: u32) -
 /// The instruction of statement `i` that stands at an address.
 fn linked_at(statements: &[Statement], i: u32, links: &[u32], copied: &Copied, at: u32) -> Inst
     requires fit { All (StatementFits (λ i. i < length links.now)) statements.now }
-    requires short { All (λ link. link ≤ 65535) links.now }
-    requires at { at ≤ 65535 }
+    requires short { All (λ link. link ≤ LAST_ADDRESS) links.now }
+    requires at { at ≤ LAST_ADDRESS }
     ensures { result ≡ linked_statement (slice_index links.now) copied.now at (slice_get statements.now i) }
 {
     match statements.get(i as usize) {
@@ -89,8 +90,8 @@ pub(crate) fn inst_at(
     origin: Origin,
 ) -> Inst
     requires fit { All (StatementFits (λ i. i < length links.now)) statements.now }
-    requires short { All (λ link. link ≤ 65535) links.now }
-    requires at { at ≤ 65535 }
+    requires short { All (λ link. link ≤ LAST_ADDRESS) links.now }
+    requires at { at ≤ LAST_ADDRESS }
     ensures { result ≡ inst_at (slice_index links.now) statements.now copied.now at origin }
 {
     match origin {

@@ -1,5 +1,6 @@
 //! Linking.
 ghost use Rattle.std.specs.Prelude.{◌≡◌, ◌≤◌, ◌<◌, ◌+◌, ◌*◌, All, IfOk, IfErr, OnOk, length, slice_index};
+ghost use Rattle.mx_isa.specs.declared.board.TheConstants.{LAST_ADDRESS, MAX_CODE_WORDS};
 ghost use Rattle.mx_source.specs.Statements.{ValueFits};
 ghost use Rattle.mx_source.specs.SourceValue.{IsSource};
 ghost use Rattle.mx_layout.specs.Overlong.{IsRefusal};
@@ -32,7 +33,7 @@ pub fn link<P: Proposer>(
     place: Place,
     proposer: &mut P,
 ) -> Result<Linked, LinkError>
-    requires { place.code + 3 * length source.now.statements ≤ 65535 }
+    requires { place.code + 3 * length source.now.statements ≤ LAST_ADDRESS }
     ensures linked { IfOk result (IsLinked P.proposes from_target source.now place) }
     ensures registers { OnOk result (HaveRegisters source.now.statements) }
     ensures refused { IfErr result (IsRefusal P.proposes source.now place) }
@@ -51,7 +52,7 @@ pub fn link_plain<P: Proposer>(
     place: Place,
     proposer: &mut P,
 ) -> Result<Linked, LinkError>
-    requires { place.code + 3 * length source.now.statements ≤ 65535 }
+    requires { place.code + 3 * length source.now.statements ≤ LAST_ADDRESS }
     ensures linked { IfOk result (IsLinked P.proposes from_nowhere source.now place) }
     ensures registers { OnOk result (HaveRegisters source.now.statements) }
     ensures refused { IfErr result (IsRefusal P.proposes source.now place) }
@@ -67,7 +68,7 @@ fn link_with<P: Proposer>(
     proposer: &mut P,
     slots: Slots,
 ) -> Result<Linked, LinkError>
-    requires { place.code + 3 * length source.now.statements ≤ 65535 }
+    requires { place.code + 3 * length source.now.statements ≤ LAST_ADDRESS }
     ensures linked { IfOk result (IsLinked P.proposes (filling_of slots) source.now place) }
     ensures registers { OnOk result (HaveRegisters source.now.statements) }
     ensures refused { IfErr result (IsRefusal P.proposes source.now place) }
@@ -151,7 +152,7 @@ fn words_of(alloc: Global, links: &[u32], values: &[Value]) -> Result<Vec<u32>, 
 
 /// How many code words are the no-op.
 fn noops_in(code: &[u32]) -> u32
-    requires { length code.now ≤ 60000 }
+    requires { length code.now ≤ MAX_CODE_WORDS }
     ensures { result ≡ noops_in code.now }
 {
     mx_code::noops_in(code) as u32
@@ -159,7 +160,7 @@ fn noops_in(code: &[u32]) -> u32
 
 /// How many words are copies.
 fn copies_in(origin: &[Origin]) -> u32
-    requires { length origin.now ≤ 60000 }
+    requires { length origin.now ≤ MAX_CODE_WORDS }
     ensures { result ≡ copies_in origin.now }
 {
     origin

@@ -1,5 +1,6 @@
 //! Where the words of a block come from.
 ghost use Rattle.std.specs.Prelude.{◌≡◌, ◌<◌, ◌≤◌, ◌+◌};
+ghost use Rattle.mx_isa.specs.declared.board.TheConstants.{MAX_STATEMENTS};
 ghost use Rattle.mx_link.specs.Origins.{goal_of, own, over, copied_to};
 
 use crate::Origin;
@@ -19,7 +20,7 @@ fn goal_of(end: End) -> u32
 
 /// An item of the block that begins at a statement.
 fn own(first: u32, item: Item) -> Origin
-    requires { first ≤ 20000 }
+    requires { first ≤ MAX_STATEMENTS }
     ensures { result ≡ own first item }
 {
     match item {
@@ -30,7 +31,7 @@ fn own(first: u32, item: Item) -> Origin
 
 /// An item that is copied from the block that begins at a statement, over what its slot holds.
 fn over(goal: u32, item: Item, kept: Origin) -> Origin
-    requires { goal ≤ 20000 }
+    requires { goal ≤ MAX_STATEMENTS }
     ensures { result ≡ over goal item kept }
 {
     match item {
@@ -56,8 +57,8 @@ fn copied_to(copied: &Copied, place: u8, p: usize) -> Item
 
 /// Where the word at place `p` of a block's plan comes from.
 pub(crate) fn origin_at(block: &Block, plan: &Plan, copied: &Copied, p: usize, item: Item) -> Origin
-    requires first { block.now.first ≤ 20000 }
-    requires goal { goal_of block.now.end ≤ 20000 }
+    requires first { block.now.first ≤ MAX_STATEMENTS }
+    requires goal { goal_of block.now.end ≤ MAX_STATEMENTS }
     ensures { result ≡ over (goal_of block.now.end) (copied_to copied.now plan.now.place p) (own block.now.first item) }
 {
     over(

@@ -1,6 +1,7 @@
 //! The text of a meaning.
 ghost use Rattle.std.specs.Prelude.{◌≡◌, ◌≤◌, ◌+◌, ◌++◌, ◌∷◌, codes, length, OnOk, IfOk, slice_index};
 ghost use Rattle.std.specs.Fmt.{decimal};
+ghost use Rattle.mx_io.specs.declared.limits.TheConstants.{MAX_FILE_BYTES};
 ghost use Rattle.mx_isa.specs.declared.Place.{Place};
 ghost use Rattle.mx_source.specs.Values.{value_in};
 ghost use Rattle.mx_source.specs.Meaning.{State, Run};
@@ -181,7 +182,7 @@ pub fn meaning_reply(
     input: &[u8],
     steps: u32,
 ) -> Result<Reply, Memory>
-    requires { length input.now ≤ 1048576 }
+    requires { length input.now ≤ MAX_FILE_BYTES }
     ensures { IfOk result (λ r. reply_answer r ≡ meaning_answer source.now board input.now steps) }
 {
     let lines = source.lines();

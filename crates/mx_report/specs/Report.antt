@@ -1,5 +1,6 @@
 -- The report of a run.
 use Rattle.std.specs.Prelude.{ℕ, ◌-◌, min, Bool, cond, List, [], ◌++◌, length, codes, Option, Some, None}
+use Rattle.mx_isa.specs.declared.board.TheConstants.{DATA_END}
 use Rattle.mx_isa.specs.Words.{Words, reg}
 use Rattle.mx_isa.specs.Effect.{Core}
 use Rattle.mx_code.specs.NoOps.{noops_in}
@@ -23,7 +24,7 @@ registers_text core =
 -- the words of a dump, which end at 65535
 abbrev pub dump_text : Words → Option Dump → List ℕ
 dump_text mem None = []
-dump_text mem (Some dump) = line (codes "data") ++ lines_from (λ a. word_line a (mem a)) (min dump.count (65536 - dump.at)) dump.at
+dump_text mem (Some dump) = line (codes "data") ++ lines_from (λ a. word_line a (mem a)) (min dump.count (DATA_END - dump.at)) dump.at
 
 -- what a halt adds
 abbrev pub last_text : Bool → Core → Option Dump → List ℕ

@@ -1,6 +1,7 @@
 //! The report of a run.
 ghost use Rattle.std.specs.Prelude.{◌≡◌, ◌≤◌, ◌<◌, ◌+◌, ◌-◌, ◌++◌, List, ℕ, Bool, OnOk, IfOk, codes, cond, min, ◌∷◌};
 ghost use Rattle.std.specs.Fmt.{decimal};
+ghost use Rattle.mx_isa.specs.declared.board.TheConstants.{DATA_END};
 ghost use Rattle.mx_isa.specs.Words.{reg};
 ghost use Rattle.mx_text.specs.Text.{word_text, line, named_line, count_line, register_line, lines_from, word_line, console_lines};
 ghost use Rattle.mx_turn.specs.Program.{Program, state_after};
@@ -9,7 +10,7 @@ ghost use Rattle.mx_report.specs.Report.{counts_text, words_text, registers_text
 use crate::Driven;
 use mx_code::{Image, noops_in};
 use mx_io::Memory;
-use mx_isa::Reg;
+use mx_isa::{DATA_END, Reg};
 use mx_text::{
     push_console, push_count, push_line, push_named, push_register, push_word, push_word_line,
 };
@@ -92,7 +93,7 @@ fn push_data_words<M: Machine>(
     from: u32,
     to: u32,
 ) -> Result<(), AllocError>
-    requires { to ≤ 65536 }
+    requires { to ≤ DATA_END }
     ensures { OnOk result ((p : Program) (h : List Bool) → M.stands machine.now p h
         → text.new.items ≡ text.old.items ++ lines_from (λ a. word_line a ((state_after p h).core.mem a)) (to - from) from) }
 {
@@ -104,11 +105,11 @@ fn push_data_words<M: Machine>(
 
 // Where the dump ends.
 fn end_of(dump: &Dump) -> u32
-    ensures end { result - dump.now.at ≡ min dump.now.count (65536 - dump.now.at) }
-    ensures within { result ≤ 65536 }
+    ensures end { result - dump.now.at ≡ min dump.now.count (DATA_END - dump.now.at) }
+    ensures within { result ≤ DATA_END }
 {
     let end = u64::from(dump.at) + u64::from(dump.count);
-    end.min(65_536) as u32
+    end.min(u64::from(DATA_END)) as u32
 }
 
 // Appends the words of a dump, if one is asked for.
