@@ -12,6 +12,10 @@ pub sum_none : (f : ℕ → ℕ) (n : ℕ) → ((k : ℕ) → k < n → f k ≡ 
 sum_none f zero none = refl
 sum_none f (suc n) none = let rest = sum_none f n (λ k l. none k (omega arith)) in let last = none n (omega arith) in omega arith
 
+pub sum_same : (f g : ℕ → ℕ) (n : ℕ) → ((k : ℕ) → k < n → f k ≡ g k) → sum_below f n ≡ sum_below g n
+sum_same f g zero same = refl
+sum_same f g (suc n) same = let rest = sum_same f g n (λ k l. same k (omega arith)) in let last = same n (omega arith) in omega arith
+
 off : (b : Bool) (i w k : ℕ) → (i ≡ k → ⊥) → cond (b && eqb i k) w 0 ≡ 0
 off b i w k ne = grind (arith, nat_tests)
 

@@ -1,13 +1,15 @@
 //! What each word of the code costs in a run, and the same by the lines of its source.
 #![tactic(auto)]
 
+mod by_line;
 mod laws;
 mod lines;
 mod running;
 mod tally;
 mod text;
 
-pub use laws::sums_are_counts;
+pub use by_line::costs_by_line;
+pub use laws::{lines_follow_statements, sums_are_counts};
 pub use lines::{LineCost, line_costs};
 pub use running::profile;
 pub use tally::{Profile, Tally};

@@ -78,8 +78,8 @@ pub(crate) fn cost_at(tally: &Tally, place: usize) -> LineCost {
     }
 }
 
-/// Adds to the cost of a statement.
-fn add(costs: &mut Vec<LineCost>, statement: u32, cost: LineCost)
+/// Adds to the cost of a statement, or of a line.
+pub(crate) fn add(costs: &mut Vec<LineCost>, statement: u32, cost: LineCost)
     ensures size { length costs.new.items ≡ length costs.old.items }
     ensures executed { (i n : ℕ) → i < length costs.old.items → executed_of costs.old.items i ≡ saturated n
         → executed_of costs.new.items i ≡ saturated (n + cond (eqb statement i) cost.executed 0) }

@@ -1,5 +1,8 @@
 //! The profile of a run as a text.
+ghost use Rattle.std.specs.Prelude.{◌≡◌};
+ghost use Rattle.mx_profile.specs.Lines.{saturated, executed_together};
 
+use crate::by_line::costs_by_line;
 use crate::lines::{LineCost, NO_COST, cost_at, line_costs};
 use crate::tally::{Profile, Tally};
 use mx_link::{Linked, Origin};
@@ -72,11 +75,13 @@ fn copies_to(copies: &[(u32, u32)], from: usize, statement: usize) -> usize {
     copies.len()
 }
 
-/// The cost of the statements from one index up to another.
-fn cost_between(costs: &[LineCost], from: usize, to: usize) -> LineCost {
+/// All costs together.
+fn total(costs: &[LineCost]) -> LineCost
+    ensures { result.executed ≡ saturated (executed_together costs.now) }
+{
     let mut sum = NO_COST;
-    for at in from..to.min(costs.len()) {
-        sum = sum.plus(costs[at]);
+    for cost in costs {
+        sum = sum.plus(*cost);
     }
     sum
 }
@@ -133,7 +138,7 @@ fn push_lines(
     text: &mut Vec<u8>,
     source_text: &[u8],
     lines: &[u32],
-    costs: &[LineCost],
+    sums: &[LineCost],
     copies: &[(u32, u32)],
 ) -> Result<(), AllocError> {
     let mut statement = 0;
@@ -143,7 +148,7 @@ fn push_lines(
         number = number.saturating_add(1);
         let next = statements_to(lines, statement, number);
         let cost = if statement < next {
-            Some(cost_between(costs, statement, next))
+            sums.get(number as usize).copied()
         } else {
             None
         };
@@ -166,7 +171,7 @@ fn push_rest(
 ) -> Result<u64, AllocError> {
     let handler = cost_at(tally, words);
     let behind = cost_at(tally, words.saturating_add(1));
-    let lines = cost_between(costs, 0, costs.len());
+    let lines = total(costs);
     push_named_cost(alloc, text, handler, "the handler")?;
     push_named_cost(alloc, text, behind, "behind the code")?;
     push_named_cost(alloc, text, lines.plus(handler).plus(behind), "together")?;
@@ -202,6 +207,7 @@ pub fn profile_text(
     let origin = linked.origin.as_slice();
     let statements = source.statements().len();
     let costs = line_costs(alloc, statements, origin, &profile.tally)?;
+    let sums = costs_by_line(alloc, source.lines(), costs.as_slice())?;
     let copies = copies_in(alloc, origin)?;
     let mut text = Vec::new(alloc);
     text.extend_from_slice(HEAD.as_bytes())?;
@@ -210,7 +216,7 @@ pub fn profile_text(
         &mut text,
         source_text,
         source.lines(),
-        costs.as_slice(),
+        sums.as_slice(),
         copies.as_slice(),
     )?;
     let words = linked.image.code.len();
