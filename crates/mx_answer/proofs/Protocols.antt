@@ -75,8 +75,10 @@ fault_status shelf kind name before after given (inr (is, why)) = ap (λ a. a.st
 pub status_is : (shelf : Told) (p : Protocol) (before after : Counts) (given : Answer) → HasOwnAnswers p → Performed shelf p before after given
     → (is_own given.status ≡ true) ⊎ (given.status ≡ ReadFault)
 status_is shelf (Answers answer) before after given own (same, is) = inl (ap (λ a. is_own a.status) is ∙ own.status)
-status_is shelf (Reads kind name next) before after given own (between, read, inl (same, faulty)) = inr (fault_status shelf kind name before between given faulty)
-status_is shelf (Reads kind name next) before after given own (between, read, inr (bytes, found, rest)) = status_is shelf (next bytes) between after given (own bytes) rest
+status_is shelf (Reads kind name next) before after given own (between, read, inl (same, faulty)) =
+    inr (fault_status shelf kind name before between given faulty)
+status_is shelf (Reads kind name next) before after given own (between, read, inr (bytes, found, rest)) =
+    status_is shelf (next bytes) between after given (own bytes) rest
 
 -- only an answer that is done writes a file
 pub file_is_done : (shelf : Told) (p : Protocol) (before after : Counts) (given : Answer) → HasOwnAnswers p → Performed shelf p before after given
@@ -94,4 +96,5 @@ pub no_file : (shelf : Told) (p : Protocol) (before after : Counts) (given : Ans
 no_file shelf (Answers answer) before after given prints (same, is) = ap (λ a. a.file) is ∙ prints
 no_file shelf (Reads kind name next) before after given prints (between, read, inl (same, inl (is, why))) = ap (λ a. a.file) is
 no_file shelf (Reads kind name next) before after given prints (between, read, inl (same, inr (is, why))) = ap (λ a. a.file) is
-no_file shelf (Reads kind name next) before after given prints (between, read, inr (bytes, found, rest)) = no_file shelf (next bytes) between after given (prints bytes) rest
+no_file shelf (Reads kind name next) before after given prints (between, read, inr (bytes, found, rest)) =
+    no_file shelf (next bytes) between after given (prints bytes) rest

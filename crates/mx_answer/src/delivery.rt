@@ -17,7 +17,8 @@ pub fn finish<S: Shelf, W: Sink>(reply: Reply, shelf: &mut S, out: &mut W) -> St
     ensures prefix { result ≡ Status.WriteFault → PutsPrefix (reply_answer reply) (W.written out.old) (W.written out.new) }
     ensures memory { result ≡ Status.Memory → W.written out.new ≡ W.written out.old }
     ensures memory_for_a_file { (reply_answer reply).file ≡ None → result ≢ Status.Memory }
-    ensures kept { (result ≡ Status.WriteFault) ⊎ (result ≡ Status.Memory) → (S.told shelf.old).tells ≡ true → (n : List ℕ) → (S.told shelf.new).held n ≡ (S.told shelf.old).held n }
+    ensures kept { (result ≡ Status.WriteFault) ⊎ (result ≡ Status.Memory) → (S.told shelf.old).tells ≡ true → (n : List ℕ)
+        → (S.told shelf.new).held n ≡ (S.told shelf.old).held n }
     ensures unread { S.counts shelf.new ≡ S.counts shelf.old }
     ensures unwritten { (reply_answer reply).file ≡ None → S.write_faults shelf.new ≡ S.write_faults shelf.old }
     ensures faults_grow { W.faults out.old ≤ W.faults out.new }

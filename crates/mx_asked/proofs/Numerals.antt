@@ -49,14 +49,16 @@ pub number_is : (low high : ℕ) (text : List ℕ) (found : Option ℕ)
     → IfSome found (λ n. IsNumeral 10 (without_leading_plus text))
     → IfSome found (λ n. n ≡ digits_value 10 (without_leading_plus text))
     → IfSome found (λ n. (low ≤ n) × (n ≤ high))
-    → IfNone found (IsNumeral 10 (without_leading_plus text) → (digits_value 10 (without_leading_plus text) < low) ⊎ (high < digits_value 10 (without_leading_plus text)))
+    → IfNone found (IsNumeral 10 (without_leading_plus text)
+    → (digits_value 10 (without_leading_plus text) < low) ⊎ (high < digits_value 10 (without_leading_plus text)))
     → found ≡ number low high text
 number_is low high text (Some n) numeral value range other =
     let digits = without_leading_plus text in
     let v = digits_value 10 digits in
     let above : leb low v ≡ true = grind (arith, nat_tests, value, range.0) in
     let below : leb v high ≡ true = grind (arith, nat_tests, value, range.1) in
-    ap Some value ∙ sym (cond-true _ (Some v) None (both (is_digits digits) (leb low v && leb v high) (digits_of digits numeral) (both (leb low v) (leb v high) above below)))
+    ap Some value ∙ sym (cond-true _ (Some v) None
+    (both (is_digits digits) (leb low v && leb v high) (digits_of digits numeral) (both (leb low v) (leb v high) above below)))
 number_is low high text None numeral value range other =
     let digits = without_leading_plus text in
     let v = digits_value 10 digits in

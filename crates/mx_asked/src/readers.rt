@@ -29,7 +29,8 @@ fn limits_of(
     dump: Option<&str>,
     count: Option<&str>,
 ) -> Option<Limits>
-    ensures { result ≡ limits_of (option_map (λ s. s.now) budget.entry) (option_map (λ s. s.now) trace.entry) (option_map (λ s. s.now) dump.entry) (option_map (λ s. s.now) count.entry) }
+    ensures { result ≡ limits_of (option_map (λ s. s.now) budget.entry) (option_map (λ s. s.now) trace.entry) (option_map (λ s. s.now) dump.entry)
+        (option_map (λ s. s.now) count.entry) }
 {
     let budget = number_or(budget, 1_000_000, 0, 100_000_000)?;
     let trace = number_or(trace, 0, 0, 10_000)?;
@@ -209,7 +210,8 @@ fn session_limits_of(
     watch: Option<&str>,
     budget: Option<&str>,
 ) -> Option<SessionLimits>
-    ensures limits { result ≡ session_limits_of (option_map (λ s. s.now) stops.entry) (option_map (λ s. s.now) watch.entry) (option_map (λ s. s.now) budget.entry) }
+    ensures limits { result
+        ≡ session_limits_of (option_map (λ s. s.now) stops.entry) (option_map (λ s. s.now) watch.entry) (option_map (λ s. s.now) budget.entry) }
     ensures asked { IfSome result IsAsked }
 {
     let stops = number_or(stops, 1, 1, 1_000)?;

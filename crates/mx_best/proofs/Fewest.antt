@@ -57,7 +57,8 @@ one_more block place front x m h = record {
 
 one_less : (block : Block) (place : ℕ) (front : List Item) (x : Item) (rest : List Item) (m : ℕ) → length rest ≡ m
     → Valid block (plan_of (front ++ x ∷ rest) place) → Completed block place (front ++ x ∷ []) m
-one_less block place front x rest m e v = record { rest = rest; size = e; valid = subst (λ l. Valid block (plan_of l place)) (sym (append_assoc front (x ∷ []) rest)) v }
+one_less block place front x rest m e v =
+    record { rest = rest; size = e; valid = subst (λ l. Valid block (plan_of l place)) (sym (append_assoc front (x ∷ []) rest)) v }
 
 op_low : (n : ℕ) (front rest : List Item) (j : ℕ) → EachOnce n (front ++ Op j ∷ rest) → j < n
 op_low n front rest j once =
@@ -103,7 +104,8 @@ module _ (block : Block) (place : ℕ) where
       neither : ¬ GoesOn block place front m n → ¬ Completed block place (front ++ Nop ∷ []) m → (rest : List Item) → length rest ≡ suc m
           → Valid block (plan_of (front ++ rest) place) → ⊥
       neither none nor [] e v = absurd (omega arith)
-      neither none nor (Op j ∷ rest) e v = none (record { number = j; low = op_low n front rest j v.once; after = one_less block place front (Op j) rest m (omega arith) v })
+      neither none nor (Op j ∷ rest) e v =
+          none (record { number = j; low = op_low n front rest j v.once; after = one_less block place front (Op j) rest m (omega arith) v })
       neither none nor (Nop ∷ rest) e v = nor (one_less block place front Nop rest m (omega arith) v)
 
 -- a valid plan of this many items
@@ -141,6 +143,7 @@ shortest_exists block =
       s.holds.plan,
       record {
         valid = s.holds.valid;
-        fewest = λ other v. (let l = s.least (length (items_of other)) (record { plan = other; valid = v; size = refl }) in let e = s.holds.size in omega arith);
+        fewest = λ other v. (let l = s.least (length (items_of other)) (record { plan = other; valid = v; size = refl }) in let e = s.holds.size in
+            omega arith);
       },
     )

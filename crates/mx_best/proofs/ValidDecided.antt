@@ -66,7 +66,8 @@ module _ (block : Block) (plan : Plan) where
       (λ yes. inl (λ p k j s t. yes p k s j t))
       (λ none. inr (λ h. none (λ p k s j t. h p k j s t)))
       (all_places items (λ p k. (j : ℕ) → StandsAt items (suc p) j → feeds (inst_at insts k) (inst_at insts j) ≡ false)
-      (λ p k. of_item (λ j. feeds (inst_at insts k) (inst_at insts j) ≡ false) (λ j. bool_decided (feeds (inst_at insts k) (inst_at insts j)) false) (slice_get items (suc p))))
+      (λ p k. of_item (λ j. feeds (inst_at insts k) (inst_at insts j) ≡ false) (λ j. bool_decided (feeds (inst_at insts k) (inst_at insts j)) false)
+      (slice_get items (suc p))))
 
   last_decided : Decided (EndsWithoutLoad insts items)
   last_decided =
@@ -77,10 +78,12 @@ module _ (block : Block) (plan : Plan) where
   room_decided = ⊎_elim (λ more. inr (λ h. absurd (omega arith))) (λ h. inl h) (cases_lt (padded_place block) plan.place)
 
   end_decided : Decided ((falls block.end ≡ false → StandsAt items plan.place (length insts - 1)) × (length items ≡ plan.place + end_count block.end))
-  end_decided = both _ _ (implied _ _ (bool_decided (falls block.end) false) (same_item (slice_get items plan.place) (length insts - 1))) (cases_eq (length items) (plan.place + end_count block.end))
+  end_decided = both _ _ (implied _ _ (bool_decided (falls block.end) false) (same_item (slice_get items plan.place) (length insts - 1)))
+      (cases_eq (length items) (plan.place + end_count block.end))
 
   pub valid_decided : Decided (Valid block plan)
   valid_decided = ⊎_elim
       (λ h. inl (record { once = h.0; terminator = h.1.0.0; tail = h.1.0.1; order = h.1.1.0; apart = h.1.1.1.0; last = h.1.1.1.1.0; room = h.1.1.1.1.1 }))
       (λ none. inr (λ v. none (v.once, ((v.terminator, v.tail), (v.order, (v.apart, (v.last, v.room)))))))
-      (both _ _ (once_decided (length insts) items) (both _ _ end_decided (both _ _ order_decided (both _ _ apart_decided (both _ _ last_decided room_decided)))))
+      (both _ _ (once_decided (length insts) items)
+      (both _ _ end_decided (both _ _ order_decided (both _ _ apart_decided (both _ _ last_decided room_decided)))))

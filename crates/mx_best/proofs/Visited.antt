@@ -83,14 +83,16 @@ module _ (block : Block) (plan : Plan) (v : Valid block plan) where
       (λ l. absurd (edge.depends (v.order there.at p y k there.stands s l edge.later)))
       (λ g. ⊎_elim
       (λ l. in_rest items p there.at y l there.stands)
-      (λ h. let same : there.at ≡ p = omega arith in let here = subst (λ q. StandsAt items q y) same there.stands in let both : k ≡ y = same_op k y (sym s ∙ here) in let less = edge.later in absurd (omega arith))
+      (λ h. let same : there.at ≡ p = omega arith in let here = subst (λ q. StandsAt items q y) same there.stands in let both : k ≡ y =
+      same_op k y (sym s ∙ here) in let less = edge.later in absurd (omega arith))
       (cases_lt p there.at))
       (cases_lt there.at p)
 
   delay : (p k : ℕ) → StandsAt items p k → KeepsDelay block (drop (suc p) items) k
   delay p k s = record {
     apart = λ j t. v.apart p k j s (sym (get_drop (suc p) items 0 (suc p) (omega arith)) ∙ t);
-    last = λ none. v.last p k s (let size = length-drop (suc p) items in let zero_size = ap length none in let within = stands_within items p k s in omega arith);
+    last = λ none. v.last p k s
+        (let size = length-drop (suc p) items in let zero_size = ap length none in let within = stands_within items p k s in omega arith);
   }
 
   precedes : (p k : ℕ) → StandsAt items p k → MayPrecede block (drop (suc p) items) k

@@ -41,7 +41,8 @@ behind_leader source j (suc d) leader quiet =
     let before = behind_leader source j d leader (λ k low high. quiet k low (omega arith)) in
     let next : suc (j + d) ≡ j + suc d = omega arith in
     let apart = not_zero _ (quiet (suc (j + d)) (omega arith) (omega arith)) in
-    subst (λ n. gap (is_labelled source.labels) source.statements n ≡ suc d) next (gap_grows (is_labelled source.labels) source.statements (j + d) apart ∙ ap suc before)
+    subst (λ n. gap (is_labelled source.labels) source.statements n ≡ suc d) next
+    (gap_grows (is_labelled source.labels) source.statements (j + d) apart ∙ ap suc before)
 
 -- a block has at most 64 statements
 pub block_small : (source : SourceValue) (block : Block) → IsBlockOf source block → size block ≤ 64
@@ -62,7 +63,8 @@ leads a b g h = grind (arith, nat_tests)
 
 gap_within : (labelled : ℕ → Bool) (statements : List Statement) (i : ℕ) → gap labelled statements i ≤ i
 gap_within labelled statements zero = omega arith
-gap_within labelled statements (suc i) = step (labelled (suc i) || (ends_there (slice_get statements i) || eqb (gap labelled statements i) 63)) (gap_within labelled statements i)
+gap_within labelled statements (suc i) =
+    step (labelled (suc i) || (ends_there (slice_get statements i) || eqb (gap labelled statements i) 63)) (gap_within labelled statements i)
   where
     step : (b : Bool) → gap labelled statements i ≤ i → cond b 0 (suc (gap labelled statements i)) ≤ suc i
     step true h = omega arith
@@ -89,9 +91,11 @@ begins source (suc m) h = ⊎_elim
 
 -- statement suc m is a leader where one of the three holds
 leader_where : (source : SourceValue) (m : ℕ)
-    → (is_labelled source.labels (suc m) ≡ true) ⊎ ((ends_there (slice_get source.statements m) ≡ true) ⊎ (gap (is_labelled source.labels) source.statements m ≡ 63))
+    → (is_labelled source.labels (suc m) ≡ true)
+    ⊎ ((ends_there (slice_get source.statements m) ≡ true) ⊎ (gap (is_labelled source.labels) source.statements m ≡ 63))
     → is_leader source (suc m) ≡ true
-leader_where source m h = eq-eqb _ 0 (leads (is_labelled source.labels (suc m)) (ends_there (slice_get source.statements m)) (gap (is_labelled source.labels) source.statements m) h)
+leader_where source m h =
+    eq-eqb _ 0 (leads (is_labelled source.labels (suc m)) (ends_there (slice_get source.statements m)) (gap (is_labelled source.labels) source.statements m) h)
 
 is_begun : (source : SourceValue) (i : ℕ) → Begins source i → is_leader source i ≡ true
 is_begun source zero h = refl

@@ -46,7 +46,8 @@ gap_small labelled statements (suc i) =
 -- a statement that is no leader is one further from it
 pub gap_grows : (labelled : ℕ → Bool) (statements : List Statement) (i : ℕ) → gap labelled statements (suc i) ≢ 0
     → gap labelled statements (suc i) ≡ suc (gap labelled statements i)
-gap_grows labelled statements i = one_more (labelled (suc i) || (ends_there (slice_get statements i) || eqb (gap labelled statements i) 63)) (gap labelled statements i)
+gap_grows labelled statements i =
+    one_more (labelled (suc i) || (ends_there (slice_get statements i) || eqb (gap labelled statements i) 63)) (gap labelled statements i)
   where
     one_more : (b : Bool) (n : ℕ) → cond b 0 (suc n) ≢ 0 → cond b 0 (suc n) ≡ suc n
     one_more true n h = absurd (h refl)
@@ -81,7 +82,8 @@ ends_so P _ h = refl
 
 fits_at : (P : ℕ → Type 0) (statements : List Statement) (i : ℕ) (s : Statement) → All (StatementFits P) statements → slice_get statements i ≡ Some s
     → StatementFits P s
-fits_at P statements i s h e = subst (λ (x : Statement). StatementFits P x) (get_or_from_slice_get statements i s s e) (h i s (slice_get_within statements i s e))
+fits_at P statements i s h e =
+    subst (λ (x : Statement). StatementFits P x) (get_or_from_slice_get statements i s s e) (h i s (slice_get_within statements i s e))
 
 pub get_range : (xs : List Statement) (a b k : ℕ) → a + k < b → b ≤ length xs → slice_get (slice_range xs a b) k ≡ slice_get xs (a + k)
 get_range xs a b k l m = grind (arith, common_steps, gets)
@@ -117,7 +119,8 @@ block_ends source first end insts s h l m e g =
     let k = length insts - 1 in
     let place : first + k ≡ end - 1 = omega arith in
     let last : slice_get insts k ≡ Some (inst_of s) =
-    inst_in source.statements insts first end k e (omega arith) m ∙ ap (λ i. option_map inst_of (slice_get source.statements i)) place ∙ ap (option_map inst_of) g in
+    inst_in source.statements insts first end k e (omega arith) m ∙ ap (λ i. option_map inst_of (slice_get source.statements i)) place
+    ∙ ap (option_map inst_of) g in
     ap (λ o. is_some_and o (end_is (end_of s))) last ∙ ends_so _ s (fits_at _ source.statements (end - 1) s h.statements_fit g)
 
 pub block_goes_on : (source : SourceValue) (first end : ℕ) (insts : List Inst) → IsSource source → first < end → end ≤ length source.statements

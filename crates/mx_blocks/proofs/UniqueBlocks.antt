@@ -65,7 +65,8 @@ block_unique source b c first h g =
     let count = same_size source b c first h g in
     let stop : b.first + size b ≡ c.first + size c = omega arith in
     let insts : b.insts.items ≡ c.insts.items =
-    h.insts ∙ ap (λ n. map inst_of (slice_range source.statements n (b.first + size b))) first ∙ ap (λ n. map inst_of (slice_range source.statements c.first n)) stop ∙ sym g.insts in
+    h.insts ∙ ap (λ n. map inst_of (slice_range source.statements n (b.first + size b))) first
+    ∙ ap (λ n. map inst_of (slice_range source.statements c.first n)) stop ∙ sym g.insts in
     let end : b.end ≡ c.end = same_Some b.end c.end (sym h.end ∙ ap (λ n. option_map end_of (slice_get source.statements (n - 1))) stop ∙ g.end) in
     same_block b c first insts end (h.input ∙ sym g.input)
 

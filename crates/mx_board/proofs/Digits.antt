@@ -23,8 +23,12 @@ number_is {E} digits (Err e) h some all = let q = parse_digits own {E = E} 32 di
 -- the digits in front of a text
 pub front_digits : (text : List ℕ) → all_ascii_digits (take (prefix_len is_ascii_digit text) text) ≡ true
 front_digits [] = refl
-front_digits (c ∷ text) = elim (is_ascii_digit c) as (λ b. is_ascii_digit c ≡ b → all_ascii_digits (take (cond b (1 + prefix_len is_ascii_digit text) 0) (c ∷ text)) ≡ true)
-    [ true ↦ λ e. let s : 1 + prefix_len is_ascii_digit text ≡ suc (prefix_len is_ascii_digit text) = omega arith in rw s (λ k. e k && front_digits text k) | false ↦ λ e. refl ] refl
+front_digits (c ∷ text) =
+    elim (is_ascii_digit c) as (λ b. is_ascii_digit c ≡ b → all_ascii_digits (take (cond b (1 + prefix_len is_ascii_digit text) 0) (c ∷ text)) ≡ true) [
+      | true ↦ λ e. let s : 1 + prefix_len is_ascii_digit text ≡ suc (prefix_len is_ascii_digit text) = omega arith in
+          rw s (λ k. e k && front_digits text k)
+      | false ↦ λ e. refl
+    ] refl
 
 digit_is_ascii : (c : ℕ) → is_ascii_digit c ≡ true → c < 128
 digit_is_ascii c h = grind (arith, nat_tests)

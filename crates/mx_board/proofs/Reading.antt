@@ -51,9 +51,13 @@ outcome_is before (line ∷ lines) =
     let numbers : numbers_of before ++ option_to_list (number_of line) ≡ numbers_of (before ++ line ∷ []) = sym (numbers_of-append_one before line) in
     let count : length before + 1 + 1 ≡ length (before ++ line ∷ []) + 1 = grind (arith, common_steps) in
     let all : (before ++ line ∷ []) ++ lines ≡ before ++ line ∷ lines = append_assoc before (line ∷ []) lines in
-    let next : outcome (numbers_of (before ++ line ∷ [])) (length (before ++ line ∷ []) + 1) lines ≡ unless_faulty (first_fault (before ++ line ∷ []) lines) (numbers_of ((before ++ line ∷ []) ++ lines)) = outcome_is (before ++ line ∷ []) lines in
-    let rest : outcome (numbers_of before ++ option_to_list (number_of line)) (length before + 1 + 1) lines ≡ unless_faulty (first_fault (before ++ line ∷ []) lines) (numbers_of (before ++ line ∷ lines)) = rw (numbers, count) (next ∙ ap (λ ls. unless_faulty (first_fault (before ++ line ∷ []) lines) (numbers_of ls)) all) in
-    one_line (fault_of (numbers_of before) (length before + 1) line) (first_fault (before ++ line ∷ []) lines) (outcome (numbers_of before ++ option_to_list (number_of line)) (length before + 1 + 1) lines) (numbers_of (before ++ line ∷ lines)) rest
+    let next : outcome (numbers_of (before ++ line ∷ [])) (length (before ++ line ∷ []) + 1) lines
+    ≡ unless_faulty (first_fault (before ++ line ∷ []) lines) (numbers_of ((before ++ line ∷ []) ++ lines)) = outcome_is (before ++ line ∷ []) lines in
+    let rest : outcome (numbers_of before ++ option_to_list (number_of line)) (length before + 1 + 1) lines
+    ≡ unless_faulty (first_fault (before ++ line ∷ []) lines) (numbers_of (before ++ line ∷ lines)) =
+    rw (numbers, count) (next ∙ ap (λ ls. unless_faulty (first_fault (before ++ line ∷ []) lines) (numbers_of ls)) all) in
+    one_line (fault_of (numbers_of before) (length before + 1) line) (first_fault (before ++ line ∷ []) lines)
+    (outcome (numbers_of before ++ option_to_list (number_of line)) (length before + 1 + 1) lines) (numbers_of (before ++ line ∷ lines)) rest
 
 -- before the first line
 pub reading_begins : (bytes : List ℕ) → length bytes ≤ 1048576 → Reading bytes [] 1 bytes
@@ -75,7 +79,9 @@ follows numbers n rises may k within =
 -- a number without a fault
 clean_number : (numbers : List ℕ) (at n : ℕ) → fault_of_number numbers at (Some n) ≡ None → (length numbers < 65536) × (may_follow numbers n ≡ true)
 clean_number numbers at n e =
-    elim (leb 65536 (length numbers)) as (λ full. leb 65536 (length numbers) ≡ full → cond full (Some (TooMany at)) (cond (may_follow numbers n) None (Some (NotAscending at))) ≡ None → (length numbers < 65536) × (may_follow numbers n ≡ true)) [
+    elim (leb 65536 (length numbers)) as (λ full. leb 65536 (length numbers) ≡ full
+    → cond full (Some (TooMany at)) (cond (may_follow numbers n) None (Some (NotAscending at))) ≡ None
+    → (length numbers < 65536) × (may_follow numbers n ≡ true)) [
       | true ↦ λ full e. absurd (cc)
       | false ↦ λ full. elim (may_follow numbers n) as (λ may. cond may None (Some (NotAscending at)) ≡ None → (length numbers < 65536) × (may ≡ true))
           [ true ↦ λ e. (grind (arith, nat_tests), refl) | false ↦ λ e. absurd (cc) ]
@@ -146,4 +152,5 @@ pub reading_fails : (bytes numbers : List ℕ) (at : ℕ) (text piece line : Lis
     → pieces text ≡ piece ∷ more → line ≡ strip_carriage_return piece → fault_of numbers at line ≡ Some fault → requests_of bytes ≡ Err fault
 reading_fails bytes numbers at text piece line more fault r first is faulty =
     let lines : lines_of text ≡ line ∷ map strip_carriage_return more = rw (first, is) refl in
-    sym r.left ∙ ap (λ ls. outcome numbers at ls) lines ∙ ap (λ f. unless_fault f (outcome (numbers ++ option_to_list (number_of line)) (at + 1) (map strip_carriage_return more))) faulty
+    sym r.left ∙ ap (λ ls. outcome numbers at ls) lines
+    ∙ ap (λ f. unless_fault f (outcome (numbers ++ option_to_list (number_of line)) (at + 1) (map strip_carriage_return more))) faulty

@@ -78,7 +78,10 @@ impl Board {
     /// What a load finds. A user-mode load from 254 takes a byte of the input, if there is one.
     pub fn load(&mut self, address: u32, user: bool) -> u32
         ensures word { result ≡ ((board user self.old.input).load (words_of self.old) self.old.taken address).word }
-        ensures state { self.new ≡ record self.old { taken = cond ((board user self.old.input).load (words_of self.old) self.old.taken address).takes (suc self.old.taken) self.old.taken } }
+        ensures state { self.new ≡ record self.old {
+          taken =
+              cond ((board user self.old.input).load (words_of self.old) self.old.taken address).takes (suc self.old.taken) self.old.taken;
+        } }
     {
         if address >= DATA_BASE || !user {
             return self.found(address);

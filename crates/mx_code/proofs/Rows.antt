@@ -208,16 +208,38 @@ branch_again condition a b squash by h =
 -- a word that spells an instruction is decoded to it
 pub spelled : (i : Inst) (w : ℕ) → Codes i w → inst_of w ≡ Some i
 spelled (Load base dest offset) w c =
-    by_fields 2 0 base dest (signed_bits 17 offset) w (record { op = omega arith; first = omega (arith, c.registers.0); second = omega (arith, c.registers.1); rest = signed_within offset c.fits }) c.word_is
+    by_fields 2 0 base dest (signed_bits 17 offset) w (record {
+      op = omega arith;
+      first = omega (arith, c.registers.0);
+      second = omega (arith, c.registers.1);
+      rest = signed_within offset c.fits;
+    }) c.word_is
     ∙ ap (λ z. Some (Load base dest z)) (signed_again offset c.fits)
 spelled (Store base value offset) w c =
-    by_fields 2 1 base value (signed_bits 17 offset) w (record { op = omega arith; first = omega (arith, c.registers.0); second = omega (arith, c.registers.1); rest = signed_within offset c.fits }) c.word_is
+    by_fields 2 1 base value (signed_bits 17 offset) w (record {
+      op = omega arith;
+      first = omega (arith, c.registers.0);
+      second = omega (arith, c.registers.1);
+      rest = signed_within offset c.fits;
+    }) c.word_is
     ∙ ap (λ z. Some (Store base value z)) (signed_again offset c.fits)
 spelled (Addi a dest imm) w c =
-    by_fields 3 0 a dest (signed_bits 17 imm) w (record { op = omega arith; first = omega (arith, c.registers.0); second = omega (arith, c.registers.1); rest = signed_within imm c.fits }) c.word_is
+    by_fields 3 0 a dest (signed_bits 17 imm) w (record {
+      op = omega arith;
+      first = omega (arith, c.registers.0);
+      second = omega (arith, c.registers.1);
+      rest =
+          signed_within imm c.fits;
+    }) c.word_is
     ∙ ap (λ z. Some (Addi a dest z)) (signed_again imm c.fits)
 spelled (Jspci a dest imm) w c =
-    by_fields 3 1 a dest (signed_bits 17 imm) w (record { op = omega arith; first = omega (arith, c.registers.0); second = omega (arith, c.registers.1); rest = signed_within imm c.fits }) c.word_is
+    by_fields 3 1 a dest (signed_bits 17 imm) w (record {
+      op = omega arith;
+      first = omega (arith, c.registers.0);
+      second = omega (arith, c.registers.1);
+      rest =
+          signed_within imm c.fits;
+    }) c.word_is
     ∙ ap (λ z. Some (Jspci a dest z)) (signed_again imm c.fits)
 spelled Jpc w c =
     by_fields 3 2 0 0 0 w (record { op = omega arith; first = omega arith; second = omega arith; rest = omega arith }) c.word_is
@@ -226,19 +248,44 @@ spelled Jpcrs w c =
 spelled Halt w c =
     by_fields 3 4 0 0 0 w (record { op = omega arith; first = omega arith; second = omega arith; rest = omega arith }) c.word_is
 spelled (Branch a b condition squash by) w c =
-    by_fields 0 (number_of_cond condition) a b (squash_bit squash * 2 ^ 16 + signed_bits 16 by) w (record { op = cond_within condition; first = omega (arith, c.registers.0); second = omega (arith, c.registers.1); rest = squash_within squash (signed_bits 16 by) (signed_within_16 by c.fits) }) c.word_is
+    by_fields 0 (number_of_cond condition) a b (squash_bit squash * 2 ^ 16 + signed_bits 16 by) w (record {
+      op = cond_within condition;
+      first =
+          omega (arith, c.registers.0);
+      second = omega (arith, c.registers.1);
+      rest =
+          squash_within squash (signed_bits 16 by) (signed_within_16 by c.fits);
+    }) c.word_is
     ∙ branch_again condition a b squash by c.fits
 spelled (Compute a dest b op) w c =
     let small = function_within op a b c.fits in
-    by_fields 1 (opcode_of op) a b (dest * 2 ^ 12 + function_of op) w (record { op = opcode_within op; first = omega (arith, c.registers.0); second = omega (arith, c.registers.1); rest = omega (arith, c.registers.2) }) c.word_is
+    by_fields 1 (opcode_of op) a b (dest * 2 ^ 12 + function_of op) w (record {
+      op = opcode_within op;
+      first = omega (arith, c.registers.0);
+      second =
+          omega (arith, c.registers.1);
+      rest = omega (arith, c.registers.2);
+    }) c.word_is
     ∙ compute_again op a b dest c.fits
 spelled (MoveFrom dest special) w c =
     let small = special_within special in
-    by_fields 1 2 0 0 (dest * 2 ^ 12 + number_of_special special) w (record { op = omega arith; first = omega arith; second = omega arith; rest = omega (arith, c.registers) }) c.word_is
+    by_fields 1 2 0 0 (dest * 2 ^ 12 + number_of_special special) w (record {
+      op = omega arith;
+      first = omega arith;
+      second = omega arith;
+      rest =
+          omega (arith, c.registers);
+    }) c.word_is
     ∙ from_again special dest
 spelled (MoveTo a special) w c =
     let small = special_within special in
-    by_fields 1 3 a 0 (number_of_special special) w (record { op = omega arith; first = omega (arith, c.registers); second = omega arith; rest = omega arith }) c.word_is
+    by_fields 1 3 a 0 (number_of_special special) w (record {
+      op = omega arith;
+      first = omega (arith, c.registers);
+      second = omega arith;
+      rest =
+          omega arith;
+    }) c.word_is
     ∙ ap (to_with a 0) (special_again special)
 
 -- by cases on a test, with what it tells
@@ -258,10 +305,12 @@ all_zero : (a b c : ℕ) → (a == 0 && (b == 0 && c == 0)) ≡ true → (a ≡ 
 all_zero a b c t = (grind (arith, nat_tests), grind (arith, nat_tests), grind (arith, nat_tests))
 
 signed_fits : (r : ℕ) → r < 2 ^ 17 → IsSignedField 16 (signed_of 17 r)
-signed_fits r h = either (IsSignedField 16) (nat_lt r (2 ^ 16)) (pos r) (negsuc (2 ^ 17 - suc r)) (λ t. grind (arith, nat_tests)) (λ t. grind (arith, nat_tests))
+signed_fits r h = either (IsSignedField 16) (nat_lt r (2 ^ 16)) (pos r) (negsuc (2 ^ 17 - suc r)) (λ t. grind (arith, nat_tests))
+    (λ t. grind (arith, nat_tests))
 
 signed_fits_16 : (r : ℕ) → r < 2 ^ 16 → IsSignedField 15 (signed_of 16 r)
-signed_fits_16 r h = either (IsSignedField 15) (nat_lt r (2 ^ 15)) (pos r) (negsuc (2 ^ 16 - suc r)) (λ t. grind (arith, nat_tests)) (λ t. grind (arith, nat_tests))
+signed_fits_16 r h = either (IsSignedField 15) (nat_lt r (2 ^ 15)) (pos r) (negsuc (2 ^ 16 - suc r)) (λ t. grind (arith, nat_tests))
+    (λ t. grind (arith, nat_tests))
 
 bits_of_signed : (r : ℕ) → r < 2 ^ 17 → signed_bits 17 (signed_of 17 r) ≡ r
 bits_of_signed r h = either (λ z. signed_bits 17 z ≡ r) (nat_lt r (2 ^ 16)) (pos r) (negsuc (2 ^ 17 - suc r)) (λ t. refl) (λ t. omega arith)
@@ -271,14 +320,36 @@ bits_of_signed_16 r h = either (λ z. signed_bits 16 z ≡ r) (nat_lt r (2 ^ 15)
 
 memory_found : (k o f s r : ℕ) → k ≡ 2 → AreFields o f s r → IfSome (memory_row o f s r) (λ i. Codes i (assembled k o f s r))
 memory_found k o f s r e b =
-    pick (o == 0) _ _ _ (λ t. record { fits = signed_fits r b.rest; registers = (omega (arith, b), omega (arith, b)); word_is = omega (arith, e, same o 0 t, bits_of_signed r b.rest) })
-    (λ u. pick (o == 1) _ _ _ (λ t. record { fits = signed_fits r b.rest; registers = (omega (arith, b), omega (arith, b)); word_is = omega (arith, e, same o 1 t, bits_of_signed r b.rest) })
+    pick (o == 0) _ _ _ (λ t. record {
+      fits = signed_fits r b.rest;
+      registers = (omega (arith, b), omega (arith, b));
+      word_is =
+          omega (arith, e, same o 0 t, bits_of_signed r b.rest);
+    })
+    (λ u. pick (o == 1) _ _ _
+    (λ t. record {
+      fits = signed_fits r b.rest;
+      registers = (omega (arith, b), omega (arith, b));
+      word_is =
+          omega (arith, e, same o 1 t, bits_of_signed r b.rest);
+    })
     (λ u. tt))
 
 immediate_found : (k o f s r : ℕ) → k ≡ 3 → AreFields o f s r → IfSome (immediate_row o f s r) (λ i. Codes i (assembled k o f s r))
 immediate_found k o f s r e b =
-    pick (o == 0) _ _ _ (λ t. record { fits = signed_fits r b.rest; registers = (omega (arith, b), omega (arith, b)); word_is = omega (arith, e, same o 0 t, bits_of_signed r b.rest) })
-    (λ u. pick (o == 1) _ _ _ (λ t. record { fits = signed_fits r b.rest; registers = (omega (arith, b), omega (arith, b)); word_is = omega (arith, e, same o 1 t, bits_of_signed r b.rest) })
+    pick (o == 0) _ _ _ (λ t. record {
+      fits = signed_fits r b.rest;
+      registers = (omega (arith, b), omega (arith, b));
+      word_is =
+          omega (arith, e, same o 0 t, bits_of_signed r b.rest);
+    })
+    (λ u. pick (o == 1) _ _ _
+    (λ t. record {
+      fits = signed_fits r b.rest;
+      registers = (omega (arith, b), omega (arith, b));
+      word_is =
+          omega (arith, e, same o 1 t, bits_of_signed r b.rest);
+    })
     (λ u. pick (f == 0 && (s == 0 && r == 0)) _ _ _ (λ z.
     pick (o == 2) _ _ _ (λ t. record { fits = tt; registers = tt; word_is = omega (arith, e, same o 2 t, all_zero f s r z) })
     (λ u. pick (o == 3) _ _ _ (λ t. record { fits = tt; registers = tt; word_is = omega (arith, e, same o 3 t, all_zero f s r z) })
@@ -313,8 +384,14 @@ sh_range n t = (grind (arith, nat_tests), grind (arith, nat_tests))
 
 shift_found : (n a b : ℕ) → IfSome (shift_row n b) (IsOp 1 n a b)
 shift_found n a b =
-    pick (nat_lt n 32) _ _ _ (λ t. pick (b == 0) _ _ _ (λ z. record { opcode_is = refl; function_is = refl; fits = (grind (arith, nat_tests), same b 0 z) }) (λ z. tt))
-    (λ u. pick (nat_le 256 n && nat_lt n 288) _ _ _ (λ t. record { opcode_is = refl; function_is = omega (arith, sh_range n t); fits = omega (arith, sh_range n t) }) (λ u. tt))
+    pick (nat_lt n 32) _ _ _
+    (λ t. pick (b == 0) _ _ _ (λ z. record { opcode_is = refl; function_is = refl; fits = (grind (arith, nat_tests), same b 0 z) }) (λ z. tt))
+    (λ u. pick (nat_le 256 n && nat_lt n 288) _ _ _ (λ t. record {
+      opcode_is = refl;
+      function_is = omega (arith, sh_range n t);
+      fits =
+          omega (arith, sh_range n t);
+    }) (λ u. tt))
 
 special_found : (n : ℕ) → IfSome (special_row n) (λ x. number_of_special x ≡ n)
 special_found n =
@@ -333,7 +410,8 @@ cond_found n =
     (λ u. pick (n == 5) _ _ _ (λ t. sym (same n 5 t)) (λ u. tt))))))
 
 squash_found : (r : ℕ) → r < 2 ^ 17 → squash_bit (nat_le (2 ^ 16) r) * 2 ^ 16 + r % 2 ^ 16 ≡ r
-squash_found r h = ⊎_elim (λ t. ap (λ q. squash_bit q * 2 ^ 16 + r % 2 ^ 16) t ∙ grind (arith, nat_tests)) (λ t. ap (λ q. squash_bit q * 2 ^ 16 + r % 2 ^ 16) t ∙ grind (arith, nat_tests)) (cases_Bool (nat_le (2 ^ 16) r))
+squash_found r h = ⊎_elim (λ t. ap (λ q. squash_bit q * 2 ^ 16 + r % 2 ^ 16) t ∙ grind (arith, nat_tests))
+    (λ t. ap (λ q. squash_bit q * 2 ^ 16 + r % 2 ^ 16) t ∙ grind (arith, nat_tests)) (cases_Bool (nat_le (2 ^ 16) r))
 
 branch_found : (k o f s r : ℕ) → k ≡ 0 → AreFields o f s r → (c : Option Cond) → IfSome c (λ x. number_of_cond x ≡ o)
     → IfSome (branch_with f s r c) (λ i. Codes i (assembled k o f s r))
@@ -390,7 +468,12 @@ row_found k o f s r b =
 pub spells : (w : ℕ) → IfSome (inst_of w) (λ i. Codes i w)
 spells w =
     subst (λ v. IfSome (inst_of w) (λ i. Codes i v)) (assembled_fields w)
-    (row_found (w / 2 ^ 30) (field 27 3 w) (field 22 5 w) (field 17 5 w) (field 0 17 w) (record { op = omega arith; first = omega arith; second = omega arith; rest = omega arith }))
+    (row_found (w / 2 ^ 30) (field 27 3 w) (field 22 5 w) (field 17 5 w) (field 0 17 w) (record {
+      op = omega arith;
+      first = omega arith;
+      second = omega arith;
+      rest = omega arith;
+    }))
 
 -- a word codes exactly the instruction to which it is decoded
 pub coded : (i : Inst) (w : ℕ) → Codes i w ↔ (inst_of w ≡ Some i)

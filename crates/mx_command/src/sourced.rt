@@ -104,7 +104,12 @@ pub fn told_reply<S: Shelf>(
 fn file_reply(alloc: Global, source: &Source, linked: Linked, target: &str) -> Result<Reply, Memory>
     requires { IsLinked IsGreedy from_target source.now board linked }
     ensures { IfOk result (λ r. reply_answer r
-        ≡ writes target.now (file_bytes (record { code = linked.image.code.items; user_data = linked.image.user_data.items; input = is_some source.now.input; links = linked.links.items }))) }
+        ≡ writes target.now (file_bytes (record {
+          code = linked.image.code.items;
+          user_data = linked.image.user_data.items;
+          input = is_some source.now.input;
+          links = linked.links.items;
+        }))) }
 {
     let _statements = source.statements();
     let Linked { image, links, .. } = linked;

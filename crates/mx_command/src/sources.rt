@@ -70,7 +70,9 @@ fn fault_reply(alloc: Global, line: u32, fault: Fault) -> Result<Reply, Memory>
 pub fn assembled(alloc: Global, text: &[u8]) -> Result<Result<Source, Reply>, Memory>
     requires { length text.now ≤ 4194304 }
     ensures source { IfOk result (λ r. IfOk r (λ source. (text_fault 256 65536 text.now ≡ None) × (source ≡ source_of 256 text.now))) }
-    ensures refused { IfOk result (λ r. IfErr r (λ reply. (line : ℕ) × (fault : SourceFault) × (text_fault 256 65536 text.now ≡ Some (line, fault)) × (reply_answer reply ≡ prints Status.Refused (fault_line line fault)))) }
+    ensures refused { IfOk result
+        (λ r. IfErr r (λ reply. (line : ℕ) × (fault : SourceFault) × (text_fault 256 65536 text.now ≡ Some (line, fault))
+        × (reply_answer reply ≡ prints Status.Refused (fault_line line fault)))) }
 {
     match assemble(alloc, text) {
         Ok(source) => Ok(Ok(source)),

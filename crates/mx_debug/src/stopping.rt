@@ -133,7 +133,8 @@ fn run_cycle<M: Machine>(
     requires watch { asked.now.watch < DATA_END }
     requires early { cycle < 2 ^ 31 }
     requires short { length found.old.console.items ≤ cycle }
-    ensures halted { IfOk result (λ halted. (p : Program) → M.stands machine.old p (bits requests.now cycle) → halted ≡ (state_after p (bits requests.now (suc cycle))).halted) }
+    ensures halted { IfOk result
+        (λ halted. (p : Program) → M.stands machine.old p (bits requests.now cycle) → halted ≡ (state_after p (bits requests.now (suc cycle))).halted) }
     ensures stands { OnOk result ((p : Program) → M.stands machine.old p (bits requests.now cycle) → M.stands machine.new p (bits requests.now (suc cycle))) }
     ensures console { OnOk result ((p : Program) → M.stands machine.old p (bits requests.now cycle)
         → found.old.console.items ≡ console_after p (bits requests.now cycle) → found.new.console.items ≡ console_after p (bits requests.now (suc cycle))) }
@@ -166,9 +167,13 @@ fn run_cycles<M: Machine>(
     requires budget { budget ≤ 100000000 }
     requires console { found.old.console.items ≡ [] }
     requires stops { found.old.stops.items ≡ [] }
-    ensures ending { IfOk result (λ ending. (p : Program) → M.stands machine.old p [] → ending ≡ ending_of (session p requests.now asked.now.address limit asked.now.watch budget)) }
-    ensures stops { OnOk result ((p : Program) → M.stands machine.old p [] → found.new.stops.items ≡ stops_of (session p requests.now asked.now.address limit asked.now.watch budget)) }
-    ensures console { OnOk result ((p : Program) → M.stands machine.old p [] → found.new.console.items ≡ console_of (session p requests.now asked.now.address limit asked.now.watch budget)) }
+    ensures ending { IfOk result
+        (λ ending. (p : Program) → M.stands machine.old p [] → ending ≡ ending_of (session p requests.now asked.now.address limit asked.now.watch budget)) }
+    ensures stops { OnOk result
+        ((p : Program) → M.stands machine.old p [] → found.new.stops.items ≡ stops_of (session p requests.now asked.now.address limit asked.now.watch budget)) }
+    ensures console { OnOk result
+        ((p : Program) → M.stands machine.old p []
+        → found.new.console.items ≡ console_of (session p requests.now asked.now.address limit asked.now.watch budget)) }
     ensures stands { OnOk result ((p : Program) → M.stands machine.old p [] → (h : List Bool) × M.stands machine.new p h
         × (state_after p h ≡ last_of (session p requests.now asked.now.address limit asked.now.watch budget))) }
 {
@@ -201,8 +206,10 @@ pub fn stops<M: Machine>(
     requires limit { IsInRange 1 1000 limit }
     requires watch { IsInRange DATA_BASE LAST_ADDRESS watch }
     requires budget { budget ≤ 100000000 }
-    ensures stops { IfOk result (λ s. (p : Program) → M.stands machine.old p [] → s.stops.items ≡ stops_of (session p requests.now address limit watch budget)) }
-    ensures console { IfOk result (λ s. (p : Program) → M.stands machine.old p [] → s.console.items ≡ console_of (session p requests.now address limit watch budget)) }
+    ensures stops { IfOk result
+        (λ s. (p : Program) → M.stands machine.old p [] → s.stops.items ≡ stops_of (session p requests.now address limit watch budget)) }
+    ensures console { IfOk result
+        (λ s. (p : Program) → M.stands machine.old p [] → s.console.items ≡ console_of (session p requests.now address limit watch budget)) }
     ensures ending { IfOk result (λ s. (p : Program) → M.stands machine.old p [] → s.ending ≡ ending_of (session p requests.now address limit watch budget)) }
     ensures stands { OnOk result ((p : Program) → M.stands machine.old p [] → (h : List Bool) × M.stands machine.new p h
         × (state_after p h ≡ last_of (session p requests.now address limit watch budget))) }

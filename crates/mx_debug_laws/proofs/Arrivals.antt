@@ -146,14 +146,16 @@ module _ (code : Code) (input : Option (List ℕ)) (a : ℕ) (m : Machine) (b : 
 
   halted_waits : m.halted ≡ true → Waits
   halted_waits h = record {
-    none = halted_no_stop (answer code input m b).stalled (answer code input m b).taken (answer code input m b).halted (shows_live a next.shown.alu) (ap (λ (r : Cycled). r.halted) (cond-true _ _ _ h));
+    none = halted_no_stop (answer code input m b).stalled (answer code input m b).taken (answer code input m b).halted (shows_live a next.shown.alu)
+        (ap (λ (r : Cycled). r.halted) (cond-true _ _ _ h));
     same = ap (is_here a) (cond-true _ m _ h);
     few = λ k. not (h k) && (eqb m.stall 0 && is_users m.alu);
   }
 
   stalled_waits : m.halted ≡ false → eqb m.stall 0 ≡ false → Waits
   stalled_waits on z = record {
-    none = stalled_no_stop (answer code input m b).stalled (answer code input m b).taken (answer code input m b).halted (shows_live a next.shown.alu) (ap (λ (r : Cycled). r.stalled) (cond-false _ _ _ on ∙ cond-false _ _ _ z));
+    none = stalled_no_stop (answer code input m b).stalled (answer code input m b).taken (answer code input m b).halted (shows_live a next.shown.alu)
+        (ap (λ (r : Cycled). r.stalled) (cond-false _ _ _ on ∙ cond-false _ _ _ z));
     same = ap (is_here a) (cond-false _ m _ on ∙ cond-false _ _ _ z);
     few = λ k. not (on k) && (z k && is_users m.alu);
   }
@@ -282,7 +284,8 @@ module _ (user_words data_words : List ℕ) (p : Place) (input : Option (List �
         → (Waits (code_of program) input a (state n) (is_requested requests n) → X) → X
     by_cycle act wait = ⊎_elim
         (λ h. wait (halted_waits (code_of program) input a (state n) (is_requested requests n) h))
-        (λ on. ⊎_elim (act on) (λ z. wait (stalled_waits (code_of program) input a (state n) (is_requested requests n) on z)) (cases_Bool (eqb (state n).stall 0)))
+        (λ on. ⊎_elim (act on) (λ z. wait (stalled_waits (code_of program) input a (state n) (is_requested requests n) on z))
+        (cases_Bool (eqb (state n).stall 0)))
         (cases_Bool (state n).halted)
 
   -- as many stops came as the steps so far came to the address, and one more where the fetch is in ALU
@@ -292,10 +295,12 @@ module _ (user_words data_words : List ℕ) (p : Place) (input : Option (List �
       let before : n ≤ budget = omega (arith, within) in
       let e = counted n before in
       by_cycle n before
-      (λ on z. acts_more stopping n (count_below at_step (past n)) (count_below at_step (past (suc n))) (is_here a (state n)) (is_here a (state (suc n))) e (counted_next n before on z) (acts_here n before on z))
+      (λ on z. acts_more stopping n (count_below at_step (past n)) (count_below at_step (past (suc n))) (is_here a (state n)) (is_here a (state (suc n))) e
+      (counted_next n before on z) (acts_here n before on z))
       (λ w.
       let x = waits n before w in
-      waits_more stopping n (count_below at_step (past n)) (count_below at_step (past (suc n))) (is_here a (state n)) (is_here a (state (suc n))) e x.0 x.1 (ap (count_below at_step) x.2))
+      waits_more stopping n (count_below at_step (past n)) (count_below at_step (past (suc n))) (is_here a (state n)) (is_here a (state (suc n))) e x.0 x.1
+      (ap (count_below at_step) x.2))
 
   -- after the cycle of a stop the machine is that with delay slots, which has come to the address, as often as there were stops before
   pub record Arrived (n w : ℕ) : Type 0 where

@@ -28,7 +28,11 @@ module _ (insts : List Inst) (input : Bool) where
 
   one_more : (x y : ℕ) → HeightBelow x y → Height y → HeightBelow x (y + 1)
   one_more x y b q = ⊎_elim
-      (λ edge. record { height = max b.height (weight insts x y + q.height); is = with_edge insts input x y b.height q.height (weight insts x y) _ refl refl b.is edge q.is })
+      (λ edge. record {
+        height = max b.height (weight insts x y + q.height);
+        is =
+            with_edge insts input x y b.height q.height (weight insts x y) _ refl refl b.is edge q.is;
+      })
       (λ none. record { height = b.height; is = with_no_edge insts input x y b.height b.is none })
       (edge_decided insts input x y)
 

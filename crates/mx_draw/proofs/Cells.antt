@@ -59,7 +59,8 @@ module _ (s : FetchState) (answer : Cycled) (f : Frame) (sees : Sees s answer f)
       ≡ cond (s.halted || (answer.stalled || (nat_lt (turn_of s) row || nat_lt 4 (turn_of s - row)))) shown.Empty (stage_of (stage (turn_of s - row) s))
   same_stage =
       (λ k. cond ((sees.cycled k).stalled || nat_lt (sees.turn k) row) shown.Empty (by_number (sees.turn k - row) f.shown))
-      ∙ agree _ _ s.halted answer.stalled (nat_lt (turn_of s) row) (nat_lt 4 (turn_of s - row)) sees.going (λ acts. numbers s f.shown (sees.shown acts) (turn_of s - row))
+      ∙ agree _ _ s.halted answer.stalled (nat_lt (turn_of s) row) (nat_lt 4 (turn_of s - row)) sees.going
+      (λ acts. numbers s f.shown (sees.shown acts) (turn_of s - row))
 
 -- a cell by the number of its stage, counted up to 5
 module _ (f : Frame) (row : ℕ) where

@@ -72,7 +72,8 @@ module _ (p : Program) (requests : List ℕ) where
 -- one more number
 numbers_more : (n count : ℕ) → numbers_from n count ++ (n + count) ∷ [] ≡ numbers_from n (suc count)
 numbers_more n zero = let e : n + 0 ≡ n = omega arith in ap (λ k. k ∷ []) e
-numbers_more n (suc count) = let e : n + suc count ≡ suc n + count = omega arith in ap (λ k. n ∷ numbers_from (suc n) count ++ k ∷ []) e ∙ ap (λ l. n ∷ l) (numbers_more (suc n) count)
+numbers_more n (suc count) = let e : n + suc count ≡ suc n + count = omega arith in
+    ap (λ k. n ∷ numbers_from (suc n) count ++ k ∷ []) e ∙ ap (λ l. n ∷ l) (numbers_more (suc n) count)
 
 only : (frames : List Frame) (row : Row) → IsRow frames row → All (IsRow frames) (row ∷ [])
 only frames row is zero d lt = is

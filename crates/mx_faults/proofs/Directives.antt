@@ -53,8 +53,31 @@ Misshapen : List Word → Type 0
 Misshapen words = (value_words words ≡ Err f.BadDirective) × (has_shape (values words) words ≡ false)
 
 one_value : (v : Word) → is_value v ≡ true → Valued (v ∷ [])
-one_value (Name name) h = record { vs = Name name ∷ []; reads = refl; shaped = refl; each = refl; outside = refl; undefined = λ kind. refl; registers = refl; kinds = λ kind. refl; chain = refl }
-one_value (Number negative value) h = record { vs = Number negative value ∷ []; reads = refl; shaped = refl; each = refl; outside = refl; undefined = λ kind. refl; registers = refl; kinds = λ kind. refl; chain = refl }
+one_value (Name name) h =
+    record {
+      vs = Name name ∷ [];
+      reads = refl;
+      shaped = refl;
+      each = refl;
+      outside = refl;
+      undefined = λ kind. refl;
+      registers = refl;
+      kinds = λ kind. refl;
+      chain = refl;
+    }
+one_value (Number negative value) h =
+    record {
+      vs = Number negative value ∷ [];
+      reads = refl;
+      shaped = refl;
+      each = refl;
+      outside = refl;
+      undefined = λ kind. refl;
+      registers = refl;
+      kinds =
+          λ kind. refl;
+      chain = refl;
+    }
 one_value _ h = absurd (false≢true h)
 
 more_values : (v : Word) (words : List Word) → is_value v ≡ true → Valued words → Valued (v ∷ Comma ∷ words)
@@ -209,7 +232,8 @@ or_conds false false x y rest = refl
 -- where the words have the shape, nothing but numbers, names and the section can be wrong
 shaped_fault : (kind : List ℕ → Option Section) (s : Section) (words : List Word) (r : Valued words)
     → form_fault kind s (ADirective (Some d.Word) words)
-    ≡ cond (list_any (λ w. is_outside (DataValue, w)) r.vs) (Some f.NumberOutOfRange) (cond (list_any (λ w. is_undefined kind (DataValue, w)) r.vs) (Some f.UndefinedLabel) (stored s))
+    ≡ cond (list_any (λ w. is_outside (DataValue, w)) r.vs) (Some f.NumberOutOfRange)
+    (cond (list_any (λ w. is_undefined kind (DataValue, w)) r.vs) (Some f.UndefinedLabel) (stored s))
 shaped_fault kind s words r = rw (r.shaped, r.registers, r.outside, r.undefined kind, r.kinds kind, r.chain) refl
 
 misshapen_fault : (kind : List ℕ → Option Section) (s : Section) (words : List Word) → has_shape (values words) words ≡ false

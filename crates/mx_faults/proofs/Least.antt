@@ -66,7 +66,8 @@ least_by : (l : LineInText) (o : Option Fault) → find (holds l) all_faults ≡
 least_by l None e = λ fault. not_true (holds l fault) (λ h. subst (AtMost (number_of fault)) e (found_at_most (holds l) fault h))
 least_by l (Some least) e = (
   found_holds (holds l) all_faults least e,
-  λ fault lesser. not_true (holds l fault) (λ h. let le = subst (AtMost (number_of fault)) e (found_at_most (holds l) fault h) in absurd (omega (arith, le, lesser))),
+  λ fault lesser. not_true (holds l fault) (λ h. let le = subst (AtMost (number_of fault)) e (found_at_most (holds l) fault h) in
+      absurd (omega (arith, le, lesser))),
 )
 
 pub the_least : (l : LineInText) → IsLeast l (least_of l)

@@ -31,12 +31,14 @@ use Rattle.mx_faults.proofs.Walks.{walk_section, walk_index, walk_address, walk_
 
 -- the four faults that a statement does not decide
 abbrev pub layout : (dotted many full long : Bool) → Option Fault
-layout dotted many full long = cond dotted (Some f.BadDirective) (cond many (Some f.TooManyInstructions) (cond full (Some f.DataFull) (cond long (Some f.LineTooLong) None)))
+layout dotted many full long =
+    cond dotted (Some f.BadDirective) (cond many (Some f.TooManyInstructions) (cond full (Some f.DataFull) (cond long (Some f.LineTooLong) None)))
 
 -- the least of twelve
 abbrev pub least_of_twelve : (b3 b4 b5 b6 b7 b8 b9 b10 b11 b12 b13 b14 : Bool) → Option Fault
 least_of_twelve b3 b4 b5 b6 b7 b8 b9 b10 b11 b12 b13 b14 =
-    cond b3 (Some f.UnknownMnemonic) (cond b4 (Some f.BadOperands) (cond b5 (Some f.BadRegister) (cond b6 (Some f.NumberOutOfRange) (cond b7 (Some f.DuplicateLabel)
+    cond b3 (Some f.UnknownMnemonic)
+    (cond b4 (Some f.BadOperands) (cond b5 (Some f.BadRegister) (cond b6 (Some f.NumberOutOfRange) (cond b7 (Some f.DuplicateLabel)
     (cond b8 (Some f.UndefinedLabel) (cond b9 (Some f.WrongLabelKind) (cond b10 (Some f.SystemInstruction) (cond b11 (Some f.BadDirective)
     (cond b12 (Some f.TooManyInstructions) (cond b13 (Some f.DataFull) (cond b14 (Some f.LineTooLong) None)))))))))))
 
@@ -50,7 +52,8 @@ by_fault repeated (Ok e) rest = refl
 by_fault repeated (Err fault) rest = refl
 
 merged : (b3 b4 b5 b6 b7 b8 b9 b10 b11 dotted b12 b13 b14 : Bool)
-    → with_fault b7 (least_of_eight b3 b4 b5 b6 b8 b9 b10 b11) (layout dotted b12 b13 b14) ≡ least_of_twelve b3 b4 b5 b6 b7 b8 b9 b10 (b11 || dotted) b12 b13 b14
+    → with_fault b7 (least_of_eight b3 b4 b5 b6 b8 b9 b10 b11) (layout dotted b12 b13 b14)
+    ≡ least_of_twelve b3 b4 b5 b6 b7 b8 b9 b10 (b11 || dotted) b12 b13 b14
 merged true b4 b5 b6 b7 b8 b9 b10 b11 dotted b12 b13 b14 = refl
 merged false true b5 b6 b7 b8 b9 b10 b11 dotted b12 b13 b14 = refl
 merged false false true b6 b7 b8 b9 b10 b11 dotted b12 b13 b14 = refl
@@ -97,7 +100,8 @@ module _ (labels : Labels) (end : ℕ) (p : Position) (earlier : Labels) (line :
   tokens_fault repeated many full =
       let of = form (statement line) in
       least_of_twelve (is_unknown of) (is_misshapen of) (list_any is_no_register (operands of)) (list_any is_outside (operands of)) repeated
-      (list_any (is_undefined (kind_by labels)) (operands of)) (list_any (is_wrong_kind (kind_by labels)) (operands of)) (is_system of || list_any moves_chain (operands of))
+      (list_any (is_undefined (kind_by labels)) (operands of)) (list_any (is_wrong_kind (kind_by labels)) (operands of))
+      (is_system of || list_any moves_chain (operands of))
       (is_misplaced p.section of || has_dotted_label (line_words line)) many full (nat_lt 255 (length line))
 
   abbrev pub parts : Option Fault → Option Fault
@@ -120,14 +124,16 @@ module _ (labels : Labels) (end : ℕ) (p : Position) (earlier : Labels) (line :
       by_fault again (effect_of labels p.section (statement line)) (layout_fault end p (length line) (line_words line))
       ∙ ap (λ o. with_fault again o (layout dotted many full long)) (statement_is labels p.section (statement line))
       ∙ merged (is_unknown of) (is_misshapen of) (list_any is_no_register (operands of)) (list_any is_outside (operands of)) again
-      (list_any (is_undefined (kind_by labels)) (operands of)) (list_any (is_wrong_kind (kind_by labels)) (operands of)) (is_system of || list_any moves_chain (operands of))
+      (list_any (is_undefined (kind_by labels)) (operands of)) (list_any (is_wrong_kind (kind_by labels)) (operands of))
+      (is_system of || list_any moves_chain (operands of))
       (is_misplaced p.section of) dotted many full long
 
   split_words : (words : List Word) → words_of line ≡ Ok words → words_fault labels end p again (length line) (Ok words) ≡ tokens_fault again many full
   split_words words e = ap (λ ws. words_fault labels end p again (length line) (Ok ws)) (sym (ap words_or_none e)) ∙ own_words
 
   pub parts_are : line_fault labels end p earlier line ≡ parts (tokens_fault again many full)
-  parts_are = by_words labels end p again (length line) (has_bad line) line (tokens_of line) (words_of line) (tokens_fault again many full) (words_by line) split_words
+  parts_are = by_words labels end p again (length line) (has_bad line) line (tokens_of line) (words_of line) (tokens_fault again many full)
+      (words_by line) split_words
 
 same_bool : (b c : Bool) → (b ≡ true → c ≡ true) → (c ≡ true → b ≡ true) → b ≡ c
 same_bool true true f g = refl
@@ -173,7 +179,8 @@ module _ (low end : ℕ) (all before : List (List ℕ)) (line : List ℕ) (littl
   unfolding behind
   many_is =
       ap (λ n. nat_lt 20000 (n + instruction_count (statement line))) (walk_index before (start low))
-      ∙ ap (nat_lt 20000) (many_sum (instructions before) (instruction_count (statement line)) (instructions (and_before l)) (sum_by_push (λ line. instruction_count (statement line)) before line))
+      ∙ ap (nat_lt 20000) (many_sum (instructions before) (instruction_count (statement line)) (instructions (and_before l))
+      (sum_by_push (λ line. instruction_count (statement line)) before line))
 
   stands_address : p.address ≡ min (low + data_words before) 65537
   stands_address = walk_address before (start low) little
@@ -186,7 +193,8 @@ module _ (low end : ℕ) (all before : List (List ℕ)) (line : List ℕ) (littl
       let sum = sum_by_push (λ line. word_count (statement line)) before line in
       let ends = nat_lt end (low + data_words (and_before l)) in
       ap (λ a. nat_lt end (min (a + more) 65537) || (is_data p.section && labelled && nat_le end p.address)) stands_address
-      ∙ ap (λ b. b || (is_data p.section && labelled && nat_le end p.address)) (past_end end low (data_words before) more within ∙ ap (λ n. nat_lt end (low + n)) (sym sum))
+      ∙ ap (λ b. b || (is_data p.section && labelled && nat_le end p.address))
+      (past_end end low (data_words before) more within ∙ ap (λ n. nat_lt end (low + n)) (sym sum))
       ∙ ap (λ s. ends || (is_data s && labelled && nat_le end p.address)) at_section
       ∙ ap (λ b. ends || (is_data (section_behind before) && labelled && b)) (ap (nat_le end) stands_address ∙ at_end end low (data_words before) within)
 
@@ -207,7 +215,8 @@ module _ (low end : ℕ) (all before : List (List ℕ)) (line : List ℕ) (littl
       ∙ ap (λ k. chosen k (section_behind before) (has_duplicate_label l) (has_too_many_instructions l) (has_full_data l)) kind_is
       ∙ ap (λ b. cond b (Some f.BadByte) (cond (is_err (tokens_of line)) (Some f.BadToken)
       (least_of_twelve (is_unknown of) (is_misshapen of) (list_any is_no_register (operands of)) (list_any is_outside (operands of)) (has_duplicate_label l)
-      (list_any (is_undefined (kind_in all)) (operands of)) (list_any (is_wrong_kind (kind_in all)) (operands of)) (is_system of || list_any moves_chain (operands of))
+      (list_any (is_undefined (kind_in all)) (operands of)) (list_any (is_wrong_kind (kind_in all)) (operands of))
+      (is_system of || list_any moves_chain (operands of))
       (is_misplaced (section_behind before) of || dotted) (has_too_many_instructions l) (has_full_data l) (is_too_long l)))) (bad_byte line)
 
 -- the fault of each line of a text

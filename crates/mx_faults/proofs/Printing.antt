@@ -96,7 +96,8 @@ mark_good : (line : List ℕ) (at : ℕ) (b : ℕ) → GoodToken line (mark_or_n
 mark_good line at b = by_mark (b == 44) (b == 91) (b == 93) (b == 35) (b == 58)
   where
     by_mark : (k1 k2 k3 k4 k5 : Bool)
-        → GoodToken line (mark_or_number_at line at (cond k1 (Some kinds.Comma) (cond k2 (Some kinds.Open) (cond k3 (Some kinds.Close) (cond k4 (Some kinds.Hash) (cond k5 (Some kinds.Colon) None))))))
+        → GoodToken line (mark_or_number_at line at
+        (cond k1 (Some kinds.Comma) (cond k2 (Some kinds.Open) (cond k3 (Some kinds.Close) (cond k4 (Some kinds.Hash) (cond k5 (Some kinds.Colon) None))))))
     by_mark true k2 k3 k4 k5 = tt
     by_mark false true k3 k4 k5 = tt
     by_mark false false true k4 k5 = tt
@@ -123,7 +124,8 @@ inside line at h = let k = or_first (nat_le (length line) at) _ h in grind (arit
 from_good : (line : List ℕ) (at : ℕ) → GoodToken line (token_from line at)
 unfolding token_from
 from_good line at =
-    chosen_good line at (ends_at line at) (not (is_allowed (slice_index line at))) (begins_name (slice_index line at)) (λ e b. name_at line at (inside line at e) b)
+    chosen_good line at (ends_at line at) (not (is_allowed (slice_index line at))) (begins_name (slice_index line at))
+    (λ e b. name_at line at (inside line at e) b)
 
 abbrev GoodTokens : List ℕ → Result (List Token) LexFault → Type 0
 GoodTokens line r = IfOk r (AllByRecursion (λ t. Named (word_at line t)))
@@ -146,7 +148,8 @@ tokens_good : (most : ℕ) (line : List ℕ) (at : ℕ) → GoodTokens line (tok
 unfolding next_token
 tokens_good zero line at = tt
 tokens_good (suc most) line at =
-    then_good line (next_token line at) (λ t. cond (is_end t.kind) (Ok []) (before t (tokens_within most line t.end))) (from_good line (at + prefix_len is_blank (drop at line)))
+    then_good line (next_token line at) (λ t. cond (is_end t.kind) (Ok []) (before t (tokens_within most line t.end)))
+    (from_good line (at + prefix_len is_blank (drop at line)))
     (λ t h. end_good line (is_end t.kind) t (tokens_within most line t.end) h (tokens_good most line t.end))
 
 words_good : (line : List ℕ) (ts : List Token) → AllByRecursion (λ t. Named (word_at line t)) ts → AllByRecursion Named (map (word_at line) ts)
@@ -184,7 +187,9 @@ front_good _ labels l h all = all
 
 names_good : (lines : List (List ℕ)) (p : Position) (labels : Labels) → All GoodEntry labels → All GoodEntry (labels_from p labels lines)
 names_good [] p labels all = all
-names_good (line ∷ lines) p labels all = names_good lines (after p (line_words line)) (with_labels p labels (line_words line)) (front_good (line_words line) labels (label_here p) (line_good line) all)
+names_good (line ∷ lines) p labels all =
+    names_good lines (after p (line_words line)) (with_labels p labels (line_words line))
+    (front_good (line_words line) labels (label_here p) (line_good line) all)
 
 none_distinct : IsDistinct bytes_eq []
 unfolding IsDistinct
@@ -221,13 +226,15 @@ added_distinct labels l name false false h d = distinct_push labels l name h d
 front_distinct : (words : List Word) (labels : Labels) (l : Label) → IsDistinct bytes_eq (names labels)
     → IsDistinct bytes_eq (names (define_front labels l words))
 unfolding define
-front_distinct (Name name ∷ Colon ∷ words) labels l d = front_distinct words (define labels l name) l (added_distinct labels l name (is_dotted name) (is_some (label_named labels name)) refl d)
+front_distinct (Name name ∷ Colon ∷ words) labels l d =
+    front_distinct words (define labels l name) l (added_distinct labels l name (is_dotted name) (is_some (label_named labels name)) refl d)
 front_distinct _ labels l d = d
 
 names_distinct : (lines : List (List ℕ)) (p : Position) (labels : Labels) → IsDistinct bytes_eq (names labels)
     → IsDistinct bytes_eq (names (labels_from p labels lines))
 names_distinct [] p labels d = d
-names_distinct (line ∷ lines) p labels d = names_distinct lines (after p (line_words line)) (with_labels p labels (line_words line)) (front_distinct (line_words line) labels (label_here p) d)
+names_distinct (line ∷ lines) p labels d =
+    names_distinct lines (after p (line_words line)) (with_labels p labels (line_words line)) (front_distinct (line_words line) labels (label_here p) d)
 
 -- data labels name no address past where the lines end
 abbrev Below : ℕ → Label → Type 0
@@ -252,7 +259,8 @@ here_below top section.Data index address h = h
 
 front_below : (words : List Word) (labels : Labels) (l : Label) (top : ℕ) → Below top l → All (BelowEntry top) labels
     → All (BelowEntry top) (define_front labels l words)
-front_below (Name name ∷ Colon ∷ words) labels l top h all = front_below words (define labels l name) l top h (define_fits (Below top) labels l name all (λ e. h))
+front_below (Name name ∷ Colon ∷ words) labels l top h all =
+    front_below words (define labels l name) l top h (define_fits (Below top) labels l name all (λ e. h))
 front_below _ labels l top h all = all
 
 labels_below : (lines : List (List ℕ)) (p : Position) (labels : Labels) (top : ℕ) → p.address ≤ 65537 → (position_at_end p lines).address ≤ top
@@ -273,7 +281,8 @@ if_ok P r x h e = subst (λ s. IfOk s P) e h
 
 near_labels : (labels : Labels) (count : ℕ) → LabelsFit count labels → AreNear labels
 unfolding any_label
-near_labels labels count fit = λ name l e. word_at_label labels count l (if_ok (NamedFits labels count) (any_label labels name) l (any_fits labels name count UndefinedLabel fit) e)
+near_labels labels count fit =
+    λ name l e. word_at_label labels count l (if_ok (NamedFits labels count) (any_label labels name) l (any_fits labels name count UndefinedLabel fit) e)
 
 all_both : (labels : Labels) → All GoodEntry labels → All (λ (p : List ℕ × Label). length p.0 ≤ 200) labels
     → All (λ (p : List ℕ × Label). IsLabelName p.0) labels
@@ -287,7 +296,8 @@ all_both (e ∷ labels) h k =
 all_within : (labels : Labels) (count top : ℕ) → top ≡ 256 + count → All (BelowEntry top) labels → All (λ (p : List ℕ × Label). IsWithin count p.1) labels
 all_within [] count top e h = All-nil (λ (p : List ℕ × Label). IsWithin count p.1)
 all_within (x ∷ labels) count top e h =
-    All-cons (λ (p : List ℕ × Label). IsWithin count p.1) x labels (one_within x.1 (All-head (BelowEntry top) x labels h)) (all_within labels count top e (All-tail (BelowEntry top) x labels h))
+    All-cons (λ (p : List ℕ × Label). IsWithin count p.1) x labels (one_within x.1 (All-head (BelowEntry top) x labels h))
+    (all_within labels count top e (All-tail (BelowEntry top) x labels h))
   where
     one_within : (l : Label) → Below top l → IsWithin count l
     one_within (label.Code i) h = tt
@@ -306,7 +316,8 @@ module _ (low end : ℕ) (text : List ℕ) (least : 256 ≤ low) (order : low �
   clear = none
 
   fit : LabelsFit (position_at_end (start low) lines).index labels
-  fit = labels_fit labels end lines (start low) [] 1 most least clear (All-nil (λ (p : List ℕ × Label). LabelFits (position_at_end (start low) lines).index p.1))
+  fit = labels_fit labels end lines (start low) [] 1 most least clear
+      (All-nil (λ (p : List ℕ × Label). LabelFits (position_at_end (start low) lines).index p.1))
 
   near : AreNear labels
   near = near_labels labels (position_at_end (start low) lines).index fit
@@ -328,7 +339,8 @@ module _ (text : List ℕ) (none : text_fault 256 65536 text ≡ None) (short : 
 
   below : All (BelowEntry (position_at_end (start 256) (lines_of text)).address) (source_of 256 text).labels
   unfolding source_of text_labels
-  below = labels_below (lines_of text) (start 256) [] (position_at_end (start 256) (lines_of text)).address (omega arith) (omega arith) (All-nil (BelowEntry (position_at_end (start 256) (lines_of text)).address))
+  below = labels_below (lines_of text) (start 256) [] (position_at_end (start 256) (lines_of text)).address (omega arith) (omega arith)
+      (All-nil (BelowEntry (position_at_end (start 256) (lines_of text)).address))
 
   pub printable : IsPrintable (source_of 256 text)
   printable =

@@ -59,7 +59,8 @@ named_few [] = tt
 named_few (a ∷ []) = tt
 named_few (r ∷ c ∷ []) = some_if (is_r r && is_digit c 10) (c - 48) (λ h. digit_few c (and_parts (is_r r) (is_digit c 10) h).1)
 named_few (r ∷ t ∷ c ∷ []) =
-    some_if (is_r r && (nat_le 49 t && nat_le t 51) && is_digit c 10 && nat_le (10 * (t - 48) + (c - 48)) 31) (10 * (t - 48) + (c - 48)) (λ h. last_few (is_r r) (nat_le 49 t && nat_le t 51) (is_digit c 10) (10 * (t - 48) + (c - 48)) h)
+    some_if (is_r r && (nat_le 49 t && nat_le t 51) && is_digit c 10 && nat_le (10 * (t - 48) + (c - 48)) 31) (10 * (t - 48) + (c - 48))
+    (λ h. last_few (is_r r) (nat_le 49 t && nat_le t 51) (is_digit c 10) (10 * (t - 48) + (c - 48)) h)
 named_few (a ∷ b ∷ c ∷ e ∷ rest) = tt
 
 ok_has : (o : Option ℕ) (fault : Fault) → IfSome o IsRegister → IfOk (ok_or o fault) IsRegister
@@ -114,7 +115,8 @@ sh_has words =
     bind_has Has (register operands.first) _ (λ a e1.
     bind_has Has (register operands.second) _ (λ b e2.
     bind_has Has (register operands.dest) _ (λ dest e3.
-    bind_has Has (count operands.negative operands.value) _ (λ n e4. (is_few operands.first a e1, is_few operands.dest dest e3, is_few operands.second b e2))))))
+    bind_has Has (count operands.negative operands.value) _
+    (λ n e4. (is_few operands.first a e1, is_few operands.dest dest e3, is_few operands.second b e2))))))
 
 addi_has : (words : List Word) → IfOk (addi words) Has
 unfolding addi
@@ -304,14 +306,16 @@ AreNear labels = (name : List ℕ) (l : Label) → any_label labels name ≡ Ok 
 
 module _ (labels : Labels) (near : AreNear labels) where
   value_has : (word : Word) → IfOk (value_of labels word) IsWord
-  value_has (Number negative value) = bind_has IsWord (data_word negative value) _ (λ w e. ok_is (λ n. n < 2 ^ 32) (data_word negative value) w (data_few negative value) e)
+  value_has (Number negative value) =
+      bind_has IsWord (data_word negative value) _ (λ w e. ok_is (λ n. n < 2 ^ 32) (data_word negative value) w (data_few negative value) e)
   value_has (Name name) = bind_has IsWord (any_label labels name) _ (λ l e. near name l e)
   value_has _ = tt
 
   values_have : (words : List Word) → IfOk (values_of labels words) (All IsWord)
   values_have [] = All-nil IsWord
   values_have (word ∷ words) =
-      bind_has (All IsWord) (value_of labels word) _ (λ v e. cons_has v (values_of labels words) (ok_is IsWord (value_of labels word) v (value_has word) e) (values_have words))
+      bind_has (All IsWord) (value_of labels word) _
+      (λ v e. cons_has v (values_of labels words) (ok_is IsWord (value_of labels word) v (value_has word) e) (values_have words))
 
   word_values_have : (words : List Word) → IfOk (word_values labels words) (All IsWord)
   unfolding word_values
@@ -325,7 +329,8 @@ module _ (labels : Labels) (near : AreNear labels) where
   directed_has s (Some d.Data) words = alone_has Nothing words tt
   directed_has s (Some d.Input) words = alone_has Input words tt
   directed_has s (Some d.Word) words =
-      bind_has EffectHas (word_values labels words) _ (λ values e. in_data_has s values (ok_is (All IsWord) (word_values labels words) values (word_values_have words) e))
+      bind_has EffectHas (word_values labels words) _
+      (λ values e. in_data_has s values (ok_is (All IsWord) (word_values labels words) values (word_values_have words) e))
   directed_has s (Some d.Space) words = bind_has EffectHas (space_count words) _ (λ k e. in_data_has s (replicate k (Int 0)) (zeros_are k))
   directed_has s None words = tt
 
@@ -339,7 +344,8 @@ module _ (labels : Labels) (near : AreNear labels) where
   effect_has s (Name name ∷ words) =
       either_has (is_dotted name) (directed labels s (directive_named name) words) _
       (directed_has s (directive_named name) words)
-      (bind_has EffectHas (instruction labels name words) _ (λ statement e. in_code_has s statement (subst (λ r. IfOk r Has) e (instruction_has labels name words))))
+      (bind_has EffectHas (instruction labels name words) _
+      (λ statement e. in_code_has s statement (subst (λ r. IfOk r Has) e (instruction_has labels name words))))
   effect_has s (_ ∷ words) = tt
 
   onto_has : (r : Result Effect Fault) (rest : List Statement) → IfOk r EffectHas → All Has rest → All Has (onto_statements (or_nothing r) rest)
@@ -360,12 +366,14 @@ module _ (labels : Labels) (near : AreNear labels) where
   lines_have p number [] = All-nil Has
   lines_have p number (line ∷ lines) =
       let words = statement_words (line_words line) in
-      onto_has (effect_of labels p.section words) (statements_in (effects_from labels (after p (line_words line)) (number + 1) lines)) (effect_has p.section words)
+      onto_has (effect_of labels p.section words) (statements_in (effects_from labels (after p (line_words line)) (number + 1) lines))
+      (effect_has p.section words)
       (lines_have (after p (line_words line)) (number + 1) lines)
 
   pub words_have : (p : Position) (number : ℕ) (lines : List (List ℕ)) → All IsWord (values_in (effects_from labels p number lines))
   words_have p number [] = All-nil IsWord
   words_have p number (line ∷ lines) =
       let words = statement_words (line_words line) in
-      onto_words (effect_of labels p.section words) (values_in (effects_from labels (after p (line_words line)) (number + 1) lines)) (effect_has p.section words)
+      onto_words (effect_of labels p.section words) (values_in (effects_from labels (after p (line_words line)) (number + 1) lines))
+      (effect_has p.section words)
       (words_have (after p (line_words line)) (number + 1) lines)

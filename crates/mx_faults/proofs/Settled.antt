@@ -21,7 +21,8 @@ use Rattle.mx_faults.proofs.Walks.{known, undotted, repeats_is}
 use Rattle.mx_faults.proofs.Lines.{least_of_twelve, parts_are, many, full}
 
 abbrev fourteen : (b1 b2 b3 b4 b5 b6 b7 b8 b9 b10 b11 b12 b13 b14 : Bool) → Option Fault
-fourteen b1 b2 b3 b4 b5 b6 b7 b8 b9 b10 b11 b12 b13 b14 = cond b1 (Some f.BadByte) (cond b2 (Some f.BadToken) (least_of_twelve b3 b4 b5 b6 b7 b8 b9 b10 b11 b12 b13 b14))
+fourteen b1 b2 b3 b4 b5 b6 b7 b8 b9 b10 b11 b12 b13 b14 =
+    cond b1 (Some f.BadByte) (cond b2 (Some f.BadToken) (least_of_twelve b3 b4 b5 b6 b7 b8 b9 b10 b11 b12 b13 b14))
 
 abbrev last_three : (b12 b13 b14 : Bool) → Option Fault
 last_three b12 b13 b14 = cond b12 (Some f.TooManyInstructions) (cond b13 (Some f.DataFull) (cond b14 (Some f.LineTooLong) None))
@@ -59,7 +60,9 @@ or_later false false c e h = h
 repeats_more : (q p : Position) (earlier : Labels) (words : List Word) → repeats q [] words ≡ true → repeats p earlier words ≡ true
 repeats_more q p earlier words h =
     let names = undotted (front_names words) in
-    repeats_is earlier (label_here p) words ∙ or_later (list_any (known []) names) (list_any (known earlier) names) (has_twice names) (none_known names) (sym (repeats_is [] (label_here q) words) ∙ h)
+    repeats_is earlier (label_here p) words
+    ∙ or_later (list_any (known []) names) (list_any (known earlier) names) (has_twice names) (none_known names)
+    (sym (repeats_is [] (label_here q) words) ∙ h)
 
 pub settled_is : (labels : Labels) (low end : ℕ) (p : Position) (earlier : Labels) (line : List ℕ)
     → settled (line_fault labels end (at_front p.section low) [] line) (repeats p earlier (line_words line))
@@ -68,11 +71,14 @@ settled_is labels low end p earlier line =
     let q = at_front p.section low in
     let of = form (statement line) in
     ap (λ o. settled o (repeats p earlier (line_words line)) (place_fault end p (length line) (line_words line))) (parts_are labels end q [] line)
-    ∙ elsewhere (has_bad line) (is_err (tokens_of line)) (is_unknown of) (is_misshapen of) (list_any is_no_register (operands of)) (list_any is_outside (operands of))
+    ∙ elsewhere (has_bad line) (is_err (tokens_of line)) (is_unknown of) (is_misshapen of) (list_any is_no_register (operands of))
+    (list_any is_outside (operands of))
     (repeats q [] (line_words line)) (repeats p earlier (line_words line))
-    (list_any (is_undefined (kind_by labels)) (operands of)) (list_any (is_wrong_kind (kind_by labels)) (operands of)) (is_system of || list_any moves_chain (operands of))
+    (list_any (is_undefined (kind_by labels)) (operands of)) (list_any (is_wrong_kind (kind_by labels)) (operands of))
+    (is_system of || list_any moves_chain (operands of))
     (is_misplaced p.section of || has_dotted_label (line_words line))
-    (many labels end q [] line) (full labels end q [] line) (nat_lt 255 (length line)) (many labels end p earlier line) (full labels end p earlier line) (nat_lt 255 (length line))
+    (many labels end q [] line) (full labels end q [] line) (nat_lt 255 (length line)) (many labels end p earlier line) (full labels end p earlier line)
+    (nat_lt 255 (length line))
     (repeats_more q p earlier (line_words line))
     ∙ sym (parts_are labels end p earlier line)
 
@@ -103,7 +109,8 @@ pub walked_step : (labels : Labels) (end : ℕ) (p : Position) (earlier : Labels
     → i < length lines
     → walked labels end p earlier number (texts (drop i lines))
     ≡ cons_option (with_number number (line_fault labels end p earlier (get_or lines i d).now))
-    (walked labels end (after p (line_words (get_or lines i d).now)) (with_labels p earlier (line_words (get_or lines i d).now)) (number + 1) (texts (drop (i + 1) lines)))
+    (walked labels end (after p (line_words (get_or lines i d).now)) (with_labels p earlier (line_words (get_or lines i d).now)) (number + 1)
+    (texts (drop (i + 1) lines)))
 walked_step labels end p earlier number lines i d lt = at_drop_more (λ ls. walked labels end p earlier number (texts ls)) lines i d lt
 
 pub push_option : (xs : List (ℕ × Fault)) (o : Option (ℕ × Fault)) (ys : List (ℕ × Fault)) → (xs ++ cons_option o []) ++ ys ≡ xs ++ cons_option o ys

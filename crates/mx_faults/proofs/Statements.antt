@@ -45,7 +45,8 @@ least_of_eight b3 b4 b5 b6 b8 b9 b10 b11 =
 abbrev pub form_fault : (List ℕ → Option Section) → Section → Form → Option Fault
 form_fault kind s form =
     least_of_eight (is_unknown form) (is_misshapen form) (list_any is_no_register (operands form)) (list_any is_outside (operands form))
-    (list_any (is_undefined kind) (operands form)) (list_any (is_wrong_kind kind) (operands form)) (is_system form || list_any moves_chain (operands form)) (is_misplaced s form)
+    (list_any (is_undefined kind) (operands form)) (list_any (is_wrong_kind kind) (operands form)) (is_system form || list_any moves_chain (operands form))
+    (is_misplaced s form)
 
 -- the last three faults of a statement
 abbrev registers_then : Bool → Option Fault → Option Fault
@@ -87,7 +88,8 @@ number2 s g (Some a) (Some b) false x = refl
 number2 s g (Some a) (Some b) true x = coded s (g a b x)
 
 number3 : {X : Type 0} (s : Section) (g : ℕ → ℕ → ℕ → X → Statement) (a b c : Option ℕ) (ok : Bool) (x : X)
-    → fault_of ((ok_or a f.BadRegister >>= λ y. ok_or b f.BadRegister >>= λ z. ok_or c f.BadRegister >>= λ w. cond ok (Ok x) (Err f.NumberOutOfRange) >>= λ n. Ok (g y z w n)) >>= in_code s)
+    → fault_of ((ok_or a f.BadRegister >>= λ y. ok_or b f.BadRegister >>= λ z. ok_or c f.BadRegister >>= λ w. cond ok (Ok x)
+    (Err f.NumberOutOfRange) >>= λ n. Ok (g y z w n)) >>= in_code s)
     ≡ registers_then (is_none a || (is_none b || (is_none c || false))) (cond (not ok || false) (Some f.NumberOutOfRange) (stands s))
 number3 s g None b c ok x = refl
 number3 s g (Some a) None c ok x = refl
@@ -119,7 +121,8 @@ to_special s g (Some a) (Some b) = moved s b (g a b)
 
 -- a target that is undefined, or of the wrong kind
 abbrev target_then : Option Label → Option Fault → Option Fault
-target_then l rest = cond (is_none (option_map section_of l) || false) (Some f.UndefinedLabel) (cond (is_data_kind (option_map section_of l) || false) (Some f.WrongLabelKind) rest)
+target_then l rest = cond (is_none (option_map section_of l) || false) (Some f.UndefinedLabel)
+    (cond (is_data_kind (option_map section_of l) || false) (Some f.WrongLabelKind) rest)
 
 target0 : (s : Section) (g : ℕ → Statement) (l : Option Label)
     → fault_of (((ok_or l f.UndefinedLabel >>= code_index) >>= λ t. Ok (g t)) >>= in_code s) ≡ target_then l (stands s)
@@ -128,7 +131,8 @@ target0 s g (Some (label.Code i)) = coded s (g i)
 target0 s g (Some (label.Data a)) = refl
 
 target1 : (s : Section) (g : ℕ → ℕ → Statement) (a : Option ℕ) (l : Option Label)
-    → fault_of ((ok_or a f.BadRegister >>= λ x. (ok_or l f.UndefinedLabel >>= code_index) >>= λ t. Ok (g x t)) >>= in_code s) ≡ registers_then (is_none a || false) (target_then l (stands s))
+    → fault_of ((ok_or a f.BadRegister >>= λ x. (ok_or l f.UndefinedLabel >>= code_index) >>= λ t. Ok (g x t)) >>= in_code s)
+    ≡ registers_then (is_none a || false) (target_then l (stands s))
 target1 s g None l = refl
 target1 s g (Some a) l = target0 s (g a) l
 
@@ -148,14 +152,18 @@ any1 s g (Some a) (Some l) = coded s (g a l)
 
 offset0 : (s : Section) (g : ℤ → Statement) (l : Option Label)
     → fault_of ((((ok_or l f.UndefinedLabel >>= data_address) >>= λ x. Ok (pos x)) >>= λ o. Ok (g o)) >>= in_code s)
-    ≡ cond (is_none (option_map section_of l) || false) (Some f.UndefinedLabel) (cond (is_code_kind (option_map section_of l) || false) (Some f.WrongLabelKind) (stands s))
+    ≡ cond (is_none (option_map section_of l) || false) (Some f.UndefinedLabel)
+    (cond (is_code_kind (option_map section_of l) || false) (Some f.WrongLabelKind) (stands s))
 offset0 s g None = refl
 offset0 s g (Some (label.Code i)) = refl
 offset0 s g (Some (label.Data a)) = coded s (g (pos a))
 
 offset2 : (s : Section) (g : ℕ → ℕ → ℤ → Statement) (a b : Option ℕ) (l : Option Label)
-    → fault_of ((ok_or a f.BadRegister >>= λ x. ok_or b f.BadRegister >>= λ y. ((ok_or l f.UndefinedLabel >>= data_address) >>= λ x. Ok (pos x)) >>= λ o. Ok (g x y o)) >>= in_code s)
-    ≡ registers_then (is_none a || (is_none b || false)) (cond (is_none (option_map section_of l) || false) (Some f.UndefinedLabel) (cond (is_code_kind (option_map section_of l) || false) (Some f.WrongLabelKind) (stands s)))
+    → fault_of ((ok_or a f.BadRegister >>= λ x. ok_or b f.BadRegister >>= λ y. ((ok_or l f.UndefinedLabel >>= data_address) >>= λ x. Ok (pos x)) >>= λ o. Ok
+    (g x y o)) >>= in_code s)
+    ≡ registers_then (is_none a || (is_none b || false))
+    (cond (is_none (option_map section_of l) || false) (Some f.UndefinedLabel)
+    (cond (is_code_kind (option_map section_of l) || false) (Some f.WrongLabelKind) (stands s)))
 offset2 s g None b l = refl
 offset2 s g (Some a) None l = refl
 offset2 s g (Some a) (Some b) l = offset0 s (g a b) l
@@ -170,7 +178,8 @@ module _ (labels : Labels) (s : Section) where
 
   compute_is : (o : Op) (words : List Word) → Spells (m.Compute o) (compute o words) words
   unfolding compute register
-  compute_is o (Name a ∷ Comma ∷ Name b ∷ Comma ∷ Name c ∷ []) = regs3 s (λ x y z. Plain (inst.Compute x z y o)) (register_named a) (register_named b) (register_named c)
+  compute_is o (Name a ∷ Comma ∷ Name b ∷ Comma ∷ Name c ∷ []) =
+      regs3 s (λ x y z. Plain (inst.Compute x z y o)) (register_named a) (register_named b) (register_named c)
   compute_is o _ = refl
 
   not_is : (words : List Word) → Spells m.Not (of_one op.Not words) words
@@ -233,7 +242,8 @@ module _ (labels : Labels) (s : Section) where
 
   load_is : (words : List Word) → Spells m.Load (load labels words) words
   unfolding load register offset immediate data_label any_label
-  load_is (Name a ∷ Open ∷ Name b ∷ Close ∷ Comma ∷ Name c ∷ []) = offset2 s (λ x y o. Plain (inst.Load x y o)) (register_named b) (register_named c) (label_named labels a)
+  load_is (Name a ∷ Open ∷ Name b ∷ Close ∷ Comma ∷ Name c ∷ []) =
+      offset2 s (λ x y o. Plain (inst.Load x y o)) (register_named b) (register_named c) (label_named labels a)
   load_is (Number negative value ∷ Open ∷ Name b ∷ Close ∷ Comma ∷ Name c ∷ []) =
       number2 s (λ x y o. Plain (inst.Load x y o)) (register_named b) (register_named c) (in_range 65536 65535 negative value) (integer negative value)
   load_is (Comma ∷ Open ∷ Name b ∷ Close ∷ Comma ∷ Name c ∷ []) = refl
@@ -246,7 +256,8 @@ module _ (labels : Labels) (s : Section) where
 
   store_is : (words : List Word) → Spells m.Store (store labels words) words
   unfolding store register offset immediate data_label any_label
-  store_is (Name a ∷ Open ∷ Name b ∷ Close ∷ Comma ∷ Name c ∷ []) = offset2 s (λ x y o. Plain (inst.Store x y o)) (register_named b) (register_named c) (label_named labels a)
+  store_is (Name a ∷ Open ∷ Name b ∷ Close ∷ Comma ∷ Name c ∷ []) =
+      offset2 s (λ x y o. Plain (inst.Store x y o)) (register_named b) (register_named c) (label_named labels a)
   store_is (Number negative value ∷ Open ∷ Name b ∷ Close ∷ Comma ∷ Name c ∷ []) =
       number2 s (λ x y o. Plain (inst.Store x y o)) (register_named b) (register_named c) (in_range 65536 65535 negative value) (integer negative value)
   store_is (Comma ∷ Open ∷ Name b ∷ Close ∷ Comma ∷ Name c ∷ []) = refl
@@ -269,7 +280,8 @@ module _ (labels : Labels) (s : Section) where
 
   swapped_is : (c : Cond) (words : List Word) → Spells (m.SwappedBranch c) (swapped_branch labels c words) words
   unfolding swapped_branch register code_label any_label
-  swapped_is c (Name a ∷ Comma ∷ Name b ∷ Comma ∷ Name t ∷ []) = target2 s (λ x y i. Branch y x c i) (register_named a) (register_named b) (label_named labels t)
+  swapped_is c (Name a ∷ Comma ∷ Name b ∷ Comma ∷ Name t ∷ []) =
+      target2 s (λ x y i. Branch y x c i) (register_named a) (register_named b) (label_named labels t)
   swapped_is c _ = refl
 
   goto_is : (words : List Word) → Spells m.Goto (goto labels words) words

@@ -23,8 +23,10 @@ pub first_walked : (labels : Labels) (end : ℕ) (p : Position) (earlier : Label
     → first_fault labels end p earlier number lines ≡ first (walked labels end p earlier number lines)
 first_walked labels end p earlier number [] = refl
 first_walked labels end p earlier number (line ∷ lines) =
-    ap (found_or number (line_fault labels end p earlier line)) (first_walked labels end (after p (line_words line)) (with_labels p earlier (line_words line)) (number + 1) lines)
-    ∙ sym (first_or number (line_fault labels end p earlier line) (walked labels end (after p (line_words line)) (with_labels p earlier (line_words line)) (number + 1) lines))
+    ap (found_or number (line_fault labels end p earlier line))
+    (first_walked labels end (after p (line_words line)) (with_labels p earlier (line_words line)) (number + 1) lines)
+    ∙ sym (first_or number (line_fault labels end p earlier line)
+    (walked labels end (after p (line_words line)) (with_labels p earlier (line_words line)) (number + 1) lines))
 
 pub position_more : (lines : List (List ℕ)) (line : List ℕ) (p : Position)
     → position_at_end p (lines ++ line ∷ []) ≡ after (position_at_end p lines) (line_words line)
@@ -50,8 +52,10 @@ module _ (low end : ℕ) (all : List (List ℕ)) (little : low ≤ 65537) (withi
       → line_fault labels end (position_at_end (start low) front) (labels_from (start low) [] front) line ≡ least_of (line_at low end all (length front))
   own front line rest e =
       line_is low end all front line little within
-      ∙ ap (λ (q : List (List ℕ)). least_of (record { low = low; end = end; all = all; before = q; line = line })) (sym (take_front front (line ∷ rest)) ∙ ap (take (length front)) (sym e))
-      ∙ ap (λ (q : List ℕ). least_of (record { low = low; end = end; all = all; before = take (length front) all; line = q })) (sym (at_front front line rest) ∙ ap (λ (ls : List (List ℕ)). get_or ls (length front) []) (sym e))
+      ∙ ap (λ (q : List (List ℕ)). least_of (record { low = low; end = end; all = all; before = q; line = line }))
+      (sym (take_front front (line ∷ rest)) ∙ ap (take (length front)) (sym e))
+      ∙ ap (λ (q : List ℕ). least_of (record { low = low; end = end; all = all; before = take (length front) all; line = q }))
+      (sym (at_front front line rest) ∙ ap (λ (ls : List (List ℕ)). get_or ls (length front) []) (sym e))
 
   pub walk_is : (rest front : List (List ℕ)) → all ≡ front ++ rest
       → walked labels end (position_at_end (start low) front) (labels_from (start low) [] front) (length front + 1) rest ≡ filter_map (faulty_at low end all)
@@ -62,11 +66,14 @@ module _ (low end : ℕ) (all : List (List ℕ)) (little : low ≤ 65537) (withi
       let earlier = labels_from (start low) [] front in
       let more = walk_is rest (front ++ line ∷ []) (e ∙ sym (append_assoc front (line ∷ []) rest)) in
       let longer : length (front ++ line ∷ []) ≡ length front + 1 = length-append front (line ∷ []) in
-      ap (λ o. cons_option (with_number (length front + 1) o) (walked labels end (after p (line_words line)) (with_labels p earlier (line_words line)) (length front + 1 + 1) rest)) (own front line rest e)
+      ap (λ o. cons_option (with_number (length front + 1) o)
+      (walked labels end (after p (line_words line)) (with_labels p earlier (line_words line)) (length front + 1 + 1) rest)) (own front line rest e)
       ∙ ap (cons_option (faulty_at low end all (length front)))
       (ap (λ q. walked labels end q (with_labels p earlier (line_words line)) (length front + 1 + 1) rest) (sym (position_more front line (start low)))
-      ∙ ap (λ q. walked labels end (position_at_end (start low) (front ++ line ∷ [])) q (length front + 1 + 1) rest) (sym (labels_more front line (start low) []))
-      ∙ ap (λ n. walked labels end (position_at_end (start low) (front ++ line ∷ [])) (labels_from (start low) [] (front ++ line ∷ [])) (n + 1) rest) (sym longer)
+      ∙ ap (λ q. walked labels end (position_at_end (start low) (front ++ line ∷ [])) q (length front + 1 + 1) rest)
+      (sym (labels_more front line (start low) []))
+      ∙ ap (λ n. walked labels end (position_at_end (start low) (front ++ line ∷ [])) (labels_from (start low) [] (front ++ line ∷ [])) (n + 1) rest)
+      (sym longer)
       ∙ more
       ∙ ap (λ n. filter_map (faulty_at low end all) (range_with_len n (length rest))) longer)
 
@@ -79,7 +86,8 @@ walk_finds low end text little within = walk_is low end (lines_of text) little w
 -- the first faulty line of a text
 pub first_is : (low end : ℕ) (text : List ℕ) → low ≤ 65537 → end ≤ 65536 → text_fault low end text ≡ first (faults_in low end text)
 unfolding text_fault
-first_is low end text little within = first_walked (text_labels low text) end (start low) [] 1 (lines_of text) ∙ ap first (walk_finds low end text little within)
+first_is low end text little within =
+    first_walked (text_labels low text) end (start low) [] 1 (lines_of text) ∙ ap first (walk_finds low end text little within)
 
 -- the faulty lines of the lines of a text, by its labels
 pub found_is : (low end : ℕ) (text : List ℕ) (labels : Labels) (lines : List (List ℕ)) → low ≤ 65537 → end ≤ 65536

@@ -126,8 +126,10 @@ pub shown_there : (labels earlier : Labels) (low : ℕ) (lines : List (List ℕ)
 shown_there labels earlier low lines i number line span fault at before here h =
     let back : number - 1 ≡ i = omega (arith, at) in
     let there = subst (λ (e : Labels). IsShownAs labels e (position_at_end (start low) (take i lines)) line span fault) before h in
-    let own = subst (λ (l : List ℕ). IsShownAs labels (labels_from (start low) [] (take i lines)) (position_at_end (start low) (take i lines)) l span fault) (sym here) there in
-    subst (λ (k : ℕ). IsShownAs labels (labels_from (start low) [] (take k lines)) (position_at_end (start low) (take k lines)) (get_or lines k []) span fault) (sym back) own
+    let own = subst (λ (l : List ℕ). IsShownAs labels (labels_from (start low) [] (take i lines)) (position_at_end (start low) (take i lines)) l span fault)
+    (sym here) there in
+    subst (λ (k : ℕ). IsShownAs labels (labels_from (start low) [] (take k lines)) (position_at_end (start low) (take k lines)) (get_or lines k []) span fault)
+    (sym back) own
 
 -- by the lines of a text
 pub span_is : (low end : ℕ) (text : List ℕ) (labels : Labels) (f : LineFault) → labels ≡ labels_from (start low) [] (lines_of text)
@@ -138,7 +140,8 @@ span_is low end text labels f defined h =
     let line = get_or lines (f.line - 1) [] in
     let earlier = labels_from (start low) [] before in
     let p = position_at_end (start low) before in
-    let again : repeat_place earlier (label_here p) 0 (line_words line) ≡ first_known (λ name. list_any (defines name) before) 0 (front_names (line_words line)) =
+    let again : repeat_place earlier (label_here p) 0 (line_words line)
+    ≡ first_known (λ name. list_any (defines name) before) 0 (front_names (line_words line)) =
     repeat_names earlier (label_here p) 0 (line_words line)
     ∙ ap (λ (q : List ℕ → Bool). first_known q 0 (front_names (line_words line))) (fun_ext (λ name. walk_known before (start low) name)) in
     let kind : kind_by labels ≡ kind_in lines = ap kind_by defined ∙ fun_ext (λ name. walk_kind lines (start low) [] name) in
@@ -205,7 +208,8 @@ pub before_more : (low i : ℕ) (lines : List (List ℕ)) (line : List ℕ) (p n
     → p ≡ position_at_end (start low) (take i lines)
     → next ≡ after p (line_words line) → next ≡ position_at_end (start low) (take (i + 1) lines)
 before_more low i lines line p next more before e =
-    e ∙ ap (λ (q : Position). after q (line_words line)) before ∙ sym (position_more (take i lines) line (start low)) ∙ ap (position_at_end (start low)) (sym more)
+    e ∙ ap (λ (q : Position). after q (line_words line)) before ∙ sym (position_more (take i lines) line (start low))
+    ∙ ap (position_at_end (start low)) (sym more)
 
 pub earlier_more : (low i : ℕ) (lines : List (List ℕ)) (line : List ℕ) (p : Position) (earlier next : Labels) → take (i + 1) lines ≡ take i lines ++ line ∷ []
     → p ≡ position_at_end (start low) (take i lines)
@@ -235,4 +239,5 @@ pub shown_here : (labels earlier : Labels) (low : ℕ) (lines : List (List ℕ))
     → (fault : Fault) → o ≡ Some fault → IsShown labels low lines (record { line = number; fault = fault; span = span })
 shown_here labels earlier low lines i number line p span o at stands before here h fault e =
     shown_there labels earlier low lines i number line span fault at before here
-    (subst (λ (q : Position). IsShownAs labels earlier q line span fault) stands (subst (λ (r : Option Fault). IfSome r (IsShownAs labels earlier p line span)) e h))
+    (subst (λ (q : Position). IsShownAs labels earlier q line span fault) stands
+    (subst (λ (r : Option Fault). IfSome r (IsShownAs labels earlier p line span)) e h))

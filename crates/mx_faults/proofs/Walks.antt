@@ -141,7 +141,8 @@ define_by : (labels : Labels) (l : Label) (n name : List ℕ) (dotted known : Bo
     (cond (not dotted && bytes_eq name n) (Some (section_of l)) None)
 define_by labels l n name true known h = or_none (kind_by labels name)
 define_by labels l n name false true h =
-    or_there (kind_by labels name) (bytes_eq name n) (section_of l) (λ e. is_some_map (label_named labels name) ∙ ap (λ x. is_some (label_named labels x)) (same_name name n e) ∙ h)
+    or_there (kind_by labels name) (bytes_eq name n) (section_of l)
+    (λ e. is_some_map (label_named labels name) ∙ ap (λ x. is_some (label_named labels x)) (same_name name n e) ∙ h)
 define_by labels l n name false false h = kind_added labels l n name
 
 kind_defined : (labels : Labels) (l : Label) (n name : List ℕ)
@@ -202,10 +203,13 @@ walk_kind (line ∷ lines) p labels name =
     let before = before_definition name lines in
     walk_kind lines (after p words) (with_labels p labels words) name
     ∙ ap (λ o. option_or o (kind_from (after p words).section lines name))
-    (kind_front labels (label_here p) words name ∙ ap (λ s. option_or (kind_by labels name) (cond (defines name line) (Some s) None)) (label_section p.section p.index p.address))
-    ∙ kind_line (kind_by labels name) (defines name line) p.section (list_any (defines name) lines) (behind_from (after p words).section before) (behind_from p.section (line ∷ before))
+    (kind_front labels (label_here p) words name
+    ∙ ap (λ s. option_or (kind_by labels name) (cond (defines name line) (Some s) None)) (label_section p.section p.index p.address))
+    ∙ kind_line (kind_by labels name) (defines name line) p.section (list_any (defines name) lines) (behind_from (after p words).section before)
+    (behind_from p.section (line ∷ before))
     (ap (λ s. behind_from s before) (after_section p words) ∙ section_step p.section line before)
-    ∙ ap (λ s. option_or (kind_by labels name) (cond (defines name line || list_any (defines name) lines) (Some s) None)) (behind_cond (defines name line) p.section line before)
+    ∙ ap (λ s. option_or (kind_by labels name) (cond (defines name line || list_any (defines name) lines) (Some s) None))
+    (behind_cond (defines name line) p.section line before)
 
 -- a name is one of these labels
 abbrev pub known : Labels → List ℕ → Bool
@@ -249,7 +253,8 @@ any_same p q [] h = refl
 any_same p q (n ∷ names) h = ap (λ b. b || list_any p names) (h n) ∙ ap (λ b. q n || b) (any_same p q names h)
 
 either_way : (x y : List ℕ) → bytes_eq x y ≡ bytes_eq y x
-either_way x y = one_answer (bytes_eq x y) (bytes_eq y x) (bytes_eq-Decides x y) ((λ h. sym ((bytes_eq-Decides y x).0 h)), (λ e. (bytes_eq-Decides y x).1 (sym e)))
+either_way x y = one_answer (bytes_eq x y) (bytes_eq y x) (bytes_eq-Decides x y)
+    ((λ h. sym ((bytes_eq-Decides y x).0 h)), (λ e. (bytes_eq-Decides y x).1 (sym e)))
 
 -- a label at the front is known, or stands there twice
 abbrev Repeats : (List ℕ → Bool) → List (List ℕ) → Bool
@@ -280,7 +285,8 @@ repeats_is labels l (Name n ∷ Colon ∷ words) =
     let names = undotted (front_names words) in
     ap (λ b. is_defined labels n || b) (repeats_is (define labels l n) l words)
     ∙ ap (λ b. is_defined labels n || (b || has_twice names))
-    (any_same (known (define labels l n)) (λ x. known labels x || (keep && bytes_eq n x)) names (λ x. known_defined labels l n x ∙ ap (λ b. known labels x || (keep && b)) (either_way x n))
+    (any_same (known (define labels l n)) (λ x. known labels x || (keep && bytes_eq n x)) names
+    (λ x. known_defined labels l n x ∙ ap (λ b. known labels x || (keep && b)) (either_way x n))
     ∙ any_or (known labels) (λ x. keep && bytes_eq n x) names
     ∙ ap (λ b. list_any (known labels) names || b) (any_and keep (bytes_eq n) names))
     ∙ repeat_line keep (known labels n) (list_any (known labels) names) (list_any (bytes_eq n) names) (has_twice names)

@@ -15,7 +15,8 @@ pub fn least_is_least()
 /// The fault that the assembler's definition gives a line, of whatever text and also behind its first faulty line, is
 /// the least of those that hold of it.
 pub fn assembled_fault_is_least()
-    ensures { (low end : ℕ) (text : List ℕ) (place : ℕ) → low ≤ 65537 → end ≤ DATA_END → IsLeast (text_line low end text place) (assembled_fault low end text place) }
+    ensures { (low end : ℕ) (text : List ℕ) (place : ℕ) → low ≤ 65537 → end ≤ DATA_END
+        → IsLeast (text_line low end text place) (assembled_fault low end text place) }
 {}
 
 /// A text is refused by the first of its faulty lines, with its least fault.

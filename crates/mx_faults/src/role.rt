@@ -320,7 +320,8 @@ fn directive_places(
     name: &[u8],
     words: &[Word],
 ) -> Result<Option<Vec<Role>>, AllocError>
-    ensures { IfOk result (λ o. option_map (λ v. map role v.items) o ≡ option_map (λ d. Forms.directive_shape d (map word words.now)) (directive_named name.now)) }
+    ensures { IfOk result
+        (λ o. option_map (λ v. map role v.items) o ≡ option_map (λ d. Forms.directive_shape d (map word words.now)) (directive_named name.now)) }
 {
     if spells(name, ".code") || spells(name, ".data") || spells(name, ".input") {
         Ok(Some(Vec::new(alloc)))

@@ -107,7 +107,8 @@ fn walk(
     requires order { bounds.now.data_start ≤ bounds.now.end }
     requires within { bounds.now.end ≤ DATA_END }
     ensures spans { IfOk result (λ v. All (IsShown labels.now bounds.now.data_start (texts lines.now)) v.items) }
-    ensures found { IfOk result (λ v. map numbered v.items ≡ take at_most (walked labels.now bounds.now.end (Positions.start bounds.now.data_start) [] 1 (texts lines.now))) }
+    ensures found { IfOk result
+        (λ v. map numbered v.items ≡ take at_most (walked labels.now bounds.now.end (Positions.start bounds.now.data_start) [] 1 (texts lines.now))) }
 {
     let mut found = Vec::new(alloc);
     let mut earlier = Labels::new(alloc);

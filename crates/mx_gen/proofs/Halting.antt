@@ -65,7 +65,8 @@ module _ (p : Program) (board : IsBoard p.place) where
       slice_get p.statements (suc n) ≡ Some (Plain (Compute a c b Add)) → slice_get p.statements (suc (suc n)) ≡ Some (Plain (Addi 9 9 (negsuc 0))) →
       slice_get p.statements (suc (suc (suc n))) ≡ Some (Branch 9 0 Ne (suc n)) →
       Ints s → s.index ≡ suc n → value_in s.regs 9 ≡ Int w →
-      ((t : State) → Ints t → t.index ≡ cond (not ((w + 4294967295) % 2 ^ 32 == 0)) (suc n) (suc (suc (suc (suc n)))) → value_in t.regs 9 ≡ Int ((w + 4294967295) % 2 ^ 32) → HaltsSoon p bound t) →
+      ((t : State) → Ints t → t.index ≡ cond (not ((w + 4294967295) % 2 ^ 32 == 0)) (suc n) (suc (suc (suc (suc n))))
+      → value_in t.regs 9 ≡ Int ((w + 4294967295) % 2 ^ 32) → HaltsSoon p bound t) →
       HaltsSoon p (suc (suc (suc bound))) s
   turn n a b c w bound s apart e1 e2 e3 h at nine next =
       let i1 = Compute a c b Add in let i2 = Addi 9 9 (negsuc 0) in
@@ -89,7 +90,8 @@ module _ (p : Program) (board : IsBoard p.place) where
       let n = length d.statements in
       let s0 = Plain (Addi 0 9 (pos 3)) in let s1 = Plain (Compute a c b Add) in let s2 = Plain (Addi 9 9 (negsuc 0)) in let s3 = Branch 9 0 Ne (suc n) in
       let d1 = name (76 ∷ decimal j) (put s0 d) in let d2 = put s1 d1 in let d3 = put s2 d2 in
-      let l1 = length-push d.statements s0 in let l2 = length-push d1.statements s1 in let l3 = length-push d2.statements s2 in let l4 = length-push d3.statements s3 in
+      let l1 = length-push d.statements s0 in let l2 = length-push d1.statements s1 in let l3 = length-push d2.statements s2 in let l4 =
+      length-push d3.statements s3 in
       let f3 = front_put s3 d3 front in let f2 = front_put s2 d2 f3 in let f1 = front_put s1 d1 f2 in
       let m2 : length d2.statements ≡ suc (suc n) = l2 ∙ ap suc l1 in let m3 : length d3.statements ≡ suc (suc (suc n)) = l3 ∙ ap suc m2 in
       let e0 = front_last s0 d f1 in
@@ -100,7 +102,8 @@ module _ (p : Program) (board : IsBoard p.place) where
       let t1 = (done p (Addi 0 9 (pos 3)) s).after in
       let turns = turn n a b c in
       sooner p _ (10 + bound) s (omega arith)
-      (runs_on (Addi 0 9 (pos 3)) (suc (suc (suc (suc (suc (suc (suc (suc (suc bound))))))))) s h (ap (slice_get p.statements) at ∙ e0) (addi_runs p s 0 9 (pos 3) h)
+      (runs_on (Addi 0 9 (pos 3)) (suc (suc (suc (suc (suc (suc (suc (suc (suc bound))))))))) s h (ap (slice_get p.statements) at ∙ e0)
+      (addi_runs p s 0 9 (pos 3) h)
       (turns 3 (suc (suc (suc (suc (suc (suc bound)))))) t1 apart e1 e2 e3 (done_ints p (Addi 0 9 (pos 3)) s h) (ap suc at) refl
       (λ u hu au nu. turns 2 (suc (suc (suc bound))) u apart e1 e2 e3 hu au nu
       (λ v hv av nv. turns 1 bound v apart e1 e2 e3 hv av nv
@@ -118,7 +121,9 @@ module _ (p : Program) (board : IsBoard p.place) where
       let target = cond holds (suc (suc n)) (suc s.index) in
       let t = (goes target 0 (Int 0) s).after in let ht = goes_ints s target h in
       let is = branch_is p s a b Lt (suc (suc n)) h (ap (slice_get p.statements) at ∙ e0) in
-      let taken : holds ≡ true → HaltsSoon p (suc bound) t = λ e. sooner p bound (suc bound) t (omega arith) (next t ht (cond-true holds (suc (suc n)) (suc s.index) e ∙ sym m2)) in
+      let taken : holds ≡ true
+      → HaltsSoon p (suc bound) t =
+      λ e. sooner p bound (suc bound) t (omega arith) (next t ht (cond-true holds (suc (suc n)) (suc s.index) e ∙ sym m2)) in
       let falls : holds ≡ false → HaltsSoon p (suc bound) t = λ e.
       let there : t.index ≡ length d1.statements = cond-false holds (suc (suc n)) (suc s.index) e ∙ (ap suc at ∙ sym l1) in
       plain_soon (Compute c a b Add) bound d1 (λ u hu. compute_runs p u c a b Add hu) front next t ht there in
@@ -149,14 +154,18 @@ module _ (p : Program) (board : IsBoard p.place) where
       let o = address x in
       let low : 256 ≤ o = omega arith in let high : o < 65536 = omega arith in let short : o < 2 ^ 32 = omega arith in
       let apart : 9 ≢ third x = λ e. nine (x / 2 ^ 14 % 8) (omega arith) e in
-      one_soon bound d (kind x == 0) _ _ (single (Compute (first x) (third x) (second x) Add) bound d (λ s h. compute_runs p s (first x) (third x) (second x) Add h))
-      (one_soon bound d (kind x == 1) _ _ (single (Compute (first x) (third x) (second x) Sub) bound d (λ s h. compute_runs p s (first x) (third x) (second x) Sub h))
-      (one_soon bound d (kind x == 2) _ _ (single (Compute (first x) (third x) (second x) Xor) bound d (λ s h. compute_runs p s (first x) (third x) (second x) Xor h))
+      one_soon bound d (kind x == 0) _ _
+      (single (Compute (first x) (third x) (second x) Add) bound d (λ s h. compute_runs p s (first x) (third x) (second x) Add h))
+      (one_soon bound d (kind x == 1) _ _
+      (single (Compute (first x) (third x) (second x) Sub) bound d (λ s h. compute_runs p s (first x) (third x) (second x) Sub h))
+      (one_soon bound d (kind x == 2) _ _
+      (single (Compute (first x) (third x) (second x) Xor) bound d (λ s h. compute_runs p s (first x) (third x) (second x) Xor h))
       (one_soon bound d (kind x == 3) _ _ (single (Store 0 (first x) (pos o)) bound d (λ s h. store_runs p s (first x) o short (inr (user_word o low high)) h))
       (one_soon bound d (kind x == 4) _ _ (single (Load 0 (third x) (pos o)) bound d (λ s h. load_runs p s (third x) o short (user_word o low high) h))
       (one_soon bound d (kind x == 5) _ _ (round_soon j (first x) (second x) (third x) bound d apart)
       (one_soon bound d (kind x == 6) _ _ (single (Store 0 (first x) (pos 255)) bound d (λ s h. store_runs p s (first x) 255 (lit< tt) (inl console_word) h))
-      (λ front next s h at. sooner p (suc (suc bound)) (10 + bound) s (omega arith) (skip_soon j (first x) (second x) (third x) bound d front next s h at))))))))
+      (λ front next s h at. sooner p (suc (suc bound)) (10 + bound) s (omega arith)
+      (skip_soon j (first x) (second x) (third x) bound d front next s h at))))))))
     where
       nine : (q : ℕ) → q < 8 → 9 ≡ 1 + q → ⊥
       nine q lt e = omega arith
@@ -178,7 +187,8 @@ module _ (p : Program) (board : IsBoard p.place) where
     where
       front_round : (a b c : ℕ) → Front (round j a b c d) → Front d
       front_round a b c f =
-          let s0 = Plain (Addi 0 9 (pos 3)) in let s1 = Plain (Compute a c b Add) in let s2 = Plain (Addi 9 9 (negsuc 0)) in let s3 = Branch 9 0 Ne (suc (length d.statements)) in
+          let s0 = Plain (Addi 0 9 (pos 3)) in let s1 = Plain (Compute a c b Add) in let s2 = Plain (Addi 9 9 (negsuc 0)) in let s3 =
+          Branch 9 0 Ne (suc (length d.statements)) in
           let d1 = name (76 ∷ decimal j) (put s0 d) in let d2 = put s1 d1 in let d3 = put s2 d2 in
           front_put s0 d (front_put s1 d1 (front_put s2 d2 (front_put s3 d3 f)))
 
@@ -199,9 +209,12 @@ module _ (p : Program) (board : IsBoard p.place) where
 
   opening_soon : (bound : ℕ) → Front (opening empty) → Soon bound (opening empty) → Soon (8 + bound) empty
   opening_soon bound front next s h at =
-      let d1 = set 1 1 empty in let d2 = set 2 4 d1 in let d3 = set 3 9 d2 in let d4 = set 4 16 d3 in let d5 = set 5 25 d4 in let d6 = set 6 36 d5 in let d7 = set 7 49 d6 in
-      let f7 = front_put (Plain (Addi 0 8 (pos 64))) d7 front in let f6 = front_put (Plain (Addi 0 7 (pos 49))) d6 f7 in let f5 = front_put (Plain (Addi 0 6 (pos 36))) d5 f6 in
-      let f4 = front_put (Plain (Addi 0 5 (pos 25))) d4 f5 in let f3 = front_put (Plain (Addi 0 4 (pos 16))) d3 f4 in let f2 = front_put (Plain (Addi 0 3 (pos 9))) d2 f3 in
+      let d1 = set 1 1 empty in let d2 = set 2 4 d1 in let d3 = set 3 9 d2 in let d4 = set 4 16 d3 in let d5 = set 5 25 d4 in let d6 = set 6 36 d5 in let d7 =
+      set 7 49 d6 in
+      let f7 = front_put (Plain (Addi 0 8 (pos 64))) d7 front in let f6 = front_put (Plain (Addi 0 7 (pos 49))) d6 f7 in let f5 =
+      front_put (Plain (Addi 0 6 (pos 36))) d5 f6 in
+      let f4 = front_put (Plain (Addi 0 5 (pos 25))) d4 f5 in let f3 = front_put (Plain (Addi 0 4 (pos 16))) d3 f4 in let f2 =
+      front_put (Plain (Addi 0 3 (pos 9))) d2 f3 in
       let f1 = front_put (Plain (Addi 0 2 (pos 4))) d1 f2 in
       let c7 = sets 8 64 d7 bound front next in let c6 = sets 7 49 d6 _ f7 c7 in let c5 = sets 6 36 d5 _ f6 c6 in let c4 = sets 5 25 d4 _ f5 c5 in
       let c3 = sets 4 16 d3 _ f4 c4 in let c2 = sets 3 9 d2 _ f3 c3 in let c1 = sets 2 4 d1 _ f2 c2 in
@@ -250,5 +263,6 @@ generated_runs seed count few place bytes board m =
     let h = generated_halts seed count few place bytes board in
     let n = h.0 in let at = h.2 in
     let is = run_state p m (record { state = s; console = [] }) in
-    ⊎_elim (λ le. ap is_stuck (ap (λ t. t.mark) is ∙ stays_halted p n m s le.1 (sym (ap (λ t. t.mark) (run_state p n (record { state = s; console = [] }))) ∙ at.halted)))
+    ⊎_elim (λ le. ap is_stuck (ap (λ t. t.mark) is ∙ stays_halted p n m s le.1 (sym (ap (λ t. t.mark) (run_state p n (record { state = s; console = [] })))
+    ∙ at.halted)))
     (λ lt. ap is_stuck (at.first m lt.1)) (leb_tells n m)

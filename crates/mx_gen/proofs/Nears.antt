@@ -66,6 +66,8 @@ near_set r n d all = near_put (Plain (Addi 0 r (pos n))) d tt all
 pub generated_near : (seed count : ℕ) → AllNear (generated seed count).statements
 generated_near seed count =
     let none : AllNear [] = λ i s e. absurd (none-some s e) in
-    let d1 = set 1 1 empty in let d2 = set 2 4 d1 in let d3 = set 3 9 d2 in let d4 = set 4 16 d3 in let d5 = set 5 25 d4 in let d6 = set 6 36 d5 in let d7 = set 7 49 d6 in
-    let opened = near_set 8 64 d7 (near_set 7 49 d6 (near_set 6 36 d5 (near_set 5 25 d4 (near_set 4 16 d3 (near_set 3 9 d2 (near_set 2 4 d1 (near_set 1 1 empty none))))))) in
+    let d1 = set 1 1 empty in let d2 = set 2 4 d1 in let d3 = set 3 9 d2 in let d4 = set 4 16 d3 in let d5 = set 5 25 d4 in let d6 = set 6 36 d5 in let d7 =
+    set 7 49 d6 in
+    let opened = near_set 8 64 d7
+    (near_set 7 49 d6 (near_set 6 36 d5 (near_set 5 25 d4 (near_set 4 16 d3 (near_set 3 9 d2 (near_set 2 4 d1 (near_set 1 1 empty none))))))) in
     near_put Halt (items count 0 seed (opening empty)) tt (near_items count 0 seed (opening empty) opened)

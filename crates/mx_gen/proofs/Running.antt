@@ -64,7 +64,9 @@ passed_ints place (Compute a d b op) s h = one (copies op b) (value_in s.regs a)
     one : (c : Bool) (v : Value) → is_code v ≡ false → is_code (cond c v (Int 0)) ≡ false
     one true v e = e
     one false v e = refl
-passed_ints place (Load base d offset) s h = one (is_user place (offset_by (words_in s.regs) base offset)) (s.mem (offset_by (words_in s.regs) base offset)) (h.mem (offset_by (words_in s.regs) base offset))
+passed_ints place (Load base d offset) s h =
+    one (is_user place (offset_by (words_in s.regs) base offset)) (s.mem (offset_by (words_in s.regs) base offset))
+    (h.mem (offset_by (words_in s.regs) base offset))
   where
     one : (c : Bool) (v : Value) → is_code v ≡ false → is_code (cond c v (Int 0)) ≡ false
     one true v e = e
@@ -76,7 +78,8 @@ stored_ints : (place : Place) (o : Option Sent) (v : Value) (m : Values) → is_
     → is_code (store_value place o v m a) ≡ false
 stored_ints place None v m hv hm a = hm a
 stored_ints place (Some x) v m hv hm a =
-    two (is_user place x.address) (put_value m x.address (passed_on v x.word)) m a (one (eqb a x.address) (passed_on v x.word) (m a) (passed_word v x.word hv) (hm a)) (hm a)
+    two (is_user place x.address) (put_value m x.address (passed_on v x.word)) m a
+    (one (eqb a x.address) (passed_on v x.word) (m a) (passed_word v x.word hv) (hm a)) (hm a)
   where
     one : (c : Bool) (y z : Value) → is_code y ≡ false → is_code z ≡ false → is_code (cond c y z) ≡ false
     one true y z hy hz = hy
@@ -155,7 +158,8 @@ addi_runs p s a d n h = cond-false (any_code s.regs (operands (Addi a d n))) _ _
 
 pub load_runs : (p : Program) (s : State) (d o : ℕ) → o < 2 ^ 32 → is_user p.place o ≡ true → Ints s → why_plain p (Load 0 d (pos o)) s.regs ≡ None
 load_runs p s d o short user h =
-    cond-false (any_code s.regs (operands (Load 0 d (pos o)))) (Some CodeOperand) (why_load p (offset_by (words_in s.regs) 0 (pos o))) (no_code s (operands (Load 0 d (pos o))) h)
+    cond-false (any_code s.regs (operands (Load 0 d (pos o)))) (Some CodeOperand) (why_load p (offset_by (words_in s.regs) 0 (pos o)))
+    (no_code s (operands (Load 0 d (pos o))) h)
     ∙ (ap (why_load p) (from_zero s.regs o short) ∙ ap (λ b. cond (b || (is_some p.input && eqb o p.place.input)) None (Some LoadOutside)) user)
 
 store_bools : (b c u : Bool) (x y : Why) → c ≡ false → (b ≡ true) ⊎ (u ≡ true) → cond b (cond c (Some x) None) (cond u None (Some y)) ≡ None
@@ -169,7 +173,8 @@ store_bools false c false x y e f = absurd (⊎_elim (λ t. no t) (λ t. no t) f
 pub store_runs : (p : Program) (s : State) (v o : ℕ) → o < 2 ^ 32 → (eqb o p.place.console ≡ true) ⊎ (is_user p.place o ≡ true) → Ints s
     → why_plain p (Store 0 v (pos o)) s.regs ≡ None
 store_runs p s v o short there h =
-    cond-false (any_code s.regs (operands (Store 0 v (pos o)))) (Some CodeOperand) (why_store p (offset_by (words_in s.regs) 0 (pos o)) (value_in s.regs v)) (no_code s (operands (Store 0 v (pos o))) h)
+    cond-false (any_code s.regs (operands (Store 0 v (pos o)))) (Some CodeOperand) (why_store p (offset_by (words_in s.regs) 0 (pos o)) (value_in s.regs v))
+    (no_code s (operands (Store 0 v (pos o))) h)
     ∙ (ap (λ a. why_store p a (value_in s.regs v)) (from_zero s.regs o short)
     ∙ store_bools (eqb o p.place.console) (is_code (value_in s.regs v)) (is_user p.place o) CodeToConsole StoreOutside (h.regs v) there)
 

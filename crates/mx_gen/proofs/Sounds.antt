@@ -85,12 +85,14 @@ length-push xs x = simp length-append (omega arith)
 -- what was kept, with more labels and statements
 module _ (j : ℕ) (d : Draft) (h : IsSound j d) (k : ℕ) (le : length d.statements ≤ k) where
   more_labels : All (λ (p : List ℕ × Label). LabelFits k p.1) d.labels
-  more_labels = All-weaker (λ (p : List ℕ × Label). LabelFits (length d.statements) p.1) (λ (p : List ℕ × Label). LabelFits k p.1) (λ p. label_more (length d.statements) k le p.1) d.labels h.labels_fit
+  more_labels = All-weaker (λ (p : List ℕ × Label). LabelFits (length d.statements) p.1) (λ (p : List ℕ × Label). LabelFits k p.1)
+      (λ p. label_more (length d.statements) k le p.1) d.labels h.labels_fit
 
   more_statements : (labels : Labels) → ((i : ℕ) → is_labelled d.labels i ≡ true → is_labelled labels i ≡ true)
       → All (StatementFits (IsPlace labels k)) d.statements
   more_statements labels sub = All-weaker (StatementFits (IsPlace d.labels (length d.statements))) (StatementFits (IsPlace labels k))
-      (fits_more (IsPlace d.labels (length d.statements)) (IsPlace labels k) (λ i p. record { within = within i p; labelled = sub i p.labelled })) d.statements h.statements_fit
+      (fits_more (IsPlace d.labels (length d.statements)) (IsPlace labels k) (λ i p. record { within = within i p; labelled = sub i p.labelled }))
+      d.statements h.statements_fit
     where
       within : (i : ℕ) → IsPlace d.labels (length d.statements) i → i ≤ k
       within i p = let w = p.within in omega arith
@@ -98,7 +100,8 @@ module _ (j : ℕ) (d : Draft) (h : IsSound j d) (k : ℕ) (le : length d.statem
 -- a draft with one more statement that names no place
 pub sound_one : (j : ℕ) (d : Draft) (s : Statement) → IsSound j d → ((P : ℕ → Type 0) → StatementFits P s) → IsSound (suc j) (put s d)
 sound_one j d s h fits = let e = length-push d.statements s in let l = length-push d.lines d.line in
-    let few : length d.statements ≤ 8 + 4 * j = h.few in let each : length d.lines ≡ length d.statements = h.a_line_each in let line : d.line ≤ 10 + 8 * j = h.next_line in
+    let few : length d.statements ≤ 8 + 4 * j = h.few in let each : length d.lines ≡ length d.statements = h.a_line_each in let line : d.line ≤ 10 + 8 * j =
+    h.next_line in
     let le : length d.statements ≤ length (d.statements ++ s ∷ []) = omega arith in record {
       few = omega arith;
       a_line_each = omega arith;
@@ -113,22 +116,27 @@ sound_one j d s h fits = let e = length-push d.statements s in let l = length-pu
 pub sound_round : (j a b c : ℕ) (d : Draft) → IsSound j d → IsSound (suc j) (round j a b c d)
 sound_round j a b c d h =
     let n : List ℕ = 76 ∷ decimal j in
-    let s0 = Plain (Addi 0 9 (pos 3)) in let s1 = Plain (Compute a c b Add) in let s2 = Plain (Addi 9 9 (negsuc 0)) in let s3 = Branch 9 0 Ne (suc (length d.statements)) in
+    let s0 = Plain (Addi 0 9 (pos 3)) in let s1 = Plain (Compute a c b Add) in let s2 = Plain (Addi 9 9 (negsuc 0)) in let s3 =
+    Branch 9 0 Ne (suc (length d.statements)) in
     let st1 = d.statements ++ s0 ∷ [] in let st2 = st1 ++ s1 ∷ [] in let st3 = st2 ++ s2 ∷ [] in let st4 = st3 ++ s3 ∷ [] in
     let l1 = d.lines ++ d.line ∷ [] in let l2 = l1 ++ suc (suc d.line) ∷ [] in let l3 = l2 ++ suc (suc (suc d.line)) ∷ [] in
     let e1 = length-push d.statements s0 in let e2 = length-push st1 s1 in let e3 = length-push st2 s2 in let e4 = length-push st3 s3 in
-    let g1 = length-push d.lines d.line in let g2 = length-push l1 (suc (suc d.line)) in let g3 = length-push l2 (suc (suc (suc d.line))) in let g4 = length-push l3 (suc (suc (suc (suc d.line)))) in
-    let few : length d.statements ≤ 8 + 4 * j = h.few in let each : length d.lines ≡ length d.statements = h.a_line_each in let line : d.line ≤ 10 + 8 * j = h.next_line in
+    let g1 = length-push d.lines d.line in let g2 = length-push l1 (suc (suc d.line)) in let g3 = length-push l2 (suc (suc (suc d.line))) in let g4 =
+    length-push l3 (suc (suc (suc (suc d.line)))) in
+    let few : length d.statements ≤ 8 + 4 * j = h.few in let each : length d.lines ≡ length d.statements = h.a_line_each in let line : d.line ≤ 10 + 8 * j =
+    h.next_line in
     let k = length st4 in let labels = d.labels ++ (n, Code (length st1)) ∷ [] in
     let le : length d.statements ≤ k = omega arith in let here : length st1 ≤ k = omega arith in let back : suc (length d.statements) ≤ k = omega arith in
     let P = StatementFits (IsPlace labels k) in
     let f0 = more_statements j d h k le labels (λ i p. labelled_more d.labels ((n, Code (length st1)) ∷ []) i p) in
-    let t : IsPlace labels k (suc (length d.statements)) = record { within = back; labelled = labelled_last d.labels n (length st1) (suc (length d.statements)) e1 } in
+    let t : IsPlace labels k (suc (length d.statements)) =
+    record { within = back; labelled = labelled_last d.labels n (length st1) (suc (length d.statements)) e1 } in
     record {
       few = omega arith;
       a_line_each = omega arith;
       next_line = omega arith;
-      older = All-push (IsOlder (suc j)) d.labels (n, Code (length st1)) (All-weaker (IsOlder j) (IsOlder (suc j)) (older_more j) d.labels h.older) (j, omega arith, inl refl);
+      older = All-push (IsOlder (suc j)) d.labels (n, Code (length st1)) (All-weaker (IsOlder j) (IsOlder (suc j)) (older_more j) d.labels h.older)
+          (j, omega arith, inl refl);
       labels_fit = All-push (λ (p : List ℕ × Label). LabelFits k p.1) d.labels (n, Code (length st1)) (more_labels j d h k le) here;
       statements_fit = All-push P st3 s3 (All-push P st2 s2 (All-push P st1 s1 (All-push P d.statements s0 f0 (tt, lit< tt)) (tt, tt)) (tt, lit< tt)) t;
     }
@@ -142,18 +150,22 @@ sound_skip j a b c d h =
     let l1 = d.lines ++ d.line ∷ [] in
     let e1 = length-push d.statements s0 in let e2 = length-push st1 s1 in
     let g1 = length-push d.lines d.line in let g2 = length-push l1 (suc d.line) in
-    let few : length d.statements ≤ 8 + 4 * j = h.few in let each : length d.lines ≡ length d.statements = h.a_line_each in let line : d.line ≤ 10 + 8 * j = h.next_line in
+    let few : length d.statements ≤ 8 + 4 * j = h.few in let each : length d.lines ≡ length d.statements = h.a_line_each in let line : d.line ≤ 10 + 8 * j =
+    h.next_line in
     let k = length st2 in let labels = d.labels ++ (n, Code (length st2)) ∷ [] in
-    let le : length d.statements ≤ k = omega arith in let over : suc (suc (length d.statements)) ≤ k = omega arith in let same : length st2 ≡ suc (suc (length d.statements)) = omega arith in
+    let le : length d.statements ≤ k = omega arith in let over : suc (suc (length d.statements)) ≤ k = omega arith in
+    let same : length st2 ≡ suc (suc (length d.statements)) = omega arith in
     let here : length st2 ≤ k = omega arith in
     let P = StatementFits (IsPlace labels k) in
     let f0 = more_statements j d h k le labels (λ i p. labelled_more d.labels ((n, Code (length st2)) ∷ []) i p) in
-    let t : IsPlace labels k (suc (suc (length d.statements))) = record { within = over; labelled = labelled_last d.labels n (length st2) (suc (suc (length d.statements))) same } in
+    let t : IsPlace labels k (suc (suc (length d.statements))) =
+    record { within = over; labelled = labelled_last d.labels n (length st2) (suc (suc (length d.statements))) same } in
     record {
       few = omega arith;
       a_line_each = omega arith;
       next_line = omega arith;
-      older = All-push (IsOlder (suc j)) d.labels (n, Code (length st2)) (All-weaker (IsOlder j) (IsOlder (suc j)) (older_more j) d.labels h.older) (j, omega arith, inr refl);
+      older = All-push (IsOlder (suc j)) d.labels (n, Code (length st2)) (All-weaker (IsOlder j) (IsOlder (suc j)) (older_more j) d.labels h.older)
+          (j, omega arith, inr refl);
       labels_fit = All-push (λ (p : List ℕ × Label). LabelFits k p.1) d.labels (n, Code (length st2)) (more_labels j d h k le) here;
       statements_fit = All-push P st1 s1 (All-push P d.statements s0 f0 t) (tt, tt);
     }
@@ -190,7 +202,8 @@ sound_source j d few h = let s = sound_one j d Halt h (λ P. tt) in
 -- the items that are left, and one of them
 pub items_step : (count j x x' : ℕ) (d : Draft) → j < count → x' ≡ draw x → items (count - j) j x d ≡ items (count - (j + 1)) (j + 1) x' (item x' j d)
 items_step count j x x' d lt e =
-    ap (λ k. items k j x d) left ∙ (ap (λ y. items (count - (j + 1)) (suc j) y (item y j d)) (sym e) ∙ ap (λ k. items (count - (j + 1)) k x' (item x' j d)) next)
+    ap (λ k. items k j x d) left
+    ∙ (ap (λ y. items (count - (j + 1)) (suc j) y (item y j d)) (sym e) ∙ ap (λ k. items (count - (j + 1)) k x' (item x' j d)) next)
   where
     left : count - j ≡ suc (count - (j + 1))
     left = omega arith
@@ -218,15 +231,16 @@ set_fits : (r n : ℕ) (d : Draft) → n < 2 ^ 16 → All (StatementFits (IsPlac
 set_fits r n d lt h = All-push (StatementFits (IsPlace [] 8)) d.statements (Plain (Addi 0 r (pos n))) h (tt, lt)
 
 opening_sound : IsSound 0 (opening empty)
-opening_sound = let d1 = set 1 1 empty in let d2 = set 2 4 d1 in let d3 = set 3 9 d2 in let d4 = set 4 16 d3 in let d5 = set 5 25 d4 in let d6 = set 6 36 d5 in let d7 = set 7 49 d6 in record {
-  few = lit≤ tt;
-  a_line_each = refl;
-  next_line = lit≤ tt;
-  older = All-nil (IsOlder 0);
-  labels_fit = All-nil (λ (p : List ℕ × Label). LabelFits 8 p.1);
-  statements_fit = set_fits 8 64 d7 (lit< tt) (set_fits 7 49 d6 (lit< tt) (set_fits 6 36 d5 (lit< tt) (set_fits 5 25 d4 (lit< tt) (set_fits 4 16 d3 (lit< tt)
-      (set_fits 3 9 d2 (lit< tt) (set_fits 2 4 d1 (lit< tt) (set_fits 1 1 empty (lit< tt) (All-nil (StatementFits (IsPlace [] 8))))))))));
-}
+opening_sound = let d1 = set 1 1 empty in let d2 = set 2 4 d1 in let d3 = set 3 9 d2 in let d4 = set 4 16 d3 in let d5 = set 5 25 d4 in let d6 = set 6 36 d5 in
+    let d7 = set 7 49 d6 in record {
+      few = lit≤ tt;
+      a_line_each = refl;
+      next_line = lit≤ tt;
+      older = All-nil (IsOlder 0);
+      labels_fit = All-nil (λ (p : List ℕ × Label). LabelFits 8 p.1);
+      statements_fit = set_fits 8 64 d7 (lit< tt) (set_fits 7 49 d6 (lit< tt) (set_fits 6 36 d5 (lit< tt) (set_fits 5 25 d4 (lit< tt) (set_fits 4 16 d3 (lit< tt)
+          (set_fits 3 9 d2 (lit< tt) (set_fits 2 4 d1 (lit< tt) (set_fits 1 1 empty (lit< tt) (All-nil (StatementFits (IsPlace [] 8))))))))));
+    }
 
 -- there are few statements
 pub generated_few : (seed count : ℕ) → count ≤ 4000 → length (generated seed count).statements ≤ 16009

@@ -13,7 +13,8 @@ pub is_set-set : (m k j : ℕ) → k < 16 → is_set (bit_or m (1 * 2 ^ k % 6553
 unfolding is_set
 is_set-set m k j within =
     elim (eqb k j) as (λ t. eqb k j ≡ t → eqb (bit_at (bit_or m (1 * 2 ^ k % 65536)) j) 1 ≡ (t || eqb (bit_at m j) 1)) [
-      | true ↦ λ e. let same : k ≡ j = grind (arith, nat_tests) in ap (λ b. eqb b 1) (ap (λ i. bit_at (bit_or m (1 * 2 ^ k % 65536)) i) (sym same) ∙ bit_at_set_same w16 m k within)
+      | true ↦ λ e. let same : k ≡ j = grind (arith, nat_tests) in
+          ap (λ b. eqb b 1) (ap (λ i. bit_at (bit_or m (1 * 2 ^ k % 65536)) i) (sym same) ∙ bit_at_set_same w16 m k within)
       | false ↦ λ e. let other : j ≢ k = grind (arith, nat_tests) in ap (λ b. eqb b 1) (bit_at_set_other w16 m k within j other)
     ] refl
 

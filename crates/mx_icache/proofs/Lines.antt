@@ -28,7 +28,8 @@ words_other line word a past s ne inside words w l j p at q =
     let same : set_of l ≡ s = allocated-set past s l 8 among in
     let still : is_among_last (allocated (a ∷ past) s) l ≡ true = rw (allocated-other a past s ne) among in
     let elsewhere : line_of a ≢ line_of (16 * l + j) = λ e. ne (ap set_of (e ∙ line_of-word l j q) ∙ same) in
-    words w l j p at q ∙ resident_here past s l j same among q ∙ sym (missed_since-other a past (16 * l + j) elsewhere) ∙ sym (resident_here (a ∷ past) s l j same still q)
+    words w l j p at q ∙ resident_here past s l j same among q ∙ sym (missed_since-other a past (16 * l + j) elsewhere)
+    ∙ sym (resident_here (a ∷ past) s l j same still q)
 
 -- a fetch of a resident word
 pub words_hit : (line : ℕ → Option ℕ) (word : ℕ → ℕ → Bool) (a : ℕ) (past : List ℕ) (s : ℕ) → is_held past (line_of a) ≡ true → missed_since past a ≡ true
@@ -37,7 +38,8 @@ words_hit line word a past s held valid inside words w l j p at q =
     let among : is_among_last (allocated past s) l ≡ true = inside w l p at in
     let same : set_of l ≡ s = allocated-set past s l 8 among in
     let still : is_among_last (allocated (a ∷ past) s) l ≡ true = rw (allocated-held a past s held) among in
-    words w l j p at q ∙ resident_here past s l j same among q ∙ sym (missed_since-resident a past (16 * l + j) held valid) ∙ sym (resident_here (a ∷ past) s l j same still q)
+    words w l j p at q ∙ resident_here past s l j same among q ∙ sym (missed_since-resident a past (16 * l + j) held valid)
+    ∙ sym (resident_here (a ∷ past) s l j same still q)
 
 -- a fetch of a word that is not valid in a held line: in the line's place the word and its pair become valid
 pub words_filled : (line : ℕ → Option ℕ) (word new : ℕ → ℕ → Bool) (a : ℕ) (past : List ℕ) (s v : ℕ) → v < 8 → line v ≡ Some (line_of a)
@@ -52,13 +54,15 @@ words_filled line word new a past s v small here held missing filled others insi
           let is : l ≡ line_of a = cc in
           let address : 16 * l + a % 16 ≡ a = omega arith in
           let pair : near a (16 * l + j) ≡ eqb (a % 16 / 2) (j / 2) = rw address at (near_word l (a % 16) j (omega arith) q) in
-          let word_was : word v j ≡ missed_since past (16 * l + j) = ap (λ u. word u j) (sym place) ∙ words w l j p at q ∙ resident_here past s l j same among q in
+          let word_was : word v j ≡ missed_since past (16 * l + j) =
+          ap (λ u. word u j) (sym place) ∙ words w l j p at q ∙ resident_here past s l j same among q in
           ap (λ u. new u j) place ∙ filled j q ∙ ap (λ t. t || word v j) (sym pair) ∙ ap (λ t. near a (16 * l + j) || t) word_was
           ∙ sym (missed_since-filled a past (16 * l + j) held missing) ∙ sym (resident_here (a ∷ past) s l j same still q)
       | false ↦ λ e.
           let place : w ≢ v = grind (arith, nat_tests) in
           let elsewhere : line_of a ≢ line_of (16 * l + j) = λ k. place (apart w v l p small at (here ∙ ap Some (k ∙ line_of-word l j q))) in
-          others w j p place q ∙ words w l j p at q ∙ resident_here past s l j same among q ∙ sym (missed_since-other a past (16 * l + j) elsewhere) ∙ sym (resident_here (a ∷ past) s l j same still q)
+          others w j p place q ∙ words w l j p at q ∙ resident_here past s l j same among q ∙ sym (missed_since-other a past (16 * l + j) elsewhere)
+          ∙ sym (resident_here (a ∷ past) s l j same still q)
     ] refl
   where
     among : is_among_last (allocated past s) l ≡ true
@@ -85,13 +89,15 @@ words_allocated line after word new a past v from below missing here kept pair o
           let is : l ≡ line_of a = cc in
           let address : 16 * l + a % 16 ≡ a = omega arith in
           let both : near a (16 * l + j) ≡ eqb (a % 16 / 2) (j / 2) = rw address at (near_word l (a % 16) j (omega arith) q) in
-          ap (λ u. new u j) place ∙ pair j q ∙ sym both ∙ sym (missed_since-allocated a past (16 * l + j) missing (sym is ∙ sym (line_of-word l j q))) ∙ sym (resident_here (a ∷ past) s l j same among q)
+          ap (λ u. new u j) place ∙ pair j q ∙ sym both ∙ sym (missed_since-allocated a past (16 * l + j) missing (sym is ∙ sym (line_of-word l j q)))
+          ∙ sym (resident_here (a ∷ past) s l j same among q)
       | false ↦ λ e.
           let place : w ≢ v = grind (arith, nat_tests) in
           let was : line (from w) ≡ Some l = sym (kept w p place) ∙ at in
           let before : is_among_last (allocated past s) l ≡ true = inside (from w) l (below w p place) was in
           let elsewhere : line_of a ≢ line_of (16 * l + j) = λ k. new_line l (k ∙ line_of-word l j q) before in
-          others w j p place q ∙ words (from w) l j (below w p place) was q ∙ resident_here past s l j same before q ∙ sym (missed_since-other a past (16 * l + j) elsewhere) ∙ sym (resident_here (a ∷ past) s l j same among q)
+          others w j p place q ∙ words (from w) l j (below w p place) was q ∙ resident_here past s l j same before q
+          ∙ sym (missed_since-other a past (16 * l + j) elsewhere) ∙ sym (resident_here (a ∷ past) s l j same among q)
     ] refl
   where
     s : ℕ

@@ -17,7 +17,8 @@ slice_get-map f (x ∷ xs) (suc i) = slice_get-map f xs i
 among_from_get : (xs : List ℕ) (i l : ℕ) → slice_get xs i ≡ Some l → list_any (λ m. eqb m l) xs ≡ true
 among_from_get [] i l h = absurd (cc)
 among_from_get (x ∷ xs) zero l h = let same : x ≡ l = cc in let test : eqb x l ≡ true = grind (arith, nat_tests) in rw test refl
-among_from_get (x ∷ xs) (suc i) l h = let rest : list_any (λ m. eqb m l) xs ≡ true = among_from_get xs i l h in either (eqb x l) (list_any (λ m. eqb m l) xs) rest
+among_from_get (x ∷ xs) (suc i) l h = let rest : list_any (λ m. eqb m l) xs ≡ true = among_from_get xs i l h in
+    either (eqb x l) (list_any (λ m. eqb m l) xs) rest
   where
     either : (v w : Bool) → w ≡ true → (v || w) ≡ true
     either true w e = refl
@@ -46,7 +47,9 @@ plain_inside set past s h = λ i l p at. among_from_get (take 8 (allocated past 
 
 pub plain_absent : (set : PlainSet) (past : List ℕ) (l : ℕ) → PlainSetHolds set past (set_of l) → ((i : ℕ) → i < 8 → line_at set i ≢ Some l)
     → is_held past l ≡ false
-plain_absent set past l h none = not_among_from_get 8 (take 8 (allocated past (set_of l))) l (length-take-le 8 (allocated past (set_of l))) (λ i p e. none i p (sym (line_is set past (set_of l) i h) ∙ e))
+plain_absent set past l h none =
+    not_among_from_get 8 (take 8 (allocated past (set_of l))) l (length-take-le 8 (allocated past (set_of l)))
+    (λ i p e. none i p (sym (line_is set past (set_of l) i h) ∙ e))
 
 -- a fetch in another set
 pub plain_other : (set : PlainSet) (a : ℕ) (past : List ℕ) (s : ℕ) → set_of (line_of a) ≢ s → PlainSetHolds set past s → PlainSetHolds set (a ∷ past) s
@@ -82,7 +85,8 @@ words_same : (line new : ℕ → Option ℕ) (word : ℕ → ℕ → Bool) (past
 words_same line new word past e h = rw e h
 
 lines_same : (set new : PlainSet) → map (λ h. h.line) new.lines.items ≡ map (λ h. h.line) set.lines.items → line_at new ≡ line_at set
-lines_same set new e = λ t i. let at : line_at new i ≡ line_at set i = sym (slice_get-map (λ h. h.line) new.lines.items i) ∙ ap (λ ls. slice_get ls i) e ∙ slice_get-map (λ h. h.line) set.lines.items i in at t
+lines_same set new e = λ t i. let at : line_at new i ≡ line_at set i =
+    sym (slice_get-map (λ h. h.line) new.lines.items i) ∙ ap (λ ls. slice_get ls i) e ∙ slice_get-map (λ h. h.line) set.lines.items i in at t
 
 -- a fetch of a word that is not valid, in a line that is held
 pub plain_filled : (set new : PlainSet) (a : ℕ) (past : List ℕ) (i : ℕ) → PlainSetHolds set past (set_of (line_of a)) → i < 8 → line_at set i ≡ Some (line_of a)
@@ -97,7 +101,9 @@ plain_filled set new a past i h p at invalid lines filled others =
     record {
       lines = lines ∙ rw (allocated-held a past (set_of (line_of a)) held) h.lines;
       apart = apart_same (line_at set) (line_at new) same h.apart;
-      words = words_same (line_at set) (line_at new) (word_at new) (a ∷ past) same (words_filled (line_at set) (word_at set) (word_at new) a past (set_of (line_of a)) i p at held missing filled (λ v j q ne k. others v j ne) (plain_inside set past (set_of (line_of a)) h) h.apart h.words);
+      words = words_same (line_at set) (line_at new) (word_at new) (a ∷ past) same
+          (words_filled (line_at set) (word_at set) (word_at new) a past (set_of (line_of a)) i p at held missing filled (λ v j q ne k. others v j ne)
+          (plain_inside set past (set_of (line_of a)) h) h.apart h.words);
     }
 
 take-take : (n : ℕ) (xs : List ℕ) → take n (take (suc n) xs) ≡ take n xs
@@ -125,19 +131,26 @@ pub plain_allocated : (set new : PlainSet) (a : ℕ) (past : List ℕ) → Plain
 plain_allocated set new a past h none lines word words =
     let s : ℕ = set_of (line_of a) in
     let missing : is_held past (line_of a) ≡ false = plain_absent set past (line_of a) h none in
-    let rest : map (λ h. h.line) (take 7 set.lines.items) ≡ take 7 (allocated past (set_of (line_of a))) = map-take (λ h. h.line) 7 set.lines.items ∙ ap (λ ls. take 7 ls) h.lines ∙ take-take 7 (allocated past (set_of (line_of a))) in
-    let all : map (λ h. h.line) new.lines.items ≡ take 8 (allocated (a ∷ past) (set_of (line_of a))) = rw (allocated-missed a past missing) (lines ∙ ap (λ ls. line_of a ∷ ls) rest) in
+    let rest : map (λ h. h.line) (take 7 set.lines.items) ≡ take 7 (allocated past (set_of (line_of a))) =
+    map-take (λ h. h.line) 7 set.lines.items ∙ ap (λ ls. take 7 ls) h.lines ∙ take-take 7 (allocated past (set_of (line_of a))) in
+    let all : map (λ h. h.line) new.lines.items ≡ take 8 (allocated (a ∷ past) (set_of (line_of a))) =
+    rw (allocated-missed a past missing) (lines ∙ ap (λ ls. line_of a ∷ ls) rest) in
     let first : line_at new 0 ≡ Some (line_of a) = sym (slice_get-map (λ h. h.line) new.lines.items 0) ∙ ap (λ ls. slice_get ls 0) lines in
     let inside : Inside (line_at set) past (set_of (line_of a)) = plain_inside set past (set_of (line_of a)) h in
-    let still : Inside (line_at new) (a ∷ past) (set_of (line_of a)) = λ i l p at. among_from_get (take 8 (allocated (a ∷ past) (set_of (line_of a)))) i l (ap (λ ls. slice_get ls i) (sym all) ∙ slice_get-map (λ h. h.line) new.lines.items i ∙ at) in
+    let still : Inside (line_at new) (a ∷ past) (set_of (line_of a)) =
+    λ i l p at. among_from_get (take 8 (allocated (a ∷ past) (set_of (line_of a)))) i l
+    (ap (λ ls. slice_get ls i) (sym all) ∙ slice_get-map (λ h. h.line) new.lines.items i ∙ at) in
     record {
       lines = all;
-      apart = apart_allocated (line_at set) (line_at new) a past 0 (λ i. i - 1) (λ w p ne. omega arith) (λ u w p q e. omega arith) missing first later inside h.apart;
-      words = words_allocated (line_at set) (line_at new) (word_at set) (word_at new) a past 0 (λ i. i - 1) (λ w p ne. omega arith) missing first later word others inside still h.words;
+      apart = apart_allocated (line_at set) (line_at new) a past 0 (λ i. i - 1) (λ w p ne. omega arith)
+          (λ u w p q e. omega arith) missing first later inside h.apart;
+      words = words_allocated (line_at set) (line_at new) (word_at set) (word_at new) a past 0 (λ i. i - 1)
+          (λ w p ne. omega arith) missing first later word others inside still h.words;
     }
   where
     later_at : (i : ℕ) → i < 7 → line_at new (suc i) ≡ line_at set i
-    later_at i p = sym (slice_get-map (λ h. h.line) new.lines.items (suc i)) ∙ ap (λ ls. slice_get ls (suc i)) lines ∙ slice_get-map (λ h. h.line) (take 7 set.lines.items) i ∙ ap (λ o. option_map (λ h. h.line) o) (slice_get-take 7 i set.lines.items p)
+    later_at i p = sym (slice_get-map (λ h. h.line) new.lines.items (suc i)) ∙ ap (λ ls. slice_get ls (suc i)) lines
+        ∙ slice_get-map (λ h. h.line) (take 7 set.lines.items) i ∙ ap (λ o. option_map (λ h. h.line) o) (slice_get-take 7 i set.lines.items p)
 
     later : (w : ℕ) → w < 8 → w ≢ 0 → line_at new w ≡ line_at set (w - 1)
     later zero p ne = absurd (ne refl)

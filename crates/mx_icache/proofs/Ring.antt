@@ -34,7 +34,9 @@ ring_inside next line lines r w l p at =
           let within : w < length lines = grind (arith, nat_tests) in
           let back : (length lines - 1 - w) % 8 < 8 = omega arith in
           let way : (length lines - 1 - (length lines - 1 - w) % 8) % 8 ≡ w = omega arith in
-          let is : line ((length lines - 1 - (length lines - 1 - w) % 8) % 8) ≡ Some (get_or lines (length lines - 1 - (length lines - 1 - (length lines - 1 - w) % 8)) 0) = r.held (length lines - 1 - (length lines - 1 - w) % 8) (omega arith) (omega arith) in
+          let is : line ((length lines - 1 - (length lines - 1 - w) % 8) % 8)
+          ≡ Some (get_or lines (length lines - 1 - (length lines - 1 - (length lines - 1 - w) % 8)) 0) =
+          r.held (length lines - 1 - (length lines - 1 - w) % 8) (omega arith) (omega arith) in
           let found : Some (get_or lines (length lines - 1 - (length lines - 1 - (length lines - 1 - w) % 8)) 0) ≡ Some l = sym is ∙ ap line way ∙ at in
           let same : get_or lines (length lines - 1 - (length lines - 1 - (length lines - 1 - w) % 8)) 0 ≡ l = cc in
           among_at lines l (length lines - 1 - (length lines - 1 - (length lines - 1 - w) % 8)) (omega arith) (omega arith) same
@@ -49,7 +51,8 @@ pub ring_absent : (next : ℕ) (line : ℕ → Option ℕ) (lines : List ℕ) (l
     → is_among_last lines l ≡ false
 ring_absent next line lines l r none =
     not_among_first 8 lines l (λ i p q e.
-    let at : line ((length lines - 1 - i) % 8) ≡ Some (get_or lines (length lines - 1 - (length lines - 1 - i)) 0) = r.held (length lines - 1 - i) (omega arith) (omega arith) in
+    let at : line ((length lines - 1 - i) % 8) ≡ Some (get_or lines (length lines - 1 - (length lines - 1 - i)) 0) =
+    r.held (length lines - 1 - i) (omega arith) (omega arith) in
     let place : length lines - 1 - (length lines - 1 - i) ≡ i = omega arith in
     none ((length lines - 1 - i) % 8) (omega arith) (at ∙ ap Some (ap (λ k. get_or lines k 0) place ∙ e)))
 

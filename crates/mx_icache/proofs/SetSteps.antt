@@ -66,9 +66,12 @@ set_filled set new a past w h p at invalid next lines filled others =
     let missing : missed_since past a ≡ false = missed_here past a false held (sym (word_here set past a w h p at) ∙ invalid) in
     let same : line_in new ≡ line_in set = λ i v. lines v i in
     record {
-      ring = ring_same set.next new.next (line_in set) (line_in new) (allocated past (set_of (line_of a))) (allocated (a ∷ past) (set_of (line_of a))) next same (allocated-held a past (set_of (line_of a)) held) h.ring;
+      ring = ring_same set.next new.next (line_in set) (line_in new) (allocated past (set_of (line_of a))) (allocated (a ∷ past) (set_of (line_of a))) next same
+          (allocated-held a past (set_of (line_of a)) held) h.ring;
       apart = apart_same (line_in set) (line_in new) same h.apart;
-      words = words_same (line_in set) (line_in new) (word_in new) (a ∷ past) same (words_filled (line_in set) (word_in set) (word_in new) a past (set_of (line_of a)) w p at held missing (λ j q. filled j) (λ v j q ne k. others v j ne) (set_inside set past (set_of (line_of a)) h) h.apart h.words);
+      words = words_same (line_in set) (line_in new) (word_in new) (a ∷ past) same
+          (words_filled (line_in set) (word_in set) (word_in new) a past (set_of (line_of a)) w p at held missing (λ j q. filled j)
+          (λ v j q ne k. others v j ne) (set_inside set past (set_of (line_of a)) h) h.apart h.words);
     }
 
 -- a fetch in a line that is not held
@@ -78,11 +81,15 @@ pub set_allocated : (set new : Set) (a : ℕ) (past : List ℕ) → SetHolds set
     → SetHolds new (a ∷ past) (set_of (line_of a))
 set_allocated set new a past h none next line word lines words =
     let missing : is_held past (line_of a) ≡ false = line_absent set past (line_of a) h none in
-    let more : GoesRound new.next (line_in new) (allocated (a ∷ past) (set_of (line_of a))) = rw (allocated-missed a past missing) (ring_more set.next new.next (line_in set) (line_in new) (allocated past (set_of (line_of a))) (line_of a) h.ring next line lines) in
+    let more : GoesRound new.next (line_in new) (allocated (a ∷ past) (set_of (line_of a))) =
+    rw (allocated-missed a past missing)
+    (ring_more set.next new.next (line_in set) (line_in new) (allocated past (set_of (line_of a))) (line_of a) h.ring next line lines) in
     let inside : Inside (line_in set) past (set_of (line_of a)) = set_inside set past (set_of (line_of a)) h in
     record {
       ring = more;
-      apart = apart_allocated (line_in set) (line_in new) a past set.next (λ w. w) (λ w p ne. p) (λ u w p q e. e) missing line (λ w p ne. lines w ne) inside h.apart;
-      words = words_allocated (line_in set) (line_in new) (word_in set) (word_in new) a past set.next (λ w. w) (λ w p ne. p) missing line (λ w p ne. lines w ne) (λ j q. word j) (λ w j p ne q. words w j ne) inside
+      apart = apart_allocated (line_in set) (line_in new) a past set.next (λ w. w) (λ w p ne. p) (λ u w p q e. e) missing line
+          (λ w p ne. lines w ne) inside h.apart;
+      words = words_allocated (line_in set) (line_in new) (word_in set) (word_in new) a past set.next (λ w. w) (λ w p ne. p) missing line (λ w p ne. lines w ne)
+          (λ j q. word j) (λ w j p ne q. words w j ne) inside
           (λ w l p at. ring_inside new.next (line_in new) (allocated (a ∷ past) (set_of (line_of a))) more w l p at) h.words;
     }

@@ -40,14 +40,16 @@ allocated-other a past s ne = let test : eqb (set_of (line_of a)) s ≡ false = 
 pub allocated-held : (a : ℕ) (past : List ℕ) (s : ℕ) → is_held past (line_of a) ≡ true → allocated (a ∷ past) s ≡ allocated past s
 allocated-held a past s held =
     elim (eqb (set_of (line_of a)) s) as (λ v. eqb (set_of (line_of a)) s ≡ v → allocated (a ∷ past) s ≡ allocated past s) [
-      | true ↦ λ h. let same : set_of (line_of a) ≡ s = grind (arith, nat_tests) in let here : is_among_last (allocated past s) (line_of a) ≡ true = rw same at held in rw allocated-cons (rw (h, here) refl)
+      | true ↦ λ h. let same : set_of (line_of a) ≡ s = grind (arith, nat_tests) in let here : is_among_last (allocated past s) (line_of a) ≡ true =
+          rw same at held in rw allocated-cons (rw (h, here) refl)
       | false ↦ λ h. rw allocated-cons (rw h refl)
     ] refl
 
 -- a fetch of a line that is not held allocates it
 pub allocated-missed : (a : ℕ) (past : List ℕ) → is_held past (line_of a) ≡ false
     → allocated (a ∷ past) (set_of (line_of a)) ≡ line_of a ∷ allocated past (set_of (line_of a))
-allocated-missed a past missing = let test : eqb (set_of (line_of a)) (set_of (line_of a)) ≡ true = grind (arith, nat_tests) in rw allocated-cons (rw (test, missing) refl)
+allocated-missed a past missing = let test : eqb (set_of (line_of a)) (set_of (line_of a)) ≡ true = grind (arith, nat_tests) in
+    rw allocated-cons (rw (test, missing) refl)
 
 unchanged_word : (held missed before : Bool)
     → cond (not held && false) ((not held || not missed) && false) (((not held || not missed) && false) || before) ≡ before

@@ -94,7 +94,8 @@ impl PlainSet {
     /// Takes a fetch of an address of this set, and answers whether it was resident.
     pub fn fetch(&mut self, address: u32) -> bool
         ensures answer { (past : List ℕ) → PlainSetHolds self.old past (set_of (line_of address)) → result ≡ resident past address }
-        ensures next { (past : List ℕ) → PlainSetHolds self.old past (set_of (line_of address)) → PlainSetHolds self.new (address ∷ past) (set_of (line_of address)) }
+        ensures next { (past : List ℕ) → PlainSetHolds self.old past (set_of (line_of address))
+            → PlainSetHolds self.new (address ∷ past) (set_of (line_of address)) }
     {
         let line = address / 16;
         let word = (address % 16) as usize;

@@ -88,7 +88,8 @@ accepted_1 bs h =
 
 -- the numbers of version 1
 numbers_1 : (bs : List ℕ) → number_at 4 bs ≡ 1
-    → numbers (suc (suc (suc (number_at 8 bs + number_at 12 bs)))) (drop 4 bs) ≡ 1 ∷ number_at 8 bs ∷ number_at 12 bs ∷ ((image_in bs).code ++ (image_in bs).user_data)
+    → numbers (suc (suc (suc (number_at 8 bs + number_at 12 bs)))) (drop 4 bs)
+    ≡ 1 ∷ number_at 8 bs ∷ number_at 12 bs ∷ ((image_in bs).code ++ (image_in bs).user_data)
 numbers_1 bs v =
     let c = number_at 8 bs in
     let d = number_at 12 bs in
@@ -110,7 +111,8 @@ spelled_1 bs a m n v h =
     ∙ ap (λ xs. magic ++ xs) (after_magic (suc (suc (suc (c + d)))) bs a (omega (arith, s.whole)))
     ∙ ap (λ ws. magic ++ words_bytes ws) (numbers_1 bs v)
     ∙ ap (λ n. magic ++ words_bytes (1 ∷ n ∷ d ∷ ((image_in bs).code ++ (image_in bs).user_data))) (sym (length-numbers c (drop 16 bs)))
-    ∙ ap (λ n. magic ++ words_bytes (1 ∷ length (image_in bs).code ∷ n ∷ ((image_in bs).code ++ (image_in bs).user_data))) (sym (length-numbers d (drop (16 + 4 * c) bs)))
+    ∙ ap (λ n. magic ++ words_bytes (1 ∷ length (image_in bs).code ∷ n ∷ ((image_in bs).code ++ (image_in bs).user_data)))
+    (sym (length-numbers d (drop (16 + 4 * c) bs)))
 
 equal : (a b : ℕ) → (a == b) ≡ true → a ≡ b
 equal a b h = grind (arith, nat_tests)
@@ -137,7 +139,8 @@ links_from_none words i (l ∷ ls) h zero d lt = link_test words l (head_false (
     head_false : (b : Bool) (i : ℕ) (o : Option ℕ) → cond b (Some i) o ≡ None → (b ≡ false) × (o ≡ None)
     head_false true i o h = absurd (cc)
     head_false false i o h = (refl, h)
-links_from_none words i (l ∷ ls) h (suc k) d lt = links_from_none words (i + 1) ls (tail_none (is_outside words l) i (position_from (is_outside words) (i + 1) ls) h) k d (omega arith)
+links_from_none words i (l ∷ ls) h (suc k) d lt =
+    links_from_none words (i + 1) ls (tail_none (is_outside words l) i (position_from (is_outside words) (i + 1) ls) h) k d (omega arith)
   where
     tail_none : (b : Bool) (i : ℕ) (o : Option ℕ) → cond b (Some i) o ≡ None → o ≡ None
     tail_none true i o h = absurd (cc)
@@ -204,7 +207,8 @@ numbers_2 bs v =
     let words : numbers ((c + d) + m) (drop 24 bs) ≡ (numbers c (drop 24 bs) ++ numbers d (drop (24 + 4 * c) bs)) ++ numbers m (drop (24 + 4 * (c + d)) bs) =
     numbers-plus (c + d) m (drop 24 bs)
     ∙ ap (λ xs. numbers (c + d) (drop 24 bs) ++ numbers m xs) (drop-drop (4 * (c + d)) 24 bs)
-    ∙ ap (λ xs. xs ++ numbers m (drop (24 + 4 * (c + d)) bs)) (numbers-plus c d (drop 24 bs) ∙ ap (λ xs. numbers c (drop 24 bs) ++ numbers d xs) (drop-drop (4 * c) 24 bs)) in
+    ∙ ap (λ xs. xs ++ numbers m (drop (24 + 4 * (c + d)) bs))
+    (numbers-plus c d (drop 24 bs) ∙ ap (λ xs. numbers c (drop 24 bs) ++ numbers d xs) (drop-drop (4 * c) 24 bs)) in
     cc (ap number_in e8, ap number_in e12, ap number_in e16, ap number_in e20, ap (numbers ((c + d) + m)) e24, words)
 
 pub spelled_2 : (bs : List ℕ) → AreBytes bs → magic_refusal bs ≡ None → 8 ≤ length bs → number_at 4 bs ≡ 2 → refusal_2 bs ≡ None
@@ -274,7 +278,8 @@ alone : (ws : List ℕ) → AreWords ws → numbers (length ws) (words_bytes ws)
 alone ws h = ap (numbers (length ws)) (sym (append-nil (words_bytes ws))) ∙ numbers-words ws [] h
 
 same_contents : (c d : List ℕ) (i : Bool) (l c' d' : List ℕ) (i' : Bool) (l' : List ℕ) → c ≡ c' → d ≡ d' → i ≡ i' → l ≡ l'
-    → (let a : Contents = record { code = c; user_data = d; input = i; links = l } in let b : Contents = record { code = c'; user_data = d'; input = i'; links = l' } in a ≡ b)
+    → (let a : Contents = record { code = c; user_data = d; input = i; links = l } in let b : Contents =
+    record { code = c'; user_data = d'; input = i'; links = l' } in a ≡ b)
 same_contents c d i l c' d' i' l' e f g h = λ k. record { code = e k; user_data = f k; input = g k; links = h k }
 
 module _ (code user_data : List ℕ) (h : IsImage code user_data) where

@@ -55,7 +55,8 @@ pub fn check_long(bytes: &[u8], end: usize) -> Result<(), ImageError>
 
 /// Refuses bytes that do not begin with the magic and a version.
 pub fn check_head(bytes: &[u8]) -> Result<(), ImageError>
-    ensures magic { MatchResult result (λ _. or_next (magic_refusal bytes.now) (short_refusal 8 bytes.now) ≡ None) (λ e. or_next (magic_refusal bytes.now) (short_refusal 8 bytes.now) ≡ Some e) }
+    ensures magic { MatchResult result (λ _. or_next (magic_refusal bytes.now) (short_refusal 8 bytes.now) ≡ None)
+        (λ e. or_next (magic_refusal bytes.now) (short_refusal 8 bytes.now) ≡ Some e) }
     ensures room { OnOk result (8 ≤ length bytes.now) }
 {
     check_magic(bytes)?;

@@ -46,7 +46,9 @@ pub fn image_at(alloc: Global, bytes: &[u8], at: usize, sizes: Sizes) -> Result<
 
 /// The image of bytes in version 1, after the version.
 pub fn read_1(alloc: Global, bytes: &[u8]) -> Result<Image, ImageError>
-    ensures { MatchResult result (λ image. (refusal_1 bytes.now ≡ None) × (image.code.items ≡ (image_in bytes.now).code) × (image.user_data.items ≡ (image_in bytes.now).user_data)) (λ e. (e ≡ ImageError.Memory) ⊎ (refusal_1 bytes.now ≡ Some e)) }
+    ensures { MatchResult result
+        (λ image. (refusal_1 bytes.now ≡ None) × (image.code.items ≡ (image_in bytes.now).code) × (image.user_data.items ≡ (image_in bytes.now).user_data))
+        (λ e. (e ≡ ImageError.Memory) ⊎ (refusal_1 bytes.now ≡ Some e)) }
 {
     let sizes = sizes_1(bytes)?;
     Ok(image_at(alloc, bytes, 16, sizes)?)
@@ -89,7 +91,8 @@ pub fn read_image(alloc: Global, bytes: &[u8]) -> Result<Image, ImageError>
 
     // What is read is spelled so, and what is spelled so is read back.
     ensures spelled { IfOk result (λ image. bytes.now ≡ image_bytes image.code.items image.user_data.items) }
-    ensures read_back { (code user_data : List ℕ) → IsImage code user_data → bytes.now ≡ image_bytes code user_data → MatchResult result (λ image. (image.code.items ≡ code) × (image.user_data.items ≡ user_data)) (λ e. e ≡ ImageError.Memory) }
+    ensures read_back { (code user_data : List ℕ) → IsImage code user_data → bytes.now ≡ image_bytes code user_data
+        → MatchResult result (λ image. (image.code.items ≡ code) × (image.user_data.items ≡ user_data)) (λ e. e ≡ ImageError.Memory) }
 {
     image_of(alloc, bytes)
 }

@@ -48,7 +48,8 @@ fn check_links(from: usize, words: usize, links: &[u32]) -> Result<(), ImageErro
     requires from { from ≤ 600000 }
     requires words { words ≤ MAX_CODE_WORDS }
     requires links { length links.now ≤ 20001 }
-    ensures { MatchResult result (λ _. outside_refusal from (position (is_outside words) links.now) ≡ None) (λ e. outside_refusal from (position (is_outside words) links.now) ≡ Some e) }
+    ensures { MatchResult result (λ _. outside_refusal from (position (is_outside words) links.now) ≡ None)
+        (λ e. outside_refusal from (position (is_outside words) links.now) ≡ Some e) }
 {
     match first_outside(words, links) {
         Some(k) => Err(ImageError::BadRange {
@@ -60,7 +61,8 @@ fn check_links(from: usize, words: usize, links: &[u32]) -> Result<(), ImageErro
 
 /// The file of bytes in version 2, after the version.
 fn read_2(alloc: Global, bytes: &[u8]) -> Result<ImageFile, ImageError>
-    ensures { MatchResult result (λ file. (refusal_2 bytes.now ≡ None) × (contents_of file ≡ file_in_2 bytes.now)) (λ e. (e ≡ ImageError.Memory) ⊎ (refusal_2 bytes.now ≡ Some e)) }
+    ensures { MatchResult result (λ file. (refusal_2 bytes.now ≡ None) × (contents_of file ≡ file_in_2 bytes.now))
+        (λ e. (e ≡ ImageError.Memory) ⊎ (refusal_2 bytes.now ≡ Some e)) }
 {
     let sizes = sizes_2(bytes)?;
     let from = 24 + 4 * (sizes.code + sizes.user_data);
@@ -102,7 +104,8 @@ pub fn write_file(alloc: Global, file: &ImageFile) -> Result<Vec<u8>, Memory>
 
 /// The file of bytes in version 1, after the version: without input and links.
 fn read_plain(alloc: Global, bytes: &[u8]) -> Result<ImageFile, ImageError>
-    ensures { MatchResult result (λ file. (refusal_1 bytes.now ≡ None) × (contents_of file ≡ image_in bytes.now)) (λ e. (e ≡ ImageError.Memory) ⊎ (refusal_1 bytes.now ≡ Some e)) }
+    ensures { MatchResult result (λ file. (refusal_1 bytes.now ≡ None) × (contents_of file ≡ image_in bytes.now))
+        (λ e. (e ≡ ImageError.Memory) ⊎ (refusal_1 bytes.now ≡ Some e)) }
 {
     let image = read_1(alloc, bytes)?;
     Ok(ImageFile {
@@ -132,7 +135,8 @@ pub fn read_file(alloc: Global, bytes: &[u8]) -> Result<ImageFile, ImageError>
     // What is read is spelled so, and what is spelled so in either version is read back.
     ensures spelled { IfOk result (λ file. Spells bytes.now (contents_of file)) }
     ensures read_back { (f : Contents) → IsFile f → bytes.now ≡ file_bytes f → MatchResult result (λ file. contents_of file ≡ f) (λ e. e ≡ ImageError.Memory) }
-    ensures plain_read_back { (code user_data : List ℕ) → IsImage code user_data → bytes.now ≡ image_bytes code user_data → MatchResult result (λ file. contents_of file ≡ plain code user_data) (λ e. e ≡ ImageError.Memory) }
+    ensures plain_read_back { (code user_data : List ℕ) → IsImage code user_data → bytes.now ≡ image_bytes code user_data
+        → MatchResult result (λ file. contents_of file ≡ plain code user_data) (λ e. e ≡ ImageError.Memory) }
 {
     file_of(alloc, bytes)
 }

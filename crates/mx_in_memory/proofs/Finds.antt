@@ -24,8 +24,10 @@ not_none h bytes is none = absurd (cc)
 pub finds_no_fault : (held : Held) (p : Protocol) (before after : Counts) (answer : Answer) → after.faults ≡ 0 → FindsItsFiles held p
     → Faulted (record { tells = true; held = held }) p before after answer → ⊥
 finds_no_fault held (Answers given) before after answer z finds faulted = faulted
-finds_no_fault held (Reads kind name next) before after answer z (bytes, holds, rest) (inl (read, inl (is, inl rose))) = no_rise before.faults after.faults z rose
-finds_no_fault held (Reads kind name next) before after answer z (bytes, holds, rest) (inl (read, inl (is, inr (tells, none)))) = not_none (held name) bytes holds.there none
+finds_no_fault held (Reads kind name next) before after answer z (bytes, holds, rest) (inl (read, inl (is, inl rose))) =
+    no_rise before.faults after.faults z rose
+finds_no_fault held (Reads kind name next) before after answer z (bytes, holds, rest) (inl (read, inl (is, inr (tells, none)))) =
+    not_none (held name) bytes holds.there none
 finds_no_fault held (Reads kind name next) before after answer z (bytes, holds, rest) (inl (read, inr (is, long))) =
     not_long _ (held name) bytes holds.there holds.within (long.told refl)
 finds_no_fault held (Reads kind name next) before after answer z (bytes, holds, rest) (inr (between, read, found, given, more)) =

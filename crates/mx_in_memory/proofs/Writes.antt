@@ -126,5 +126,6 @@ file_comes target answer status held held' file (inl (none, undone)) is after go
 file_comes target answer status held held' file (inr (bytes, writes)) is after got =
     let done : status ≡ Done = is ∙ ap (λ (a : Answer). a.status) writes in
     let own_name = (bytes_eq-Decides target target).1 refl in
-    let holds : held' target ≡ Some bytes = after target ∙ ap (λ (a : Answer). held_with a.file held target) writes ∙ ap (λ b. if b then Some bytes else held target) own_name in
+    let holds : held' target ≡ Some bytes =
+    after target ∙ ap (λ (a : Answer). held_with a.file held target) writes ∙ ap (λ b. if b then Some bytes else held target) own_name in
     got ∙ ap (target_bytes held' (Some target)) done ∙ ap (λ o. unwrap_or o []) holds ∙ sym (ap (λ (a : Answer). file_bytes a.file) writes)

@@ -217,7 +217,8 @@ kept_kept None b m h = refl
 kept_kept (Some x) None m h = refl
 kept_kept (Some x) (Some y) m h = ⊎_elim (λ e. cc) (λ e. cc) h
 
-pub core_same : (r r' : Words) (md md' : ℕ) (m m' : Words) (t t' : ℕ) → r ≡ r' → md ≡ md' → m ≡ m' → t ≡ t' → (let a : Core = record { regs = r; md = md; mem = m; taken = t } in let b : Core = record { regs = r'; md = md'; mem = m'; taken = t' } in a ≡ b)
+pub core_same : (r r' : Words) (md md' : ℕ) (m m' : Words) (t t' : ℕ) → r ≡ r' → md ≡ md' → m ≡ m' → t ≡ t'
+    → (let a : Core = record { regs = r; md = md; mem = m; taken = t } in let b : Core = record { regs = r'; md = md'; mem = m'; taken = t' } in a ≡ b)
 core_same r r' md md' m m' t t' e f g k = λ i. record { regs = e i; md = f i; mem = g i; taken = k i }
 
 taken_taken : (a b : Bool) (t : ℕ) → cond b (suc (cond a (suc t) t)) (cond a (suc t) t) ≡ cond a (suc (cond b (suc t) t)) (cond b (suc t) t)

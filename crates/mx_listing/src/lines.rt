@@ -134,11 +134,7 @@ fn push_label(
 }
 
 // Appends the lines of the code labels, in their order.
-fn push_labels(
-    text: &mut Vec<u8>,
-    links: &[u32],
-    labels: &LabelTable,
-) -> Result<(), AllocError>
+fn push_labels(text: &mut Vec<u8>, links: &[u32], labels: &LabelTable) -> Result<(), AllocError>
     ensures { OnOk result (text.new.items ≡ text.old.items ++ label_lines links.now labels.now) }
 {
     for i in 0..labels.len() {

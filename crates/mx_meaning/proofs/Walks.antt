@@ -72,7 +72,8 @@ stays_step (Stuck why) x s ended = refl
 
 step_still : (p : Program) (r : Run) → r.state.mark ≢ Going → run_step p r ≡ r
 step_still p r ended =
-    ap (λ (x : Step). record { state = x.after; console = r.console ++ option_to_list x.byte }) (stays_step r.state.mark (execute p (slice_get p.statements r.state.index) r.state) r.state ended)
+    ap (λ (x : Step). record { state = x.after; console = r.console ++ option_to_list x.byte })
+    (stays_step r.state.mark (execute p (slice_get p.statements r.state.index) r.state) r.state ended)
     ∙ ap (λ c. record { state = r.state; console = c }) (append-nil r.console)
 
 pub run_still : (p : Program) (n : ℕ) (r : Run) → r.state.mark ≢ Going → run_for p n r ≡ r

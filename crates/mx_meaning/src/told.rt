@@ -139,7 +139,9 @@ fn push_head(
     progress: &Progress,
     console: &[u8],
 ) -> Result<(), AllocError>
-    ensures { OnOk result (text.new.items ≡ text.old.items ++ ((mark_text lines.now index (mark_of progress.now.ending) ++ count_line (codes "steps") progress.now.steps) ++ console_lines console.now)) }
+    ensures { OnOk result
+        (text.new.items ≡ text.old.items
+        ++ ((mark_text lines.now index (mark_of progress.now.ending) ++ count_line (codes "steps") progress.now.steps) ++ console_lines console.now)) }
 {
     push_ending(alloc, text, lines, index, &progress.ending)?;
     push_count(alloc, text, "steps", u64::from(progress.steps))?;

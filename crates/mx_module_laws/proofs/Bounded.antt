@@ -89,14 +89,16 @@ modules_up all (m ∷ rest) place h none =
     let f = first m rest h in
     let behind_it = modules_up all rest (place + 1) (next m rest h l.few l.within) two.1 in
     let from : m.start.address ≡ h.from.address = ap (λ (p : Position). p.address) f.begins in
-    let many : length (values_in (effects_in all place (m ∷ rest))) ≡ length (values_in own) + length (values_in later) = ap length (values_both own later) ∙ length-append (values_in own) (values_in later) in
+    let many : length (values_in (effects_in all place (m ∷ rest))) ≡ length (values_in own) + length (values_in later) =
+    ap length (values_both own later) ∙ length-append (values_in own) (values_in later) in
     let words = l.words in
     let end = h.from.address + length (values_in (effects_in all place (m ∷ rest))) in
     let labels : AllUpTo (position_at_end m.start m.lines).address m.labels = subst (AllUpTo (position_at_end m.start m.lines).address) (sym f.labels)
     (labels_up m.lines m.start [] (omega (arith, near)) (All-nil (λ (p : List ℕ × Label). IsUpTo (position_at_end m.start m.lines).address p.1))) in
     All-append (λ (p : List ℕ × Label). IsUpTo end p.1) (map (renamed m place) m.labels) (labels_in (place + 1) rest)
     (renamed_up end m place m.labels (all_up_more (position_at_end m.start m.lines).address end (omega (arith, from, many, words)) m.labels labels))
-    (all_up_more ((position_at_end m.start m.lines).address + length (values_in later)) end (omega (arith, from, many, words)) (labels_in (place + 1) rest) behind_it)
+    (all_up_more ((position_at_end m.start m.lines).address + length (values_in later)) end (omega (arith, from, many, words))
+    (labels_in (place + 1) rest) behind_it)
 
 near_label : (l : Label) → IsUpTo 65537 l → IsNear l
 near_label (label.Code i) h = tt

@@ -18,7 +18,8 @@ given_same (Some i) None bytes e = absurd (cc)
 pub same_means : SameMeaning
 same_means s t same place bytes n =
     let run : List Statement → List Value → Option (List ℕ) → Run = λ statements words input.
-    run_for (record { statements = statements; place = place; input = input }) n (record { state = start (record s { user_data = words }) place; console = [] }) in
+    run_for (record { statements = statements; place = place; input = input }) n
+    (record { state = start (record s { user_data = words }) place; console = [] }) in
     ap (λ x. run x t.user_data (given t.input bytes)) same.statements
     ∙ ap (λ x. run s.statements x (given t.input bytes)) same.user_data
     ∙ ap (run s.statements s.user_data) (given_same t.input s.input bytes same.input)

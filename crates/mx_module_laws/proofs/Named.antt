@@ -48,7 +48,8 @@ front_named labels l _ h all = h
 lines_named : (lines : List (List ℕ)) (p : Position) (labels : Labels) → AllNamed labels → AllNamed (labels_from p labels lines)
 lines_named [] p labels h = h
 lines_named (line ∷ lines) p labels h =
-    lines_named lines (after p (line_words line)) (with_labels p labels (line_words line)) (front_named labels (label_here p) (line_words line) h (line_is_spelled line))
+    lines_named lines (after p (line_words line)) (with_labels p labels (line_words line))
+    (front_named labels (label_here p) (line_words line) h (line_is_spelled line))
 
 number_goes_on : (k : ℕ) → k < 32 → list_all continues_name (codes ".." ++ decimal k) ≡ true
 unfolding digits
@@ -60,7 +61,8 @@ with_number (b ∷ bytes) k lt h =
     let both = and_both (begins_name b) (list_all continues_name bytes) h.spelled in
     record {
       spelled = ap (λ t. t && list_all continues_name (bytes ++ (codes ".." ++ decimal k))) both.0
-          ∙ list_all-append continues_name bytes (codes ".." ++ decimal k) ∙ ap (λ t. t && list_all continues_name (codes ".." ++ decimal k)) both.1 ∙ number_goes_on k lt;
+          ∙ list_all-append continues_name bytes (codes ".." ++ decimal k) ∙ ap (λ t. t && list_all continues_name (codes ".." ++ decimal k)) both.1
+          ∙ number_goes_on k lt;
       undotted = h.undotted;
     }
 
@@ -82,6 +84,7 @@ pub texts_named : (texts : List (List ℕ)) (p : Position) (place : ℕ) → pla
 texts_named [] p place few = All-nil (λ (p : List ℕ × Label). IsNamed p.0)
 texts_named (text ∷ texts) p place few =
     let labels = labels_from p [] (plain_lines text) in
-    All-append (λ (p : List ℕ × Label). IsNamed p.0) (map (renamed (module_at p text) place) labels) (labels_in (place + 1) (modules_from (behind_text p text) texts))
+    All-append (λ (p : List ℕ × Label). IsNamed p.0) (map (renamed (module_at p text) place) labels)
+    (labels_in (place + 1) (modules_from (behind_text p text) texts))
     (renamed_named (module_at p text) place labels (omega arith) (lines_named (plain_lines text) p [] (All-nil (λ (p : List ℕ × Label). IsNamed p.0))))
     (texts_named texts (behind_text p text) (place + 1) (omega arith))

@@ -36,8 +36,10 @@ front_passes p (x ∷ xs) = by (p x) refl (front_passes p xs)
 front_is_name : (b : ℕ) (rest : List ℕ) → begins_name b ≡ true → is_name (take (prefix_len continues_name (b ∷ rest)) (b ∷ rest)) ≡ true
 front_is_name b rest h =
     let goes : continues_name b ≡ true = ap (λ t. t || is_digit b 10) h in
-    let n : prefix_len continues_name (b ∷ rest) ≡ suc (prefix_len continues_name rest) = ap (λ t. cond t (1 + prefix_len continues_name rest) 0) goes ∙ omega arith in
-    ap (λ k. is_name (take k (b ∷ rest))) n ∙ ap (λ t. t && list_all continues_name (take (prefix_len continues_name rest) rest)) h ∙ front_passes continues_name rest
+    let n : prefix_len continues_name (b ∷ rest) ≡ suc (prefix_len continues_name rest) =
+    ap (λ t. cond t (1 + prefix_len continues_name rest) 0) goes ∙ omega arith in
+    ap (λ k. is_name (take k (b ∷ rest))) n ∙ ap (λ t. t && list_all continues_name (take (prefix_len continues_name rest) rest)) h
+    ∙ front_passes continues_name rest
 
 name_at : (line : List ℕ) (at : ℕ) → at < length line → begins_name (slice_index line at) ≡ true
     → is_name (slice_range line at (at + prefix_len continues_name (drop at line))) ≡ true
@@ -104,7 +106,8 @@ module _ (line : List ℕ) where
       either_ok Says (ends_at line at) (Ok (token kinds.End at at)) _ (λ e. tt)
       (λ goes. either_ok Says (not (is_allowed b)) _ _ (λ e. tt)
       (λ e. either_ok Says (begins_name b) (Ok (token kinds.Name at (at + prefix_len continues_name (drop at line)))) (mark_or_number_at line at (mark_of b))
-      (λ begins. let o = (or_none (nat_le (length line) at) (eqb b 59) goes).0 in let lt : at < length line = grind (arith, nat_tests) in name_at line at lt begins)
+      (λ begins. let o = (or_none (nat_le (length line) at) (eqb b 59) goes).0 in let lt : at < length line = grind (arith, nat_tests) in
+      name_at line at lt begins)
       (λ e. other_says at (mark_of b) (marks b))))
 
   next_says : (at : ℕ) → IfOk (next_token line at) Says
@@ -130,7 +133,8 @@ module _ (line : List ℕ) where
 
   all_say : IfOk (words_of line) (All IsSpelled)
   unfolding words_of tokens_of
-  all_say = either_ok (All IsSpelled) (has_bad_byte line) _ (words_at line (tokens_of line)) (λ e. tt) (λ e. words_say (tokens_of line) (tokens_say (length line + 1) 0))
+  all_say = either_ok (All IsSpelled) (has_bad_byte line) _ (words_at line (tokens_of line)) (λ e. tt)
+      (λ e. words_say (tokens_of line) (tokens_say (length line + 1) 0))
 
   or_none_say : (r : Result (List Word) Fault) → IfOk r (All IsSpelled) → All IsSpelled (words_or_none r)
   or_none_say (Ok words) h = h

@@ -46,7 +46,8 @@ small false value h = let k : value ≤ 4294967295 = grind (arith, nat_tests) in
 data_word_small : (negative : Bool) (value : ℕ) → IfOk (data_word negative value) (λ word. word < 2 ^ 32)
 unfolding data_word
 data_word_small negative value =
-    either_holds (λ word. word < 2 ^ 32) (in_range 2147483648 4294967295 negative value) (Ok (cond negative ((2 ^ 32 - value) % 2 ^ 32) value)) _ (λ h. small negative value h) tt
+    either_holds (λ word. word < 2 ^ 32) (in_range 2147483648 4294967295 negative value) (Ok (cond negative ((2 ^ 32 - value) % 2 ^ 32) value)) _
+    (λ h. small negative value h) tt
 
 near_word : (l : Label) → IsNear l → IsWord (value_at l)
 near_word (label.Code i) h = tt
@@ -66,7 +67,8 @@ module _ (labels : Labels) (near : All (λ (p : List ℕ × Label). IsNear p.1) 
   named_near name = found_near (label_named labels name) (lookup_All IsNear (bytes_eq name) labels near)
 
   value_word : (word : Word) → IfOk (value_of labels word) IsWord
-  value_word (Number negative value) = then_holds IsWord (data_word negative value) _ (λ w e. subst (λ r. IfOk r (λ word. word < 2 ^ 32)) e (data_word_small negative value))
+  value_word (Number negative value) =
+      then_holds IsWord (data_word negative value) _ (λ w e. subst (λ r. IfOk r (λ word. word < 2 ^ 32)) e (data_word_small negative value))
   value_word (Name name) = then_holds IsWord (any_label labels name) _ (λ l e. near_word l (subst (λ r. IfOk r IsNear) e (named_near name)))
   value_word Comma = tt
   value_word Open = tt
@@ -82,7 +84,8 @@ module _ (labels : Labels) (near : All (λ (p : List ℕ × Label). IsNear p.1) 
   values_words : (words : List Word) → IfOk (values_of labels words) (All IsWord)
   values_words [] = All-nil IsWord
   values_words (word ∷ words) =
-      then_holds (All IsWord) (value_of labels word) _ (λ v e. cons_words v (values_of labels words) (subst (λ r. IfOk r IsWord) e (value_word word)) (values_words words))
+      then_holds (All IsWord) (value_of labels word) _
+      (λ v e. cons_words v (values_of labels words) (subst (λ r. IfOk r IsWord) e (value_word word)) (values_words words))
 
   word_words : (words : List Word) → IfOk (word_values labels words) (All IsWord)
   unfolding word_values
@@ -132,7 +135,8 @@ module _ (labels : Labels) (near : All (λ (p : List ℕ × Label). IsNear p.1) 
   lines_words p number [] = All-nil IsWord
   lines_words p number (line ∷ lines) =
       let words = statement_words (line_words line) in
-      onto_words (effect_of labels p.section words) (values_in (effects_from labels (after p (line_words line)) (number + 1) lines)) (effect_words p.section words)
+      onto_words (effect_of labels p.section words) (values_in (effects_from labels (after p (line_words line)) (number + 1) lines))
+      (effect_words p.section words)
       (lines_words (after p (line_words line)) (number + 1) lines)
 
 -- of modules whose labels stand at 65,537 or before

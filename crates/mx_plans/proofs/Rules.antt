@@ -137,4 +137,6 @@ along P insts insts' items items' e f h = subst (λ (l : List Item). P insts' l)
 
 pub known_of : (insts insts' : List Inst) (items items' : List Item) → insts ≡ insts' → items ≡ items' → EachOnce (length insts') items'
     → (p k : ℕ) → StandsAt items p k → k < length insts
-known_of insts insts' items items' e f once = along (λ (is : List Inst) (xs : List Item). (p k : ℕ) → StandsAt xs p k → k < length is) insts' insts items' items (sym e) (sym f) (once_below (length insts') items' once)
+known_of insts insts' items items' e f once =
+    along (λ (is : List Inst) (xs : List Item). (p k : ℕ) → StandsAt xs p k → k < length is) insts' insts items' items (sym e) (sym f)
+    (once_below (length insts') items' once)

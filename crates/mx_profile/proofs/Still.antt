@@ -28,7 +28,8 @@ sum_still f n none (suc m) l = ⊎_elim
 module _ (p : Program) (requests : List ℕ) (words n : ℕ) (halted : (before p requests words n).halted ≡ true) where
   none : (field : Counted → ℕ) (m : ℕ) → n ≤ m → counts_one p requests words field m ≡ false
   none field m l =
-      ap (λ (s : Machine). ltb (field (before p requests words m).counts) (field s.counts)) (state_still p requests n halted (suc m) (omega arith) ∙ sym (state_still p requests n halted m l))
+      ap (λ (s : Machine). ltb (field (before p requests words m).counts) (field s.counts))
+      (state_still p requests n halted (suc m) (omega arith) ∙ sym (state_still p requests n halted m l))
       ∙ not_more (field (before p requests words m).counts)
 
   still : (b : ℕ → Bool) (there : ℕ → Bool) (w : ℕ → ℕ) → ((m : ℕ) → n ≤ m → b m ≡ false) → (m : ℕ) → n ≤ m
@@ -56,9 +57,20 @@ module _ (p : Program) (requests : List ℕ) (words n : ℕ) (halted : (before p
 
   pub tally_still : (t : Tally) (m : ℕ) → n ≤ m → IsTally p requests words n t → IsTally p requests words m t
   tally_still t m l h = record {
-    fetches = λ k. h.fetches k ∙ sym (still (counts_fetch p requests words) (λ i. eqb (place_in words (before p requests words (suc i)).shown.fetch) k) (λ i. 1) fetch_off m l);
-    cycles = λ k. h.cycles k ∙ sym (still (counts_fetch p requests words) (λ i. eqb (place_in words (before p requests words (suc i)).shown.fetch) k) (λ i. waiting p requests words i + one (counts_cycle p requests words i)) fetch_off m l);
-    executed = λ k. h.executed k ∙ sym (still (λ i. counts_fetch p requests words i && is_live (before p requests words (suc i)).shown.mem) (λ i. eqb (place_in words (before p requests words (suc i)).shown.mem) k) (λ i. 1) (both_off (λ i. is_live (before p requests words (suc i)).shown.mem)) m l);
-    cancelled = λ k. h.cancelled k ∙ sym (still (λ i. counts_fetch p requests words i && is_squashed (before p requests words (suc i)).shown.mem) (λ i. eqb (place_in words (before p requests words (suc i)).shown.mem) k) (λ i. 1) (both_off (λ i. is_squashed (before p requests words (suc i)).shown.mem)) m l);
-    squashes = λ k. h.squashes k ∙ sym (still (counts_squash p requests words) (λ i. eqb (place_in words (before p requests words (suc i)).shown.alu) k) (λ i. 1) (none (λ c. c.squashes)) m l);
+    fetches = λ k. h.fetches k
+        ∙ sym (still (counts_fetch p requests words) (λ i. eqb (place_in words (before p requests words (suc i)).shown.fetch) k) (λ i. 1) fetch_off m l);
+    cycles = λ k. h.cycles k
+        ∙ sym (still (counts_fetch p requests words) (λ i. eqb (place_in words (before p requests words (suc i)).shown.fetch) k)
+        (λ i. waiting p requests words i + one (counts_cycle p requests words i)) fetch_off m l);
+    executed = λ k. h.executed k
+        ∙ sym (still (λ i. counts_fetch p requests words i && is_live (before p requests words (suc i)).shown.mem)
+        (λ i. eqb (place_in words (before p requests words (suc i)).shown.mem) k) (λ i. 1)
+        (both_off (λ i. is_live (before p requests words (suc i)).shown.mem)) m l);
+    cancelled = λ k. h.cancelled k
+        ∙ sym (still (λ i. counts_fetch p requests words i && is_squashed (before p requests words (suc i)).shown.mem)
+        (λ i. eqb (place_in words (before p requests words (suc i)).shown.mem) k) (λ i. 1)
+        (both_off (λ i. is_squashed (before p requests words (suc i)).shown.mem)) m l);
+    squashes = λ k. h.squashes k
+        ∙ sym (still (counts_squash p requests words) (λ i. eqb (place_in words (before p requests words (suc i)).shown.alu) k) (λ i. 1)
+        (none (λ c. c.squashes)) m l);
   }

@@ -81,7 +81,8 @@ fn run_cycles<M: Machine>(
     requires waiting { progress.old.waiting ≡ 0 }
     ensures sizes { HasPlaces words progress.new.tally }
     ensures halted { (p : Program) → M.stands machine.old p [] → result ≡ (run_of p requests.now budget).halted }
-    ensures stands { (p : Program) → M.stands machine.old p [] → (h : List Bool) × M.stands machine.new p h × (state_after p h ≡ (run_of p requests.now budget).last) }
+    ensures stands { (p : Program) → M.stands machine.old p []
+        → (h : List Bool) × M.stands machine.new p h × (state_after p h ≡ (run_of p requests.now budget).last) }
     ensures tally { (p : Program) → M.stands machine.old p [] → IsTally p requests.now words budget progress.new.tally }
     ensures still_waiting { (p : Program) → M.stands machine.old p [] → progress.new.waiting ≡ waiting p requests.now words budget }
 {

@@ -166,7 +166,8 @@ fills_low block before (Op j) f k e =
 fills_low block before Nop f k e = absurd (op_not_nop k Nop e refl)
 
 both_first : (h g x y : ℕ) → (g < h) ⊎ ((g ≡ h) × (x ≤ y)) → (h < g) ⊎ ((h ≡ g) × (y ≤ x)) → x ≡ y
-both_first h g x y p q = ⊎_elim (λ l. ⊎_elim (λ m. absurd (omega arith)) (λ m. absurd (omega arith)) q) (λ l. ⊎_elim (λ m. absurd (omega arith)) (λ m. omega arith) q) p
+both_first h g x y p q =
+    ⊎_elim (λ l. ⊎_elim (λ m. absurd (omega arith)) (λ m. absurd (omega arith)) q) (λ l. ⊎_elim (λ m. absurd (omega arith)) (λ m. omega arith) q) p
 
 -- at most one item fills a place
 pub fills_unique : (block : Block) (before : List Item) (a b : Item) → ((x : ℕ) → x < length (insts_of block) → HasHeight block x) → Fills block before a
@@ -195,7 +196,8 @@ rest_same block before first second known f g r =
     let e : r.first ≡ first = fills_unique block behind r.first first known r.first_fills f in
     let moved : Fills block (behind ++ first ∷ []) r.second = subst (λ (x : Item). Fills block (behind ++ x ∷ []) r.second) e r.second_fills in
     let d : r.second ≡ second = fills_unique block (behind ++ first ∷ []) r.second second known moved g in (
-      subst (λ (y : Item). AllStand block (behind ++ first ∷ [] ++ y ∷ [])) d (subst (λ (x : Item). AllStand block (behind ++ x ∷ [] ++ r.second ∷ [])) e r.all),
+      subst (λ (y : Item). AllStand block (behind ++ first ∷ [] ++ y ∷ [])) d
+          (subst (λ (x : Item). AllStand block (behind ++ x ∷ [] ++ r.second ∷ [])) e r.all),
       ap (loads block) (sym d) ∙ r.no_load,
     )
 

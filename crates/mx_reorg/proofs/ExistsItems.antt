@@ -54,7 +54,8 @@ ready_decided block before x = ⊎_elim
     (λ none. inr (λ r. none r.apart))
     (last_decided before (λ k. feeds (inst_at (insts_of block) k) (inst_at (insts_of block) x))))
     (λ none. inr (λ r. none (λ y l d. r.follows y d)))
-    (all_below (λ y. IsEdge (insts_of block) block.input y x → Stands before y) x (λ y. implied _ _ (edge_decided (insts_of block) block.input y x) (stands_decided before y)))
+    (all_below (λ y. IsEdge (insts_of block) block.input y x → Stands before y) x
+    (λ y. implied _ _ (edge_decided (insts_of block) block.input y x) (stands_decided before y)))
 
 candidate_decided : (block : Block) (before : List Item) (x : ℕ) → Decided (IsCandidate block before x)
 candidate_decided block before x = ⊎_elim

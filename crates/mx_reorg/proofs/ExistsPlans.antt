@@ -73,7 +73,8 @@ front_from block (suc n) items room grows cost = ⊎_elim
     (λ none.
     let next = filled block items in
     let size = length-append items (next.item ∷ []) in
-    front_from block n (items ++ next.item ∷ []) (omega arith) (grows_push block items next.item grows none next.fills) (cost_grows block items next.item next.fills none cost))
+    front_from block n (items ++ next.item ∷ []) (omega arith) (grows_push block items next.item grows none next.fills)
+    (cost_grows block items next.item next.fills none cost))
     (end_decided block.end block items)
 
 front : (block : Block) → Front block

@@ -64,16 +64,20 @@ grows_push block items item g going fills =
     let count = length-append items (item ∷ []) in
     record {
       filled = λ p l. ⊎_elim
-          (λ below. fills_moved block _ _ _ _ (sym (take_before items (item ∷ []) p (omega arith))) (sym (item_before items (item ∷ []) p below)) (g.filled p below))
+          (λ below. fills_moved block _ _ _ _ (sym (take_before items (item ∷ []) p (omega arith))) (sym (item_before items (item ∷ []) p below))
+          (g.filled p below))
           (λ above.
           let at : p ≡ length items + 0 = omega arith in
-          let taken : items ≡ take p (items ++ item ∷ []) = (let s : length items ≡ p = omega arith in sym (take_all items) ∙ ap (λ n. take n items) s ∙ sym (take_before items (item ∷ []) p (omega arith))) in
+          let taken : items ≡ take p (items ++ item ∷ []) =
+          (let s : length items ≡ p = omega arith in
+          sym (take_all items) ∙ ap (λ n. take n items) s ∙ sym (take_before items (item ∷ []) p (omega arith))) in
           fills_moved block _ _ _ _ taken (sym (item_behind items (item ∷ []) p 0 at)) fills)
           (cases_lt p (length items));
       going = λ p l m. ⊎_elim
           (λ below. g.going p below (subst (λ (l : List Item). MayEnd block.end block l) (take_before items (item ∷ []) p (omega arith)) m))
           (λ above.
-          let taken : take p (items ++ item ∷ []) ≡ items = (let s : p ≡ length items = omega arith in take_before items (item ∷ []) p (omega arith) ∙ ap (λ n. take n items) s ∙ take_all items) in
+          let taken : take p (items ++ item ∷ []) ≡ items =
+          (let s : p ≡ length items = omega arith in take_before items (item ∷ []) p (omega arith) ∙ ap (λ n. take n items) s ∙ take_all items) in
           going (subst (λ (l : List Item). MayEnd block.end block l) taken m))
           (cases_lt p (length items));
     }
@@ -102,17 +106,22 @@ pub greedy_from : (block : Block) (plan : Plan) (front rest : List Item) → Gro
 greedy_from block plan front rest grows ends e place count t slots =
     let size = ap length e ∙ length-append front rest in
     record {
-      ends = subst (λ (l : List Item). MayEnd block.end block l) (sym (taken (length front) place ∙ take_before front rest (length front) (omega arith) ∙ take_all front)) ends;
-      least = λ p l m. grows.going p (omega arith) (subst (λ (l : List Item). MayEnd block.end block l) (taken_at p ∙ take_before front rest p (omega arith)) m);
+      ends = subst (λ (l : List Item). MayEnd block.end block l)
+          (sym (taken (length front) place ∙ take_before front rest (length front) (omega arith) ∙ take_all front)) ends;
+      least = λ p l m. grows.going p (omega arith)
+          (subst (λ (l : List Item). MayEnd block.end block l) (taken_at p ∙ take_before front rest p (omega arith)) m);
       filled = λ p l apart. ⊎_elim
-          (λ below. fills_moved block _ _ _ _ (sym (taken_at p ∙ take_before front rest p (omega arith))) (sym (item_at p ∙ item_before front rest p below)) (grows.filled p below))
+          (λ below. fills_moved block _ _ _ _ (sym (taken_at p ∙ take_before front rest p (omega arith))) (sym (item_at p ∙ item_before front rest p below))
+          (grows.filled p below))
           (λ above.
           let q : ℕ = p - length front in
           let at : p ≡ length front + q = omega arith in
           let some : 1 ≤ q = omega arith in
-          fills_moved block _ _ _ _ (sym (taken_at p ∙ take_behind front rest p q at)) (sym (item_at p ∙ item_behind front rest p q at)) (slots q some (omega arith)))
+          fills_moved block _ _ _ _ (sym (taken_at p ∙ take_behind front rest p q at)) (sym (item_at p ∙ item_behind front rest p q at))
+          (slots q some (omega arith)))
           (cases_lt p (length front));
-      terminator = λ g. (let at : plan.place ≡ length front + 0 = omega arith in ap (λ l. slice_get l plan.place) e ∙ get_behind front rest plan.place 0 at ∙ t g);
+      terminator = λ g. (let at : plan.place ≡ length front + 0 = omega arith in
+          ap (λ l. slice_get l plan.place) e ∙ get_behind front rest plan.place 0 at ∙ t g);
       tail = omega arith;
     }
   where
@@ -131,7 +140,8 @@ pub slots_filled : (block : Block) (front : List Item) (first second : Item) →
     → Fills block (front ++ take q (Op (terminator block) ∷ first ∷ second ∷ [])) (slice_index_or (Op (terminator block) ∷ first ∷ second ∷ []) q Nop)
 slots_filled block front first second f g zero l m = absurd (omega arith)
 slots_filled block front first second f g (suc zero) l m = f
-slots_filled block front first second f g (suc (suc zero)) l m = subst (λ (l : List Item). Fills block l second) (append_assoc front (Op (terminator block) ∷ []) (first ∷ [])) g
+slots_filled block front first second f g (suc (suc zero)) l m =
+    subst (λ (l : List Item). Fills block l second) (append_assoc front (Op (terminator block) ∷ []) (first ∷ [])) g
 slots_filled block front first second f g (suc (suc (suc q))) l m = absurd (omega arith)
 
 pub three_items : (front : List Item) (a b c : Item) → front ++ a ∷ [] ++ b ∷ [] ++ c ∷ [] ≡ front ++ a ∷ b ∷ c ∷ []

@@ -52,8 +52,10 @@ cost_padded : (i : Inst) → cond (is_load i) 2 1 ≤ suc (length (no_ops_after 
 cost_padded i = by (is_load i) refl
   where
     by : (b : Bool) → is_load i ≡ b → cond (is_load i) 2 1 ≤ suc (length (no_ops_after i))
-    by true e = let f : Bool → Type 0 = λ b. cond b 2 1 ≤ suc (length (cond b (Nop ∷ []) (cond (is_transfer i) (Nop ∷ Nop ∷ []) []))) in subst f (sym e) (omega arith)
-    by false e = let f : Bool → Type 0 = λ b. cond b 2 1 ≤ suc (length (cond b (Nop ∷ []) (cond (is_transfer i) (Nop ∷ Nop ∷ []) []))) in subst f (sym e) (omega arith)
+    by true e = let f : Bool
+        → Type 0 = λ b. cond b 2 1 ≤ suc (length (cond b (Nop ∷ []) (cond (is_transfer i) (Nop ∷ Nop ∷ []) []))) in subst f (sym e) (omega arith)
+    by false e = let f : Bool
+        → Type 0 = λ b. cond b 2 1 ≤ suc (length (cond b (Nop ∷ []) (cond (is_transfer i) (Nop ∷ Nop ∷ []) []))) in subst f (sym e) (omega arith)
 
 pub total_padded : (insts : List Inst) (m : ℕ) → m ≤ length insts → total insts m ≤ length (padded_from 0 (take m insts))
 total_padded insts zero l = omega arith
@@ -61,7 +63,8 @@ total_padded insts (suc m) l =
     let rest = total_padded insts m (omega arith) in
     let one = cost_padded (inst_at insts m) in
     let next : suc m ≡ m + 1 = omega arith in
-    let grown = ap (λ k. length (padded_from 0 (take k insts))) next ∙ ap length (padded_more insts m Halt (omega arith)) ∙ length-append (padded_from 0 (take m insts)) (Op m ∷ no_ops_after (inst_at insts m)) in
+    let grown = ap (λ k. length (padded_from 0 (take k insts))) next ∙ ap length (padded_more insts m Halt (omega arith))
+    ∙ length-append (padded_from 0 (take m insts)) (Op m ∷ no_ops_after (inst_at insts m)) in
     omega arith
 
 pub taken_stands : (xs : List Item) (p q k : ℕ) → StandsAt (take q xs) p k → StandsAt xs p k
@@ -106,7 +109,14 @@ module _ (block : Block) (plan : Plan) (g : IsGreedy block plan) where
   placed p k s = ⊎_elim
       (λ at. ⊎_elim
       (λ t. (let none = falls_none block.end t in let tail = g.tail in let within = slice_get_within (items_of plan) p (Op k) s in absurd (omega arith)))
-      (λ f. inl (at, (f, op_same k (terminator block) (Op k) refl (same_Some (Op k) (Op (terminator block)) (sym s ∙ ap (slice_get (items_of plan)) at ∙ g.terminator f)))))
+      (λ f. inl (
+        at,
+        (
+          f,
+          op_same k (terminator block) (Op k) refl
+              (same_Some (Op k) (Op (terminator block)) (sym s ∙ ap (slice_get (items_of plan)) at ∙ g.terminator f)),
+        ),
+      ))
       (cases_Bool (falls block.end)))
       (λ apart. inr (best (g.filled p (slice_get_within (items_of plan) p (Op k) s) apart)))
       (cases_eq p plan.place)

@@ -101,7 +101,8 @@ spent_push insts items k (suc m) l z = ⊎_elim
         let before : times m (ops items) ≡ 0 = ap (λ j. times j (ops items)) (sym e) ∙ z in
         let now : times m (ops (items ++ Op k ∷ [])) ≡ 1 =
         ap (λ j. times j (ops (items ++ Op k ∷ []))) (sym e) ∙ times_push k k items ∙ ap (λ n. n + times k (k ∷ [])) z ∙ ap (λ n. 0 + n) (times_self k) in
-        let a : cond (leb 1 (times m (ops (items ++ Op k ∷ [])))) (cost insts m) 0 ≡ cost insts m = ap (λ t. cond (leb 1 t) (cost insts m) 0) now ∙ one (cost insts m) in
+        let a : cond (leb 1 (times m (ops (items ++ Op k ∷ [])))) (cost insts m) 0 ≡ cost insts m =
+        ap (λ t. cond (leb 1 t) (cost insts m) 0) now ∙ one (cost insts m) in
         let b : cond (leb 1 (times m (ops items))) (cost insts m) 0 ≡ 0 = ap (λ t. cond (leb 1 t) (cost insts m) 0) before ∙ none (cost insts m) in
         let c : cost insts m ≡ cost insts k = ap (cost insts) (sym e) in
         omega arith
@@ -169,7 +170,9 @@ all_or_missing : (items : List Item) (m : ℕ) → ((k : ℕ) → k < m → Stan
 all_or_missing items zero = inl (λ k l. absurd (omega arith))
 all_or_missing items (suc m) = ⊎_elim
     (λ all. ⊎_elim
-    (λ l. let s = counted_stands m items l in inl (λ k b. ⊎_elim (λ c. all k c) (λ g. (let e : m ≡ k = omega arith in subst (λ (n : ℕ). Stands items n) e (record { at = s.at; stands = s.stands }))) (cases_lt k m)))
+    (λ l. let s = counted_stands m items l in
+    inl (λ k b. ⊎_elim (λ c. all k c) (λ g. (let e : m ≡ k = omega arith in subst (λ (n : ℕ). Stands items n) e (record { at = s.at; stands = s.stands })))
+    (cases_lt k m)))
     (λ z. inr (record { number = m; low = omega arith; missing = λ s. (let c = stands_counts m items s.at s.stands in absurd (omega arith)); below = all }))
     (cases_lt 0 (times m (ops items))))
     (λ h. inr (record { number = h.number; low = (let l = h.low in omega arith); missing = h.missing; below = h.below }))
@@ -185,8 +188,16 @@ last_or_not block items = at_last (slice_get items (length items - 1)) refl
     at_last None e = inr (λ p k s l. absurd (none-some (Op k) (sym e ∙ place_of p k s l)))
     at_last (Some Nop) e = inr (λ p k s l. absurd (let f : Some Nop ≡ Some (Op k) = sym e ∙ place_of p k s l in cc))
     at_last (Some (Op j)) e = ⊎_elim
-        (λ t. inl (record { place = length items - 1; inst = j; stands = e; last = (let w = slice_get_within items (length items - 1) (Op j) e in omega arith); load = t }))
-        (λ f. inr (λ p k s l. (let g : Some (Op j) ≡ Some (Op k) = sym e ∙ place_of p k s l in let same : j ≡ k = cc in ap (λ n. is_load (inst_at (insts_of block) n)) (sym same) ∙ f)))
+        (λ t. inl (record {
+          place = length items - 1;
+          inst = j;
+          stands = e;
+          last = (let w = slice_get_within items (length items - 1) (Op j) e in omega arith);
+          load = t;
+        }))
+        (λ f. inr (λ p k s l.
+        (let g : Some (Op j) ≡ Some (Op k) = sym e ∙ place_of p k s l in let same : j ≡ k = cc in
+        ap (λ n. is_load (inst_at (insts_of block) n)) (sym same) ∙ f)))
         (cases_Bool (is_load (inst_at (insts_of block) j)))
 
 quiet : (block : Block) (items : List Item) (x : ℕ) → EndsWithoutLoad (insts_of block) items → LeavesApart block items x
@@ -238,7 +249,8 @@ leaves block items e all q = (
     second = Nop;
     first_fills = λ k d. d.fresh (one k (all k d.body));
     second_fills = λ k d. d.fresh (more (items ++ Op (terminator block) ∷ []) (Nop ∷ []) k (one k (all k d.body)));
-    all = λ k l. more (items ++ Op (terminator block) ∷ [] ++ Nop ∷ []) (Nop ∷ []) k (more (items ++ Op (terminator block) ∷ []) (Nop ∷ []) k (one k (all k l)));
+    all = λ k l. more (items ++ Op (terminator block) ∷ [] ++ Nop ∷ []) (Nop ∷ []) k
+        (more (items ++ Op (terminator block) ∷ []) (Nop ∷ []) k (one k (all k l)));
     no_load = refl;
   },
 )

@@ -45,11 +45,14 @@ module _ (block : Block) (known : (x : ℕ) → x < length (insts_of block) → 
   item_same p q n g h e l m = ⊎_elim
       (λ at. ⊎_elim
       (λ also. ended at also)
-      (λ apart. absurd (⊎_elim (λ less. ends_not_before p q n g h e (omega arith) (omega arith)) (λ more. ends_not_before q p n h g (sym e) (omega arith) (omega arith)) (cases_lt q.place n)))
+      (λ apart. absurd (⊎_elim (λ less. ends_not_before p q n g h e (omega arith) (omega arith))
+      (λ more. ends_not_before q p n h g (sym e) (omega arith) (omega arith)) (cases_lt q.place n)))
       (cases_eq n q.place))
       (λ apart. ⊎_elim
-      (λ at. absurd (⊎_elim (λ less. ends_not_before q p n h g (sym e) (omega arith) (omega arith)) (λ more. ends_not_before p q n g h e (omega arith) (omega arith)) (cases_lt p.place n)))
-      (λ also. fills_unique block (take n (items_of q)) _ _ known (subst (λ (l : List Item). Fills block l (slice_index_or (items_of p) n Nop)) e (g.filled n l apart)) (h.filled n m also))
+      (λ at. absurd (⊎_elim (λ less. ends_not_before q p n h g (sym e) (omega arith) (omega arith))
+      (λ more. ends_not_before p q n g h e (omega arith) (omega arith)) (cases_lt p.place n)))
+      (λ also. fills_unique block (take n (items_of q)) _ _ known
+      (subst (λ (l : List Item). Fills block l (slice_index_or (items_of p) n Nop)) e (g.filled n l apart)) (h.filled n m also))
       (cases_eq n q.place))
       (cases_eq n p.place)
     where
@@ -81,9 +84,11 @@ module _ (block : Block) (known : (x : ℕ) → x < length (insts_of block) → 
 
   same_place : (p q : Plan) → IsGreedy block p → IsGreedy block q → p.place ≡ q.place
   same_place p q g h = ⊎_elim
-      (λ less. (let e = same_front q p p.place h g (let t = h.tail in omega arith) (let t = g.tail in omega arith) in absurd (ends_not_before q p p.place h g e less (omega arith))))
+      (λ less. (let e = same_front q p p.place h g (let t = h.tail in omega arith) (let t = g.tail in omega arith) in
+      absurd (ends_not_before q p p.place h g e less (omega arith))))
       (λ more. ⊎_elim
-      (λ less. (let e = same_front p q q.place g h (let t = g.tail in omega arith) (let t = h.tail in omega arith) in absurd (ends_not_before p q q.place g h e less (omega arith))))
+      (λ less. (let e = same_front p q q.place g h (let t = g.tail in omega arith) (let t = h.tail in omega arith) in
+      absurd (ends_not_before p q q.place g h e less (omega arith))))
       (λ same. omega arith)
       (cases_lt q.place p.place))
       (cases_lt p.place q.place)

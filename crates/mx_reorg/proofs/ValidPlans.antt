@@ -60,7 +60,8 @@ module _ (block : Block) (plan : Plan) (g : IsGreedy block plan) (known : (x : �
   apart_terminator : (end : End) → block.end ≡ end → falls end ≡ false → MayEnd end block (take plan.place (items_of plan))
       → LeavesApart block (take plan.place (items_of plan)) (terminator block)
   apart_terminator Falls e f m = absurd (false≢true (sym f))
-  apart_terminator Halts e f m = λ p k s l. never _ _ (halt_reads (inst_at (insts_of block) (terminator block)) (dest (inst_at (insts_of block) k)) (last_halts e))
+  apart_terminator Halts e f m =
+      λ p k s l. never _ _ (halt_reads (inst_at (insts_of block) (terminator block)) (dest (inst_at (insts_of block) k)) (last_halts e))
   apart_terminator (Branches t) e f m = m.0.apart
   apart_terminator (Calls t) e f m = m.0.apart
   apart_terminator Jumps e f m = m.0.apart
@@ -72,18 +73,24 @@ module _ (block : Block) (plan : Plan) (g : IsGreedy block plan) (known : (x : �
       let items = items_of plan in
       let front = take plan.place items in
       let tail = g.tail in
-      let t : slice_index_or items plan.place Nop ≡ Op (terminator block) = get_or_from_slice_get items plan.place (Op (terminator block)) Nop (g.terminator f) in
-      let one : take (plan.place + 1) items ≡ front ++ Op (terminator block) ∷ [] = take_more items plan.place Nop (omega arith) ∙ ap (λ x. front ++ x ∷ []) t in
+      let t : slice_index_or items plan.place Nop ≡ Op (terminator block) =
+      get_or_from_slice_get items plan.place (Op (terminator block)) Nop (g.terminator f) in
+      let one : take (plan.place + 1) items ≡ front ++ Op (terminator block) ∷ [] =
+      take_more items plan.place Nop (omega arith) ∙ ap (λ x. front ++ x ∷ []) t in
       let first : slice_index_or items (plan.place + 1) Nop ≡ r.first =
       fills_unique block (front ++ Op (terminator block) ∷ []) _ r.first known
-      (subst (λ (l : List Item). Fills block l (slice_index_or items (plan.place + 1) Nop)) one (g.filled (plan.place + 1) (omega arith) (λ e. absurd (omega arith)))) r.first_fills in
+      (subst (λ (l : List Item). Fills block l (slice_index_or items (plan.place + 1) Nop)) one
+      (g.filled (plan.place + 1) (omega arith) (λ e. absurd (omega arith)))) r.first_fills in
       let two : take (plan.place + 1 + 1) items ≡ front ++ Op (terminator block) ∷ [] ++ r.first ∷ [] =
-      take_more items (plan.place + 1) Nop (omega arith) ∙ ap (λ l. l ++ slice_index_or items (plan.place + 1) Nop ∷ []) one ∙ ap (λ x. front ++ Op (terminator block) ∷ [] ++ x ∷ []) first in
+      take_more items (plan.place + 1) Nop (omega arith) ∙ ap (λ l. l ++ slice_index_or items (plan.place + 1) Nop ∷ []) one
+      ∙ ap (λ x. front ++ Op (terminator block) ∷ [] ++ x ∷ []) first in
       let second : slice_index_or items (plan.place + 1 + 1) Nop ≡ r.second =
       fills_unique block (front ++ Op (terminator block) ∷ [] ++ r.first ∷ []) _ r.second known
-      (subst (λ (l : List Item). Fills block l (slice_index_or items (plan.place + 1 + 1) Nop)) two (g.filled (plan.place + 1 + 1) (omega arith) (λ e. absurd (omega arith)))) r.second_fills in
+      (subst (λ (l : List Item). Fills block l (slice_index_or items (plan.place + 1 + 1) Nop)) two
+      (g.filled (plan.place + 1 + 1) (omega arith) (λ e. absurd (omega arith)))) r.second_fills in
       let three : take (plan.place + 1 + 1 + 1) items ≡ front ++ Op (terminator block) ∷ [] ++ r.first ∷ [] ++ r.second ∷ [] =
-      take_more items (plan.place + 1 + 1) Nop (omega arith) ∙ ap (λ l. l ++ slice_index_or items (plan.place + 1 + 1) Nop ∷ []) two ∙ ap (λ x. front ++ Op (terminator block) ∷ [] ++ r.first ∷ [] ++ x ∷ []) second in
+      take_more items (plan.place + 1 + 1) Nop (omega arith) ∙ ap (λ l. l ++ slice_index_or items (plan.place + 1 + 1) Nop ∷ []) two
+      ∙ ap (λ x. front ++ Op (terminator block) ∷ [] ++ r.first ∷ [] ++ x ∷ []) second in
       let size : length items ≡ plan.place + 1 + 1 + 1 = omega arith in
       sym (take_all items) ∙ ap (λ n. take n items) size ∙ three
     where
@@ -101,7 +108,8 @@ module _ (block : Block) (plan : Plan) (g : IsGreedy block plan) (known : (x : �
       → EndsWithoutLoad (insts_of block) (items_of plan)
   slots_quiet f c r p k s l =
       let w = whole f c r in
-      let last = last_item (take plan.place (items_of plan) ++ Op (terminator block) ∷ [] ++ r.first ∷ []) r.second p k (sym (ap (λ xs. slice_get xs p) w) ∙ s) (l ∙ ap length w) in
+      let last = last_item (take plan.place (items_of plan) ++ Op (terminator block) ∷ [] ++ r.first ∷ []) r.second p k (sym (ap (λ xs. slice_get xs p) w) ∙ s)
+      (l ∙ ap length w) in
       sym (ap (loads block) last) ∙ r.no_load
 
   last_quiet : (end : End) → block.end ≡ end → MayEnd end block (take plan.place (items_of plan)) → EndsWithoutLoad (insts_of block) (items_of plan)
@@ -126,22 +134,27 @@ module _ (block : Block) (plan : Plan) (g : IsGreedy block plan) (known : (x : �
   cost_taken (suc p) l =
       let t = g.tail in
       let next : suc p ≡ p + 1 = omega arith in
-      let more : take (suc p) (items_of plan) ≡ take p (items_of plan) ++ slice_index_or (items_of plan) p Nop ∷ [] = ap (λ k. take k (items_of plan)) next ∙ take_more (items_of plan) p Nop (omega arith) in
+      let more : take (suc p) (items_of plan) ≡ take p (items_of plan) ++ slice_index_or (items_of plan) p Nop ∷ [] =
+      ap (λ k. take k (items_of plan)) next ∙ take_more (items_of plan) p Nop (omega arith) in
       subst (λ (xs : List Item). Cost block xs) (sym more)
-      (cost_grows block (take p (items_of plan)) (slice_index_or (items_of plan) p Nop) (g.filled p (omega arith) (λ e. absurd (omega arith))) (g.least p (omega arith)) (cost_taken p (omega arith)))
+      (cost_grows block (take p (items_of plan)) (slice_index_or (items_of plan) p Nop) (g.filled p (omega arith) (λ e. absurd (omega arith)))
+      (g.least p (omega arith)) (cost_taken p (omega arith)))
 
   stands : (k : ℕ) → k < length (insts_of block) → Stands (items_of plan) k
   stands k l = ⊎_elim
       (λ body. body_stands block.end refl g.ends k body)
       (λ rest. ⊎_elim
-      (λ t. (let b : body_count block ≡ length (insts_of block) = ap (λ c. cond c (length (insts_of block)) (length (insts_of block) - 1)) t in absurd (omega arith)))
-      (λ f. (let b = body_before block plan g f in let same : k ≡ terminator block = omega arith in record { at = plan.place; stands = g.terminator f ∙ ap (λ n. Some (Op n)) (sym same) }))
+      (λ t. (let b : body_count block ≡ length (insts_of block) = ap (λ c. cond c (length (insts_of block)) (length (insts_of block) - 1)) t in
+      absurd (omega arith)))
+      (λ f. (let b = body_before block plan g f in let same : k ≡ terminator block = omega arith in
+      record { at = plan.place; stands = g.terminator f ∙ ap (λ n. Some (Op n)) (sym same) }))
       (cases_Bool (falls block.end)))
       (cases_lt k (body_count block))
 
   once : EachOnce (length (insts_of block)) (items_of plan)
   once = once_from_parts (length (insts_of block)) (items_of plan) (low_places block plan g)
-      (λ k l. (let s = stands k l in let low = stands_counts k (items_of plan) s.at s.stands in let high = once_low (items_of plan) k (λ p q. apart_places block plan g p q k) in omega arith))
+      (λ k l. (let s = stands k l in let low = stands_counts k (items_of plan) s.at s.stands in let high =
+      once_low (items_of plan) k (λ p q. apart_places block plan g p q k) in omega arith))
 
   -- an instruction from which an edge leads to another stands before it
   before : (p k j : ℕ) → StandsAt (items_of plan) p k → IsEdge (insts_of block) block.input j k → Stands (take p (items_of plan)) j

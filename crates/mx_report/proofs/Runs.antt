@@ -42,7 +42,8 @@ answer_halted code input m request = ⊎_elim
     (cases_Bool m.halted)
 
 pub one_more_byte : (p : Program) (m : Machine) (h : List Bool) (request : Bool)
-    → bytes_on p m (h ++ request ∷ []) ≡ bytes_on p m h ++ option_to_list (answer (code_of p) p.input (after_bits resident (code_of p) p.input m h) request).byte
+    → bytes_on p m (h ++ request ∷ []) ≡ bytes_on p m h
+    ++ option_to_list (answer (code_of p) p.input (after_bits resident (code_of p) p.input m h) request).byte
 one_more_byte p m [] request = grind (arith, common_steps)
 one_more_byte p m (b ∷ h) request =
     ap (λ l. option_to_list (answer (code_of p) p.input m b).byte ++ l) (one_more_byte p (cycled resident (code_of p) p.input m b) h request)

@@ -70,7 +70,8 @@ fn run_cycle<M: Machine>(
     text: &mut Vec<u8>,
 ) -> Result<bool, AllocError>
     requires { M.cycles machine.old < 2 ^ 63 }
-    ensures halted { IfOk result (λ halted. (p : Program) → M.stands machine.old p (bits requests.now cycle) → halted ≡ (state_after p (bits requests.now (suc cycle))).halted) }
+    ensures halted { IfOk result
+        (λ halted. (p : Program) → M.stands machine.old p (bits requests.now cycle) → halted ≡ (state_after p (bits requests.now (suc cycle))).halted) }
     ensures stands { OnOk result ((p : Program) → M.stands machine.old p (bits requests.now cycle) → M.stands machine.new p (bits requests.now (suc cycle))) }
     ensures console { OnOk result ((p : Program) → M.stands machine.old p (bits requests.now cycle)
         → console.old.items ≡ console_after p (bits requests.now cycle) → console.new.items ≡ console_after p (bits requests.now (suc cycle))) }
@@ -100,7 +101,8 @@ fn run_cycles<M: Machine>(
     ensures halted { IfOk result (λ halted. (p : Program) → M.stands machine.old p [] → halted ≡ (run_of p requests.now budget).halted) }
     ensures console { OnOk result ((p : Program) → M.stands machine.old p [] → console.new.items ≡ (run_of p requests.now budget).console) }
     ensures trace { OnOk result ((p : Program) → M.stands machine.old p [] → text.new.items ≡ trace_text p requests.now (min trace budget)) }
-    ensures stands { OnOk result ((p : Program) → M.stands machine.old p [] → (h : List Bool) × M.stands machine.new p h × (state_after p h ≡ (run_of p requests.now budget).last)) }
+    ensures stands { OnOk result
+        ((p : Program) → M.stands machine.old p [] → (h : List Bool) × M.stands machine.new p h × (state_after p h ≡ (run_of p requests.now budget).last)) }
 {
     for cycle in 0..budget {
         if run_cycle(alloc, machine, requests, cycle, trace, console, text)? {
@@ -124,7 +126,8 @@ pub fn drive<M: Machine>(
     ensures counts { IfOk result (λ d. (p : Program) → M.stands machine.old p [] → d.counts ≡ (run_of p requests.now budget).counts) }
     ensures console { IfOk result (λ d. (p : Program) → M.stands machine.old p [] → d.console.items ≡ (run_of p requests.now budget).console) }
     ensures trace { IfOk result (λ d. (p : Program) → M.stands machine.old p [] → d.trace.items ≡ trace_text p requests.now (min trace budget)) }
-    ensures stands { OnOk result ((p : Program) → M.stands machine.old p [] → (h : List Bool) × M.stands machine.new p h × (state_after p h ≡ (run_of p requests.now budget).last)) }
+    ensures stands { OnOk result
+        ((p : Program) → M.stands machine.old p [] → (h : List Bool) × M.stands machine.new p h × (state_after p h ≡ (run_of p requests.now budget).last)) }
 {
     let mut console = Vec::new(alloc);
     let mut text = Vec::new(alloc);

@@ -51,7 +51,9 @@ fn push_word_of<M: Machine>(
     n: u8,
 ) -> Result<(), AllocError>
     requires { n ≤ 31 }
-    ensures { OnOk result ((p : Program) (h : List Bool) → M.stands machine.now p h → text.new.items ≡ text.old.items ++ register_line n (word_text (reg (state_after p h).core.regs n))) }
+    ensures { OnOk result
+        ((p : Program) (h : List Bool) → M.stands machine.now p h
+        → text.new.items ≡ text.old.items ++ register_line n (word_text (reg (state_after p h).core.regs n))) }
 {
     let mut word = Vec::new(alloc);
     if let Some(register) = Reg::new(n) {
@@ -77,7 +79,8 @@ fn push_registers<M: Machine>(
 
 // Appends the registers and MD.
 fn push_file<M: Machine>(alloc: Global, text: &mut Vec<u8>, machine: &M) -> Result<(), AllocError>
-    ensures { OnOk result ((p : Program) (h : List Bool) → M.stands machine.now p h → text.new.items ≡ text.old.items ++ registers_text (state_after p h).core) }
+    ensures { OnOk result
+        ((p : Program) (h : List Bool) → M.stands machine.now p h → text.new.items ≡ text.old.items ++ registers_text (state_after p h).core) }
 {
     push_line(text, "registers")?;
     push_registers(alloc, text, machine)?;
@@ -118,7 +121,8 @@ fn push_dump<M: Machine>(
     machine: &M,
     dump: Option<Dump>,
 ) -> Result<(), AllocError>
-    ensures { OnOk result ((p : Program) (h : List Bool) → M.stands machine.now p h → text.new.items ≡ text.old.items ++ dump_text (state_after p h).core.mem dump) }
+    ensures { OnOk result
+        ((p : Program) (h : List Bool) → M.stands machine.now p h → text.new.items ≡ text.old.items ++ dump_text (state_after p h).core.mem dump) }
 {
     match dump {
         Some(dump) => {
@@ -137,7 +141,8 @@ fn push_last<M: Machine>(
     halted: bool,
     dump: Option<Dump>,
 ) -> Result<(), AllocError>
-    ensures { OnOk result ((p : Program) (h : List Bool) → M.stands machine.now p h → text.new.items ≡ text.old.items ++ last_text halted (state_after p h).core dump) }
+    ensures { OnOk result
+        ((p : Program) (h : List Bool) → M.stands machine.now p h → text.new.items ≡ text.old.items ++ last_text halted (state_after p h).core dump) }
 {
     if halted {
         push_file(alloc, text, machine)?;
@@ -200,7 +205,8 @@ pub fn report<M: Machine>(
     dump: Option<Dump>,
 ) -> Result<Vec<u8>, Memory>
     ensures { IfOk result (λ t. (p : Program) (h : List Bool) → M.stands machine.now p h
-        → t.items ≡ driven.now.trace.items ++ report_text driven.now.halted driven.now.counts driven.now.console.items image.now.code.items (state_after p h).core dump) }
+        → t.items ≡ driven.now.trace.items
+        ++ report_text driven.now.halted driven.now.counts driven.now.console.items image.now.code.items (state_after p h).core dump) }
 {
     let Ok(mut text) = Vec::from_slice(alloc, driven.trace.as_slice()) else {
         return Err(Memory);

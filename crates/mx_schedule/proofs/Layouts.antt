@@ -80,7 +80,9 @@ same_from at [] (t ∷ others) e a b g h = absurd (let l : length (blocks_in [])
 same_from at (s ∷ sites) [] e a b g h = absurd (let l : length (blocks_in (s ∷ sites)) ≡ length (blocks_in []) = ap length e in omega arith)
 same_from at (s ∷ sites) (t ∷ others) e a b g h =
     let block : s.block ≡ t.block = ap (λ (bs : List Block). slice_index_or bs 0 s.block) e in
-    let plan : s.plan ≡ t.plan = greedy_unique t.block (λ x l. height_of t.block x) s.plan t.plan (subst (λ (c : Block). IsGreedy c s.plan) block (first_is s sites g)) (first_is t others h) in
+    let plan : s.plan ≡ t.plan =
+    greedy_unique t.block (λ x l. height_of t.block x) s.plan t.plan (subst (λ (c : Block). IsGreedy c s.plan) block (first_is s sites g))
+    (first_is t others h) in
     let start : s.start ≡ t.start = a.0 ∙ sym b.0 in
     let more = same_from (at + plan_size s.plan) sites others (ap rest e) a.1
     (subst (λ (p : Plan). StandFrom (at + plan_size p) others) (sym plan) b.1) (others_are s sites g) (others_are t others h) in

@@ -123,7 +123,8 @@ fits_of source b h =
     let within = h.within in
     let last = slice_get-get_or source.statements (b.first + size b - 1) Halt (omega arith) in
     let end : b.end ≡ end_of (last_from source b.first (size b)) = same_Some _ _ (sym h.end ∙ ap (option_map end_of) last) in
-    let same : ends_as b.end b.insts.items ≡ ends_as (end_of (last_from source b.first (size b))) (insts_from source b.first (size b)) = λ i. ends_as (end i) (h.insts i) in
+    let same : ends_as b.end b.insts.items ≡ ends_as (end_of (last_from source b.first (size b))) (insts_from source b.first (size b)) =
+    λ i. ends_as (end i) (h.insts i) in
     record {
       leader = h.leader;
       within = within;

@@ -56,7 +56,8 @@ fn debug(
     requires input { bytes_in (option_copied input) ≤ 1048576 }
     requires address { address < 2 ^ 31 }
     requires asked { IsAsked limits.now }
-    ensures { IfOk result (λ r. reply_answer r ≡ image_answer image.now.code.items image.now.user_data.items (option_copied input.entry) requests.now address limits.now) }
+    ensures { IfOk result
+        (λ r. reply_answer r ≡ image_answer image.now.code.items image.now.user_data.items (option_copied input.entry) requests.now address limits.now) }
 {
     let mut machine = Pipe::new(alloc, image, input, LineCache::new())?;
     let stopped = stops(
@@ -89,7 +90,8 @@ pub fn debug_image<S: Shelf>(
     requires address { address < 2 ^ 31 }
     requires asked { IsAsked limits.now }
     ensures performed { IfOk result (λ r. Performed (S.told shelf.old)
-        (session_protocol (record { interrupts = option_map (λ s. s.now) files.now.interrupts; input = option_map (λ s. s.now) files.now.input }) limits.now image.now.code.items image.now.user_data.items asks address)
+        (session_protocol (record { interrupts = option_map (λ s. s.now) files.now.interrupts; input = option_map (λ s. s.now) files.now.input })
+        limits.now image.now.code.items image.now.user_data.items asks address)
         (S.counts shelf.old) (S.counts shelf.new) (reply_answer r)) }
     ensures told_stays { S.told shelf.new ≡ S.told shelf.old }
     ensures writes_stay { S.write_faults shelf.new ≡ S.write_faults shelf.old }

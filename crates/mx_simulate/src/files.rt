@@ -42,7 +42,8 @@ fn fault_reply(alloc: Global, fault: &EventError) -> Result<Reply, Memory>
 fn parse_requests(alloc: Global, bytes: &[u8]) -> Result<Result<Requests, Reply>, Memory>
     requires { length bytes.now ≤ 1048576 }
     ensures given { IfOk result (λ r. IfOk r (λ requests. requests_of bytes.now ≡ Ok requests)) }
-    ensures refused { IfOk result (λ r. IfErr r (λ reply. (fault : EventError) × (requests_of bytes.now ≡ Err fault) × (reply_answer reply ≡ prints BadEvents (event_line fault)))) }
+    ensures refused { IfOk result
+        (λ r. IfErr r (λ reply. (fault : EventError) × (requests_of bytes.now ≡ Err fault) × (reply_answer reply ≡ prints BadEvents (event_line fault)))) }
 {
     match Requests::parse(alloc, bytes) {
         Ok(requests) => Ok(Ok(requests)),

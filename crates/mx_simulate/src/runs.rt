@@ -39,7 +39,8 @@ pub fn run_image<S: Shelf>(
     limits: &Limits,
 ) -> Result<Reply, Memory>
     ensures performed { IfOk result (λ r. Performed (S.told shelf.old)
-        (machine_protocol (record { interrupts = option_map (λ s. s.now) files.now.interrupts; input = option_map (λ s. s.now) files.now.input }) limits.now image.now.code.items image.now.user_data.items asks)
+        (machine_protocol (record { interrupts = option_map (λ s. s.now) files.now.interrupts; input = option_map (λ s. s.now) files.now.input })
+        limits.now image.now.code.items image.now.user_data.items asks)
         (S.counts shelf.old) (S.counts shelf.new) (reply_answer r)) }
     ensures told_stays { S.told shelf.new ≡ S.told shelf.old }
     ensures writes_stay { S.write_faults shelf.new ≡ S.write_faults shelf.old }

@@ -62,7 +62,8 @@ pub fn simulate(
     limits: &Limits,
 ) -> Result<Reply, Memory>
     requires { bytes_in (option_copied input) ≤ 1048576 }
-    ensures { IfOk result (λ r. reply_answer r ≡ image_answer image.now.code.items image.now.user_data.items (option_copied input.entry) requests.now limits.now) }
+    ensures { IfOk result
+        (λ r. reply_answer r ≡ image_answer image.now.code.items image.now.user_data.items (option_copied input.entry) requests.now limits.now) }
 {
     let mut machine = Pipe::new(alloc, image, input, LineCache::new())?;
     simulate_on(alloc, &mut machine, image, requests, limits)

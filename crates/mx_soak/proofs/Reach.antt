@@ -53,7 +53,8 @@ link_low : (at : ℕ) (blocks : List Block) (i : ℕ) → at ≤ padded_link at 
 link_low at [] i = omega arith
 link_low at (block ∷ blocks) i = ⊎_elim
     (λ t. (let e = cond-true (has_statement i block) at (padded_link (at + padded_size block) blocks i) t in omega arith))
-    (λ f. (let e = cond-false (has_statement i block) at (padded_link (at + padded_size block) blocks i) f in let more = link_low (at + padded_size block) blocks i in omega arith))
+    (λ f. (let e = cond-false (has_statement i block) at (padded_link (at + padded_size block) blocks i) f in let more =
+    link_low (at + padded_size block) blocks i in omega arith))
     (cases_Bool (has_statement i block))
 
 link_high : (source : SourceValue) (first j at : ℕ) (blocks : List Block) (i : ℕ) → BlocksFrom source first j blocks → first ≤ i
@@ -98,7 +99,8 @@ module _ (source : SourceValue) (near : AllNear source.statements) (link : ℕ �
   next_stands : (first at : ℕ) (block : Block) (blocks : List Block) → block.first ≡ first → IsBlockOf source block → Stands first at (block ∷ blocks)
       → Stands (first + size block) (at + padded_size block) blocks
   next_stands first at block blocks begins is s = record {
-    ahead = λ t l. s.ahead t (omega arith) ∙ cond-false (has_statement t block) at (padded_link (at + padded_size block) blocks t) (outside t block.first (size block) (omega arith));
+    ahead = λ t l. s.ahead t (omega arith)
+        ∙ cond-false (has_statement t block) at (padded_link (at + padded_size block) blocks t) (outside t block.first (size block) (omega arith));
     low = λ t l. ⊎_elim
         (λ before. (let h = s.low t before in omega arith))
         (λ here. (let e = at_block t here l in omega arith))
@@ -110,7 +112,8 @@ module _ (source : SourceValue) (near : AllNear source.statements) (link : ℕ �
   }
     where
       at_block : (t : ℕ) → first ≤ t → t < first + size block → link t ≡ at
-      at_block t l m = s.ahead t l ∙ cond-true (has_statement t block) at (padded_link (at + padded_size block) blocks t) (inside t block.first (size block) (omega arith) (omega arith))
+      at_block t l m = s.ahead t l
+          ∙ cond-true (has_statement t block) at (padded_link (at + padded_size block) blocks t) (inside t block.first (size block) (omega arith) (omega arith))
 
   branch_reaches : (first j at : ℕ) (block : Block) (blocks : List Block) → BlocksFrom source first j (block ∷ blocks) → Stands first at (block ∷ blocks)
       → (target : ℕ) → block.end ≡ Branches target → reaches (at + padded_place block) (link target) ≡ true
@@ -147,7 +150,8 @@ module _ (source : SourceValue) (near : AllNear source.statements) (link : ℕ �
   all_reach : (first j at : ℕ) (blocks : List Block) → BlocksFrom source first j blocks → Stands first at blocks → overlong_from source link at blocks ≡ None
   all_reach first j at [] b s = refl
   all_reach first j at (block ∷ blocks) b s =
-      ap (λ o. or_else o (overlong_from source link (at + padded_size block) blocks)) (ends_reached at block block.end (branch_reaches first j at block blocks b s))
+      ap (λ o. or_else o (overlong_from source link (at + padded_size block) blocks))
+      (ends_reached at block block.end (branch_reaches first j at block blocks b s))
       ∙ all_reach (first + size block) j (at + padded_size block) blocks b.2 (next_stands first at block blocks b.0 b.1 s)
 
 -- a source of near branches has no overlong branch

@@ -37,7 +37,8 @@ steps_to_halt p zero r most h l = steps_still p most r (λ going. (let e : Halte
 steps_to_halt p (suc n) r zero h l = absurd (omega arith)
 steps_to_halt p (suc n) r (suc most) h l =
     let next : HaltsFrom p (run_step p r) n = record { halted = h.halted; first = λ m k. h.first (suc m) (omega arith) } in
-    let one : went r.state.mark (run_step p r).state.mark ≡ 1 = ap (λ m. went m (run_step p r).state.mark) (h.first 0 (omega arith)) ∙ counts_once p n (run_step p r) next in
+    let one : went r.state.mark (run_step p r).state.mark ≡ 1 =
+    ap (λ m. went m (run_step p r).state.mark) (h.first 0 (omega arith)) ∙ counts_once p n (run_step p r) next in
     let others = steps_to_halt p n (run_step p r) most next (omega arith) in
     let all = next_steps p most r in
     omega arith

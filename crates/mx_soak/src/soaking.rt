@@ -87,8 +87,10 @@ fn run_image(
     requests: &Requests,
     budget: u32,
 ) -> Result<Driven, Memory>
-    ensures counts { IfOk result (λ d. d.counts ≡ (run_of (program_of shipped image.now.code.items image.now.user_data.items None) requests.now budget).counts) }
-    ensures console { IfOk result (λ d. d.console.items ≡ (run_of (program_of shipped image.now.code.items image.now.user_data.items None) requests.now budget).console) }
+    ensures counts { IfOk result
+        (λ d. d.counts ≡ (run_of (program_of shipped image.now.code.items image.now.user_data.items None) requests.now budget).counts) }
+    ensures console { IfOk result
+        (λ d. d.console.items ≡ (run_of (program_of shipped image.now.code.items image.now.user_data.items None) requests.now budget).console) }
 {
     let mut machine = Pipe::new(alloc, image, None, LineCache::new())?;
     drive(alloc, &mut machine, requests, budget, 0)

@@ -64,7 +64,8 @@ module _ (names : Label → Bool) where
 
   first_kept : (labels : Labels) (n : List ℕ) (l : Label) → names l ≡ false → first_name names (labels ++ (n, l) ∷ []) ≡ first_name names labels
   first_kept labels n l h = ap (λ o. unwrap_or (option_map (λ p. p.0) o) [])
-      (find-append (λ p. names p.1) labels ((n, l) ∷ []) ∙ (ap (λ b. option_or (find (λ p. names p.1) labels) (cond b (Some (n, l)) None)) h ∙ option_or-none (find (λ p. names p.1) labels)))
+      (find-append (λ p. names p.1) labels ((n, l) ∷ [])
+      ∙ (ap (λ b. option_or (find (λ p. names p.1) labels) (cond b (Some (n, l)) None)) h ∙ option_or-none (find (λ p. names p.1) labels)))
     where
       option_or-none : (o : Option (List ℕ × Label)) → option_or o None ≡ o
       option_or-none None = refl
@@ -93,7 +94,8 @@ module _ (names : Label → Bool) where
 
   none_lines : (labels : Labels) → label_lines names labels ≡ [] → find (λ p. names p.1) labels ≡ None
   none_lines [] h = refl
-  none_lines (x ∷ labels) h = ⊎_elim (λ t. absurd (some_text x.0 (label_lines names labels) (sym (ap (λ b. cond b (ended (x.0 ++ codes ":")) [] ++ label_lines names labels) t) ∙ h)))
+  none_lines (x ∷ labels) h =
+      ⊎_elim (λ t. absurd (some_text x.0 (label_lines names labels) (sym (ap (λ b. cond b (ended (x.0 ++ codes ":")) [] ++ label_lines names labels) t) ∙ h)))
       (λ f. cond-false (names x.1) (Some x) (find (λ p. names p.1) labels) f
       ∙ none_lines labels (sym (ap (λ b. cond b (ended (x.0 ++ codes ":")) [] ++ label_lines names labels) f) ∙ h))
       (cases_Bool (names x.1))
@@ -106,7 +108,8 @@ module _ (names : Label → Bool) where
   first_of_none : (labels : Labels) (n : List ℕ) (l : Label) → names l ≡ true → find (λ p. names p.1) labels ≡ None
       → first_name names (labels ++ (n, l) ∷ []) ≡ n
   first_of_none labels n l h e = ap (λ o. unwrap_or (option_map (λ p. p.0) o) [])
-      (find-append (λ p. names p.1) labels ((n, l) ∷ []) ∙ (ap (λ o. option_or o (cond (names l) (Some (n, l)) None)) e ∙ cond-true (names l) (Some (n, l)) None h))
+      (find-append (λ p. names p.1) labels ((n, l) ∷ [])
+      ∙ (ap (λ o. option_or o (cond (names l) (Some (n, l)) None)) e ∙ cond-true (names l) (Some (n, l)) None h))
 
   first_of_some : (labels : Labels) (n : List ℕ) (l : Label) (x : List ℕ × Label) → find (λ p. names p.1) labels ≡ Some x
       → first_name names (labels ++ (n, l) ∷ []) ≡ first_name names labels
@@ -129,7 +132,9 @@ module _ (names : Label → Bool) where
       full : (t : List ℕ) → (t ≡ [] → ⊥) → g.first ≤ length t → new.lines.items ≡ t ++ (n ++ codes ":\n") → new.first ≡ cond (length t == 0) (length n) g.first
           → take new.first new.lines.items ≡ take g.first t
       full [] ne i all at = absurd (ne refl)
-      full (b ∷ t) ne i all at = ap (λ k. take k new.lines.items) (at ∙ cond-suc (length t) (length n) g.first) ∙ (ap (λ u. take g.first u) all ∙ take-append-le g.first (b ∷ t) (n ++ codes ":\n") i)
+      full (b ∷ t) ne i all at =
+          ap (λ k. take k new.lines.items) (at ∙ cond-suc (length t) (length n) g.first)
+          ∙ (ap (λ u. take g.first u) all ∙ take-append-le g.first (b ∷ t) (n ++ codes ":\n") i)
 
       by_case : (o : Option (List ℕ × Label)) → find (λ p. names p.1) labels ≡ o → take new.first new.lines.items ≡ first_name names (labels ++ (n, l) ∷ [])
       by_case None e = empty g.lines.items (was.lines ∙ none_found labels e) lines first ∙ sym (first_of_none labels n l h e)

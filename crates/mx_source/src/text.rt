@@ -163,7 +163,8 @@ impl Text {
         c: &Operand,
         d: &Operand,
     ) -> Result<(), AllocError>
-        ensures { OnOk result (self.new ≡ self.old ++ spelled mnemonic.now (operand_text a.now ∷ operand_text b.now ∷ operand_text c.now ∷ operand_text d.now ∷ [])) }
+        ensures { OnOk result
+            (self.new ≡ self.old ++ spelled mnemonic.now (operand_text a.now ∷ operand_text b.now ∷ operand_text c.now ∷ operand_text d.now ∷ [])) }
     {
         self.three(mnemonic, a, b, c)?;
         self.put(b",")?;

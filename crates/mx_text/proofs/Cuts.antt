@@ -28,8 +28,12 @@ module _ (p : ℕ → Bool) where
   no_split : (text : List ℕ) → length text ≤ prefix_len (λ b. not (p b)) text → slice_split p text ≡ text ∷ []
   no_split [] h = refl
   no_split (x ∷ text) h =
-      elim (p x) as (λ b. length (x ∷ text) ≤ cond (not b) (1 + prefix_len (λ b. not (p b)) text) 0 → cond b ([] ∷ slice_split p text) (onto_first x (slice_split p text)) ≡ (x ∷ text) ∷ [])
-      [ true ↦ λ k. absurd (omega arith) | false ↦ λ k. let shorter : length text ≤ prefix_len (λ b. not (p b)) text = omega arith in ap (λ parts. onto_first x parts) (no_split text shorter) ] h
+      elim (p x) as (λ b. length (x ∷ text) ≤ cond (not b) (1 + prefix_len (λ b. not (p b)) text) 0
+      → cond b ([] ∷ slice_split p text) (onto_first x (slice_split p text)) ≡ (x ∷ text) ∷ []) [
+        | true ↦ λ k. absurd (omega arith)
+        | false ↦ λ k. let shorter : length text ≤ prefix_len (λ b. not (p b)) text = omega arith in
+            ap (λ parts. onto_first x parts) (no_split text shorter)
+      ] h
 
   -- a list without such an element is one piece
   pub pieces-last : (text : List ℕ) → position p text ≡ None → slice_split p text ≡ text ∷ []

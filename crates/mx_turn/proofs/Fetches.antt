@@ -122,26 +122,31 @@ module _ (code : Code) (input : Option (List ℕ)) where
 
     -- the interrupt's chain
     abbrev Chained : Bool → Type 0
-    Chained taken = taken ≡ true → chain_of (saved (held (slice_get rest 1))) (saved (held (slice_get rest 0))) f ≡ chain_of (newest (drop 1 rest)) (newest rest) f
+    Chained taken = taken ≡ true
+        → chain_of (saved (held (slice_get rest 1))) (saved (held (slice_get rest 0))) f ≡ chain_of (newest (drop 1 rest)) (newest rest) f
 
     taken : Chained true → waited resident (counted (entered (m false))) ≡ window code (finish false true code counts (after_commit false))
     taken chained =
         let s = after_commit false in
         let e = finish false true code counts s in
-        sym (λ k. onto e (sym (chained refl) k) None (killed_first rest k) (killed_second rest k) (held (behind_two kill 0 rest k)) (held (behind_two kill 1 rest k)) (f.address ∷ same_addresses kill (λ x. refl) 2 rest k))
+        sym (λ k. onto e (sym (chained refl) k) None (killed_first rest k) (killed_second rest k) (held (behind_two kill 0 rest k))
+        (held (behind_two kill 1 rest k)) (f.address ∷ same_addresses kill (λ x. refl) 2 rest k))
 
     goes : waited resident (counted (decided code (m false))) ≡ window code (finish false false code counts (after_commit false))
     goes =
         let s = after_commit false in
         let e = finish false false code counts s in
         let b = (decided_in code s).cancels in
-        sym (λ k. onto e e.chain (squash b (stage 0 s)) (squashed_first b rest k) (held (behind_one (squash_if b) 0 rest k)) (held (behind_one (squash_if b) 1 rest k)) (held (behind_one (squash_if b) 2 rest k)) (f.address ∷ same_addresses (squash_if b) (λ x. refl) 1 rest k))
+        sym (λ k. onto e e.chain (squash b (stage 0 s)) (squashed_first b rest k) (held (behind_one (squash_if b) 0 rest k))
+        (held (behind_one (squash_if b) 1 rest k)) (held (behind_one (squash_if b) 2 rest k))
+        (f.address ∷ same_addresses (squash_if b) (λ x. refl) 1 rest k))
 
     over : waited resident (counted (m true)) ≡ window code (finish true false code counts (after_commit true))
     over = λ k. let n : Machine = counted (m true) in record n { stall = cond (resident_once_fetched (addresses rest) f.address k) 0 2 }
 
     finished : (halted taken : Bool) → Chained taken
-        → waited resident (counted (cond halted (m halted) (cond taken (entered (m halted)) (decided code (m halted))))) ≡ window code (finish halted taken code counts (after_commit halted))
+        → waited resident (counted (cond halted (m halted) (cond taken (entered (m halted)) (decided code (m halted)))))
+        ≡ window code (finish halted taken code counts (after_commit halted))
     finished true true chained = over
     finished true false chained = over
     finished false true chained = taken chained
@@ -150,7 +155,13 @@ module _ (code : Code) (input : Option (List ℕ)) where
     begins : (halted taken : Bool) → KilledAlike rest → Begins (finish halted taken code counts (after_commit halted))
     begins true t alike = (f, rest, refl, alike)
     begins false true alike = (_, _, refl, all_killed (unkilled f) rest)
-    begins false false alike = (_, _, refl, none_killed (squash_if (decided_in code (after_commit false)).cancels (unkilled f)) (squash_if (decided_in code (after_commit false)).cancels) rest refl)
+    begins false false alike = (
+      _,
+      _,
+      refl,
+      none_killed (squash_if (decided_in code (after_commit false)).cancels (unkilled f))
+          (squash_if (decided_in code (after_commit false)).cancels) rest refl,
+    )
 
   module _ (s : FetchState) (f : Fetch) (rest : List Marked) (alike : KilledAlike rest) (request : Bool) where
     abbrev at : Bool → ℕ → FetchState

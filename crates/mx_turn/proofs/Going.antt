@@ -93,5 +93,6 @@ pub aside_is : (code : Code) (m : Machine) (i : Inst) (at : ℕ) (d : Decided) (
     → d.pops ≡ pops i → d.restores ≡ restores i → back ≡ (d.pops && not m.psw.current.user) → aside d back m ≡ decided code m
 aside_is code m i at d back is here target cancels pop restore leads =
     (λ k. aside d (leads k) m)
-    ∙ (λ k. let x : Decided = record { target = target k; cancels = cancels k; pops = pop k; restores = restore k } in aside x (pop k && not m.psw.current.user) m)
+    ∙ (λ k. let x : Decided = record { target = target k; cancels = cancels k; pops = pop k; restores = restore k } in
+    aside x (pop k && not m.psw.current.user) m)
     ∙ (λ k. decided_by (is k) (decides (is k) (here k) (seen m.slot m.core.regs)) m)

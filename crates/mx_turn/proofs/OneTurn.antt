@@ -137,16 +137,19 @@ module _ (code code' : Code) (inside : ℕ → Bool) (p : Place) (input : Option
   marked a q h = λ k. squash_stage (decision_is k).cancels (h k)
 
   still_user : n.psw.current.user ≡ true
-  still_user = ap (λ b. (cond b (psw_restored m.psw) m.psw).current.user) (nor_restored (restores (live code m.alu)) (pops (live code m.alu)) m.psw.current.user f.user) ∙ f.user
+  still_user = ap (λ b. (cond b (psw_restored m.psw) m.psw).current.user)
+      (nor_restored (restores (live code m.alu)) (pops (live code m.alu)) m.psw.current.user f.user) ∙ f.user
 
   abbrev c : Change
   c = change i d.first.address d.core.regs d.core.md ((user_bus p input).load d.core.mem d.core.taken)
 
   same_change : mem_change code input n ≡ c
   same_change =
-      system_user n.psw.current.user n.chain (live code m.alu) (address_of m.alu) r m.core.md ((board n.psw.current.user input).load m.core.mem m.core.taken) still_user
+      system_user n.psw.current.user n.chain (live code m.alu) (address_of m.alu) r m.core.md
+      ((board n.psw.current.user input).load m.core.mem m.core.taken) still_user
       ∙ (λ k. change (alu k) (at k) r (f.md k) ((board (still_user k) input).load m.core.mem (f.taken k)))
-      ∙ sym (change_same i d.first.address d.core.regs r d.core.md d.core.md ((user_bus p input).load d.core.mem d.core.taken) ((board true input).load m.core.mem d.core.taken)
+      ∙ sym (change_same i d.first.address d.core.regs r d.core.md d.core.md ((user_bus p input).load d.core.mem d.core.taken)
+      ((board true input).load m.core.mem d.core.taken)
       (subst (λ x. SeesAlike i x r) f.regs sees) (λ t. refl)
       (loads_same p input (access i) d.core.regs m.core.mem d.core.mem d.core.taken at_board f.mem (lawful _ _ _ clean)))
 
@@ -181,6 +184,8 @@ module _ (code code' : Code) (inside : ℕ → Bool) (p : Place) (input : Option
   ends : ended code m ≡ decided code m
   ends = cond-false _ m (turned code m) goes ∙ cond-false _ (entered m) (decided code m) quiet
 
-  pub one_turn : (let x = before_turn stall latch counts (ended code m) in Follows p (reached code input x) (delay_step code' p input d) × (commit_byte code input (shifted x) ≡ delay_byte code' p input d))
-  one_turn = subst (λ x. Follows p (reached code input (before_turn stall latch counts x)) (delay_step code' p input d) × (commit_byte code input (shifted (before_turn stall latch counts x)) ≡ delay_byte code' p input d)) (sym ends)
+  pub one_turn : (let x = before_turn stall latch counts (ended code m) in
+      Follows p (reached code input x) (delay_step code' p input d) × (commit_byte code input (shifted x) ≡ delay_byte code' p input d))
+  one_turn = subst (λ x. Follows p (reached code input (before_turn stall latch counts x)) (delay_step code' p input d)
+      × (commit_byte code input (shifted (before_turn stall latch counts x)) ≡ delay_byte code' p input d)) (sym ends)
       (subst (Follows p (reached code input (before_turn stall latch counts (decided code m)))) (sym steps) follows, byte)

@@ -67,4 +67,5 @@ pub acted_is : (resident : List ℕ → ℕ → Bool) (code : Code) (input : Opt
 acted_is resident code input m c d w missed squashed taken is_c is_d is_m is_s is_t is_w =
     is_w
     ∙ (λ k. let x : Machine = is_d k in let n : Machine = record x { counts = after_turn (is_m k) (is_s k) (is_t k) m.counts } in waited resident n)
-    ∙ (λ k. let x : Machine = ended code (is_c k) in let n : Machine = record x { counts = after_turn (not (resident m.past m.next.address)) (squashes code (is_c k)) (takes (is_c k)) m.counts } in waited resident n)
+    ∙ (λ k. let x : Machine = ended code (is_c k) in let n : Machine =
+    record x { counts = after_turn (not (resident m.past m.next.address)) (squashes code (is_c k)) (takes (is_c k)) m.counts } in waited resident n)

@@ -106,7 +106,8 @@ load_padded inst k (x ∷ xs) zero j h s l =
     nop_first (is_load x) (is_transfer x) (padded_from (suc k) xs) loads
 load_padded inst k (x ∷ xs) (suc p) j h s l =
     let b = behind (is_load x) (is_transfer x) (padded_from (suc k) xs) p j s in
-    let further : (i : ℕ) → i < length xs → inst_at xs i ≡ inst (suc k + i) = λ i m. (let same : k + suc i ≡ suc k + i = omega arith in h (suc i) (omega arith) ∙ ap inst same) in
+    let further : (i : ℕ) → i < length xs
+    → inst_at xs i ≡ inst (suc k + i) = λ i m. (let same : k + suc i ≡ suc k + i = omega arith in h (suc i) (omega arith) ∙ ap inst same) in
     let is = b.is in
     let place : suc p ≡ suc b.at + length (nops (is_load x) (is_transfer x)) = omega arith in
     shift (is_load x) (is_transfer x) (padded_from (suc k) xs) (suc p) (suc b.at) place
@@ -207,7 +208,8 @@ tail_of end insts h = by_kind (falls end) refl
     by_kind true e = ap (λ l. length (padded_from 0 l)) (sym (all_taken insts)) ∙ falling end e
       where
         falling : (d : End) → falls d ≡ true
-            → length (padded_from 0 (take (length insts) insts)) ≡ length (padded_from 0 (take (cond (falls d) (length insts) (length insts - 1)) insts)) + end_count d
+            → length (padded_from 0 (take (length insts) insts))
+            ≡ length (padded_from 0 (take (cond (falls d) (length insts) (length insts - 1)) insts)) + end_count d
         falling Falls t = omega arith
         falling _ t = absurd (false≢true t)
     by_kind false e =
@@ -216,7 +218,8 @@ tail_of end insts h = by_kind (falls end) refl
         let body = padded_from 0 (take (length insts - 1) insts) in
         let both : length (padded_from 0 insts) ≡ length body + suc (length (no_ops_after l.inst)) =
         ap length (split_last end insts l) ∙ length-append body (Op (length insts - 1) ∷ no_ops_after l.inst) in
-        both ∙ ap (λ n. length body + n) count ∙ ap (λ b. length (padded_from 0 (take (cond b (length insts) (length insts - 1)) insts)) + end_count end) (sym e)
+        both ∙ ap (λ n. length body + n) count
+        ∙ ap (λ b. length (padded_from 0 (take (cond b (length insts) (length insts - 1)) insts)) + end_count end) (sym e)
 
 at_middle : (xs ys : List Item) (x : Item) → slice_get (xs ++ x ∷ ys) (length xs) ≡ Some x
 at_middle [] ys x = refl
@@ -262,7 +265,9 @@ valid_padded block plan h =
       once = λ k. ap (λ l. times k (ops l)) h.items ∙ padded_times k 0 insts ∙ grind (arith, nat_tests);
       terminator = λ f. ap (λ l. slice_get l plan.place) h.items ∙ ap (slice_get list) h.place ∙ terminator_of block.end insts block.last f;
       tail = ap length h.items ∙ tail_of block.end insts block.last ∙ ap (λ n. n + end_count block.end) (sym h.place);
-      order = λ p q k j s t l m. (let high = padded_order 0 insts p q k j (at_padded insts p k (items_of plan) h.items s) (at_padded insts q j (items_of plan) h.items t) l in absurd (omega arith));
+      order = λ p q k j s t l m.
+          (let high = padded_order 0 insts p q k j (at_padded insts p k (items_of plan) h.items s) (at_padded insts q j (items_of plan) h.items t) l in
+          absurd (omega arith));
       apart = λ p k j s t. padded_apart insts p k j (at_padded insts p k (items_of plan) h.items s) (at_padded insts (suc p) j (items_of plan) h.items t);
       last = λ p k s e. padded_last insts p k (at_padded insts p k (items_of plan) h.items s) (e ∙ ap length h.items);
       room = let e = h.place in omega arith;

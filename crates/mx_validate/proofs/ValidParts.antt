@@ -20,7 +20,8 @@ moved insts insts' input items items' e f h = subst (λ (l : List Item). Lawful 
 
 pub valid_from : (block : Block) (plan : Plan) (insts : List Inst) (items : List Item) → insts ≡ insts_of block → items ≡ items_of plan
     → Lawful insts block.input items
-    → (length (items_of plan) ≡ plan.place + end_count block.end) × (falls block.end ≡ false → StandsAt (items_of plan) plan.place (length (insts_of block) - 1))
+    → (length (items_of plan) ≡ plan.place + end_count block.end)
+    × (falls block.end ≡ false → StandsAt (items_of plan) plan.place (length (insts_of block) - 1))
     → plan.place ≤ padded_place block → Valid block plan
 valid_from block plan insts items e f h end room =
     let l = moved insts (insts_of block) block.input items (items_of plan) e f h in

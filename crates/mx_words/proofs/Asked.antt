@@ -46,7 +46,8 @@ pub miscounts : (options words : List Text) (fewest most : ℕ) (rows : List Row
     → is_between fewest most (length names) ≡ false → None ≡ option_and_then (answer options fewest most) r
 miscounts options words fewest most rows names None g f n = refl
 miscounts options words fewest most rows names (Some q) g f n =
-    let other : is_between fewest most (length q.names) ≡ false = ap (λ ns. is_between fewest most (length ns)) (sym (names_read options words rows names q g f)) ∙ n in
+    let other : is_between fewest most (length q.names) ≡ false =
+    ap (λ ns. is_between fewest most (length ns)) (sym (names_read options words rows names q g f)) ∙ n in
     sym (rw other refl)
 
 -- with its number of names
@@ -58,5 +59,6 @@ answers options words fewest most rows names values None a g f v n = absurd (g.f
 answers options words fewest most rows names values (Some q) a g f v n =
     let same : names ≡ q.names = names_read options words rows names q g f in
     let counted : is_between fewest most (length q.names) ≡ true = ap (λ ns. is_between fewest most (length ns)) (sym same) ∙ n in
-    let all : values ≡ map (λ o. value_of o q.given) options = v ∙ ap (λ rs. map (λ o. first_of o rs) options) f.rows_are ∙ values_are options (matches_of (command_for options) words) q a (g.holds q refl) in
+    let all : values ≡ map (λ o. value_of o q.given) options =
+    v ∙ ap (λ rs. map (λ o. first_of o rs) options) f.rows_are ∙ values_are options (matches_of (command_for options) words) q a (g.holds q refl) in
     ap (λ ns. Some (ns, values)) same ∙ ap (λ vs. Some (q.names, vs)) all ∙ sym (rw counted refl)

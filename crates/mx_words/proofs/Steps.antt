@@ -163,14 +163,16 @@ pub short_fault : (R : List Rule) (rows : List Row) (p : Pending) (b : Bool) (x 
     → turn_fault (shape_of R) [] (stands_at rows p b false) (45 ∷ x ∷ xs) ≡ kind.UnknownArgument ∷ []
 short_fault R rows p b x xs none h full =
     let first = head_of (chars (x ∷ xs)) full in
-    bundle_fault R rows p b (45 ∷ x ∷ xs) (x ∷ xs) (short_dashes x xs h) (short_long x xs h) (short_short x xs h) (flags_unknown R (length xs) (x ∷ xs) (held_of rows p) first.0 (none first.0) first.1)
+    bundle_fault R rows p b (45 ∷ x ∷ xs) (x ∷ xs) (short_dashes x xs h) (short_long x xs h) (short_short x xs h)
+    (flags_unknown R (length xs) (x ∷ xs) (held_of rows p) first.0 (none first.0) first.1)
 
 pub waits_short : (R : List Rule) (rows : List Row) (name : Text) (x : ℕ) (xs : Text) → ((c : ℕ) → arg_by_short R c ≡ None) → (x == 45) ≡ false
     → chars (x ∷ xs) ≢ []
     → turn_fault (shape_of R) [] (waits_at rows name false) (45 ∷ x ∷ xs) ≡ kind.UnknownArgument ∷ []
 waits_short R rows name x xs none h full =
     let first = head_of (chars (x ∷ xs)) full in
-    waits_bundle R rows name (45 ∷ x ∷ xs) (x ∷ xs) (short_dashes x xs h) (short_long x xs h) (short_short x xs h) (flags_unknown R (length xs) (x ∷ xs) (held_of rows (Some (name, []))) first.0 (none first.0) first.1)
+    waits_bundle R rows name (45 ∷ x ∷ xs) (x ∷ xs) (short_dashes x xs h) (short_long x xs h) (short_short x xs h)
+    (flags_unknown R (length xs) (x ∷ xs) (held_of rows (Some (name, []))) first.0 (none first.0) first.1)
 
 -- the value of an option
 pub value_fault : (R : List Rule) (rows : List Row) (name word : Text) → is_option_word word ≡ false

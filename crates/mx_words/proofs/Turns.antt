@@ -110,7 +110,8 @@ name_stands options rules rows p q word t s h = record {
   pending = Some (names_id, word ∷ []);
   calm = true;
   is = refl;
-  holds = subst (λ r. Holds r (with_name q word)) (sym (settled_name rules (settled_rows rules p rows) word s.by_id)) (holds_name (settled_rows rules p rows) q word h);
+  holds = subst (λ r. Holds r (with_name q word)) (sym (settled_name rules (settled_rows rules p rows) word s.by_id))
+      (holds_name (settled_rows rules p rows) q word h);
   settles = name_settles rules (settled_rows rules p rows) word s.by_id;
 }
 
@@ -164,7 +165,8 @@ long_ready options rules rows p b q z zs s h e true o =
     let k = s.known np.0 o in
     let same : has_row np.0 (settled_rows rules p rows) ≡ is_given np.0 q.given = h.given np.0 k.apart in
     long_known options rules rows p b q (45 ∷ 45 ∷ z ∷ zs) np.0 np.1 k o refl refl h e (has_row np.0 (settled_rows rules p rows)) refl
-    (ap (λ x. cond (x && not (is_given np.0 q.given)) (after_option q np.0 np.1) refused) o ∙ ap (λ x. cond (not x) (after_option q np.0 np.1) refused) (sym same))
+    (ap (λ x. cond (x && not (is_given np.0 q.given)) (after_option q np.0 np.1) refused) o
+    ∙ ap (λ x. cond (not x) (after_option q np.0 np.1) refused) (sym same))
 long_ready options rules rows p b q z zs s h e false o =
     let np : Text × Option Text = name_and_value (z ∷ zs) in
     stops (full kind.UnknownArgument _ (unknown_fault rules rows p b (45 ∷ 45 ∷ z ∷ zs) np.0 np.1 (s.unknown np.0 o) refl refl))
@@ -174,7 +176,8 @@ at_ready : (options : List Text) (rules : List Rule) (rows : List Row) (p : Pend
     → is_utf8 word ≡ true → Holds (settled_rows rules p rows) q
     → settle_fault rules false (held_of rows p) ≡ [] → Class word → Turn options rules (ready q) (stands_at rows p b false) word
 at_ready options rules rows p b q word s u h e (plain c) =
-    moved options rules (ready q) (ready (with_name q word)) (stands_at rows p b false) _ word (name_fault rules rows p b word s.index c ∙ e) (name_walked rules rows p b word s.index c)
+    moved options rules (ready q) (ready (with_name q word)) (stands_at rows p b false) _ word (name_fault rules rows p b word s.index c ∙ e)
+    (name_walked rules rows p b word s.index c)
     (rw c refl) (name_stands options rules rows p q word false s h)
 at_ready options rules rows p b q word s u h e (dashes is) =
     subst (λ x. Turn options rules (ready q) (stands_at rows p b false) x) (sym is)
@@ -201,11 +204,13 @@ at_awaits : (options : List Text) (rules : List Rule) (rows : List Row) (name : 
     → Holds rows q
     → is_known options name ≡ true → has_row name rows ≡ false → Class word → Turn options rules (awaits name q) (waits_at rows name false) word
 at_awaits options rules rows name q word s u h k none (plain c) =
-    moved options rules (awaits name q) (ready (with_value q name word)) (waits_at rows name false) _ word (value_fault rules rows name word c) (value_walked rules rows name word (s.known name k).by_id c)
+    moved options rules (awaits name q) (ready (with_value q name word)) (waits_at rows name false) _ word (value_fault rules rows name word c)
+    (value_walked rules rows name word (s.known name k).by_id c)
     (rw c refl) (value_stands options rules rows name word q (s.known name k) h none)
 at_awaits options rules rows name q word s u h k none (dashes is) =
     subst (λ x. Turn options rules (awaits name q) (waits_at rows name false) x) (sym is)
-    (moved options rules (awaits name q) refused (waits_at rows name false) _ (45 ∷ 45 ∷ []) (waits_dashes_fault rules rows name) (waits_dashes rules rows name) refl (missing rows name refl k))
+    (moved options rules (awaits name q) refused (waits_at rows name false) _ (45 ∷ 45 ∷ []) (waits_dashes_fault rules rows name)
+    (waits_dashes rules rows name) refl (missing rows name refl k))
 at_awaits options rules rows name q word s u h k none (long z zs is) =
     subst (λ x. Turn options rules (awaits name q) (waits_at rows name false) x) (sym is)
     (stops (waits_long options rules rows name z zs s k (is_known options (name_and_value (z ∷ zs)).0) refl) refl)
@@ -217,7 +222,8 @@ at_trailing : (options : List Text) (rules : List Rule) (rows : List Row) (p : P
     → Holds (settled_rows rules p rows) q
     → settle_fault rules false (held_of rows p) ≡ [] → Turn options rules (trailing q) (stands_at rows p b true) word
 at_trailing options rules rows p b q word s h e =
-    moved options rules (trailing q) (trailing (with_name q word)) (stands_at rows p b true) _ word (trailing_fault rules rows p b word s.index ∙ e) (trailing_walked rules rows p b word s.index)
+    moved options rules (trailing q) (trailing (with_name q word)) (stands_at rows p b true) _ word (trailing_fault rules rows p b word s.index ∙ e)
+    (trailing_walked rules rows p b word s.index)
     refl (name_stands options rules rows p q word true s h)
 
 -- what is pending does not settle
@@ -225,7 +231,8 @@ unsettled_long : (options : List Text) (rules : List Rule) (rows : List Row) (p 
     → Serves options rules → settle_fault rules false (held_of rows p) ≢ []
     → bytes_eq word (45 ∷ 45 ∷ []) ≡ false → long_of word ≡ Some (name, value) → (o : Bool) → is_known options name ≡ o
     → turn_fault (shape_of rules) [] (stands_at rows p b false) word ≢ []
-unsettled_long options rules rows p b word name value s n d l false o = full kind.UnknownArgument _ (unknown_fault rules rows p b word name value (s.unknown name o) d l)
+unsettled_long options rules rows p b word name value s n d l false o =
+    full kind.UnknownArgument _ (unknown_fault rules rows p b word name value (s.unknown name o) d l)
 unsettled_long options rules rows p b word name (Some v) s n d l true o =
     λ e. or_else_fails _ _ (or_else_fails _ _ n) (sym (attached_fault rules rows p b word name v (s.known name o).long d l) ∙ e)
 unsettled_long options rules rows p b word name None s n d l true o =
@@ -236,10 +243,12 @@ at_unsettled : (options : List Text) (rules : List Rule) (rows : List Row) (p : 
 at_unsettled options rules rows p b word s u n (plain c) = stops (λ e. n (sym (name_fault rules rows p b word s.index c) ∙ e)) refl
 at_unsettled options rules rows p b word s u n (dashes is) =
     subst (λ x. Turn options rules refused (stands_at rows p b false) x) (sym is)
-    (moved options rules refused refused (stands_at rows p b false) _ (45 ∷ 45 ∷ []) (dashes_fault rules rows p b) (dashes_walked rules rows p b) refl (unsettled rows p b true refl n))
+    (moved options rules refused refused (stands_at rows p b false) _ (45 ∷ 45 ∷ []) (dashes_fault rules rows p b) (dashes_walked rules rows p b) refl
+    (unsettled rows p b true refl n))
 at_unsettled options rules rows p b word s u n (long z zs is) =
     subst (λ x. Turn options rules refused (stands_at rows p b false) x) (sym is)
-    (stops (unsettled_long options rules rows p b (45 ∷ 45 ∷ z ∷ zs) (name_and_value (z ∷ zs)).0 (name_and_value (z ∷ zs)).1 s n refl refl (is_known options (name_and_value (z ∷ zs)).0) refl) refl)
+    (stops (unsettled_long options rules rows p b (45 ∷ 45 ∷ z ∷ zs) (name_and_value (z ∷ zs)).0 (name_and_value (z ∷ zs)).1 s n refl refl
+    (is_known options (name_and_value (z ∷ zs)).0) refl) refl)
 at_unsettled options rules rows p b word s u n (short x xs is h) =
     subst (λ y. Turn options rules refused (stands_at rows p b false) y) (sym is)
     (stops (full kind.UnknownArgument _ (short_fault rules rows p b x xs s.short h (text_tail x xs (subst (λ y. is_utf8 y ≡ true) is u)))) refl)
@@ -248,11 +257,13 @@ at_unsettled options rules rows p b word s u n (short x xs is h) =
 at_again : (options : List Text) (rules : List Rule) (rows : List Row) (name : Text) (word : Text) → Serves options rules → is_utf8 word ≡ true
     → is_known options name ≡ true → has_row name rows ≡ true → Class word → Turn options rules refused (waits_at rows name false) word
 at_again options rules rows name word s u k there (plain c) =
-    moved options rules refused refused (waits_at rows name false) _ word (value_fault rules rows name word c) (value_walked rules rows name word (s.known name k).by_id c) refl
+    moved options rules refused refused (waits_at rows name false) _ word (value_fault rules rows name word c)
+    (value_walked rules rows name word (s.known name k).by_id c) refl
     (unsettled rows (Some (name, word ∷ [])) false false refl (full kind.ArgumentConflict _ (value_repeats rules rows name word (s.known name k).by_id there)))
 at_again options rules rows name word s u k there (dashes is) =
     subst (λ x. Turn options rules refused (waits_at rows name false) x) (sym is)
-    (moved options rules refused refused (waits_at rows name false) _ (45 ∷ 45 ∷ []) (waits_dashes_fault rules rows name) (waits_dashes rules rows name) refl (missing rows name refl k))
+    (moved options rules refused refused (waits_at rows name false) _ (45 ∷ 45 ∷ []) (waits_dashes_fault rules rows name) (waits_dashes rules rows name) refl
+    (missing rows name refl k))
 at_again options rules rows name word s u k there (long z zs is) =
     subst (λ x. Turn options rules refused (waits_at rows name false) x) (sym is)
     (stops (waits_long options rules rows name z zs s k (is_known options (name_and_value (z ∷ zs)).0) refl) refl)
@@ -269,7 +280,8 @@ at_refused options rules w word s u (unsettled rows p b false is n) =
 at_refused options rules w word s u (again rows name is k there) =
     subst (λ x. Turn options rules refused x word) (sym is) (at_again options rules rows name word s u k there (classify word))
 at_refused options rules w word s u (missing rows name is k) =
-    subst (λ x. Turn options rules refused x word) (sym is) (stops (full kind.InvalidValue _ (missing_fault rules rows name word s.index (s.known name k).by_id)) refl)
+    subst (λ x. Turn options rules refused x word) (sym is)
+    (stops (full kind.InvalidValue _ (missing_fault rules rows name word s.index (s.known name k).by_id)) refl)
 
 pub turn : (options : List Text) (rules : List Rule) (st : State) (w : Walk) (word : Text) → Serves options rules → is_utf8 word ≡ true
     → Matches options rules st w → Turn options rules st w word

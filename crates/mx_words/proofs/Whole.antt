@@ -22,7 +22,8 @@ end_held rules w words = (fold (walked rules []) w words).held
 
 -- the fault after the last word, and of all
 abbrev finish : List Rule → Held → Kinds
-finish rules h = or_else (settle_fault rules false h) (or_else (defaults_fault (settled rules h).rows rules) (check_fault (shape_of rules) (finished rules h) false))
+finish rules h = or_else (settle_fault rules false h)
+    (or_else (defaults_fault (settled rules h).rows rules) (check_fault (shape_of rules) (finished rules h) false))
 
 abbrev from : List Rule → Walk → List Text → Kinds
 from rules w words = or_else (walk_fault (shape_of rules) [] w words) (finish rules (end_held rules w words))
@@ -100,8 +101,10 @@ concludes : (options : List Text) (rules : List Rule) (words : List Text) (st : 
     → Concludes (ended (fold (after_word options) st words)) rules w words
 concludes options rules [] st w s t m = ends options rules st w s m
 concludes options rules (word ∷ rest) st w s t m = elim (turn options rules st w word s t.0 m) [
-  | goes f n ↦ next_word (ended (fold (after_word options) (after_word options st word) rest)) rules w word rest f (concludes options rules rest (after_word options st word) (walked rules [] w word) s t.1 n)
-  | stops f e ↦ subst (λ r. Concludes r rules w (word ∷ rest)) (sym (ap (λ x. ended (fold (after_word options) x rest)) e ∙ stays_refused options rest)) (stopped rules w word rest f)
+  | goes f n ↦ next_word (ended (fold (after_word options) (after_word options st word) rest)) rules w word rest f
+      (concludes options rules rest (after_word options st word) (walked rules [] w word) s t.1 n)
+  | stops f e ↦ subst (λ r. Concludes r rules w (word ∷ rest)) (sym (ap (λ x. ended (fold (after_word options) x rest)) e ∙ stays_refused options rest))
+      (stopped rules w word rest f)
 ]
 
 abbrev start : Walk
@@ -139,7 +142,9 @@ agrees_by options words (Some p) c = record {
 }
 
 pub agrees : (options words : List Text) → IsApart options → AreText words → Agrees options words (reading options words)
-agrees options words apart t = agrees_by options words _ (concludes options (rules_of options) words (ready nothing) start (serves options apart) t (start_matches options (rules_of options)))
+agrees options words apart t =
+    agrees_by options words _
+    (concludes options (rules_of options) words (ready nothing) start (serves options apart) t (start_matches options (rules_of options)))
 
 pub texts_are : (words : List (String Global)) → AreText (map string_bytes words)
 texts_are [] = tt

@@ -41,7 +41,8 @@ fill-requires t c =
     let count = put_count plan c.loop-k.plan c.put.new.plan at (Op c.loop-k.k) kept step in
     let size = put_size plan c.loop-k.plan c.put.new.plan at (Op c.loop-k.k) kept step in
     let same : no_ops (drop (suc at) (items_of plan)) ≡ no_ops (drop c.args.from (items_of plan)) = ap (λ n. no_ops (drop n (items_of plan))) next in
-    let known = known_after c.args.block.now c.loop-k.plan c.put.new.plan at (Op c.loop-k.k) (known_op _ c.loop-k.k (omega arith)) c.loop-k.invariant.known c.put.ensures.items in
+    let known = known_after c.args.block.now c.loop-k.plan c.put.new.plan at (Op c.loop-k.k)
+    (known_op _ c.loop-k.k (omega arith)) c.loop-k.invariant.known c.put.ensures.items in
     (omega arith, (omega arith, (known, omega arith)))
 
 pub returns-then-fill-clause-kept : goal.returns-then-fill-clause-kept
@@ -50,7 +51,8 @@ returns-then-fill-clause-kept t c =
     let at = c.args.from - 1 in
     let kept = c.loop-k.invariant.kept in
     let step = put_at plan c.loop-k.plan c.put.new.plan at (Op c.loop-k.k) kept (omega arith) (c.put.ensures.items, c.put.ensures.place) in
-    moved plan c.fill.new.plan c.args.from (suc at) (omega arith) (through_put plan c.loop-k.plan c.put.new.plan c.fill.new.plan at (Op c.loop-k.k) kept step c.fill.ensures.kept)
+    moved plan c.fill.new.plan c.args.from (suc at) (omega arith)
+    (through_put plan c.loop-k.plan c.put.new.plan c.fill.new.plan at (Op c.loop-k.k) kept step c.fill.ensures.kept)
 
 pub loop-k-preserved : goal.loop-k-preserved
 loop-k-preserved t c =
@@ -72,7 +74,8 @@ loop-k-preserved t c =
             kept = kept;
             known = c.loop-k.invariant.known;
             tried = tried_more block plan at c.loop-k.k c.loop-k.invariant.tried
-                (λ other e s. ruled_out block plan c.loop-k.plan other at c.loop-k.k (λ m. false≢true (sym w.if-may_stand.false ∙ c.may_stand.ensures.1 m)) kept e s);
+                (λ other e s. ruled_out block plan c.loop-k.plan other at c.loop-k.k
+                (λ m. false≢true (sym w.if-may_stand.false ∙ c.may_stand.ensures.1 m)) kept e s);
           }
     ]
 
@@ -114,7 +117,8 @@ returns-clause-kept t c =
     let at = c.args.from - 1 in
     let kept = c.loop-k.invariant.kept in
     let step = put_at plan c.loop-k.plan c.put-2.new.plan at Nop kept (omega arith) (c.put-2.ensures.items, c.put-2.ensures.place) in
-    moved plan c.fill-2.new.plan c.args.from (suc at) (omega arith) (through_put plan c.loop-k.plan c.put-2.new.plan c.fill-2.new.plan at Nop kept step c.fill-2.ensures.kept)
+    moved plan c.fill-2.new.plan c.args.from (suc at) (omega arith)
+    (through_put plan c.loop-k.plan c.put-2.new.plan c.fill-2.new.plan at Nop kept step c.fill-2.ensures.kept)
 
 pub returns-clause-none : goal.returns-clause-none
 returns-clause-none t c = λ f other e v.

@@ -6,4 +6,5 @@ use Rattle.mx_best.proofs.search.may_stand.Goals as goal
 
 pub may_precede-requires-clause-known : goal.may_precede-requires-clause-known
 may_precede-requires-clause-known c =
-    subst (λ (l : List Item). AreKnown c.args.block.now l) (sym c.behind.ensures) (known_behind c.args.block.now (items_of c.args.plan.now) (suc c.args.at) c.requires.known)
+    subst (λ (l : List Item). AreKnown c.args.block.now l) (sym c.behind.ensures)
+    (known_behind c.args.block.now (items_of c.args.plan.now) (suc c.args.at) c.requires.known)

@@ -33,7 +33,8 @@ invariant_of-result c =
     ap (λ l. slice_get l (c.args.end - 1)) (sym c.statements-statements.ensures.value)
     ∙ slice_get_read c.statements-statements.result.now _ (c.args.end - 1) s refl (omega arith) c.index-statements-end.is in
     record {
-      last = ap (λ e. ends_as e c.insts_of.result.items) c.end_of.ensures ∙ block_ends source c.args.first c.args.end c.insts_of.result.items s kept later within list last;
+      last = ap (λ e. ends_as e c.insts_of.result.items) c.end_of.ensures
+          ∙ block_ends source c.args.first c.args.end c.insts_of.result.items s kept later within list last;
       body = block_goes_on source c.args.first c.args.end c.insts_of.result.items kept later within c.requires.gaps list;
     }
 

@@ -43,6 +43,7 @@ returns c = (
   λ i l.
       let items = c.values-label-items.result.now in
       let marked = slice_index_or c.loop-label.marks.items i false in
-      sym (ap (λ xs. marked || list_any (names_index i) xs) (drop_all c.loop-label.label-index items (omega (arith, c.loop-label-test.false))) ∙ or_false marked)
+      sym (ap (λ xs. marked || list_any (names_index i) xs) (drop_all c.loop-label.label-index items (omega (arith, c.loop-label-test.false)))
+      ∙ or_false marked)
       ∙ c.loop-label.invariant.1 i l,
 )

@@ -26,7 +26,8 @@ returns-then-eq-clause-statement c =
 pub loop-i-preserved : goal.loop-i-preserved
 loop-i-preserved c =
     c.loop-i.invariant
-    ∙ named_later c.labels-labels.result.now c.as_bytes-wanted.result.now c.loop-i.i c.at-label.result.0.now c.at-label.result.1 c.at-label.ensures (sym c.eq.ensures ∙ c.if-eq.false)
+    ∙ named_later c.labels-labels.result.now c.as_bytes-wanted.result.now c.loop-i.i c.at-label.result.0.now c.at-label.result.1 c.at-label.ensures
+    (sym c.eq.ensures ∙ c.if-eq.false)
 
 pub returns-clause-statement : goal.returns-clause-statement
 returns-clause-statement c =

@@ -21,4 +21,5 @@ returns-clause-halted g c =
     let p : Program = program_of shipped image.code.items image.user_data.items (option_copied c.given_to-input.result) in
     c.has_halted.ensures
     ∙ c.in_ok-driven.ensures.halted p c.in_ok-machine.ensures
-    ∙ ap (λ o. (run_of (program_of shipped image.code.items image.user_data.items o) c.args.conditions.now.requests.now c.args.conditions.now.budget).halted) c.given_to-input.ensures
+    ∙ ap (λ o. (run_of (program_of shipped image.code.items image.user_data.items o) c.args.conditions.now.requests.now c.args.conditions.now.budget).halted)
+    c.given_to-input.ensures

@@ -21,10 +21,12 @@ loop-n-preserved g c =
     record {
       all = length-set old i c.register_at.result ∙ all;
       those = λ p h s k less. ⊎_elim
-          (λ lt. get_or-set_other old i k c.register_at.result 0 (λ e. absurd (omega (arith, lt, e))) ∙ c.loop-n.invariant.those p h s k (omega (arith, lt, is)))
+          (λ lt. get_or-set_other old i k c.register_at.result 0 (λ e. absurd (omega (arith, lt, e)))
+          ∙ c.loop-n.invariant.those p h s k (omega (arith, lt, is)))
           (λ ge. let e : i ≡ k = omega (arith, ge, less, is) in
           subst (λ j. slice_index (set old i c.register_at.result) j ≡ reg (state_after p h).core.regs j) e
-          (get_or-set_same old i c.register_at.result 0 (omega (arith, all, is)) ∙ c.register_at.ensures p h s ∙ ap (λ n. reg (state_after p h).core.regs n) (sym is)))
+          (get_or-set_same old i c.register_at.result 0 (omega (arith, all, is)) ∙ c.register_at.ensures p h s
+          ∙ ap (λ n. reg (state_after p h).core.regs n) (sym is)))
           (cases_lt k i);
     }
 

@@ -11,14 +11,16 @@ pub returns-clause-halted : goal.returns-clause-halted
 returns-clause-halted g c = λ p s.
     let reqs = c.args.requests.now in
     let i = c.args.cycle in
-    let answered : c.cycle-cycled.result ≡ cycled_at p reqs i = c.cycle-cycled.ensures.answer p (bits reqs i) s ∙ ap (answer_after p (bits reqs i)) c.wants.ensures in
+    let answered : c.cycle-cycled.result ≡ cycled_at p reqs i =
+    c.cycle-cycled.ensures.answer p (bits reqs i) s ∙ ap (answer_after p (bits reqs i)) c.wants.ensures in
     ap (λ (r : Cycled). r.halted) answered ∙ next_halted p reqs i
 
 pub returns-clause-console : goal.returns-clause-console
 returns-clause-console g c = λ p s before.
     let reqs = c.args.requests.now in
     let i = c.args.cycle in
-    let answered : c.cycle-cycled.result ≡ cycled_at p reqs i = c.cycle-cycled.ensures.answer p (bits reqs i) s ∙ ap (answer_after p (bits reqs i)) c.wants.ensures in
+    let answered : c.cycle-cycled.result ≡ cycled_at p reqs i =
+    c.cycle-cycled.ensures.answer p (bits reqs i) s ∙ ap (answer_after p (bits reqs i)) c.wants.ensures in
     c.in_ok-push_if_stop.ensures.console
     ∙ c.in_ok-push_byte.ensures.ok
     ∙ ap (λ (r : Cycled). c.args.found.now.console.items ++ option_to_list r.byte) answered
@@ -29,13 +31,15 @@ pub returns-clause-stops : goal.returns-clause-stops
 returns-clause-stops g c = λ p s console before.
     let reqs = c.args.requests.now in
     let i = c.args.cycle in
-    let answered : c.cycle-cycled.result ≡ cycled_at p reqs i = c.cycle-cycled.ensures.answer p (bits reqs i) s ∙ ap (answer_after p (bits reqs i)) c.wants.ensures in
+    let answered : c.cycle-cycled.result ≡ cycled_at p reqs i =
+    c.cycle-cycled.ensures.answer p (bits reqs i) s ∙ ap (answer_after p (bits reqs i)) c.wants.ensures in
     let sent : c.push_byte.new.text.items ≡ console_after p (bits reqs (suc i)) =
     c.in_ok-push_byte.ensures.ok
     ∙ ap (λ (r : Cycled). c.args.found.now.console.items ++ option_to_list r.byte) answered
     ∙ ap (λ l. l ++ option_to_list (cycled_at p reqs i).byte) console
     ∙ sym (next_console p reqs i) in
-    let later = subst (λ (r : Bool). g.M.Machine.stands c.cycle-cycled.new.self p (bits reqs i ++ r ∷ [])) c.wants.ensures (c.cycle-cycled.ensures.next p (bits reqs i) s) in
+    let later = subst (λ (r : Bool). g.M.Machine.stands c.cycle-cycled.new.self p (bits reqs i ++ r ∷ [])) c.wants.ensures
+    (c.cycle-cycled.ensures.next p (bits reqs i) s) in
     next_stops p reqs c.args.asked.now.address c.args.asked.now.watch i c.args.found.now.stops.items c.push_if_stop.new.found.stops.items
     c.cycle-cycled.result (length c.push_byte.new.text.items)
     answered (ap length sent) before (c.in_ok-push_if_stop.ensures.stops p (bits reqs (suc i)) later)

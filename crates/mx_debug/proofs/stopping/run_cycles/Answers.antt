@@ -24,7 +24,8 @@ module _ (g : given.Over) (c : Then-branch g) (p : Program) (s : g.M.Machine.sta
       let i = c.loop-cycle.cycle in
       let inv = c.loop-cycle.invariant.run p s in
       ends_halted in_halt i (omega arith)
-      (count_of (stop_at p c.args.requests.now c.args.asked.now.watch) c.loop-cycle.found.stops.items (stop_cycles p c.args.requests.now c.args.asked.now.address i) c.args.limit inv.2 c.loop-cycle.invariant.few)
+      (count_of (stop_at p c.args.requests.now c.args.asked.now.watch) c.loop-cycle.found.stops.items
+      (stop_cycles p c.args.requests.now c.args.asked.now.address i) c.args.limit inv.2 c.loop-cycle.invariant.few)
       (sym (c.in_ok-run_cycle.ensures.halted p inv.0) ∙ c.if-branch.true)
 
 module _ (g : given.Over) (c : Then-len-limit g) (p : Program) (s : g.M.Machine.stands c.args.machine.now p []) where
@@ -37,10 +38,12 @@ module _ (g : given.Over) (c : Then-len-limit g) (p : Program) (s : g.M.Machine.
       let inv = c.loop-cycle.invariant.run p s in
       let now = c.in_ok-run_cycle.ensures.stops p inv.0 inv.1 inv.2 in
       let cycles = stop_cycles p c.args.requests.now c.args.asked.now.address (suc i) in
-      let told : length c.run_cycle.new.found.stops.items ≡ length cycles = ap length now ∙ length-map cycles (stop_at p c.args.requests.now c.args.asked.now.watch) in
+      let told : length c.run_cycle.new.found.stops.items ≡ length cycles =
+      ap length now ∙ length-map cycles (stop_at p c.args.requests.now c.args.asked.now.watch) in
       let enough : length c.run_cycle.new.found.stops.items ≡ c.args.limit = grind arith in
       ends_stopped in_stop i (omega arith)
-      (count_of (stop_at p c.args.requests.now c.args.asked.now.watch) c.loop-cycle.found.stops.items (stop_cycles p c.args.requests.now c.args.asked.now.address i) c.args.limit inv.2 c.loop-cycle.invariant.few)
+      (count_of (stop_at p c.args.requests.now c.args.asked.now.watch) c.loop-cycle.found.stops.items
+      (stop_cycles p c.args.requests.now c.args.asked.now.address i) c.args.limit inv.2 c.loop-cycle.invariant.few)
       (sym told ∙ enough)
 
 module _ (g : given.Over) (c : After-loop-cycle g) (p : Program) (s : g.M.Machine.stands c.args.machine.now p []) where
@@ -56,7 +59,8 @@ module _ (g : given.Over) (c : After-loop-cycle g) (p : Program) (s : g.M.Machin
       subst (λ k. EndsSo in_all k OutOfBudget) (sym all_done)
       (ends_spent in_all
       (subst (λ k. length (stop_cycles p c.args.requests.now c.args.asked.now.address k) < c.args.limit) all_done
-      (count_of (stop_at p c.args.requests.now c.args.asked.now.watch) c.loop-cycle.found.stops.items (stop_cycles p c.args.requests.now c.args.asked.now.address c.loop-cycle.cycle) c.args.limit inv.2 c.loop-cycle.invariant.few))
+      (count_of (stop_at p c.args.requests.now c.args.asked.now.watch) c.loop-cycle.found.stops.items
+      (stop_cycles p c.args.requests.now c.args.asked.now.address c.loop-cycle.cycle) c.args.limit inv.2 c.loop-cycle.invariant.few))
       (ap (λ k. (state_at p c.args.requests.now k).halted) (sym all_done) ∙ inv.3))
 
 pub loop-cycle-init : goal.loop-cycle-init

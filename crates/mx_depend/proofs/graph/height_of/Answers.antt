@@ -17,7 +17,8 @@ loop-y-preserved c =
     let later = c.requires.known c.loop-y.y (omega arith) c.loop-y-test.true in
     elim c.if-depends.branch [
       | then-depends w ↦
-          with_edge insts c.args.input c.args.x c.loop-y.y c.loop-y.greatest _ _ _ w.edge_weight.ensures (w.greatest-is ∙ w.max-greatest.ensures) c.loop-y.invariant (c.depends.ensures.0 w.if-depends.true) later
+          with_edge insts c.args.input c.args.x c.loop-y.y c.loop-y.greatest _ _ _ w.edge_weight.ensures
+          (w.greatest-is ∙ w.max-greatest.ensures) c.loop-y.invariant (c.depends.ensures.0 w.if-depends.true) later
       | else-depends w ↦
           subst (IsHeightBelow insts c.args.input c.args.x (c.loop-y.y + 1)) (sym w.greatest-is)
           (with_no_edge insts c.args.input c.args.x c.loop-y.y c.loop-y.greatest c.loop-y.invariant (λ e. absurd (grind (arith, c.depends.ensures.1 e))))

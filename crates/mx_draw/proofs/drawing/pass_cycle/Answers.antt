@@ -10,7 +10,8 @@ pub returns-clause-halted : goal.returns-clause-halted
 returns-clause-halted g c = λ p s.
     let reqs = c.args.requests.now in
     let i = c.args.cycle in
-    let answered : c.cycle-cycled.result ≡ cycled_at p reqs i = c.cycle-cycled.ensures.answer p (bits reqs i) s ∙ ap (answer_after p (bits reqs i)) c.wants.ensures in
+    let answered : c.cycle-cycled.result ≡ cycled_at p reqs i =
+    c.cycle-cycled.ensures.answer p (bits reqs i) s ∙ ap (answer_after p (bits reqs i)) c.wants.ensures in
     ap (λ (r : Cycled). r.halted) answered ∙ next_halted p reqs i
 
 pub returns-clause-stands : goal.returns-clause-stands
@@ -23,7 +24,8 @@ pub returns-clause-console : goal.returns-clause-console
 returns-clause-console g c = λ p s before.
     let reqs = c.args.requests.now in
     let i = c.args.cycle in
-    let answered : c.cycle-cycled.result ≡ cycled_at p reqs i = c.cycle-cycled.ensures.answer p (bits reqs i) s ∙ ap (answer_after p (bits reqs i)) c.wants.ensures in
+    let answered : c.cycle-cycled.result ≡ cycled_at p reqs i =
+    c.cycle-cycled.ensures.answer p (bits reqs i) s ∙ ap (answer_after p (bits reqs i)) c.wants.ensures in
     c.in_ok-push_byte.ensures.ok
     ∙ ap (λ (r : Cycled). c.args.console.now.items ++ option_to_list r.byte) answered
     ∙ ap (λ l. l ++ option_to_list (cycled_at p reqs i).byte) before

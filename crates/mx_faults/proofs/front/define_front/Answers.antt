@@ -19,7 +19,8 @@ loop-rest-preserved c =
     record {
       defined = front.0;
       repeated =
-          ap (λ o. option_or o (repeat_place c.define_own.new.labels l (place + 2) (map word (take (length ws - 2) (drop 2 ws))))) c.earlier_place-repeated.ensures
+          ap (λ o. option_or o (repeat_place c.define_own.new.labels l (place + 2) (map word (take (length ws - 2) (drop 2 ws)))))
+          c.earlier_place-repeated.ensures
           ∙ place_step labels c.define_own.new.labels l ws c.first_name.result.now place c.loop-rest.repeated c.in_ok-again.again _
           begins c.first_name.ensures c.in_ok-again.ensures.labels c.in_ok-again.ensures.repeated c.loop-rest.invariant.repeated;
       few = omega (arith, ap length (take_rest ws 2), length-drop 2 ws, c.loop-rest.invariant.few, c.begins_label.ensures.two c.loop-rest-test.true);

@@ -5,4 +5,5 @@ use Rattle.mx_faults.proofs.Lines.{assembled_is}
 use Rattle.mx_faults.proofs.laws.assembled_fault_is_least.Goals as goal
 
 pub returns : goal.returns
-returns c = λ low end text place little within. subst (IsLeast (text_line low end text place)) (sym (assembled_is low end text place little within)) (the_least (text_line low end text place))
+returns c = λ low end text place little within. subst (IsLeast (text_line low end text place)) (sym (assembled_is low end text place little within))
+    (the_least (text_line low end text place))

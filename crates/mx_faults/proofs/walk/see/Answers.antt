@@ -11,7 +11,8 @@ use Rattle.mx_faults.proofs.walk.see.Goals as goal
 pub place_fault-placed-requires : goal.place_fault-placed-requires
 place_fault-placed-requires c =
     let p = c.args.position.now in
-    c.after-next.ensures.position ∙ ap (behind p) (c.statement_words.ensures ∙ ap (λ ws. statement_words (map word ws)) (c.deref-2.ensures.value ∙ sym c.deref-3.ensures.value))
+    c.after-next.ensures.position
+    ∙ ap (behind p) (c.statement_words.ensures ∙ ap (λ ws. statement_words (map word ws)) (c.deref-2.ensures.value ∙ sym c.deref-3.ensures.value))
 
 pub returns-clause-fault : goal.returns-clause-fault
 returns-clause-fault c =
@@ -35,17 +36,20 @@ returns-clause-span c =
     let line = c.args.line.now in
     let labels = c.args.labels.now in
     let kept = ap (map word) c.deref.ensures.value ∙ c.in_ok-words.ensures in
-    let again = is_again c.args.earlier.now _ (label_here c.args.position.now) _ _ c.in_ok-repeated.repeated c.in_ok-repeated.ensures.repeated c.label.ensures.label kept in
+    let again = is_again c.args.earlier.now _
+    (label_here c.args.position.now) _ _ c.in_ok-repeated.repeated c.in_ok-repeated.ensures.repeated c.label.ensures.label kept in
     subst (λ r. IfSome c.settled-fault.result (λ f. c.in_ok-span.span ≡ span_by r (kind_by labels) line f)) again.0 c.in_ok-span.ensures
 
 pub returns-clause-next : goal.returns-clause-next
 returns-clause-next c =
     let p = c.args.position.now in
-    c.after-next.ensures.position ∙ ap (behind p) (c.statement_words.ensures ∙ ap statement_words (ap (map word) c.deref-2.ensures.value ∙ c.in_ok-words.ensures))
+    c.after-next.ensures.position
+    ∙ ap (behind p) (c.statement_words.ensures ∙ ap statement_words (ap (map word) c.deref-2.ensures.value ∙ c.in_ok-words.ensures))
 
 pub returns-clause-earlier : goal.returns-clause-earlier
 returns-clause-earlier c =
     let p = c.args.position.now in
     let earlier = c.args.earlier.now in
     let kept = ap (map word) c.deref.ensures.value ∙ c.in_ok-words.ensures in
-    c.in_ok-repeated.ensures.labels ∙ ap (λ l. define_front earlier l (map word c.deref.result.now)) c.label.ensures.label ∙ ap (define_front earlier (label_here p)) kept
+    c.in_ok-repeated.ensures.labels ∙ ap (λ l. define_front earlier l (map word c.deref.result.now)) c.label.ensures.label
+    ∙ ap (define_front earlier (label_here p)) kept

@@ -32,10 +32,13 @@ loop-line-preserved c =
     record {
       number = omega arith;
       before = before_more low i (texts lines) line p c.in_ok-seen.seen.next more c.loop-line.invariant.before c.in_ok-seen.ensures.next;
-      earlier = earlier_more low i (texts lines) line p earlier c.see.new.earlier more c.loop-line.invariant.before c.loop-line.invariant.earlier c.in_ok-seen.ensures.earlier;
+      earlier = earlier_more low i
+          (texts lines) line p earlier c.see.new.earlier more c.loop-line.invariant.before c.loop-line.invariant.earlier c.in_ok-seen.ensures.earlier;
       spans =
-          push_shown (IsShown labels low (texts lines)) c.loop-line.found.items _ number c.in_ok-seen.seen.span c.in_ok-seen.seen.fault c.in_ok-push_fault.ensures.items c.loop-line.invariant.spans
-          (shown_here labels earlier low (texts lines) i number line p c.in_ok-seen.seen.span c.in_ok-seen.seen.fault c.loop-line.invariant.number c.loop-line.invariant.before c.loop-line.invariant.earlier
+          push_shown (IsShown labels low (texts lines))
+          c.loop-line.found.items _ number c.in_ok-seen.seen.span c.in_ok-seen.seen.fault c.in_ok-push_fault.ensures.items c.loop-line.invariant.spans
+          (shown_here labels earlier low
+          (texts lines) i number line p c.in_ok-seen.seen.span c.in_ok-seen.seen.fault c.loop-line.invariant.number c.loop-line.invariant.before c.loop-line.invariant.earlier
           (text_at lines i past (omega arith)) c.in_ok-seen.ensures.span);
       index = omega (arith, c.in_ok-seen.ensures.index, c.loop-line.invariant.index);
       near = c.in_ok-seen.ensures.near;
@@ -43,9 +46,12 @@ loop-line-preserved c =
       found =
           ap (λ xs. xs ++ walked labels end c.in_ok-seen.seen.next c.see.new.earlier (number + 1) rest) c.in_ok-push_fault.ensures.found
           ∙ push_option found (with_number number c.in_ok-seen.seen.fault) (walked labels end c.in_ok-seen.seen.next c.see.new.earlier (number + 1) rest)
-          ∙ ap (λ o. found ++ cons_option (with_number number o) (walked labels end c.in_ok-seen.seen.next c.see.new.earlier (number + 1) rest)) c.in_ok-seen.ensures.fault
-          ∙ ap (λ q. found ++ cons_option (with_number number (line_fault labels end p earlier line)) (walked labels end q c.see.new.earlier (number + 1) rest)) c.in_ok-seen.ensures.next
-          ∙ ap (λ k. found ++ cons_option (with_number number (line_fault labels end p earlier line)) (walked labels end (after p words) k (number + 1) rest)) c.in_ok-seen.ensures.earlier
+          ∙ ap (λ o. found ++ cons_option (with_number number o) (walked labels end c.in_ok-seen.seen.next c.see.new.earlier (number + 1) rest))
+          c.in_ok-seen.ensures.fault
+          ∙ ap (λ q. found ++ cons_option (with_number number (line_fault labels end p earlier line)) (walked labels end q c.see.new.earlier (number + 1) rest))
+          c.in_ok-seen.ensures.next
+          ∙ ap (λ k. found ++ cons_option (with_number number (line_fault labels end p earlier line)) (walked labels end (after p words) k (number + 1) rest))
+          c.in_ok-seen.ensures.earlier
           ∙ ap (λ w. found ++ w) (sym (walked_step labels end p earlier number lines i past (omega arith)))
           ∙ c.loop-line.invariant.found;
     }

@@ -15,7 +15,8 @@ loop-j-preserved c =
     let is = c.in_ok-add_item.ensures in
     record {
       sound = subst (λ k. IsSound k c.add_item.new.draft) next (subst (IsSound (suc j)) (sym is) (sound_item x' j c.loop-j.draft c.loop-j.invariant.sound));
-      same = ap (λ d. items (c.args.count - (j + 1)) (j + 1) x' d) is ∙ (sym (items_step c.args.count j x x' c.loop-j.draft c.loop-j-test.true drawn) ∙ c.loop-j.invariant.same);
+      same = ap (λ d. items (c.args.count - (j + 1)) (j + 1) x' d) is
+          ∙ (sym (items_step c.args.count j x x' c.loop-j.draft c.loop-j-test.true drawn) ∙ c.loop-j.invariant.same);
     }
 
 pub finish-requires : goal.finish-requires

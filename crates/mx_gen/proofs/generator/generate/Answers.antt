@@ -11,7 +11,9 @@ use Rattle.mx_gen.proofs.Nears.{generated_near}
 use Rattle.mx_gen.proofs.generator.generate.Goals as goal
 
 pub returns-clause-halts : goal.returns-clause-halts
-returns-clause-halts c = IfOk-weaker c.drafted.result (λ s. s ≡ generated c.args.seed c.args.count) (λ s. (place : Place) (input : List ℕ) → IsBoard place → HaltsWithin 40009 s place input)
+returns-clause-halts c =
+    IfOk-weaker c.drafted.result (λ s. s ≡ generated c.args.seed c.args.count)
+    (λ s. (place : Place) (input : List ℕ) → IsBoard place → HaltsWithin 40009 s place input)
     (λ s e. subst (λ (v : SourceValue). (place : Place) (input : List ℕ) → IsBoard place → HaltsWithin 40009 v place input) (sym e)
     (λ place input board. generated_halts c.args.seed c.args.count c.requires place input board)) c.drafted.ensures
 
@@ -20,7 +22,9 @@ returns-clause-near c = IfOk-weaker c.drafted.result (λ s. s ≡ generated c.ar
     (λ s e. subst (λ (v : SourceValue). AllNear v.statements) (sym e) (generated_near c.args.seed c.args.count)) c.drafted.ensures
 
 pub returns-clause-never_stuck : goal.returns-clause-never_stuck
-returns-clause-never_stuck c = IfOk-weaker c.drafted.result (λ s. s ≡ generated c.args.seed c.args.count) (λ s. (place : Place) (input : List ℕ) → IsBoard place → IsNeverStuck s place input)
+returns-clause-never_stuck c =
+    IfOk-weaker c.drafted.result (λ s. s ≡ generated c.args.seed c.args.count)
+    (λ s. (place : Place) (input : List ℕ) → IsBoard place → IsNeverStuck s place input)
     (λ s e. subst (λ (v : SourceValue). (place : Place) (input : List ℕ) → IsBoard place → IsNeverStuck v place input) (sym e)
     (λ place input board. generated_runs c.args.seed c.args.count c.requires place input board)) c.drafted.ensures
 

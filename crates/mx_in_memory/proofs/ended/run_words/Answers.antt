@@ -40,7 +40,8 @@ returns c =
     let told = c.command-status.ensures in
     let calm : ¬ Rose 0 0 = no_rise 0 0 refl in
     let putting : ¬ Rose (faults_of out) (faults_of out') = no_rise (faults_of out) (faults_of out') c.in-Some.ensures.1 in
-    let quiet : AreQuiet (counts_of before) (counts_of after) 0 0 (faults_of out) (faults_of out') = record { reading = calm; writing = calm; putting = putting } in
+    let quiet : AreQuiet (counts_of before) (counts_of after) 0 0 (faults_of out) (faults_of out') =
+    record { reading = calm; writing = calm; putting = putting } in
     let not_memory : status ≢ Memory = c.is_memory.ensures c.if-is_memory.false in
     let delivered : Delivered (resolved (command_protocol asked) (held_in before)) status
     (told_of before) (told_of after) (Some (written_in out)) (Some (written_in out')) =
@@ -56,11 +57,14 @@ returns c =
           file_comes target.0 (resolved (command_protocol asked) (held_in before)) status (held_in before) (held_in after) written target.2
           delivered.status (delivered.file refl) (got ∙ ap (λ t. target_bytes (held_in after) t status) target.1);
       no_file = λ only. got ∙ ap (λ t. target_bytes (held_in after) t status) (no_target asked only);
-      headline = λ accepted. from_told (λ w w'. Headline asked (held_in before) accepted status (Some w) (Some w')) _ _ text c.new-out.ensures.written c.in-Some.ensures.0
+      headline = λ accepted. from_told
+          (λ w w'. Headline asked (held_in before) accepted status (Some w) (Some w')) _ _ text c.new-out.ensures.written c.in-Some.ensures.0
           (⊎_elim (λ m. absurd (not_memory m)) (λ h. h) (told.headline refl (inl quiet) accepted));
-      pair = λ accepted. from_told (λ w w'. PairHeadline asked (held_in before) accepted status (Some w) (Some w')) _ _ text c.new-out.ensures.written c.in-Some.ensures.0
+      pair = λ accepted. from_told
+          (λ w w'. PairHeadline asked (held_in before) accepted status (Some w) (Some w')) _ _ text c.new-out.ensures.written c.in-Some.ensures.0
           (⊎_elim (λ m. absurd (not_memory m)) (λ h. h) (told.pair refl (inl quiet) accepted));
-      stops = λ accepted. from_told (λ w w'. StopsHeadline asked (held_in before) accepted status (Some w) (Some w')) _ _ text c.new-out.ensures.written c.in-Some.ensures.0
+      stops = λ accepted. from_told
+          (λ w w'. StopsHeadline asked (held_in before) accepted status (Some w) (Some w')) _ _ text c.new-out.ensures.written c.in-Some.ensures.0
           (⊎_elim (λ m. absurd (not_memory m)) (λ h. h) (told.stops refl (inl quiet) accepted));
       no_write_fault = λ e. ⊎_elim putting (λ f. calm f.1) (told.write_fault e);
       no_memory = not_memory;

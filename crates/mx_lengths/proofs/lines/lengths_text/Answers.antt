@@ -13,4 +13,5 @@ text_of-requires c =
 pub returns-in-Ok : goal.returns-in-Ok
 returns-in-Ok c = λ blocks are.
     c.in-Ok.ensures
-    ∙ ap (lengths_text c.args.source.now) (c.as_slice.ensures.value ∙ blocks_unique c.args.source.now c.in_ok-blocks.blocks.items blocks c.in_ok-blocks.ensures are)
+    ∙ ap (lengths_text c.args.source.now)
+    (c.as_slice.ensures.value ∙ blocks_unique c.args.source.now c.in_ok-blocks.blocks.items blocks c.in_ok-blocks.ensures are)

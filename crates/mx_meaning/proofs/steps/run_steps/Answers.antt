@@ -16,7 +16,8 @@ returns-in-Some-clause-run c =
     let left : suc m ≡ c.args.steps - c.loop-done.done = omega arith in
     let took : new ≡ run_step p now = c.in_ok-take_step.ensures.run ∙ ap (λ (q : Program). run_step q now) c.loop-done.invariant.program in
     let mark : new.state.mark ≡ mark_of c.in-Some.ending = c.in_ok-take_step.ensures.mark ∙ ap mark_after c.in-Some.is in
-    let ended : mark_of c.in-Some.ending ≢ Going = subst (λ (o : Option Ending). IfSome o (λ e. mark_of e ≢ Going)) c.in-Some.is c.in_ok-take_step.ensures.ended in
+    let ended : mark_of c.in-Some.ending ≢ Going =
+    subst (λ (o : Option Ending). IfSome o (λ e. mark_of e ≢ Going)) c.in-Some.is c.in_ok-take_step.ensures.ended in
     sym (run_still p m new (λ g. ended (sym mark ∙ g)))
     ∙ ap (run_for p m) took
     ∙ ap (λ k. run_for p k now) left
@@ -31,7 +32,8 @@ returns-in-Some-clause-steps c =
     let left : c.args.steps - c.loop-done.done ≡ suc m = omega arith in
     let took : new ≡ run_step p now = c.in_ok-take_step.ensures.run ∙ ap (λ (q : Program). run_step q now) c.loop-done.invariant.program in
     let mark : new.state.mark ≡ mark_of c.in-Some.ending = c.in_ok-take_step.ensures.mark ∙ ap mark_after c.in-Some.is in
-    let ended : mark_of c.in-Some.ending ≢ Going = subst (λ (o : Option Ending). IfSome o (λ e. mark_of e ≢ Going)) c.in-Some.is c.in_ok-take_step.ensures.ended in
+    let ended : mark_of c.in-Some.ending ≢ Going =
+    subst (λ (o : Option Ending). IfSome o (λ e. mark_of e ≢ Going)) c.in-Some.is c.in_ok-take_step.ensures.ended in
     let rest : steps_in p m (run_step p now) ≡ 0 = ap (steps_in p m) (sym took) ∙ steps_still p m new (λ g. ended (sym mark ∙ g)) in
     let first : went now.state.mark (run_step p now).state.mark ≡ c.counted.result =
     ap (λ (x : Mark). went x (run_step p now).state.mark) c.loop-done.invariant.going

@@ -10,7 +10,8 @@ returns-then-not-may_stand_before c = (
   λ h.
       let items = c.args.items.now in
       sym c.if-not-may_stand_before.true ∙ c.may_stand_before.ensures.1
-      (λ k j e f l. h c.loop-q.q k j (stands_at items _ k _ c.requires.within e) (stands_at items _ j _ c.loop-q-test.true f) (let low = c.loop-q.auto.q in omega arith) l),
+      (λ k j e f l. h c.loop-q.q k j (stands_at items _ k _ c.requires.within e) (stands_at items _ j _ c.loop-q-test.true f) (let low = c.loop-q.auto.q in
+      omega arith) l),
 )
 
 pub loop-q-preserved : goal.loop-q-preserved

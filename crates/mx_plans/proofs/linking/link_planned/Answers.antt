@@ -9,11 +9,13 @@ use Rattle.mx_plans.proofs.linking.link_planned.Goals as goal
 pub returns-clause-linked : goal.returns-clause-linked
 returns-clause-linked c =
     let firsts = c.as_slice-2.ensures.value ∙ c.in_ok-firsts.ensures ∙ ap (map (λ (b : Block). b.first)) c.as_slice.ensures.value in
-    if_linked _ _ (proposed_by c.args.source.now (marks_of_lines c.args.lines.now) c.in_ok-blocks.blocks.items c.as_slice-2.result.now c.in_ok-blocks.ensures firsts)
+    if_linked _ _ (proposed_by c.args.source.now
+    (marks_of_lines c.args.lines.now) c.in_ok-blocks.blocks.items c.as_slice-2.result.now c.in_ok-blocks.ensures firsts)
     from_target c.args.source.now c.args.place c.link_by.result c.link_by.ensures.linked
 
 pub returns-clause-refused : goal.returns-clause-refused
 returns-clause-refused c =
     let firsts = c.as_slice-2.ensures.value ∙ c.in_ok-firsts.ensures ∙ ap (map (λ (b : Block). b.first)) c.as_slice.ensures.value in
-    if_refused _ _ (proposed_by c.args.source.now (marks_of_lines c.args.lines.now) c.in_ok-blocks.blocks.items c.as_slice-2.result.now c.in_ok-blocks.ensures firsts)
+    if_refused _ _ (proposed_by c.args.source.now
+    (marks_of_lines c.args.lines.now) c.in_ok-blocks.blocks.items c.as_slice-2.result.now c.in_ok-blocks.ensures firsts)
     c.args.source.now c.args.place c.link_by.result c.link_by.ensures.refused

@@ -18,7 +18,8 @@ returns-then-not-keeps c = record {
 }
 
 pub rules-preserved : goal.rules-preserved
-rules-preserved c = kept_more c.args.block.now c.args.plan.now c.rules.rule c.in-Some.later c.in-Some.ensures c.rules.invariant (c.keeps.ensures.0 c.if-not-keeps.false)
+rules-preserved c = kept_more c.args.block.now c.args.plan.now c.rules.rule c.in-Some.later c.in-Some.ensures c.rules.invariant
+    (c.keeps.ensures.0 c.if-not-keeps.false)
 
 pub rules-smaller : goal.rules-smaller
 rules-smaller c = let few = rank_small c.rules.rule in let e : rank c.in-Some.later ≡ rank c.rules.rule + 1 = c.in-Some.ensures in omega arith

@@ -6,4 +6,5 @@ use Rattle.mx_profile.proofs.laws.lines_follow_statements.Goals as goal
 
 pub returns : goal.returns
 returns c lines costs sums f counts told n l =
-    counts n l ∙ ap saturated (sum_same _ (λ k. cond (eqb (slice_index lines k) n) (f k) 0) (length costs) (λ k m. ap (λ w. cond (eqb (slice_index lines k) n) w 0) (told k m)))
+    counts n l ∙ ap saturated
+    (sum_same _ (λ k. cond (eqb (slice_index lines k) n) (f k) 0) (length costs) (λ k m. ap (λ w. cond (eqb (slice_index lines k) n) w 0) (told k m)))

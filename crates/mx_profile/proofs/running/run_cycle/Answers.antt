@@ -10,7 +10,8 @@ use Rattle.mx_profile.proofs.Charged.{fetches_more, cycles_more, executed_more, 
 use Rattle.mx_profile.proofs.running.run_cycle.Goals as goal
 
 pub charge-requires-clause-small : goal.charge-requires-clause-small
-charge-requires-clause-small g c = let last = c.requires.last in below_more (c.args.cycle * 2 ^ 32) (2 ^ 64 - 2 ^ 33) c.args.progress.now.tally (omega arith) c.requires.small
+charge-requires-clause-small g c = let last = c.requires.last in
+    below_more (c.args.cycle * 2 ^ 32) (2 ^ 64 - 2 ^ 33) c.args.progress.now.tally (omega arith) c.requires.small
 
 pub returns-clause-small : goal.returns-clause-small
 returns-clause-small g c =
@@ -23,18 +24,29 @@ returns-clause-small g c =
     let old = c.args.progress.now.tally in
     let took : c.args.progress.now.waiting + one gain.cycle ≤ 2 ^ 32 = grind arith in
     record {
-      fetches = λ k. (let h = added_below a (2 ^ 32) old.fetches.items _ (λ j. gain.fetch && eqb (place_in words shown.fetch) j) 1 (omega arith) c.requires.small.fetches c.charge.ensures.fetches k in omega arith);
-      cycles = λ k. (let h = added_below a (2 ^ 32) old.cycles.items _ (λ j. gain.fetch && eqb (place_in words shown.fetch) j) _ took c.requires.small.cycles c.charge.ensures.cycles k in omega arith);
-      executed = λ k. (let h = added_below a (2 ^ 32) old.executed.items _ (λ j. (gain.fetch && is_live shown.mem) && eqb (place_in words shown.mem) j) 1 (omega arith) c.requires.small.executed c.charge.ensures.executed k in omega arith);
-      cancelled = λ k. (let h = added_below a (2 ^ 32) old.cancelled.items _ (λ j. (gain.fetch && is_squashed shown.mem) && eqb (place_in words shown.mem) j) 1 (omega arith) c.requires.small.cancelled c.charge.ensures.cancelled k in omega arith);
-      squashes = λ k. (let h = added_below a (2 ^ 32) old.squashes.items _ (λ j. gain.squash && eqb (place_in words shown.alu) j) 1 (omega arith) c.requires.small.squashes c.charge.ensures.squashes k in omega arith);
+      fetches = λ k. (let h =
+          added_below a (2 ^ 32) old.fetches.items _ (λ j. gain.fetch && eqb (place_in words shown.fetch) j) 1
+          (omega arith) c.requires.small.fetches c.charge.ensures.fetches k in omega arith);
+      cycles = λ k. (let h =
+          added_below a (2 ^ 32) old.cycles.items _
+          (λ j. gain.fetch && eqb (place_in words shown.fetch) j) _ took c.requires.small.cycles c.charge.ensures.cycles k in omega arith);
+      executed = λ k. (let h =
+          added_below a (2 ^ 32) old.executed.items _ (λ j. (gain.fetch && is_live shown.mem) && eqb (place_in words shown.mem) j) 1
+          (omega arith) c.requires.small.executed c.charge.ensures.executed k in omega arith);
+      cancelled = λ k. (let h =
+          added_below a (2 ^ 32) old.cancelled.items _ (λ j. (gain.fetch && is_squashed shown.mem) && eqb (place_in words shown.mem) j) 1
+          (omega arith) c.requires.small.cancelled c.charge.ensures.cancelled k in omega arith);
+      squashes = λ k. (let h =
+          added_below a (2 ^ 32) old.squashes.items _ (λ j. gain.squash && eqb (place_in words shown.alu) j) 1
+          (omega arith) c.requires.small.squashes c.charge.ensures.squashes k in omega arith);
     }
 
 pub returns-clause-halted : goal.returns-clause-halted
 returns-clause-halted g c = λ p s.
     let reqs = c.args.requests.now in
     let i = c.args.cycle in
-    let answered : c.cycle-cycled.result ≡ cycled_at p reqs i = c.cycle-cycled.ensures.answer p (bits reqs i) s ∙ ap (answer_after p (bits reqs i)) c.wants.ensures in
+    let answered : c.cycle-cycled.result ≡ cycled_at p reqs i =
+    c.cycle-cycled.ensures.answer p (bits reqs i) s ∙ ap (answer_after p (bits reqs i)) c.wants.ensures in
     ap (λ (r : Cycled). r.halted) answered ∙ next_halted p reqs i
 
 pub returns-clause-stands : goal.returns-clause-stands
@@ -48,7 +60,8 @@ returns-clause-tally g c = λ p s t w.
     let reqs = c.args.requests.now in
     let i = c.args.cycle in
     let words = c.args.words in
-    let later = subst (λ (r : Bool). g.M.Machine.stands c.cycle-cycled.new.self p (bits reqs i ++ r ∷ [])) c.wants.ensures (c.cycle-cycled.ensures.next p (bits reqs i) s) in
+    let later = subst (λ (r : Bool). g.M.Machine.stands c.cycle-cycled.new.self p (bits reqs i ++ r ∷ [])) c.wants.ensures
+    (c.cycle-cycled.ensures.next p (bits reqs i) s) in
     let shown = c.latches.ensures p (bits reqs (suc i)) later in
     let b = c.counts-before.ensures.counts p (bits reqs i) s in
     let a = c.counts.ensures.counts p (bits reqs (suc i)) later in
@@ -67,7 +80,8 @@ pub returns-clause-still_waiting : goal.returns-clause-still_waiting
 returns-clause-still_waiting g c = λ p s w.
     let reqs = c.args.requests.now in
     let i = c.args.cycle in
-    let later = subst (λ (r : Bool). g.M.Machine.stands c.cycle-cycled.new.self p (bits reqs i ++ r ∷ [])) c.wants.ensures (c.cycle-cycled.ensures.next p (bits reqs i) s) in
+    let later = subst (λ (r : Bool). g.M.Machine.stands c.cycle-cycled.new.self p (bits reqs i ++ r ∷ [])) c.wants.ensures
+    (c.cycle-cycled.ensures.next p (bits reqs i) s) in
     let b = c.counts-before.ensures.counts p (bits reqs i) s in
     let a = c.counts.ensures.counts p (bits reqs (suc i)) later in
     let cycle = c.gain_between-gain.ensures.cycle ∙ (λ j. ltb (b j).cycles (a j).cycles) in

@@ -19,6 +19,9 @@ to_test a b h = grind (arith, nat_tests)
 
 pub returns : goal.returns
 returns c = (
-  λ t k h. kept (bit_at c.args.mask k) (bit_at c.args.other k) (bit_at-lt c.args.other k) (sym (bit_at_or c.args.mask c.args.other k) ∙ ap (λ n. bit_at n k) (from_test _ _ t)) h,
-  λ f. to_test _ _ (same_from_bits _ c.args.other (λ i. bit_at_or c.args.mask c.args.other i ∙ joined (bit_at c.args.mask i) (bit_at c.args.other i) (bit_at-lt c.args.mask i) (bit_at-lt c.args.other i) (f i))),
+  λ t k h. kept (bit_at c.args.mask k) (bit_at c.args.other k) (bit_at-lt c.args.other k)
+      (sym (bit_at_or c.args.mask c.args.other k) ∙ ap (λ n. bit_at n k) (from_test _ _ t)) h,
+  λ f. to_test _ _ (same_from_bits _ c.args.other
+      (λ i. bit_at_or c.args.mask c.args.other i
+      ∙ joined (bit_at c.args.mask i) (bit_at c.args.other i) (bit_at-lt c.args.mask i) (bit_at-lt c.args.other i) (f i))),
 )

@@ -17,7 +17,8 @@ returns-then-all_stand c =
     let block = c.args.block.now in
     let items = c.push_slots-second.new.items.items in
     let second = c.push_slots-second.result in
-    let slots : HasSlots block c.args.before.now items second = subst (λ (l : List Item). HasSlots block l items second) c.copy_of-items.ensures c.push_slots-second.ensures.slots in
+    let slots : HasSlots block c.args.before.now items second =
+    subst (λ (l : List Item). HasSlots block l items second) c.copy_of-items.ensures c.push_slots-second.ensures.slots in
     let all : AllStand block items = subst (λ (l : List Item). AllStand block l) c.as_slice.ensures.value (c.all_stand.ensures.0 c.if-all_stand.true) in (
       λ t. rest_of_slots block c.args.before.now items second slots all (sym c.loads.ensures ∙ not_true c.loads.result t),
       λ r. ap not (c.loads.ensures ∙ (slots_of_rest block c.args.before.now items second (heights_known block c.args.graph.now c.requires.graph) slots r).1),
@@ -28,7 +29,10 @@ returns-else-all_stand c =
     let block = c.args.block.now in
     let items = c.push_slots-second.new.items.items in
     let second = c.push_slots-second.result in
-    let slots : HasSlots block c.args.before.now items second = subst (λ (l : List Item). HasSlots block l items second) c.copy_of-items.ensures c.push_slots-second.ensures.slots in (
+    let slots : HasSlots block c.args.before.now items second =
+    subst (λ (l : List Item). HasSlots block l items second) c.copy_of-items.ensures c.push_slots-second.ensures.slots in (
       λ t. absurd (false≢true (sym c.if-all_stand.false ∙ t)),
-      λ r. c.all_stand.ensures.1 (subst (λ (l : List Item). AllStand block l) (sym c.as_slice.ensures.value) (slots_of_rest block c.args.before.now items second (heights_known block c.args.graph.now c.requires.graph) slots r).0),
+      λ r. c.all_stand.ensures.1
+          (subst (λ (l : List Item). AllStand block l) (sym c.as_slice.ensures.value)
+          (slots_of_rest block c.args.before.now items second (heights_known block c.args.graph.now c.requires.graph) slots r).0),
     )

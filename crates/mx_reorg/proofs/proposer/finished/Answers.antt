@@ -15,7 +15,8 @@ push_slots-second-requires c = record {
 pub returns-in-Halts : goal.returns-in-Halts
 returns-in-Halts c =
     let block = c.args.block.now in
-    greedy_from block _ c.args.front.items (Op (terminator block) ∷ []) c.requires.front.grows c.requires.front.ends c.push_terminator.ensures.items c.len-place.ensures.value
+    greedy_from block _ c.args.front.items
+    (Op (terminator block) ∷ []) c.requires.front.grows c.requires.front.ends c.push_terminator.ensures.items c.len-place.ensures.value
     (ap end_count (sym c.in-Halts.is)) (λ f. refl) (λ q l m. absurd (omega arith))
 
 pub returns-in_default : goal.returns-in_default

@@ -22,7 +22,8 @@ fills : (c : goal.After-push) → Fills c.args.block.now c.front.items.items c.n
 fills c = subst (λ (l : List Item). Fills c.args.block.now l c.next_item-next.result) c.as_slice-in-front.ensures.value c.next_item-next.ensures.fills
 
 going : (c : goal.After-push) → ¬ MayEnd c.args.block.now.end c.args.block.now c.front.items.items
-going c m = false≢true (sym c.front-test.true ∙ c.may_end.ensures.1 (subst (λ (l : List Item). MayEnd c.args.block.now.end c.args.block.now l) (sym c.as_slice.ensures.value) m))
+going c m = false≢true
+    (sym c.front-test.true ∙ c.may_end.ensures.1 (subst (λ (l : List Item). MayEnd c.args.block.now.end c.args.block.now l) (sym c.as_slice.ensures.value) m))
 
 cost : (c : goal.After-push) → Cost c.args.block.now (c.front.items.items ++ c.next_item-next.result ∷ [])
 cost c = cost_grows c.args.block.now c.front.items.items c.next_item-next.result (fills c) (going c) c.front.invariant.cost
@@ -35,7 +36,8 @@ front-preserved c =
     let most = few block c.requires.few in
     let size = ap length c.push.ensures.items in
     record {
-      grows = subst (λ (l : List Item). Grows block l) (sym c.push.ensures.items) (grows_push block c.front.items.items c.next_item-next.result c.front.invariant.grows (going c) (fills c));
+      grows = subst (λ (l : List Item). Grows block l) (sym c.push.ensures.items)
+          (grows_push block c.front.items.items c.next_item-next.result c.front.invariant.grows (going c) (fills c));
       cost = subst (λ (l : List Item). Cost block l) (sym c.push.ensures.items) more;
       short = omega arith;
     }
@@ -45,7 +47,8 @@ front-smaller c =
     let block = c.args.block.now in
     let low : length (c.front.items.items ++ c.next_item-next.result ∷ []) ≤ total (insts_of block) (body_count block) = short block _ (cost c) in
     let size : length c.push.new.self.items ≡ length (c.front.items.items ++ c.next_item-next.result ∷ []) = ap length c.push.ensures.items in
-    let more : length (c.front.items.items ++ c.next_item-next.result ∷ []) ≡ length c.front.items.items + 1 = length-append c.front.items.items (c.next_item-next.result ∷ []) in
+    let more : length (c.front.items.items ++ c.next_item-next.result ∷ []) ≡ length c.front.items.items + 1 =
+    length-append c.front.items.items (c.next_item-next.result ∷ []) in
     omega arith
 
 pub next_item-next-requires-clause-known : goal.next_item-next-requires-clause-known

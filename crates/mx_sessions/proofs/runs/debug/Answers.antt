@@ -15,7 +15,8 @@ session_text-requires c =
     let limits = c.args.limits.now in
     let p : Program = program_of shipped c.args.image.now.code.items c.args.image.now.user_data.items (option_copied c.args.input) in
     let s : Session = session p c.args.requests.now c.args.address limits.stops limits.watch limits.budget in
-    let told = ap length (c.in_ok-stopped.ensures.stops p c.in_ok-machine.ensures) ∙ length-map (take limits.stops (all_stops s)) (stop_at p c.args.requests.now limits.watch) in
+    let told = ap length (c.in_ok-stopped.ensures.stops p c.in_ok-machine.ensures)
+    ∙ length-map (take limits.stops (all_stops s)) (stop_at p c.args.requests.now limits.watch) in
     let few = length-take limits.stops (all_stops s) in
     let most = c.requires.asked.stops in
     omega (arith, told, few, most)

@@ -11,10 +11,12 @@ loop-i-preserved c =
     let i = c.loop-i.i in
     record {
       len = grind (arith, common_steps);
-      groups = subst (λ ls. AreGroups c.args.section ls c.add_label.new.groups.items) (sym (take-one_more labels i (c.at-label.result.0.now, c.at-label.result.1) c.at-label.ensures))
+      groups = subst (λ ls. AreGroups c.args.section ls c.add_label.new.groups.items)
+          (sym (take-one_more labels i (c.at-label.result.0.now, c.at-label.result.1) c.at-label.ensures))
           (c.in_ok-add_label.ensures.groups (take i labels) c.loop-i.invariant.groups);
     }
 
 pub returns-clause-groups : goal.returns-clause-groups
 returns-clause-groups c = let labels = c.args.labels.now in
-    subst (λ ls. AreGroups c.args.section ls c.loop-i.groups.items) (take_all c.loop-i.i labels (omega (arith, c.len-i-end.ensures, c.loop-i-test.false))) c.loop-i.invariant.groups
+    subst (λ ls. AreGroups c.args.section ls c.loop-i.groups.items)
+    (take_all c.loop-i.i labels (omega (arith, c.len-i-end.ensures, c.loop-i-test.false))) c.loop-i.invariant.groups

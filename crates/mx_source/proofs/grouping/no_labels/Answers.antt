@@ -9,6 +9,8 @@ pub loop-preserved : goal.loop-preserved
 loop-preserved c = record {
   len = grind (arith, common_steps);
   groups = λ k g e.
-      ⊎_elim (λ h. c.loop.invariant.groups k g h) (λ h. group_empty (names_at c.args.section k) g (ap (λ x. x.lines.items) (sym h) ∙ c.new.ensures.lines) (ap (λ x. x.first) (sym h) ∙ c.new.ensures.first))
+      ⊎_elim (λ h. c.loop.invariant.groups k g h)
+      (λ h. group_empty (names_at c.args.section k) g (ap (λ x. x.lines.items) (sym h) ∙ c.new.ensures.lines)
+      (ap (λ x. x.first) (sym h) ∙ c.new.ensures.first))
       (slice_get-push_cases c.loop.groups.items k c.new.result g (ap (λ xs. slice_get xs k) (sym c.in_ok-push.ensures.items) ∙ e));
 }

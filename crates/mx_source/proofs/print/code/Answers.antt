@@ -23,7 +23,8 @@ loop-i-preserved c = λ labels groups.
     c.in_ok-statement.ensures labels groups ∙ ap (λ t. t ++ statement_text labels s) put in
     let all : c.put-in-loop-i.new.self ≡ ((c.loop-i.text ++ label_lines (names_index i) labels) ++ statement_text labels s) ++ 10 ∷ [] =
     c.in_ok-put-2.ensures ∙ ap (λ t. t ++ 10 ∷ []) stated in
-    ap (λ t. t ++ code_text labels (i + 1) (drop (i + 1) statements)) all ∙ (code_step labels statements i s c.loop-i.text here ∙ c.loop-i.invariant labels groups)
+    ap (λ t. t ++ code_text labels (i + 1) (drop (i + 1) statements)) all
+    ∙ (code_step labels statements i s c.loop-i.text here ∙ c.loop-i.invariant labels groups)
 
 pub returns : goal.returns
 returns c = on_ok_weaker c.put-2.result (λ h labels groups.

@@ -5,4 +5,5 @@ use Rattle.mx_source.specs.Groups.{AreGroups}
 use Rattle.mx_source.proofs.print.code.Given as goal
 
 abbrev pub invariant-loop-i : goal.invariant-loop-i
-invariant-loop-i l = (labels : Labels) → AreGroups Code labels l.places → l.text ++ code_text labels l.i (drop l.i l.statements) ≡ l.initial.text ++ code_text labels 0 l.statements
+invariant-loop-i l = (labels : Labels) → AreGroups Code labels l.places
+    → l.text ++ code_text labels l.i (drop l.i l.statements) ≡ l.initial.text ++ code_text labels 0 l.statements

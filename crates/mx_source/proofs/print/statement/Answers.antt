@@ -12,7 +12,8 @@ returns-in-LaCode c = on_ok_weaker c.two.result (λ h labels groups. h
 pub returns-in-Branch : goal.returns-in-Branch
 returns-in-Branch c = on_ok_weaker c.three.result (λ h labels groups. h
     ∙ (ap (λ m. c.args.text.now ++ spelled m (register c.in-Branch.a ∷ register c.in-Branch.b ∷ operand_text c.name-in-Branch.result ∷ [])) c.mnemonic.ensures
-    ∙ (ap (λ t. c.args.text.now ++ spelled (condition_text c.in-Branch.cond) (register c.in-Branch.a ∷ register c.in-Branch.b ∷ t ∷ [])) (c.name-in-Branch.ensures labels groups)
+    ∙ (ap (λ t. c.args.text.now ++ spelled (condition_text c.in-Branch.cond) (register c.in-Branch.a ∷ register c.in-Branch.b ∷ t ∷ []))
+    (c.name-in-Branch.ensures labels groups)
     ∙ ap (λ s. c.args.text.now ++ statement_text labels s) (sym c.in-Branch.is)))) c.three.ensures
 
 pub returns-in-Call : goal.returns-in-Call

@@ -26,7 +26,8 @@ loop-i-preserved c = λ labels named groups.
     c.in_ok-value.ensures labels named ∙ ap (λ t. t ++ word) put in
     let all : c.put-in-loop-i.new.self ≡ ((c.loop-i.text ++ label_lines (names_address (256 + i)) labels) ++ word) ++ 10 ∷ [] =
     c.in_ok-put-2.ensures ∙ ap (λ t. t ++ 10 ∷ []) stated in
-    ap (λ t. t ++ words_text labels (256 + (i + 1)) (drop (i + 1) words)) all ∙ (words_step labels words i v c.loop-i.text here ∙ c.loop-i.invariant labels named groups)
+    ap (λ t. t ++ words_text labels (256 + (i + 1)) (drop (i + 1) words)) all
+    ∙ (words_step labels words i v c.loop-i.text here ∙ c.loop-i.invariant labels named groups)
 
 pub returns : goal.returns
 returns c = on_ok_weaker c.put-2.result (λ h labels named groups.

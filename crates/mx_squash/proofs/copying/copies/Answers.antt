@@ -18,4 +18,5 @@ returns c =
     c.copies_of.ensures
     ∙ ap (copies_at (sites blocks plans starts))
     (sym (sites_get blocks plans starts i _ _ _
-    (slice_get_read blocks _ i c.index-blocks-site.result refl within c.index-blocks-site.is) (slice_get_read plans _ i c.index-plans-site.result refl plan_within c.index-plans-site.is) (slice_get-get_or starts i 0 start_within)))
+    (slice_get_read blocks _ i c.index-blocks-site.result refl within c.index-blocks-site.is)
+    (slice_get_read plans _ i c.index-plans-site.result refl plan_within c.index-plans-site.is) (slice_get-get_or starts i 0 start_within)))

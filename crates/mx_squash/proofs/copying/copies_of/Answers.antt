@@ -21,7 +21,8 @@ returns-in-Some c =
     c.copies_between.ensures
     ∙ ap (copied (site c.args.block.now c.args.plan.now c.args.start))
     (sym (goal_is (is_target c.args.block.now.end) blocks plans starts i _ _ _ c.in-Some.ensures.found
-    (slice_get_read blocks _ i c.index-blocks-goal.result refl within c.index-blocks-goal.is) (slice_get_read plans _ i c.index-plans-goal.result refl plan_within c.index-plans-goal.is) (slice_get-get_or starts i 0 start_within)))
+    (slice_get_read blocks _ i c.index-blocks-goal.result refl within c.index-blocks-goal.is)
+    (slice_get_read plans _ i c.index-plans-goal.result refl plan_within c.index-plans-goal.is) (slice_get-get_or starts i 0 start_within)))
 
 pub returns-in-None : goal.returns-in-None
 returns-in-None c =

@@ -12,4 +12,5 @@ items c =
     ∙ sym (map_more what_of c.args.words.now c.loop-word.word-index 0 c.loop-word-test.true)
 
 pub loop-word-preserved : goal.loop-word-preserved
-loop-word-preserved c = (items c, subst (All ShiftFits) (sym c.in_ok-push.ensures.items) (All-push ShiftFits _ _ c.loop-word.invariant.1 c.what_of.ensures.fits))
+loop-word-preserved c =
+    (items c, subst (All ShiftFits) (sym c.in_ok-push.ensures.items) (All-push ShiftFits _ _ c.loop-word.invariant.1 c.what_of.ensures.fits))

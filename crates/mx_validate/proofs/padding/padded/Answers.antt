@@ -21,7 +21,8 @@ loop-k-preserved c =
     let insts = c.args.block.now.insts.items in
     let within : c.loop-k.k < length insts = omega arith in
     let read : c.index-deref-k.result ≡ slice_index_or insts c.loop-k.k Halt =
-    get_or_read insts c.loop-k.k c.index-deref-k.result within (c.index-deref-k.is ∙ ap (λ l. slice_index_or l c.loop-k.k c.index-deref-k.result) c.deref.ensures.0) Halt in
+    get_or_read insts c.loop-k.k c.index-deref-k.result within
+    (c.index-deref-k.is ∙ ap (λ l. slice_index_or l c.loop-k.k c.index-deref-k.result) c.deref.ensures.0) Halt in
     c.push_padded.ensures
     ∙ ap (λ l. l ++ Op c.loop-k.k ∷ no_ops_after c.index-deref-k.result) c.loop-k.invariant
     ∙ ap (λ x. padded_from 0 (take c.loop-k.k insts) ++ Op c.loop-k.k ∷ no_ops_after x) read
@@ -30,7 +31,8 @@ loop-k-preserved c =
 pub overflow_sub-place : goal.overflow_sub-place
 overflow_sub-place c =
     let block = c.args.block.now in
-    let whole : length c.loop-k.items.items ≡ length (padded_from 0 block.insts.items) = ap length c.loop-k.invariant ∙ ap (λ l. length (padded_from 0 l)) (grind (arith, common_steps)) in
+    let whole : length c.loop-k.items.items ≡ length (padded_from 0 block.insts.items) =
+    ap length c.loop-k.invariant ∙ ap (λ l. length (padded_from 0 l)) (grind (arith, common_steps)) in
     let tail = tail_of block.end block.insts.items block.last in
     omega arith
 

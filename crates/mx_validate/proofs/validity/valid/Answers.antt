@@ -11,7 +11,8 @@ keeps_order-requires c = once_below _ _ (c.stands_once.ensures.0 c.if-not-stands
 pub returns-then-not-keeps_order : goal.returns-then-not-keeps_order
 returns-then-not-keeps_order c = (
   λ t. absurd (false≢true t),
-  λ v. sym c.if-not-keeps_order.true ∙ c.keeps_order.ensures.1 (lawful_from c.args.block.now c.args.plan.now _ _ c.as_slice-insts.ensures.value c.as_slice-items.ensures.value v).order,
+  λ v. sym c.if-not-keeps_order.true
+      ∙ c.keeps_order.ensures.1 (lawful_from c.args.block.now c.args.plan.now _ _ c.as_slice-insts.ensures.value c.as_slice-items.ensures.value v).order,
 )
 
 pub keeps_apart-requires : goal.keeps_apart-requires
@@ -29,6 +30,7 @@ returns c =
       apart = c.keeps_apart.ensures.0 c.if-not-keeps_apart.false;
       last = c.ends_without_load.ensures.0 c.if-not-ends_without_load.false;
     } in (
-      λ t. valid_from c.args.block.now c.args.plan.now _ _ c.as_slice-insts.ensures.value c.as_slice-items.ensures.value lawful (c.has_end.ensures.0 c.if-not-has_end.false) (grind (arith, nat_tests)),
+      λ t. valid_from c.args.block.now c.args.plan.now _ _ c.as_slice-insts.ensures.value c.as_slice-items.ensures.value lawful
+          (c.has_end.ensures.0 c.if-not-has_end.false) (grind (arith, nat_tests)),
       λ v. (let room = v.room in grind (arith, nat_tests)),
     )

@@ -11,7 +11,8 @@ more_options : (options : List (Bor Text)) (i : ℕ) (d : Bor Text) → i < leng
     → with_rule (command_for (texts (take i options))) (option_rule (get_or options i d).now) ≡ command_for (texts (take (i + 1) options))
 more_options options i d h =
     ap (λ rules. on_top (λ s. record s { rules = names_rule ∷ rules }) bare_command)
-    (sym (ap (map option_rule) (map_more (λ (s : Bor Text). s.now) options i d h) ∙ map-append option_rule (texts (take i options)) ((get_or options i d).now ∷ [])))
+    (sym (ap (map option_rule) (map_more (λ (s : Bor Text). s.now) options i d h)
+    ∙ map-append option_rule (texts (take i options)) ((get_or options i d).now ∷ [])))
 
 pub loop-option-preserved : goal.loop-option-preserved
 loop-option-preserved c =

@@ -26,7 +26,8 @@ pub returns-in_default-clause-asked : goal.returns-in_default-clause-asked
 returns-in_default-clause-asked c =
     let options : List Text = texts c.args.shape.now.options.now in
     let words : List Text = map string_bytes c.args.words.now in
-    refuses options words c.args.shape.now.fewest c.args.shape.now.most (reading options words) (agrees options words (apart options c.requires) (texts_are c.args.words.now))
+    refuses options words c.args.shape.now.fewest c.args.shape.now.most (reading options words)
+    (agrees options words (apart options c.requires) (texts_are c.args.words.now))
     (parse_at options words c.in-Ok.found None c.in_default.is c.in-Ok.ensures)
 
 pub returns-then-not-takes-clause-asked : goal.returns-then-not-takes-clause-asked
@@ -34,8 +35,14 @@ returns-then-not-takes-clause-asked c =
     let options : List Text = texts c.args.shape.now.options.now in
     let words : List Text = map string_bytes c.args.words.now in
     let parsed : IsParse options words (Some c.in-Some.matches) = parse_at options words c.in-Ok.found (Some c.in-Some.matches) c.in-Some.is c.in-Ok.ensures in
-    miscounts options words c.args.shape.now.fewest c.args.shape.now.most (rows_of (found_of c.in-Some.matches)) (texts c.in_ok-names.names.items) (reading options words)
-    (agrees options words (apart options c.requires) (texts_are c.args.words.now)) (record { passes = parsed.0; rows_are = parsed.1; names_are = c.in_ok-names.ensures })
+    miscounts options words c.args.shape.now.fewest c.args.shape.now.most (rows_of (found_of c.in-Some.matches)) (texts c.in_ok-names.names.items)
+    (reading options words)
+    (agrees options words (apart options c.requires) (texts_are c.args.words.now)) (record {
+      passes = parsed.0;
+      rows_are = parsed.1;
+      names_are =
+          c.in_ok-names.ensures;
+    })
     (counted c.args.shape.now.fewest c.args.shape.now.most c.len.result c.in_ok-names.names c.takes.result false c.len.ensures c.takes.ensures (search rules))
 
 pub returns-clause-asked : goal.returns-clause-asked
@@ -43,6 +50,14 @@ returns-clause-asked c =
     let options : List Text = texts c.args.shape.now.options.now in
     let words : List Text = map string_bytes c.args.words.now in
     let parsed : IsParse options words (Some c.in-Some.matches) = parse_at options words c.in-Ok.found (Some c.in-Some.matches) c.in-Some.is c.in-Ok.ensures in
-    answers options words c.args.shape.now.fewest c.args.shape.now.most (rows_of (found_of c.in-Some.matches)) (texts c.in_ok-names.names.items) _ (reading options words) (apart options c.requires)
-    (agrees options words (apart options c.requires) (texts_are c.args.words.now)) (record { passes = parsed.0; rows_are = parsed.1; names_are = c.in_ok-names.ensures })
-    c.in_ok-values.ensures.values (counted c.args.shape.now.fewest c.args.shape.now.most c.len.result c.in_ok-names.names c.takes.result true c.len.ensures c.takes.ensures (search rules))
+    answers options words c.args.shape.now.fewest c.args.shape.now.most (rows_of (found_of c.in-Some.matches)) (texts c.in_ok-names.names.items) _
+    (reading options words) (apart options c.requires)
+    (agrees options words (apart options c.requires) (texts_are c.args.words.now)) (record {
+      passes = parsed.0;
+      rows_are = parsed.1;
+      names_are =
+          c.in_ok-names.ensures;
+    })
+    c.in_ok-values.ensures.values
+    (counted c.args.shape.now.fewest c.args.shape.now.most c.len.result c.in_ok-names.names c.takes.result true c.len.ensures c.takes.ensures
+    (search rules))

@@ -26,6 +26,7 @@ loop-option-preserved c =
     record {
       count = omega (arith, c.in-Ok.ensures.len);
       values = ap value_texts c.in-Ok.ensures.items
-          ∙ more_values (λ o. first_of o (rows_of (found_of c.args.matches.now))) c.args.options.now c.loop-option.values.items c.get_str.result c.loop-option.option-index _ (search rules)
+          ∙ more_values (λ o. first_of o (rows_of (found_of c.args.matches.now)))
+          c.args.options.now c.loop-option.values.items c.get_str.result c.loop-option.option-index _ (search rules)
           c.loop-option.invariant.values (c.get_str.ensures ∙ first_value-rows (found_of c.args.matches.now) _);
     }

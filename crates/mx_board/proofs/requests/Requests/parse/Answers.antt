@@ -5,7 +5,8 @@ pub lines-init : goal.lines-init
 lines-init c = rw c.new-cycles.ensures.items (reading_begins c.args.bytes.now c.requires)
 
 pub invariant_of-result : goal.invariant_of-result
-invariant_of-result c = reading_keeps c.args.bytes.now c.lines.cycles.items c.lines.line c.lines.text.now c.without_return.result.now c.add_line.new.cycles.items c.lines.invariant c.in_ok-add_line.ensures.clean c.in_ok-add_line.ensures.added
+invariant_of-result c =
+    reading_keeps c.args.bytes.now c.lines.cycles.items c.lines.line c.lines.text.now c.without_return.result.now c.add_line.new.cycles.items c.lines.invariant c.in_ok-add_line.ensures.clean c.in_ok-add_line.ensures.added
 
 pub lines-preserved : goal.lines-preserved
 lines-preserved c =

@@ -7,8 +7,10 @@ use Rattle.mx_icache.proofs.plain_set.PlainSet.fetch.Goals as goal
 pub returns-in-Some-clause-next : goal.returns-in-Some-clause-next
 returns-in-Some-clause-next c = λ past h.
     elim (c.touch.result) as (λ t. c.touch.result ≡ t → PlainSetHolds c.touch.new.self (c.args.address ∷ past) (set_of (line_of c.args.address))) [
-      | true ↦ λ e. rw (c.touch.ensures.hit e) (plain_hit c.args.self.now c.args.address past c.in-Some.place h c.in-Some.ensures.small c.in-Some.ensures.found (sym c.touch.ensures.answer ∙ e))
-      | false ↦ λ e. plain_filled c.args.self.now c.touch.new.self c.args.address past c.in-Some.place h c.in-Some.ensures.small c.in-Some.ensures.found (sym c.touch.ensures.answer ∙ e)
+      | true ↦ λ e. rw (c.touch.ensures.hit e)
+          (plain_hit c.args.self.now c.args.address past c.in-Some.place h c.in-Some.ensures.small c.in-Some.ensures.found (sym c.touch.ensures.answer ∙ e))
+      | false ↦ λ e. plain_filled c.args.self.now c.touch.new.self c.args.address past c.in-Some.place h c.in-Some.ensures.small c.in-Some.ensures.found
+          (sym c.touch.ensures.answer ∙ e)
           c.touch.ensures.lines (c.touch.ensures.filled e) c.touch.ensures.others
     ] refl
 

@@ -5,7 +5,8 @@ use Rattle.mx_in_memory.proofs.quiet_shelf.QuietShelf.new.Goals as goal
 
 pub invariant_of-result : goal.invariant_of-result
 invariant_of-result c = record {
-  never_fails = λ n. c.add-5.ensures.failing n ∙ c.add-4.ensures.failing n ∙ c.add-3.ensures.failing n ∙ c.add-2.ensures.failing n ∙ c.add.ensures.failing n ∙ c.new-files.ensures.failing n;
+  never_fails = λ n. c.add-5.ensures.failing n ∙ c.add-4.ensures.failing n ∙ c.add-3.ensures.failing n ∙ c.add-2.ensures.failing n ∙ c.add.ensures.failing n
+      ∙ c.new-files.ensures.failing n;
 }
 
 -- one more file before those that were added

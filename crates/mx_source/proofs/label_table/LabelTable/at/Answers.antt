@@ -10,7 +10,8 @@ use Rattle.mx_source.proofs.label_table.LabelTable.at.Goals as goal
 pub name_at-name-requires-clause-index : goal.name_at-name-requires-clause-index
 name_at-name-requires-clause-index c = let t = c.self.inside in
     subst (λ es. c.args.i < length es) (sym c.as_slice-2.ensures.value)
-    (slice_get_within t.ends.items c.args.i _ (is_end t.bytes.items _ t.ends.items t.labels.items c.args.self.now c.args.i c.self.invariant c.self.view_is c.requires))
+    (slice_get_within t.ends.items c.args.i _
+    (is_end t.bytes.items _ t.ends.items t.labels.items c.args.self.now c.args.i c.self.invariant c.self.view_is c.requires))
 
 pub name_at-name-requires-clause-up : goal.name_at-name-requires-clause-up
 name_at-name-requires-clause-up c = let t = c.self.inside in
@@ -43,6 +44,7 @@ returns c = let t = c.self.inside in let i = c.args.i in let bytes = c.as_slice.
     c.name_at-name.ensures ∙ (ap (λ es. take (get_or es i 0 - start_at 0 es i) (drop (start_at 0 es i) bytes)) c.as_slice-2.ensures.value
     ∙ ap (λ bs. take (get_or t.ends.items i 0 - start_at 0 t.ends.items i) (drop (start_at 0 t.ends.items i) bs)) c.as_slice.ensures.value) in
     ap (λ v. slice_get v i) (sym c.self.view_is)
-    ∙ (row_at t.bytes.items 0 t.ends.items t.labels.items i (get_or t.ends.items i 0) (get_or t.labels.items i (Code 0)) there (slice_get-get_or t.labels.items i (Code 0) short)
+    ∙ (row_at t.bytes.items 0 t.ends.items t.labels.items i (get_or t.ends.items i 0) (get_or t.labels.items i (Code 0)) there
+    (slice_get-get_or t.labels.items i (Code 0) short)
     ∙ (ap (λ n. Some (n, get_or t.labels.items i (Code 0))) (sym name)
     ∙ ap (λ ls. Some (c.name_at-name.result.now, get_or ls i (Code 0))) (sym c.as_slice-3.ensures.value)))

@@ -59,7 +59,9 @@ module _ (g : given.Over) (c : After-wait g) (past : List ℕ) (before : Words) 
   ends_is = c.end-ended.ensures.state past' before' (shown_of s2) ∙ ap (λ x. ended x reaches) same2
 
   counts_is : c.turned.new.self ≡ after_turn s3.missed c.end-ended.result.squashed c.end-ended.result.taken m.counts
-  counts_is = c.turned.ensures ∙ ap (after_turn s3.missed c.end-ended.result.squashed c.end-ended.result.taken) (c.end-ended.ensures.counts ∙ c.show.ensures.counts ∙ c.commit-byte.ensures.counts)
+  counts_is = c.turned.ensures
+      ∙ ap (after_turn s3.missed c.end-ended.result.squashed c.end-ended.result.taken)
+      (c.end-ended.ensures.counts ∙ c.show.ensures.counts ∙ c.commit-byte.ensures.counts)
 
   shown_is : shown_of s5 ≡ shown_of s2
   shown_is = c.wait.ensures.shown ∙ c.end-ended.ensures.shown
@@ -69,7 +71,8 @@ module _ (g : given.Over) (c : After-wait g) (past : List ℕ) (before : Words) 
       let n : Machine = record d { counts = after_turn s3.missed c.end-ended.result.squashed c.end-ended.result.taken m.counts } in
       machine_of s5 past' before' (shown_of s5) ≡ waited resident n)
   waits_is holds =
-      c.wait.ensures.state past' before' (shown_of s5) (subst (λ x. g.C.FetchCache.holds x past') (sym (c.end-ended.ensures.cache ∙ c.show.ensures.cache ∙ c.commit-byte.ensures.cache)) holds)
+      c.wait.ensures.state past' before' (shown_of s5)
+      (subst (λ x. g.C.FetchCache.holds x past') (sym (c.end-ended.ensures.cache ∙ c.show.ensures.cache ∙ c.commit-byte.ensures.cache)) holds)
       ∙ (λ k. let d : Machine = machine_of s3 past' before' (shown_is k) in let n : Machine = record d { counts = counts_is k } in waited resident n)
 
   acts : g.C.FetchCache.holds s0.cache past' → s0.missed ≡ not (resident past s0.next.address)

@@ -46,8 +46,10 @@ pub returns : goal.returns
 returns g c = record {
   past = [];
   before = λ n. 0;
-  cache = subst (λ (f : Fetch). g.C.FetchCache.holds c.fetch-hit.new.self (f.address ∷ [])) (sym c.at-next.ensures) (c.fetch-hit.ensures.next [] c.requires.empty);
-  missed = subst (λ (f : Fetch). not c.fetch-hit.result ≡ not (resident [] f.address)) (sym c.at-next.ensures) (ap not (c.fetch-hit.ensures.answer [] c.requires.empty));
+  cache = subst (λ (f : Fetch). g.C.FetchCache.holds c.fetch-hit.new.self (f.address ∷ [])) (sym c.at-next.ensures)
+      (c.fetch-hit.ensures.next [] c.requires.empty);
+  missed = subst (λ (f : Fetch). not c.fetch-hit.result ≡ not (resident [] f.address)) (sym c.at-next.ensures)
+      (ap not (c.fetch-hit.ensures.answer [] c.requires.empty));
   code = c.in_ok-code.ensures ∙ (λ k. code_with (code_from inst_of 0 c.args.handler.now) (code_from inst_of 4096 (c.deref.ensures.value k)));
   input = c.in_ok-board.ensures.input;
   state = λ k. record {

@@ -20,7 +20,8 @@ returns-then-self-gt0-clause-next g c = λ p h s.
     let m : Machine = machine_of self s.past s.before (shown_of self) in
     stands_on g.C.FetchCache.holds self p h s c.args.request _ s.past s.before s.cache s.missed (record { code = refl; input = refl })
     ((λ k. record m { latch = c.either-self.ensures k; stall = m.stall - 1; counts = c.stalled.ensures k })
-    ∙ cycled_stalled resident (code_of_turns self) self.board.input m c.args.request c.if-self.false (ne_eqb _ 0 (λ e. absurd (omega (arith, e, c.if-self-gt0.true)))))
+    ∙ cycled_stalled resident (code_of_turns self) self.board.input m c.args.request c.if-self.false
+    (ne_eqb _ 0 (λ e. absurd (omega (arith, e, c.if-self-gt0.true)))))
 
 pub returns-clause-answer : goal.returns-clause-answer
 returns-clause-answer g c = λ p h s.
