@@ -1,5 +1,5 @@
+pub mod Chained
 pub mod Clean
-pub mod Copies
 pub mod Counts
 pub mod Fits
 pub mod LineEnds

@@ -5,6 +5,7 @@ pub mod Operands
 pub mod Mnemonics
 pub mod Instructions
 pub mod LabelTable
+pub mod Chains
 pub mod Fitting
 pub mod Directives
 pub mod Positions

@@ -152,7 +152,7 @@ pub fn assemble_at(alloc: Global, text: &[u8], user_data: u32, end: u32) -> Resu
         last: _,
     } = define_text(alloc, text, start)?;
     match read_text(alloc, &labels, repeated, text, start, end) {
-        Ok(listing) => Ok(listed_source(listing, labels.named(alloc)?)),
+        Ok(listing) => Ok(listed_source(listing, labels.into_table())),
         Err(error) => Err(error),
     }
 }

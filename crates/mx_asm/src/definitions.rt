@@ -19,18 +19,18 @@ use std::alloc::{AllocError, Global};
 
 /// The labels of a text, and the first line that defines one again.
 #[derive(Drop)]
-pub struct Definitions<'a> {
-    pub labels: Labels<'a>,
+pub struct Definitions {
+    pub labels: Labels,
     pub repeated: Option<u32>,
     /// Where the lines end.
     pub last: Position,
 }
 
-impl<'a> Definitions<'a> {
+impl Definitions {
     ghost use Rattle.mx_asm.specs.Defined.{Defines};
 
     /// Those of no lines, which begin at a position.
-    fn new(alloc: Global, from: Position) -> Definitions<'a>
+    fn new(alloc: Global, from: Position) -> Definitions
         ensures labels { result.labels ≡ [] }
         ensures repeated { result.repeated ≡ None }
         ensures last { result.last ≡ from }
@@ -43,7 +43,7 @@ impl<'a> Definitions<'a> {
     }
 
     /// Adds those of a line with these words.
-    fn add(&mut self, number: u32, words: &[Word<'a>]) -> Result<(), AllocError>
+    fn add(&mut self, number: u32, words: &[Word]) -> Result<(), AllocError>
         requires room { self.old.last.index < 2 ^ 32 - 1 }
         requires near { self.old.last.address ≤ 65537 }
         ensures { OnOk result (Defines self.old self.new number (map word words.now)) }
@@ -56,11 +56,7 @@ impl<'a> Definitions<'a> {
 }
 
 /// The definitions of all lines from a position on, whatever is wrong with them.
-pub fn define_all<'a>(
-    alloc: Global,
-    lines: &[&'a [u8]],
-    from: Position,
-) -> Result<Definitions<'a>, AllocError>
+pub fn define_all(alloc: Global, lines: &[&[u8]], from: Position) -> Result<Definitions, AllocError>
     requires few { length lines.now ≤ MAX_SOURCE_BYTES }
     requires room { from.index + length lines.now < 2 ^ 32 }
     requires near { from.address ≤ 65537 }
@@ -81,16 +77,16 @@ pub fn define_all<'a>(
 }
 
 /// The definitions of a text that begins at a position, whatever is wrong with it.
-pub(crate) fn define_text<'a>(
+pub(crate) fn define_text(
     alloc: Global,
-    text: &'a [u8],
+    text: &[u8],
     from: Position,
-) -> Result<Definitions<'a>, AllocError>
+) -> Result<Definitions, AllocError>
     requires short { length text.now ≤ MAX_SOURCE_BYTES }
     requires room { from.index + length text.now < 2 ^ 32 }
     requires near { from.address ≤ 65537 }
-    ensures labels { IfOk result (λ d. d.labels ≡ labels_from from [] (lines_of text.entry.now)) }
-    ensures repeated { IfOk result (λ d. d.repeated ≡ first_repeat from [] 1 (lines_of text.entry.now)) }
+    ensures labels { IfOk result (λ d. d.labels ≡ labels_from from [] (lines_of text.now)) }
+    ensures repeated { IfOk result (λ d. d.repeated ≡ first_repeat from [] 1 (lines_of text.now)) }
 {
     let mut found = Definitions::new(alloc, from);
     let mut number = 1u32;

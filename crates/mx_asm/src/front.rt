@@ -43,11 +43,7 @@ pub fn statement_words<'a, 'w>(words: &'w [Word<'a>]) -> &'w [Word<'a>]
 }
 
 /// Defines the labels at the front, and tells whether one of them is defined before.
-pub fn define_front<'a>(
-    labels: &mut Labels<'a>,
-    label: Label,
-    words: &[Word<'a>],
-) -> Result<bool, AllocError>
+pub fn define_front(labels: &mut Labels, label: Label, words: &[Word]) -> Result<bool, AllocError>
     requires { IsNear label }
     ensures labels { OnOk result (labels.new ≡ Positions.define_front labels.old label (map word words.now)) }
     ensures repeated { IfOk result (λ b. b ≡ Positions.is_repeated labels.old label (map word words.now)) }
@@ -63,14 +59,10 @@ pub fn define_front<'a>(
 
 /// Defines a label unless it is defined or none, and tells whether it is defined before.
 #[tactic(auto, unfolding(crate::specs::Positions::define))]
-pub fn define_own<'a>(
-    labels: &mut Labels<'a>,
-    label: Label,
-    name: &'a [u8],
-) -> Result<bool, AllocError>
+pub fn define_own(labels: &mut Labels, label: Label, name: &[u8]) -> Result<bool, AllocError>
     requires { IsNear label }
-    ensures labels { OnOk result (labels.new ≡ Positions.define labels.old label name.entry.now) }
-    ensures repeated { IfOk result (λ b. b ≡ Positions.is_defined labels.old name.entry.now) }
+    ensures labels { OnOk result (labels.new ≡ Positions.define labels.old label name.now) }
+    ensures repeated { IfOk result (λ b. b ≡ Positions.is_defined labels.old name.now) }
 {
     if is_dotted(name) {
         return Ok(false);

@@ -1,40 +1,42 @@
 //! The labels of a text.
 ghost use Rattle.std.specs.Prelude.{◌≡◌};
 
-use indexmap::IndexMap;
+use crate::index::NameIndex;
 use mx_source::{Label, LabelTable};
 use std::alloc::{AllocError, Global};
 use std::marker::Model;
 
 /// Each label of a text once, in the order of first definitions. Addresses are at most 65537.
 #[derive(Drop)]
-pub struct Labels<'a> {
-    table: IndexMap<&'a [u8], Label>,
+pub struct Labels {
+    table: LabelTable,
+    index: NameIndex,
 }
 
-impl<'a> Model for Labels<'a> {
-    ghost use Rattle.std.specs.Prelude.{ℕ, List, All};
+impl Model for Labels {
+    ghost use Rattle.std.specs.Prelude.{ℕ, List};
     ghost use Rattle.mx_source.specs.declared.statement.Label.{Label};
-    ghost use Rattle.mx_asm.specs.LabelTable.{labels_view, IsNear};
+    ghost use Rattle.mx_asm.specs.LabelTable.{labels_view, AreKept};
 
     ghost Value = { List (List ℕ × Label) };
 
     ghost view = { labels_view };
 
-    ghost invariant = { λ l. All (λ p. IsNear p.1) (labels_view l) };
+    ghost invariant = { AreKept };
 }
 
-impl<'a> Labels<'a> {
-    ghost use Rattle.std.specs.Prelude.{◌≡◌, [], ◌∷◌, ◌++◌, IsSome, is_some, None, OnOk, OnErr, IfOk, IfSome};
+impl Labels {
+    ghost use Rattle.std.specs.Prelude.{◌≡◌, [], ◌∷◌, ◌++◌, None, OnOk, IfOk, IfSome};
     ghost use Rattle.mx_asm.specs.LabelTable.{IsNear};
     ghost use Rattle.mx_asm.specs.Operands.{label_named};
 
     /// No labels.
-    pub fn new(alloc: Global) -> Labels<'a>
+    pub fn new(alloc: Global) -> Labels
         ensures { result ≡ [] }
     {
         Labels {
-            table: IndexMap::new(alloc),
+            table: LabelTable::new(alloc),
+            index: NameIndex::new(alloc),
         }
     }
 
@@ -43,44 +45,43 @@ impl<'a> Labels<'a> {
         ensures value { result ≡ label_named self.now name.now }
         ensures near { IfSome result IsNear }
     {
-        self.table.get(name).copied()
+        self.index.find(&self.table, name)
     }
 
     /// Defines a label that is not there.
-    pub fn define(&mut self, name: &'a [u8], label: Label) -> Result<(), AllocError>
+    pub fn define(&mut self, name: &[u8], label: Label) -> Result<(), AllocError>
         requires new { label_named self.old name.now ≡ None }
         requires near { IsNear label }
-        ensures ok { OnOk result (self.new ≡ self.old ++ (name.entry.now, label) ∷ []) }
+        ensures ok { OnOk result (self.new ≡ self.old ++ (name.now, label) ∷ []) }
     {
-        self.table.insert(name, label)?;
+        self.index.make_room(&self.table)?;
+        let place = self.table.len();
+        self.table.push(name, label)?;
+        self.index.link(&self.table, place);
         Ok(())
     }
 
     /// A table of the same labels.
-    pub fn copied(&self, alloc: Global) -> Result<Labels<'a>, AllocError>
+    pub fn copied(&self, alloc: Global) -> Result<Labels, AllocError>
         ensures { IfOk result (λ l. l ≡ self.now) }
     {
-        let mut table = IndexMap::new(alloc);
-        for i in 0..self.table.len() {
-            let Some((name, label)) = self.table.get_index(i) else {
-                unreachable!();
-            };
-            table.insert(*name, *label)?;
-        }
-        Ok(Labels { table })
+        Ok(Labels {
+            table: self.table.copied(alloc)?,
+            index: self.index.copied(alloc)?,
+        })
     }
 
-    /// The same labels under names of their own.
-    pub fn named(&self, alloc: Global) -> Result<LabelTable, AllocError>
-        ensures { IfOk result (λ own. own ≡ self.now) }
+    /// The labels, in order.
+    pub fn table(&self) -> &LabelTable
+        ensures { result.now ≡ self.now }
     {
-        let mut own = LabelTable::new(alloc);
-        for i in 0..self.table.len() {
-            let Some((name, label)) = self.table.get_index(i) else {
-                unreachable!();
-            };
-            own.push(name, *label)?;
-        }
-        Ok(own)
+        &self.table
+    }
+
+    /// The labels, in order, without the index of their names.
+    pub fn into_table(self) -> LabelTable
+        ensures { result ≡ self }
+    {
+        self.table
     }
 }

@@ -21,10 +21,10 @@ fn earlier_place(found: Option<usize>, again: bool, place: usize) -> Option<usiz
 }
 
 /// Defines the labels at the front, and tells at which token the first one stands that is defined before.
-pub fn define_front<'a>(
-    labels: &mut Labels<'a>,
+pub fn define_front(
+    labels: &mut Labels,
     label: Label,
-    words: &[Word<'a>],
+    words: &[Word],
 ) -> Result<Option<usize>, AllocError>
     requires near { IsNear label }
     ensures labels { OnOk result (labels.new ≡ Positions.define_front labels.old label (map word words.now)) }

@@ -49,24 +49,24 @@ fn shown(
 }
 
 /// Sees a line that stands here, and defines its labels.
-fn see<'a>(
+fn see(
     alloc: Global,
     labels: &Labels,
     bounds: &Bounds,
-    earlier: &mut Labels<'a>,
+    earlier: &mut Labels,
     position: &Position,
-    line: &'a [u8],
+    line: &[u8],
 ) -> Result<Seen, AllocError>
     requires room { position.now.index < 2 ^ 32 - 1 }
     requires near { position.now.address ≤ 65537 }
     requires order { bounds.now.data_start ≤ bounds.now.end }
     requires within { bounds.now.end ≤ DATA_END }
-    ensures fault { IfOk result (λ s. s.fault ≡ Faults.line_fault labels.now bounds.now.end position.now earlier.old line.entry.now) }
-    ensures span { IfOk result (λ s. IfSome s.fault (IsShownAs labels.now earlier.old position.now line.entry.now s.span)) }
-    ensures next { IfOk result (λ s. s.next ≡ Positions.after position.now (Positions.line_words line.entry.now)) }
+    ensures fault { IfOk result (λ s. s.fault ≡ Faults.line_fault labels.now bounds.now.end position.now earlier.old line.now) }
+    ensures span { IfOk result (λ s. IfSome s.fault (IsShownAs labels.now earlier.old position.now line.now s.span)) }
+    ensures next { IfOk result (λ s. s.next ≡ Positions.after position.now (Positions.line_words line.now)) }
     ensures index { IfOk result (λ s. s.next.index ≤ position.now.index + 1) }
     ensures near { IfOk result (λ s. s.next.address ≤ 65537) }
-    ensures earlier { OnOk result (earlier.new ≡ Positions.with_labels position.now earlier.old (Positions.line_words line.entry.now)) }
+    ensures earlier { OnOk result (earlier.new ≡ Positions.with_labels position.now earlier.old (Positions.line_words line.now)) }
 {
     let words = line_words(alloc, line)?;
     let repeated = define_front(earlier, position.label(), &words)?;

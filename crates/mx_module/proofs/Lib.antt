@@ -6,4 +6,5 @@ pub mod Renamed
 pub mod Exported
 pub mod Sounded
 pub mod Wholes
+pub mod Lent
 pub mod Joining

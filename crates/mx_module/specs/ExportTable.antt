@@ -1,12 +1,16 @@
 -- The names that a module exports.
 use Rattle.std.specs.Prelude.{ℕ, List, [], ◌∷◌, ◌++◌, map, Option, Some, None, is_some, if◌then◌else◌}
+use Rattle.std.specs.Borrow.{Bor}
 use Rattle.std.specs.Map.{lookup}
 use Rattle.std.specs.Str.{bytes_eq}
 use Rattle.mx_module.specs.declared.link.LinkKind.{LinkKind}
 use Rattle.mx_module.specs.declared.link.LinkKind.TheVariants.{Import, Export}
 use Rattle.mx_module.specs.declared.exports.Exports.TheInside.{Inside}
-use Rattle.mx_asm.specs.LabelTable.{named}
 use Rattle.mx_module.specs.Links.{Link}
+
+-- what stands under a name, with the bytes of the name
+abbrev pub named : {V : Type 0} → Bor (List ℕ) × V → List ℕ × V
+named entry = (entry.0.now, entry.1)
 
 -- names, each with the number of a line
 abbrev pub Exports : Type 0

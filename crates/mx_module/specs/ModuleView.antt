@@ -31,7 +31,6 @@ module_value m = record { start = m.start; lines = texts m.lines.items; links = 
 pub record IsKept (m : Inside) : Type 0 where
   pub few : length m.lines.items ≤ 4194304
   pub exports : m.exports ≡ exports_from [] (map link_value m.links.items)
-  pub named : m.named ≡ m.labels
   pub repeated : m.repeated ≡ first_repeat m.start [] 1 (texts m.lines.items)
 
 -- the bytes of a text

@@ -27,9 +27,9 @@ fn imported(modules: &[Module], place: usize, name: &[u8]) -> Option<Label>
 
 /// Adds a label, unless the name is there.
 #[tactic(auto, unfolding(mx_asm::specs::Positions::define))]
-fn add_label<'a>(labels: &mut Labels<'a>, name: &'a [u8], label: Label) -> Result<(), AllocError>
+fn add_label(labels: &mut Labels, name: &[u8], label: Label) -> Result<(), AllocError>
     requires { IsNear label }
-    ensures { OnOk result (labels.new ≡ Positions.define labels.old label name.entry.now) }
+    ensures { OnOk result (labels.new ≡ Positions.define labels.old label name.now) }
 {
     if is_dotted(name) {
         return Ok(());
@@ -41,11 +41,11 @@ fn add_label<'a>(labels: &mut Labels<'a>, name: &'a [u8], label: Label) -> Resul
 }
 
 /// Adds what a line imports, unless the name is there.
-fn add_import<'a>(
+fn add_import(
     modules: &[Module],
     place: usize,
-    labels: &mut Labels<'a>,
-    link: &Link<'a>,
+    labels: &mut Labels,
+    link: &Link,
 ) -> Result<(), AllocError>
     requires { place < length modules.now }
     ensures { OnOk result (labels.new ≡ Joined.with_import modules.now place labels.old link.now.kind (link_value link.now).name) }
@@ -59,12 +59,12 @@ fn add_import<'a>(
 }
 
 /// What the names of the module at this place stand for.
-pub fn seen_in<'a>(
+pub fn seen_in(
     alloc: Global,
-    modules: &[Module<'a>],
+    modules: &[Module],
     place: usize,
-    own: &Module<'a>,
-) -> Result<Labels<'a>, AllocError>
+    own: &Module,
+) -> Result<Labels, AllocError>
     requires { place < length modules.now }
     ensures { IfOk result (λ l. l ≡ Joined.seen_in modules.now place own.now) }
 {

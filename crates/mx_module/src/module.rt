@@ -19,8 +19,7 @@ pub struct Module<'a> {
     start: Position,
     lines: Vec<&'a [u8]>,
     links: Vec<Link<'a>>,
-    labels: Labels<'a>,
-    named: LabelTable,
+    labels: Labels,
     repeated: Option<u32>,
     exports: Exports<'a>,
 }
@@ -69,7 +68,6 @@ impl<'a> Module<'a> {
             repeated,
             last,
         } = define_all(alloc, &lines, start)?;
-        let named = labels.named(alloc)?;
         let next = Position {
             section: Section::Code,
             index: last.index,
@@ -80,7 +78,6 @@ impl<'a> Module<'a> {
             lines,
             links,
             labels,
-            named,
             repeated,
             exports,
         };
@@ -109,15 +106,15 @@ impl<'a> Module<'a> {
         self.labels.find(name)
     }
 
-    /// Its labels, under names of their own.
+    /// Its labels, in order.
     pub fn named(&self) -> &LabelTable
         ensures { result.now ≡ self.now.labels }
     {
-        &self.named
+        self.labels.table()
     }
 
     /// A table of its labels.
-    pub fn labels(&self, alloc: Global) -> Result<Labels<'a>, AllocError>
+    pub fn labels(&self, alloc: Global) -> Result<Labels, AllocError>
         ensures { IfOk result (λ l. l ≡ self.now.labels) }
     {
         self.labels.copied(alloc)

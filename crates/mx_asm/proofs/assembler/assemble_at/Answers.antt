@@ -12,7 +12,7 @@ listed_source-requires c =
     let lines = lines_of c.args.text.now in
     let defined = c.in_ok-labels.ensures.labels ∙ ap (λ p. labels_from p [] lines) c.start-start.ensures in
     let listing = subst (λ p. IsListingOf labels c.args.end p lines c.in-Ok.listing) c.start-start.ensures c.in-Ok.ensures.read in
-    whole_fits c.args.user_data c.args.end c.args.text.now lines labels c.in_ok-named-in-Ok.field-0 refl defined c.in_ok-named-in-Ok.ensures
+    whole_fits c.args.user_data c.args.end c.args.text.now lines labels c.into_table.result refl defined c.into_table.ensures
     c.in-Ok.listing c.requires.low c.requires.within listing
 
 pub returns-in-Ok-clause-source : goal.returns-in-Ok-clause-source
@@ -21,11 +21,11 @@ returns-in-Ok-clause-source c =
     let lines = lines_of c.args.text.now in
     let defined = c.in_ok-labels.ensures.labels ∙ ap (λ p. labels_from p [] lines) c.start-start.ensures in
     let listing = subst (λ p. IsListingOf labels c.args.end p lines c.in-Ok.listing) c.start-start.ensures c.in-Ok.ensures.read in
-    whole_reads c.args.user_data c.args.end c.args.text.now lines labels c.in_ok-named-in-Ok.field-0 refl defined c.in_ok-named-in-Ok.ensures
+    whole_reads c.args.user_data c.args.end c.args.text.now lines labels c.into_table.result refl defined c.into_table.ensures
     c.in-Ok.listing c.listed_source.result listing c.listed_source.ensures
 
-pub returns-clause-refused : goal.returns-clause-refused
-returns-clause-refused c =
+pub returns-in-Err-clause-refused : goal.returns-in-Err-clause-refused
+returns-in-Err-clause-refused c =
     let labels = c.in_ok-labels.field-0.labels in
     let lines = lines_of c.args.text.now in
     let defined = c.in_ok-labels.ensures.labels ∙ ap (λ p. labels_from p [] lines) c.start-start.ensures in

@@ -1,5 +1,5 @@
 use Rattle.std.proofs.Common.{ap, ◌∙◌}
-use Rattle.mx_asm.proofs.Tables.{lookup_by_bytes}
+use Rattle.mx_module.proofs.Lent.{lookup_by_bytes}
 use Rattle.mx_module.specs.ExportTable.{export_line}
 use Rattle.mx_module.proofs.exports.Exports.line.Goals as goal
 

@@ -1,7 +1,7 @@
 use Rattle.std.proofs.Common.{◌≡◌, ◌++◌, [], ◌∷◌, ap, ◌∙◌, Bor, List, ℕ}
 use Rattle.std.specs.Str.{bytes_eq}
 use Rattle.indexmap.proofs.CallerLemmas.{insert_entry-new}
-use Rattle.mx_asm.proofs.Tables.{lookup_by_bytes, view_push}
+use Rattle.mx_module.proofs.Lent.{lookup_by_bytes, view_push}
 use Rattle.mx_module.specs.ExportTable.{export_line}
 use Rattle.mx_module.proofs.exports.Exports.put.Goals as goal
 

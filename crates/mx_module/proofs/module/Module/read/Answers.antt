@@ -19,7 +19,6 @@ invariant_of-module c =
     record {
       few = omega (arith, many, long, few, c.requires.short);
       exports = search rules;
-      named = search rules;
       repeated = search rules;
     }
 
