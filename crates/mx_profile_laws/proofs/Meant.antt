@@ -1,11 +1,9 @@
 -- The profile of a source's run counts each statement as often as the meaning is at it.
-use Rattle.std.proofs.Common.{◌≡◌, ℕ, zero, suc, ◌+◌, ◌-◌, ◌<◌, ◌≤◌, ◌^◌, Bool, true, false, cond, min, List, [], ◌∷◌, length, Option, refl, sym, ap, ◌∙◌, subst, arith, inl}
+use Rattle.std.proofs.Common.{◌≡◌, ℕ, zero, suc, ◌+◌, ◌<◌, ◌≤◌, ◌^◌, Bool, true, false, cond, List, [], ◌∷◌, length, Option, refl, sym, ap, ◌∙◌, arith, inl}
 use Rattle.std.specs.Prelude.{slice_index}
-use Rattle.mx_code.specs.Delay.{Delay}
 use Rattle.mx_source.specs.SourceValue.{SourceValue}
 use Rattle.mx_source.specs.Meaning.{given}
 use Rattle.mx_squash.specs.Copies.{Site}
-use Rattle.mx_layout.specs.Layout.{end_of}
 use Rattle.mx_link.specs.declared.linked.Origin.{Origin}
 use Rattle.mx_link.specs.Origins.{from_target, origins_of}
 use Rattle.mx_link.specs.Linked.{link_map, linked_code, linked_data}
@@ -30,7 +28,7 @@ use Rattle.mx_end_to_end.specs.EndToEnd.{source_program, source_run, IsUnstuck}
 use Rattle.mx_end_to_end.proofs.Meanings.{unstuck_before}
 use Rattle.mx_profile.specs.declared.lines.LineCost.{LineCost}
 use Rattle.mx_profile.specs.declared.tally.Profile.{Profile}
-use Rattle.mx_profile.specs.Lines.{saturated, executed_of, CountsStatements}
+use Rattle.mx_profile.specs.Lines.{saturated, CountsStatements}
 use Rattle.mx_profile.specs.Tallies.{IsProfile}
 use Rattle.mx_profile_laws.specs.Meant.{linking_of, ProfiledAsMeant, ProfileIsMeant}
 use Rattle.mx_profile_laws.proofs.Executed.{executed_as}
