@@ -4,14 +4,14 @@ use Rattle.std.proofs.lemmas.List.{append-nil, length-replicate}
 use Rattle.mx_source.specs.declared.statement.Statement.{Statement}
 use Rattle.mx_source.specs.declared.statement.Value.{Value}
 use Rattle.mx_source.specs.declared.statement.Value.TheVariants.{Int}
-use Rattle.mx_asm.specs.declared.fault.Fault.{Fault}
+use Rattle.mx_lines.specs.declared.fault.Fault.{Fault}
 use Rattle.mx_asm.specs.declared.position.Section.{Section}
 use Rattle.mx_asm.specs.declared.position.Section.TheVariants as section
 use Rattle.mx_asm.specs.declared.directive.Directive.{Directive}
 use Rattle.mx_asm.specs.declared.directive.Directive.TheVariants as d
-use Rattle.mx_asm.specs.Reading.{◌>>=◌}
-use Rattle.mx_asm.specs.Words.{Word, Name, Number, Comma, Open, Close, Hash, Colon, End}
-use Rattle.mx_asm.specs.Instructions.{Labels, instruction}
+use Rattle.mx_lines.specs.Reading.{◌>>=◌}
+use Rattle.mx_lines.specs.Words.{Word, Name, Number, Comma, Open, Close, Hash, Colon, End}
+use Rattle.mx_lines.specs.Instructions.{Labels, instruction}
 use Rattle.mx_asm.specs.Directives.{Effect, Nothing, Instruction, Data, Input, cons, is_value, is_comma, before_values, value_words, numbers_fit, value_of, values_of, word_values, space_count, in_data, in_code, without_operands, directed, directive_named, is_dotted, effect_of}
 use Rattle.mx_asm.specs.Positions.{instruction_count, word_count, asked, ok_or_zero}
 use Rattle.mx_asm.specs.Texts.{onto_statements, onto_values}

@@ -6,7 +6,7 @@ use Rattle.mx_asm.specs.declared.position.Position.{Position}
 use Rattle.mx_asm.specs.Positions.{labels_from, line_words, after, with_labels, position_at_end}
 use Rattle.mx_asm.specs.Faults.{first_repeat, repeats, earlier_line}
 use Rattle.mx_asm.specs.Defined.{Defines}
-use Rattle.mx_asm.proofs.Pieces.{no_lines}
+use Rattle.mx_lines.proofs.Pieces.{no_lines}
 
 -- a line that was found, or what is found later
 abbrev or_later : Option ℕ → Option ℕ → Option ℕ

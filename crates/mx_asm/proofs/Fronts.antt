@@ -1,12 +1,12 @@
 -- Loops that put what they read behind what they have.
 use Rattle.std.proofs.Common.{◌≡◌, ℕ, ◌+◌, ◌<◌, List, [], ◌∷◌, ◌++◌, length, map, drop, get_or, Result, Ok, Err, refl, ap, sym, ◌∙◌, append_assoc}
 use Rattle.std.proofs.lemmas.List.{at_drop_more}
-use Rattle.mx_asm.specs.declared.fault.Fault.{Fault}
-use Rattle.mx_asm.specs.Reading.{◌>>=◌}
+use Rattle.mx_lines.specs.declared.fault.Fault.{Fault}
+use Rattle.mx_lines.specs.Reading.{◌>>=◌}
 use Rattle.mx_source.specs.declared.statement.Value.{Value}
-use Rattle.mx_asm.specs.declared.word.Word.{Word as Lent}
-use Rattle.mx_asm.specs.Instructions.{Labels}
-use Rattle.mx_asm.specs.Shapes.{word}
+use Rattle.mx_lines.specs.declared.word.Word.{Word as Lent}
+use Rattle.mx_lines.specs.Instructions.{Labels}
+use Rattle.mx_lines.specs.Shapes.{word}
 use Rattle.mx_asm.specs.Directives.{cons, value_of, values_of}
 
 -- a front before what is read

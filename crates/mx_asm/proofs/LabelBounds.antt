@@ -6,15 +6,15 @@ use Rattle.std.proofs.lemmas.Bool.Decides.{nat_tests}
 use Rattle.std.proofs.lemmas.List.Elements.{All-push}
 use Rattle.mx_source.specs.declared.statement.Label.{Label}
 use Rattle.mx_source.specs.Labels.{LabelFits}
-use Rattle.mx_asm.specs.declared.fault.Fault.{Fault}
-use Rattle.mx_asm.specs.declared.fault.Fault.TheVariants.{BadDirective, TooManyInstructions, DataFull, LineTooLong}
+use Rattle.mx_lines.specs.declared.fault.Fault.{Fault}
+use Rattle.mx_lines.specs.declared.fault.Fault.TheVariants.{BadDirective, TooManyInstructions, DataFull, LineTooLong}
 use Rattle.mx_asm.specs.declared.position.Section.{Section}
 use Rattle.mx_asm.specs.declared.position.Section.TheVariants as section
 use Rattle.mx_asm.specs.declared.position.Position.{Position}
-use Rattle.mx_asm.specs.Words.{Word, Name, Colon, words_of}
-use Rattle.mx_asm.specs.Operands.{label_named}
-use Rattle.mx_asm.specs.Instructions.{Labels}
-use Rattle.mx_asm.specs.Fitting.{LabelsFit}
+use Rattle.mx_lines.specs.Words.{Word, Name, Colon, words_of}
+use Rattle.mx_lines.specs.Operands.{label_named}
+use Rattle.mx_lines.specs.Instructions.{Labels}
+use Rattle.mx_lines.specs.Fitting.{LabelsFit}
 use Rattle.mx_asm.specs.Directives.{Effect, effect_of, is_dotted}
 use Rattle.mx_asm.specs.Positions.{has_label, has_dotted_label, define, define_front, label_here, label_at, with_labels, labels_from, line_words, words_or_none, statement_words, after, behind, position_at_end}
 use Rattle.mx_asm.specs.Faults.{first_fault, found_or, line_fault, words_fault, least_fault, layout_fault, stands_past, is_full, is_data, repeats}

@@ -3,10 +3,10 @@ use Rattle.std.proofs.Common.{◌≡◌, ℕ, List, ◌∷◌, map, take, drop, 
 use Rattle.std.proofs.lemmas.Bool.{false≢true}
 use Rattle.std.proofs.lemmas.List.{drop-map, take_rest}
 use Rattle.mx_source.specs.declared.statement.Label.{Label}
-use Rattle.mx_asm.specs.declared.word.Word.{Word as Lent}
-use Rattle.mx_asm.specs.Words.{Word, Name, Colon}
-use Rattle.mx_asm.specs.Shapes.{word}
-use Rattle.mx_asm.specs.Instructions.{Labels}
+use Rattle.mx_lines.specs.declared.word.Word.{Word as Lent}
+use Rattle.mx_lines.specs.Words.{Word, Name, Colon}
+use Rattle.mx_lines.specs.Shapes.{word}
+use Rattle.mx_lines.specs.Instructions.{Labels}
 use Rattle.mx_asm.specs.Positions.{begins_label, first_name, define, define_front, is_defined, is_repeated}
 
 define_next : (labels : Labels) (l : Label) (ws : List Word) → begins_label ws ≡ true

@@ -1,14 +1,8 @@
-pub mod Chained
-pub mod Clean
 pub mod Counts
-pub mod Fits
-pub mod LineEnds
-pub mod LineWords
 pub mod Fronts
 pub mod LabelBounds
 pub mod Labelled
 pub mod Listed
-pub mod Pieces
 pub mod PrintedLines
 pub mod PrintedTexts
 pub mod Readback
@@ -16,7 +10,6 @@ pub mod Defining
 pub mod Spelled
 pub mod Spellings
 pub mod Tabled
-pub mod Tables
 pub mod Whole
 pub mod Suits
 pub mod Sourced

@@ -8,17 +8,17 @@ use Rattle.mx_source.specs.declared.statement.Statement.{Statement}
 use Rattle.mx_source.specs.declared.statement.Value.{Value}
 use Rattle.mx_source.specs.Labels.{IsPlace}
 use Rattle.mx_source.specs.Statements.{StatementFits, ValueFits}
-use Rattle.mx_asm.specs.declared.fault.Fault.{Fault}
+use Rattle.mx_lines.specs.declared.fault.Fault.{Fault}
 use Rattle.mx_asm.specs.declared.position.Position.{Position}
-use Rattle.mx_asm.specs.Words.{Word, words_of, texts}
-use Rattle.mx_asm.specs.Instructions.{Labels}
-use Rattle.mx_asm.specs.Fitting.{LabelsFit}
+use Rattle.mx_lines.specs.Words.{Word, words_of, texts}
+use Rattle.mx_lines.specs.Instructions.{Labels}
+use Rattle.mx_lines.specs.Fitting.{LabelsFit}
 use Rattle.mx_asm.specs.Directives.{Effect, Nothing, Instruction, Data, Input, effect_of}
 use Rattle.mx_asm.specs.Effects.{EffectFits, first_input, IsFaultOf}
 use Rattle.mx_asm.specs.declared.listing.Listing.{Listing}
 use Rattle.mx_asm.specs.Listings.{IsListingOf, IsRefusal, refusal}
-use Rattle.mx_asm.specs.declared.fault.LineError.{LineError}
-use Rattle.mx_asm.specs.declared.fault.LineError.TheVariants as errors
+use Rattle.mx_lines.specs.declared.fault.LineError.{LineError}
+use Rattle.mx_lines.specs.declared.fault.LineError.TheVariants as errors
 use Rattle.mx_asm.specs.Positions.{line_words, statement_words, after, behind, with_labels, position_at_end, instruction_count, word_count}
 use Rattle.mx_asm.specs.Faults.{first_fault, found_or, line_fault, words_fault, first_repeat, repeats, is_line}
 use Rattle.mx_asm.specs.Texts.{effects_from, statements_in, lines_in, values_in, input_in, onto_statements, onto_lines, onto_values, onto_input, or_nothing}

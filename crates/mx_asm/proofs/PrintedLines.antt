@@ -8,13 +8,13 @@ use Rattle.mx_lex.specs.declared.token.Kind.TheVariants as kinds
 use Rattle.mx_source.specs.declared.statement.Label.{Label}
 use Rattle.mx_source.specs.declared.statement.Statement.{Statement}
 use Rattle.mx_source.specs.declared.statement.Value.{Value}
-use Rattle.mx_asm.specs.declared.fault.Fault.TheVariants.{DuplicateLabel, BadDirective, TooManyInstructions, DataFull, LineTooLong}
+use Rattle.mx_lines.specs.declared.fault.Fault.TheVariants.{DuplicateLabel, BadDirective, TooManyInstructions, DataFull, LineTooLong}
 use Rattle.mx_asm.specs.declared.position.Section.{Section}
 use Rattle.mx_asm.specs.declared.position.Section.TheVariants as section
 use Rattle.mx_asm.specs.declared.position.Position.{Position}
-use Rattle.mx_asm.specs.Words.{Word, Name, Number, Comma, Open, Close, Hash, Colon, End}
-use Rattle.mx_asm.specs.Operands.{label_named}
-use Rattle.mx_asm.specs.Instructions.{Labels}
+use Rattle.mx_lines.specs.Words.{Word, Name, Number, Comma, Open, Close, Hash, Colon, End}
+use Rattle.mx_lines.specs.Operands.{label_named}
+use Rattle.mx_lines.specs.Instructions.{Labels}
 use Rattle.mx_asm.specs.Directives.{Effect, Nothing, Instruction, Data, Input, effect_of, directed, directive_named, is_dotted}
 use Rattle.mx_asm.specs.Positions.{statement_words, begins_label, front_names, has_dotted_label, instruction_count, word_count, behind, after, label_here, define, define_front, is_repeated}
 use Rattle.mx_asm.specs.Faults.{is_data, stands_past, is_full, layout_fault, least_fault, words_fault, repeats}

@@ -16,11 +16,11 @@ use Rattle.mx_source.specs.SourceValue.{SourceValue}
 use Rattle.mx_source.specs.Printed.{ended, label_lines, statement_text, code_text, value_text, words_text, spelled, has_words, data_text, input_text, printed}
 use Rattle.mx_asm.specs.declared.position.Section.TheVariants as section
 use Rattle.mx_asm.specs.declared.position.Position.{Position}
-use Rattle.mx_asm.specs.declared.fault.AsmError.{AsmError}
-use Rattle.mx_asm.specs.declared.fault.AsmError.TheVariants.{Refused, Memory}
+use Rattle.mx_lines.specs.declared.fault.AsmError.{AsmError}
+use Rattle.mx_lines.specs.declared.fault.AsmError.TheVariants.{Refused, Memory}
 use Rattle.mx_asm.specs.Listings.{IsRefusal}
-use Rattle.mx_asm.specs.Operands.{label_named}
-use Rattle.mx_asm.specs.Instructions.{Labels}
+use Rattle.mx_lines.specs.Operands.{label_named}
+use Rattle.mx_lines.specs.Instructions.{Labels}
 use Rattle.mx_asm.specs.Directives.{Nothing, Instruction, Data, Input}
 use Rattle.mx_asm.specs.Positions.{start}
 use Rattle.mx_asm.specs.Texts.{text_labels, text_effects, text_fault, source_of, ReadsAs}

@@ -8,16 +8,17 @@ use Rattle.mx_source.specs.declared.statement.Label.{Label}
 use Rattle.mx_source.specs.declared.statement.Statement.{Statement}
 use Rattle.mx_source.specs.declared.statement.Value.{Value}
 use Rattle.mx_source.specs.Printed.{ended}
-use Rattle.mx_asm.specs.declared.fault.Fault.{Fault}
+use Rattle.mx_lines.specs.declared.fault.Fault.{Fault}
 use Rattle.mx_asm.specs.declared.position.Position.{Position}
-use Rattle.mx_asm.specs.Words.{Word, words_of}
-use Rattle.mx_asm.specs.Operands.{label_named}
-use Rattle.mx_asm.specs.Instructions.{Labels}
+use Rattle.mx_lines.specs.Words.{Word, words_of}
+use Rattle.mx_lines.specs.Operands.{label_named}
+use Rattle.mx_lines.specs.Instructions.{Labels}
 use Rattle.mx_asm.specs.Directives.{Effect, Nothing, Instruction, Data, Input, effect_of}
 use Rattle.mx_asm.specs.Positions.{statement_words, after, with_labels, labels_from, line_words, words_or_none}
 use Rattle.mx_asm.specs.Faults.{first_fault, found_or, words_fault, repeats}
 use Rattle.mx_asm.specs.Texts.{effects_from, or_nothing, statements_in, values_in, input_in, onto_statements, onto_values, onto_input}
-use Rattle.mx_asm.proofs.Spelled.{Splits, is_clean, words_are, and_both}
+use Rattle.mx_asm.proofs.Spelled.{Splits, words_are, and_both}
+use Rattle.mx_lines.proofs.Clean.{is_clean}
 
 -- what a table finds under each name
 abbrev pub Finder : Type 0

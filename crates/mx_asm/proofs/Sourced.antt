@@ -11,14 +11,14 @@ use Rattle.mx_source.specs.declared.statement.Value.{Value}
 use Rattle.mx_source.specs.Labels.{LabelFits, IsPlace}
 use Rattle.mx_source.specs.Statements.{StatementFits, ValueFits}
 use Rattle.mx_source.specs.SourceValue.{IsSource}
-use Rattle.mx_asm.specs.declared.fault.Fault.{Fault}
-use Rattle.mx_asm.specs.declared.fault.Fault.TheVariants.{BadDirective, TooManyInstructions, DataFull, LineTooLong, DuplicateLabel}
+use Rattle.mx_lines.specs.declared.fault.Fault.{Fault}
+use Rattle.mx_lines.specs.declared.fault.Fault.TheVariants.{BadDirective, TooManyInstructions, DataFull, LineTooLong, DuplicateLabel}
 use Rattle.mx_asm.specs.declared.position.Position.{Position}
-use Rattle.mx_asm.specs.Words.{Word, words_of}
-use Rattle.mx_asm.specs.Instructions.{Labels}
+use Rattle.mx_lines.specs.Words.{Word, words_of}
+use Rattle.mx_lines.specs.Instructions.{Labels}
 use Rattle.mx_asm.specs.Directives.{Effect, effect_of}
 use Rattle.mx_asm.specs.Effects.{EffectFits, first_input}
-use Rattle.mx_asm.specs.Fitting.{LabelsFit}
+use Rattle.mx_lines.specs.Fitting.{LabelsFit}
 use Rattle.mx_asm.specs.Positions.{has_dotted_label, labels_from, line_words, words_or_none, statement_words, after, start, position_at_end}
 use Rattle.mx_asm.specs.Faults.{first_fault, first_repeat, line_fault, words_fault, least_fault, layout_fault, is_full, stands_past, is_line}
 use Rattle.mx_asm.specs.Texts.{text_labels, text_effects, text_fault, source_of, effects_from, statements_in, lines_in, values_in, input_in, onto_statements, onto_lines, onto_values, onto_input}

@@ -18,17 +18,14 @@ use Rattle.mx_lex.specs.declared.token.Kind.{Kind}
 use Rattle.mx_lex.specs.declared.token.Kind.TheVariants as kinds
 use Rattle.mx_lex.specs.declared.token.LexFault.{LexFault}
 use Rattle.mx_lex.specs.declared.token.LexFault.TheVariants as faults
-use Rattle.mx_asm.specs.Words.{Word, Name, Number, Comma, Open, Close, Hash, Colon, word_of, word_at, words_at, words_of, has_bad_byte}
+use Rattle.mx_lines.specs.Words.{Word, Name, Number, Comma, Open, Close, Hash, Colon, word_of, word_at, words_at, words_of, has_bad_byte}
 use Rattle.mx_asm.specs.Printable.{is_name}
 use Rattle.mx_isa.specs.Fields.{IsSignedField}
 use Rattle.mx_isa.specs.Registers.{IsRegister}
 use Rattle.mx_source.specs.Printed.{register}
 use Rattle.std.specs.Fmt.{signed_decimal}
-use Rattle.mx_asm.specs.declared.fault.Fault.TheVariants.{BadByte}
-
--- a byte of a line that is neither a tab nor a `;`
-abbrev pub is_clean : ℕ → Bool
-is_clean b = (nat_le 32 b && nat_le b 126) && not (eqb b 59)
+use Rattle.mx_lines.specs.declared.fault.Fault.TheVariants.{BadByte}
+use Rattle.mx_lines.proofs.Clean.{is_clean, letter_is_clean, digit_is_clean, is_decimal_digit, by_either, goes_on_clean}
 
 -- a line from which this text is left has these words left
 pub record Splits (text : List ℕ) (words : List Word) : Type 0 where
@@ -187,16 +184,6 @@ module _ (rest : List ℕ) (words : List Word) (s : Splits rest words) where
   pub splits_blank : Splits (32 ∷ rest) words
   splits_blank = record { read = blank_read; clean = s.clean }
 
--- a byte of a name is neither a blank nor a byte that may not stand in a line
-pub letter_is_clean : (b : ℕ) → begins_name b ≡ true → (is_clean b ≡ true) × (is_blank b ≡ false)
-letter_is_clean b h = (grind (arith, nat_tests), grind (arith, nat_tests))
-
-pub digit_is_clean : (b : ℕ) → 48 ≤ b → b ≤ 57 → is_clean b ≡ true
-digit_is_clean b h k = grind (arith, nat_tests)
-
-is_decimal_digit : (b : ℕ) → is_digit b 10 ≡ true → (48 ≤ b) × (b ≤ 57)
-is_decimal_digit b h = let d : digit_value b < 10 = grind (arith, nat_tests) in let r = digit_from_value b d in omega arith
-
 pub and_both : (x y : Bool) → x && y ≡ true → (x ≡ true) × (y ≡ true)
 and_both true y h = (refl, h)
 and_both false y h = cc
@@ -225,13 +212,6 @@ all_weaker p q f (b ∷ bytes) h =
 
 both_clean : (text rest : List ℕ) → list_all is_clean text ≡ true → list_all is_clean rest ≡ true → list_all is_clean (text ++ rest) ≡ true
 both_clean text rest h k = list_all-append is_clean text rest ∙ ap (λ t. t && list_all is_clean rest) h ∙ k
-
-by_either : (b : ℕ) (x y : Bool) → (x ≡ true → is_clean b ≡ true) → (y ≡ true → is_clean b ≡ true) → x || y ≡ true → is_clean b ≡ true
-by_either b true y f g h = f refl
-by_either b false y f g h = g h
-
-pub goes_on_clean : (b : ℕ) → continues_name b ≡ true → is_clean b ≡ true
-goes_on_clean b h = by_either b (begins_name b) (is_digit b 10) (λ k. (letter_is_clean b k).0) (λ k. let r = is_decimal_digit b k in digit_is_clean b r.0 r.1) h
 
 pub name_is_clean : (n : List ℕ) → is_name n ≡ true → list_all is_clean n ≡ true
 name_is_clean [] h = refl

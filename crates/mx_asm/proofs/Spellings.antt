@@ -25,17 +25,17 @@ use Rattle.mx_source.specs.Labels.{IsPlace}
 use Rattle.mx_source.specs.Statements.{IsPlain, StatementFits, ValueFits}
 use Rattle.mx_source.specs.Printed as text
 use Rattle.mx_source.specs.Printed.{spelled, place_name, statement_text, instruction_text, compute_text, condition_text}
-use Rattle.mx_asm.specs.declared.fault.Fault.{Fault}
-use Rattle.mx_asm.specs.declared.fault.Fault.TheVariants.{NumberOutOfRange, UndefinedLabel}
+use Rattle.mx_lines.specs.declared.fault.Fault.{Fault}
+use Rattle.mx_lines.specs.declared.fault.Fault.TheVariants.{NumberOutOfRange, UndefinedLabel}
 use Rattle.mx_asm.specs.declared.position.Section.{Section}
 use Rattle.mx_asm.specs.declared.position.Section.TheVariants as section
-use Rattle.mx_asm.specs.declared.mnemonic.Mnemonic.{Mnemonic}
-use Rattle.mx_asm.specs.declared.mnemonic.Mnemonic.TheVariants as m
-use Rattle.mx_asm.specs.Reading.{◌>>=◌}
-use Rattle.mx_asm.specs.Words.{Word, Name, Number, Comma, Open, Close, Hash}
-use Rattle.mx_asm.specs.Operands.{register, data_word, special, immediate, count, label_named, any_label, code_label, offset, code_index}
-use Rattle.mx_asm.specs.Mnemonics.{mnemonics, mnemonic_named}
-use Rattle.mx_asm.specs.Instructions.{Labels, instruction, with_mnemonic, spelled_by, compute, of_one, mstart, asr, sh, addi, move_from, move_to, load, store, load_address, branch, call, call_register, jump, halt}
+use Rattle.mx_lines.specs.declared.mnemonic.Mnemonic.{Mnemonic}
+use Rattle.mx_lines.specs.declared.mnemonic.Mnemonic.TheVariants as m
+use Rattle.mx_lines.specs.Reading.{◌>>=◌}
+use Rattle.mx_lines.specs.Words.{Word, Name, Number, Comma, Open, Close, Hash}
+use Rattle.mx_lines.specs.Operands.{register, data_word, special, immediate, count, label_named, any_label, code_label, offset, code_index}
+use Rattle.mx_lines.specs.Mnemonics.{mnemonics, mnemonic_named}
+use Rattle.mx_lines.specs.Instructions.{Labels, instruction, with_mnemonic, spelled_by, compute, of_one, mstart, asr, sh, addi, move_from, move_to, load, store, load_address, branch, call, call_register, jump, halt}
 use Rattle.mx_asm.specs.Directives.{Effect, Instruction, Data, in_data, word_values, effect_of, directed, directive_named, is_dotted, in_code}
 use Rattle.mx_asm.specs.Positions.{begins_label, section_after}
 use Rattle.mx_asm.specs.Printable.{is_name, IsWord, IsLabelName, NamesRegisters, HasRegisters}

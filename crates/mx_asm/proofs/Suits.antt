@@ -21,24 +21,24 @@ use Rattle.mx_source.specs.declared.statement.Value.{Value}
 use Rattle.mx_source.specs.declared.statement.Value.TheVariants.{Int}
 use Rattle.mx_source.specs.Labels.{IsPlace}
 use Rattle.mx_source.specs.Statements.{StatementFits, ValueFits}
-use Rattle.mx_asm.specs.declared.fault.Fault.{Fault}
-use Rattle.mx_asm.specs.declared.fault.Fault.TheVariants.{UndefinedLabel, NumberOutOfRange}
+use Rattle.mx_lines.specs.declared.fault.Fault.{Fault}
+use Rattle.mx_lines.specs.declared.fault.Fault.TheVariants.{UndefinedLabel, NumberOutOfRange}
 use Rattle.mx_asm.specs.declared.position.Section.{Section}
 use Rattle.mx_asm.specs.declared.position.Section.TheVariants as section
 use Rattle.mx_asm.specs.declared.directive.Directive.{Directive}
 use Rattle.mx_asm.specs.declared.directive.Directive.TheVariants as d
-use Rattle.mx_asm.specs.declared.mnemonic.Mnemonic.{Mnemonic}
-use Rattle.mx_asm.specs.declared.mnemonic.Mnemonic.TheVariants as m
-use Rattle.mx_asm.specs.Reading.{◌>>=◌}
-use Rattle.mx_asm.specs.Words.{Word, Name, Number}
-use Rattle.mx_asm.specs.Shapes.{nothing, one_name, two_names, three_names, name_number_name, names_number_name, memory}
-use Rattle.mx_asm.specs.Operands.{register, special, integer, in_range, immediate, count, any_label, code_label, code_index, data_label, data_address, data_word, offset}
-use Rattle.mx_asm.specs.Mnemonics.{mnemonics, spelled, mnemonic_named}
-use Rattle.mx_asm.specs.Instructions.{Labels, compute, of_one, mstart, asr, sh, addi, nop, halt, if_md, move_from, move_to, load, store, address_of, load_address, branch, swapped_branch, goto, call, call_register, jump, system, spelled_by, with_mnemonic, instruction}
+use Rattle.mx_lines.specs.declared.mnemonic.Mnemonic.{Mnemonic}
+use Rattle.mx_lines.specs.declared.mnemonic.Mnemonic.TheVariants as m
+use Rattle.mx_lines.specs.Reading.{◌>>=◌}
+use Rattle.mx_lines.specs.Words.{Word, Name, Number}
+use Rattle.mx_lines.specs.Shapes.{nothing, one_name, two_names, three_names, name_number_name, names_number_name, memory}
+use Rattle.mx_lines.specs.Operands.{register, special, integer, in_range, immediate, count, any_label, code_label, code_index, data_label, data_address, data_word, offset}
+use Rattle.mx_lines.specs.Mnemonics.{mnemonics, spelled, mnemonic_named}
+use Rattle.mx_lines.specs.Instructions.{Labels, compute, of_one, mstart, asr, sh, addi, nop, halt, if_md, move_from, move_to, load, store, address_of, load_address, branch, swapped_branch, goto, call, call_register, jump, system, spelled_by, with_mnemonic, instruction}
 use Rattle.mx_asm.specs.Directives.{Effect, Nothing, Input, is_dotted, directive_named, cons, value_words, numbers_fit, value_at, value_of, values_of, word_values, space_count, in_data, in_code, without_operands, directed, effect_of}
 use Rattle.mx_asm.specs.Effects.{EffectFits}
-use Rattle.mx_asm.specs.Fitting.{LabelsFit, NamedFits, uses_both, is_regular}
-use Rattle.mx_asm.proofs.Fits.{fits_both, any_fits}
+use Rattle.mx_lines.specs.Fitting.{LabelsFit, NamedFits, uses_both, is_regular}
+use Rattle.mx_lines.proofs.Fits.{fits_both, any_fits}
 
 -- what is read after something else
 bind_fits : {A B : Type 0} (P : B → Type 0) (r : Result A Fault) (f : A → Result B Fault) → ((x : A) → r ≡ Ok x → IfOk (f x) P) → IfOk (r >>= f) P

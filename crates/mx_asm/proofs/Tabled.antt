@@ -10,8 +10,8 @@ use Rattle.mx_source.specs.declared.statement.Label.{Label}
 use Rattle.mx_source.specs.declared.statement.Label.TheVariants as label
 use Rattle.mx_source.specs.Labels.{names_index, is_labelled, IsPlace}
 use Rattle.mx_source.specs.Printed.{place_name}
-use Rattle.mx_asm.specs.Operands.{label_named}
-use Rattle.mx_asm.specs.Instructions.{Labels}
+use Rattle.mx_lines.specs.Operands.{label_named}
+use Rattle.mx_lines.specs.Instructions.{Labels}
 use Rattle.mx_asm.specs.Printable.{IsLabelName}
 use Rattle.mx_asm.proofs.Readback.{Finder, Finds}
 use Rattle.mx_asm.proofs.Spellings.{Placed}

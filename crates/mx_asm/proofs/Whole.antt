@@ -9,8 +9,8 @@ use Rattle.mx_source.specs.Labels.{LabelFits}
 use Rattle.mx_source.specs.SourceValue.{SourceValue, IsSource}
 use Rattle.mx_source.specs.SourceValue.{source_of as listed}
 use Rattle.mx_asm.specs.declared.listing.Listing.{Listing}
-use Rattle.mx_asm.specs.Instructions.{Labels}
-use Rattle.mx_asm.specs.Fitting.{LabelsFit}
+use Rattle.mx_lines.specs.Instructions.{Labels}
+use Rattle.mx_lines.specs.Fitting.{LabelsFit}
 use Rattle.mx_asm.specs.Positions.{labels_from, start, position_at_end}
 use Rattle.mx_asm.specs.Faults.{first_fault}
 use Rattle.mx_asm.specs.Listings.{IsListingOf}

@@ -1,7 +1,7 @@
 -- What a line adds to the definitions before it.
 use Rattle.std.specs.Prelude.{◌≡◌, ℕ, ◌+◌, ◌≤◌, List}
 use Rattle.mx_asm.specs.declared.definitions.Definitions.{Definitions}
-use Rattle.mx_asm.specs.Words.{Word}
+use Rattle.mx_lines.specs.Words.{Word}
 use Rattle.mx_asm.specs.Positions.{after, with_labels}
 use Rattle.mx_asm.specs.Faults.{repeats, earlier_line}
 

@@ -7,16 +7,16 @@ use Rattle.mx_source.specs.declared.statement.Label.TheVariants as label
 use Rattle.mx_source.specs.declared.statement.Statement.{Statement}
 use Rattle.mx_source.specs.declared.statement.Value.{Value}
 use Rattle.mx_source.specs.declared.statement.Value.TheVariants as values
-use Rattle.mx_asm.specs.declared.fault.Fault.{Fault}
-use Rattle.mx_asm.specs.declared.fault.Fault.TheVariants.{BadOperands, BadDirective, NumberOutOfRange}
+use Rattle.mx_lines.specs.declared.fault.Fault.{Fault}
+use Rattle.mx_lines.specs.declared.fault.Fault.TheVariants.{BadOperands, BadDirective, NumberOutOfRange}
 use Rattle.mx_asm.specs.declared.position.Section.{Section}
 use Rattle.mx_asm.specs.declared.position.Section.TheVariants as section
 use Rattle.mx_asm.specs.declared.directive.Directive.{Directive}
 use Rattle.mx_asm.specs.declared.directive.Directive.TheVariants as d
-use Rattle.mx_asm.specs.Reading.{◌>>=◌}
-use Rattle.mx_asm.specs.Words.{Word, Name, Number, Comma}
-use Rattle.mx_asm.specs.Operands.{in_range, data_word, any_label}
-use Rattle.mx_asm.specs.Instructions.{Labels, instruction}
+use Rattle.mx_lines.specs.Reading.{◌>>=◌}
+use Rattle.mx_lines.specs.Words.{Word, Name, Number, Comma}
+use Rattle.mx_lines.specs.Operands.{in_range, data_word, any_label}
+use Rattle.mx_lines.specs.Instructions.{Labels, instruction}
 
 -- a name that begins with `.`
 abbrev pub is_dotted : List ℕ → Bool

@@ -4,10 +4,10 @@ use Rattle.mx_source.specs.Labels.{IsPlace}
 use Rattle.mx_source.specs.Statements.{StatementFits, ValueFits}
 use Rattle.mx_asm.specs.declared.effect.Effect.{Effect as Kept}
 use Rattle.mx_asm.specs.declared.effect.Effect.TheVariants as kept
-use Rattle.mx_asm.specs.Instructions.{Labels}
-use Rattle.mx_asm.specs.declared.fault.Fault.{Fault}
-use Rattle.mx_asm.specs.declared.fault.LineError.{LineError}
-use Rattle.mx_asm.specs.declared.fault.LineError.TheVariants as errors
+use Rattle.mx_lines.specs.Instructions.{Labels}
+use Rattle.mx_lines.specs.declared.fault.Fault.{Fault}
+use Rattle.mx_lines.specs.declared.fault.LineError.{LineError}
+use Rattle.mx_lines.specs.declared.fault.LineError.TheVariants as errors
 use Rattle.mx_asm.specs.declared.listing.Listing.{Listing}
 use Rattle.mx_asm.specs.Directives.{Effect, Nothing, Instruction, Data, Input}
 use Rattle.mx_asm.specs.Texts.{onto_statements, onto_lines, onto_values, onto_input}

@@ -1,14 +1,14 @@
 -- The fault of a line within its text, and the first faulty line.
 use Rattle.std.specs.Prelude.{ℕ, ◌+◌, Bool, true, false, ◌&&◌, ◌||◌, nat_le, nat_lt, ◌==◌, List, [], ◌∷◌, length, Option, Some, None, Result, Ok, Err, if◌then◌else◌}
-use Rattle.mx_asm.specs.declared.fault.TheConstants.{MAX_LINE_BYTES}
+use Rattle.mx_lines.specs.declared.fault.TheConstants.{MAX_LINE_BYTES}
 use Rattle.mx_isa.specs.declared.board.TheConstants.{MAX_STATEMENTS}
-use Rattle.mx_asm.specs.declared.fault.Fault.{Fault}
-use Rattle.mx_asm.specs.declared.fault.Fault.TheVariants.{UnknownMnemonic, BadOperands, BadRegister, NumberOutOfRange, DuplicateLabel, BadDirective, TooManyInstructions, DataFull, LineTooLong}
+use Rattle.mx_lines.specs.declared.fault.Fault.{Fault}
+use Rattle.mx_lines.specs.declared.fault.Fault.TheVariants.{UnknownMnemonic, BadOperands, BadRegister, NumberOutOfRange, DuplicateLabel, BadDirective, TooManyInstructions, DataFull, LineTooLong}
 use Rattle.mx_asm.specs.declared.position.Section.{Section}
 use Rattle.mx_asm.specs.declared.position.Section.TheVariants as section
 use Rattle.mx_asm.specs.declared.position.Position.{Position}
-use Rattle.mx_asm.specs.Words.{Word, words_of}
-use Rattle.mx_asm.specs.Instructions.{Labels}
+use Rattle.mx_lines.specs.Words.{Word, words_of}
+use Rattle.mx_lines.specs.Instructions.{Labels}
 use Rattle.mx_asm.specs.Directives.{Effect, effect_of}
 use Rattle.mx_asm.specs.Positions.{statement_words, has_label, has_dotted_label, after, label_here, is_repeated, with_labels, line_words}
 

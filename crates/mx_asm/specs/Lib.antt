@@ -1,12 +1,3 @@
-pub mod Reading
-pub mod Words
-pub mod Shapes
-pub mod Operands
-pub mod Mnemonics
-pub mod Instructions
-pub mod LabelTable
-pub mod Chains
-pub mod Fitting
 pub mod Directives
 pub mod Positions
 pub mod Faults

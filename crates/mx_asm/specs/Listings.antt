@@ -3,14 +3,14 @@ use Rattle.std.specs.Prelude.{◌≡◌, ℕ, ◌+◌, ◌≤◌, List, [], All,
 use Rattle.mx_isa.specs.declared.board.TheConstants.{MAX_STATEMENTS}
 use Rattle.mx_source.specs.Labels.{IsPlace}
 use Rattle.mx_source.specs.Statements.{StatementFits, ValueFits}
-use Rattle.mx_asm.specs.declared.fault.Fault.{Fault}
-use Rattle.mx_asm.specs.declared.fault.AsmError.{AsmError}
-use Rattle.mx_asm.specs.declared.fault.AsmError.TheVariants.{Refused, Memory}
-use Rattle.mx_asm.specs.declared.fault.LineError.{LineError}
-use Rattle.mx_asm.specs.declared.fault.LineError.TheVariants as errors
+use Rattle.mx_lines.specs.declared.fault.Fault.{Fault}
+use Rattle.mx_lines.specs.declared.fault.AsmError.{AsmError}
+use Rattle.mx_lines.specs.declared.fault.AsmError.TheVariants.{Refused, Memory}
+use Rattle.mx_lines.specs.declared.fault.LineError.{LineError}
+use Rattle.mx_lines.specs.declared.fault.LineError.TheVariants as errors
 use Rattle.mx_asm.specs.declared.listing.Listing.{Listing}
-use Rattle.mx_asm.specs.Instructions.{Labels}
-use Rattle.mx_asm.specs.Fitting.{LabelsFit}
+use Rattle.mx_lines.specs.Instructions.{Labels}
+use Rattle.mx_lines.specs.Fitting.{LabelsFit}
 use Rattle.mx_asm.specs.declared.position.Position.{Position}
 use Rattle.mx_asm.specs.Positions.{position_at_end}
 use Rattle.mx_asm.specs.Faults.{first_fault}

@@ -3,15 +3,15 @@ use Rattle.std.specs.Prelude.{ℕ, ◌+◌, ◌/◌, min, Bool, true, false, not
 use Rattle.std.specs.List.{list_any}
 use Rattle.mx_source.specs.declared.statement.Label.{Label}
 use Rattle.mx_source.specs.declared.statement.Label.TheVariants as label
-use Rattle.mx_asm.specs.declared.fault.Fault.{Fault}
+use Rattle.mx_lines.specs.declared.fault.Fault.{Fault}
 use Rattle.mx_asm.specs.declared.position.Section.{Section}
 use Rattle.mx_asm.specs.declared.position.Section.TheVariants as section
 use Rattle.mx_asm.specs.declared.position.Position.{Position}
 use Rattle.mx_asm.specs.declared.directive.Directive.{Directive}
 use Rattle.mx_asm.specs.declared.directive.Directive.TheVariants as d
-use Rattle.mx_asm.specs.Words.{Word, Name, Colon, words_of}
-use Rattle.mx_asm.specs.Operands.{label_named}
-use Rattle.mx_asm.specs.Instructions.{Labels}
+use Rattle.mx_lines.specs.Words.{Word, Name, Colon, words_of}
+use Rattle.mx_lines.specs.Operands.{label_named}
+use Rattle.mx_lines.specs.Instructions.{Labels}
 use Rattle.mx_asm.specs.Directives.{is_dotted, directive_named, space_count}
 
 -- the names at the front of a line that a `:` follows

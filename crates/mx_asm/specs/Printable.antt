@@ -15,9 +15,9 @@ use Rattle.mx_source.specs.declared.statement.Statement.{Statement}
 use Rattle.mx_source.specs.declared.statement.Statement.TheVariants.{Plain, LaCode, Branch, Call, CallReg, JumpReg, Halt}
 use Rattle.mx_source.specs.SourceValue.{SourceValue, IsSource}
 use Rattle.mx_source.specs.Printed.{printed}
-use Rattle.mx_asm.specs.declared.fault.AsmError.{AsmError}
-use Rattle.mx_asm.specs.declared.fault.AsmError.TheVariants.{Memory}
-use Rattle.mx_asm.specs.Operands.{label_named}
+use Rattle.mx_lines.specs.declared.fault.AsmError.{AsmError}
+use Rattle.mx_lines.specs.declared.fault.AsmError.TheVariants.{Memory}
+use Rattle.mx_lines.specs.Operands.{label_named}
 use Rattle.mx_asm.specs.Directives.{is_dotted}
 use Rattle.mx_asm.specs.Texts.{text_fault, source_of}
 

@@ -4,9 +4,9 @@ use Rattle.mx_lex.specs.Lines.{lines_of}
 use Rattle.mx_source.specs.declared.statement.Statement.{Statement}
 use Rattle.mx_source.specs.declared.statement.Value.{Value}
 use Rattle.mx_source.specs.SourceValue.{SourceValue}
-use Rattle.mx_asm.specs.declared.fault.Fault.{Fault}
+use Rattle.mx_lines.specs.declared.fault.Fault.{Fault}
 use Rattle.mx_asm.specs.declared.position.Position.{Position}
-use Rattle.mx_asm.specs.Instructions.{Labels}
+use Rattle.mx_lines.specs.Instructions.{Labels}
 use Rattle.mx_asm.specs.Directives.{Effect, Nothing, Instruction, Data, Input, effect_of}
 use Rattle.mx_asm.specs.Positions.{statement_words, after, line_words, labels_from, start}
 use Rattle.mx_asm.specs.Faults.{first_fault}

@@ -9,17 +9,15 @@ ghost use Rattle.mx_asm.specs.Listings;
 ghost use Rattle.mx_asm.specs.Listings.{IsListingOf, IsRefusal};
 ghost use Rattle.mx_asm.specs.Printable.{ReadsPrinted};
 ghost use Rattle.mx_asm.specs.Texts.{ReadsAs, text_fault};
-ghost use Rattle.mx_asm.specs.Words.{texts};
+ghost use Rattle.mx_lines.specs.Words.{texts};
 ghost use Rattle.mx_source.specs.SourceValue.{IsSource, source_of};
 
 use crate::definitions::{Definitions, define_text};
-use crate::fault::{AsmError, LineError};
-use crate::labels::Labels;
 use crate::line::read_line;
-use crate::lines::split_line;
 use crate::listing::{Listing, add};
 use crate::position::Position;
 use mx_isa::{DATA_BASE, DATA_END};
+use mx_lines::{AsmError, Labels, LineError, split_line};
 use mx_source::{LabelTable, Source};
 use std::alloc::Global;
 
@@ -160,7 +158,13 @@ pub fn assemble_at(alloc: Global, text: &[u8], user_data: u32, end: u32) -> Resu
 /// The source of a listing and its labels.
 pub fn listed_source(listing: Listing, labels: LabelTable) -> Source
     requires { IsSource (source_of listing.statements.items listing.lines.items listing.user_data.items labels) }
-    ensures { result ≡ record { statements = listing.statements.items; lines = listing.lines.items; user_data = listing.user_data.items; labels = labels; input = listing.input } }
+    ensures { result ≡ record {
+      statements = listing.statements.items;
+      lines = listing.lines.items;
+      user_data = listing.user_data.items;
+      labels = labels;
+      input = listing.input;
+    } }
 {
     let Listing {
         statements,

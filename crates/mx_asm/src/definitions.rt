@@ -6,15 +6,12 @@ ghost use Rattle.mx_asm.specs.Faults.{first_repeat};
 ghost use Rattle.mx_asm.specs.Faults;
 ghost use Rattle.mx_asm.specs.Positions.{labels_from, position_at_end};
 ghost use Rattle.mx_asm.specs.Positions;
-ghost use Rattle.mx_asm.specs.Shapes.{word};
-ghost use Rattle.mx_asm.specs.Words.{texts};
+ghost use Rattle.mx_lines.specs.Shapes.{word};
+ghost use Rattle.mx_lines.specs.Words.{texts};
 
-use crate::fault::LineError;
 use crate::front::{define_front, statement_words};
-use crate::labels::Labels;
-use crate::lines::split_line;
 use crate::position::Position;
-use crate::word::{Word, read_words};
+use mx_lines::{Labels, LineError, Word, read_words, split_line};
 use std::alloc::{AllocError, Global};
 
 /// The labels of a text, and the first line that defines one again.

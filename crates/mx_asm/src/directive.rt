@@ -2,12 +2,10 @@
 ghost use Rattle.std.specs.Prelude.{◌≡◌, ◌≤◌, map, IfOk};
 ghost use Rattle.mx_isa.specs.declared.board.TheConstants.{MAX_DATA_WORDS};
 ghost use Rattle.mx_asm.specs.Directives;
-ghost use Rattle.mx_asm.specs.Shapes.{word};
+ghost use Rattle.mx_lines.specs.Shapes.{word};
 
-use crate::fault::Fault;
-use crate::mnemonic::spells;
-use crate::word::Word;
 use mx_isa::MAX_DATA_WORDS;
+use mx_lines::{Fault, Word, spells};
 
 /// What a name with a `.` stands for.
 #[derive(Clone, Copy)]

@@ -3,22 +3,17 @@ ghost use Rattle.std.specs.Prelude.{◌≡◌, ◌≤◌, ℕ, map, IfOk, All, r
 ghost use Rattle.mx_source.specs.Labels.{IsPlace};
 ghost use Rattle.mx_source.specs.Statements.{ValueFits};
 ghost use Rattle.mx_source.specs.declared.statement.Value.TheVariants.{Int};
-ghost use Rattle.mx_asm.specs.Reading.{Gives, seen};
+ghost use Rattle.mx_lines.specs.Reading.{Gives, seen};
 ghost use Rattle.mx_asm.specs.Directives;
 ghost use Rattle.mx_asm.specs.Effects;
 ghost use Rattle.mx_asm.specs.Effects.{effect, EffectFits};
-ghost use Rattle.mx_asm.specs.Fitting.{LabelsFit};
-ghost use Rattle.mx_asm.specs.Shapes;
-ghost use Rattle.mx_asm.specs.Shapes.{word};
+ghost use Rattle.mx_lines.specs.Fitting.{LabelsFit};
+ghost use Rattle.mx_lines.specs.Shapes;
+ghost use Rattle.mx_lines.specs.Shapes.{word};
 
 use crate::directive::{Directive, directive_named, is_dotted, space_count};
-use crate::fault::{Fault, LineError};
-use crate::instruction::instruction;
-use crate::labels::Labels;
-use crate::operands::data_word;
 use crate::position::Section;
-use crate::resolve::any_label;
-use crate::word::Word;
+use mx_lines::{Fault, Labels, LineError, Word, any_label, data_word, instruction};
 use mx_source::{Label, Statement, Value};
 use std::alloc::Global;
 

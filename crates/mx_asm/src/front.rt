@@ -1,12 +1,11 @@
 //! The labels at the front of a line.
 ghost use Rattle.std.specs.Prelude.{◌≡◌, ◌≤◌, true, length, map, OnOk, IfOk};
-ghost use Rattle.mx_asm.specs.LabelTable.{IsNear};
+ghost use Rattle.mx_lines.specs.LabelTable.{IsNear};
 ghost use Rattle.mx_asm.specs.Positions;
-ghost use Rattle.mx_asm.specs.Shapes.{word};
+ghost use Rattle.mx_lines.specs.Shapes.{word};
 
 use crate::directive::is_dotted;
-use crate::labels::Labels;
-use crate::word::Word;
+use mx_lines::{Labels, Word};
 use mx_source::Label;
 use std::alloc::{AllocError, Global};
 

@@ -4,20 +4,17 @@ ghost use Rattle.mx_isa.specs.declared.board.TheConstants.{MAX_STATEMENTS};
 ghost use Rattle.mx_asm.specs.Directives.{effect_of};
 ghost use Rattle.mx_asm.specs.Effects.{effect, EffectFits, IsFaultOf};
 ghost use Rattle.mx_asm.specs.Faults;
-ghost use Rattle.mx_asm.specs.Fitting.{LabelsFit};
+ghost use Rattle.mx_lines.specs.Fitting.{LabelsFit};
 ghost use Rattle.mx_asm.specs.Positions.{line_words};
 ghost use Rattle.mx_asm.specs.Positions;
-ghost use Rattle.mx_asm.specs.Shapes.{word};
-ghost use Rattle.mx_asm.specs.Words.{words_of};
+ghost use Rattle.mx_lines.specs.Shapes.{word};
+ghost use Rattle.mx_lines.specs.Words.{words_of};
 
-use crate::MAX_LINE_BYTES;
 use crate::effect::{Effect, effect_of};
-use crate::fault::{Fault, LineError};
 use crate::front::{has_dotted_label, has_label, statement_words};
-use crate::labels::Labels;
 use crate::position::{Position, Section};
-use crate::word::{Word, read_words};
 use mx_isa::MAX_STATEMENTS;
+use mx_lines::{Fault, Labels, LineError, MAX_LINE_BYTES, Word, read_words};
 use std::alloc::Global;
 
 /// What a line does, and where the next one stands.
@@ -109,7 +106,8 @@ pub fn read_line<'a>(
     requires room { position.now.index < 2 ^ 32 - 1 }
     requires near { position.now.address ≤ 65537 }
     ensures faultless { IfOk result (λ r. Faults.words_fault labels.now end position.now repeated (length line.entry.now) (words_of line.entry.now) ≡ None) }
-    ensures effect { IfOk result (λ r. effect_of labels.now position.now.section (Positions.statement_words (line_words line.entry.now)) ≡ Ok (effect r.effect)) }
+    ensures effect { IfOk result
+        (λ r. effect_of labels.now position.now.section (Positions.statement_words (line_words line.entry.now)) ≡ Ok (effect r.effect)) }
     ensures next { IfOk result (λ r. r.next ≡ Positions.after position.now (line_words line.entry.now)) }
     ensures few { IfOk result (λ r. r.next.index ≤ MAX_STATEMENTS) }
     ensures within { IfOk result (λ r. r.next.address ≤ end) }

@@ -1,12 +1,12 @@
 //! Where a line stands.
 ghost use Rattle.std.specs.Prelude.{◌≡◌, ◌+◌, ◌-◌, ◌^◌, ◌≤◌, ◌<◌, map};
 ghost use Rattle.mx_asm.specs.Directives.{directive_named};
-ghost use Rattle.mx_asm.specs.LabelTable.{IsNear};
+ghost use Rattle.mx_lines.specs.LabelTable.{IsNear};
 ghost use Rattle.mx_asm.specs.Positions;
-ghost use Rattle.mx_asm.specs.Shapes.{word};
+ghost use Rattle.mx_lines.specs.Shapes.{word};
 
 use crate::directive::{Directive, directive_named, is_dotted, space_count};
-use crate::word::Word;
+use mx_lines::Word;
 use mx_source::Label;
 
 /// A section of the source.

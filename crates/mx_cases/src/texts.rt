@@ -2,8 +2,9 @@
 use crate::spelling;
 use anyhow::{Context, Result, bail, ensure};
 use mx_answer::Reply;
-use mx_asm::{AsmError, assemble};
+use mx_asm::assemble;
 use mx_gen::generate;
+use mx_lines::AsmError;
 use mx_meaning::meaning_reply;
 use mx_source::Source;
 use std::alloc::Global;

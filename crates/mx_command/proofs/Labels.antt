@@ -6,7 +6,7 @@ use Rattle.std.proofs.lemmas.Bool.{cond-true, cond-false}
 use Rattle.std.proofs.lemmas.List.{at_drop_more, drop_all}
 use Rattle.std.proofs.lemmas.Option.{slice_get_within, get_or_from_slice_get}
 use Rattle.mx_source.specs.declared.Label.{Label}
-use Rattle.mx_asm.specs.Operands.{label_named}
+use Rattle.mx_lines.specs.Operands.{label_named}
 
 module _ (labels : List (List ℕ × Label)) (name : List ℕ) (i : ℕ) where
   abbrev pub from_here : List (List ℕ × Label) → Type 0

@@ -15,7 +15,7 @@ use Rattle.mx_answer.specs.Answer.{prints}
 use Rattle.mx_answer.specs.Protocol.{Answers}
 use Rattle.mx_simulate.specs.declared.Limits.{Limits}
 use Rattle.mx_simulate.specs.Machines.{Files, machine_protocol}
-use Rattle.mx_asm.specs.declared.Fault.{Fault}
+use Rattle.mx_lines.specs.declared.Fault.{Fault}
 use Rattle.mx_asm.specs.Texts.{source_of, text_fault}
 use Rattle.mx_meaning.specs.Boards.{board}
 use Rattle.mx_schedule.specs.Schedule.{IsScheduler}

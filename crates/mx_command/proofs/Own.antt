@@ -15,7 +15,7 @@ use Rattle.mx_answer.specs.Answer.{Answer, prints, writes, is_own}
 use Rattle.mx_answer.specs.Delivery.{HasStatus}
 use Rattle.mx_io.specs.Shelves.{Told, Counts}
 use Rattle.mx_answer.specs.Protocol.{Protocol, Answers, Reads, IsFault, Performed, HasOwnAnswers}
-use Rattle.mx_asm.specs.declared.Fault.{Fault}
+use Rattle.mx_lines.specs.declared.Fault.{Fault}
 use Rattle.mx_asm.specs.Texts.{source_of, text_fault}
 use Rattle.mx_isa.specs.declared.Place.{Place}
 use Rattle.mx_source.specs.SourceValue.{SourceValue}

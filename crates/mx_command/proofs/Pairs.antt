@@ -17,7 +17,7 @@ use Rattle.mx_reorg.specs.Greedy.{IsGreedy}
 use Rattle.mx_schedule.specs.Schedule.{IsScheduler}
 use Rattle.mx_schedule.proofs.Layouts.{laid_out, layout_unique}
 use Rattle.mx_schedule.proofs.Kept.{kept_greedy, overlong_layout}
-use Rattle.mx_asm.specs.declared.Fault.{Fault}
+use Rattle.mx_lines.specs.declared.Fault.{Fault}
 use Rattle.mx_asm.specs.Texts.{source_of, text_fault, ReadsAs}
 use Rattle.mx_asm.proofs.Sourced.{faultless_source, faultless_words}
 use Rattle.mx_meaning.specs.Boards.{board}

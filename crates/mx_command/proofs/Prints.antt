@@ -12,7 +12,7 @@ use Rattle.mx_answer.specs.Answer.{Answer}
 use Rattle.mx_io.specs.Shelves.{Told, Counts}
 use Rattle.mx_answer.specs.Protocol.{Protocol, Answers, Reads, Performed, OnlyPrints}
 use Rattle.mx_answer.proofs.Protocols.{no_file}
-use Rattle.mx_asm.specs.declared.Fault.{Fault}
+use Rattle.mx_lines.specs.declared.Fault.{Fault}
 use Rattle.mx_asm.specs.Texts.{source_of, text_fault}
 use Rattle.mx_source.specs.SourceValue.{SourceValue}
 use Rattle.mx_isa.specs.declared.Place.{Place}

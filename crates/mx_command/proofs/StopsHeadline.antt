@@ -17,7 +17,7 @@ use Rattle.mx_link.specs.Origins.{from_nowhere}
 use Rattle.mx_link.specs.Linked.{link_map, linked_code, linked_data}
 use Rattle.mx_turn.specs.Handler.{shipped}
 use Rattle.mx_turn.specs.Program.{program_of}
-use Rattle.mx_asm.specs.Operands.{label_named}
+use Rattle.mx_lines.specs.Operands.{label_named}
 use Rattle.mx_asm.specs.Texts.{source_of}
 use Rattle.mx_asm.proofs.Sourced.{faultless_source}
 use Rattle.mx_meaning.specs.Boards.{board}

@@ -25,9 +25,9 @@ use Rattle.mx_answer.specs.Answer.{Answer, prints, writes, text_line, usage}
 use Rattle.mx_answer.specs.Protocol.{Protocol, Answers, Reads}
 use Rattle.mx_simulate.specs.declared.Limits.{Limits}
 use Rattle.mx_simulate.specs.Machines.{Files, input_protocol, machine_protocol}
-use Rattle.mx_asm.specs.declared.Fault.{Fault}
-use Rattle.mx_asm.specs.declared.Fault.TheVariants as fault
-use Rattle.mx_asm.specs.Operands.{label_named}
+use Rattle.mx_lines.specs.declared.Fault.{Fault}
+use Rattle.mx_lines.specs.declared.Fault.TheVariants as fault
+use Rattle.mx_lines.specs.Operands.{label_named}
 use Rattle.mx_asm.specs.Texts.{source_of, text_fault}
 use Rattle.mx_module.specs.declared.JoinFault.{JoinFault}
 use Rattle.mx_module.specs.declared.JoinFault.TheVariants.{BadName, NotDefined, DuplicateExport, NoExport, LocalClash, Line}

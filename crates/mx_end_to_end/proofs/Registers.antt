@@ -21,21 +21,21 @@ use Rattle.mx_source.specs.declared.Statement.TheVariants.{Plain}
 use Rattle.mx_source.specs.declared.Value.{Value}
 use Rattle.mx_source.specs.declared.Value.TheVariants.{Int}
 use Rattle.mx_blocks.specs.Leaders.{inst_of}
-use Rattle.mx_asm.specs.declared.fault.Fault.{Fault}
-use Rattle.mx_asm.specs.declared.fault.Fault.TheVariants.{BadRegister}
+use Rattle.mx_lines.specs.declared.fault.Fault.{Fault}
+use Rattle.mx_lines.specs.declared.fault.Fault.TheVariants.{BadRegister}
 use Rattle.mx_asm.specs.declared.position.Section.{Section}
 use Rattle.mx_asm.specs.declared.position.Section.TheVariants as section
 use Rattle.mx_asm.specs.declared.position.Position.{Position}
 use Rattle.mx_asm.specs.declared.directive.Directive.{Directive}
 use Rattle.mx_asm.specs.declared.directive.Directive.TheVariants as d
-use Rattle.mx_asm.specs.declared.mnemonic.Mnemonic.{Mnemonic}
-use Rattle.mx_asm.specs.declared.mnemonic.Mnemonic.TheVariants as m
-use Rattle.mx_asm.specs.Reading.{◌>>=◌}
-use Rattle.mx_asm.specs.Words.{Word, Name}
-use Rattle.mx_asm.specs.Shapes.{nothing, one_name, two_names, three_names, name_number_name, names_number_name, memory}
-use Rattle.mx_asm.specs.Operands.{is_r, register_named, register, special, immediate, count, any_label, code_label, offset}
-use Rattle.mx_asm.specs.Mnemonics.{mnemonic_named}
-use Rattle.mx_asm.specs.Instructions.{Labels, compute, of_one, mstart, asr, sh, addi, nop, halt, if_md, move_from, move_to, load, store, address_of, load_address, branch, swapped_branch, goto, call, call_register, jump, system, spelled_by, with_mnemonic, instruction}
+use Rattle.mx_lines.specs.declared.mnemonic.Mnemonic.{Mnemonic}
+use Rattle.mx_lines.specs.declared.mnemonic.Mnemonic.TheVariants as m
+use Rattle.mx_lines.specs.Reading.{◌>>=◌}
+use Rattle.mx_lines.specs.Words.{Word, Name}
+use Rattle.mx_lines.specs.Shapes.{nothing, one_name, two_names, three_names, name_number_name, names_number_name, memory}
+use Rattle.mx_lines.specs.Operands.{is_r, register_named, register, special, immediate, count, any_label, code_label, offset}
+use Rattle.mx_lines.specs.Mnemonics.{mnemonic_named}
+use Rattle.mx_lines.specs.Instructions.{Labels, compute, of_one, mstart, asr, sh, addi, nop, halt, if_md, move_from, move_to, load, store, address_of, load_address, branch, swapped_branch, goto, call, call_register, jump, system, spelled_by, with_mnemonic, instruction}
 use Rattle.mx_asm.specs.Directives.{Effect, Nothing, Instruction, Data as DataWords, Input, is_dotted, directive_named, word_values, space_count, in_data, in_code, without_operands, directed, effect_of}
 use Rattle.mx_asm.specs.Positions.{line_words, statement_words, after, start}
 use Rattle.mx_asm.specs.Texts.{or_nothing, effects_from, onto_statements, statements_in, text_labels, text_effects, source_of}

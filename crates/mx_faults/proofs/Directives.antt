@@ -7,19 +7,19 @@ use Rattle.std.proofs.lemmas.Bool.{and_parts, false≢true}
 use Rattle.mx_source.specs.declared.statement.Label.{Label}
 use Rattle.mx_source.specs.declared.statement.Value.{Value}
 use Rattle.mx_source.specs.declared.statement.Value.TheVariants.{Int}
-use Rattle.mx_asm.specs.declared.fault.Fault.{Fault}
-use Rattle.mx_asm.specs.declared.fault.Fault.TheVariants as f
+use Rattle.mx_lines.specs.declared.fault.Fault.{Fault}
+use Rattle.mx_lines.specs.declared.fault.Fault.TheVariants as f
 use Rattle.mx_asm.specs.declared.position.Section.{Section}
 use Rattle.mx_asm.specs.declared.position.Section.TheVariants as section
 use Rattle.mx_asm.specs.declared.directive.Directive.{Directive}
 use Rattle.mx_asm.specs.declared.directive.Directive.TheVariants as d
-use Rattle.mx_asm.specs.Reading.{◌>>=◌}
-use Rattle.mx_asm.specs.Words.{Word, Name, Number, Comma, Open, Close, Hash, Colon, End}
-use Rattle.mx_asm.specs.Operands.{in_range, data_word, label_named, any_label}
-use Rattle.mx_asm.specs.Instructions.{Labels, instruction}
+use Rattle.mx_lines.specs.Reading.{◌>>=◌}
+use Rattle.mx_lines.specs.Words.{Word, Name, Number, Comma, Open, Close, Hash, Colon, End}
+use Rattle.mx_lines.specs.Operands.{in_range, data_word, label_named, any_label}
+use Rattle.mx_lines.specs.Instructions.{Labels, instruction}
 use Rattle.mx_asm.specs.Directives.{is_dotted, directive_named, is_value, cons, value_words, number_fits, numbers_fit, value_at, value_of, values_of, word_values, space_count, in_data, in_code, directed, effect_of}
 use Rattle.mx_asm.specs.Faults.{is_data}
-use Rattle.mx_asm.specs.Mnemonics.{mnemonic_named}
+use Rattle.mx_lines.specs.Mnemonics.{mnemonic_named}
 use Rattle.mx_faults.specs.Forms.{DataValue, values, has_shape, AnInstruction, ADirective, form, is_no_register, is_outside, is_undefined, is_wrong_kind, moves_chain}
 use Rattle.mx_faults.specs.Walking.{section_of, kind_by}
 use Rattle.mx_faults.proofs.Statements.{fault_of, form_fault, instruction_is}

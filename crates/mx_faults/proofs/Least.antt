@@ -4,8 +4,8 @@ use Rattle.std.specs.Prelude.{find, nat_le}
 use Rattle.std.specs.List.{list_all}
 use Rattle.std.proofs.lemmas.Bool.{and_parts, false≢true}
 use Rattle.std.proofs.lemmas.Bool.Decides.{nat_tests}
-use Rattle.mx_asm.specs.declared.fault.Fault.{Fault}
-use Rattle.mx_asm.specs.declared.fault.Fault.TheVariants as f
+use Rattle.mx_lines.specs.declared.fault.Fault.{Fault}
+use Rattle.mx_lines.specs.declared.fault.Fault.TheVariants as f
 use Rattle.mx_faults.specs.Holding.{LineInText, holds, all_faults, least_of}
 use Rattle.mx_faults.specs.Found.{number_of, IsLeast}
 

@@ -10,12 +10,12 @@ use Rattle.mx_lex.specs.Bytes.{is_allowed}
 use Rattle.mx_lex.specs.Lines.{lines_of}
 use Rattle.mx_lex.specs.declared.token.Token.{Token}
 use Rattle.mx_lex.specs.declared.token.LexFault.{LexFault}
-use Rattle.mx_asm.specs.declared.fault.Fault.{Fault}
-use Rattle.mx_asm.specs.declared.fault.Fault.TheVariants as f
+use Rattle.mx_lines.specs.declared.fault.Fault.{Fault}
+use Rattle.mx_lines.specs.declared.fault.Fault.TheVariants as f
 use Rattle.mx_asm.specs.declared.position.Section.{Section}
 use Rattle.mx_asm.specs.declared.position.Position.{Position}
-use Rattle.mx_asm.specs.Words.{Word, has_bad_byte as has_bad, words_at, word_at, words_of}
-use Rattle.mx_asm.specs.Instructions.{Labels}
+use Rattle.mx_lines.specs.Words.{Word, has_bad_byte as has_bad, words_at, word_at, words_of}
+use Rattle.mx_lines.specs.Instructions.{Labels}
 use Rattle.mx_asm.specs.Directives.{Effect, effect_of}
 use Rattle.mx_asm.specs.Positions.{has_label, has_dotted_label, instruction_count, word_count, after, behind, label_here, line_words, words_or_none, start, position_at_end, labels_from}
 use Rattle.mx_asm.specs.Faults.{is_data, is_full, layout_fault, with_repeat, least_fault, words_fault, repeats, line_fault}

@@ -19,21 +19,21 @@ use Rattle.mx_lex.specs.declared.token.LexFault.TheVariants as lexed
 use Rattle.mx_source.specs.declared.statement.Label.{Label}
 use Rattle.mx_source.specs.declared.statement.Label.TheVariants as label
 use Rattle.mx_source.specs.Labels.{LabelFits}
-use Rattle.mx_asm.specs.declared.fault.Fault.{Fault}
-use Rattle.mx_asm.specs.declared.fault.Fault.TheVariants.{BadByte, UndefinedLabel}
+use Rattle.mx_lines.specs.declared.fault.Fault.{Fault}
+use Rattle.mx_lines.specs.declared.fault.Fault.TheVariants.{BadByte, UndefinedLabel}
 use Rattle.mx_asm.specs.declared.position.Section.{Section}
 use Rattle.mx_asm.specs.declared.position.Section.TheVariants as section
 use Rattle.mx_asm.specs.declared.position.Position.{Position}
-use Rattle.mx_asm.specs.Words.{Word, Name, Colon, word_at, words_at, has_bad_byte, words_of}
-use Rattle.mx_asm.specs.Operands.{label_named, any_label}
-use Rattle.mx_asm.specs.Instructions.{Labels}
+use Rattle.mx_lines.specs.Words.{Word, Name, Colon, word_at, words_at, has_bad_byte, words_of}
+use Rattle.mx_lines.specs.Operands.{label_named, any_label}
+use Rattle.mx_lines.specs.Instructions.{Labels}
 use Rattle.mx_asm.specs.Directives.{is_dotted, value_at}
-use Rattle.mx_asm.specs.Fitting.{LabelsFit, NamedFits}
+use Rattle.mx_lines.specs.Fitting.{LabelsFit, NamedFits}
 use Rattle.mx_asm.specs.Positions.{after, behind, define, define_front, label_at, label_here, with_labels, labels_from, words_or_none, line_words, start, position_at_end}
 use Rattle.mx_asm.specs.Faults.{first_fault}
 use Rattle.mx_asm.specs.Texts.{text_fault, text_labels, text_effects, source_of}
 use Rattle.mx_asm.specs.Printable.{is_name, IsLabelName, IsWithin, IsWord, IsPrintable, ReadsBack}
-use Rattle.mx_asm.proofs.Fits.{any_fits}
+use Rattle.mx_lines.proofs.Fits.{any_fits}
 use Rattle.mx_asm.proofs.Tabled.{swapped}
 use Rattle.mx_asm.proofs.LabelBounds.{define_fits, labels_fit}
 use Rattle.mx_asm.proofs.Sourced.{faultless_source, lines_fit}

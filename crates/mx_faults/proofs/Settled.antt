@@ -6,11 +6,11 @@ use Rattle.std.proofs.lemmas.Bool.{false≢true}
 use Rattle.std.proofs.lemmas.List.{append-nil, at_drop_more, take_all}
 use Rattle.std.proofs.Math.Seq.{take-append_seam}
 use Rattle.mx_lex.specs.Tokens.{tokens_of}
-use Rattle.mx_asm.specs.declared.fault.Fault.{Fault}
-use Rattle.mx_asm.specs.declared.fault.Fault.TheVariants as f
+use Rattle.mx_lines.specs.declared.fault.Fault.{Fault}
+use Rattle.mx_lines.specs.declared.fault.Fault.TheVariants as f
 use Rattle.mx_asm.specs.declared.position.Position.{Position}
-use Rattle.mx_asm.specs.Words.{Word, texts, has_bad_byte as has_bad}
-use Rattle.mx_asm.specs.Instructions.{Labels}
+use Rattle.mx_lines.specs.Words.{Word, texts, has_bad_byte as has_bad}
+use Rattle.mx_lines.specs.Instructions.{Labels}
 use Rattle.mx_asm.specs.Positions.{front_names, has_dotted_label, after, with_labels, label_here, line_words}
 use Rattle.mx_asm.specs.Faults.{repeats, line_fault, found_or}
 use Rattle.mx_faults.specs.Forms.{form, operands, is_no_register, is_outside, is_undefined, is_wrong_kind, moves_chain}

@@ -13,17 +13,17 @@ use Rattle.mx_source.specs.declared.statement.Label.{Label}
 use Rattle.mx_source.specs.declared.statement.Label.TheVariants as label
 use Rattle.mx_source.specs.declared.statement.Statement.{Statement}
 use Rattle.mx_source.specs.declared.statement.Statement.TheVariants.{Plain, Branch, Call, CallReg, JumpReg, Halt}
-use Rattle.mx_asm.specs.declared.fault.Fault.{Fault}
-use Rattle.mx_asm.specs.declared.fault.Fault.TheVariants as f
+use Rattle.mx_lines.specs.declared.fault.Fault.{Fault}
+use Rattle.mx_lines.specs.declared.fault.Fault.TheVariants as f
 use Rattle.mx_asm.specs.declared.position.Section.{Section}
 use Rattle.mx_asm.specs.declared.position.Section.TheVariants as section
-use Rattle.mx_asm.specs.declared.mnemonic.Mnemonic.{Mnemonic}
-use Rattle.mx_asm.specs.declared.mnemonic.Mnemonic.TheVariants as m
-use Rattle.mx_asm.specs.Reading.{◌>>=◌}
-use Rattle.mx_asm.specs.Words.{Word, Name, Number, Comma, Open, Close, Hash, Colon, End}
-use Rattle.mx_asm.specs.Operands.{register, register_named, special, special_named, immediate, count, integer, in_range, label_named, any_label, code_label, code_index, data_label, data_address, offset}
-use Rattle.mx_asm.specs.Mnemonics.{mnemonic_named}
-use Rattle.mx_asm.specs.Instructions.{Labels, compute, of_one, mstart, asr, sh, addi, nop, halt, if_md, move_from, move_to, load, store, address_of, load_address, branch, swapped_branch, goto, call, call_register, jump, system, spelled_by, with_mnemonic, instruction}
+use Rattle.mx_lines.specs.declared.mnemonic.Mnemonic.{Mnemonic}
+use Rattle.mx_lines.specs.declared.mnemonic.Mnemonic.TheVariants as m
+use Rattle.mx_lines.specs.Reading.{◌>>=◌}
+use Rattle.mx_lines.specs.Words.{Word, Name, Number, Comma, Open, Close, Hash, Colon, End}
+use Rattle.mx_lines.specs.Operands.{register, register_named, special, special_named, immediate, count, integer, in_range, label_named, any_label, code_label, code_index, data_label, data_address, offset}
+use Rattle.mx_lines.specs.Mnemonics.{mnemonic_named}
+use Rattle.mx_lines.specs.Instructions.{Labels, compute, of_one, mstart, asr, sh, addi, nop, halt, if_md, move_from, move_to, load, store, address_of, load_address, branch, swapped_branch, goto, call, call_register, jump, system, spelled_by, with_mnemonic, instruction}
 use Rattle.mx_asm.specs.Directives.{in_code}
 use Rattle.mx_asm.specs.Faults.{is_data}
 use Rattle.mx_faults.specs.Forms.{Form, AnInstruction, form, operands, is_no_register, is_outside, is_undefined, is_wrong_kind, is_code_kind, is_data_kind, is_chain, moves_chain}

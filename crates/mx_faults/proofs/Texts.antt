@@ -4,9 +4,9 @@ use Rattle.std.specs.Prelude.{filter_map}
 use Rattle.std.specs.List.{range_with_len, cons_option}
 use Rattle.std.proofs.Math.Seq.{take-append_seam, get_or-append_seam}
 use Rattle.mx_lex.specs.Lines.{lines_of}
-use Rattle.mx_asm.specs.declared.fault.Fault.{Fault}
+use Rattle.mx_lines.specs.declared.fault.Fault.{Fault}
 use Rattle.mx_asm.specs.declared.position.Position.{Position}
-use Rattle.mx_asm.specs.Instructions.{Labels}
+use Rattle.mx_lines.specs.Instructions.{Labels}
 use Rattle.mx_asm.specs.Positions.{after, with_labels, line_words, start, position_at_end, labels_from}
 use Rattle.mx_asm.specs.Faults.{line_fault, first_fault, found_or}
 use Rattle.mx_asm.specs.Texts.{text_labels, text_fault}

@@ -14,14 +14,14 @@ use Rattle.mx_lex.specs.Tokens.{next_token, tokens_within, before, is_end}
 use Rattle.mx_lex.specs.declared.token.LexFault.{LexFault}
 use Rattle.mx_lex.specs.declared.token.Token.{Token}
 use Rattle.mx_source.specs.declared.statement.Label.{Label}
-use Rattle.mx_asm.specs.declared.word.Word.{Word as Lent}
-use Rattle.mx_asm.specs.declared.fault.Fault.{Fault}
-use Rattle.mx_asm.specs.declared.mnemonic.Mnemonic.{Mnemonic}
+use Rattle.mx_lines.specs.declared.word.Word.{Word as Lent}
+use Rattle.mx_lines.specs.declared.fault.Fault.{Fault}
+use Rattle.mx_lines.specs.declared.mnemonic.Mnemonic.{Mnemonic}
 use Rattle.mx_asm.specs.declared.position.Position.{Position}
-use Rattle.mx_asm.specs.Words.{Word, Name, Colon, texts}
-use Rattle.mx_asm.specs.Shapes.{word}
-use Rattle.mx_asm.specs.Instructions.{Labels}
-use Rattle.mx_asm.specs.Mnemonics.{mnemonics, spelled, mnemonic_named}
+use Rattle.mx_lines.specs.Words.{Word, Name, Colon, texts}
+use Rattle.mx_lines.specs.Shapes.{word}
+use Rattle.mx_lines.specs.Instructions.{Labels}
+use Rattle.mx_lines.specs.Mnemonics.{mnemonics, spelled, mnemonic_named}
 use Rattle.mx_asm.specs.Positions.{begins_label, first_name, front_names, statement_words, define, is_defined, is_repeated, label_here, line_words, after, with_labels, start, position_at_end, labels_from}
 use Rattle.mx_faults.specs.declared.line_fault.LineFault.{LineFault}
 use Rattle.mx_faults.specs.declared.span.Span.{Span}

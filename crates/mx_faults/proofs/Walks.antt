@@ -13,9 +13,9 @@ use Rattle.mx_asm.specs.declared.position.Section.TheVariants as section
 use Rattle.mx_asm.specs.declared.position.Position.{Position}
 use Rattle.mx_asm.specs.declared.directive.Directive.{Directive}
 use Rattle.mx_asm.specs.declared.directive.Directive.TheVariants as d
-use Rattle.mx_asm.specs.Words.{Word, Name, Colon}
-use Rattle.mx_asm.specs.Operands.{label_named}
-use Rattle.mx_asm.specs.Instructions.{Labels}
+use Rattle.mx_lines.specs.Words.{Word, Name, Colon}
+use Rattle.mx_lines.specs.Operands.{label_named}
+use Rattle.mx_lines.specs.Instructions.{Labels}
 use Rattle.mx_asm.specs.Directives.{is_dotted, directive_named}
 use Rattle.mx_asm.specs.Positions.{front_names, statement_words, directs, section_after, instruction_count, word_count, behind, after, label_at, label_here, is_defined, define, define_front, is_repeated, line_words, with_labels, labels_from, position_at_end}
 use Rattle.mx_faults.specs.Before.{statement, directed_to, sets_section, defines, before_definition, has_twice, instructions, data_words}

@@ -5,7 +5,7 @@ use Rattle.mx_asm.specs.declared.position.Section.{Section}
 use Rattle.mx_asm.specs.declared.position.Section.TheVariants as section
 use Rattle.mx_asm.specs.declared.directive.Directive.{Directive}
 use Rattle.mx_asm.specs.declared.directive.Directive.TheVariants as d
-use Rattle.mx_asm.specs.Words.{Word, Name}
+use Rattle.mx_lines.specs.Words.{Word, Name}
 use Rattle.mx_asm.specs.Directives.{is_dotted, directive_named}
 use Rattle.mx_asm.specs.Positions.{front_names, statement_words, line_words, instruction_count, word_count}
 

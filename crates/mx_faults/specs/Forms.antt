@@ -7,11 +7,11 @@ use Rattle.mx_asm.specs.declared.position.Section.{Section}
 use Rattle.mx_asm.specs.declared.position.Section.TheVariants as section
 use Rattle.mx_asm.specs.declared.directive.Directive.{Directive}
 use Rattle.mx_asm.specs.declared.directive.Directive.TheVariants as d
-use Rattle.mx_asm.specs.declared.mnemonic.Mnemonic.{Mnemonic}
-use Rattle.mx_asm.specs.declared.mnemonic.Mnemonic.TheVariants as m
-use Rattle.mx_asm.specs.Words.{Word, Name, Number, Comma, Open, Close, Hash}
-use Rattle.mx_asm.specs.Operands.{register_named, special_named, in_range}
-use Rattle.mx_asm.specs.Mnemonics.{mnemonic_named}
+use Rattle.mx_lines.specs.declared.mnemonic.Mnemonic.{Mnemonic}
+use Rattle.mx_lines.specs.declared.mnemonic.Mnemonic.TheVariants as m
+use Rattle.mx_lines.specs.Words.{Word, Name, Number, Comma, Open, Close, Hash}
+use Rattle.mx_lines.specs.Operands.{register_named, special_named, in_range}
+use Rattle.mx_lines.specs.Mnemonics.{mnemonic_named}
 use Rattle.mx_asm.specs.Directives.{is_dotted, directive_named}
 
 -- what may stand in a place behind a mnemonic or a directive

@@ -2,8 +2,8 @@
 use Rattle.std.specs.Prelude.{◌≡◌, ℕ, ◌+◌, ◌-◌, ◌<◌, true, false, List, [], ◌∷◌, length, take, get_or, filter_map, option_map, Option, Some, None}
 use Rattle.std.specs.List.{range_with_len}
 use Rattle.mx_lex.specs.Lines.{lines_of}
-use Rattle.mx_asm.specs.declared.fault.Fault.{Fault}
-use Rattle.mx_asm.specs.declared.fault.Fault.TheVariants as faults
+use Rattle.mx_lines.specs.declared.fault.Fault.{Fault}
+use Rattle.mx_lines.specs.declared.fault.Fault.TheVariants as faults
 use Rattle.mx_asm.specs.Positions.{start, position_at_end, labels_from}
 use Rattle.mx_asm.specs.Texts.{text_labels}
 use Rattle.mx_asm.specs.Faults.{line_fault}

@@ -1,16 +1,16 @@
 -- Each of the fourteen faults as a predicate of its own on a line within its text.
 use Rattle.std.specs.Prelude.{ℕ, ◌+◌, Bool, true, false, not, ◌||◌, ◌&&◌, ◌==◌, nat_lt, nat_le, List, [], ◌∷◌, ◌++◌, length, take, get_or, find, Option, Some, None, is_err, if◌then◌else◌}
 use Rattle.std.specs.List.{list_any}
-use Rattle.mx_asm.specs.declared.fault.TheConstants.{MAX_LINE_BYTES}
+use Rattle.mx_lines.specs.declared.fault.TheConstants.{MAX_LINE_BYTES}
 use Rattle.mx_isa.specs.declared.board.TheConstants.{MAX_STATEMENTS}
 use Rattle.mx_lex.specs.Bytes.{is_allowed}
 use Rattle.mx_lex.specs.Tokens.{tokens_of}
 use Rattle.mx_asm.specs.declared.position.Section.{Section}
 use Rattle.mx_asm.specs.declared.directive.Directive.{Directive}
 use Rattle.mx_asm.specs.declared.directive.Directive.TheVariants as d
-use Rattle.mx_asm.specs.declared.mnemonic.Mnemonic.TheVariants.{System}
-use Rattle.mx_asm.specs.declared.fault.Fault.{Fault}
-use Rattle.mx_asm.specs.declared.fault.Fault.TheVariants as faults
+use Rattle.mx_lines.specs.declared.mnemonic.Mnemonic.TheVariants.{System}
+use Rattle.mx_lines.specs.declared.fault.Fault.{Fault}
+use Rattle.mx_lines.specs.declared.fault.Fault.TheVariants as faults
 use Rattle.mx_asm.specs.Directives.{is_dotted}
 use Rattle.mx_asm.specs.Faults.{is_data}
 use Rattle.mx_asm.specs.Positions.{front_names, line_words, has_label}

@@ -1,7 +1,7 @@
 -- The places behind a name as the program keeps them. Only private functions cite this.
 use Rattle.std.specs.Prelude.{ℕ, List, [], ◌∷◌, map, Option, Some, None, if◌then◌else◌}
 use Rattle.std.specs.Str.{str_eq_ignore_ascii_case}
-use Rattle.mx_asm.specs.Words.{Comma, Open, Close, Hash}
+use Rattle.mx_lines.specs.Words.{Comma, Open, Close, Hash}
 use Rattle.mx_faults.specs.declared.role.Role.{Role as Kept}
 use Rattle.mx_faults.specs.declared.role.Role.TheVariants as kept
 use Rattle.mx_faults.specs.declared.role.Row.{Row}

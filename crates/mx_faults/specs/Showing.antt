@@ -6,10 +6,10 @@ use Rattle.mx_lex.specs.Tokens.{next_token, tokens_of}
 use Rattle.mx_lex.specs.declared.token.Token.{Token}
 use Rattle.mx_lex.specs.declared.token.LexFault.{LexFault}
 use Rattle.mx_lex.specs.declared.token.LexFault.TheVariants.{BadToken}
-use Rattle.mx_asm.specs.declared.fault.Fault.{Fault}
-use Rattle.mx_asm.specs.declared.fault.Fault.TheVariants as faults
+use Rattle.mx_lines.specs.declared.fault.Fault.{Fault}
+use Rattle.mx_lines.specs.declared.fault.Fault.TheVariants as faults
 use Rattle.mx_asm.specs.declared.position.Section.{Section}
-use Rattle.mx_asm.specs.Words.{Word}
+use Rattle.mx_lines.specs.Words.{Word}
 use Rattle.mx_asm.specs.Directives.{is_dotted}
 use Rattle.mx_asm.specs.Positions.{front_names, statement_words, line_words}
 use Rattle.mx_faults.specs.declared.span.Span.{Span}

@@ -1,18 +1,18 @@
 -- How the program goes over the lines of a text. Only private functions cite this.
 use Rattle.std.specs.Prelude.{◌≡◌, ℕ, ◌+◌, ◌-◌, Bool, nat_lt, List, [], ◌∷◌, take, get_or, option_map, Option, Some, None, if◌then◌else◌}
 use Rattle.std.specs.List.{cons_option}
-use Rattle.mx_asm.specs.declared.fault.TheConstants.{MAX_LINE_BYTES}
+use Rattle.mx_lines.specs.declared.fault.TheConstants.{MAX_LINE_BYTES}
 use Rattle.mx_isa.specs.declared.board.TheConstants.{MAX_STATEMENTS}
-use Rattle.mx_asm.specs.declared.fault.Fault.{Fault}
-use Rattle.mx_asm.specs.declared.fault.Fault.TheVariants as f
+use Rattle.mx_lines.specs.declared.fault.Fault.{Fault}
+use Rattle.mx_lines.specs.declared.fault.Fault.TheVariants as f
 use Rattle.mx_asm.specs.declared.position.Section.{Section}
 use Rattle.mx_asm.specs.declared.position.Position.{Position}
 use Rattle.mx_source.specs.declared.statement.Label.{Label}
 use Rattle.mx_source.specs.declared.statement.Label.TheVariants as label
 use Rattle.mx_asm.specs.declared.position.Section.TheVariants as section
-use Rattle.mx_asm.specs.Operands.{label_named}
-use Rattle.mx_asm.specs.Words.{Word, Name, Colon}
-use Rattle.mx_asm.specs.Instructions.{Labels}
+use Rattle.mx_lines.specs.Operands.{label_named}
+use Rattle.mx_lines.specs.Words.{Word, Name, Colon}
+use Rattle.mx_lines.specs.Instructions.{Labels}
 use Rattle.mx_asm.specs.Positions.{is_defined, define, label_here, start, after, with_labels, labels_from, position_at_end, line_words}
 use Rattle.mx_asm.specs.Faults.{is_full, line_fault}
 use Rattle.mx_faults.specs.declared.span.Span.{Span}

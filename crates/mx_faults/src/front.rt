@@ -1,12 +1,13 @@
 //! The labels at the front of a line.
 ghost use Rattle.std.specs.Prelude.{◌≡◌, ◌≤◌, true, length, map, OnOk, IfOk};
-ghost use Rattle.mx_asm.specs.LabelTable.{IsNear};
+ghost use Rattle.mx_lines.specs.LabelTable.{IsNear};
 ghost use Rattle.mx_asm.specs.Positions;
-ghost use Rattle.mx_asm.specs.Shapes.{word};
+ghost use Rattle.mx_lines.specs.Shapes.{word};
 ghost use Rattle.mx_faults.specs.Walking;
 ghost use Rattle.mx_faults.specs.Walking.{repeat_place};
 
-use mx_asm::{Labels, Word, begins_label, define_own, first_name};
+use mx_asm::{begins_label, define_own, first_name};
+use mx_lines::{Labels, Word};
 use mx_source::Label;
 use std::alloc::AllocError;
 

@@ -3,15 +3,13 @@ ghost use Rattle.std.specs.Prelude.{◌≡◌, ◌≤◌, [], map, length, IfOk}
 ghost use Rattle.mx_isa.specs.declared.board.TheConstants.{DATA_END};
 ghost use Rattle.mx_asm.specs.Faults;
 ghost use Rattle.mx_asm.specs.Positions;
-ghost use Rattle.mx_asm.specs.Shapes.{word};
+ghost use Rattle.mx_lines.specs.Shapes.{word};
 ghost use Rattle.mx_faults.specs.Walking;
 ghost use Rattle.mx_faults.specs.Walking.{at_front};
 
-use mx_asm::{
-    AsmError, Fault, Labels, MAX_LINE_BYTES, Position, Section, Word, define_all, read_lines,
-    stands_past,
-};
+use mx_asm::{Position, Section, define_all, read_lines, stands_past};
 use mx_isa::MAX_STATEMENTS;
+use mx_lines::{AsmError, Fault, Labels, MAX_LINE_BYTES, Word};
 use std::alloc::{AllocError, Global};
 
 /// From where to before where data words stand.

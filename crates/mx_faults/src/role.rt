@@ -1,14 +1,15 @@
 //! What may stand in the places behind a mnemonic or a directive.
 ghost use Rattle.std.specs.Prelude.{◌≡◌, map, option_map, IfOk};
-ghost use Rattle.mx_asm.specs.Shapes.{word};
-ghost use Rattle.mx_asm.specs.Mnemonics.{mnemonic_named};
+ghost use Rattle.mx_lines.specs.Shapes.{word};
+ghost use Rattle.mx_lines.specs.Mnemonics.{mnemonic_named};
 ghost use Rattle.mx_asm.specs.Directives.{directive_named};
 ghost use Rattle.mx_faults.specs.Forms;
 ghost use Rattle.mx_faults.specs.Showing;
 ghost use Rattle.mx_faults.specs.Roles.{role, row};
 ghost use Rattle.mx_faults.specs.Roles;
 
-use mx_asm::{Word, is_dotted, spells};
+use mx_asm::is_dotted;
+use mx_lines::{Word, spells};
 use std::alloc::{AllocError, Global};
 
 /// What may stand in a place.

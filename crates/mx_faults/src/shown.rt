@@ -1,10 +1,10 @@
 //! Which token of a line shows a fault of it.
 ghost use Rattle.std.specs.Prelude.{◌≡◌, ◌≤◌, map, length, is_some, IfOk};
-ghost use Rattle.mx_asm.specs.Operands.{in_range, register_named};
-ghost use Rattle.mx_asm.specs.Operands;
+ghost use Rattle.mx_lines.specs.Operands.{in_range, register_named};
+ghost use Rattle.mx_lines.specs.Operands;
 ghost use Rattle.mx_asm.specs.Positions.{line_words};
 ghost use Rattle.mx_asm.specs.Positions;
-ghost use Rattle.mx_asm.specs.Shapes.{word};
+ghost use Rattle.mx_lines.specs.Shapes.{word};
 ghost use Rattle.mx_faults.specs.Forms;
 ghost use Rattle.mx_faults.specs.Roles;
 ghost use Rattle.mx_faults.specs.Showing;
@@ -12,8 +12,9 @@ ghost use Rattle.mx_faults.specs.Walking.{kind_by};
 
 use crate::role::{Role, places};
 use crate::span::{Span, bad_byte_span, bad_token_span, token_span};
-use mx_asm::{Fault, Labels, Section, Word, is_dotted, spells, statement_words};
+use mx_asm::{Section, is_dotted, statement_words};
 use mx_isa::{MAX_DATA_WORDS, Special};
+use mx_lines::{Fault, Labels, Word, spells};
 use mx_source::Label;
 use std::alloc::{AllocError, Global};
 

@@ -6,9 +6,9 @@ ghost use Rattle.mx_io.specs.declared.limits.TheConstants.{MAX_SOURCE_BYTES};
 ghost use Rattle.mx_asm.specs.Faults;
 ghost use Rattle.mx_asm.specs.Positions;
 ghost use Rattle.mx_asm.specs.Positions.{line_words};
-ghost use Rattle.mx_asm.specs.Shapes.{word};
+ghost use Rattle.mx_lines.specs.Shapes.{word};
 ghost use Rattle.mx_asm.specs.Texts.{text_fault};
-ghost use Rattle.mx_asm.specs.Words.{texts};
+ghost use Rattle.mx_lines.specs.Words.{texts};
 ghost use Rattle.mx_faults.specs.Found.{HasSpan, faults_in, first, numbered};
 ghost use Rattle.mx_faults.specs.Showing.{span_by};
 ghost use Rattle.mx_faults.specs.Walking.{IsShown, IsShownAs, kind_by, walked, with_number, with_span};
@@ -18,8 +18,9 @@ use crate::line::{Bounds, fault_alone, place_fault, settled};
 use crate::line_fault::LineFault;
 use crate::shown::fault_span;
 use crate::span::Span;
-use mx_asm::{Fault, Labels, Position, Word, define_all, line_words, lines_of, statement_words};
+use mx_asm::{Position, define_all, line_words, statement_words};
 use mx_io::Memory;
+use mx_lines::{Fault, Labels, Word, lines_of};
 use std::alloc::{AllocError, Global};
 
 /// The fault of a line, the bytes that show it, and where the next one stands.

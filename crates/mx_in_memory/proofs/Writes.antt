@@ -11,7 +11,7 @@ use Rattle.mx_answer.specs.Files.{limit_of}
 use Rattle.mx_answer.specs.Answer.{Answer, writes, held_with}
 use Rattle.mx_answer.specs.Protocol.{Protocol, Given, TooLong, reading_of, answered, resolved}
 use Rattle.mx_asked.specs.Commands.{Command, Run, Meaning, Build, Exec, Listing, Gen, Soak, Migrate, Share, Debug, Best, Join}
-use Rattle.mx_asm.specs.declared.Fault.{Fault}
+use Rattle.mx_lines.specs.declared.Fault.{Fault}
 use Rattle.mx_asm.specs.Texts.{source_of, text_fault}
 use Rattle.mx_image.specs.declared.ImageError.{ImageError}
 use Rattle.mx_image.specs.Files.{file_refusal, file_in}

@@ -6,7 +6,7 @@ use Rattle.std.proofs.lemmas.List.{take_all, take-take, take-map, length-map, at
 use Rattle.std.proofs.lemmas.List.Elements.{All-head, All-tail, All-take}
 use Rattle.std.specs.Borrow.{Bor}
 use Rattle.std.proofs.Math.ListN.{drop_of_length-le, get_or-eq_default}
-use Rattle.mx_asm.specs.Words.{texts}
+use Rattle.mx_lines.specs.Words.{texts}
 use Rattle.mx_lex.specs.Lines.{lines_of}
 use Rattle.mx_faults.specs.declared.line_fault.LineFault.{LineFault}
 use Rattle.mx_faults.specs.Found.{HasSpan, faults_in, numbered}

@@ -1,7 +1,7 @@
 -- What `check` shows of the faulty lines of a text.
 use Rattle.std.specs.Prelude.{ℕ, ◌-◌, ◌==◌, List, [], ◌++◌, map, take, drop, get_or, Option, Some, None, if◌then◌else◌}
 use Rattle.mx_lex.specs.Lines.{lines_of}
-use Rattle.mx_asm.specs.declared.fault.Fault.{Fault}
+use Rattle.mx_lines.specs.declared.fault.Fault.{Fault}
 use Rattle.mx_faults.specs.declared.span.Span.{Span}
 use Rattle.mx_faults.specs.declared.line_fault.LineFault.{LineFault}
 use Rattle.mx_faults.specs.Found.{faults_in, text_line}

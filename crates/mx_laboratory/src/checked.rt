@@ -1,6 +1,6 @@
 //! The reply of `check`.
 ghost use Rattle.std.specs.Prelude.{◌≡◌, ◌≤◌, ◌-◌, ◌++◌, [], map, take, get_or, length, IfOk, OnOk};
-ghost use Rattle.mx_asm.specs.Words.{texts};
+ghost use Rattle.mx_lines.specs.Words.{texts};
 ghost use Rattle.mx_faults.specs.Found.{faults_in};
 ghost use Rattle.mx_laboratory.specs.Checked;
 ghost use Rattle.mx_laboratory.specs.Checked.{caret, shown_among, shown_lines, under};
@@ -11,9 +11,9 @@ use crate::sentence::sentence;
 use crate::words::source_arg;
 use clap::{ArgMatches, Command};
 use mx_answer::{FileKind, Reply, Status, read_file};
-use mx_asm::{Fault, lines_of};
 use mx_faults::{LineFault, Span, assemble_all};
 use mx_io::{Memory, Shelf};
+use mx_lines::{Fault, lines_of};
 use std::alloc::{AllocError, Global};
 
 /// How many faulty lines are shown.

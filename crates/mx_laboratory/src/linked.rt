@@ -6,8 +6,9 @@ ghost use Rattle.mx_link.specs.Linked.{IsLinked};
 ghost use Rattle.mx_meaning.specs.Boards.{board};
 
 use mx_answer::{FileKind, Reply, Status, line_reply, read_file};
-use mx_asm::{AsmError, Fault, assemble};
+use mx_asm::assemble;
 use mx_io::{Memory, Shelf};
+use mx_lines::{AsmError, Fault};
 use mx_link::{LinkError, Linked, link};
 use mx_meaning::BOARD;
 use mx_reorg::ListProposer;

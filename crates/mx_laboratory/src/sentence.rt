@@ -1,6 +1,7 @@
 //! What is wrong with a faulty line, in a sentence.
 use crate::checked::Shown;
-use mx_asm::{Fault, Word, line_words, spells, statement_words};
+use mx_asm::{line_words, statement_words};
+use mx_lines::{Fault, Word, spells};
 use std::alloc::{AllocError, Global};
 use std::str;
 

@@ -3,7 +3,7 @@ use Rattle.std.proofs.Common.{◌≡◌, ℕ, false, List, [], ◌∷◌, ◌++�
 use Rattle.std.specs.List.{IsDistinct, AllByRecursion}
 use Rattle.std.specs.Str.{bytes_eq}
 use Rattle.mx_source.specs.declared.Label.{Label}
-use Rattle.mx_asm.specs.Instructions.{Labels}
+use Rattle.mx_lines.specs.Instructions.{Labels}
 use Rattle.mx_module.specs.Joined.{AreApart}
 
 abbrev pub names : Labels → List (List ℕ)

@@ -2,9 +2,9 @@
 use Rattle.std.proofs.Common.{◌≡◌, ℕ, ◌+◌, List, [], ◌∷◌, ◌++◌, Option, Some, None, refl, ap, sym, ◌∙◌, append_assoc}
 use Rattle.mx_source.specs.declared.Statement.{Statement}
 use Rattle.mx_source.specs.declared.Value.{Value}
-use Rattle.mx_asm.specs.declared.Fault.{Fault}
-use Rattle.mx_asm.specs.declared.AsmError.{AsmError}
-use Rattle.mx_asm.specs.declared.AsmError.TheVariants as asm
+use Rattle.mx_lines.specs.declared.Fault.{Fault}
+use Rattle.mx_lines.specs.declared.AsmError.{AsmError}
+use Rattle.mx_lines.specs.declared.AsmError.TheVariants as asm
 use Rattle.mx_asm.specs.Directives.{Effect, Nothing, Instruction, Data, Input}
 use Rattle.mx_asm.specs.Effects.{first_input}
 use Rattle.mx_asm.specs.Listings.{IsRefusal}

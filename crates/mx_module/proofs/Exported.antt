@@ -5,7 +5,7 @@ use Rattle.std.specs.Str.{bytes_eq}
 use Rattle.std.proofs.lemmas.Bool.{false≢true}
 use Rattle.std.proofs.lemmas.List.{take_at}
 use Rattle.std.proofs.lemmas.Slice.Eq.{bytes_eq-Decides}
-use Rattle.mx_asm.specs.Words.{Word, Name}
+use Rattle.mx_lines.specs.Words.{Word, Name}
 use Rattle.mx_asm.specs.Directives.{is_dotted}
 use Rattle.mx_asm.specs.Positions.{begins_label, statement_words, line_words}
 use Rattle.mx_module.specs.declared.error.JoinFault.{JoinFault}
@@ -39,7 +39,8 @@ last_cond false x = refl
 
 push_line : (es : Exports) (name n : List ℕ) (number : ℕ) → is_some (export_line (es ++ (name, number) ∷ []) n) ≡ is_some (export_line es n) || bytes_eq n name
 push_line [] name n number = last_cond (bytes_eq n name) number
-push_line (e ∷ es) name n number = push_cond (bytes_eq n e.0) e.1 (export_line (es ++ (name, number) ∷ []) n) (export_line es n) (bytes_eq n name) (push_line es name n number)
+push_line (e ∷ es) name n number =
+    push_cond (bytes_eq n e.0) e.1 (export_line (es ++ (name, number) ∷ []) n) (export_line es n) (bytes_eq n name) (push_line es name n number)
 
 either_good : (Good : List ℕ → Type 0) (name n : List ℕ) (a b : Bool) → a || b ≡ true → (a ≡ true → Good n) → (b ≡ true → n ≡ name) → Good name → Good n
 either_good Good name n true b h k e g = k refl

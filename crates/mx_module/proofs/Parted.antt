@@ -1,6 +1,6 @@
 -- The links of lines, one line after the other.
 use Rattle.std.proofs.Common.{◌≡◌, ℕ, List, [], ◌++◌, Option, Some, None, refl}
-use Rattle.mx_asm.specs.Words.{Word}
+use Rattle.mx_lines.specs.Words.{Word}
 use Rattle.mx_module.specs.declared.link.LinkKind.{LinkKind}
 use Rattle.mx_module.specs.Links.{Link, with_link}
 

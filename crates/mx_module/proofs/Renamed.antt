@@ -10,9 +10,9 @@ use Rattle.std.proofs.lemmas.List.{append_cancel_right}
 use Rattle.std.proofs.lemmas.Slice.Eq.{bytes_eq-Decides}
 use Rattle.mx_source.specs.declared.Label.{Label}
 use Rattle.mx_asm.specs.declared.Position.{Position}
-use Rattle.mx_asm.specs.Words.{Word, Name, Colon}
-use Rattle.mx_asm.specs.Instructions.{Labels}
-use Rattle.mx_asm.specs.Operands.{label_named}
+use Rattle.mx_lines.specs.Words.{Word, Name, Colon}
+use Rattle.mx_lines.specs.Instructions.{Labels}
+use Rattle.mx_lines.specs.Operands.{label_named}
 use Rattle.mx_asm.specs.Directives.{is_dotted}
 use Rattle.mx_asm.specs.Positions.{define, define_front, with_labels, labels_from, label_here, after, line_words}
 use Rattle.mx_asm.proofs.Tabled.{swapped}
@@ -72,7 +72,8 @@ numbered a k = a ++ codes ".." ++ decimal k
 same_number : (a b : List ℕ) (j k : ℕ) → j < 32 → k < 32 → numbered a j ≡ numbered b k → j ≡ k
 same_number a b j k hj hk e =
     let one : (c : List ℕ) (n : ℕ) → n < 32 → tail_of (numbered c n) ≡ decimal n = λ c n h.
-    ap tail_of (append_assoc c (46 ∷ 46 ∷ []) (decimal n) ∙ sym (append_assoc c (46 ∷ []) (46 ∷ decimal n))) ∙ tail_is (c ++ 46 ∷ []) (decimal n) (number_plain n h) in
+    ap tail_of (append_assoc c (46 ∷ 46 ∷ []) (decimal n) ∙ sym (append_assoc c (46 ∷ []) (46 ∷ decimal n)))
+    ∙ tail_is (c ++ 46 ∷ []) (decimal n) (number_plain n h) in
     decimal_injective j k (omega arith) (omega arith) (sym (one a j hj) ∙ ap tail_of e ∙ one b k hk)
 
 dots_in : (a ds : List ℕ) → has_two_dots (a ++ 46 ∷ 46 ∷ ds) ≡ true
@@ -160,7 +161,8 @@ names_apart all before (m ∷ rest) e le own h =
     let two = refusal_none (fault_in_links all (length before) m m.links) (fault_in_modules all (length before + 1) rest) h in
     let more : length (before ++ m ∷ []) ≡ length before + 1 = length-append before (m ∷ []) in
     let later : AreApart (labels_in (length before + 1) rest) = subst (λ k. AreApart (labels_in k rest)) more
-    (names_apart all (before ++ m ∷ []) rest (e ∙ sym (append_assoc before (m ∷ []) rest)) (omega (arith, more)) own.1 (subst (λ k. fault_in_modules all k rest ≡ None) (sym more) two.1)) in
+    (names_apart all (before ++ m ∷ []) rest (e ∙ sym (append_assoc before (m ∷ []) rest)) (omega (arith, more)) own.1
+    (subst (λ k. fault_in_modules all k rest ≡ None) (sym more) two.1)) in
     both_apart (map (renamed m (length before)) m.labels) (labels_in (length before + 1) rest)
     (own_apart m (length before) own.0.plain m.labels own.0.labels) later
     (all_away m (length before) own.0 m.labels (length before + 1) rest (omega arith) (omega arith) own.1 (unshared_behind all m before rest e two.1))
@@ -198,7 +200,8 @@ front_apart es l _ h = h
 
 pub labels_apart : (lines : List (List ℕ)) (p : Position) (es : Labels) → AreApart es → AreApart (labels_from p es lines)
 labels_apart [] p es h = h
-labels_apart (line ∷ lines) p es h = labels_apart lines (after p (line_words line)) (with_labels p es (line_words line)) (front_apart es (label_here p) (line_words line) h)
+labels_apart (line ∷ lines) p es h =
+    labels_apart lines (after p (line_words line)) (with_labels p es (line_words line)) (front_apart es (label_here p) (line_words line) h)
 
 pub none_apart : AreApart []
 unfolding IsDistinct

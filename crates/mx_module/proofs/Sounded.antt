@@ -13,17 +13,17 @@ use Rattle.mx_source.specs.declared.Value.TheVariants.{Int, Code}
 use Rattle.mx_source.specs.Labels.{LabelFits, IsPlace, names_index, is_labelled}
 use Rattle.mx_source.specs.Statements.{StatementFits, ValueFits}
 use Rattle.mx_source.specs.SourceValue.{IsSource}
-use Rattle.mx_asm.specs.declared.Fault.{Fault}
+use Rattle.mx_lines.specs.declared.Fault.{Fault}
 use Rattle.mx_asm.specs.declared.Position.{Position}
-use Rattle.mx_asm.specs.Instructions.{Labels}
-use Rattle.mx_asm.specs.Fitting.{LabelsFit}
-use Rattle.mx_asm.specs.Operands.{label_named}
+use Rattle.mx_lines.specs.Instructions.{Labels}
+use Rattle.mx_lines.specs.Fitting.{LabelsFit}
+use Rattle.mx_lines.specs.Operands.{label_named}
 use Rattle.mx_asm.specs.Positions.{labels_from, position_at_end}
 use Rattle.mx_asm.specs.Faults.{first_fault}
 use Rattle.mx_asm.specs.Texts.{effects_from, statements_in, lines_in, values_in}
 use Rattle.mx_asm.proofs.LabelBounds.{define_fits, labels_fit}
 use Rattle.mx_asm.proofs.Sourced.{LinesFit, lines_fit}
-use Rattle.mx_asm.proofs.Tables.{lookup_All}
+use Rattle.mx_lines.proofs.Tables.{lookup_All}
 use Rattle.mx_module.specs.declared.link.LinkKind.{LinkKind}
 use Rattle.mx_module.specs.declared.link.LinkKind.TheVariants.{Import, Export}
 use Rattle.mx_module.specs.Links.{Link}
@@ -152,7 +152,8 @@ fits all (m ∷ rest) place h none =
     let f = first m rest h in
     let grows : (position_at_end m.start m.lines).index ≤ r.last.index = (let k = r.count in omega (arith, k)) in
     let defined : LabelsFit (position_at_end m.start m.lines).index m.labels = subst (LabelsFit (position_at_end m.start m.lines).index) (sym f.labels)
-    (labels_fit seen 65536 m.lines m.start [] 1 (omega arith) (first_low m rest h) clear (All-nil (λ (p : List ℕ × Label). LabelFits (position_at_end m.start m.lines).index p.1))) in
+    (labels_fit seen 65536 m.lines m.start [] 1 (omega arith) (first_low m rest h) clear
+    (All-nil (λ (p : List ℕ × Label). LabelFits (position_at_end m.start m.lines).index p.1))) in
     record {
       last = r.last;
       count = (let a = ap length (statements_both own later) ∙ length-append (statements_in own) (statements_in later) in
@@ -171,11 +172,13 @@ fits all (m ∷ rest) place h none =
       );
       statements = λ Place covers. subst (All (StatementFits Place)) (sym (statements_both own later))
           (All-append (StatementFits Place) (statements_in own) (statements_in later)
-          (all_more (StatementFits (IsPlace seen r.last.index)) (StatementFits Place) (statement_more (IsPlace seen r.last.index) Place covers.1) (statements_in own) (l.statements_fit r.last.index covers.0))
+          (all_more (StatementFits (IsPlace seen r.last.index)) (StatementFits Place) (statement_more (IsPlace seen r.last.index) Place covers.1)
+          (statements_in own) (l.statements_fit r.last.index covers.0))
           (r.statements Place covers.2));
       values = λ Place covers. subst (All (ValueFits Place)) (sym (values_both own later))
           (All-append (ValueFits Place) (values_in own) (values_in later)
-          (all_more (ValueFits (IsPlace seen r.last.index)) (ValueFits Place) (value_more (IsPlace seen r.last.index) Place covers.1) (values_in own) (l.values_fit r.last.index covers.0))
+          (all_more (ValueFits (IsPlace seen r.last.index)) (ValueFits Place) (value_more (IsPlace seen r.last.index) Place covers.1) (values_in own)
+          (l.values_fit r.last.index covers.0))
           (r.values Place covers.2));
     }
 
@@ -221,7 +224,9 @@ all_labelled J k (m ∷ ms) up = (
 
 any_labelled : (J es : Labels) (i : ℕ) → All (λ (p : List ℕ × Label). IsLabelled J p.1) es → is_labelled es i ≡ true → is_labelled J i ≡ true
 any_labelled J [] i h is = absurd (false≢true is)
-any_labelled J (e ∷ es) i h is = by (names_index i e.1) is (All-head (λ (p : List ℕ × Label). IsLabelled J p.1) e es h i) (any_labelled J es i (All-tail (λ (p : List ℕ × Label). IsLabelled J p.1) e es h))
+any_labelled J (e ∷ es) i h is =
+    by (names_index i e.1) is (All-head (λ (p : List ℕ × Label). IsLabelled J p.1) e es h i)
+    (any_labelled J es i (All-tail (λ (p : List ℕ × Label). IsLabelled J p.1) e es h))
   where
     by : (b : Bool) → b || is_labelled es i ≡ true → (b ≡ true → is_labelled J i ≡ true) → (is_labelled es i ≡ true → is_labelled J i ≡ true)
         → is_labelled J i ≡ true
@@ -234,7 +239,11 @@ covered : (J : Labels) (count : ℕ) (all : List ModuleValue) (place : ℕ) (res
 covered J count all place [] fit named own names = tt
 covered J count all place (m ∷ rest) fit named own names = (
   imports_have (LabelFits count) all place fit m.links m.labels own.0,
-  (λ i p. record { within = p.within; labelled = any_labelled J (seen_in all place m) i (imports_have (IsLabelled J) all place named m.links m.labels names.0) p.labelled }),
+  (λ i p. record {
+    within = p.within;
+    labelled =
+        any_labelled J (seen_in all place m) i (imports_have (IsLabelled J) all place named m.links m.labels names.0) p.labelled;
+  }),
   covered J count all (place + 1) rest fit named own.1 names.1,
 )
 
@@ -247,7 +256,8 @@ renamed_fit count m k (e ∷ es) h =
 program_labels : (count k : ℕ) (ms : List ModuleValue) → AllLabels (LabelFits count) ms → LabelsFit count (labels_in k ms)
 program_labels count k [] h = All-nil (λ (p : List ℕ × Label). LabelFits count p.1)
 program_labels count k (m ∷ ms) h =
-    All-append (λ (p : List ℕ × Label). LabelFits count p.1) (map (renamed m k) m.labels) (labels_in (k + 1) ms) (renamed_fit count m k m.labels h.0) (program_labels count (k + 1) ms h.1)
+    All-append (λ (p : List ℕ × Label). LabelFits count p.1) (map (renamed m k) m.labels) (labels_in (k + 1) ms) (renamed_fit count m k m.labels h.0)
+    (program_labels count (k + 1) ms h.1)
 
 pub program_sound : (ms : List ModuleValue) → IsProgram ms → fault_in_lines ms 0 ms ≡ None → IsSource (program ms)
 program_sound ms h none =
@@ -261,6 +271,7 @@ program_sound ms h none =
       few_words = (let a = r.words in let b = r.within in omega (arith, a, b));
       a_line_each = r.each;
       labels_fit = subst (λ n. LabelsFit n J) (sym count) (program_labels r.last.index 0 ms r.labels);
-      statements_fit = subst (λ n. All (StatementFits (IsPlace J n)) (statements_in (effects_in ms 0 ms))) (sym count) (r.statements (IsPlace J r.last.index) covers);
+      statements_fit = subst (λ n. All (StatementFits (IsPlace J n)) (statements_in (effects_in ms 0 ms))) (sym count)
+          (r.statements (IsPlace J r.last.index) covers);
       words_fit = subst (λ n. All (ValueFits (IsPlace J n)) (values_in (effects_in ms 0 ms))) (sym count) (r.values (IsPlace J r.last.index) covers);
     }

@@ -3,7 +3,7 @@ use Rattle.std.proofs.Common.{◌≡◌, ℕ, List, None, Option, sym, ap, ◌�
 use Rattle.mx_source.specs.SourceValue.{SourceValue, IsSource}
 use Rattle.mx_source.specs.SourceValue.{source_of as listed}
 use Rattle.mx_asm.specs.declared.Listing.{Listing}
-use Rattle.mx_asm.specs.Instructions.{Labels}
+use Rattle.mx_lines.specs.Instructions.{Labels}
 use Rattle.mx_asm.specs.Texts.{statements_in, lines_in, values_in, input_in}
 use Rattle.mx_asm.proofs.Whole.{made}
 use Rattle.mx_module.specs.Modules.{ModuleValue}
@@ -12,7 +12,14 @@ use Rattle.mx_module.specs.Joined.{AreApart, JoinsModules, fault_in_lines, effec
 use Rattle.mx_module.specs.ModuleView.{IsListingOfAll}
 
 without_input : (s : SourceValue) → IsSource s → IsSource (record s { input = None })
-without_input s h = record { few_statements = h.few_statements; few_words = h.few_words; a_line_each = h.a_line_each; labels_fit = h.labels_fit; statements_fit = h.statements_fit; words_fit = h.words_fit }
+without_input s h = record {
+  few_statements = h.few_statements;
+  few_words = h.few_words;
+  a_line_each = h.a_line_each;
+  labels_fit = h.labels_fit;
+  statements_fit = h.statements_fit;
+  words_fit = h.words_fit;
+}
 
 module _ (ms : List ModuleValue) (l : Listing) (named : Labels) (h : IsListingOfAll ms l) (same : named ≡ labels_in 0 ms) where
   whole : made l.statements.items l.lines.items l.user_data.items named l.input ≡ program ms

@@ -5,10 +5,10 @@ use Rattle.std.specs.List.{IsDistinct}
 use Rattle.std.specs.Str.{bytes_eq}
 use Rattle.mx_source.specs.declared.Label.{Label}
 use Rattle.mx_source.specs.SourceValue.{SourceValue}
-use Rattle.mx_asm.specs.declared.Fault.{Fault}
-use Rattle.mx_asm.specs.Instructions.{Labels}
+use Rattle.mx_lines.specs.declared.Fault.{Fault}
+use Rattle.mx_lines.specs.Instructions.{Labels}
 use Rattle.mx_asm.specs.Directives.{Effect}
-use Rattle.mx_asm.specs.Operands.{label_named}
+use Rattle.mx_lines.specs.Operands.{label_named}
 use Rattle.mx_asm.specs.Positions.{define}
 use Rattle.mx_asm.specs.Faults.{first_fault}
 use Rattle.mx_asm.specs.Texts.{effects_from, statements_in, lines_in, values_in, input_in}

@@ -3,15 +3,15 @@ use Rattle.std.specs.Prelude.{◌≡◌, ◌≤◌, ◌+◌, ℕ, [], List, All,
 use Rattle.std.specs.Global.{Global}
 use Rattle.std.specs.Option.{option_map}
 use Rattle.std.specs.Borrow.{Bor}
-use Rattle.mx_asm.specs.declared.AsmError.{AsmError}
-use Rattle.mx_asm.specs.declared.AsmError.TheVariants as asm
+use Rattle.mx_lines.specs.declared.AsmError.{AsmError}
+use Rattle.mx_lines.specs.declared.AsmError.TheVariants as asm
 use Rattle.mx_asm.specs.declared.Listing.{Listing}
 use Rattle.mx_asm.specs.Texts.{statements_in, lines_in, values_in, input_in}
 use Rattle.mx_module.specs.declared.error.JoinFault.TheVariants.{Line}
 use Rattle.mx_module.specs.declared.error.JoinError.{JoinError}
 use Rattle.mx_module.specs.declared.error.JoinError.TheVariants as errors
 use Rattle.mx_module.specs.Joined.{fault_in_lines, effects_in}
-use Rattle.mx_asm.specs.Words.{texts}
+use Rattle.mx_lines.specs.Words.{texts}
 use Rattle.mx_asm.specs.Faults.{first_repeat}
 use Rattle.mx_module.specs.declared.link.Link.{Link as Kept}
 use Rattle.mx_module.specs.declared.module.Module.TheInside.{Inside}

@@ -3,7 +3,7 @@ use Rattle.std.specs.Prelude.{ℕ, List, [], ◌∷◌, map}
 use Rattle.mx_lex.specs.Lines.{lines_of}
 use Rattle.mx_asm.specs.declared.Position.{Position}
 use Rattle.mx_asm.specs.declared.Section.TheVariants as section
-use Rattle.mx_asm.specs.Instructions.{Labels}
+use Rattle.mx_lines.specs.Instructions.{Labels}
 use Rattle.mx_asm.specs.Positions.{labels_from, position_at_end, start}
 use Rattle.mx_module.specs.Links.{Link, link_lines_from, plain_line}
 use Rattle.mx_module.specs.ExportTable.{Exports, exports_from}

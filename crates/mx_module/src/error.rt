@@ -1,7 +1,7 @@
 //! Why texts are not joined.
 
-use mx_asm::Fault;
 use mx_io::Memory;
+use mx_lines::Fault;
 use std::alloc::AllocError;
 use thiserror::Error;
 

@@ -1,6 +1,6 @@
 //! What the names of a module stand for.
 ghost use Rattle.std.specs.Prelude.{◌≡◌, ◌<◌, length, IfOk, IfSome, OnOk};
-ghost use Rattle.mx_asm.specs.LabelTable.{IsNear};
+ghost use Rattle.mx_lines.specs.LabelTable.{IsNear};
 ghost use Rattle.mx_asm.specs.Positions;
 ghost use Rattle.mx_module.specs.Joined;
 ghost use Rattle.mx_module.specs.LinkFaults;
@@ -9,7 +9,8 @@ ghost use Rattle.mx_module.specs.ModuleView.{link_value};
 use crate::link::{Link, LinkKind};
 use crate::link_faults::exporter;
 use crate::module::Module;
-use mx_asm::{Labels, is_dotted};
+use mx_asm::is_dotted;
+use mx_lines::Labels;
 use mx_source::Label;
 use std::alloc::{AllocError, Global};
 

@@ -1,11 +1,12 @@
 //! Import and export lines.
 ghost use Rattle.std.specs.Prelude.{◌≡◌, map};
 ghost use Rattle.std.specs.Option.{option_map};
-ghost use Rattle.mx_asm.specs.Shapes.{word};
+ghost use Rattle.mx_lines.specs.Shapes.{word};
 ghost use Rattle.mx_module.specs.Links;
 ghost use Rattle.mx_module.specs.ModuleView.{link_value};
 
-use mx_asm::{Word, begins_label, is_dotted, spells, statement_words};
+use mx_asm::{begins_label, is_dotted, statement_words};
+use mx_lines::{Word, spells};
 
 /// Whether a line imports or exports.
 #[derive(Clone, Copy)]

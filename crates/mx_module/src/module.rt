@@ -6,9 +6,8 @@ ghost use Rattle.mx_module.specs.ModuleView.{text_bytes, IsShort};
 use crate::exports::Exports;
 use crate::link::Link;
 use crate::plain::{Parts, parts_of};
-use mx_asm::{
-    AsmError, Definitions, Labels, Listing, Position, Section, define_all, lines_of, read_lines,
-};
+use mx_asm::{Definitions, Listing, Position, Section, define_all, read_lines};
+use mx_lines::{AsmError, Labels, lines_of};
 use mx_source::{Label, LabelTable};
 use std::alloc::{AllocError, Global};
 use std::marker::Model;
@@ -38,9 +37,9 @@ impl<'a> Model for Module<'a> {
 impl<'a> Module<'a> {
     ghost use Rattle.std.specs.Prelude.{◌≡◌, ◌+◌, ◌≤◌, ◌<◌, ◌^◌, [], length, map, replicate, IfOk, IfErr, IfSome, Option};
     ghost use Rattle.mx_asm.specs.Faults.{first_fault};
-    ghost use Rattle.mx_asm.specs.LabelTable.{IsNear};
+    ghost use Rattle.mx_lines.specs.LabelTable.{IsNear};
     ghost use Rattle.mx_asm.specs.Listings.{IsListingOf, IsRefusal};
-    ghost use Rattle.mx_asm.specs.Operands.{label_named};
+    ghost use Rattle.mx_lines.specs.Operands.{label_named};
     ghost use Rattle.mx_module.specs.ExportTable.{export_line};
     ghost use Rattle.mx_module.specs.Modules.{module_at, behind_text, exports_of};
     ghost use Rattle.mx_module.specs.ModuleView.{link_value};

@@ -1,14 +1,15 @@
 //! The lines of a module, as the assembler reads them, and its imports and exports.
 ghost use Rattle.std.specs.Prelude.{◌≡◌, ◌≤◌, ◌++◌, [], length, map, replicate, IfOk, OnOk};
 ghost use Rattle.mx_asm.specs.Positions.{line_words};
-ghost use Rattle.mx_asm.specs.Shapes.{word};
-ghost use Rattle.mx_asm.specs.Words.{texts};
+ghost use Rattle.mx_lines.specs.Shapes.{word};
+ghost use Rattle.mx_lines.specs.Words.{texts};
 ghost use Rattle.mx_module.specs.Links;
 ghost use Rattle.mx_module.specs.Links.{link_lines_from, link_here};
 ghost use Rattle.mx_module.specs.ModuleView.{link_value};
 
 use crate::link::{Link, is_bare_link, kind_of, linked};
-use mx_asm::{Word, line_words, statement_words};
+use mx_asm::{line_words, statement_words};
+use mx_lines::Word;
 use std::alloc::{AllocError, Global};
 
 /// The lines of a module with its imports and exports blank, and these.

@@ -9,7 +9,8 @@ use crate::imports::seen_in;
 use crate::link_faults::fault_in_modules;
 use crate::module::Module;
 use crate::names::names_of;
-use mx_asm::{AsmError, Listing, listed_source};
+use mx_asm::{Listing, listed_source};
+use mx_lines::AsmError;
 use mx_source::Source;
 use std::alloc::{AllocError, Global};
 

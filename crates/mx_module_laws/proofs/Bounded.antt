@@ -7,9 +7,9 @@ use Rattle.mx_source.specs.declared.Label.TheVariants as label
 use Rattle.mx_asm.specs.declared.Position.{Position}
 use Rattle.mx_asm.specs.declared.Section.{Section}
 use Rattle.mx_asm.specs.declared.Section.TheVariants as section
-use Rattle.mx_asm.specs.Words.{Word, Name, Colon}
-use Rattle.mx_asm.specs.Instructions.{Labels}
-use Rattle.mx_asm.specs.LabelTable.{IsNear}
+use Rattle.mx_lines.specs.Words.{Word, Name, Colon}
+use Rattle.mx_lines.specs.Instructions.{Labels}
+use Rattle.mx_lines.specs.LabelTable.{IsNear}
 use Rattle.mx_asm.specs.Positions.{define, define_front, with_labels, labels_from, label_at, label_here, after, behind, line_words, position_at_end}
 use Rattle.mx_asm.specs.Faults.{first_fault}
 use Rattle.mx_asm.specs.Texts.{effects_from, values_in}

@@ -10,9 +10,9 @@ use Rattle.mx_lex.specs.Bytes.{begins_name, continues_name}
 use Rattle.mx_lex.specs.Lines.{lines_of}
 use Rattle.mx_source.specs.declared.Label.{Label}
 use Rattle.mx_asm.specs.declared.Position.{Position}
-use Rattle.mx_asm.specs.Words.{Word, Name, Colon}
-use Rattle.mx_asm.specs.Operands.{label_named}
-use Rattle.mx_asm.specs.Instructions.{Labels}
+use Rattle.mx_lines.specs.Words.{Word, Name, Colon}
+use Rattle.mx_lines.specs.Operands.{label_named}
+use Rattle.mx_lines.specs.Instructions.{Labels}
 use Rattle.mx_asm.specs.Directives.{is_dotted}
 use Rattle.mx_asm.specs.Positions.{define, define_front, with_labels, labels_from, label_here, after, line_words}
 use Rattle.mx_asm.specs.Printable.{is_name}

@@ -12,8 +12,8 @@ use Rattle.mx_lex.specs.declared.Kind.TheVariants as kinds
 use Rattle.mx_lex.specs.declared.Token.{Token}
 use Rattle.mx_lex.specs.declared.LexFault.{LexFault}
 use Rattle.mx_lex.specs.Tokens.{token, mark_of, mark_or_number_at, number_token, number_at, magnitude_at, ends_at, token_from, next_token, is_end, before, and_then, tokens_within, tokens_of}
-use Rattle.mx_asm.specs.declared.Fault.{Fault}
-use Rattle.mx_asm.specs.Words.{Word, Name, Number, Comma, Open, Close, Hash, Colon, End, word_at, has_bad_byte, words_at, words_of}
+use Rattle.mx_lines.specs.declared.Fault.{Fault}
+use Rattle.mx_lines.specs.Words.{Word, Name, Number, Comma, Open, Close, Hash, Colon, End, word_at, has_bad_byte, words_at, words_of}
 use Rattle.mx_asm.specs.Positions.{words_or_none, line_words}
 use Rattle.mx_asm.specs.Printable.{is_name}
 use Rattle.mx_asm.proofs.Spelled.{or_none}

@@ -9,23 +9,23 @@ use Rattle.mx_source.specs.declared.Label.TheVariants as label
 use Rattle.mx_source.specs.declared.Statement.{Statement}
 use Rattle.mx_source.specs.declared.Value.{Value}
 use Rattle.mx_source.specs.declared.Value.TheVariants.{Int, Code}
-use Rattle.mx_asm.specs.declared.Fault.{Fault}
-use Rattle.mx_asm.specs.declared.Fault.TheVariants.{UndefinedLabel}
+use Rattle.mx_lines.specs.declared.Fault.{Fault}
+use Rattle.mx_lines.specs.declared.Fault.TheVariants.{UndefinedLabel}
 use Rattle.mx_asm.specs.declared.Section.{Section}
 use Rattle.mx_asm.specs.declared.Section.TheVariants as section
 use Rattle.mx_asm.specs.declared.Position.{Position}
 use Rattle.mx_asm.specs.declared.directive.Directive.{Directive}
 use Rattle.mx_asm.specs.declared.directive.Directive.TheVariants as d
-use Rattle.mx_asm.specs.Reading.{◌>>=◌}
-use Rattle.mx_asm.specs.Words.{Word, Name, Number, Comma, Open, Close, Hash, Colon, End}
-use Rattle.mx_asm.specs.Operands.{label_named, any_label, data_word, in_range}
-use Rattle.mx_asm.specs.Instructions.{Labels, instruction}
+use Rattle.mx_lines.specs.Reading.{◌>>=◌}
+use Rattle.mx_lines.specs.Words.{Word, Name, Number, Comma, Open, Close, Hash, Colon, End}
+use Rattle.mx_lines.specs.Operands.{label_named, any_label, data_word, in_range}
+use Rattle.mx_lines.specs.Instructions.{Labels, instruction}
 use Rattle.mx_asm.specs.Directives.{Effect, Nothing, Instruction, Data, Input, is_dotted, directive_named, cons, value_words, numbers_fit, value_at, value_of, values_of, word_values, space_count, in_data, in_code, without_operands, directed, effect_of}
 use Rattle.mx_asm.specs.Positions.{line_words, statement_words, after}
-use Rattle.mx_asm.specs.LabelTable.{IsNear}
+use Rattle.mx_lines.specs.LabelTable.{IsNear}
 use Rattle.mx_asm.specs.Printable.{IsWord}
 use Rattle.mx_asm.specs.Texts.{or_nothing, effects_from, onto_values, values_in}
-use Rattle.mx_asm.proofs.Tables.{lookup_All}
+use Rattle.mx_lines.proofs.Tables.{lookup_All}
 use Rattle.mx_module.specs.Modules.{ModuleValue}
 use Rattle.mx_module.specs.Joined.{seen_in, effects_in}
 use Rattle.mx_module.proofs.Appended.{values_both}

@@ -1,5 +1,6 @@
 //! What texts assemble to, and their faults.
-use mx_asm::{AsmError, Fault, assemble, assemble_at};
+use mx_asm::{assemble, assemble_at};
+use mx_lines::{AsmError, Fault};
 use mx_source::{Source, Value};
 use std::test::Fail;
 

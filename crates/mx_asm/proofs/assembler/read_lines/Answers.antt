@@ -1,6 +1,6 @@
 use Rattle.std.proofs.Common.{◌≡◌, ℕ, ◌+◌, List, [], Bor, length, drop, get_or, refl, ap, sym, ◌∙◌, subst, arith}
 use Rattle.std.proofs.lemmas.List.{drop_all}
-use Rattle.mx_asm.specs.Words.{texts, words_of}
+use Rattle.mx_lines.specs.Words.{texts, words_of}
 use Rattle.mx_asm.specs.Effects.{effect, IsFaultOf}
 use Rattle.mx_asm.specs.Faults.{words_fault, is_line, first_fault}
 use Rattle.mx_asm.specs.Listings.{IsRefusal}

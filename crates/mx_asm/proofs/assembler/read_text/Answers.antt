@@ -1,11 +1,11 @@
 use Rattle.std.proofs.Common.{◌≡◌, ◌+◌, [], length, refl, ap, sym, ◌∙◌, subst, arith}
 use Rattle.std.proofs.lemmas.Bool.Decides.{nat_tests}
 use Rattle.mx_lex.specs.Lines.{lines_of}
-use Rattle.mx_asm.specs.Words.{words_of}
+use Rattle.mx_lines.specs.Words.{words_of}
 use Rattle.mx_asm.specs.Effects.{effect, IsFaultOf}
 use Rattle.mx_asm.specs.Faults.{words_fault, is_line, first_fault}
 use Rattle.mx_asm.specs.Listings.{IsRefusal}
-use Rattle.mx_asm.proofs.Pieces.{no_lines}
+use Rattle.mx_lines.proofs.Pieces.{no_lines}
 use Rattle.mx_asm.proofs.Listed.{Listed, listed_step, listed_all, refused, refusal_is}
 use Rattle.mx_asm.proofs.assembler.read_text.Goals as goal
 

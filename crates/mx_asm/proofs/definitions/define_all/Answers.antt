@@ -1,8 +1,8 @@
 use Rattle.std.proofs.Common.{◌≡◌, ◌+◌, ◌≤◌, [], ◌∷◌, List, ℕ, Bor, drop, get_or, map, ap, sym, ◌∙◌, subst, arith}
 use Rattle.std.proofs.lemmas.List.{drop_all}
 use Rattle.mx_asm.specs.declared.position.Position.{Position}
-use Rattle.mx_asm.specs.Words.{texts}
-use Rattle.mx_asm.specs.Shapes.{word}
+use Rattle.mx_lines.specs.Words.{texts}
+use Rattle.mx_lines.specs.Shapes.{word}
 use Rattle.mx_asm.specs.Positions.{line_words}
 use Rattle.mx_asm.specs.Defined.{Defines}
 use Rattle.mx_asm.proofs.Listed.{texts_step}

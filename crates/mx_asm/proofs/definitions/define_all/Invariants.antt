@@ -1,5 +1,5 @@
 use Rattle.std.proofs.Common.{◌≡◌, ◌≤◌, ◌+◌, drop}
-use Rattle.mx_asm.specs.Words.{texts}
+use Rattle.mx_lines.specs.Words.{texts}
 use Rattle.mx_asm.proofs.Defining.{IsDefined}
 use Rattle.mx_asm.proofs.definitions.define_all.Given as goal
 

@@ -2,7 +2,7 @@ use Rattle.std.proofs.Common.{◌≡◌, ◌+◌, ◌≤◌, ◌∷◌, length, 
 use Rattle.std.proofs.lemmas.Bool.Decides.{nat_tests}
 use Rattle.mx_lex.specs.Lines.{lines_of}
 use Rattle.mx_asm.specs.declared.position.Position.{Position}
-use Rattle.mx_asm.specs.Shapes.{word}
+use Rattle.mx_lines.specs.Shapes.{word}
 use Rattle.mx_asm.specs.Positions.{line_words}
 use Rattle.mx_asm.specs.Defined.{Defines}
 use Rattle.mx_asm.proofs.Defining.{IsDefined, begun, defined, none_left, all_labels, first_again}

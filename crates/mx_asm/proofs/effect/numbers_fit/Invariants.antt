@@ -1,6 +1,6 @@
 use Rattle.std.proofs.Common.{◌≡◌, map, drop}
 use Rattle.mx_asm.specs.Directives.{numbers_fit}
-use Rattle.mx_asm.specs.Shapes.{word}
+use Rattle.mx_lines.specs.Shapes.{word}
 use Rattle.mx_asm.proofs.effect.numbers_fit.Given as goal
 
 -- the numbers so far fit

@@ -1,6 +1,6 @@
 use Rattle.std.proofs.Common.{◌≡◌, map, length}
 use Rattle.mx_asm.specs.Directives.{value_words}
-use Rattle.mx_asm.specs.Shapes.{word}
+use Rattle.mx_lines.specs.Shapes.{word}
 use Rattle.mx_asm.proofs.Fronts.{prepend}
 use Rattle.mx_asm.proofs.effect.value_words.Given as goal
 

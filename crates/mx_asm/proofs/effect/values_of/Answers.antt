@@ -3,7 +3,7 @@ use Rattle.std.proofs.lemmas.List.Elements.{All-push, All-same}
 use Rattle.mx_source.specs.Labels.{IsPlace}
 use Rattle.mx_source.specs.Statements.{ValueFits}
 use Rattle.mx_asm.specs.Directives.{values_of}
-use Rattle.mx_asm.specs.Shapes.{word}
+use Rattle.mx_lines.specs.Shapes.{word}
 use Rattle.mx_asm.proofs.Fronts.{prepend, values_step}
 use Rattle.mx_asm.proofs.effect.values_of.Goals as goal
 

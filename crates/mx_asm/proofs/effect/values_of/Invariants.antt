@@ -3,8 +3,8 @@ use Rattle.std.specs.Prelude.{All}
 use Rattle.mx_source.specs.Labels.{IsPlace}
 use Rattle.mx_source.specs.Statements.{ValueFits}
 use Rattle.mx_asm.specs.Directives.{values_of}
-use Rattle.mx_asm.specs.Fitting.{LabelsFit}
-use Rattle.mx_asm.specs.Shapes.{word}
+use Rattle.mx_lines.specs.Fitting.{LabelsFit}
+use Rattle.mx_lines.specs.Shapes.{word}
 use Rattle.mx_asm.proofs.Fronts.{prepend}
 use Rattle.mx_asm.proofs.effect.values_of.Given as goal
 

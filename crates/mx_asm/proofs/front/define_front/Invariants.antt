@@ -1,6 +1,6 @@
 use Rattle.std.proofs.Common.{◌≡◌, ◌||◌, map, length}
 use Rattle.mx_asm.specs.Positions.{define_front, is_repeated}
-use Rattle.mx_asm.specs.Shapes.{word}
+use Rattle.mx_lines.specs.Shapes.{word}
 use Rattle.mx_asm.proofs.front.define_front.Given as goal
 
 abbrev pub invariant-loop-rest : goal.invariant-loop-rest

@@ -1,6 +1,6 @@
 use Rattle.std.proofs.Common.{◌≡◌, map, length}
 use Rattle.mx_asm.specs.Positions.{statement_words}
-use Rattle.mx_asm.specs.Shapes.{word}
+use Rattle.mx_lines.specs.Shapes.{word}
 use Rattle.mx_asm.proofs.front.statement_words.Given as goal
 
 abbrev pub invariant-loop-rest : goal.invariant-loop-rest

@@ -1,6 +1,6 @@
 use Rattle.std.proofs.Common.{◌≡◌, ℕ, IfOk, None, Option, subst, sym, ap, ◌∙◌}
 use Rattle.mx_source.specs.SourceValue.{SourceValue}
-use Rattle.mx_asm.specs.declared.Fault.{Fault}
+use Rattle.mx_lines.specs.declared.Fault.{Fault}
 use Rattle.mx_asm.specs.Texts.{source_of, text_fault}
 use Rattle.mx_io.specs.Shelves.{Told, Counts}
 use Rattle.mx_answer.specs.Protocol.{Protocol, Performed}

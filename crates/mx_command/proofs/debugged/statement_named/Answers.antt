@@ -1,7 +1,7 @@
 use Rattle.std.proofs.Common.{◌≡◌, ◌≤◌, true, length, refl, sym, ap, ◌∙◌, arith, Some, None}
 use Rattle.std.specs.Prelude.{option_and_then}
 use Rattle.std.specs.Str.{bytes_eq}
-use Rattle.mx_asm.specs.Operands.{label_named}
+use Rattle.mx_lines.specs.Operands.{label_named}
 use Rattle.mx_command.specs.Protocols.{statement_at}
 use Rattle.mx_command.proofs.Labels.{named_here, named_later, none_named}
 use Rattle.mx_command.proofs.debugged.statement_named.Goals as goal

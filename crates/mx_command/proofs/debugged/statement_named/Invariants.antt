@@ -1,5 +1,5 @@
 use Rattle.std.proofs.Common.{◌≡◌, drop}
-use Rattle.mx_asm.specs.Operands.{label_named}
+use Rattle.mx_lines.specs.Operands.{label_named}
 use Rattle.mx_command.proofs.debugged.statement_named.Given as goal
 
 -- the label is among those that are left

@@ -1,5 +1,5 @@
 use Rattle.std.proofs.Common.{◌≡◌, ℕ, List, IfOk, IfErr, Some, None, subst, sym, ap, ◌∙◌}
-use Rattle.mx_asm.specs.declared.Fault.{Fault}
+use Rattle.mx_lines.specs.declared.Fault.{Fault}
 use Rattle.mx_asm.specs.Texts.{source_of, text_fault}
 use Rattle.mx_source.specs.SourceValue.{SourceValue}
 use Rattle.mx_blocks.specs.Leaders.{AreBlocks}

@@ -1,7 +1,7 @@
 use Rattle.std.proofs.Common.{◌+◌, false, map, take, drop, length, ◌-◌, refl, ap, sym, ◌∙◌, arith}
 use Rattle.std.specs.Option.{option_or}
 use Rattle.std.proofs.lemmas.List.{take_rest, length-drop}
-use Rattle.mx_asm.specs.Shapes.{word}
+use Rattle.mx_lines.specs.Shapes.{word}
 use Rattle.mx_asm.proofs.Labelled.{front_step}
 use Rattle.mx_faults.specs.Walking.{repeat_place}
 use Rattle.mx_faults.proofs.Tokens.{place_step}

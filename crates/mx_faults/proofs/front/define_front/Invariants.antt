@@ -1,7 +1,7 @@
 use Rattle.std.proofs.Common.{◌≡◌, ◌≤◌, ◌+◌, map, length}
 use Rattle.std.specs.Option.{option_or}
 use Rattle.mx_asm.specs.Positions.{define_front}
-use Rattle.mx_asm.specs.Shapes.{word}
+use Rattle.mx_lines.specs.Shapes.{word}
 use Rattle.mx_faults.specs.Walking.{repeat_place}
 use Rattle.mx_faults.proofs.front.define_front.Given as goal
 

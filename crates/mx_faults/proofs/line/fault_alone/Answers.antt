@@ -1,6 +1,6 @@
 use Rattle.std.proofs.Common.{◌≡◌, ℕ, [], Option, Some, None, ap, sym}
 use Rattle.std.specs.Option.{option_map}
-use Rattle.mx_asm.specs.declared.fault.Fault.{Fault}
+use Rattle.mx_lines.specs.declared.fault.Fault.{Fault}
 use Rattle.mx_asm.specs.Faults.{found_or, line_fault}
 use Rattle.mx_faults.specs.Walking.{at_front}
 use Rattle.mx_faults.proofs.line.fault_alone.Goals as goal

@@ -1,5 +1,5 @@
 use Rattle.std.proofs.Common.{refl}
-use Rattle.mx_asm.specs.Mnemonics.{mnemonics}
+use Rattle.mx_lines.specs.Mnemonics.{mnemonics}
 use Rattle.mx_faults.proofs.Tokens.{shapes_of}
 use Rattle.mx_faults.proofs.role.shape_of.Goals as goal
 

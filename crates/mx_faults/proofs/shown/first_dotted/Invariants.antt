@@ -1,5 +1,5 @@
 use Rattle.std.proofs.Common.{◌≡◌, ◌≤◌, ◌+◌, map, length}
-use Rattle.mx_asm.specs.Shapes.{word}
+use Rattle.mx_lines.specs.Shapes.{word}
 use Rattle.mx_asm.specs.Positions.{front_names}
 use Rattle.mx_faults.specs.Showing.{first_dotted}
 use Rattle.mx_faults.proofs.shown.first_dotted.Given as goal

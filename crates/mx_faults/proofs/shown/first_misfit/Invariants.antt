@@ -1,5 +1,5 @@
 use Rattle.std.proofs.Common.{◌≡◌, ◌+◌, map, length}
-use Rattle.mx_asm.specs.Shapes.{word}
+use Rattle.mx_lines.specs.Shapes.{word}
 use Rattle.mx_faults.specs.Roles.{role}
 use Rattle.mx_faults.specs.Showing.{first_misfit}
 use Rattle.mx_faults.proofs.shown.first_misfit.Given as goal

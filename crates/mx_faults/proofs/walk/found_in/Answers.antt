@@ -1,7 +1,7 @@
 use Rattle.std.proofs.Common.{◌≡◌, [], map, take, IfOk, ap, ◌∙◌, subst, arith}
 use Rattle.mx_lex.specs.Lines.{lines_of}
 use Rattle.mx_asm.specs.Positions.{start, labels_from}
-use Rattle.mx_asm.specs.Words.{texts}
+use Rattle.mx_lines.specs.Words.{texts}
 use Rattle.mx_faults.specs.Found.{HasSpan, numbered}
 use Rattle.mx_faults.proofs.Texts.{found_is}
 use Rattle.mx_faults.proofs.Tokens.{spans_are}

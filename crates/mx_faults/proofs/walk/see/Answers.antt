@@ -1,5 +1,5 @@
 use Rattle.std.proofs.Common.{◌≡◌, IfSome, map, length, ap, sym, ◌∙◌, subst}
-use Rattle.mx_asm.specs.Shapes.{word}
+use Rattle.mx_lines.specs.Shapes.{word}
 use Rattle.mx_asm.specs.Positions.{behind, statement_words, label_here, define_front}
 use Rattle.mx_faults.specs.Walking.{place_fault}
 use Rattle.mx_faults.specs.Showing.{span_by}

@@ -1,6 +1,6 @@
 use Rattle.std.proofs.Common.{ℕ, ◌+◌, ◌++◌, [], List, Bor, drop, get_or, map, ap, sym, ◌∙◌, arith}
 use Rattle.std.specs.List.{cons_option}
-use Rattle.mx_asm.specs.Words.{texts}
+use Rattle.mx_lines.specs.Words.{texts}
 use Rattle.mx_asm.specs.Faults.{line_fault}
 use Rattle.mx_asm.specs.Positions.{line_words, after}
 use Rattle.mx_faults.specs.Found.{numbered}

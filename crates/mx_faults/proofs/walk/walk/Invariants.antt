@@ -1,6 +1,6 @@
 use Rattle.std.proofs.Common.{◌≡◌, ◌≤◌, ◌+◌, ◌++◌, [], take, drop, map, length}
 use Rattle.std.specs.Prelude.{All}
-use Rattle.mx_asm.specs.Words.{texts}
+use Rattle.mx_lines.specs.Words.{texts}
 use Rattle.mx_asm.specs.Positions.{start, position_at_end, labels_from}
 use Rattle.mx_faults.specs.Found.{numbered}
 use Rattle.mx_faults.specs.Walking.{IsShown, walked}

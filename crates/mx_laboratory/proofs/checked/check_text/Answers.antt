@@ -1,6 +1,6 @@
 use Rattle.std.specs.Prelude.{map, take}
 use Rattle.std.proofs.Common.{ap, ◌∙◌}
-use Rattle.mx_asm.specs.Words.{texts}
+use Rattle.mx_lines.specs.Words.{texts}
 use Rattle.mx_laboratory.specs.Checked.{as_shown}
 use Rattle.mx_laboratory.proofs.Marks.{shown_are}
 use Rattle.mx_laboratory.proofs.checked.check_text.Goals as goal

@@ -1,5 +1,5 @@
 use Rattle.std.proofs.Common.{◌≡◌, ◌++◌, map, drop}
-use Rattle.mx_asm.specs.Words.{texts}
+use Rattle.mx_lines.specs.Words.{texts}
 use Rattle.mx_laboratory.specs.Checked.{as_shown, shown_among}
 use Rattle.mx_laboratory.proofs.checked.shown_of.Given as goal
 

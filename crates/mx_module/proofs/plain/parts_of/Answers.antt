@@ -1,7 +1,7 @@
 use Rattle.std.proofs.Common.{◌≡◌, ◌+◌, ◌++◌, ◌∷◌, [], List, ℕ, Bor, map, drop, get_or, sym, ap, ◌∙◌, append_assoc, arith}
 use Rattle.std.proofs.lemmas.List.{at_drop_more, map-append}
-use Rattle.mx_asm.specs.Shapes.{word}
-use Rattle.mx_asm.specs.Words.{texts}
+use Rattle.mx_lines.specs.Shapes.{word}
+use Rattle.mx_lines.specs.Words.{texts}
 use Rattle.mx_asm.specs.Positions.{line_words, statement_words}
 use Rattle.mx_module.specs.Links.{link_lines_from, plain_line, kind_of, with_link}
 use Rattle.mx_module.specs.ModuleView.{link_value}
@@ -32,7 +32,8 @@ loop-line-preserved c =
           ∙ c.loop-line.invariant.lines;
       links =
           ap (λ ls. ls ++ link_lines_from (c.loop-line.number + 1) later) c.in_ok-add_link.ensures
-          ∙ ap (λ ws. (map link_value c.loop-line.links.items ++ with_link c.loop-line.number (kind_of (statement_words ws)) ws []) ++ link_lines_from (c.loop-line.number + 1) later) kept
+          ∙ ap (λ ws. (map link_value c.loop-line.links.items ++ with_link c.loop-line.number (kind_of (statement_words ws)) ws [])
+          ++ link_lines_from (c.loop-line.number + 1) later) kept
           ∙ append_assoc (map link_value c.loop-line.links.items) _ (link_lines_from (c.loop-line.number + 1) later)
           ∙ ap (λ ls. map link_value c.loop-line.links.items ++ ls) (link_before c.loop-line.number _ _ (link_lines_from (c.loop-line.number + 1) later))
           ∙ sym (at_drop_more (λ ls. map link_value c.loop-line.links.items ++ link_lines_from c.loop-line.number (texts ls)) lines i past (omega arith))

@@ -1,5 +1,5 @@
 use Rattle.std.proofs.Common.{◌≡◌, ◌+◌, ◌++◌, map, drop}
-use Rattle.mx_asm.specs.Words.{texts}
+use Rattle.mx_lines.specs.Words.{texts}
 use Rattle.mx_module.specs.Links.{link_lines_from, plain_line}
 use Rattle.mx_module.specs.ModuleView.{link_value}
 use Rattle.mx_module.proofs.plain.parts_of.Given as goal

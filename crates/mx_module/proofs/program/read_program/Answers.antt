@@ -41,7 +41,8 @@ loop-module-preserved c =
     let e : drop i ms ≡ m ∷ rest = at_drop_more (λ xs. xs) ms i m (omega arith) ∙ ap (λ x. x ∷ rest) (sym c.module-item.is) in
     let here = subst Chained e c.loop-module.invariant.chained in
     let seen = seen_in ms place m in
-    let h : IsListingOf seen 65536 m.start m.lines c.in-Ok.more = subst (λ k. IsListingOf k 65536 m.start m.lines c.in-Ok.more) c.in_ok-seen.ensures c.in-Ok.ensures.read in
+    let h : IsListingOf seen 65536 m.start m.lines c.in-Ok.more =
+    subst (λ k. IsListingOf k 65536 m.start m.lines c.in-Ok.more) c.in_ok-seen.ensures c.in-Ok.ensures.read in
     let own = effects_from seen m.start 1 m.lines in
     let later = effects_in ms (place + 1) rest in
     let was = c.loop-module.listing in

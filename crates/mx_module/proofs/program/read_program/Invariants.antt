@@ -11,7 +11,8 @@ invariant-loop-module l = record {
   place : l.place ≡ l.module-index;
   chained : Chained (drop l.module-index l.modules);
   fault : fault_in_lines l.modules l.place (drop l.module-index l.modules) ≡ fault_in_lines l.modules 0 l.modules;
-  statements : l.listing.statements.items ++ statements_in (effects_in l.modules l.place (drop l.module-index l.modules)) ≡ statements_in (effects_in l.modules 0 l.modules);
+  statements : l.listing.statements.items
+      ++ statements_in (effects_in l.modules l.place (drop l.module-index l.modules)) ≡ statements_in (effects_in l.modules 0 l.modules);
   lines : l.listing.lines.items ++ lines_in (effects_in l.modules l.place (drop l.module-index l.modules)) ≡ lines_in (effects_in l.modules 0 l.modules);
   values : l.listing.user_data.items ++ values_in (effects_in l.modules l.place (drop l.module-index l.modules)) ≡ values_in (effects_in l.modules 0 l.modules);
   input : first_input l.listing.input (input_in (effects_in l.modules l.place (drop l.module-index l.modules))) ≡ input_in (effects_in l.modules 0 l.modules);

@@ -17,8 +17,12 @@ pub names_of-requires : goal.names_of-requires
 names_of-requires c = many c.args.modules.now c.requires
 
 pub listed_source-requires : goal.listed_source-requires
-listed_source-requires c = sound_lists c.args.modules.now c.in_ok-listing.listing c.in_ok-named.named c.in_ok-listing.ensures.read c.in_ok-named.ensures (program_sound c.args.modules.now c.requires c.in_ok-listing.ensures.read.faultless)
+listed_source-requires c =
+    sound_lists c.args.modules.now c.in_ok-listing.listing c.in_ok-named.named c.in_ok-listing.ensures.read c.in_ok-named.ensures
+    (program_sound c.args.modules.now c.requires c.in_ok-listing.ensures.read.faultless)
 
 pub returns-clause-source : goal.returns-clause-source
-returns-clause-source c = joins_lists c.args.modules.now c.in_ok-listing.listing c.in_ok-named.named c.listed_source.result c.in_ok-listing.ensures.read c.in_ok-named.ensures
-    (sym c.fault_in_modules.ensures ∙ c.in_default.is) (program_apart c.args.modules.now c.requires (sym c.fault_in_modules.ensures ∙ c.in_default.is)) c.listed_source.ensures
+returns-clause-source c =
+    joins_lists c.args.modules.now c.in_ok-listing.listing c.in_ok-named.named c.listed_source.result c.in_ok-listing.ensures.read c.in_ok-named.ensures
+    (sym c.fault_in_modules.ensures ∙ c.in_default.is)
+    (program_apart c.args.modules.now c.requires (sym c.fault_in_modules.ensures ∙ c.in_default.is)) c.listed_source.ensures

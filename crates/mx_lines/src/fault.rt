@@ -1,0 +1,138 @@
+//! The faults of a text.
+
+use mx_io::Memory;
+use std::alloc::{AllocError, AllocFailed};
+use thiserror::Error;
+
+/// How many bytes a line has at most.
+pub const MAX_LINE_BYTES: usize = 255;
+
+/// What is wrong with a line. A line has the first of these that holds of it.
+#[derive(Clone, Copy, Debug, PartialEq, Eq, Error)]
+pub enum Fault {
+    /// A byte outside the comment is neither a tab nor 32 to 126.
+    #[error("F1 BadByte")]
+    BadByte,
+    /// The line does not split into tokens.
+    #[error("F2 BadToken")]
+    BadToken,
+    /// The statement begins with a name that is no mnemonic.
+    #[error("F3 UnknownMnemonic")]
+    UnknownMnemonic,
+    /// The statement does not begin with a name, or its operands do not have the shape of its mnemonic.
+    #[error("F4 BadOperands")]
+    BadOperands,
+    /// A name in the place of a register or a special word is none.
+    #[error("F5 BadRegister")]
+    BadRegister,
+    /// A number is outside the range of its place.
+    #[error("F6 NumberOutOfRange")]
+    NumberOutOfRange,
+    /// A label is defined earlier.
+    #[error("F7 DuplicateLabel")]
+    DuplicateLabel,
+    /// A label is defined nowhere.
+    #[error("F8 UndefinedLabel")]
+    UndefinedLabel,
+    /// A code label in the place of a data label, or a data label in that of a code label.
+    #[error("F9 WrongLabelKind")]
+    WrongLabelKind,
+    /// An instruction of the system.
+    #[error("F10 SystemInstruction")]
+    SystemInstruction,
+    /// An unknown directive, one of another shape, or a statement in the wrong section.
+    #[error("F11 BadDirective")]
+    BadDirective,
+    /// There are more than 20,000 instructions.
+    #[error("F12 TooManyInstructions")]
+    TooManyInstructions,
+    /// There is no room for the data.
+    #[error("F13 DataFull")]
+    DataFull,
+    /// The line has more than 255 bytes.
+    #[error("F14 LineTooLong")]
+    LineTooLong,
+}
+
+/// Why a text is not assembled.
+#[derive(Debug, Drop, Error)]
+pub enum AsmError {
+    /// The first faulty line, counted from 1, and its first fault.
+    #[error("line {line}: {fault}")]
+    Refused { line: u32, fault: Fault },
+    #[error("out of memory")]
+    Memory,
+}
+
+/// Why a line is not read.
+#[derive(Debug, Drop)]
+pub enum LineError {
+    Fault(Fault),
+    Memory,
+}
+
+impl From<Fault> for LineError {
+    ghost use Rattle.std.specs.Prelude.{◌≡◌};
+    ghost use Rattle.mx_lines.specs.declared.fault.LineError.TheVariants as errors;
+
+    ghost from_gives = { λ fault e. e ≡ errors.Fault fault };
+
+    fn from(fault: Fault) -> LineError {
+        LineError::Fault(fault)
+    }
+}
+
+impl From<AllocError> for LineError {
+    ghost use Rattle.std.specs.Prelude.{◌≡◌};
+    ghost use Rattle.mx_lines.specs.declared.fault.LineError.TheVariants as errors;
+
+    ghost from_gives = { λ _ e. e ≡ errors.Memory };
+
+    fn from(_: AllocError) -> LineError {
+        LineError::Memory
+    }
+}
+
+impl<T: Drop> From<AllocFailed<T>> for LineError {
+    ghost use Rattle.std.specs.Prelude.{◌≡◌};
+    ghost use Rattle.mx_lines.specs.declared.fault.LineError.TheVariants as errors;
+
+    ghost from_gives = { λ _ e. e ≡ errors.Memory };
+
+    fn from(_: AllocFailed<T>) -> LineError {
+        LineError::Memory
+    }
+}
+
+impl From<Memory> for LineError {
+    ghost use Rattle.std.specs.Prelude.{◌≡◌};
+    ghost use Rattle.mx_lines.specs.declared.fault.LineError.TheVariants as errors;
+
+    ghost from_gives = { λ _ e. e ≡ errors.Memory };
+
+    fn from(_: Memory) -> LineError {
+        LineError::Memory
+    }
+}
+
+impl From<AllocError> for AsmError {
+    ghost use Rattle.std.specs.Prelude.{◌≡◌};
+    ghost use Rattle.mx_lines.specs.declared.fault.AsmError.TheVariants as errors;
+
+    ghost from_gives = { λ _ e. e ≡ errors.Memory };
+
+    fn from(_: AllocError) -> AsmError {
+        AsmError::Memory
+    }
+}
+
+impl From<Memory> for AsmError {
+    ghost use Rattle.std.specs.Prelude.{◌≡◌};
+    ghost use Rattle.mx_lines.specs.declared.fault.AsmError.TheVariants as errors;
+
+    ghost from_gives = { λ _ e. e ≡ errors.Memory };
+
+    fn from(_: Memory) -> AsmError {
+        AsmError::Memory
+    }
+}

@@ -1,0 +1,22 @@
+//! The words of a line, the labels of a text, and the instruction that words are.
+#![tactic(auto)]
+
+mod fault;
+mod index;
+mod instructions;
+mod labels;
+mod lines;
+mod mnemonic;
+mod operands;
+mod resolve;
+mod shapes;
+mod word;
+
+pub use fault::{AsmError, Fault, LineError, MAX_LINE_BYTES};
+pub use instructions::instruction;
+pub use labels::Labels;
+pub use lines::{lines_of, split_line};
+pub use mnemonic::spells;
+pub use operands::data_word;
+pub use resolve::any_label;
+pub use word::{Word, read_words};
