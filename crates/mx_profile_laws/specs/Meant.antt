@@ -1,5 +1,5 @@
 -- What the profile of a source's run counts of a statement, told by the source's meaning.
-use Rattle.std.specs.Prelude.{◌≡◌, ℕ, ◌+◌, ◌<◌, ◌≤◌, ◌^◌, true, List, length}
+use Rattle.std.specs.Prelude.{◌≡◌, ℕ, ◌+◌, ◌<◌, ◌≤◌, ◌^◌, true, cond, eqb, List, length, slice_index}
 use Rattle.mx_source.specs.SourceValue.{SourceValue}
 use Rattle.mx_source.specs.Meaning.{HaltsIn}
 use Rattle.mx_squash.specs.Copies.{Site}
@@ -12,7 +12,8 @@ use Rattle.mx_count_laws.specs.Counts.{visits}
 use Rattle.mx_end_to_end.specs.EndToEnd.{source_program, IsUnstuck}
 use Rattle.mx_profile.specs.declared.lines.LineCost.{LineCost}
 use Rattle.mx_profile.specs.declared.tally.Profile.{Profile}
-use Rattle.mx_profile.specs.Lines.{executed_of, CountsStatements}
+use Rattle.mx_profile.specs.Charges.{sum_below}
+use Rattle.mx_profile.specs.Lines.{saturated, executed_of, CountsStatements, CountsLines}
 use Rattle.mx_profile.specs.Tallies.{IsProfile}
 
 -- a source that is linked at the board's place, with these bytes as its input
@@ -38,3 +39,18 @@ ProfileIsMeant =
     → CountsStatements (length source.statements) (origins_of from_target sites) profile.tally costs
     → profile.halted ≡ true
     → ProfiledAsMeant source sites bytes budget costs
+
+-- how often the meaning is at the statements of line n in its first steps
+abbrev pub meant_on : SourceValue → List Site → List ℕ → ℕ → ℕ → ℕ
+meant_on source sites bytes steps n =
+    sum_below (λ k. cond (eqb (slice_index source.lines k) n) (visits (linking_of source sites bytes) k steps) 0) (length source.statements)
+
+-- So do the costs of lines: each line was executed as often as the meaning was at its statements together.
+abbrev pub LinesAreMeant : Type 0
+LinesAreMeant =
+    (source : SourceValue) (sites : List Site) (bytes : List ℕ) (budget : ℕ) (costs sums : List LineCost)
+    → (meant : ProfiledAsMeant source sites bytes budget costs)
+    → length costs ≡ length source.statements
+    → CountsLines source.lines costs sums
+    → (n : ℕ) → n < length sums
+    → executed_of sums n ≡ saturated (meant_on source sites bytes meant.statements n)

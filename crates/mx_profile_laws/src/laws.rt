@@ -1,6 +1,6 @@
 //! Laws of the charges to clean code.
 ghost use Rattle.mx_profile_laws.specs.Laws.{ExecutedIsDelay};
-ghost use Rattle.mx_profile_laws.specs.Meant.{ProfileIsMeant};
+ghost use Rattle.mx_profile_laws.specs.Meant.{ProfileIsMeant, LinesAreMeant};
 
 /// Whatever interrupts come, a run of clean code executes each word as often as the machine with delay slots does in as many
 /// steps as words passed.
@@ -12,4 +12,10 @@ pub fn executed_is_delay()
 /// meaning was at it, whatever interrupts came. `profile` gives such a profile, and `line_costs` such costs.
 pub fn profile_is_meant()
     ensures { ProfileIsMeant }
+{}
+
+/// Each line of the source was then executed as often as the meaning was at its statements together. `costs_by_line` gives such
+/// costs of lines.
+pub fn lines_are_meant()
+    ensures { LinesAreMeant }
 {}

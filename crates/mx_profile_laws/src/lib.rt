@@ -3,4 +3,4 @@
 
 mod laws;
 
-pub use laws::{executed_is_delay, profile_is_meant};
+pub use laws::{executed_is_delay, lines_are_meant, profile_is_meant};
