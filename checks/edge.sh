@@ -1,7 +1,7 @@
 #!/bin/bash
 # What no proof can reach: the built program at the edge of the system. It needs a built program,
-# as ./mx leaves it, and tries missing, endless, long and broken files, a full device and a closed
-# pipe as standard output, and a name that is not text.
+# as ./mx leaves it, and tries missing, endless, long and broken files, a full device, a closed pipe
+# and a file that takes a part as standard output, and a name that is not text.
 top=$(CDPATH= cd -- "$(dirname -- "$0")/.." && pwd) || exit 1
 program=$top/crates/mx_run/out/mx_run
 cases=$top/crates/mx_command_cases/data
@@ -55,6 +55,21 @@ expect 'an endless file' 4 'read fault: source too long'
 status=$?
 : >out
 expect 'a full device' 5 ''
+
+# A file that may have 1,024 bytes at most takes those, and refuses the rest.
+"$program" gen 1 200 >whole 2>err
+(
+    trap '' XFSZ
+    ulimit -f 1
+    exec "$program" gen 1 200 >out 2>err
+)
+status=$?
+if [ "$status" -eq 5 ] && [ "$(wc -c <out)" -eq 1024 ] && head -c 1024 whole | cmp -s - out; then
+    echo 'ok: a file that takes a part'
+else
+    echo "FAILED: a file that takes a part: status $status, $(wc -c <out) bytes"
+    failures=$((failures + 1))
+fi
 
 "$program" run "$(printf 'a\377b')" >out 2>err
 status=$?
