@@ -2,7 +2,7 @@
 """What has to be read to believe the headline: every file of specs/ with a definition that `Headline.antt` leads to.
 
 It follows the definitions by their names, and compares the lines of each file, without its imports, with the tables of
-README.md. The assembler, the coder and the instructions (mx_lex, mx_asm, mx_code, mx_isa) are left aside.
+README.md. The assembler, the coder and the instructions (ASIDE) are left aside.
 """
 import pathlib
 import re
@@ -10,7 +10,7 @@ import sys
 
 ROOT = pathlib.Path(__file__).resolve().parent.parent
 FIRST = ("mx_command", "Headline")
-ASIDE = {"mx_lex", "mx_asm", "mx_code", "mx_isa"}
+ASIDE = {"mx_lex", "mx_lines", "mx_asm", "mx_code", "mx_isa"}
 IMPORT = re.compile(r"use Rattle\.(\w+)\.specs\.(\w+)\.\{(.*)\}$")
 RECORD = re.compile(r"^ *(?:pub )?(?:record|data) (\S+).* where$")
 DEFINED = re.compile(r"^(?:  (?=abbrev))?(?:(?:abbrev|unfoldable|pub) )*([^\s:(){}]+) : ")
