@@ -1,3 +1,4 @@
 mod Makes
 mod Decides
+mod Shows
 mod Stands

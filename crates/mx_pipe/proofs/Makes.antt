@@ -1,5 +1,7 @@
 -- What the stages make of an instruction is what the definition does.
-use Rattle.std.proofs.Common.{◌≡◌, ℕ, Bool, true, false, cond, ◌&&◌, ◌||◌, true≢false, Option, Some, None, refl, sym, ap, ◌∙◌}
+use Rattle.std.proofs.Common.{◌≡◌, ℕ, Bool, true, false, cond, eqb, ◌&&◌, Option, Some, None, refl, sym, ap, ◌∙◌, arith}
+use Rattle.std.specs.Prelude.{slice_index}
+use Rattle.std.proofs.lemmas.Bool.Decides.{nat_tests}
 use Rattle.mx_isa.specs.declared.inst.Special.TheVariants.{Md, Pc1, Pc2, Pc3}
 use Rattle.mx_isa.specs.declared.inst.Op.{Op}
 use Rattle.mx_isa.specs.declared.inst.Op.TheVariants.{Add, Sub, Subnc, And, Or, Xor, Bic, Not, Rotlb, Mstart, Mstep, Dstep, Asr, Sh}
@@ -7,8 +9,8 @@ use Rattle.mx_isa.specs.declared.inst.Inst.{Inst}
 use Rattle.mx_isa.specs.declared.inst.Inst.TheVariants.{Load, Store, Branch, Compute, Addi, MoveFrom, MoveTo, Jspci, Jpc, Jpcrs, Halt}
 use Rattle.mx_isa.specs.Arithmetic.{md_after}
 use Rattle.mx_isa.specs.Words.{Words, reg, write}
-use Rattle.mx_isa.specs.Effect.{Found, Change, op_uses_md, decides, or_kept}
-use Rattle.mx_isa.specs.Views.{sources, dest, is_halt}
+use Rattle.mx_isa.specs.Effect.{Found, Change, op_uses_md, or_kept}
+use Rattle.mx_isa.specs.Views.{sources, dest, is_load, is_halt}
 use Rattle.mx_code.specs.Delay.{Code}
 use Rattle.mx_pcchain.specs.declared.chain.Chain.{Chain}
 use Rattle.mx_pcchain.specs.declared.psw.Mode.{Mode}
@@ -16,12 +18,14 @@ use Rattle.mx_pcchain.specs.declared.psw.Psw.{Psw}
 use Rattle.mx_pcchain.specs.Fetch.{Fetch}
 use Rattle.mx_pcchain.specs.Chain.{pop}
 use Rattle.mx_pcchain.specs.Modes.{psw_restored}
-use Rattle.mx_turn.specs.Stages.{squash, live, address_of}
-use Rattle.mx_turn.specs.System.{system_change, moved, slot_of, seen, pops, restores, number_of}
-use Rattle.mx_turn.specs.Cycle.{Machine, decision}
+use Rattle.mx_turn.specs.Stages.{squash}
+use Rattle.mx_turn.specs.System.{system_change, moved, slot_of, no_slot, seen, pops, restores, number_of}
+use Rattle.mx_turn.specs.Cycle.{Machine}
+use Rattle.mx_pipe.specs.declared.memory.Reached.{Reached}
+use Rattle.mx_pipe.specs.declared.pipe.Pipe.{Pipe}
 use Rattle.mx_pipe.specs.Latched.{Latched, does, squashed_if}
-use Rattle.mx_pipe.specs.Made.{allowed, md_behind, reached, takes_byte, sends, chain_kept}
-use Rattle.mx_pipe.specs.Kept.{IsFetched, IsRead, IsMade}
+use Rattle.mx_pipe.specs.Made.{passed, allowed, md_behind, reached, takes_byte, sends, chain_kept}
+use Rattle.mx_pipe.specs.Kept.{IsRead, Commits, Tells}
 
 -- an instruction at an address, in a mode, with these saved fetches, registers and MD, and what loads find
 module _ (user : Bool) (c : Chain) (at : ℕ) (r : Words) (md : ℕ) (find : ℕ → Found) where
@@ -175,49 +179,6 @@ halt_is true (MoveFrom d Pc3) = refl
 halt_is false (MoveFrom d s) = refl
 halt_is user _ = refl
 
-pub pops_is : (user : Bool) (i : Inst) → pops (allowed user i) ≡ pops i
-pops_is true (MoveFrom d Md) = refl
-pops_is true (MoveFrom d Pc1) = refl
-pops_is true (MoveFrom d Pc2) = refl
-pops_is true (MoveFrom d Pc3) = refl
-pops_is false (MoveFrom d s) = refl
-pops_is user _ = refl
-
-pub restores_is : (user : Bool) (i : Inst) → restores (allowed user i) ≡ restores i
-restores_is true (MoveFrom d Md) = refl
-restores_is true (MoveFrom d Pc1) = refl
-restores_is true (MoveFrom d Pc2) = refl
-restores_is true (MoveFrom d Pc3) = refl
-restores_is false (MoveFrom d s) = refl
-restores_is user _ = refl
-
-pub decides_is : (user : Bool) (i : Inst) (at : ℕ) (r : Words) → decides (allowed user i) at r ≡ decides i at r
-decides_is true (MoveFrom d Md) at r = refl
-decides_is true (MoveFrom d Pc1) at r = refl
-decides_is true (MoveFrom d Pc2) at r = refl
-decides_is true (MoveFrom d Pc3) at r = refl
-decides_is false (MoveFrom d s) at r = refl
-decides_is user _ at r = refl
-
-pub sources_is : (user : Bool) (i : Inst) → sources (allowed user i) ≡ sources i
-sources_is true (MoveFrom d Md) = refl
-sources_is true (MoveFrom d Pc1) = refl
-sources_is true (MoveFrom d Pc2) = refl
-sources_is true (MoveFrom d Pc3) = refl
-sources_is false (MoveFrom d s) = refl
-sources_is user _ = refl
-
--- the number of an instruction that user code may not do is that of the no-op
-pub number_is : (user : Bool) (c : Chain) (i : Inst) (at : ℕ) (r : Words) (md : ℕ)
-    → number_of user c (allowed user i) at (reg r (sources (allowed user i)).0) (reg r (sources (allowed user i)).1) md
-    ≡ number_of user c i at (reg r (sources i).0) (reg r (sources i).1) md
-number_is true c (MoveFrom d Md) at r md = refl
-number_is true c (MoveFrom d Pc1) at r md = refl
-number_is true c (MoveFrom d Pc2) at r md = refl
-number_is true c (MoveFrom d Pc3) at r md = refl
-number_is false c (MoveFrom d s) at r md = refl
-number_is user c _ at r md = refl
-
 -- what the word in ALU decides leaves what it makes
 pub allowed_kept : (i : Inst) (b : Bool) (p : Psw) → allowed (cond (restores i && b) (psw_restored p) p).current.user i ≡ allowed p.current.user i
 allowed_kept Jpcrs b p = refl
@@ -240,11 +201,10 @@ number_kept Jpcrs d b p c at x y md = refl
 number_kept Halt d b p c at x y md = refl
 
 -- a latch that is squashed
-pub cut_fetched : (code : Code) (b : Bool) (l : Latched) (stage : Option Fetch) → IsFetched code l stage → IsFetched code (squashed_if b l) (squash b stage)
-cut_fetched code true l None h = record { word = ap (squash true) h.word; inst = refl }
-cut_fetched code true l (Some f) h = record { word = ap (squash true) h.word; inst = refl }
-cut_fetched code false l None h = h
-cut_fetched code false l (Some f) h = h
+pub cut_word : (b : Bool) (l : Latched) (stage : Option Fetch) → l.word ≡ stage → (squashed_if b l).word ≡ squash b stage
+cut_word true l stage h = ap (squash true) h
+cut_word false l None h = h
+cut_word false l (Some f) h = h
 
 pub cut_read : (code : Code) (b : Bool) (l : Latched) (stage : Option Fetch) (regs : Words) → IsRead code l stage regs
     → IsRead code (squashed_if b l) (squash b stage) regs
@@ -253,32 +213,15 @@ cut_read code true l (Some f) regs h = record { word = ap (squash true) h.word; 
 cut_read code false l None regs h = h
 cut_read code false l (Some f) regs h = h
 
--- what a latch that holds what the word in ALU makes says of what that word decides
-module _ (code : Code) (l : Latched) (m : Machine) (h : IsMade code l m) where
-  abbrev pub sees : Words
-  sees = seen m.slot m.core.regs
+-- the word in ALU sees what MEM passes on, and the old value of a register that MEM has just loaded
+pub passes_is : (loads : Bool) (to word r : ℕ) (f : Words)
+    → passed (cond loads 0 to) word r (reg f r) ≡ reg (seen (cond loads (record { register = to; value = reg f to }) no_slot) (write f to word)) r
+passes_is true to word r f = grind (arith, nat_tests)
+passes_is false to word r f = grind (arith, nat_tests)
 
-  from : sources (does l) ≡ sources (live code m.alu)
-  from = ap sources h.inst ∙ sources_is m.psw.current.user (live code m.alu)
-
-  pub operand_is : l.a ≡ reg sees (sources (does l)).0
-  operand_is = h.a ∙ ap (λ (x : ℕ × ℕ). reg sees x.0) (sym from)
-
-  pub result_is : l.result ≡ number_of m.psw.current.user m.chain (does l) (address_of l.word) (reg sees (sources (does l)).0)
-      (reg sees (sources (does l)).1) m.core.md
-  result_is =
-      h.result
-      ∙ sym ((λ k. number_of m.psw.current.user m.chain (h.inst k) (address_of (h.word k)) (reg sees (sources (h.inst k)).0) (reg sees (sources (h.inst k)).1) m.core.md)
-      ∙ number_is m.psw.current.user m.chain (live code m.alu) (address_of m.alu) sees m.core.md)
-
-  pub decision_is : decides (does l) (address_of l.word) sees ≡ decision code m
-  decision_is = (λ k. decides (h.inst k) (address_of (h.word k)) sees) ∙ decides_is m.psw.current.user (live code m.alu) (address_of m.alu) sees
-
--- neither of two
-pub neither : (a b : Bool) → (a || b) ≡ false → (a ≡ false) × (b ≡ false)
-neither false b e = (refl, e)
-neither true b e = absurd (true≢false e)
-
-pub and_false : (b : Bool) → (b && false) ≡ false
-and_false true = refl
-and_false false = refl
+pub newest_is : {C : Type 0} (code : Code) (p : Pipe C) (m : Machine) → Commits code p m → (told : Reached) → Tells told p.mem → (r : ℕ)
+    → passed told.passes told.word r (reg (slice_index p.file) r) ≡ reg (seen m.slot m.core.regs) r
+newest_is code p m h told tells r =
+    (λ k. passed (tells.passes k) (tells.word k) r (reg (slice_index p.file) r))
+    ∙ passes_is (is_load (does p.mem)) (dest (does p.mem)) p.mem.result r (slice_index p.file)
+    ∙ (λ k. reg (seen (h.behind.slot k) (h.behind.regs k)) r)

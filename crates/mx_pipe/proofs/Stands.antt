@@ -11,6 +11,7 @@ use Rattle.mx_turn.proofs.Steps.{after_one_more}
 use Rattle.mx_pipe.specs.declared.pipe.Pipe.{Pipe}
 use Rattle.mx_pipe.specs.declared.pipe.Wait.{Wait}
 use Rattle.mx_pipe.specs.Kept.{code_of_pipe, Holds, Waits, KeepsProgram, StandsFor}
+use Rattle.mx_pipe.proofs.Shows.{Shows, shows_cycled}
 
 -- neither the wait nor the counts and stalled cycles are in the tie
 pub waiting : {C : Type 0} (code : Code) (p : Pipe C) (m : Machine) (w : Wait) (d : Counted) (stall : ℕ) (counts : Counted) → Holds code p m
@@ -60,8 +61,9 @@ module _ {C : Type 0} (holds : C → List ℕ → Type 0) (t : Pipe C) (p : Prog
   pub stands_on : (t' : Pipe C) (n : Machine) → KeepsProgram t t' → n ≡ cycled resident (code_of_pipe t) t.board.input m request
       → Waits holds t'.cache n t'.wait → t'.counts ≡ n.counts → Holds (code_of_pipe t) t' n → StandsFor holds t' p (h ++ request ∷ [])
   stands_on t' n keeps e waits counts tied =
-      let to : n ≡ state_after p (h ++ request ∷ []) =
-      e ∙ (λ k. cycled resident (same_program k) (s.input k) m request) ∙ sym (after_one_more resident (code_of p) p.input _ h request) in
+      let from : cycled resident (code_of_pipe t) t.board.input m request ≡ state_after p (h ++ request ∷ []) =
+      (λ k. cycled resident (same_program k) (s.input k) m request) ∙ sym (after_one_more resident (code_of p) p.input _ h request) in
+      let to : n ≡ state_after p (h ++ request ∷ []) = e ∙ from in
       record {
         code = ap (λ v. v.items) keeps.code ∙ s.code;
         handler = ap (λ v. v.items) keeps.handler ∙ s.handler;
@@ -69,6 +71,7 @@ module _ {C : Type 0} (holds : C → List ℕ → Type 0) (t : Pipe C) (p : Prog
         waits = subst (λ x. Waits holds t'.cache x t'.wait) to waits;
         counts = counts ∙ ap (λ (x : Machine). x.counts) to;
         tied = subst (λ x. Holds (code_of_pipe t') t' x) to (subst (λ x. Holds x t' n) (sym (same_code t t' keeps)) tied);
+        shows = subst Shows from (shows_cycled resident (code_of_pipe t) t.board.input m request s.shows);
       }
 
 -- once the request is latched, in a pipeline that waits as before

@@ -1,31 +1,30 @@
 -- What the latches and the register file have to do with the definition's state.
-use Rattle.std.specs.Prelude.{◌≡◌, ℕ, Bool, false, cond, List, ◌∷◌, Option, Some, slice_index}
+use Rattle.std.specs.Prelude.{◌≡◌, ℕ, Bool, true, false, not, cond, List, ◌∷◌, Option, Some, None, slice_index}
 use Rattle.mx_isa.specs.declared.board.TheConstants.{CODE_BASE}
 use Rattle.mx_isa.specs.Words.{Words, reg, write}
-use Rattle.mx_isa.specs.Views.{sources, dest}
+use Rattle.mx_isa.specs.Views.{sources, dest, is_load}
 use Rattle.mx_code.specs.Decoding.{inst_of}
 use Rattle.mx_code.specs.Delay.{Code, code_from}
 use Rattle.mx_icache.specs.Residency.{resident}
 use Rattle.mx_board.specs.Data.{words_of}
 use Rattle.mx_pcchain.specs.Fetch.{Fetch}
-use Rattle.mx_turn.specs.Stages.{live}
-use Rattle.mx_turn.specs.System.{slot_of}
+use Rattle.mx_turn.specs.declared.latches.Latches.{Latches}
+use Rattle.mx_turn.specs.Stages.{live, address_of, stage_of}
+use Rattle.mx_turn.specs.System.{slot_of, seen}
 use Rattle.mx_turn.specs.Cycle.{Machine, first, second, number}
 use Rattle.mx_turn.specs.Program.{Program, code_with, state_after}
 use Rattle.mx_pipe.specs.declared.pipe.Pipe.{Pipe}
 use Rattle.mx_pipe.specs.declared.pipe.Wait.{Wait}
 use Rattle.mx_pipe.specs.declared.pipe.Wait.TheVariants.{NotAsked, Missed}
+use Rattle.mx_pipe.specs.declared.alu.Course.{Course}
+use Rattle.mx_pipe.specs.declared.memory.Reached.{Reached}
+use Rattle.mx_pipe.specs.Courses.{course_of}
 use Rattle.mx_pipe.specs.Latched.{Latched, does}
 use Rattle.mx_pipe.specs.Made.{allowed, md_behind, md_kept}
 
 -- what each address of code does
 abbrev pub code_of_pipe : {C : Type 0} → Pipe C → Code
 code_of_pipe p = code_with (code_from inst_of 0 p.handler.items) (code_from inst_of CODE_BASE p.code.items)
-
--- a latch before the operands of its word are read
-pub record IsFetched (code : Code) (l : Latched) (stage : Option Fetch) : Type 0 where
-  pub word : l.word ≡ stage
-  pub inst : does l ≡ live code stage
 
 -- a latch with operands from these registers
 pub record IsRead (code : Code) (l : Latched) (stage : Option Fetch) (regs : Words) : Type 0 where
@@ -65,7 +64,7 @@ pub record SameRest {C : Type 0} (p : Pipe C) (m : Machine) : Type 0 where
 
 -- between turns, and once the words of a turn have moved on and the one in MEM has committed
 pub record Holds {C : Type 0} (code : Code) (p : Pipe C) (m : Machine) : Type 0 where
-  pub fetch : IsFetched code p.fetch m.fetch
+  pub fetch : p.fetch.word ≡ m.fetch
   pub rf : IsRead code p.rf m.rf m.core.regs
   pub alu : IsMade code p.alu m
   pub behind : IsBehind p m
@@ -74,10 +73,31 @@ pub record Holds {C : Type 0} (code : Code) (p : Pipe C) (m : Machine) : Type 0 
 -- once the word in MEM has committed, and before the others move on
 pub record Commits {C : Type 0} (code : Code) (p : Pipe C) (m : Machine) : Type 0 where
   pub fetch : m.fetch ≡ Some m.next
-  pub rf : IsFetched code p.fetch m.rf
+  pub rf : p.fetch.word ≡ m.rf
   pub alu : IsRead code p.rf m.alu (slice_index p.file)
   pub behind : IsBehind p m
   pub rest : SameRest p m
+
+-- what the machine learned of the word in MEM
+pub record Tells (told : Reached) (mem : Latched) : Type 0 where
+  pub to : told.to ≡ dest (does mem)
+  pub passes : told.passes ≡ cond (is_load (does mem)) 0 (dest (does mem))
+  pub word : told.word ≡ mem.result
+
+-- where the word in ALU leads
+abbrev pub Leads : Code → Machine → Course → Type 0
+Leads code m course = course ≡ course_of (live code m.alu) (address_of m.alu) (seen m.slot m.core.regs)
+
+-- whether a stage holds a fetch that is not squashed
+abbrev pub is_live : Option Fetch → Bool
+is_live None = false
+is_live (Some f) = not f.squashed
+
+-- what was shown of the first four stages still holds, but for those that a branch or an interrupt marked since. It marks
+-- the word in IF among them, so where that one is live, none was marked; the word in MEM is never marked
+pub record StillShown (shown : Latches) (fetch rf alu mem : Option Fetch) : Type 0 where
+  pub older : shown.mem ≡ stage_of mem
+  pub younger : is_live fetch ≡ true → (shown.fetch ≡ stage_of fetch) × (shown.rf ≡ stage_of rf) × (shown.alu ≡ stage_of alu)
 
 -- whether the cache was asked for the fetch of the coming turn, and the stalled cycles left
 abbrev pub Waits : {C : Type 0} → (C → List ℕ → Type 0) → C → Machine → Wait → Type 0
@@ -98,3 +118,4 @@ pub record StandsFor {C : Type 0} (holds : C → List ℕ → Type 0) (t : Pipe 
   pub waits : Waits holds t.cache (state_after p h) t.wait
   pub counts : t.counts ≡ (state_after p h).counts
   pub tied : Holds (code_of_pipe t) t (state_after p h)
+  pub shows : (let m = state_after p h in StillShown m.shown m.fetch m.rf m.alu m.mem)

@@ -1,4 +1,5 @@
 pub mod Latched
 pub mod Made
+pub mod Courses
 pub mod Kept
 pub mod Fields

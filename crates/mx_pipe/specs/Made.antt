@@ -1,5 +1,5 @@
 -- What the stages make of an instruction.
-use Rattle.std.specs.Prelude.{ℕ, Bool, true, false, cond, not, ◌&&◌, Option, Some, None}
+use Rattle.std.specs.Prelude.{ℕ, Bool, true, false, cond, eqb, not, ◌&&◌, Option, Some, None}
 use Rattle.mx_isa.specs.declared.inst.Special.TheVariants.{Md}
 use Rattle.mx_isa.specs.declared.inst.Inst.{Inst}
 use Rattle.mx_isa.specs.declared.inst.Inst.TheVariants.{Load, Store, Compute, MoveFrom, MoveTo}
@@ -9,6 +9,10 @@ use Rattle.mx_isa.specs.Views.{is_md}
 use Rattle.mx_code.specs.Delay.{idle}
 use Rattle.mx_pcchain.specs.declared.chain.Chain.{Chain}
 use Rattle.mx_pcchain.specs.Chain.{with_special}
+
+-- an operand in ALU: the word that MEM passes on to a register, else what was read before; r0 takes none
+abbrev pub passed : ℕ → ℕ → ℕ → ℕ → ℕ
+passed to word r before = cond (not (eqb r 0) && eqb r to) word before
 
 -- in user mode nothing is moved from the saved fetches: found in ALU, since the mode may be another one in WB
 abbrev pub allowed : Bool → Inst → Inst

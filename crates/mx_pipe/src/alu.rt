@@ -1,23 +1,69 @@
-//! What the word in ALU makes and decides.
-ghost use Rattle.std.specs.Prelude.{◌≡◌, ◌<◌, ◌+◌, ◌%◌, ◌^◌, ℕ, Bool, IfSome, Some, None, true, false, unwrap_or, if◌then◌else◌};
+//! What the word in ALU makes, and where it leads.
+ghost use Rattle.std.specs.Prelude.{◌≡◌, ◌<◌, ◌+◌, ◌%◌, ◌^◌, ℕ, Some, true, false, if◌then◌else◌};
 ghost use Rattle.std.specs.Int.{w32, cast_unsigned};
-ghost use Rattle.mx_isa.specs.declared.inst.Inst.{Inst};
 ghost use Rattle.mx_isa.specs.Words.{Words, reg};
-ghost use Rattle.mx_isa.specs.Effect.{decides};
+ghost use Rattle.mx_isa.specs.Arithmetic.{word_of};
 ghost use Rattle.mx_isa.specs.Views.{sources};
 ghost use Rattle.mx_code.specs.Delay.{idle};
-ghost use Rattle.mx_pcchain.specs.declared.chain.Chain.{Chain};
 ghost use Rattle.mx_turn.specs.Decoded.{ShiftFits};
 ghost use Rattle.mx_turn.specs.Stages.{address_of};
-ghost use Rattle.mx_turn.specs.System.{number_of, pops, restores};
+ghost use Rattle.mx_turn.specs.System.{number_of};
 ghost use Rattle.mx_pipe.specs.Latched.{does};
-ghost use Rattle.mx_pipe.specs.Made.{allowed, md_behind, md_kept};
+ghost use Rattle.mx_pipe.specs.Made.{allowed, md_behind, md_kept, passed};
+ghost use Rattle.mx_pipe.specs.Courses.{course_of};
 
 use crate::Latch;
 use crate::fetching::address_of;
-use mx_isa::{Inst, Special, compute};
+use crate::memory::Reached;
+use mx_isa::{Inst, Reg, Special, compute, holds};
 use mx_pcchain::Chain;
-use mx_turn::{Decided, branches, goes_on, goes_to, number_of};
+use mx_turn::{Decided, goes_on, goes_to, number_of};
+
+/// Where a word in ALU leads: on, which is to the next word; to an address; on, and it cancels the two words behind it; in
+/// system mode back to the first of the saved fetches; or there and to the other mode.
+#[derive(Clone, Copy)]
+pub enum Course {
+    On,
+    To(u32),
+    Cancels,
+    Pops,
+    Returns,
+}
+
+impl Course {
+    ghost use Rattle.std.specs.Prelude.{◌≡◌, ◌<◌, ◌^◌, ℕ, IfSome};
+    ghost use Rattle.mx_pipe.specs.Courses.{told};
+
+    /// What it decides.
+    pub fn decided(self) -> Decided
+        requires { (a : ℕ) → self ≡ Course.To a → a < 2 ^ 31 }
+        ensures told { result ≡ told self }
+        ensures code_address { IfSome result.target (λ a. a < 2 ^ 31) }
+    {
+        match self {
+            Course::On => goes_on(),
+            Course::To(target) => goes_to(target),
+            Course::Cancels => Decided {
+                target: None,
+                cancels: true,
+                pops: false,
+                restores: false,
+            },
+            Course::Pops => Decided {
+                target: None,
+                cancels: false,
+                pops: true,
+                restores: false,
+            },
+            Course::Returns => Decided {
+                target: None,
+                cancels: false,
+                pops: true,
+                restores: true,
+            },
+        }
+    }
+}
 
 // Whether user code may not do what an instruction does: it moves nothing from the saved fetches.
 fn is_refused(user: bool, inst: &Inst) -> bool
@@ -31,88 +77,132 @@ fn is_refused(user: bool, inst: &Inst) -> bool
     }
 }
 
-// The number that an instruction makes of its operands, and the MD.
-#[inline(always)]
-fn makes(inst: &Inst, at: u32, a: u32, b: u32, md: u32, user: bool, chain: &Chain) -> (u32, u32)
-    requires fits { ShiftFits inst.now }
-    requires code_address { at < 2 ^ 31 }
-    ensures number { result.0 ≡ number_of user chain.now inst.now at a b md }
-    ensures md { md_kept (Some inst.now) result.0 result.1 md ≡ md_behind inst.now a b md }
+// An operand in ALU: what the word in MEM passes on to its register, else what was read in RF.
+// Of the two words that may have written it since, the one in MEM is the newer.
+fn newest(mem: &Reached, r: Reg, before: u32) -> u32
+    ensures { result ≡ passed mem.now.passes mem.now.word r before }
 {
-    match inst {
-        Inst::Compute { op, .. } => compute(*op, a, b, md),
-        _ => (number_of(inst, at, a, b, md, user, chain), 0),
+    let n = r.number();
+    if n != 0 && n == mem.passes.number() {
+        mem.word
+    } else {
+        before
     }
 }
 
-/// The word that comes into ALU makes its number of its operands.
+// A number and a displacement.
+fn displaced(a: u32, by: i32) -> u32
+    ensures { result ≡ word_of (a + cast_unsigned w32 by) }
+{
+    a.wrapping_add(by.cast_unsigned())
+}
+
+// The course to a code address, which is taken modulo 2^31.
+fn to(address: u32) -> Course
+    ensures course { result ≡ Course.To (address % 2 ^ 31) }
+    ensures code_address { (a : ℕ) → result ≡ Course.To a → a < 2 ^ 31 }
+{
+    Course::To(address % (1 << 31))
+}
+
+// The course of a branch, by whether it holds.
+fn branches(goes: bool, at: u32, squash: bool, by: i32) -> Course
+    ensures course { result ≡ (if goes then Course.To ((at + cast_unsigned w32 by) % 2 ^ 31) else (if squash then Course.Cancels else Course.On)) }
+    ensures code_address { (a : ℕ) → result ≡ Course.To a → a < 2 ^ 31 }
+{
+    if goes {
+        Course::To(at.wrapping_add(by.cast_unsigned()) % (1 << 31))
+    } else if squash {
+        Course::Cancels
+    } else {
+        Course::On
+    }
+}
+
+/// The word that comes into ALU takes its operands, those that it read in RF or newer ones from MEM, makes its number of
+/// them, and says where it leads.
+// One match, since each costs a jump in every cycle.
 #[inline(always)]
-pub fn make(alu: &mut Latch, md: u32, user: bool, chain: &Chain)
+pub fn make(alu: &mut Latch, mem: &Reached, md: u32, user: bool, chain: &Chain) -> Course
     ensures word { alu.new.word ≡ alu.old.word }
     ensures inst { does alu.new ≡ allowed user (does alu.old) }
-    ensures a { alu.new.a ≡ alu.old.a }
-    ensures b { alu.new.b ≡ alu.old.b }
-    ensures number { alu.new.result ≡ number_of user chain.now (does alu.old) (address_of alu.old.word) alu.old.a alu.old.b md }
-    ensures md { md_kept alu.new.inst alu.new.result alu.new.md md ≡ md_behind (does alu.old) alu.old.a alu.old.b md }
+    ensures a { alu.new.a ≡ passed mem.now.passes mem.now.word (sources (does alu.old)).0 alu.old.a }
+    ensures b { alu.new.b ≡ passed mem.now.passes mem.now.word (sources (does alu.old)).1 alu.old.b }
+    ensures number { alu.new.result ≡ number_of user chain.now (does alu.old) (address_of alu.old.word) alu.new.a alu.new.b md }
+    ensures md { md_kept alu.new.inst alu.new.result alu.new.md md ≡ md_behind (does alu.old) alu.new.a alu.new.b md }
+    ensures course { (regs : Words) → alu.new.a ≡ reg regs (sources (does alu.old)).0 → alu.new.b ≡ reg regs (sources (does alu.old)).1
+        → result ≡ course_of (does alu.old) (address_of alu.old.word) regs }
+    ensures code_address { (a : ℕ) → result ≡ Course.To a → a < 2 ^ 31 }
 {
-    match alu.inst {
-        Some(inst) => {
-            (alu.result, alu.md) = makes(
-                &inst,
-                address_of(alu.word),
-                alu.a,
-                alu.b,
-                md,
-                user,
-                chain,
-            );
+    match &alu.inst {
+        Some(Inst::Load { base, offset, .. }) => {
+            alu.a = newest(mem, *base, alu.a);
+            alu.result = displaced(alu.a, *offset);
+        }
+        Some(
+            Inst::Store {
+                base,
+                value,
+                offset,
+            },
+        ) => {
+            alu.a = newest(mem, *base, alu.a);
+            alu.b = newest(mem, *value, alu.b);
+            alu.result = displaced(alu.a, *offset);
+        }
+        Some(
+            Inst::Branch {
+                a,
+                b,
+                cond,
+                squash,
+                by,
+            },
+        ) => {
+            alu.a = newest(mem, *a, alu.a);
+            alu.b = newest(mem, *b, alu.b);
+            let goes = holds(*cond, alu.a, alu.b);
+            alu.result = u32::from(goes);
+            return branches(goes, address_of(alu.word), *squash, *by);
+        }
+        Some(Inst::Compute { a, b, op, .. }) => {
+            alu.a = newest(mem, *a, alu.a);
+            alu.b = newest(mem, *b, alu.b);
+            (alu.result, alu.md) = compute(*op, alu.a, alu.b, md);
+        }
+        Some(Inst::Addi { a, imm, .. }) => {
+            alu.a = newest(mem, *a, alu.a);
+            alu.result = displaced(alu.a, *imm);
+        }
+        Some(Inst::MoveFrom { dest, special }) => {
+            let inst = Inst::MoveFrom {
+                dest: *dest,
+                special: *special,
+            };
+            alu.result = number_of(&inst, address_of(alu.word), alu.a, alu.b, md, user, chain);
             if is_refused(user, &inst) {
                 alu.inst = None;
             }
         }
+        Some(Inst::MoveTo { a, .. }) => {
+            alu.a = newest(mem, *a, alu.a);
+            alu.result = alu.a;
+        }
+        Some(Inst::Jspci { a, imm, .. }) => {
+            alu.a = newest(mem, *a, alu.a);
+            alu.result = address_of(alu.word) + 3;
+            return to(displaced(alu.a, *imm));
+        }
+        Some(Inst::Jpc) => {
+            alu.result = 0;
+            return Course::Pops;
+        }
+        Some(Inst::Jpcrs) => {
+            alu.result = 0;
+            return Course::Returns;
+        }
+        Some(Inst::Halt) => alu.result = 0,
         None => alu.result = alu.a.wrapping_add(alu.b),
     }
-}
-
-// Whether a branch that made this number holds.
-fn is_one(number: u32) -> bool
-    ensures { (holds : Bool) → number ≡ (if holds then 1 else 0) → result ≡ holds }
-{
-    number != 0
-}
-
-/// What the word in ALU decides, from its operand and the number that it made.
-pub fn decide(alu: &Latch) -> Decided
-    ensures target { (user : Bool) (c : Chain) (md : ℕ) (regs : Words)
-        → alu.now.a ≡ reg regs (sources (does alu.now)).0
-        → alu.now.result ≡ number_of user c (does alu.now) (address_of alu.now.word) (reg regs (sources (does alu.now)).0) (reg regs (sources (does alu.now)).1) md
-        → result.target ≡ (decides (does alu.now) (address_of alu.now.word) regs).target }
-    ensures cancels { (user : Bool) (c : Chain) (md : ℕ) (regs : Words)
-        → alu.now.result ≡ number_of user c (does alu.now) (address_of alu.now.word) (reg regs (sources (does alu.now)).0) (reg regs (sources (does alu.now)).1) md
-        → result.cancels ≡ (decides (does alu.now) (address_of alu.now.word) regs).cancels }
-    ensures code_address { IfSome result.target (λ a. a < 2 ^ 31) }
-    ensures pops { result.pops ≡ pops (does alu.now) }
-    ensures restores { result.restores ≡ restores (does alu.now) }
-{
-    match alu.inst {
-        Some(Inst::Branch { squash, by, .. }) => {
-            branches(is_one(alu.result), address_of(alu.word), squash, by)
-        }
-        Some(Inst::Jspci { imm, .. }) => {
-            goes_to(alu.a.wrapping_add(imm.cast_unsigned()) % (1 << 31))
-        }
-        Some(Inst::Jpc) => Decided {
-            target: None,
-            cancels: false,
-            pops: true,
-            restores: false,
-        },
-        Some(Inst::Jpcrs) => Decided {
-            target: None,
-            cancels: false,
-            pops: true,
-            restores: true,
-        },
-        _ => goes_on(),
-    }
+    Course::On
 }

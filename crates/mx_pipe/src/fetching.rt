@@ -1,12 +1,12 @@
 //! The word that is fetched.
-ghost use Rattle.std.specs.Prelude.{◌≡◌, ◌<◌, ◌^◌, ◌-◌, IfSome, Some, unwrap_or, slice_get, option_and_then, leb, if◌then◌else◌};
+ghost use Rattle.std.specs.Prelude.{◌≡◌, ◌<◌, ◌^◌, ◌-◌, IfSome, true, is_some, unwrap_or, slice_get, option_and_then, leb, if◌then◌else◌};
 ghost use Rattle.mx_isa.specs.declared.board.TheConstants.{CODE_BASE};
 ghost use Rattle.mx_code.specs.Decoding.{inst_of};
 ghost use Rattle.mx_code.specs.Delay.{code_from, idle};
 ghost use Rattle.mx_turn.specs.Decoded.{ShiftFits};
 ghost use Rattle.mx_turn.specs.Program.{code_with};
 ghost use Rattle.mx_turn.specs.Stages.{live, address_of};
-ghost use Rattle.mx_pipe.specs.Latched.{does};
+ghost use Rattle.mx_pipe.specs.Kept.{is_live};
 
 use crate::Latch;
 use mx_code::decode;
@@ -55,18 +55,22 @@ fn inst_at(code: &[u32], handler: &[u32], address: u32) -> Option<Inst>
     decoded(word_of(code, handler, address))
 }
 
-/// The word of a fetch comes into a latch; one that is squashed does nothing.
+/// What the word of a latch does; where there is none, or a branch squashed it, it does nothing.
 #[inline(always)]
-pub fn fetch(latch: &mut Latch, code: &[u32], handler: &[u32], next: Fetched)
-    ensures word { latch.new.word ≡ Some next }
-    ensures inst { does latch.new ≡ live (code_with (code_from inst_of 0 handler.now) (code_from inst_of CODE_BASE code.now)) (Some next) }
+pub fn inst_in(code: &[u32], handler: &[u32], latch: &Latch) -> Option<Inst>
+    ensures what { unwrap_or result idle ≡ live (code_with (code_from inst_of 0 handler.now) (code_from inst_of CODE_BASE code.now)) latch.now.word }
+    ensures live { is_some result ≡ true → is_live latch.now.word ≡ true }
+    ensures fits { IfSome result ShiftFits }
 {
-    latch.word = Some(next);
-    latch.inst = if next.squashed {
-        None
-    } else {
-        inst_at(code, handler, next.address)
-    };
+    match latch.word {
+        Some(
+            Fetched {
+                address,
+                squashed: false,
+            },
+        ) => inst_at(code, handler, address),
+        _ => None,
+    }
 }
 
 /// The address of a fetch.

@@ -4,9 +4,9 @@ use mx_pcchain::Fetched;
 use mx_turn::squash;
 use std::marker::Model;
 
-/// What passes from one stage to the next: a fetch, with its squashed mark, if there is one that was not killed; what its
-/// word does, None where it does nothing; its operands, once they are read; the number that it makes, once it is made,
-/// for a load once it was in MEM the word that it found; and the MD that it makes.
+/// What passes from one stage to the next: a fetch, with its squashed mark, if there is one that was not killed; from RF to
+/// MEM what its word does, None where it does nothing, and its operands; from ALU on the number that it makes, for a load
+/// in MEM the word that it found; and the MD that it makes. In IF and in WB only the fetch is kept; nothing reads the rest.
 #[derive(Clone, Copy, Debug)]
 pub struct Latch {
     pub word: Option<Fetched>,
@@ -49,6 +49,20 @@ impl Latch {
             result: 0,
             md: 0,
         }
+    }
+
+    /// Another word comes into the latch; what belongs to a word is told later.
+    pub(crate) fn hold(&mut self, word: Option<Fetched>)
+        ensures { self.new ≡ record self.old { word = word } }
+    {
+        self.word = word;
+    }
+
+    /// The word of another latch comes into it.
+    pub(crate) fn follow(&mut self, latch: &Latch)
+        ensures { self.new ≡ record self.old { word = latch.now.word } }
+    {
+        self.word = latch.word;
     }
 
     /// A branch may squash the word: it then does nothing.

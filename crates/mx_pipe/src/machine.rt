@@ -1,46 +1,40 @@
 //! The pipeline, cycle by cycle.
-ghost use Rattle.std.specs.Prelude.{◌≡◌, ◌<◌, ◌+◌, ◌^◌, ℕ, Bool, false, not, ◌&&◌, ◌||◌, List, [], ◌∷◌, Some, None, slice_index, if◌then◌else◌};
+ghost use Rattle.std.specs.Prelude.{◌≡◌, ◌<◌, ◌+◌, ◌^◌, ℕ, Bool, true, false, not, ◌&&◌, List, [], ◌∷◌, None, is_some, slice_index, if◌then◌else◌};
 ghost use Rattle.mx_isa.specs.Words.{Words};
-ghost use Rattle.mx_isa.specs.Views.{dest, is_load};
-ghost use Rattle.mx_pcchain.specs.Chain.{pop};
+ghost use Rattle.mx_pcchain.specs.Chain.{fetch_from, pop};
 ghost use Rattle.mx_pcchain.specs.Modes.{psw_restored};
-ghost use Rattle.mx_code.specs.Delay.{Code};
+ghost use Rattle.mx_code.specs.Delay.{Code, next_of};
 ghost use Rattle.mx_icache.specs.Residency.{resident};
-ghost use Rattle.mx_turn.specs.Cycle.{Machine as State, shifted, committed, commit_byte, showing, entered, decided, decision, turned, latched, is_taken, reached, ended, takes, squashes, counts_after, acted_answer};
+ghost use Rattle.mx_turn.specs.Counted.{after_turn};
+ghost use Rattle.mx_turn.specs.Stages.{fetch_of, stage_of};
+ghost use Rattle.mx_turn.specs.Cycle.{Machine as State, shifted, committed, commit_byte, showing, entered, decided, decision, latched, is_taken, reached, ended, takes, squashes, counts_after, acted_answer};
 ghost use Rattle.mx_pipe.specs.declared.pipe.Wait.{Wait};
-ghost use Rattle.mx_pipe.specs.Latched.{does, squashed_if};
-ghost use Rattle.mx_pipe.specs.Kept.{code_of_pipe, IsMade, Holds, Commits, Waits, KeepsProgram, StandsFor};
+ghost use Rattle.mx_pipe.specs.Latched.{squashed_if};
+ghost use Rattle.mx_pipe.specs.Courses.{told};
+ghost use Rattle.mx_pipe.specs.Kept.{code_of_pipe, is_live, IsRead, IsMade, Holds, Commits, Tells, Leads, StillShown, Waits, KeepsProgram, StandsFor};
 
-use crate::alu::{decide, make};
-use crate::fetching::{address, fetch};
+use crate::alu::{Course, make};
+use crate::fetching::{address, inst_in};
 use crate::memory::{Reached, reach};
-use crate::operands::{Written, read_operands, register_of, take_operands, write_back};
+use crate::operands::{read_operands, register_of, write_back};
 use crate::{Latch, Pipe, Wait};
 use mx_icache::FetchCache;
 use mx_isa::Reg;
-use mx_turn::{
-    Counts, Cycled, Decided, Latches, Machine, fetch_of, led, popped, restored, saved, stage_of,
-};
-
-// What the word in ALU brought about.
-#[derive(Clone, Copy)]
-struct Ended {
-    taken: bool,
-    squashed: bool,
-}
+use mx_pcchain::Fetched;
+use mx_turn::{Counts, Cycled, Latches, Machine, fetch_of, led, popped, restored, saved, stage_of};
 
 impl<C: FetchCache> Pipe<C> {
     // WB writes the file, and the word in ALU comes into MEM.
     fn commit(&mut self) -> Reached
         ensures state { (code : Code) (m : State) → Holds code self.old m → Commits code self.new (committed code self.old.board.input (shifted m)) }
         ensures byte { (code : Code) (m : State) → Holds code self.old m → result.byte ≡ commit_byte code self.old.board.input (shifted m) }
-        ensures write { result.write ≡ record { to = dest (does self.new.mem); loads = is_load (does self.new.mem); word = self.new.mem.result } }
+        ensures write { Tells result self.new.mem }
         ensures program { KeepsProgram self.old self.new }
         ensures counts { self.new.counts ≡ self.old.counts }
         ensures cache { self.new.cache ≡ self.old.cache }
     {
         write_back(&mut self.file, &self.mem);
-        self.wb = self.mem;
+        self.wb.follow(&self.mem);
         self.mem = self.alu;
         let user = self.psw.current.user;
         reach(
@@ -54,36 +48,91 @@ impl<C: FetchCache> Pipe<C> {
     }
 
     // The word in RF comes into ALU, with operands from the bypass.
-    fn compute(&mut self, mem: &Written)
-        requires { mem.now ≡ record { to = dest (does self.old.mem); loads = is_load (does self.old.mem); word = self.old.mem.result } }
+    fn compute(&mut self, mem: &Reached) -> Course
+        requires { Tells mem.now self.old.mem }
         ensures made { (code : Code) (m : State) → Commits code self.old m → IsMade code self.new.alu m }
+        ensures course { (code : Code) (m : State) → Commits code self.old m → Leads code m result }
+        ensures code_address { (a : ℕ) → result ≡ Course.To a → a < 2 ^ 31 }
         ensures rest { self.new ≡ record self.old { alu = self.new.alu } }
     {
         self.alu = self.rf;
-        take_operands(&mut self.alu, mem);
-        make(&mut self.alu, self.md, self.psw.current.user, &self.chain);
+        make(
+            &mut self.alu,
+            mem,
+            self.md,
+            self.psw.current.user,
+            &self.chain,
+        )
     }
 
-    // The words in IF, RF and ALU move on.
-    fn advance(&mut self, mem: &Written)
-        requires { mem.now ≡ record { to = dest (does self.old.mem); loads = is_load (does self.old.mem); word = self.old.mem.result } }
+    // The word in IF comes into RF, and reads its operands.
+    fn read(&mut self, mem: &Reached)
+        requires { Tells mem.now self.old.mem }
+        ensures read { (m : State) → Commits (code_of_pipe self.old) self.old m
+            → IsRead (code_of_pipe self.old) (record self.new.rf { word = self.old.fetch.word }) m.rf m.core.regs }
+        ensures live { is_some self.new.rf.inst ≡ true → is_live self.old.fetch.word ≡ true }
+        ensures rest { self.new ≡ record self.old { rf = self.new.rf } }
+    {
+        let inst = inst_in(&self.code, &self.handler, &self.fetch);
+        read_operands(&mut self.rf, inst, mem.to, mem.word, &self.file);
+    }
+
+    // The words in IF, RF and ALU move on. Answers where the one in ALU leads.
+    fn advance(&mut self, mem: &Reached) -> Course
+        requires { Tells mem.now self.old.mem }
         ensures state { (m : State) → Commits (code_of_pipe self.old) self.old m → Holds (code_of_pipe self.old) self.new m }
+        ensures live { (code : Code) (m : State) → Commits code self.old m → is_some self.new.rf.inst ≡ true → is_live m.rf ≡ true }
+        ensures course { (code : Code) (m : State) → Commits code self.old m → Leads code m result }
+        ensures code_address { (a : ℕ) → result ≡ Course.To a → a < 2 ^ 31 }
         ensures program { KeepsProgram self.old self.new }
         ensures counts { self.new.counts ≡ self.old.counts }
         ensures cache { self.new.cache ≡ self.old.cache }
     {
-        self.compute(mem);
-        self.rf = self.fetch;
-        read_operands(&mut self.rf, mem, &self.file);
-        fetch(&mut self.fetch, &self.code, &self.handler, self.next);
+        let course = self.compute(mem);
+        self.read(mem);
+        self.rf.follow(&self.fetch);
+        self.fetch.hold(Some(self.next));
+        course
     }
 
-    // What the turn shows is kept.
+    // What the turn shows is kept. Where the word in RF does something, the turn before marked no word, and what it showed
+    // moves on by one stage.
     fn show(&mut self)
-        ensures state { (code : Code) (m : State) → Holds code self.old m → Holds code self.new (showing code m) }
+        ensures state { (code : Code) (m : State) → Holds code self.old m → (is_some self.old.rf.inst ≡ true → is_live m.rf ≡ true)
+            → StillShown m.shown m.rf m.alu m.mem m.wb → Holds code self.new (showing code m) }
         ensures program { KeepsProgram self.old self.new }
         ensures counts { self.new.counts ≡ self.old.counts }
         ensures cache { self.new.cache ≡ self.old.cache }
+    {
+        if self.rf.inst.is_some() {
+            self.shown.wb = self.shown.mem;
+            self.shown.mem = self.shown.alu;
+            self.shown.alu = self.shown.rf;
+            self.shown.rf = self.shown.fetch;
+            self.shown.fetch = stage_of(self.fetch.word);
+            self.shown.a = self.alu.a;
+            self.shown.b = self.alu.b;
+            self.shown.result = self.alu.result;
+        } else {
+            self.show_anew();
+        }
+    }
+
+    // What the turn shows is told by the latches alone.
+    #[inline(never)]
+    fn show_anew(&mut self)
+        ensures { self.new ≡ record self.old {
+          shown = record {
+            fetch = stage_of self.old.fetch.word;
+            rf = stage_of self.old.rf.word;
+            alu = stage_of self.old.alu.word;
+            mem = stage_of self.old.mem.word;
+            wb = stage_of self.old.wb.word;
+            a = self.old.alu.a;
+            b = self.old.alu.b;
+            result = self.old.alu.result;
+          };
+        } }
     {
         self.shown = Latches {
             fetch: stage_of(self.fetch.word),
@@ -97,46 +146,13 @@ impl<C: FetchCache> Pipe<C> {
         };
     }
 
-    // A transfer cancels the two words behind it, or pops the chain.
-    // Few do: a call of its own keeps the way of the others short.
-    #[inline(never)]
-    fn turn_aside(&mut self, decided: &Decided, back: bool)
-        ensures { self.new ≡ record self.old {
-          fetch = squashed_if decided.now.cancels self.old.fetch;
-          rf = squashed_if decided.now.cancels self.old.rf;
-          chain = (if back then pop self.old.chain else self.old.chain);
-          psw = (if decided.now.restores && back then psw_restored self.old.psw else self.old.psw);
-        } }
-    {
-        self.fetch.squash(decided.cancels);
-        self.rf.squash(decided.cancels);
-        self.chain = popped(back, self.chain);
-        self.psw = restored(both(decided.restores, back), self.psw);
-    }
-
-    // The word in ALU decides. Answers whether it cancels the two words behind it.
-    fn decide(&mut self) -> bool
-        ensures squashed { (code : Code) (m : State) → Holds code self.old m → result ≡ (decision code m).cancels }
-        ensures state { (code : Code) (m : State) → Holds code self.old m → Holds code self.new (decided code m) }
-        ensures program { KeepsProgram self.old self.new }
-        ensures counts { self.new.counts ≡ self.old.counts }
-        ensures cache { self.new.cache ≡ self.old.cache }
-    {
-        let decided = decide(&self.alu);
-        let back = goes_back(decided.pops, self.psw.current.user);
-        self.next = led(back, &self.chain, decided.target, self.next);
-        if either(back, decided.cancels) {
-            self.turn_aside(&decided, back);
-            return decided.cancels;
-        }
-        false
-    }
-
     // The interrupt is taken.
-    fn enter(&mut self)
+    #[inline(never)]
+    fn enter(&mut self, missed: bool)
+        requires { self.old.counts.cycles < 2 ^ 63 }
         ensures state { (code : Code) (m : State) → Holds code self.old m → Holds code self.new (entered m) }
         ensures program { KeepsProgram self.old self.new }
-        ensures counts { self.new.counts ≡ self.old.counts }
+        ensures counts { self.new.counts ≡ after_turn missed false true self.old.counts }
         ensures cache { self.new.cache ≡ self.old.cache }
     {
         self.asked = false;
@@ -150,6 +166,7 @@ impl<C: FetchCache> Pipe<C> {
         self.rf = Latch::cleared(None);
         self.fetch = Latch::cleared(None);
         self.next = fetch_of(0);
+        self.counts.turned(missed, false, true);
     }
 
     // Whether an interrupt is taken in this turn.
@@ -159,55 +176,91 @@ impl<C: FetchCache> Pipe<C> {
         self.psw.current.interrupts && self.asked && self.alu.word.is_some()
     }
 
-    // The interrupt is taken, or the word in ALU decides.
-    fn turn(&mut self) -> Ended
-        ensures taken { (code : Code) (m : State) → Holds code self.old m → result.taken ≡ is_taken m }
-        ensures squashed { (code : Code) (m : State) → Holds code self.old m → result.squashed ≡ (not (is_taken m) && (decision code m).cancels) }
-        ensures state { (code : Code) (m : State) → Holds code self.old m → Holds code self.new (turned code m) }
+    // The word in ALU leads to a fetch.
+    fn go(&mut self, next: Fetched, missed: bool)
+        requires { self.old.counts.cycles < 2 ^ 63 }
+        ensures { self.new ≡ record self.old { next = next; counts = after_turn missed false false self.old.counts } }
+    {
+        self.next = next;
+        self.counts.turned(missed, false, false);
+    }
+
+    // The word in ALU leads where its course says. Those that cancel the words behind them, or go back from the system, are
+    // few: a call of its own keeps the way of the others short.
+    #[inline(never)]
+    fn turn_aside(&mut self, course: Course, missed: bool)
+        requires cycles { self.old.counts.cycles < 2 ^ 63 }
+        requires code_address { (a : ℕ) → course ≡ Course.To a → a < 2 ^ 31 }
+        ensures { let d = told course in let back = d.pops && not self.old.psw.current.user in self.new ≡ record self.old {
+          next = (if back then fetch_from self.old.chain.pc1 else fetch_of (next_of d.target self.old.next.address));
+          fetch = squashed_if d.cancels self.old.fetch;
+          rf = squashed_if d.cancels self.old.rf;
+          chain = (if back then pop self.old.chain else self.old.chain);
+          psw = (if d.restores && back then psw_restored self.old.psw else self.old.psw);
+          counts = after_turn missed d.cancels false self.old.counts;
+        } }
+    {
+        let decided = course.decided();
+        let back = goes_back(decided.pops, self.psw.current.user);
+        self.next = led(back, &self.chain, decided.target, self.next);
+        self.fetch.squash(decided.cancels);
+        self.rf.squash(decided.cancels);
+        self.chain = popped(back, self.chain);
+        self.psw = restored(both(decided.restores, back), self.psw);
+        self.counts.turned(missed, decided.cancels, false);
+    }
+
+    // The word in ALU decides.
+    fn decide(&mut self, course: Course, missed: bool)
+        requires cycles { self.old.counts.cycles < 2 ^ 63 }
+        requires code_address { (a : ℕ) → course ≡ Course.To a → a < 2 ^ 31 }
+        ensures state { (code : Code) (m : State) → Holds code self.old m → Leads code m course → Holds code self.new (decided code m) }
+        ensures counts { (code : Code) (m : State) → Leads code m course → self.new.counts ≡ after_turn missed (decision code m).cancels false self.old.counts }
+        ensures cycles { self.new.counts.cycles ≡ self.old.counts.cycles + 1 }
         ensures program { KeepsProgram self.old self.new }
-        ensures counts { self.new.counts ≡ self.old.counts }
         ensures cache { self.new.cache ≡ self.old.cache }
     {
-        if self.is_taken() {
-            self.enter();
-            Ended {
-                taken: true,
-                squashed: false,
-            }
-        } else {
-            Ended {
-                taken: false,
-                squashed: self.decide(),
-            }
+        match course {
+            Course::On => self.go(following(self.next), missed),
+            Course::To(target) => self.go(fetch_of(target), missed),
+            _ => self.turn_aside(course, missed),
         }
     }
 
-    // The turn ends: where MEM holds a halt, nothing more happens.
-    fn end(&mut self) -> Ended
-        ensures taken { (code : Code) (m : State) → Holds code self.old m → result.taken ≡ takes m }
-        ensures squashed { (code : Code) (m : State) → Holds code self.old m → result.squashed ≡ squashes code m }
-        ensures state { (code : Code) (m : State) → Holds code self.old m → Holds code self.new (ended code m) }
+    // The turn ends: where MEM holds a halt, nothing more happens; else the interrupt is taken, or the word in ALU decides.
+    // Answers whether it is taken. Each way counts for itself, so that the usual one has nothing to tell.
+    fn end(&mut self, course: Course, missed: bool) -> bool
+        requires cycles { self.old.counts.cycles < 2 ^ 63 }
+        requires code_address { (a : ℕ) → course ≡ Course.To a → a < 2 ^ 31 }
+        ensures taken { (code : Code) (m : State) → Holds code self.old m → result ≡ takes m }
+        ensures state { (code : Code) (m : State) → Holds code self.old m → Leads code m course → Holds code self.new (ended code m) }
+        ensures counts { (code : Code) (m : State) → Holds code self.old m → Leads code m course
+            → self.new.counts ≡ after_turn missed (squashes code m) (takes m) self.old.counts }
+        ensures cycles { self.new.counts.cycles ≡ self.old.counts.cycles + 1 }
         ensures program { KeepsProgram self.old self.new }
-        ensures counts { self.new.counts ≡ self.old.counts }
         ensures cache { self.new.cache ≡ self.old.cache }
     {
         let over = self.halted;
         if over {
-            return Ended {
-                taken: false,
-                squashed: false,
-            };
+            self.counts.turned(missed, false, false);
+            return false;
         }
-        self.turn()
+        if self.is_taken() {
+            self.enter(missed);
+            return true;
+        }
+        self.decide(course, missed);
+        false
     }
 
     // A turn acts.
     fn act(&mut self, missed: bool) -> Cycled
         requires { self.old.counts.cycles < 2 ^ 63 }
-        ensures state { (m : State) → Holds (code_of_pipe self.old) self.old m
+        ensures state { (m : State) → Holds (code_of_pipe self.old) self.old m → StillShown m.shown m.fetch m.rf m.alu m.mem
             → Holds (code_of_pipe self.old) self.new (ended (code_of_pipe self.old) (reached (code_of_pipe self.old) self.old.board.input m)) }
-        ensures answer { (m : State) → Holds (code_of_pipe self.old) self.old m → result ≡ acted_answer (code_of_pipe self.old) self.old.board.input m }
-        ensures counts { (m : State) → Holds (code_of_pipe self.old) self.old m → self.old.counts ≡ m.counts
+        ensures answer { (m : State) → Holds (code_of_pipe self.old) self.old m → StillShown m.shown m.fetch m.rf m.alu m.mem
+            → result ≡ acted_answer (code_of_pipe self.old) self.old.board.input m }
+        ensures counts { (m : State) → Holds (code_of_pipe self.old) self.old m → StillShown m.shown m.fetch m.rf m.alu m.mem → self.old.counts ≡ m.counts
             → self.new.counts ≡ counts_after (code_of_pipe self.old) self.old.board.input missed m }
         ensures cycles { self.new.counts.cycles ≡ self.old.counts.cycles + 1 }
         ensures wait { self.new.wait ≡ Wait.NotAsked }
@@ -215,15 +268,14 @@ impl<C: FetchCache> Pipe<C> {
         ensures cache { self.new.cache ≡ self.old.cache }
     {
         let reached = self.commit();
-        self.advance(&reached.write);
+        let course = self.advance(&reached);
         self.show();
         let halted = self.halted;
-        let ended = self.end();
+        let taken = self.end(course, missed);
         self.wait = Wait::NotAsked;
-        self.counts.turned(missed, ended.squashed, ended.taken);
         Cycled {
             byte: reached.byte,
-            taken: ended.taken,
+            taken,
             halted,
             stalled: false,
         }
@@ -237,7 +289,9 @@ impl<C: FetchCache> Pipe<C> {
         ensures counts { self.new.counts ≡ self.old.counts }
         ensures cache { self.new.cache ≡ self.old.cache }
     {
-        self.asked = either(self.asked, request);
+        if request {
+            self.asked = true;
+        }
     }
 
     // Whether the turn that now acts missed.
@@ -321,6 +375,13 @@ impl<C: FetchCache> Machine for Pipe<C> {
     }
 }
 
+// The fetch behind another one.
+fn following(last: Fetched) -> Fetched
+    ensures { result ≡ fetch_of (next_of None last.address) }
+{
+    fetch_of(last.address.wrapping_add(1) % (1 << 31))
+}
+
 // Whether a word goes back from the system.
 fn goes_back(pops: bool, user: bool) -> bool
     ensures { result ≡ (pops && not user) }
@@ -333,13 +394,6 @@ fn both(a: bool, b: bool) -> bool
     ensures { result ≡ (a && b) }
 {
     a && b
-}
-
-// Either of two.
-fn either(a: bool, b: bool) -> bool
-    ensures { result ≡ (a || b) }
-{
-    a || b
 }
 
 // The stalled cycles before a fetch acts.

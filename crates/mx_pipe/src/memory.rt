@@ -7,30 +7,30 @@ ghost use Rattle.mx_pipe.specs.Latched.{does};
 ghost use Rattle.mx_pipe.specs.Made.{reached, takes_byte, sends, md_kept, chain_kept};
 
 use crate::Latch;
-use crate::operands::Written;
 use mx_board::Board;
 use mx_isa::{Inst, Reg};
 use mx_pcchain::Chain;
 use mx_turn::move_to;
 
-/// What the machine learns of the word in MEM: the byte that it sends, and what it writes.
+/// What the machine learns of the word in MEM: the byte that it sends; the register that it writes, and the one of which it
+/// passes the number on to the word in ALU, r0 for none, since a load is not seen by the word behind it; and the number.
 #[derive(Clone, Copy)]
 pub struct Reached {
     pub byte: Option<u8>,
-    pub write: Written,
+    pub to: Reg,
+    pub passes: Reg,
+    pub word: u32,
 }
 
 // It sends nothing, and writes its number to a register, or to none.
 fn writes(to: Reg, word: u32) -> Reached
-    ensures { result ≡ record { byte = None; write = record { to = to; loads = false; word = word } } }
+    ensures { result ≡ record { byte = None; to = to; passes = to; word = word } }
 {
     Reached {
         byte: None,
-        write: Written {
-            to,
-            loads: false,
-            word,
-        },
+        to,
+        passes: to,
+        word,
     }
 }
 
@@ -56,30 +56,27 @@ pub fn reach(
     ensures taken { let find = (board user memory.old.input).load (words_of memory.old) memory.old.taken in
         memory.new.taken ≡ cond (takes_byte (does latch.old) latch.old.result find) (suc memory.old.taken) memory.old.taken }
     ensures byte { result.byte ≡ sent (board user memory.old.input) (sends (does latch.old) latch.old.result latch.old.b) }
-    ensures write { result.write ≡ record { to = dest (does latch.old); loads = is_load (does latch.old); word = latch.new.result } }
+    ensures to { result.to ≡ dest (does latch.old) }
+    ensures passes { result.passes ≡ cond (is_load (does latch.old)) 0 (dest (does latch.old)) }
+    ensures word { result.word ≡ latch.new.result }
 {
     *halted = false;
-    let inst = latch.inst;
-    match &inst {
+    match &latch.inst {
         Some(Inst::Load { dest, .. }) => {
             let word = memory.load(latch.result, user);
             latch.result = word;
             Reached {
                 byte: None,
-                write: Written {
-                    to: *dest,
-                    loads: true,
-                    word,
-                },
+                to: *dest,
+                passes: Reg::ZERO,
+                word,
             }
         }
         Some(Inst::Store { .. }) => Reached {
             byte: memory.store(latch.result, latch.b, user),
-            write: Written {
-                to: Reg::ZERO,
-                loads: false,
-                word: latch.result,
-            },
+            to: Reg::ZERO,
+            passes: Reg::ZERO,
+            word: latch.result,
         },
         Some(Inst::Compute { dest, .. }) => {
             *md = latch.md;

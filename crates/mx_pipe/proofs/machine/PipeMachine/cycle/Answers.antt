@@ -8,7 +8,7 @@ use Rattle.mx_turn.specs.Program.{state_after}
 use Rattle.mx_turn.proofs.Steps.{cycled_halted, cycled_acted, cycled_stalled, answer_acted, answer_stalled}
 use Rattle.mx_pipe.specs.declared.pipe.Wait.TheVariants.{NotAsked, Missed}
 use Rattle.mx_pipe.specs.declared.pipe.Pipe.{Pipe}
-use Rattle.mx_pipe.specs.Kept.{code_of_pipe, Holds, Waits, KeepsProgram}
+use Rattle.mx_pipe.specs.Kept.{code_of_pipe, Holds, StillShown, Waits, KeepsProgram}
 use Rattle.mx_pipe.proofs.Stands.{answers, stands_on, waiting, past_ended, same_code, keeps_both, tied_latched, waits_latched}
 use Rattle.mx_pipe.proofs.machine.PipeMachine.cycle.Goals as goal
 
@@ -63,8 +63,9 @@ returns-clause-answer g c = λ p h s.
     let keeps : KeepsProgram self q = keeps_both self u q e.program c.left-left.ensures.program in
     let same : code_of_pipe q ≡ code_of_pipe self = same_code self q keeps in
     let asked : Holds (code_of_pipe self) q l = c.left-left.ensures.state (code_of_pipe self) l tied in
+    let shows : StillShown l.shown l.fetch l.rf l.alu l.mem = record { older = s.shows.older; younger = s.shows.younger } in
     answers g.C.FetchCache.holds self p h s c.args.request c.act.result
-    (c.act.ensures.answer l (subst (λ x. Holds x q l) (sym same) asked)
+    (c.act.ensures.answer l (subst (λ x. Holds x q l) (sym same) asked) shows
     ∙ (λ k. acted_answer (same k) (keeps.input k) l)
     ∙ answer_acted resident (code_of_pipe self) self.board.input m c.args.request (sym s.tied.rest.halted ∙ c.if-self.false) (eq-eqb _ 0 (omega (arith, left, c.if-left-gt0.false))))
 
@@ -84,16 +85,17 @@ returns-clause-next g c = λ p h s.
     let keeps : KeepsProgram self q = keeps_both self u q e.program c.left-left.ensures.program in
     let same : code_of_pipe q ≡ code = same_code self q keeps in
     let asked : Holds (code_of_pipe q) q l = subst (λ x. Holds x q l) (sym same) (c.left-left.ensures.state code l tied) in
+    let shows : StillShown l.shown l.fetch l.rf l.alu l.mem = record { older = s.shows.older; younger = s.shows.younger } in
     let end : Machine = ended code (reached code self.board.input l) in
     let done : Holds code c.act.new.self end =
-    subst (λ x. Holds code c.act.new.self x) (λ k. ended (same k) (reached (same k) (keeps.input k) l)) (subst (λ x. Holds x c.act.new.self (ended (code_of_pipe q) (reached (code_of_pipe q) q.board.input l))) same (c.act.ensures.state l asked)) in
+    subst (λ x. Holds code c.act.new.self x) (λ k. ended (same k) (reached (same k) (keeps.input k) l)) (subst (λ x. Holds x c.act.new.self (ended (code_of_pipe q) (reached (code_of_pipe q) q.board.input l))) same (c.act.ensures.state l asked shows)) in
     let cache : g.C.FetchCache.holds c.act.new.self.cache end.past =
     subst (g.C.FetchCache.holds c.act.new.self.cache) (sym (past_ended code (reached code self.board.input l)))
     (subst (λ k. g.C.FetchCache.holds k (m.next.address ∷ m.past)) (sym c.act.ensures.cache) (c.left-left.ensures.cache m tied.rest.next waits)) in
     let missed : c.missed-missed.result ≡ not (resident m.past m.next.address) = c.missed-missed.ensures m waits none_left in
     let before : q.counts ≡ m.counts = c.left-left.ensures.counts ∙ e.counts ∙ s.counts in
     let counts : c.act.new.self.counts ≡ counts_after code self.board.input (not (resident m.past m.next.address)) l =
-    c.act.ensures.counts l asked before ∙ (λ k. counts_after (same k) (keeps.input k) (missed k) l) in
+    c.act.ensures.counts l asked shows before ∙ (λ k. counts_after (same k) (keeps.input k) (missed k) l) in
     let wait : c.act.new.self.wait ≡ NotAsked = c.act.ensures.wait in
     stands_on g.C.FetchCache.holds self p h s c.args.request c.act.new.self (acted resident code self.board.input l)
     (keeps_both self q c.act.new.self keeps c.act.ensures.program)

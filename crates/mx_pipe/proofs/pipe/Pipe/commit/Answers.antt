@@ -29,11 +29,11 @@ returns-clause-state g c = λ code m h.
     let file : slice_index c.write_back.new.file ≡ m.core.regs = c.write_back.ensures ∙ h.behind.regs in
     record {
       fetch = refl;
-      rf = record { word = h.fetch.word; inst = h.fetch.inst };
+      rf = h.fetch;
       alu = subst (IsRead code self.rf m.rf) (sym file) h.rf;
       behind = record {
         mem = ap (λ (l : Latched). l.word) c.reach.ensures.result ∙ h.alu.word;
-        wb = h.behind.mem;
+        wb = ap (λ (l : Latched). l.word) c.follow.ensures ∙ h.behind.mem;
         file = file;
         regs =
             (λ k. write (file k) (dest (does (c.reach.ensures.result k))) (c.reach.ensures.result k).result)

@@ -1,4 +1,4 @@
-use Rattle.std.proofs.Common.{◌≡◌, refl, sym, ap, ◌∙◌, cond}
+use Rattle.std.proofs.Common.{◌≡◌, true≢false, refl, sym, ap, ◌∙◌, cond}
 use Rattle.std.specs.Prelude.{slice_index}
 use Rattle.mx_isa.specs.Words.{write}
 use Rattle.mx_isa.specs.Views.{dest}
@@ -17,7 +17,7 @@ returns g c = record {
   waits = (c.requires.empty, λ k. cond (sym (none_resident 4096) k) 0 2);
   counts = c.none.ensures;
   tied = record {
-    fetch = record { word = λ k. (c.cleared.ensures k).word; inst = λ k. does (c.cleared.ensures k) };
+    fetch = λ k. (c.cleared.ensures k).word;
     rf = record { word = λ k. (c.cleared-2.ensures k).word; inst = λ k. does (c.cleared-2.ensures k); a = λ k. (c.cleared-2.ensures k).a; b = λ k. (c.cleared-2.ensures k).b };
     alu = record {
       word = λ k. (c.cleared-3.ensures k).word;
@@ -46,4 +46,5 @@ returns g c = record {
       shown = c.nothing.ensures;
     };
   };
+  shows = record { older = refl; younger = λ e. absurd (true≢false (sym e)) };
 }
