@@ -16,7 +16,7 @@ use Rattle.mx_turn.specs.Stages.{live, address_of, squash, fetch_of}
 use Rattle.mx_turn.specs.System.{seen, pops, restores}
 use Rattle.mx_turn.specs.Cycle.{Machine, first, second, decision, decided}
 use Rattle.mx_pipe.specs.declared.alu.Course.{Course}
-use Rattle.mx_pipe.specs.declared.alu.Course.TheVariants.{On, To, Cancels, Pops, Returns}
+use Rattle.mx_pipe.specs.declared.alu.Course.TheVariants.{On, To, Cancels}
 use Rattle.mx_pipe.specs.declared.pipe.Pipe.{Pipe}
 use Rattle.mx_pipe.specs.Latched.{squashed_if}
 use Rattle.mx_pipe.specs.Courses.{told, course_of}

@@ -1,5 +1,5 @@
 -- What the stages make of an instruction is what the definition does.
-use Rattle.std.proofs.Common.{◌≡◌, ℕ, Bool, true, false, cond, eqb, ◌&&◌, Option, Some, None, refl, sym, ap, ◌∙◌, arith}
+use Rattle.std.proofs.Common.{◌≡◌, ℕ, Bool, true, false, cond, ◌&&◌, Option, Some, None, refl, ap, ◌∙◌, arith}
 use Rattle.std.specs.Prelude.{slice_index}
 use Rattle.std.proofs.lemmas.Bool.Decides.{nat_tests}
 use Rattle.mx_isa.specs.declared.inst.Special.TheVariants.{Md, Pc1, Pc2, Pc3}
@@ -13,7 +13,6 @@ use Rattle.mx_isa.specs.Effect.{Found, Change, op_uses_md, or_kept}
 use Rattle.mx_isa.specs.Views.{sources, dest, is_load, is_halt}
 use Rattle.mx_code.specs.Delay.{Code}
 use Rattle.mx_pcchain.specs.declared.chain.Chain.{Chain}
-use Rattle.mx_pcchain.specs.declared.psw.Mode.{Mode}
 use Rattle.mx_pcchain.specs.declared.psw.Psw.{Psw}
 use Rattle.mx_pcchain.specs.Fetch.{Fetch}
 use Rattle.mx_pcchain.specs.Chain.{pop}

@@ -5,17 +5,15 @@ use Rattle.mx_pcchain.specs.Fetch.{Fetch}
 use Rattle.mx_turn.specs.Counted.{after_stall}
 use Rattle.mx_turn.specs.Stages.{squash, stage_of}
 use Rattle.mx_turn.specs.Cycle.{Machine, shifted, committed, showing, is_taken, entered, decision, decided, turned, ended, acted, latched, cycled}
-use Rattle.mx_pipe.specs.Kept.{is_live, StillShown}
-
-abbrev pub Shows : Machine → Type 0
-Shows m = StillShown m.shown m.fetch m.rf m.alu m.mem
+use Rattle.mx_pipe.specs.Kept.{is_live, Shows}
 
 either : (b : Bool) (m n : Machine) → Shows m → Shows n → Shows (cond b m n)
 either true m n s t = s
 either false m n s t = t
 
 -- where a branch that may have squashed two words left the younger one live, it squashed neither
-unmarked : (b : Bool) (fetch rf : Option Fetch) → is_live (squash b fetch) ≡ true → (stage_of fetch ≡ stage_of (squash b fetch)) × (stage_of rf ≡ stage_of (squash b rf))
+unmarked : (b : Bool) (fetch rf : Option Fetch) → is_live (squash b fetch) ≡ true
+    → (stage_of fetch ≡ stage_of (squash b fetch)) × (stage_of rf ≡ stage_of (squash b rf))
 unmarked b None rf e = absurd (true≢false (sym e))
 unmarked true (Some f) rf e = absurd (true≢false (sym e))
 unmarked false (Some f) None e = (refl, refl)

@@ -10,8 +10,8 @@ use Rattle.mx_turn.specs.Program.{Program, code_with, code_of, state_after, answ
 use Rattle.mx_turn.proofs.Steps.{after_one_more}
 use Rattle.mx_pipe.specs.declared.pipe.Pipe.{Pipe}
 use Rattle.mx_pipe.specs.declared.pipe.Wait.{Wait}
-use Rattle.mx_pipe.specs.Kept.{code_of_pipe, Holds, Waits, KeepsProgram, StandsFor}
-use Rattle.mx_pipe.proofs.Shows.{Shows, shows_cycled}
+use Rattle.mx_pipe.specs.Kept.{code_of_pipe, Holds, Shows, Waits, KeepsProgram, StandsFor}
+use Rattle.mx_pipe.proofs.Shows.{shows_cycled}
 
 -- neither the wait nor the counts and stalled cycles are in the tie
 pub waiting : {C : Type 0} (code : Code) (p : Pipe C) (m : Machine) (w : Wait) (d : Counted) (stall : ℕ) (counts : Counted) → Holds code p m

@@ -79,10 +79,10 @@ pub record Commits {C : Type 0} (code : Code) (p : Pipe C) (m : Machine) : Type 
   pub rest : SameRest p m
 
 -- what the machine learned of the word in MEM
-pub record Tells (told : Reached) (mem : Latched) : Type 0 where
-  pub to : told.to ≡ dest (does mem)
-  pub passes : told.passes ≡ cond (is_load (does mem)) 0 (dest (does mem))
-  pub word : told.word ≡ mem.result
+pub record Tells (learned : Reached) (mem : Latched) : Type 0 where
+  pub to : learned.to ≡ dest (does mem)
+  pub passes : learned.passes ≡ cond (is_load (does mem)) 0 (dest (does mem))
+  pub word : learned.word ≡ mem.result
 
 -- where the word in ALU leads
 abbrev pub Leads : Code → Machine → Course → Type 0
@@ -98,6 +98,10 @@ is_live (Some f) = not f.squashed
 pub record StillShown (shown : Latches) (fetch rf alu mem : Option Fetch) : Type 0 where
   pub older : shown.mem ≡ stage_of mem
   pub younger : is_live fetch ≡ true → (shown.fetch ≡ stage_of fetch) × (shown.rf ≡ stage_of rf) × (shown.alu ≡ stage_of alu)
+
+-- between turns
+abbrev pub Shows : Machine → Type 0
+Shows m = StillShown m.shown m.fetch m.rf m.alu m.mem
 
 -- whether the cache was asked for the fetch of the coming turn, and the stalled cycles left
 abbrev pub Waits : {C : Type 0} → (C → List ℕ → Type 0) → C → Machine → Wait → Type 0
@@ -118,4 +122,4 @@ pub record StandsFor {C : Type 0} (holds : C → List ℕ → Type 0) (t : Pipe 
   pub waits : Waits holds t.cache (state_after p h) t.wait
   pub counts : t.counts ≡ (state_after p h).counts
   pub tied : Holds (code_of_pipe t) t (state_after p h)
-  pub shows : (let m = state_after p h in StillShown m.shown m.fetch m.rf m.alu m.mem)
+  pub shows : Shows (state_after p h)

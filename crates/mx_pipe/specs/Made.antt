@@ -1,5 +1,5 @@
 -- What the stages make of an instruction.
-use Rattle.std.specs.Prelude.{ℕ, Bool, true, false, cond, eqb, not, ◌&&◌, Option, Some, None}
+use Rattle.std.specs.Prelude.{ℕ, Bool, false, cond, eqb, not, ◌&&◌, Option, Some, None}
 use Rattle.mx_isa.specs.declared.inst.Special.TheVariants.{Md}
 use Rattle.mx_isa.specs.declared.inst.Inst.{Inst}
 use Rattle.mx_isa.specs.declared.inst.Inst.TheVariants.{Load, Store, Compute, MoveFrom, MoveTo}

@@ -11,7 +11,7 @@ ghost use Rattle.mx_turn.specs.Cycle.{Machine as State, shifted, committed, comm
 ghost use Rattle.mx_pipe.specs.declared.pipe.Wait.{Wait};
 ghost use Rattle.mx_pipe.specs.Latched.{squashed_if};
 ghost use Rattle.mx_pipe.specs.Courses.{told};
-ghost use Rattle.mx_pipe.specs.Kept.{code_of_pipe, is_live, IsRead, IsMade, Holds, Commits, Tells, Leads, StillShown, Waits, KeepsProgram, StandsFor};
+ghost use Rattle.mx_pipe.specs.Kept.{code_of_pipe, is_live, IsRead, IsMade, Holds, Commits, Tells, Leads, StillShown, Shows, Waits, KeepsProgram, StandsFor};
 
 use crate::alu::{Course, make};
 use crate::fetching::{address, inst_in};
@@ -256,11 +256,11 @@ impl<C: FetchCache> Pipe<C> {
     // A turn acts.
     fn act(&mut self, missed: bool) -> Cycled
         requires { self.old.counts.cycles < 2 ^ 63 }
-        ensures state { (m : State) → Holds (code_of_pipe self.old) self.old m → StillShown m.shown m.fetch m.rf m.alu m.mem
+        ensures state { (m : State) → Holds (code_of_pipe self.old) self.old m → Shows m
             → Holds (code_of_pipe self.old) self.new (ended (code_of_pipe self.old) (reached (code_of_pipe self.old) self.old.board.input m)) }
-        ensures answer { (m : State) → Holds (code_of_pipe self.old) self.old m → StillShown m.shown m.fetch m.rf m.alu m.mem
+        ensures answer { (m : State) → Holds (code_of_pipe self.old) self.old m → Shows m
             → result ≡ acted_answer (code_of_pipe self.old) self.old.board.input m }
-        ensures counts { (m : State) → Holds (code_of_pipe self.old) self.old m → StillShown m.shown m.fetch m.rf m.alu m.mem → self.old.counts ≡ m.counts
+        ensures counts { (m : State) → Holds (code_of_pipe self.old) self.old m → Shows m → self.old.counts ≡ m.counts
             → self.new.counts ≡ counts_after (code_of_pipe self.old) self.old.board.input missed m }
         ensures cycles { self.new.counts.cycles ≡ self.old.counts.cycles + 1 }
         ensures wait { self.new.wait ≡ Wait.NotAsked }

@@ -1,4 +1,4 @@
-use Rattle.std.proofs.Common.{◌≡◌, ◌-◌, ℕ, Bool, true, false, cond, leb, List, Option, refl, sym, ap, ◌∙◌, arith}
+use Rattle.std.proofs.Common.{◌≡◌, ◌-◌, ℕ, Bool, true, false, cond, leb, Option, refl, sym, ap, ◌∙◌, arith}
 use Rattle.std.specs.Prelude.{unwrap_or, option_and_then, slice_get}
 use Rattle.std.proofs.lemmas.Bool.{cond-true}
 use Rattle.std.proofs.lemmas.Bool.Decides.{nat_tests}

@@ -7,7 +7,6 @@ use Rattle.mx_turn.specs.Cycle.{counts_after, Machine, latched, ended, reached, 
 use Rattle.mx_turn.specs.Program.{state_after}
 use Rattle.mx_turn.proofs.Steps.{cycled_halted, cycled_acted, cycled_stalled, answer_acted, answer_stalled}
 use Rattle.mx_pipe.specs.declared.pipe.Wait.TheVariants.{NotAsked, Missed}
-use Rattle.mx_pipe.specs.declared.pipe.Pipe.{Pipe}
 use Rattle.mx_pipe.specs.Kept.{code_of_pipe, Holds, StillShown, Waits, KeepsProgram}
 use Rattle.mx_pipe.proofs.Stands.{answers, stands_on, waiting, past_ended, same_code, keeps_both, tied_latched, waits_latched}
 use Rattle.mx_pipe.proofs.machine.PipeMachine.cycle.Goals as goal

@@ -1,4 +1,4 @@
-use Rattle.std.proofs.Common.{◌≡◌, false, sym, ap, ◌∙◌, subst}
+use Rattle.std.proofs.Common.{◌≡◌, false, sym, ◌∙◌, subst}
 use Rattle.mx_code.specs.Delay.{Code}
 use Rattle.mx_turn.specs.Counted.{after_turn}
 use Rattle.mx_turn.specs.Cycle.{Machine, shifted, committed, reached, ended, takes, squashes}

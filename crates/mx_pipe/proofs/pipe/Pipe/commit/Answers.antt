@@ -2,17 +2,16 @@ use Rattle.std.proofs.Common.{◌≡◌, ℕ, Bool, cond, suc, refl, sym, ap, �
 use Rattle.std.specs.Prelude.{slice_index}
 use Rattle.mx_isa.specs.declared.inst.Inst.{Inst}
 use Rattle.mx_isa.specs.Words.{Words, write}
-use Rattle.mx_isa.specs.Effect.{Found, Change, stored, sent, or_kept}
+use Rattle.mx_isa.specs.Effect.{Found, stored, sent}
 use Rattle.mx_isa.specs.Views.{dest, is_halt}
 use Rattle.mx_board.specs.Data.{board, words_of}
 use Rattle.mx_pcchain.specs.declared.psw.Psw.{Psw}
 use Rattle.mx_turn.specs.Stages.{live, address_of}
-use Rattle.mx_turn.specs.System.{seen, slot_of, system_change}
-use Rattle.mx_turn.specs.Cycle.{mem_change}
+use Rattle.mx_turn.specs.System.{seen, slot_of}
 use Rattle.mx_pipe.specs.Latched.{Latched, does}
 use Rattle.mx_pipe.specs.Made.{reached, takes_byte, sends, chain_kept, md_kept}
 use Rattle.mx_pipe.specs.Kept.{IsRead}
-use Rattle.mx_pipe.proofs.Makes.{made, changed, written_is, md_is, sends_is, takes_is, chain_is, slot_is, halt_is}
+use Rattle.mx_pipe.proofs.Makes.{written_is, md_is, sends_is, takes_is, chain_is, slot_is, halt_is}
 use Rattle.mx_pipe.proofs.pipe.Pipe.commit.Goals as goal
 
 pub returns-clause-state : goal.returns-clause-state

@@ -1,7 +1,7 @@
 use Rattle.std.proofs.Common.{false, refl, sym, ap, ◌∙◌, subst}
 use Rattle.mx_turn.specs.Counted.{after_turn}
 use Rattle.mx_turn.specs.Cycle.{decided}
-use Rattle.mx_pipe.specs.declared.alu.Course.TheVariants.{On, To, Cancels, Pops, Returns}
+use Rattle.mx_pipe.specs.declared.alu.Course.TheVariants.{On, To}
 use Rattle.mx_pipe.specs.Kept.{Holds}
 use Rattle.mx_pipe.proofs.Decides.{tells_cancels, decides_so}
 use Rattle.mx_pipe.proofs.pipe.Pipe.decide.Goals as goal

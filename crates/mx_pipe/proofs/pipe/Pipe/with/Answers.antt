@@ -1,5 +1,4 @@
-use Rattle.std.proofs.Common.{◌≡◌, true≢false, refl, sym, ap, ◌∙◌, cond}
-use Rattle.std.specs.Prelude.{slice_index}
+use Rattle.std.proofs.Common.{true≢false, refl, sym, ap, ◌∙◌, cond}
 use Rattle.mx_isa.specs.Words.{write}
 use Rattle.mx_isa.specs.Views.{dest}
 use Rattle.mx_code.specs.Delay.{data_from}
