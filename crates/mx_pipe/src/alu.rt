@@ -105,18 +105,20 @@ fn to(address: u32) -> Course
     Course::To(address % (1 << 31))
 }
 
-// The course of a branch, by whether it holds.
-fn branches(goes: bool, at: u32, squash: bool, by: i32) -> Course
-    ensures course { result ≡ (if goes then Course.To ((at + cast_unsigned w32 by) % 2 ^ 31) else (if squash then Course.Cancels else Course.On)) }
+// The course of a branch that holds.
+fn taken(at: u32, by: i32) -> Course
+    ensures course { result ≡ Course.To ((at + cast_unsigned w32 by) % 2 ^ 31) }
     ensures code_address { (a : ℕ) → result ≡ Course.To a → a < 2 ^ 31 }
 {
-    if goes {
-        Course::To(at.wrapping_add(by.cast_unsigned()) % (1 << 31))
-    } else if squash {
-        Course::Cancels
-    } else {
-        Course::On
-    }
+    Course::To(at.wrapping_add(by.cast_unsigned()) % (1 << 31))
+}
+
+// The course of one that does not.
+fn not_taken(squash: bool) -> Course
+    ensures course { result ≡ (if squash then Course.Cancels else Course.On) }
+    ensures code_address { (a : ℕ) → result ≡ Course.To a → a < 2 ^ 31 }
+{
+    if squash { Course::Cancels } else { Course::On }
 }
 
 /// The word that comes into ALU takes its operands, those that it read in RF or newer ones from MEM, makes its number of
@@ -161,9 +163,12 @@ pub fn make(alu: &mut Latch, mem: &Reached, md: u32, user: bool, chain: &Chain) 
         ) => {
             alu.a = newest(mem, *a, alu.a);
             alu.b = newest(mem, *b, alu.b);
-            let goes = holds(*cond, alu.a, alu.b);
-            alu.result = u32::from(goes);
-            return branches(goes, address_of(alu.word), *squash, *by);
+            if holds(*cond, alu.a, alu.b) {
+                alu.result = 1;
+                return taken(address_of(alu.word), *by);
+            }
+            alu.result = 0;
+            return not_taken(*squash);
         }
         Some(Inst::Compute { a, b, op, .. }) => {
             alu.a = newest(mem, *a, alu.a);
