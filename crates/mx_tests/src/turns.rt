@@ -112,16 +112,29 @@ pub(crate) fn console_of(alloc: Global, code: &[u32], budget: u32) -> Result<Str
     Ok(drive(alloc, &mut machine, &[], budget)?)
 }
 
-/// The cycles in which an interrupt is taken.
-fn taken_in(alloc: Global, code: &[u32], requests: &[u32], budget: u32) -> Result<Vec<u32>, Fail> {
-    let mut machine = machine(alloc, code, &[])?;
+/// The cycles of a budget in which a machine takes an interrupt.
+fn taken_cycles<M: Machine>(
+    alloc: Global,
+    machine: &mut M,
+    requests: &[u32],
+    budget: u32,
+) -> Result<Vec<u32>, AllocError> {
     let mut taken = Vec::new(alloc);
     for cycle in 0..budget {
+        if machine.counts().cycles > 1_000_000 {
+            break;
+        }
         if machine.cycle(requests.contains(&cycle)).taken {
             taken.push(cycle)?;
         }
     }
     Ok(taken)
+}
+
+/// The cycles of a run without data in which an interrupt is taken.
+fn taken_in(alloc: Global, code: &[u32], requests: &[u32], budget: u32) -> Result<Vec<u32>, Fail> {
+    let mut machine = machine(alloc, code, &[])?;
+    Ok(taken_cycles(alloc, &mut machine, requests, budget)?)
 }
 
 #[test]
