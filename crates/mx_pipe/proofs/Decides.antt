@@ -18,6 +18,7 @@ use Rattle.mx_turn.specs.Cycle.{Machine, first, second, decision, decided}
 use Rattle.mx_pipe.specs.declared.alu.Course.{Course}
 use Rattle.mx_pipe.specs.declared.alu.Course.TheVariants.{On, To, Cancels}
 use Rattle.mx_pipe.specs.declared.pipe.Pipe.{Pipe}
+use Rattle.mx_pipe.specs.declared.pipe.Wait.TheVariants.{NotAsked}
 use Rattle.mx_pipe.specs.Latched.{squashed_if}
 use Rattle.mx_pipe.specs.Courses.{told, course_of}
 use Rattle.mx_pipe.specs.Kept.{IsRead, Holds, Leads}
@@ -76,6 +77,7 @@ module _ {C : Type 0} (code : Code) (p : Pipe C) (m : Machine) (h : Holds code p
     rf = squashed_if d.cancels p.rf;
     chain = cond back (pop p.chain) p.chain;
     psw = cond (d.restores && back) (psw_restored p.psw) p.psw;
+    wait = NotAsked;
     counts = counts;
   }
 

@@ -1,5 +1,5 @@
 -- How a cycle keeps what a pipeline stands for.
-use Rattle.std.proofs.Common.{◌≡◌, ℕ, Bool, true, false, cond, List, [], ◌∷◌, ◌++◌, refl, sym, ap, ◌∙◌, subst}
+use Rattle.std.proofs.Common.{arith, ◌≡◌, ℕ, Bool, true, false, not, cond, List, [], ◌∷◌, ◌++◌, refl, sym, ap, ◌∙◌, subst}
 use Rattle.mx_code.specs.Decoding.{inst_of}
 use Rattle.mx_code.specs.Delay.{Code, code_from}
 use Rattle.mx_icache.specs.Residency.{resident}
@@ -10,7 +10,8 @@ use Rattle.mx_turn.specs.Program.{Program, code_with, code_of, state_after, answ
 use Rattle.mx_turn.proofs.Steps.{after_one_more}
 use Rattle.mx_pipe.specs.declared.pipe.Pipe.{Pipe}
 use Rattle.mx_pipe.specs.declared.pipe.Wait.{Wait}
-use Rattle.mx_pipe.specs.Kept.{code_of_pipe, Holds, Shows, Waits, KeepsProgram, StandsFor}
+use Rattle.mx_pipe.specs.declared.pipe.Wait.TheVariants.{NotAsked, Missed}
+use Rattle.mx_pipe.specs.Kept.{code_of_pipe, Holds, Shows, Waits, has_missed, KeepsProgram, StandsFor}
 use Rattle.mx_pipe.proofs.Shows.{shows_cycled}
 
 -- neither the wait nor the counts and stalled cycles are in the tie
@@ -73,6 +74,16 @@ module _ {C : Type 0} (holds : C → List ℕ → Type 0) (t : Pipe C) (p : Prog
         tied = subst (λ x. Holds (code_of_pipe t') t' x) to (subst (λ x. Holds x t' n) (sym (same_code t t' keeps)) tied);
         shows = subst Shows from (shows_cycled resident (code_of_pipe t) t.board.input m request s.shows);
       }
+
+resident_now : (b : Bool) (stall : ℕ) → stall ≡ cond b 0 2 → stall ≡ 0 → false ≡ not b
+resident_now true stall e f = refl
+resident_now false stall e f = absurd (omega (arith, e, f))
+
+-- where a turn acts, its fetch missed or is resident
+pub missed_is : {C : Type 0} (holds : C → List ℕ → Type 0) (c : C) (m : Machine) (w : Wait) → Waits holds c m w → m.stall ≡ 0
+    → has_missed w ≡ not (resident m.past m.next.address)
+missed_is holds c m NotAsked s e = resident_now (resident m.past m.next.address) m.stall s.1 e
+missed_is holds c m (Missed n) s e = ap not (sym s.2)
 
 -- once the request is latched, in a pipeline that waits as before
 module _ {C : Type 0} (holds : C → List ℕ → Type 0) (t u : Pipe C) (p : Program) (h : List Bool) (s : StandsFor holds t p h) (request : Bool)

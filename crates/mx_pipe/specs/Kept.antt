@@ -108,6 +108,11 @@ abbrev pub Waits : {C : Type 0} → (C → List ℕ → Type 0) → C → Machin
 Waits holds c m NotAsked = holds c m.past × m.stall ≡ cond (resident m.past m.next.address) 0 2
 Waits holds c m (Missed n) = holds c (m.next.address ∷ m.past) × m.stall ≡ n × resident m.past m.next.address ≡ false
 
+-- whether the fetch of the coming turn missed, once none of its stalled cycles is left
+abbrev pub has_missed : Wait → Bool
+has_missed NotAsked = false
+has_missed (Missed n) = true
+
 -- the code words and the input stay
 pub record KeepsProgram {C : Type 0} (p p' : Pipe C) : Type 0 where
   pub code : p'.code ≡ p.code

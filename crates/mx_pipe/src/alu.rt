@@ -16,18 +16,19 @@ use crate::Latch;
 use crate::fetching::address_of;
 use crate::memory::Reached;
 use mx_isa::{Inst, Reg, Special, compute, holds};
-use mx_pcchain::Chain;
+use mx_pcchain::{Chain, Psw};
 use mx_turn::{Decided, goes_on, goes_to, number_of};
 
-/// Where a word in ALU leads: on, which is to the next word; to an address; on, and it cancels the two words behind it; in
-/// system mode back to the first of the saved fetches; or there and to the other mode.
+/// Where a word in ALU leads: on, and it cancels the two words behind it; in system mode back to the first of the saved
+/// fetches; or there and to the other mode; to an address; or on, which is to the next word.
+// The usual ones come last, so that one comparison tells the others from them.
 #[derive(Clone, Copy)]
 pub enum Course {
-    On,
-    To(u32),
     Cancels,
     Pops,
     Returns,
+    To(u32),
+    On,
 }
 
 impl Course {
@@ -125,13 +126,13 @@ fn not_taken(squash: bool) -> Course
 /// them, and says where it leads.
 // One match, since each costs a jump in every cycle.
 #[inline(always)]
-pub fn make(alu: &mut Latch, mem: &Reached, md: u32, user: bool, chain: &Chain) -> Course
+pub fn make(alu: &mut Latch, mem: &Reached, md: &u32, psw: &Psw, chain: &Chain) -> Course
     ensures word { alu.new.word ≡ alu.old.word }
-    ensures inst { does alu.new ≡ allowed user (does alu.old) }
+    ensures inst { does alu.new ≡ allowed psw.now.current.user (does alu.old) }
     ensures a { alu.new.a ≡ passed mem.now.passes mem.now.word (sources (does alu.old)).0 alu.old.a }
     ensures b { alu.new.b ≡ passed mem.now.passes mem.now.word (sources (does alu.old)).1 alu.old.b }
-    ensures number { alu.new.result ≡ number_of user chain.now (does alu.old) (address_of alu.old.word) alu.new.a alu.new.b md }
-    ensures md { md_kept alu.new.inst alu.new.result alu.new.md md ≡ md_behind (does alu.old) alu.new.a alu.new.b md }
+    ensures number { alu.new.result ≡ number_of psw.now.current.user chain.now (does alu.old) (address_of alu.old.word) alu.new.a alu.new.b md.now }
+    ensures md { md_kept alu.new.inst alu.new.result alu.new.md md.now ≡ md_behind (does alu.old) alu.new.a alu.new.b md.now }
     ensures course { (regs : Words) → alu.new.a ≡ reg regs (sources (does alu.old)).0 → alu.new.b ≡ reg regs (sources (does alu.old)).1
         → result ≡ course_of (does alu.old) (address_of alu.old.word) regs }
     ensures code_address { (a : ℕ) → result ≡ Course.To a → a < 2 ^ 31 }
@@ -173,7 +174,7 @@ pub fn make(alu: &mut Latch, mem: &Reached, md: u32, user: bool, chain: &Chain) 
         Some(Inst::Compute { a, b, op, .. }) => {
             alu.a = newest(mem, *a, alu.a);
             alu.b = newest(mem, *b, alu.b);
-            (alu.result, alu.md) = compute(*op, alu.a, alu.b, md);
+            (alu.result, alu.md) = compute(*op, alu.a, alu.b, *md);
         }
         Some(Inst::Addi { a, imm, .. }) => {
             alu.a = newest(mem, *a, alu.a);
@@ -184,8 +185,16 @@ pub fn make(alu: &mut Latch, mem: &Reached, md: u32, user: bool, chain: &Chain) 
                 dest: *dest,
                 special: *special,
             };
-            alu.result = number_of(&inst, address_of(alu.word), alu.a, alu.b, md, user, chain);
-            if is_refused(user, &inst) {
+            alu.result = number_of(
+                &inst,
+                address_of(alu.word),
+                alu.a,
+                alu.b,
+                *md,
+                psw.current.user,
+                chain,
+            );
+            if is_refused(psw.current.user, &inst) {
                 alu.inst = None;
             }
         }

@@ -5,30 +5,34 @@ ghost use Rattle.mx_pcchain.specs.Chain.{fetch_from, pop};
 ghost use Rattle.mx_pcchain.specs.Modes.{psw_restored};
 ghost use Rattle.mx_code.specs.Delay.{Code, next_of};
 ghost use Rattle.mx_icache.specs.Residency.{resident};
-ghost use Rattle.mx_turn.specs.Counted.{after_turn};
+ghost use Rattle.mx_turn.specs.Counted.{after_turn, after_stall};
 ghost use Rattle.mx_turn.specs.Stages.{fetch_of, stage_of};
-ghost use Rattle.mx_turn.specs.Cycle.{Machine as State, shifted, committed, commit_byte, showing, entered, decided, decision, latched, is_taken, reached, ended, takes, squashes, counts_after, acted_answer};
+ghost use Rattle.mx_turn.specs.Cycle.{Machine as State, shifted, committed, commit_byte, showing, entered, decided, decision, turned, latched, is_taken, reached, ended, counts_after, acted_answer};
 ghost use Rattle.mx_pipe.specs.declared.pipe.Wait.{Wait};
 ghost use Rattle.mx_pipe.specs.Latched.{squashed_if};
 ghost use Rattle.mx_pipe.specs.Courses.{told};
-ghost use Rattle.mx_pipe.specs.Kept.{code_of_pipe, is_live, IsRead, IsMade, Holds, Commits, Tells, Leads, StillShown, Shows, Waits, KeepsProgram, StandsFor};
+ghost use Rattle.mx_pipe.specs.Kept.{code_of_pipe, is_live, IsRead, IsMade, Holds, Commits, Tells, Leads, StillShown, Shows, Waits, has_missed, KeepsProgram, StandsFor};
 
 use crate::alu::{Course, make};
-use crate::fetching::{address, inst_in};
+use crate::fetching::{address, address_of, inst_in};
 use crate::memory::{Reached, reach};
 use crate::operands::{read_operands, register_of, write_back};
 use crate::{Latch, Pipe, Wait};
 use mx_icache::FetchCache;
 use mx_isa::Reg;
 use mx_pcchain::Fetched;
-use mx_turn::{Counts, Cycled, Latches, Machine, fetch_of, led, popped, restored, saved, stage_of};
+use mx_turn::{
+    Counts, Cycled, Latches, Machine, Stage, fetch_of, led, popped, restored, saved, stage_of,
+};
 
 impl<C: FetchCache> Pipe<C> {
     // WB writes the file, and the word in ALU comes into MEM.
     fn commit(&mut self) -> Reached
+        requires { self.old.halted ≡ false }
         ensures state { (code : Code) (m : State) → Holds code self.old m → Commits code self.new (committed code self.old.board.input (shifted m)) }
         ensures byte { (code : Code) (m : State) → Holds code self.old m → result.byte ≡ commit_byte code self.old.board.input (shifted m) }
         ensures write { Tells result self.new.mem }
+        ensures wait { self.new.wait ≡ self.old.wait }
         ensures program { KeepsProgram self.old self.new }
         ensures counts { self.new.counts ≡ self.old.counts }
         ensures cache { self.new.cache ≡ self.old.cache }
@@ -36,10 +40,9 @@ impl<C: FetchCache> Pipe<C> {
         write_back(&mut self.file, &self.mem);
         self.wb.follow(&self.mem);
         self.mem = self.alu;
-        let user = self.psw.current.user;
         reach(
             &mut self.mem,
-            user,
+            &self.psw,
             &mut self.md,
             &mut self.chain,
             &mut self.halted,
@@ -56,13 +59,7 @@ impl<C: FetchCache> Pipe<C> {
         ensures rest { self.new ≡ record self.old { alu = self.new.alu } }
     {
         self.alu = self.rf;
-        make(
-            &mut self.alu,
-            mem,
-            self.md,
-            self.psw.current.user,
-            &self.chain,
-        )
+        make(&mut self.alu, mem, &self.md, &self.psw, &self.chain)
     }
 
     // The word in IF comes into RF, and reads its operands.
@@ -84,6 +81,7 @@ impl<C: FetchCache> Pipe<C> {
         ensures live { (code : Code) (m : State) → Commits code self.old m → is_some self.new.rf.inst ≡ true → is_live m.rf ≡ true }
         ensures course { (code : Code) (m : State) → Commits code self.old m → Leads code m result }
         ensures code_address { (a : ℕ) → result ≡ Course.To a → a < 2 ^ 31 }
+        ensures wait { self.new.wait ≡ self.old.wait }
         ensures program { KeepsProgram self.old self.new }
         ensures counts { self.new.counts ≡ self.old.counts }
         ensures cache { self.new.cache ≡ self.old.cache }
@@ -95,11 +93,12 @@ impl<C: FetchCache> Pipe<C> {
         course
     }
 
-    // What the turn shows is kept. Where the word in RF does something, the turn before marked no word, and what it showed
-    // moves on by one stage.
+    // What the turn shows is kept. Where the word in RF does something, it is live and the turn before marked no word, so what
+    // that one showed moves on by one stage.
     fn show(&mut self)
         ensures state { (code : Code) (m : State) → Holds code self.old m → (is_some self.old.rf.inst ≡ true → is_live m.rf ≡ true)
             → StillShown m.shown m.rf m.alu m.mem m.wb → Holds code self.new (showing code m) }
+        ensures wait { self.new.wait ≡ self.old.wait }
         ensures program { KeepsProgram self.old self.new }
         ensures counts { self.new.counts ≡ self.old.counts }
         ensures cache { self.new.cache ≡ self.old.cache }
@@ -108,7 +107,7 @@ impl<C: FetchCache> Pipe<C> {
             self.shown.wb = self.shown.mem;
             self.shown.mem = self.shown.alu;
             self.shown.alu = self.shown.rf;
-            self.shown.rf = self.shown.fetch;
+            self.shown.rf = Stage::Live(address_of(self.rf.word));
             self.shown.fetch = stage_of(self.fetch.word);
             self.shown.a = self.alu.a;
             self.shown.b = self.alu.b;
@@ -146,13 +145,42 @@ impl<C: FetchCache> Pipe<C> {
         };
     }
 
+    // The turn is counted, and the cache is not yet asked for the next one's fetch.
+    #[inline(never)]
+    fn count(&mut self, squashed: bool, taken: bool)
+        requires { self.old.counts.cycles < 2 ^ 63 }
+        ensures { self.new ≡ record self.old {
+          wait = Wait.NotAsked;
+          counts = after_turn (has_missed self.old.wait) squashed taken self.old.counts;
+        } }
+    {
+        let missed = self.wait != Wait::NotAsked;
+        self.wait = Wait::NotAsked;
+        self.counts.turned(missed, squashed, taken);
+    }
+
+    // A turn that squashed nothing and took no interrupt is counted. Few fetches miss, and those alone pay for it.
+    fn count_plain(&mut self)
+        requires { self.old.counts.cycles < 2 ^ 63 }
+        ensures { self.new ≡ record self.old {
+          wait = Wait.NotAsked;
+          counts = after_turn (has_missed self.old.wait) false false self.old.counts;
+        } }
+    {
+        match self.wait {
+            Wait::NotAsked => self.counts.turned(false, false, false),
+            Wait::Missed(_) => self.count(false, false),
+        }
+    }
+
     // The interrupt is taken.
     #[inline(never)]
-    fn enter(&mut self, missed: bool)
+    fn enter(&mut self)
         requires { self.old.counts.cycles < 2 ^ 63 }
         ensures state { (code : Code) (m : State) → Holds code self.old m → Holds code self.new (entered m) }
+        ensures wait { self.new.wait ≡ Wait.NotAsked }
         ensures program { KeepsProgram self.old self.new }
-        ensures counts { self.new.counts ≡ after_turn missed false true self.old.counts }
+        ensures counts { self.new.counts ≡ after_turn (has_missed self.old.wait) false true self.old.counts }
         ensures cache { self.new.cache ≡ self.old.cache }
     {
         self.asked = false;
@@ -166,29 +194,34 @@ impl<C: FetchCache> Pipe<C> {
         self.rf = Latch::cleared(None);
         self.fetch = Latch::cleared(None);
         self.next = fetch_of(0);
-        self.counts.turned(missed, false, true);
+        self.count(false, true);
     }
 
-    // Whether an interrupt is taken in this turn.
-    fn is_taken(&self) -> bool
-        ensures { (code : Code) (m : State) → Holds code self.now m → result ≡ is_taken m }
+    // Whether an interrupt that is asked for is taken in this turn.
+    #[inline(never)]
+    fn may_enter(&self) -> bool
+        ensures { (code : Code) (m : State) → Holds code self.now m → self.now.asked ≡ true → result ≡ is_taken m }
     {
-        self.psw.current.interrupts && self.asked && self.alu.word.is_some()
+        self.psw.current.interrupts && self.alu.word.is_some()
     }
 
     // The word in ALU leads to a fetch.
-    fn go(&mut self, next: Fetched, missed: bool)
+    fn go(&mut self, next: Fetched)
         requires { self.old.counts.cycles < 2 ^ 63 }
-        ensures { self.new ≡ record self.old { next = next; counts = after_turn missed false false self.old.counts } }
+        ensures { self.new ≡ record self.old {
+          next = next;
+          wait = Wait.NotAsked;
+          counts = after_turn (has_missed self.old.wait) false false self.old.counts;
+        } }
     {
         self.next = next;
-        self.counts.turned(missed, false, false);
+        self.count_plain();
     }
 
     // The word in ALU leads where its course says. Those that cancel the words behind them, or go back from the system, are
     // few: a call of its own keeps the way of the others short.
     #[inline(never)]
-    fn turn_aside(&mut self, course: Course, missed: bool)
+    fn turn_aside(&mut self, course: Course)
         requires cycles { self.old.counts.cycles < 2 ^ 63 }
         requires code_address { (a : ℕ) → course ≡ Course.To a → a < 2 ^ 31 }
         ensures { let d = told course in let back = d.pops && not self.old.psw.current.user in self.new ≡ record self.old {
@@ -197,7 +230,8 @@ impl<C: FetchCache> Pipe<C> {
           rf = squashed_if d.cancels self.old.rf;
           chain = (if back then pop self.old.chain else self.old.chain);
           psw = (if d.restores && back then psw_restored self.old.psw else self.old.psw);
-          counts = after_turn missed d.cancels false self.old.counts;
+          wait = Wait.NotAsked;
+          counts = after_turn (has_missed self.old.wait) d.cancels false self.old.counts;
         } }
     {
         let decided = course.decided();
@@ -207,76 +241,103 @@ impl<C: FetchCache> Pipe<C> {
         self.rf.squash(decided.cancels);
         self.chain = popped(back, self.chain);
         self.psw = restored(both(decided.restores, back), self.psw);
-        self.counts.turned(missed, decided.cancels, false);
+        self.count(decided.cancels, false);
     }
 
     // The word in ALU decides.
-    fn decide(&mut self, course: Course, missed: bool)
+    fn decide(&mut self, course: Course)
         requires cycles { self.old.counts.cycles < 2 ^ 63 }
         requires code_address { (a : ℕ) → course ≡ Course.To a → a < 2 ^ 31 }
         ensures state { (code : Code) (m : State) → Holds code self.old m → Leads code m course → Holds code self.new (decided code m) }
-        ensures counts { (code : Code) (m : State) → Leads code m course → self.new.counts ≡ after_turn missed (decision code m).cancels false self.old.counts }
+        ensures counts { (code : Code) (m : State) → Leads code m course → self.new.counts ≡ after_turn (has_missed self.old.wait) (decision code m).cancels false self.old.counts }
+        ensures wait { self.new.wait ≡ Wait.NotAsked }
         ensures cycles { self.new.counts.cycles ≡ self.old.counts.cycles + 1 }
         ensures program { KeepsProgram self.old self.new }
         ensures cache { self.new.cache ≡ self.old.cache }
     {
         match course {
-            Course::On => self.go(following(self.next), missed),
-            Course::To(target) => self.go(fetch_of(target), missed),
-            _ => self.turn_aside(course, missed),
+            Course::On => self.go(following(self.next)),
+            Course::To(target) => self.go(fetch_of(target)),
+            _ => self.turn_aside(course),
         }
     }
 
-    // The turn ends: where MEM holds a halt, nothing more happens; else the interrupt is taken, or the word in ALU decides.
-    // Answers whether it is taken. Each way counts for itself, so that the usual one has nothing to tell.
-    fn end(&mut self, course: Course, missed: bool) -> bool
+    // The turn ends, where MEM holds no halt: the interrupt is taken, or the word in ALU decides. Answers whether it is taken.
+    // Each way counts for itself, so that the usual one has nothing to tell; so has a turn without a request.
+    fn end(&mut self, course: Course) -> bool
         requires cycles { self.old.counts.cycles < 2 ^ 63 }
         requires code_address { (a : ℕ) → course ≡ Course.To a → a < 2 ^ 31 }
-        ensures taken { (code : Code) (m : State) → Holds code self.old m → result ≡ takes m }
-        ensures state { (code : Code) (m : State) → Holds code self.old m → Leads code m course → Holds code self.new (ended code m) }
+        ensures taken { (code : Code) (m : State) → Holds code self.old m → result ≡ is_taken m }
+        ensures state { (code : Code) (m : State) → Holds code self.old m → Leads code m course → Holds code self.new (turned code m) }
         ensures counts { (code : Code) (m : State) → Holds code self.old m → Leads code m course
-            → self.new.counts ≡ after_turn missed (squashes code m) (takes m) self.old.counts }
-        ensures cycles { self.new.counts.cycles ≡ self.old.counts.cycles + 1 }
-        ensures program { KeepsProgram self.old self.new }
-        ensures cache { self.new.cache ≡ self.old.cache }
-    {
-        let over = self.halted;
-        if over {
-            self.counts.turned(missed, false, false);
-            return false;
-        }
-        if self.is_taken() {
-            self.enter(missed);
-            return true;
-        }
-        self.decide(course, missed);
-        false
-    }
-
-    // A turn acts.
-    fn act(&mut self, missed: bool) -> Cycled
-        requires { self.old.counts.cycles < 2 ^ 63 }
-        ensures state { (m : State) → Holds (code_of_pipe self.old) self.old m → Shows m
-            → Holds (code_of_pipe self.old) self.new (ended (code_of_pipe self.old) (reached (code_of_pipe self.old) self.old.board.input m)) }
-        ensures answer { (m : State) → Holds (code_of_pipe self.old) self.old m → Shows m
-            → result ≡ acted_answer (code_of_pipe self.old) self.old.board.input m }
-        ensures counts { (m : State) → Holds (code_of_pipe self.old) self.old m → Shows m → self.old.counts ≡ m.counts
-            → self.new.counts ≡ counts_after (code_of_pipe self.old) self.old.board.input missed m }
+            → self.new.counts ≡ after_turn (has_missed self.old.wait) (not (is_taken m) && (decision code m).cancels) (is_taken m) self.old.counts }
         ensures cycles { self.new.counts.cycles ≡ self.old.counts.cycles + 1 }
         ensures wait { self.new.wait ≡ Wait.NotAsked }
         ensures program { KeepsProgram self.old self.new }
         ensures cache { self.new.cache ≡ self.old.cache }
     {
+        if self.asked {
+            if self.may_enter() {
+                self.enter();
+                return true;
+            }
+        }
+        self.decide(course);
+        false
+    }
+
+    // The words of a turn move on, and what it shows is kept. Answers the byte that the word in MEM sends, and where the one in
+    // ALU leads.
+    fn step(&mut self) -> (Option<u8>, Course)
+        requires { self.old.halted ≡ false }
+        ensures state { (m : State) → Holds (code_of_pipe self.old) self.old m → Shows m
+            → Holds (code_of_pipe self.old) self.new (reached (code_of_pipe self.old) self.old.board.input m) }
+        ensures byte { (m : State) → Holds (code_of_pipe self.old) self.old m
+            → result.0 ≡ commit_byte (code_of_pipe self.old) self.old.board.input (shifted m) }
+        ensures course { (m : State) → Holds (code_of_pipe self.old) self.old m
+            → Leads (code_of_pipe self.old) (reached (code_of_pipe self.old) self.old.board.input m) result.1 }
+        ensures code_address { (a : ℕ) → result.1 ≡ Course.To a → a < 2 ^ 31 }
+        ensures wait { self.new.wait ≡ self.old.wait }
+        ensures program { KeepsProgram self.old self.new }
+        ensures counts { self.new.counts ≡ self.old.counts }
+        ensures cache { self.new.cache ≡ self.old.cache }
+    {
         let reached = self.commit();
         let course = self.advance(&reached);
         self.show();
-        let halted = self.halted;
-        let taken = self.end(course, missed);
-        self.wait = Wait::NotAsked;
+        (reached.byte, course)
+    }
+
+    // A turn acts. Where MEM holds a halt, nothing behind it takes effect.
+    fn act(&mut self) -> Cycled
+        requires cycles { self.old.counts.cycles < 2 ^ 63 }
+        requires running { self.old.halted ≡ false }
+        ensures state { (m : State) → Holds (code_of_pipe self.old) self.old m → Shows m
+            → Holds (code_of_pipe self.old) self.new (ended (code_of_pipe self.old) (reached (code_of_pipe self.old) self.old.board.input m)) }
+        ensures answer { (m : State) → Holds (code_of_pipe self.old) self.old m → Shows m
+            → result ≡ acted_answer (code_of_pipe self.old) self.old.board.input m }
+        ensures counts { (m : State) → Holds (code_of_pipe self.old) self.old m → Shows m → self.old.counts ≡ m.counts
+            → self.new.counts ≡ counts_after (code_of_pipe self.old) self.old.board.input (has_missed self.old.wait) m }
+        ensures cycles { self.new.counts.cycles ≡ self.old.counts.cycles + 1 }
+        ensures wait { self.new.wait ≡ Wait.NotAsked }
+        ensures program { KeepsProgram self.old self.new }
+        ensures cache { self.new.cache ≡ self.old.cache }
+    {
+        let (byte, course) = self.step();
+        if self.halted {
+            self.count(false, false);
+            return Cycled {
+                byte,
+                taken: false,
+                halted: true,
+                stalled: false,
+            };
+        }
+        let taken = self.end(course);
         Cycled {
-            byte: reached.byte,
+            byte,
             taken,
-            halted,
+            halted: false,
             stalled: false,
         }
     }
@@ -284,6 +345,7 @@ impl<C: FetchCache> Pipe<C> {
     // A request is latched, if there is one.
     fn latch_request(&mut self, request: bool)
         ensures state { (code : Code) (m : State) → Holds code self.old m → Holds code self.new (latched request m) }
+        ensures running { self.new.halted ≡ self.old.halted }
         ensures wait { self.new.wait ≡ self.old.wait }
         ensures program { KeepsProgram self.old self.new }
         ensures counts { self.new.counts ≡ self.old.counts }
@@ -294,14 +356,14 @@ impl<C: FetchCache> Pipe<C> {
         }
     }
 
-    // Whether the turn that now acts missed.
-    fn missed(&self) -> bool
-        ensures { (m : State) → Waits C.holds self.now.cache m self.now.wait → m.stall ≡ 0 → result ≡ not (resident m.past m.next.address) }
+    // A cycle is stalled, with so many behind it.
+    #[inline(never)]
+    fn stall(&mut self, left: u8)
+        requires { self.old.counts.cycles < 2 ^ 63 }
+        ensures { self.new ≡ record self.old { wait = Wait.Missed left; counts = after_stall self.old.counts } }
     {
-        match self.wait {
-            Wait::NotAsked => false,
-            Wait::Missed(_) => true,
-        }
+        self.counts.stalled();
+        self.wait = Wait::Missed(left);
     }
 
     // The stalled cycles that are left of the coming turn; the cache is asked once.
@@ -310,6 +372,8 @@ impl<C: FetchCache> Pipe<C> {
         ensures missed { (m : State) → self.old.next ≡ m.next → Waits C.holds self.old.cache m self.old.wait → 0 < result → resident m.past m.next.address ≡ false }
         ensures cache { (m : State) → self.old.next ≡ m.next → Waits C.holds self.old.cache m self.old.wait → C.holds self.new.cache (m.next.address ∷ m.past) }
         ensures state { (code : Code) (m : State) → Holds code self.old m → Holds code self.new m }
+        ensures running { self.new.halted ≡ self.old.halted }
+        ensures wait { self.new.wait ≡ self.old.wait }
         ensures program { KeepsProgram self.old self.new }
         ensures counts { self.new.counts ≡ self.old.counts }
     {
@@ -335,11 +399,9 @@ impl<C: FetchCache> Machine for Pipe<C> {
             };
         }
         self.latch_request(request);
-        let missed = self.missed();
         let left = self.left();
         if left > 0 {
-            self.counts.stalled();
-            self.wait = Wait::Missed(left - 1);
+            self.stall(left - 1);
             return Cycled {
                 byte: None,
                 taken: false,
@@ -347,7 +409,7 @@ impl<C: FetchCache> Machine for Pipe<C> {
                 stalled: true,
             };
         }
-        self.act(missed)
+        self.act()
     }
 
     fn counts(&self) -> Counts {

@@ -9,7 +9,7 @@ ghost use Rattle.mx_pipe.specs.Made.{reached, takes_byte, sends, md_kept, chain_
 use crate::Latch;
 use mx_board::Board;
 use mx_isa::{Inst, Reg};
-use mx_pcchain::Chain;
+use mx_pcchain::{Chain, Psw};
 use mx_turn::move_to;
 
 /// What the machine learns of the word in MEM: the byte that it sends; the register that it writes, and the one of which it
@@ -39,31 +39,31 @@ fn writes(to: Reg, word: u32) -> Reached
 #[inline(always)]
 pub fn reach(
     latch: &mut Latch,
-    user: bool,
+    psw: &Psw,
     md: &mut u32,
     chain: &mut Chain,
     halted: &mut bool,
     memory: &mut Board,
 ) -> Reached
+    requires running { halted.old ≡ false }
     ensures result { latch.new ≡ record latch.old {
-      result = reached (does latch.old) latch.old.result ((board user memory.old.input).load (words_of memory.old) memory.old.taken);
+      result = reached (does latch.old) latch.old.result ((board psw.now.current.user memory.old.input).load (words_of memory.old) memory.old.taken);
     } }
     ensures md { md.new ≡ md_kept latch.old.inst latch.old.result latch.old.md md.old }
-    ensures chain { chain.new ≡ chain_kept user (does latch.old) latch.old.result chain.old }
+    ensures chain { chain.new ≡ chain_kept psw.now.current.user (does latch.old) latch.old.result chain.old }
     ensures halted { halted.new ≡ is_halt (does latch.old) }
-    ensures words { words_of memory.new ≡ stored (board user memory.old.input) (sends (does latch.old) latch.old.result latch.old.b) (words_of memory.old) }
+    ensures words { words_of memory.new ≡ stored (board psw.now.current.user memory.old.input) (sends (does latch.old) latch.old.result latch.old.b) (words_of memory.old) }
     ensures input { memory.new.input ≡ memory.old.input }
-    ensures taken { let find = (board user memory.old.input).load (words_of memory.old) memory.old.taken in
+    ensures taken { let find = (board psw.now.current.user memory.old.input).load (words_of memory.old) memory.old.taken in
         memory.new.taken ≡ cond (takes_byte (does latch.old) latch.old.result find) (suc memory.old.taken) memory.old.taken }
-    ensures byte { result.byte ≡ sent (board user memory.old.input) (sends (does latch.old) latch.old.result latch.old.b) }
+    ensures byte { result.byte ≡ sent (board psw.now.current.user memory.old.input) (sends (does latch.old) latch.old.result latch.old.b) }
     ensures to { result.to ≡ dest (does latch.old) }
     ensures passes { result.passes ≡ cond (is_load (does latch.old)) 0 (dest (does latch.old)) }
     ensures word { result.word ≡ latch.new.result }
 {
-    *halted = false;
     match &latch.inst {
         Some(Inst::Load { dest, .. }) => {
-            let word = memory.load(latch.result, user);
+            let word = memory.load(latch.result, psw.current.user);
             latch.result = word;
             Reached {
                 byte: None,
@@ -73,7 +73,7 @@ pub fn reach(
             }
         }
         Some(Inst::Store { .. }) => Reached {
-            byte: memory.store(latch.result, latch.b, user),
+            byte: memory.store(latch.result, latch.b, psw.current.user),
             to: Reg::ZERO,
             passes: Reg::ZERO,
             word: latch.result,
@@ -86,7 +86,7 @@ pub fn reach(
         Some(Inst::MoveFrom { dest, .. }) => writes(*dest, latch.result),
         Some(Inst::Jspci { dest, .. }) => writes(*dest, latch.result),
         Some(Inst::MoveTo { special, .. }) => {
-            move_to(latch.result, *special, user, md, chain);
+            move_to(latch.result, *special, psw.current.user, md, chain);
             writes(Reg::ZERO, latch.result)
         }
         Some(Inst::Halt) => {

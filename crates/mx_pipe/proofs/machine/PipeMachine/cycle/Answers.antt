@@ -1,4 +1,4 @@
-use Rattle.std.proofs.Common.{not, ◌≡◌, ◌-◌, cond, ◌∷◌, refl, sym, ap, ◌∙◌, subst, arith}
+use Rattle.std.proofs.Common.{not, ◌≡◌, ◌-◌, cond, [], ◌∷◌, ◌++◌, refl, sym, ap, ◌∙◌, subst, arith}
 use Rattle.std.proofs.lemmas.Bool.{ne_eqb, eq-eqb}
 use Rattle.mx_code.specs.Delay.{Code}
 use Rattle.mx_icache.specs.Residency.{resident}
@@ -6,9 +6,11 @@ use Rattle.mx_turn.specs.Counted.{after_stall}
 use Rattle.mx_turn.specs.Cycle.{counts_after, Machine, latched, ended, reached, acted, acted_answer}
 use Rattle.mx_turn.specs.Program.{state_after}
 use Rattle.mx_turn.proofs.Steps.{cycled_halted, cycled_acted, cycled_stalled, answer_acted, answer_stalled}
+use Rattle.mx_pipe.specs.declared.pipe.Pipe.{Pipe}
+use Rattle.mx_pipe.specs.declared.pipe.Wait.{Wait}
 use Rattle.mx_pipe.specs.declared.pipe.Wait.TheVariants.{NotAsked, Missed}
-use Rattle.mx_pipe.specs.Kept.{code_of_pipe, Holds, StillShown, Waits, KeepsProgram}
-use Rattle.mx_pipe.proofs.Stands.{answers, stands_on, waiting, past_ended, same_code, keeps_both, tied_latched, waits_latched}
+use Rattle.mx_pipe.specs.Kept.{code_of_pipe, has_missed, Holds, StillShown, Waits, KeepsProgram, StandsFor}
+use Rattle.mx_pipe.proofs.Stands.{answers, stands_on, waiting, past_ended, missed_is, same_code, keeps_both, tied_latched, waits_latched}
 use Rattle.mx_pipe.proofs.machine.PipeMachine.cycle.Goals as goal
 
 pub returns-then-self-clause-next : goal.returns-then-self-clause-next
@@ -42,11 +44,14 @@ returns-then-left-gt0-clause-next g c = λ p h s.
     let left : c.left-left.result ≡ m.stall = c.left-left.ensures.left m tied.rest.next waits in
     let keeps : KeepsProgram self q = keeps_both self u q e.program c.left-left.ensures.program in
     let counts : q.counts ≡ m.counts = c.left-left.ensures.counts ∙ e.counts ∙ s.counts in
-    stands_on g.C.FetchCache.holds self p h s c.args.request _ _ (record { code = keeps.code; handler = keeps.handler; input = keeps.input })
+    let over : Wait = Missed (c.left-left.result - 1) in
+    let stalled : Pipe g.row.C.Denot = record q { wait = over; counts = after_stall q.counts } in
+    subst (λ x. StandsFor g.C.FetchCache.holds x p (h ++ c.args.request ∷ [])) (sym c.stall.ensures)
+    (stands_on g.C.FetchCache.holds self p h s c.args.request stalled _ (record { code = keeps.code; handler = keeps.handler; input = keeps.input })
     (cycled_stalled resident (code_of_pipe self) self.board.input m c.args.request (sym s.tied.rest.halted ∙ c.if-self.false) (ne_eqb _ 0 (λ e. absurd (omega (arith, e, left, c.if-left-gt0.true)))))
     (c.left-left.ensures.cache m tied.rest.next waits, ap (λ x. x - 1) (sym left), c.left-left.ensures.missed m tied.rest.next waits c.if-left-gt0.true)
-    (c.stalled.ensures ∙ ap after_stall counts)
-    (waiting (code_of_pipe self) q l (Missed (c.left-left.result - 1)) c.stalled.new.self (m.stall - 1) (after_stall m.counts) (c.left-left.ensures.state (code_of_pipe self) l tied))
+    (ap after_stall counts)
+    (waiting (code_of_pipe self) q l over (after_stall q.counts) (m.stall - 1) (after_stall m.counts) (c.left-left.ensures.state (code_of_pipe self) l tied)))
 
 pub returns-clause-answer : goal.returns-clause-answer
 returns-clause-answer g c = λ p h s.
@@ -91,7 +96,8 @@ returns-clause-next g c = λ p h s.
     let cache : g.C.FetchCache.holds c.act.new.self.cache end.past =
     subst (g.C.FetchCache.holds c.act.new.self.cache) (sym (past_ended code (reached code self.board.input l)))
     (subst (λ k. g.C.FetchCache.holds k (m.next.address ∷ m.past)) (sym c.act.ensures.cache) (c.left-left.ensures.cache m tied.rest.next waits)) in
-    let missed : c.missed-missed.result ≡ not (resident m.past m.next.address) = c.missed-missed.ensures m waits none_left in
+    let missed : has_missed q.wait ≡ not (resident m.past m.next.address) =
+    ap has_missed (c.left-left.ensures.wait ∙ e.wait) ∙ missed_is g.C.FetchCache.holds self.cache m self.wait s.waits none_left in
     let before : q.counts ≡ m.counts = c.left-left.ensures.counts ∙ e.counts ∙ s.counts in
     let counts : c.act.new.self.counts ≡ counts_after code self.board.input (not (resident m.past m.next.address)) l =
     c.act.ensures.counts l asked shows before ∙ (λ k. counts_after (same k) (keeps.input k) (missed k) l) in

@@ -2,7 +2,7 @@ use Rattle.std.proofs.Common.{false, refl, sym, ap, ◌∙◌, subst}
 use Rattle.mx_turn.specs.Counted.{after_turn}
 use Rattle.mx_turn.specs.Cycle.{decided}
 use Rattle.mx_pipe.specs.declared.alu.Course.TheVariants.{On, To}
-use Rattle.mx_pipe.specs.Kept.{Holds}
+use Rattle.mx_pipe.specs.Kept.{Holds, has_missed}
 use Rattle.mx_pipe.proofs.Decides.{tells_cancels, decides_so}
 use Rattle.mx_pipe.proofs.pipe.Pipe.decide.Goals as goal
 
@@ -23,4 +23,4 @@ returns-in_default-clause-state g c = λ code m h leads.
 
 pub returns-in_default-clause-counts : goal.returns-in_default-clause-counts
 returns-in_default-clause-counts g c = λ code m leads.
-    (λ k. (c.turn_aside.ensures k).counts) ∙ ap (λ b. after_turn c.args.missed b false c.args.self.now.counts) (tells_cancels code m c.args.course leads)
+    (λ k. (c.turn_aside.ensures k).counts) ∙ ap (λ b. after_turn (has_missed c.args.self.now.wait) b false c.args.self.now.counts) (tells_cancels code m c.args.course leads)
