@@ -85,7 +85,8 @@ module _ {C : Type 0} (code : Code) (p : Pipe C) (m : Machine) (h : Holds code p
       → Holds code (after next counts) (decided code m)
   decides_so next counts is = record {
     fetch = ap (λ b. (squashed_if b p.fetch).word) so.1 ∙ cut_word (decision code m).cancels p.fetch m.fetch h.fetch;
-    rf = subst (λ l. IsRead code l (squash (decision code m).cancels m.rf) m.core.regs) (sym (ap (λ b. squashed_if b p.rf) so.1)) (cut_read code (decision code m).cancels p.rf m.rf m.core.regs h.rf);
+    rf = subst (λ l. IsRead code l (squash (decision code m).cancels m.rf) m.core.regs) (sym (ap (λ b. squashed_if b p.rf) so.1))
+        (cut_read code (decision code m).cancels p.rf m.rf m.core.regs h.rf);
     alu = record {
       word = h.alu.word;
       inst = h.alu.inst ∙ sym (allowed_kept i (pops i && not u) m.psw);

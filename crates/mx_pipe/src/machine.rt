@@ -249,7 +249,8 @@ impl<C: FetchCache> Pipe<C> {
         requires cycles { self.old.counts.cycles < 2 ^ 63 }
         requires code_address { (a : ℕ) → course ≡ Course.To a → a < 2 ^ 31 }
         ensures state { (code : Code) (m : State) → Holds code self.old m → Leads code m course → Holds code self.new (decided code m) }
-        ensures counts { (code : Code) (m : State) → Leads code m course → self.new.counts ≡ after_turn (has_missed self.old.wait) (decision code m).cancels false self.old.counts }
+        ensures counts { (code : Code) (m : State) → Leads code m course
+            → self.new.counts ≡ after_turn (has_missed self.old.wait) (decision code m).cancels false self.old.counts }
         ensures wait { self.new.wait ≡ Wait.NotAsked }
         ensures cycles { self.new.counts.cycles ≡ self.old.counts.cycles + 1 }
         ensures program { KeepsProgram self.old self.new }
@@ -369,7 +370,8 @@ impl<C: FetchCache> Pipe<C> {
     // The stalled cycles that are left of the coming turn; the cache is asked once.
     fn left(&mut self) -> u8
         ensures left { (m : State) → self.old.next ≡ m.next → Waits C.holds self.old.cache m self.old.wait → result ≡ m.stall }
-        ensures missed { (m : State) → self.old.next ≡ m.next → Waits C.holds self.old.cache m self.old.wait → 0 < result → resident m.past m.next.address ≡ false }
+        ensures missed { (m : State) → self.old.next ≡ m.next → Waits C.holds self.old.cache m self.old.wait → 0 < result
+            → resident m.past m.next.address ≡ false }
         ensures cache { (m : State) → self.old.next ≡ m.next → Waits C.holds self.old.cache m self.old.wait → C.holds self.new.cache (m.next.address ∷ m.past) }
         ensures state { (code : Code) (m : State) → Holds code self.old m → Holds code self.new m }
         ensures running { self.new.halted ≡ self.old.halted }

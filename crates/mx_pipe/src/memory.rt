@@ -52,7 +52,8 @@ pub fn reach(
     ensures md { md.new ≡ md_kept latch.old.inst latch.old.result latch.old.md md.old }
     ensures chain { chain.new ≡ chain_kept psw.now.current.user (does latch.old) latch.old.result chain.old }
     ensures halted { halted.new ≡ is_halt (does latch.old) }
-    ensures words { words_of memory.new ≡ stored (board psw.now.current.user memory.old.input) (sends (does latch.old) latch.old.result latch.old.b) (words_of memory.old) }
+    ensures words { words_of memory.new ≡ stored (board psw.now.current.user memory.old.input) (sends (does latch.old) latch.old.result latch.old.b)
+        (words_of memory.old) }
     ensures input { memory.new.input ≡ memory.old.input }
     ensures taken { let find = (board psw.now.current.user memory.old.input).load (words_of memory.old) memory.old.taken in
         memory.new.taken ≡ cond (takes_byte (does latch.old) latch.old.result find) (suc memory.old.taken) memory.old.taken }

@@ -17,7 +17,8 @@ pub returns-then-self-clause-next : goal.returns-then-self-clause-next
 returns-then-self-clause-next g c = λ p h s.
     let self = c.args.self.now in
     stands_on g.C.FetchCache.holds self p h s c.args.request self (state_after p h) (record { code = refl; handler = refl; input = refl })
-    (cycled_halted resident (code_of_pipe self) self.board.input (state_after p h) c.args.request (sym s.tied.rest.halted ∙ c.if-self.true)) s.waits s.counts s.tied
+    (cycled_halted resident (code_of_pipe self) self.board.input (state_after p h) c.args.request (sym s.tied.rest.halted ∙ c.if-self.true))
+    s.waits s.counts s.tied
 
 pub returns-then-left-gt0-clause-answer : goal.returns-then-left-gt0-clause-answer
 returns-then-left-gt0-clause-answer g c = λ p h s.
@@ -29,7 +30,8 @@ returns-then-left-gt0-clause-answer g c = λ p h s.
     let left : c.left-left.result ≡ m.stall =
     c.left-left.ensures.left m tied.rest.next (waits_latched g.C.FetchCache.holds self u p h s c.args.request e.state e.wait e.cache) in
     answers g.C.FetchCache.holds self p h s c.args.request _
-    (answer_stalled resident (code_of_pipe self) self.board.input m c.args.request (sym s.tied.rest.halted ∙ c.if-self.false) (ne_eqb _ 0 (λ e. absurd (omega (arith, e, left, c.if-left-gt0.true)))))
+    (answer_stalled resident (code_of_pipe self) self.board.input m c.args.request (sym s.tied.rest.halted ∙ c.if-self.false)
+    (ne_eqb _ 0 (λ e. absurd (omega (arith, e, left, c.if-left-gt0.true)))))
 
 pub returns-then-left-gt0-clause-next : goal.returns-then-left-gt0-clause-next
 returns-then-left-gt0-clause-next g c = λ p h s.
@@ -48,7 +50,8 @@ returns-then-left-gt0-clause-next g c = λ p h s.
     let stalled : Pipe g.row.C.Denot = record q { wait = over; counts = after_stall q.counts } in
     subst (λ x. StandsFor g.C.FetchCache.holds x p (h ++ c.args.request ∷ [])) (sym c.stall.ensures)
     (stands_on g.C.FetchCache.holds self p h s c.args.request stalled _ (record { code = keeps.code; handler = keeps.handler; input = keeps.input })
-    (cycled_stalled resident (code_of_pipe self) self.board.input m c.args.request (sym s.tied.rest.halted ∙ c.if-self.false) (ne_eqb _ 0 (λ e. absurd (omega (arith, e, left, c.if-left-gt0.true)))))
+    (cycled_stalled resident (code_of_pipe self) self.board.input m c.args.request (sym s.tied.rest.halted ∙ c.if-self.false)
+    (ne_eqb _ 0 (λ e. absurd (omega (arith, e, left, c.if-left-gt0.true)))))
     (c.left-left.ensures.cache m tied.rest.next waits, ap (λ x. x - 1) (sym left), c.left-left.ensures.missed m tied.rest.next waits c.if-left-gt0.true)
     (ap after_stall counts)
     (waiting (code_of_pipe self) q l over (after_stall q.counts) (m.stall - 1) (after_stall m.counts) (c.left-left.ensures.state (code_of_pipe self) l tied)))
@@ -71,7 +74,8 @@ returns-clause-answer g c = λ p h s.
     answers g.C.FetchCache.holds self p h s c.args.request c.act.result
     (c.act.ensures.answer l (subst (λ x. Holds x q l) (sym same) asked) shows
     ∙ (λ k. acted_answer (same k) (keeps.input k) l)
-    ∙ answer_acted resident (code_of_pipe self) self.board.input m c.args.request (sym s.tied.rest.halted ∙ c.if-self.false) (eq-eqb _ 0 (omega (arith, left, c.if-left-gt0.false))))
+    ∙ answer_acted resident (code_of_pipe self) self.board.input m c.args.request (sym s.tied.rest.halted ∙ c.if-self.false)
+    (eq-eqb _ 0 (omega (arith, left, c.if-left-gt0.false))))
 
 pub returns-clause-next : goal.returns-clause-next
 returns-clause-next g c = λ p h s.
@@ -92,7 +96,8 @@ returns-clause-next g c = λ p h s.
     let shows : StillShown l.shown l.fetch l.rf l.alu l.mem = record { older = s.shows.older; younger = s.shows.younger } in
     let end : Machine = ended code (reached code self.board.input l) in
     let done : Holds code c.act.new.self end =
-    subst (λ x. Holds code c.act.new.self x) (λ k. ended (same k) (reached (same k) (keeps.input k) l)) (subst (λ x. Holds x c.act.new.self (ended (code_of_pipe q) (reached (code_of_pipe q) q.board.input l))) same (c.act.ensures.state l asked shows)) in
+    subst (λ x. Holds code c.act.new.self x) (λ k. ended (same k) (reached (same k) (keeps.input k) l))
+    (subst (λ x. Holds x c.act.new.self (ended (code_of_pipe q) (reached (code_of_pipe q) q.board.input l))) same (c.act.ensures.state l asked shows)) in
     let cache : g.C.FetchCache.holds c.act.new.self.cache end.past =
     subst (g.C.FetchCache.holds c.act.new.self.cache) (sym (past_ended code (reached code self.board.input l)))
     (subst (λ k. g.C.FetchCache.holds k (m.next.address ∷ m.past)) (sym c.act.ensures.cache) (c.left-left.ensures.cache m tied.rest.next waits)) in
@@ -107,4 +112,5 @@ returns-clause-next g c = λ p h s.
     (cycled_acted resident code self.board.input m c.args.request (sym s.tied.rest.halted ∙ c.if-self.false) (eq-eqb _ 0 none_left))
     (subst (λ w. Waits g.C.FetchCache.holds c.act.new.self.cache (acted resident code self.board.input l) w) (sym wait) (cache, refl))
     counts
-    (waiting code c.act.new.self end c.act.new.self.wait c.act.new.self.counts (cond (resident end.past end.next.address) 0 2) (counts_after code self.board.input (not (resident m.past m.next.address)) l) done)
+    (waiting code c.act.new.self end c.act.new.self.wait c.act.new.self.counts (cond (resident end.past end.next.address) 0 2)
+    (counts_after code self.board.input (not (resident m.past m.next.address)) l) done)

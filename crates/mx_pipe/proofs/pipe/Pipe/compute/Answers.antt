@@ -35,7 +35,9 @@ returns-clause-made g c = λ code m h.
       inst = c.make.ensures.inst ∙ (λ k. allowed (h.rest.psw k).current.user (h.alu.inst k));
       a = a;
       b = b;
-      result = c.make.ensures.number ∙ (λ k. number_of (h.rest.psw k).current.user (h.rest.chain k) (h.alu.inst k) (address_of (h.alu.word k)) (a k) (b k) (h.rest.md k));
+      result =
+          c.make.ensures.number
+          ∙ (λ k. number_of (h.rest.psw k).current.user (h.rest.chain k) (h.alu.inst k) (address_of (h.alu.word k)) (a k) (b k) (h.rest.md k));
       md =
           ap (λ x. md_kept c.make.new.alu.inst c.make.new.alu.result c.make.new.alu.md x) (sym h.rest.md)
           ∙ c.make.ensures.md

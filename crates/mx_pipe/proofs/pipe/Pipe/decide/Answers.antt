@@ -14,7 +14,8 @@ returns-in-On-clause-state g c = λ code m h leads.
 pub returns-in-To-clause-state : goal.returns-in-To-clause-state
 returns-in-To-clause-state g c = λ code m h leads.
     let p = c.args.self.now in
-    subst (λ x. Holds code x (decided code m)) (sym c.go-in-To.ensures) (decides_so code p m h (To c.in-To.target) (sym c.in-To.is ∙ leads) _ _ c.fetch_of.ensures)
+    subst (λ x. Holds code x (decided code m)) (sym c.go-in-To.ensures)
+    (decides_so code p m h (To c.in-To.target) (sym c.in-To.is ∙ leads) _ _ c.fetch_of.ensures)
 
 pub returns-in_default-clause-state : goal.returns-in_default-clause-state
 returns-in_default-clause-state g c = λ code m h leads.
@@ -23,4 +24,5 @@ returns-in_default-clause-state g c = λ code m h leads.
 
 pub returns-in_default-clause-counts : goal.returns-in_default-clause-counts
 returns-in_default-clause-counts g c = λ code m leads.
-    (λ k. (c.turn_aside.ensures k).counts) ∙ ap (λ b. after_turn (has_missed c.args.self.now.wait) b false c.args.self.now.counts) (tells_cancels code m c.args.course leads)
+    (λ k. (c.turn_aside.ensures k).counts)
+    ∙ ap (λ b. after_turn (has_missed c.args.self.now.wait) b false c.args.self.now.counts) (tells_cancels code m c.args.course leads)

@@ -17,7 +17,12 @@ returns g c = record {
   counts = c.none.ensures;
   tied = record {
     fetch = λ k. (c.cleared.ensures k).word;
-    rf = record { word = λ k. (c.cleared-2.ensures k).word; inst = λ k. does (c.cleared-2.ensures k); a = λ k. (c.cleared-2.ensures k).a; b = λ k. (c.cleared-2.ensures k).b };
+    rf = record {
+      word = λ k. (c.cleared-2.ensures k).word;
+      inst = λ k. does (c.cleared-2.ensures k);
+      a = λ k. (c.cleared-2.ensures k).a;
+      b = λ k. (c.cleared-2.ensures k).b;
+    };
     alu = record {
       word = λ k. (c.cleared-3.ensures k).word;
       inst = λ k. does (c.cleared-3.ensures k);
