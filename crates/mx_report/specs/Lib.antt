@@ -1,3 +1,4 @@
 pub mod Trace
 pub mod Report
 pub mod Driving
+pub mod Cursor

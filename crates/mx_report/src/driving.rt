@@ -1,12 +1,15 @@
 //! Running a machine.
 ghost use Rattle.std.specs.Prelude.{◌≡◌, ◌≤◌, ◌<◌, ◌+◌, ◌-◌, ◌++◌, ◌^◌, [], List, ℕ, Bool, true, OnOk, IfOk, cond, false, suc, min};
 ghost use Rattle.std.specs.Option.{option_to_list};
+ghost use Rattle.std.specs.List.Sorted.{IsStrictlyIncreasing};
 ghost use Rattle.mx_board.specs.RequestFile.{is_wanted};
+ghost use Rattle.mx_report.specs.Cursor.{IsAt};
 ghost use Rattle.mx_turn.specs.Program.{Program, state_after, answer_after};
 ghost use Rattle.mx_turn.specs.Run.{bits, console_after, run_of};
 ghost use Rattle.mx_report.specs.Driving.{trace_text};
 ghost use Rattle.mx_report.specs.Trace.{line_of, trace_line};
 
+use crate::cursor::Cursor;
 use crate::traces::push_trace_line;
 use mx_board::Requests;
 use mx_io::Memory;
@@ -63,23 +66,27 @@ fn push_line_if<M: Machine>(
 fn run_cycle<M: Machine>(
     alloc: Global,
     machine: &mut M,
-    requests: &Requests,
+    list: &[u32],
+    cursor: &mut Cursor,
     cycle: u32,
     trace: u32,
     console: &mut Vec<u8>,
     text: &mut Vec<u8>,
 ) -> Result<bool, AllocError>
-    requires { M.cycles machine.old < 2 ^ 63 }
+    requires cycles { M.cycles machine.old < 2 ^ 63 }
+    requires ascending { IsStrictlyIncreasing list.now }
+    requires before { IsAt list.now cursor.old cycle }
+    ensures after { OnOk result (IsAt list.now cursor.new (suc cycle)) }
     ensures halted { IfOk result
-        (λ halted. (p : Program) → M.stands machine.old p (bits requests.now cycle) → halted ≡ (state_after p (bits requests.now (suc cycle))).halted) }
-    ensures stands { OnOk result ((p : Program) → M.stands machine.old p (bits requests.now cycle) → M.stands machine.new p (bits requests.now (suc cycle))) }
-    ensures console { OnOk result ((p : Program) → M.stands machine.old p (bits requests.now cycle)
-        → console.old.items ≡ console_after p (bits requests.now cycle) → console.new.items ≡ console_after p (bits requests.now (suc cycle))) }
-    ensures trace { OnOk result ((p : Program) → M.stands machine.old p (bits requests.now cycle) → (state_after p (bits requests.now cycle)).halted ≡ false
-        → text.old.items ≡ trace_text p requests.now (min trace cycle) → text.new.items ≡ trace_text p requests.now (min trace (suc cycle))) }
+        (λ halted. (p : Program) → M.stands machine.old p (bits list.now cycle) → halted ≡ (state_after p (bits list.now (suc cycle))).halted) }
+    ensures stands { OnOk result ((p : Program) → M.stands machine.old p (bits list.now cycle) → M.stands machine.new p (bits list.now (suc cycle))) }
+    ensures console { OnOk result ((p : Program) → M.stands machine.old p (bits list.now cycle)
+        → console.old.items ≡ console_after p (bits list.now cycle) → console.new.items ≡ console_after p (bits list.now (suc cycle))) }
+    ensures trace { OnOk result ((p : Program) → M.stands machine.old p (bits list.now cycle) → (state_after p (bits list.now cycle)).halted ≡ false
+        → text.old.items ≡ trace_text p list.now (min trace cycle) → text.new.items ≡ trace_text p list.now (min trace (suc cycle))) }
     ensures cycles { M.cycles machine.new ≤ M.cycles machine.old + 1 }
 {
-    let cycled = machine.cycle(requests.wants(cycle));
+    let cycled = machine.cycle(cursor.comes(list, cycle));
     push_byte(console, cycled.byte)?;
     push_line_if(alloc, text, cycle < trace, cycle, &cycled, machine)?;
     Ok(cycled.halted)
@@ -89,23 +96,34 @@ fn run_cycle<M: Machine>(
 fn run_cycles<M: Machine>(
     alloc: Global,
     machine: &mut M,
-    requests: &Requests,
+    list: &[u32],
     budget: u32,
     trace: u32,
     console: &mut Vec<u8>,
     text: &mut Vec<u8>,
 ) -> Result<bool, AllocError>
+    requires ascending { IsStrictlyIncreasing list.now }
     requires start { M.cycles machine.old ≡ 0 }
     requires console { console.old.items ≡ [] }
     requires text { text.old.items ≡ [] }
-    ensures halted { IfOk result (λ halted. (p : Program) → M.stands machine.old p [] → halted ≡ (run_of p requests.now budget).halted) }
-    ensures console { OnOk result ((p : Program) → M.stands machine.old p [] → console.new.items ≡ (run_of p requests.now budget).console) }
-    ensures trace { OnOk result ((p : Program) → M.stands machine.old p [] → text.new.items ≡ trace_text p requests.now (min trace budget)) }
+    ensures halted { IfOk result (λ halted. (p : Program) → M.stands machine.old p [] → halted ≡ (run_of p list.now budget).halted) }
+    ensures console { OnOk result ((p : Program) → M.stands machine.old p [] → console.new.items ≡ (run_of p list.now budget).console) }
+    ensures trace { OnOk result ((p : Program) → M.stands machine.old p [] → text.new.items ≡ trace_text p list.now (min trace budget)) }
     ensures stands { OnOk result
-        ((p : Program) → M.stands machine.old p [] → (h : List Bool) × M.stands machine.new p h × (state_after p h ≡ (run_of p requests.now budget).last)) }
+        ((p : Program) → M.stands machine.old p [] → (h : List Bool) × M.stands machine.new p h × (state_after p h ≡ (run_of p list.now budget).last)) }
 {
+    let mut cursor = Cursor::start(list);
     for cycle in 0..budget {
-        if run_cycle(alloc, machine, requests, cycle, trace, console, text)? {
+        if run_cycle(
+            alloc,
+            machine,
+            list,
+            &mut cursor,
+            cycle,
+            trace,
+            console,
+            text,
+        )? {
             return Ok(true);
         }
     }
@@ -134,7 +152,7 @@ pub fn drive<M: Machine>(
     match run_cycles(
         alloc,
         machine,
-        requests,
+        requests.list(),
         budget,
         trace,
         &mut console,

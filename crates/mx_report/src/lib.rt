@@ -1,10 +1,12 @@
 //! Runs of a machine, and what is printed of them.
 #![tactic(auto)]
 
+mod cursor;
 mod driving;
 mod reports;
 mod traces;
 
+pub use cursor::Cursor;
 pub use driving::{Driven, drive};
 pub use reports::{Dump, push_counts, report};
 pub use traces::trace_line;

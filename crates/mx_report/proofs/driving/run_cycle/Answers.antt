@@ -11,24 +11,24 @@ use Rattle.mx_report.proofs.driving.run_cycle.Goals as goal
 
 pub returns-clause-halted : goal.returns-clause-halted
 returns-clause-halted g c = λ p s.
-    let reqs = c.args.requests.now in
+    let reqs = c.args.list.now in
     let i = c.args.cycle in
     let answered : c.cycle-cycled.result ≡ cycled_at p reqs i =
-    c.cycle-cycled.ensures.answer p (bits reqs i) s ∙ ap (answer_after p (bits reqs i)) c.wants.ensures in
+    c.cycle-cycled.ensures.answer p (bits reqs i) s ∙ ap (answer_after p (bits reqs i)) c.comes.ensures.result in
     ap (λ (r : Cycled). r.halted) answered ∙ next_halted p reqs i
 
 pub returns-clause-stands : goal.returns-clause-stands
 returns-clause-stands g c = λ p s.
-    let reqs = c.args.requests.now in
+    let reqs = c.args.list.now in
     let i = c.args.cycle in
-    subst (λ (r : Bool). g.M.Machine.stands c.cycle-cycled.new.self p (bits reqs i ++ r ∷ [])) c.wants.ensures (c.cycle-cycled.ensures.next p (bits reqs i) s)
+    subst (λ (r : Bool). g.M.Machine.stands c.cycle-cycled.new.self p (bits reqs i ++ r ∷ [])) c.comes.ensures.result (c.cycle-cycled.ensures.next p (bits reqs i) s)
 
 pub returns-clause-console : goal.returns-clause-console
 returns-clause-console g c = λ p s before.
-    let reqs = c.args.requests.now in
+    let reqs = c.args.list.now in
     let i = c.args.cycle in
     let answered : c.cycle-cycled.result ≡ cycled_at p reqs i =
-    c.cycle-cycled.ensures.answer p (bits reqs i) s ∙ ap (answer_after p (bits reqs i)) c.wants.ensures in
+    c.cycle-cycled.ensures.answer p (bits reqs i) s ∙ ap (answer_after p (bits reqs i)) c.comes.ensures.result in
     c.in_ok-push_byte.ensures.ok
     ∙ ap (λ (r : Cycled). c.args.console.now.items ++ option_to_list r.byte) answered
     ∙ ap (λ l. l ++ option_to_list (cycled_at p reqs i).byte) before
@@ -36,13 +36,13 @@ returns-clause-console g c = λ p s before.
 
 pub returns-clause-trace : goal.returns-clause-trace
 returns-clause-trace g c = λ p s going before.
-    let reqs = c.args.requests.now in
+    let reqs = c.args.list.now in
     let i = c.args.cycle in
     let t = c.args.trace in
     let old : List ℕ = c.args.text.now.items in
     let answered : c.cycle-cycled.result ≡ cycled_at p reqs i =
-    c.cycle-cycled.ensures.answer p (bits reqs i) s ∙ ap (answer_after p (bits reqs i)) c.wants.ensures in
-    let later = subst (λ (r : Bool). g.M.Machine.stands c.cycle-cycled.new.self p (bits reqs i ++ r ∷ [])) c.wants.ensures
+    c.cycle-cycled.ensures.answer p (bits reqs i) s ∙ ap (answer_after p (bits reqs i)) c.comes.ensures.result in
+    let later = subst (λ (r : Bool). g.M.Machine.stands c.cycle-cycled.new.self p (bits reqs i ++ r ∷ [])) c.comes.ensures.result
     (c.cycle-cycled.ensures.next p (bits reqs i) s) in
     let shown : Latches = (state_at p reqs (suc i)).shown in
     c.in_ok-push_line_if.ensures p (bits reqs (suc i)) later

@@ -6,7 +6,7 @@ use Rattle.mx_report.proofs.driving.run_cycles.Goals as goal
 
 pub returns-then-branch-clause-halted : goal.returns-then-branch-clause-halted
 returns-then-branch-clause-halted g c = λ p s.
-    let reqs = c.args.requests.now in
+    let reqs = c.args.list.now in
     let i = c.loop-cycle.cycle in
     let inv = c.loop-cycle.invariant.run p s in
     let within : suc i ≤ c.args.budget = omega arith in
@@ -15,7 +15,7 @@ returns-then-branch-clause-halted g c = λ p s.
 
 pub returns-then-branch-clause-console : goal.returns-then-branch-clause-console
 returns-then-branch-clause-console g c = λ p s.
-    let reqs = c.args.requests.now in
+    let reqs = c.args.list.now in
     let i = c.loop-cycle.cycle in
     let inv = c.loop-cycle.invariant.run p s in
     let within : suc i ≤ c.args.budget = omega arith in
@@ -24,7 +24,7 @@ returns-then-branch-clause-console g c = λ p s.
 
 pub returns-then-branch-clause-trace : goal.returns-then-branch-clause-trace
 returns-then-branch-clause-trace g c = λ p s.
-    let reqs = c.args.requests.now in
+    let reqs = c.args.list.now in
     let i = c.loop-cycle.cycle in
     let inv = c.loop-cycle.invariant.run p s in
     let within : suc i ≤ c.args.budget = omega arith in
@@ -33,7 +33,7 @@ returns-then-branch-clause-trace g c = λ p s.
 
 pub returns-then-branch-clause-stands : goal.returns-then-branch-clause-stands
 returns-then-branch-clause-stands g c = λ p s.
-    let reqs = c.args.requests.now in
+    let reqs = c.args.list.now in
     let i = c.loop-cycle.cycle in
     let inv = c.loop-cycle.invariant.run p s in
     let within : suc i ≤ c.args.budget = omega arith in
