@@ -16,7 +16,7 @@ use Rattle.mx_turn.specs.Stages.{live, address_of, squash, fetch_of}
 use Rattle.mx_turn.specs.System.{seen, pops, restores}
 use Rattle.mx_turn.specs.Cycle.{Machine, first, second, decision, decided}
 use Rattle.mx_pipe.specs.declared.alu.Course.{Course}
-use Rattle.mx_pipe.specs.declared.alu.Course.TheVariants.{On, To, Cancels}
+use Rattle.mx_pipe.specs.declared.alu.Course.TheVariants.{To, Cancels}
 use Rattle.mx_pipe.specs.declared.pipe.Pipe.{Pipe}
 use Rattle.mx_pipe.specs.declared.pipe.Wait.TheVariants.{NotAsked}
 use Rattle.mx_pipe.specs.Latched.{squashed_if}
@@ -24,28 +24,28 @@ use Rattle.mx_pipe.specs.Courses.{told, course_of}
 use Rattle.mx_pipe.specs.Kept.{IsRead, Holds, Leads}
 use Rattle.mx_pipe.proofs.Makes.{allowed_kept, number_kept, cut_word, cut_read}
 
--- as the definition decides it, the four parts
-abbrev IsTold : Decided → Inst → Decision → Type 0
-IsTold d i e = (d.target ≡ e.target) × (d.cancels ≡ e.cancels) × (d.pops ≡ pops i) × (d.restores ≡ restores i)
+-- as the definition decides it, the four parts: where the turn whose fetch was the last leads, and the others
+abbrev IsTold : Decided → Inst → Decision → ℕ → Type 0
+IsTold d i e last = (next_of d.target last ≡ next_of e.target last) × (d.cancels ≡ e.cancels) × (d.pops ≡ pops i) × (d.restores ≡ restores i)
 
-branch_told : (i : Inst) → pops i ≡ false → restores i ≡ false → (goes squashes : Bool) (a : ℕ)
-    → IsTold (told (cond goes (To a) (cond squashes Cancels On))) i
-    (cond goes (record { target = Some a; cancels = false }) (record { target = None; cancels = squashes }))
-branch_told i p r true squashes a = (refl, refl, sym p, sym r)
-branch_told i p r false true a = (refl, refl, sym p, sym r)
-branch_told i p r false false a = (refl, refl, sym p, sym r)
+branch_told : (i : Inst) → pops i ≡ false → restores i ≡ false → (goes squashes : Bool) (a last : ℕ)
+    → IsTold (told (cond goes (To a) (cond squashes Cancels (To (next_of None last))))) i
+    (cond goes (record { target = Some a; cancels = false }) (record { target = None; cancels = squashes })) last
+branch_told i p r true squashes a last = (refl, refl, sym p, sym r)
+branch_told i p r false true a last = (refl, refl, sym p, sym r)
+branch_told i p r false false a last = (refl, refl, sym p, sym r)
 
-pub is_told : (i : Inst) (at : ℕ) (r : Words) → IsTold (told (course_of i at r)) i (decides i at r)
-is_told (Branch a b condition s by) at r =
-    branch_told (Branch a b condition s by) refl refl (condition_holds condition (reg r a) (reg r b)) s ((at + cast_unsigned w32 by) % 2 ^ 31)
-is_told (Jspci a d imm) at r = (refl, refl, refl, refl)
-is_told Jpc at r = (refl, refl, refl, refl)
-is_told Jpcrs at r = (refl, refl, refl, refl)
-is_told _ at r = (refl, refl, refl, refl)
+pub is_told : (i : Inst) (at last : ℕ) (r : Words) → IsTold (told (course_of i at last r)) i (decides i at r) last
+is_told (Branch a b condition s by) at last r =
+    branch_told (Branch a b condition s by) refl refl (condition_holds condition (reg r a) (reg r b)) s ((at + cast_unsigned w32 by) % 2 ^ 31) last
+is_told (Jspci a d imm) at last r = (refl, refl, refl, refl)
+is_told Jpc at last r = (refl, refl, refl, refl)
+is_told Jpcrs at last r = (refl, refl, refl, refl)
+is_told _ at last r = (refl, refl, refl, refl)
 
 pub tells_cancels : (code : Code) (m : Machine) (course : Course) → Leads code m course → (told course).cancels ≡ (decision code m).cancels
 tells_cancels code m course leads =
-    ap (λ x. (told x).cancels) leads ∙ (is_told (live code m.alu) (address_of m.alu) (seen m.slot m.core.regs)).1
+    ap (λ x. (told x).cancels) leads ∙ (is_told (live code m.alu) (address_of m.alu) m.next.address (seen m.slot m.core.regs)).1
 
 module _ {C : Type 0} (code : Code) (p : Pipe C) (m : Machine) (h : Holds code p m) (course : Course) (leads : Leads code m course) where
   abbrev i : Inst
@@ -60,8 +60,8 @@ module _ {C : Type 0} (code : Code) (p : Pipe C) (m : Machine) (h : Holds code p
   abbrev back : Bool
   back = d.pops && not p.psw.current.user
 
-  so : IsTold d i (decision code m)
-  so = subst (λ x. IsTold (told x) i (decision code m)) (sym leads) (is_told i (address_of m.alu) (seen m.slot m.core.regs))
+  so : IsTold d i (decision code m) m.next.address
+  so = subst (λ x. IsTold (told x) i (decision code m) m.next.address) (sym leads) (is_told i (address_of m.alu) m.next.address (seen m.slot m.core.regs))
 
   back_is : back ≡ (pops i && not u)
   back_is = λ k. so.2 k && not (h.rest.psw k).current.user
@@ -97,7 +97,10 @@ module _ {C : Type 0} (code : Code) (p : Pipe C) (m : Machine) (h : Holds code p
     };
     behind = record { mem = h.behind.mem; wb = h.behind.wb; file = h.behind.file; regs = h.behind.regs; slot = h.behind.slot };
     rest = record {
-      next = is ∙ (λ k. cond (back_is k) (fetch_from (h.rest.chain k).pc1) (fetch_of (next_of (so.0 k) (h.rest.next k).address)));
+      next =
+          is
+          ∙ (λ k. cond (back_is k) (fetch_from (h.rest.chain k).pc1) (fetch_of (next_of d.target (h.rest.next k).address)))
+          ∙ (λ k. cond (pops i && not u) (fetch_from m.chain.pc1) (fetch_of (so.0 k)));
       md = h.rest.md;
       words = h.rest.words;
       taken = h.rest.taken;

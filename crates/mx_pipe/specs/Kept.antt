@@ -86,7 +86,7 @@ pub record Tells (learned : Reached) (mem : Latched) : Type 0 where
 
 -- where the word in ALU leads
 abbrev pub Leads : Code → Machine → Course → Type 0
-Leads code m course = course ≡ course_of (live code m.alu) (address_of m.alu) (seen m.slot m.core.regs)
+Leads code m course = course ≡ course_of (live code m.alu) (address_of m.alu) m.next.address (seen m.slot m.core.regs)
 
 -- whether a stage holds a fetch that is not squashed
 abbrev pub is_live : Option Fetch → Bool

@@ -1,5 +1,5 @@
 -- What the stages make of an instruction.
-use Rattle.std.specs.Prelude.{ℕ, Bool, false, cond, eqb, not, ◌&&◌, Option, Some, None}
+use Rattle.std.specs.Prelude.{ℕ, Bool, true, false, cond, eqb, not, ◌&&◌, Option, Some, None}
 use Rattle.mx_isa.specs.declared.inst.Special.TheVariants.{Md}
 use Rattle.mx_isa.specs.declared.inst.Inst.{Inst}
 use Rattle.mx_isa.specs.declared.inst.Inst.TheVariants.{Load, Store, Compute, MoveFrom, MoveTo}
@@ -9,6 +9,8 @@ use Rattle.mx_isa.specs.Views.{is_md}
 use Rattle.mx_code.specs.Delay.{idle}
 use Rattle.mx_pcchain.specs.declared.chain.Chain.{Chain}
 use Rattle.mx_pcchain.specs.Chain.{with_special}
+use Rattle.mx_pipe.specs.declared.memory.Signal.{Signal}
+use Rattle.mx_pipe.specs.declared.memory.Signal.TheVariants.{Byte, Halt}
 
 -- an operand in ALU: the word that MEM passes on to a register, else what was read before; r0 takes none
 abbrev pub passed : ℕ → ℕ → ℕ → ℕ → ℕ
@@ -34,6 +36,15 @@ reached i number find = number
 abbrev pub takes_byte : Inst → ℕ → (ℕ → Found) → Bool
 takes_byte (Load base d offset) number find = (find number).takes
 takes_byte i number find = false
+
+-- the byte of a signal, and whether it is of a halt
+abbrev pub byte_of : Signal → Option ℕ
+byte_of (Byte b) = Some b
+byte_of signal = None
+
+abbrev pub halts : Signal → Bool
+halts Halt = true
+halts signal = false
 
 -- a store sends its second operand to the number that it made
 abbrev pub sends : Inst → ℕ → ℕ → Option Sent

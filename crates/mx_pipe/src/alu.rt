@@ -1,10 +1,10 @@
 //! What the word in ALU makes, and where it leads.
-ghost use Rattle.std.specs.Prelude.{◌≡◌, ◌<◌, ◌+◌, ◌%◌, ◌^◌, ℕ, Some, true, false, if◌then◌else◌};
+ghost use Rattle.std.specs.Prelude.{◌≡◌, ◌<◌, ◌+◌, ◌%◌, ◌^◌, ℕ, None, Some, true, false, if◌then◌else◌};
 ghost use Rattle.std.specs.Int.{w32, cast_unsigned};
 ghost use Rattle.mx_isa.specs.Words.{Words, reg};
 ghost use Rattle.mx_isa.specs.Arithmetic.{word_of};
 ghost use Rattle.mx_isa.specs.Views.{sources};
-ghost use Rattle.mx_code.specs.Delay.{idle};
+ghost use Rattle.mx_code.specs.Delay.{idle, next_of};
 ghost use Rattle.mx_turn.specs.Decoded.{ShiftFits};
 ghost use Rattle.mx_turn.specs.Stages.{address_of};
 ghost use Rattle.mx_turn.specs.System.{number_of};
@@ -16,19 +16,18 @@ use crate::Latch;
 use crate::fetching::address_of;
 use crate::memory::Reached;
 use mx_isa::{Inst, Reg, Special, compute, holds};
-use mx_pcchain::{Chain, Psw};
-use mx_turn::{Decided, goes_on, goes_to, number_of};
+use mx_pcchain::{Chain, Fetched, Psw};
+use mx_turn::{Decided, goes_to, number_of};
 
 /// Where a word in ALU leads: on, and it cancels the two words behind it; in system mode back to the first of the saved
-/// fetches; or there and to the other mode; to an address; or on, which is to the next word.
-// The usual ones come last, so that one comparison tells the others from them.
+/// fetches; or there and to the other mode; or to an address, which for most is that behind the fetch.
+// The usual one comes last, so that one comparison tells the others from it.
 #[derive(Clone, Copy)]
 pub enum Course {
     Cancels,
     Pops,
     Returns,
     To(u32),
-    On,
 }
 
 impl Course {
@@ -42,7 +41,6 @@ impl Course {
         ensures code_address { IfSome result.target (λ a. a < 2 ^ 31) }
     {
         match self {
-            Course::On => goes_on(),
             Course::To(target) => goes_to(target),
             Course::Cancels => Decided {
                 target: None,
@@ -114,19 +112,34 @@ fn taken(at: u32, by: i32) -> Course
     Course::To(at.wrapping_add(by.cast_unsigned()) % (1 << 31))
 }
 
-// The course of one that does not.
-fn not_taken(squash: bool) -> Course
-    ensures course { result ≡ (if squash then Course.Cancels else Course.On) }
+// The course to the address behind the fetch.
+fn on(fetch: &Fetched) -> Course
+    ensures course { result ≡ Course.To (next_of None fetch.now.address) }
     ensures code_address { (a : ℕ) → result ≡ Course.To a → a < 2 ^ 31 }
 {
-    if squash { Course::Cancels } else { Course::On }
+    to(fetch.address.wrapping_add(1))
+}
+
+// The course of a branch that does not hold.
+fn not_taken(squash: bool, fetch: &Fetched) -> Course
+    ensures course { result ≡ (if squash then Course.Cancels else Course.To (next_of None fetch.now.address)) }
+    ensures code_address { (a : ℕ) → result ≡ Course.To a → a < 2 ^ 31 }
+{
+    if squash { Course::Cancels } else { on(fetch) }
 }
 
 /// The word that comes into ALU takes its operands, those that it read in RF or newer ones from MEM, makes its number of
 /// them, and says where it leads.
 // One match, since each costs a jump in every cycle.
 #[inline(always)]
-pub fn make(alu: &mut Latch, mem: &Reached, md: &u32, psw: &Psw, chain: &Chain) -> Course
+pub fn make(
+    alu: &mut Latch,
+    mem: &Reached,
+    md: &u32,
+    psw: &Psw,
+    chain: &Chain,
+    fetch: &Fetched,
+) -> Course
     ensures word { alu.new.word ≡ alu.old.word }
     ensures inst { does alu.new ≡ allowed psw.now.current.user (does alu.old) }
     ensures a { alu.new.a ≡ passed mem.now.passes mem.now.word (sources (does alu.old)).0 alu.old.a }
@@ -134,7 +147,7 @@ pub fn make(alu: &mut Latch, mem: &Reached, md: &u32, psw: &Psw, chain: &Chain) 
     ensures number { alu.new.result ≡ number_of psw.now.current.user chain.now (does alu.old) (address_of alu.old.word) alu.new.a alu.new.b md.now }
     ensures md { md_kept alu.new.inst alu.new.result alu.new.md md.now ≡ md_behind (does alu.old) alu.new.a alu.new.b md.now }
     ensures course { (regs : Words) → alu.new.a ≡ reg regs (sources (does alu.old)).0 → alu.new.b ≡ reg regs (sources (does alu.old)).1
-        → result ≡ course_of (does alu.old) (address_of alu.old.word) regs }
+        → result ≡ course_of (does alu.old) (address_of alu.old.word) fetch.now.address regs }
     ensures code_address { (a : ℕ) → result ≡ Course.To a → a < 2 ^ 31 }
 {
     match &alu.inst {
@@ -169,7 +182,7 @@ pub fn make(alu: &mut Latch, mem: &Reached, md: &u32, psw: &Psw, chain: &Chain) 
                 return taken(address_of(alu.word), *by);
             }
             alu.result = 0;
-            return not_taken(*squash);
+            return not_taken(*squash, fetch);
         }
         Some(Inst::Compute { a, b, op, .. }) => {
             alu.a = newest(mem, *a, alu.a);
@@ -218,5 +231,5 @@ pub fn make(alu: &mut Latch, mem: &Reached, md: &u32, psw: &Psw, chain: &Chain) 
         Some(Inst::Halt) => alu.result = 0,
         None => alu.result = alu.a.wrapping_add(alu.b),
     }
-    Course::On
+    on(fetch)
 }

@@ -10,12 +10,13 @@ ghost use Rattle.mx_turn.specs.Stages.{fetch_of, stage_of};
 ghost use Rattle.mx_turn.specs.Cycle.{Machine as State, shifted, committed, commit_byte, showing, entered, decided, decision, turned, latched, is_taken, reached, ended, counts_after, acted_answer};
 ghost use Rattle.mx_pipe.specs.declared.pipe.Wait.{Wait};
 ghost use Rattle.mx_pipe.specs.Latched.{squashed_if};
+ghost use Rattle.mx_pipe.specs.Made.{byte_of, halts};
 ghost use Rattle.mx_pipe.specs.Courses.{told};
 ghost use Rattle.mx_pipe.specs.Kept.{code_of_pipe, is_live, IsRead, IsMade, Holds, Commits, Tells, Leads, StillShown, Shows, Waits, has_missed, KeepsProgram, StandsFor};
 
 use crate::alu::{Course, make};
 use crate::fetching::{address, address_of, inst_in};
-use crate::memory::{Reached, reach};
+use crate::memory::{Reached, Signal, reach};
 use crate::operands::{read_operands, register_of, write_back};
 use crate::{Latch, Pipe, Wait};
 use mx_icache::FetchCache;
@@ -30,7 +31,8 @@ impl<C: FetchCache> Pipe<C> {
     fn commit(&mut self) -> Reached
         requires { self.old.halted ≡ false }
         ensures state { (code : Code) (m : State) → Holds code self.old m → Commits code self.new (committed code self.old.board.input (shifted m)) }
-        ensures byte { (code : Code) (m : State) → Holds code self.old m → result.byte ≡ commit_byte code self.old.board.input (shifted m) }
+        ensures byte { (code : Code) (m : State) → Holds code self.old m → byte_of result.signal ≡ commit_byte code self.old.board.input (shifted m) }
+        ensures halt { halts result.signal ≡ self.new.halted }
         ensures write { Tells result self.new.mem }
         ensures wait { self.new.wait ≡ self.old.wait }
         ensures program { KeepsProgram self.old self.new }
@@ -59,7 +61,14 @@ impl<C: FetchCache> Pipe<C> {
         ensures rest { self.new ≡ record self.old { alu = self.new.alu } }
     {
         self.alu = self.rf;
-        make(&mut self.alu, mem, &self.md, &self.psw, &self.chain)
+        make(
+            &mut self.alu,
+            mem,
+            &self.md,
+            &self.psw,
+            &self.chain,
+            &self.next,
+        )
     }
 
     // The word in IF comes into RF, and reads its operands.
@@ -82,6 +91,7 @@ impl<C: FetchCache> Pipe<C> {
         ensures course { (code : Code) (m : State) → Commits code self.old m → Leads code m result }
         ensures code_address { (a : ℕ) → result ≡ Course.To a → a < 2 ^ 31 }
         ensures wait { self.new.wait ≡ self.old.wait }
+        ensures running { self.new.halted ≡ self.old.halted }
         ensures program { KeepsProgram self.old self.new }
         ensures counts { self.new.counts ≡ self.old.counts }
         ensures cache { self.new.cache ≡ self.old.cache }
@@ -99,6 +109,7 @@ impl<C: FetchCache> Pipe<C> {
         ensures state { (code : Code) (m : State) → Holds code self.old m → (is_some self.old.rf.inst ≡ true → is_live m.rf ≡ true)
             → StillShown m.shown m.rf m.alu m.mem m.wb → Holds code self.new (showing code m) }
         ensures wait { self.new.wait ≡ self.old.wait }
+        ensures running { self.new.halted ≡ self.old.halted }
         ensures program { KeepsProgram self.old self.new }
         ensures counts { self.new.counts ≡ self.old.counts }
         ensures cache { self.new.cache ≡ self.old.cache }
@@ -160,6 +171,7 @@ impl<C: FetchCache> Pipe<C> {
     }
 
     // A turn that squashed nothing and took no interrupt is counted. Few fetches miss, and those alone pay for it.
+    #[inline(always)]
     fn count_plain(&mut self)
         requires { self.old.counts.cycles < 2 ^ 63 }
         ensures { self.new ≡ record self.old {
@@ -206,6 +218,7 @@ impl<C: FetchCache> Pipe<C> {
     }
 
     // The word in ALU leads to a fetch.
+    #[inline(always)]
     fn go(&mut self, next: Fetched)
         requires { self.old.counts.cycles < 2 ^ 63 }
         ensures { self.new ≡ record self.old {
@@ -245,6 +258,7 @@ impl<C: FetchCache> Pipe<C> {
     }
 
     // The word in ALU decides.
+    #[inline(always)]
     fn decide(&mut self, course: Course)
         requires cycles { self.old.counts.cycles < 2 ^ 63 }
         requires code_address { (a : ℕ) → course ≡ Course.To a → a < 2 ^ 31 }
@@ -257,7 +271,6 @@ impl<C: FetchCache> Pipe<C> {
         ensures cache { self.new.cache ≡ self.old.cache }
     {
         match course {
-            Course::On => self.go(following(self.next)),
             Course::To(target) => self.go(fetch_of(target)),
             _ => self.turn_aside(course),
         }
@@ -265,6 +278,7 @@ impl<C: FetchCache> Pipe<C> {
 
     // The turn ends, where MEM holds no halt: the interrupt is taken, or the word in ALU decides. Answers whether it is taken.
     // Each way counts for itself, so that the usual one has nothing to tell; so has a turn without a request.
+    #[inline(always)]
     fn end(&mut self, course: Course) -> bool
         requires cycles { self.old.counts.cycles < 2 ^ 63 }
         requires code_address { (a : ℕ) → course ≡ Course.To a → a < 2 ^ 31 }
@@ -287,14 +301,32 @@ impl<C: FetchCache> Pipe<C> {
         false
     }
 
-    // The words of a turn move on, and what it shows is kept. Answers the byte that the word in MEM sends, and where the one in
-    // ALU leads.
-    fn step(&mut self) -> (Option<u8>, Course)
+    // The same, in a call of its own: few turns send a byte.
+    #[inline(never)]
+    fn end_apart(&mut self, course: Course) -> bool
+        requires cycles { self.old.counts.cycles < 2 ^ 63 }
+        requires code_address { (a : ℕ) → course ≡ Course.To a → a < 2 ^ 31 }
+        ensures taken { (code : Code) (m : State) → Holds code self.old m → result ≡ is_taken m }
+        ensures state { (code : Code) (m : State) → Holds code self.old m → Leads code m course → Holds code self.new (turned code m) }
+        ensures counts { (code : Code) (m : State) → Holds code self.old m → Leads code m course
+            → self.new.counts ≡ after_turn (has_missed self.old.wait) (not (is_taken m) && (decision code m).cancels) (is_taken m) self.old.counts }
+        ensures cycles { self.new.counts.cycles ≡ self.old.counts.cycles + 1 }
+        ensures wait { self.new.wait ≡ Wait.NotAsked }
+        ensures program { KeepsProgram self.old self.new }
+        ensures cache { self.new.cache ≡ self.old.cache }
+    {
+        self.end(course)
+    }
+
+    // The words of a turn move on, and what it shows is kept. Answers the signal of the word in MEM, and where the one in ALU
+    // leads.
+    fn step(&mut self) -> (Signal, Course)
         requires { self.old.halted ≡ false }
         ensures state { (m : State) → Holds (code_of_pipe self.old) self.old m → Shows m
             → Holds (code_of_pipe self.old) self.new (reached (code_of_pipe self.old) self.old.board.input m) }
         ensures byte { (m : State) → Holds (code_of_pipe self.old) self.old m
-            → result.0 ≡ commit_byte (code_of_pipe self.old) self.old.board.input (shifted m) }
+            → byte_of result.0 ≡ commit_byte (code_of_pipe self.old) self.old.board.input (shifted m) }
+        ensures halt { halts result.0 ≡ self.new.halted }
         ensures course { (m : State) → Holds (code_of_pipe self.old) self.old m
             → Leads (code_of_pipe self.old) (reached (code_of_pipe self.old) self.old.board.input m) result.1 }
         ensures code_address { (a : ℕ) → result.1 ≡ Course.To a → a < 2 ^ 31 }
@@ -306,10 +338,11 @@ impl<C: FetchCache> Pipe<C> {
         let reached = self.commit();
         let course = self.advance(&reached);
         self.show();
-        (reached.byte, course)
+        (reached.signal, course)
     }
 
     // A turn acts. Where MEM holds a halt, nothing behind it takes effect.
+    // Each way answers for itself, so that whoever drives a usual turn finds nothing to ask.
     fn act(&mut self) -> Cycled
         requires cycles { self.old.counts.cycles < 2 ^ 63 }
         requires running { self.old.halted ≡ false }
@@ -324,22 +357,35 @@ impl<C: FetchCache> Pipe<C> {
         ensures program { KeepsProgram self.old self.new }
         ensures cache { self.new.cache ≡ self.old.cache }
     {
-        let (byte, course) = self.step();
-        if self.halted {
-            self.count(false, false);
-            return Cycled {
-                byte,
-                taken: false,
-                halted: true,
-                stalled: false,
-            };
-        }
-        let taken = self.end(course);
-        Cycled {
-            byte,
-            taken,
-            halted: false,
-            stalled: false,
+        let (signal, course) = self.step();
+        match signal {
+            Signal::Nothing => {
+                let taken = self.end(course);
+                Cycled {
+                    byte: None,
+                    taken,
+                    halted: false,
+                    stalled: false,
+                }
+            }
+            Signal::Byte(byte) => {
+                let taken = self.end_apart(course);
+                Cycled {
+                    byte: Some(byte),
+                    taken,
+                    halted: false,
+                    stalled: false,
+                }
+            }
+            Signal::Halt => {
+                self.count(false, false);
+                Cycled {
+                    byte: None,
+                    taken: false,
+                    halted: true,
+                    stalled: false,
+                }
+            }
         }
     }
 
@@ -437,13 +483,6 @@ impl<C: FetchCache> Machine for Pipe<C> {
     fn latches(&self) -> Latches {
         self.shown
     }
-}
-
-// The fetch behind another one.
-fn following(last: Fetched) -> Fetched
-    ensures { result ≡ fetch_of (next_of None last.address) }
-{
-    fetch_of(last.address.wrapping_add(1) % (1 << 31))
 }
 
 // Whether a word goes back from the system.

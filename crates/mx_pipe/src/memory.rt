@@ -4,7 +4,7 @@ ghost use Rattle.mx_isa.specs.Effect.{stored, sent};
 ghost use Rattle.mx_isa.specs.Views.{dest, is_load, is_halt};
 ghost use Rattle.mx_board.specs.Data.{board, words_of};
 ghost use Rattle.mx_pipe.specs.Latched.{does};
-ghost use Rattle.mx_pipe.specs.Made.{reached, takes_byte, sends, md_kept, chain_kept};
+ghost use Rattle.mx_pipe.specs.Made.{reached, takes_byte, sends, md_kept, chain_kept, byte_of, halts};
 
 use crate::Latch;
 use mx_board::Board;
@@ -12,11 +12,19 @@ use mx_isa::{Inst, Reg};
 use mx_pcchain::{Chain, Psw};
 use mx_turn::move_to;
 
-/// What the machine learns of the word in MEM: the byte that it sends; the register that it writes, and the one of which it
-/// passes the number on to the word in ALU, r0 for none, since a load is not seen by the word behind it; and the number.
+/// What is learned outside of the word in MEM: nothing, the byte that it sends, or that the machine halts.
+#[derive(Clone, Copy)]
+pub enum Signal {
+    Nothing,
+    Byte(u8),
+    Halt,
+}
+
+/// What the machine learns of the word in MEM: its signal; the register that it writes, and the one of which it passes the
+/// number on to the word in ALU, r0 for none, since a load is not seen by the word behind it; and the number.
 #[derive(Clone, Copy)]
 pub struct Reached {
-    pub byte: Option<u8>,
+    pub signal: Signal,
     pub to: Reg,
     pub passes: Reg,
     pub word: u32,
@@ -24,13 +32,24 @@ pub struct Reached {
 
 // It sends nothing, and writes its number to a register, or to none.
 fn writes(to: Reg, word: u32) -> Reached
-    ensures { result ≡ record { byte = None; to = to; passes = to; word = word } }
+    ensures { result ≡ record { signal = Signal.Nothing; to = to; passes = to; word = word } }
 {
     Reached {
-        byte: None,
+        signal: Signal::Nothing,
         to,
         passes: to,
         word,
+    }
+}
+
+// The signal of a store.
+fn sends_byte(byte: Option<u8>) -> Signal
+    ensures byte { byte_of result ≡ byte }
+    ensures halt { halts result ≡ false }
+{
+    match byte {
+        Some(byte) => Signal::Byte(byte),
+        None => Signal::Nothing,
     }
 }
 
@@ -57,7 +76,8 @@ pub fn reach(
     ensures input { memory.new.input ≡ memory.old.input }
     ensures taken { let find = (board psw.now.current.user memory.old.input).load (words_of memory.old) memory.old.taken in
         memory.new.taken ≡ cond (takes_byte (does latch.old) latch.old.result find) (suc memory.old.taken) memory.old.taken }
-    ensures byte { result.byte ≡ sent (board psw.now.current.user memory.old.input) (sends (does latch.old) latch.old.result latch.old.b) }
+    ensures halt { halts result.signal ≡ is_halt (does latch.old) }
+    ensures byte { byte_of result.signal ≡ sent (board psw.now.current.user memory.old.input) (sends (does latch.old) latch.old.result latch.old.b) }
     ensures to { result.to ≡ dest (does latch.old) }
     ensures passes { result.passes ≡ cond (is_load (does latch.old)) 0 (dest (does latch.old)) }
     ensures word { result.word ≡ latch.new.result }
@@ -67,14 +87,14 @@ pub fn reach(
             let word = memory.load(latch.result, psw.current.user);
             latch.result = word;
             Reached {
-                byte: None,
+                signal: Signal::Nothing,
                 to: *dest,
                 passes: Reg::ZERO,
                 word,
             }
         }
         Some(Inst::Store { .. }) => Reached {
-            byte: memory.store(latch.result, latch.b, psw.current.user),
+            signal: sends_byte(memory.store(latch.result, latch.b, psw.current.user)),
             to: Reg::ZERO,
             passes: Reg::ZERO,
             word: latch.result,
@@ -92,7 +112,10 @@ pub fn reach(
         }
         Some(Inst::Halt) => {
             *halted = true;
-            writes(Reg::ZERO, latch.result)
+            Reached {
+                signal: Signal::Halt,
+                ..writes(Reg::ZERO, latch.result)
+            }
         }
         _ => writes(Reg::ZERO, latch.result),
     }

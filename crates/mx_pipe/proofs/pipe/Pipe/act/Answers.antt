@@ -1,68 +1,76 @@
-use Rattle.std.proofs.Common.{◌≡◌, true, false, cond, not, ◌&&◌, sym, ◌∙◌, subst}
+use Rattle.std.proofs.Common.{◌≡◌, ℕ, Bool, false, cond, not, ◌&&◌, List, Option, Some, None, sym, ap, ◌∙◌, subst}
 use Rattle.mx_code.specs.Delay.{Code}
+use Rattle.mx_turn.specs.declared.machine.Cycled.{Cycled}
 use Rattle.mx_turn.specs.Counted.{Counted, after_turn}
-use Rattle.mx_turn.specs.Cycle.{Machine, reached, turned, ended, is_taken, decision}
-use Rattle.mx_pipe.specs.declared.pipe.Wait.TheVariants.{NotAsked}
+use Rattle.mx_turn.specs.Cycle.{Machine, shifted, commit_byte, reached, turned, ended, is_taken, decision, counts_after, acted_answer}
 use Rattle.mx_pipe.specs.declared.pipe.Pipe.{Pipe}
+use Rattle.mx_pipe.specs.Made.{byte_of, halts}
 use Rattle.mx_pipe.specs.Kept.{code_of_pipe, has_missed, Holds}
-use Rattle.mx_pipe.proofs.Stands.{waiting}
 use Rattle.mx_pipe.proofs.pipe.Pipe.act.Goals as goal
 
-pub returns-then-self-clause-state : goal.returns-then-self-clause-state
-returns-then-self-clause-state g c = λ m h s.
-    let code : Code = code_of_pipe c.args.self.now in
-    let r : Machine = reached code c.args.self.now.board.input m in
-    let q : Pipe g.row.C.Denot = c.step-byte.new.self in
-    let shown : Holds code q r = c.step-byte.ensures.state m h s in
-    let over : r.halted ≡ true = sym shown.rest.halted ∙ c.if-self.true in
-    let counts : Counted = after_turn (has_missed q.wait) false false q.counts in
-    subst (λ x. Holds code x (ended code r)) (sym c.count.ensures)
-    (subst (λ b. let e : Machine = cond b r (turned code r) in Holds code (record q { wait = NotAsked; counts = counts }) e) (sym over)
-    (waiting code q r NotAsked counts r.stall r.counts shown))
+-- where MEM holds no halt
+ends_on : {C : Type 0} (code : Code) (r : Machine) → false ≡ r.halted → (p : Pipe C) → Holds code p (turned code r) → Holds code p (ended code r)
+ends_on code r on p h = subst (λ b. Holds code p (cond b r (turned code r))) on h
 
-pub returns-then-self-clause-answer : goal.returns-then-self-clause-answer
-returns-then-self-clause-answer g c = λ m h s k.
-    let code : Code = code_of_pipe c.args.self.now in
-    let r : Machine = reached code c.args.self.now.board.input m in
-    let over : true ≡ r.halted = sym c.if-self.true ∙ (c.step-byte.ensures.state m h s).rest.halted in
-    record { byte = c.step-byte.ensures.byte m h k; taken = not (over k) && is_taken r; halted = over k; stalled = false }
+module _ (code : Code) (input : Option (List ℕ)) (m : Machine) (on : false ≡ (reached code input m).halted) where
+  abbrev r : Machine
+  r = reached code input m
 
-pub returns-then-self-clause-counts : goal.returns-then-self-clause-counts
-returns-then-self-clause-counts g c = λ m h s d.
-    let code : Code = code_of_pipe c.args.self.now in
-    let r : Machine = reached code c.args.self.now.board.input m in
-    let over : true ≡ r.halted = sym c.if-self.true ∙ (c.step-byte.ensures.state m h s).rest.halted in
-    (λ k. (c.count.ensures k).counts)
-    ∙ (λ k. after_turn (has_missed (c.step-byte.ensures.wait k)) (not (over k) && (not (is_taken r) && (decision code r).cancels)) (not (over k) && is_taken r)
-    ((c.step-byte.ensures.counts ∙ d) k))
+  answers_on : (taken : Bool) (byte : Option ℕ) → byte ≡ commit_byte code input (shifted m) → taken ≡ is_taken r
+      → (let a : Cycled = record { byte = byte; taken = taken; halted = false; stalled = false } in a ≡ acted_answer code input m)
+  answers_on taken byte sends takes k = record { byte = sends k; taken = (takes ∙ (λ l. not (on l) && is_taken r)) k; halted = on k; stalled = false }
 
-pub returns-clause-state : goal.returns-clause-state
-returns-clause-state g c = λ m h s.
-    let code : Code = code_of_pipe c.args.self.now in
-    let r : Machine = reached code c.args.self.now.board.input m in
-    let shown = c.step-byte.ensures.state m h s in
-    let on : false ≡ r.halted = sym c.if-self.false ∙ shown.rest.halted in
-    subst (λ b. Holds code c.end-taken.new.self (cond b r (turned code r))) on (c.end-taken.ensures.state code r shown (c.step-byte.ensures.course m h))
+  counts_on : (missed missed' : Bool) (counts : Counted) → missed ≡ missed' → counts ≡ m.counts
+      → after_turn missed (not (is_taken r) && (decision code r).cancels) (is_taken r) counts ≡ counts_after code input missed' m
+  counts_on missed missed' counts same before =
+      λ k. after_turn (same k) (not (on k) && (not (is_taken r) && (decision code r).cancels)) (not (on k) && is_taken r) (before k)
 
-pub returns-clause-answer : goal.returns-clause-answer
-returns-clause-answer g c = λ m h s k.
+pub returns-in-Nothing-clause-state : goal.returns-in-Nothing-clause-state
+returns-in-Nothing-clause-state g c = λ m h s.
     let code : Code = code_of_pipe c.args.self.now in
-    let r : Machine = reached code c.args.self.now.board.input m in
-    let shown = c.step-byte.ensures.state m h s in
-    let on : false ≡ r.halted = sym c.if-self.false ∙ shown.rest.halted in
-    record {
-      byte = c.step-byte.ensures.byte m h k;
-      taken = (c.end-taken.ensures.taken code r shown ∙ (λ k. not (on k) && is_taken r)) k;
-      halted = on k;
-      stalled = false;
-    }
+    let shown = c.step-signal.ensures.state m h s in
+    let on = sym (ap halts c.in-Nothing.is) ∙ c.step-signal.ensures.halt ∙ shown.rest.halted in
+    ends_on code (reached code c.args.self.now.board.input m) on c.end-taken.new.self
+    (c.end-taken.ensures.state code (reached code c.args.self.now.board.input m) shown (c.step-signal.ensures.course m h))
 
-pub returns-clause-counts : goal.returns-clause-counts
-returns-clause-counts g c = λ m h s d.
+pub returns-in-Nothing-clause-answer : goal.returns-in-Nothing-clause-answer
+returns-in-Nothing-clause-answer g c = λ m h s.
     let code : Code = code_of_pipe c.args.self.now in
-    let r : Machine = reached code c.args.self.now.board.input m in
-    let shown = c.step-byte.ensures.state m h s in
-    let on : false ≡ r.halted = sym c.if-self.false ∙ shown.rest.halted in
-    c.end-taken.ensures.counts code r shown (c.step-byte.ensures.course m h)
-    ∙ (λ k. after_turn (has_missed (c.step-byte.ensures.wait k)) (not (on k) && (not (is_taken r) && (decision code r).cancels)) (not (on k) && is_taken r)
-    ((c.step-byte.ensures.counts ∙ d) k))
+    let shown = c.step-signal.ensures.state m h s in
+    let on = sym (ap halts c.in-Nothing.is) ∙ c.step-signal.ensures.halt ∙ shown.rest.halted in
+    answers_on code c.args.self.now.board.input m on c.end-taken.result None
+    (sym (ap byte_of c.in-Nothing.is) ∙ c.step-signal.ensures.byte m h)
+    (c.end-taken.ensures.taken code (reached code c.args.self.now.board.input m) shown)
+
+pub returns-in-Nothing-clause-counts : goal.returns-in-Nothing-clause-counts
+returns-in-Nothing-clause-counts g c = λ m h s d.
+    let code : Code = code_of_pipe c.args.self.now in
+    let shown = c.step-signal.ensures.state m h s in
+    let on = sym (ap halts c.in-Nothing.is) ∙ c.step-signal.ensures.halt ∙ shown.rest.halted in
+    c.end-taken.ensures.counts code (reached code c.args.self.now.board.input m) shown (c.step-signal.ensures.course m h)
+    ∙ counts_on code c.args.self.now.board.input m on _ _ _ (ap has_missed c.step-signal.ensures.wait) (c.step-signal.ensures.counts ∙ d)
+
+pub returns-in-Byte-clause-state : goal.returns-in-Byte-clause-state
+returns-in-Byte-clause-state g c = λ m h s.
+    let code : Code = code_of_pipe c.args.self.now in
+    let shown = c.step-signal.ensures.state m h s in
+    let on = sym (ap halts c.in-Byte.is) ∙ c.step-signal.ensures.halt ∙ shown.rest.halted in
+    ends_on code (reached code c.args.self.now.board.input m) on c.end_apart-taken.new.self
+    (c.end_apart-taken.ensures.state code (reached code c.args.self.now.board.input m) shown (c.step-signal.ensures.course m h))
+
+pub returns-in-Byte-clause-answer : goal.returns-in-Byte-clause-answer
+returns-in-Byte-clause-answer g c = λ m h s.
+    let code : Code = code_of_pipe c.args.self.now in
+    let shown = c.step-signal.ensures.state m h s in
+    let on = sym (ap halts c.in-Byte.is) ∙ c.step-signal.ensures.halt ∙ shown.rest.halted in
+    answers_on code c.args.self.now.board.input m on c.end_apart-taken.result (Some c.in-Byte.byte)
+    (sym (ap byte_of c.in-Byte.is) ∙ c.step-signal.ensures.byte m h)
+    (c.end_apart-taken.ensures.taken code (reached code c.args.self.now.board.input m) shown)
+
+pub returns-in-Byte-clause-counts : goal.returns-in-Byte-clause-counts
+returns-in-Byte-clause-counts g c = λ m h s d.
+    let code : Code = code_of_pipe c.args.self.now in
+    let shown = c.step-signal.ensures.state m h s in
+    let on = sym (ap halts c.in-Byte.is) ∙ c.step-signal.ensures.halt ∙ shown.rest.halted in
+    c.end_apart-taken.ensures.counts code (reached code c.args.self.now.board.input m) shown (c.step-signal.ensures.course m h)
+    ∙ counts_on code c.args.self.now.board.input m on _ _ _ (ap has_missed c.step-signal.ensures.wait) (c.step-signal.ensures.counts ∙ d)

@@ -50,4 +50,4 @@ returns-clause-course g c = λ code m h.
     c.make.ensures.course sees
     (a_is g c code m h ∙ (λ k. reg sees (sources (sym h.alu.inst k)).0))
     (b_is g c code m h ∙ (λ k. reg sees (sources (sym h.alu.inst k)).1))
-    ∙ (λ k. course_of (h.alu.inst k) (address_of (h.alu.word k)) sees)
+    ∙ (λ k. course_of (h.alu.inst k) (address_of (h.alu.word k)) (h.rest.next k).address sees)
