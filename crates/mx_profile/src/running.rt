@@ -1,12 +1,11 @@
 //! A run with its tally.
 ghost use Rattle.std.specs.Prelude.{◌≡◌, ◌≤◌, ◌<◌, ◌+◌, ◌*◌, ◌^◌, [], suc, List, ℕ, Bool, true, false, cond, OnOk, IfOk};
-ghost use Rattle.mx_turn.specs.Counted.{one};
 ghost use Rattle.mx_turn.specs.Program.{Program, state_after};
 ghost use Rattle.mx_turn.specs.Run.{bits, run_of};
 ghost use Rattle.mx_profile.specs.Charges.{waiting, counts_fetch, counts_cycle};
 ghost use Rattle.mx_profile.specs.Tallies.{HasPlaces, IsBelow, IsTally, IsProfile};
 
-use crate::tally::{Gain, Profile, Tally, gain_between};
+use crate::tally::{Gain, Profile, Tally, gain_in};
 use mx_board::Requests;
 use mx_io::Memory;
 use mx_turn::{Counts, Machine};
@@ -22,13 +21,9 @@ struct Progress {
 /// The cycles since the last fetch, after one more cycle.
 fn waiting_after(waiting: u64, gain: Gain) -> u64
     requires { waiting < 2 ^ 62 }
-    ensures { result ≡ cond gain.fetch 0 (waiting + one gain.cycle) }
+    ensures { result ≡ cond gain.fetch 0 (waiting + 1) }
 {
-    if gain.fetch {
-        0
-    } else {
-        waiting + u64::from(gain.cycle)
-    }
+    if gain.fetch { 0 } else { waiting + 1 }
 }
 
 /// One cycle, the first being 0, with what is charged for it; answers whether the machine has halted.
@@ -51,14 +46,14 @@ fn run_cycle<M: Machine>(
     ensures cycles { M.cycles machine.new ≤ M.cycles machine.old + 1 }
     ensures halted { (p : Program) → M.stands machine.old p (bits requests.now cycle) → result ≡ (state_after p (bits requests.now (suc cycle))).halted }
     ensures stands { (p : Program) → M.stands machine.old p (bits requests.now cycle) → M.stands machine.new p (bits requests.now (suc cycle)) }
-    ensures tally { (p : Program) → M.stands machine.old p (bits requests.now cycle) → IsTally p requests.now words cycle progress.old.tally
-        → progress.old.waiting ≡ waiting p requests.now words cycle → IsTally p requests.now words (suc cycle) progress.new.tally }
-    ensures still_waiting { (p : Program) → M.stands machine.old p (bits requests.now cycle)
+    ensures tally { (p : Program) → M.stands machine.old p (bits requests.now cycle) → (state_after p (bits requests.now cycle)).halted ≡ false
+        → IsTally p requests.now words cycle progress.old.tally → progress.old.waiting ≡ waiting p requests.now words cycle → IsTally p requests.now words (suc cycle) progress.new.tally }
+    ensures still_waiting { (p : Program) → M.stands machine.old p (bits requests.now cycle) → (state_after p (bits requests.now cycle)).halted ≡ false
         → progress.old.waiting ≡ waiting p requests.now words cycle → progress.new.waiting ≡ waiting p requests.now words (suc cycle) }
 {
     let before = machine.counts();
     let cycled = machine.cycle(requests.wants(cycle));
-    let gain = gain_between(&before, &machine.counts());
+    let gain = gain_in(&cycled, &before, &machine.counts());
     progress
         .tally
         .charge(words, gain, progress.waiting, &machine.latches());

@@ -1,10 +1,10 @@
 //! What is charged to the places of a code.
-ghost use Rattle.std.specs.Prelude.{◌≡◌, ◌<◌, ◌≤◌, ◌+◌, ◌*◌, ◌^◌, ◌-◌, ◌&&◌, ℕ, Bool, cond, eqb, ltb, length, replicate, slice_index, IfOk};
+ghost use Rattle.std.specs.Prelude.{◌≡◌, ◌<◌, ◌≤◌, ◌+◌, ◌*◌, ◌^◌, ◌-◌, ◌&&◌, ℕ, Bool, cond, eqb, ltb, leb, not, length, replicate, slice_index, IfOk};
 ghost use Rattle.mx_turn.specs.Counted.{one};
 ghost use Rattle.mx_profile.specs.Tallies.{HasPlaces, IsBelow};
 ghost use Rattle.mx_profile.specs.Charges.{place_of, place_in, is_live, is_squashed};
 
-use mx_turn::{Counts, Latches, Stage};
+use mx_turn::{Counts, Cycled, Latches, Stage};
 use std::alloc::{AllocError, Global};
 
 /// What was charged to each place of a code: its words in order, then the handler, then what lies behind the code.
@@ -32,39 +32,44 @@ pub struct Profile {
     pub halted: bool,
 }
 
-/// What a machine counts in one cycle.
+/// What a machine that had not halted counts in one cycle besides it.
 #[derive(Clone, Copy)]
 pub(crate) struct Gain {
-    pub(crate) cycle: bool,
     pub(crate) fetch: bool,
     pub(crate) squash: bool,
 }
 
-/// What was counted between two counts.
-pub(crate) fn gain_between(before: &Counts, after: &Counts) -> Gain
-    ensures cycle { result.cycle ≡ ltb before.now.cycles after.now.cycles }
-    ensures fetch { result.fetch ≡ ltb before.now.fetches after.now.fetches }
+/// What was counted in a cycle, by its answer and what was counted before and after it.
+pub(crate) fn gain_in(cycled: &Cycled, before: &Counts, after: &Counts) -> Gain
+    ensures fetch { result.fetch ≡ not cycled.now.stalled }
     ensures squash { result.squash ≡ ltb before.now.squashes after.now.squashes }
 {
     Gain {
-        cycle: before.cycles < after.cycles,
-        fetch: before.fetches < after.fetches,
+        fetch: !cycled.stalled,
         squash: before.squashes < after.squashes,
     }
 }
 
-/// The place of an address in a code of so many words.
+/// The place of an address that is that of no word. Few are: a call of its own keeps the way of the others short.
+#[inline(never)]
+fn place_beside(words: usize, address: u32) -> usize
+    requires { words < 2 ^ 32 }
+    ensures { result ≡ cond (leb 4096 address) (words + 1) words }
+{
+    if address < 4096 { words } else { words + 1 }
+}
+
+/// The place of an address in a code of so many words. What wraps round is greater than any of their numbers.
 fn place_of(words: usize, address: u32) -> usize
     requires { words < 2 ^ 32 }
     ensures place { result ≡ place_of words address }
     ensures within { result < words + 2 }
 {
-    if address < 4096 {
-        words
-    } else if ((address - 4096) as usize) < words {
-        (address - 4096) as usize
+    let number = (address as usize).wrapping_sub(4096);
+    if number < words {
+        number
     } else {
-        words + 1
+        place_beside(words, address)
     }
 }
 
@@ -89,6 +94,31 @@ fn add_if(table: &mut Vec<u64>, when: bool, at: usize, n: u64)
 {
     if when {
         table[at] += n;
+    }
+}
+
+/// Adds one to the entry of a stage's place. Few turns squash: a call of its own keeps the way of the others short.
+#[inline(never)]
+fn add_at(table: &mut Vec<u64>, words: usize, stage: Stage)
+    requires words { words < 2 ^ 32 }
+    requires size { length table.old.items ≡ words + 2 }
+    requires room { slice_index table.old.items (place_in words stage) + 1 < 2 ^ 64 }
+    ensures size { length table.new.items ≡ length table.old.items }
+    ensures added { (k : ℕ) → slice_index table.new.items k ≡ slice_index table.old.items k + one (eqb (place_in words stage) k) }
+{
+    table[place_in(words, stage)] += 1;
+}
+
+/// Adds one to the entry of a stage's place, where something is so. Elsewhere the place is not asked for.
+fn add_at_if(table: &mut Vec<u64>, when: bool, words: usize, stage: Stage)
+    requires words { words < 2 ^ 32 }
+    requires size { length table.old.items ≡ words + 2 }
+    requires room { slice_index table.old.items (place_in words stage) + 1 < 2 ^ 64 }
+    ensures size { length table.new.items ≡ length table.old.items }
+    ensures added { (k : ℕ) → slice_index table.new.items k ≡ slice_index table.old.items k + one (when && eqb (place_in words stage) k) }
+{
+    if when {
+        add_at(table, words, stage);
     }
 }
 
@@ -138,7 +168,7 @@ impl Tally {
         ensures fetches { (k : ℕ) → slice_index self.new.fetches.items k ≡ slice_index self.old.fetches.items k
             + one (gain.fetch && eqb (place_in words shown.now.fetch) k) }
         ensures cycles { (k : ℕ) → slice_index self.new.cycles.items k ≡ slice_index self.old.cycles.items k
-            + cond (gain.fetch && eqb (place_in words shown.now.fetch) k) (waiting + one gain.cycle) 0 }
+            + cond (gain.fetch && eqb (place_in words shown.now.fetch) k) (waiting + 1) 0 }
         ensures executed { (k : ℕ) → slice_index self.new.executed.items k ≡ slice_index self.old.executed.items k
             + one ((gain.fetch && is_live shown.now.mem) && eqb (place_in words shown.now.mem) k) }
         ensures cancelled { (k : ℕ) → slice_index self.new.cancelled.items k ≡ slice_index self.old.cancelled.items k
@@ -148,8 +178,7 @@ impl Tally {
     {
         let fetched = place_in(words, shown.fetch);
         let reached = place_in(words, shown.mem);
-        let decided = place_in(words, shown.alu);
-        let took = waiting + u64::from(gain.cycle);
+        let took = waiting + 1;
         add_if(&mut self.fetches, gain.fetch, fetched, 1);
         add_if(&mut self.cycles, gain.fetch, fetched, took);
         add_if(
@@ -164,6 +193,6 @@ impl Tally {
             reached,
             1,
         );
-        add_if(&mut self.squashes, gain.squash, decided, 1);
+        add_at_if(&mut self.squashes, gain.squash, words, shown.alu);
     }
 }

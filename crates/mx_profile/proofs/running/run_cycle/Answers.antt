@@ -1,4 +1,4 @@
-use Rattle.std.proofs.Common.{◌≡◌, ◌+◌, ◌-◌, ◌*◌, ◌^◌, ◌≤◌, suc, ◌++◌, ◌∷◌, [], Bool, ap, ◌∙◌, subst, arith}
+use Rattle.std.proofs.Common.{◌≡◌, ◌+◌, ◌-◌, ◌*◌, ◌^◌, ◌≤◌, suc, ◌++◌, ◌∷◌, [], Bool, true, ap, ◌∙◌, subst, not, arith}
 use Rattle.std.specs.Prelude.{cond, eqb, ltb, ◌&&◌}
 use Rattle.mx_turn.specs.declared.Cycled.{Cycled}
 use Rattle.mx_turn.specs.Counted.{one}
@@ -6,6 +6,7 @@ use Rattle.mx_turn.specs.Program.{answer_after}
 use Rattle.mx_turn.specs.Run.{bits}
 use Rattle.mx_report.proofs.Runs.{next_halted, cycled_at}
 use Rattle.mx_profile.specs.Charges.{place_in, is_live, is_squashed}
+use Rattle.mx_profile.proofs.Counted.{run_told}
 use Rattle.mx_profile.proofs.Charged.{fetches_more, cycles_more, executed_more, cancelled_more, squashes_more, below_more, added_below}
 use Rattle.mx_profile.proofs.running.run_cycle.Goals as goal
 
@@ -18,11 +19,11 @@ returns-clause-small g c =
     let a = c.args.cycle * 2 ^ 32 in
     let wait = c.requires.waiting in
     let last = c.requires.last in
-    let gain = c.gain_between-gain.result in
+    let gain = c.gain_in-gain.result in
     let shown = c.latches.result in
     let words = c.args.words in
     let old = c.args.progress.now.tally in
-    let took : c.args.progress.now.waiting + one gain.cycle ≤ 2 ^ 32 = grind arith in
+    let took : c.args.progress.now.waiting + 1 ≤ 2 ^ 32 = omega arith in
     record {
       fetches = λ k. (let h =
           added_below a (2 ^ 32) old.fetches.items _ (λ j. gain.fetch && eqb (place_in words shown.fetch) j) 1
@@ -56,7 +57,7 @@ returns-clause-stands g c = λ p s.
     subst (λ (r : Bool). g.M.Machine.stands c.cycle-cycled.new.self p (bits reqs i ++ r ∷ [])) c.wants.ensures (c.cycle-cycled.ensures.next p (bits reqs i) s)
 
 pub returns-clause-tally : goal.returns-clause-tally
-returns-clause-tally g c = λ p s t w.
+returns-clause-tally g c = λ p s going t w.
     let reqs = c.args.requests.now in
     let i = c.args.cycle in
     let words = c.args.words in
@@ -65,25 +66,27 @@ returns-clause-tally g c = λ p s t w.
     let shown = c.latches.ensures p (bits reqs (suc i)) later in
     let b = c.counts-before.ensures.counts p (bits reqs i) s in
     let a = c.counts.ensures.counts p (bits reqs (suc i)) later in
-    let cycle = c.gain_between-gain.ensures.cycle ∙ (λ j. ltb (b j).cycles (a j).cycles) in
-    let fetch = c.gain_between-gain.ensures.fetch ∙ (λ j. ltb (b j).fetches (a j).fetches) in
-    let squash = c.gain_between-gain.ensures.squash ∙ (λ j. ltb (b j).squashes (a j).squashes) in
+    let answered : c.cycle-cycled.result ≡ cycled_at p reqs i =
+    c.cycle-cycled.ensures.answer p (bits reqs i) s ∙ ap (answer_after p (bits reqs i)) c.wants.ensures in
+    let told = run_told p reqs i going in
+    let cycle = told.cycle in
+    let fetch = c.gain_in-gain.ensures.fetch ∙ ap (λ (r : Cycled). not r.stalled) answered ∙ told.fetch in
+    let squash = c.gain_in-gain.ensures.squash ∙ (λ j. ltb (b j).squashes (a j).squashes) in
     record {
       fetches = fetches_more p reqs words i _ shown _ _ _ fetch c.charge.ensures.fetches t.fetches;
-      cycles = cycles_more p reqs words i _ shown _ _ _ fetch _ _ w cycle c.charge.ensures.cycles t.cycles;
+      cycles = cycles_more p reqs words i _ shown _ _ _ fetch _ true w cycle c.charge.ensures.cycles t.cycles;
       executed = executed_more p reqs words i _ shown _ _ _ fetch c.charge.ensures.executed t.executed;
       cancelled = cancelled_more p reqs words i _ shown _ _ _ fetch c.charge.ensures.cancelled t.cancelled;
       squashes = squashes_more p reqs words i _ shown _ _ _ squash c.charge.ensures.squashes t.squashes;
     }
 
 pub returns-clause-still_waiting : goal.returns-clause-still_waiting
-returns-clause-still_waiting g c = λ p s w.
+returns-clause-still_waiting g c = λ p s going w.
     let reqs = c.args.requests.now in
     let i = c.args.cycle in
-    let later = subst (λ (r : Bool). g.M.Machine.stands c.cycle-cycled.new.self p (bits reqs i ++ r ∷ [])) c.wants.ensures
-    (c.cycle-cycled.ensures.next p (bits reqs i) s) in
-    let b = c.counts-before.ensures.counts p (bits reqs i) s in
-    let a = c.counts.ensures.counts p (bits reqs (suc i)) later in
-    let cycle = c.gain_between-gain.ensures.cycle ∙ (λ j. ltb (b j).cycles (a j).cycles) in
-    let fetch = c.gain_between-gain.ensures.fetch ∙ (λ j. ltb (b j).fetches (a j).fetches) in
+    let answered : c.cycle-cycled.result ≡ cycled_at p reqs i =
+    c.cycle-cycled.ensures.answer p (bits reqs i) s ∙ ap (answer_after p (bits reqs i)) c.wants.ensures in
+    let told = run_told p reqs i going in
+    let cycle = told.cycle in
+    let fetch = c.gain_in-gain.ensures.fetch ∙ ap (λ (r : Cycled). not r.stalled) answered ∙ told.fetch in
     c.waiting_after-progress.ensures ∙ (λ j. cond (fetch j) 0 (w j + one (cycle j)))
