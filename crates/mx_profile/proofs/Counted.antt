@@ -1,5 +1,5 @@
 -- A machine counts at most one more of anything in a cycle.
-use Rattle.std.proofs.Common.{◌≡◌, ℕ, suc, ◌+◌, Bool, true, false, not, List, refl, sym, subst, arith, ⊎_elim, ◌⊎◌, inl, inr, Option}
+use Rattle.std.proofs.Common.{◌≡◌, ℕ, suc, ◌+◌, Bool, true, false, List, refl, sym, ap, ◌∙◌, subst, arith, ⊎_elim, ◌⊎◌, inl, inr, Option}
 use Rattle.std.specs.Prelude.{eqb, ltb}
 use Rattle.std.proofs.lemmas.Bool.{cases_Bool}
 use Rattle.std.proofs.lemmas.Bool.Decides.{nat_tests}
@@ -65,13 +65,23 @@ more a = grind (arith, nat_tests)
 not_more : (a : ℕ) → ltb a a ≡ false
 not_more a = grind (arith, nat_tests)
 
--- a cycle is counted, and a fetch unless it was stalled
-pub record Told (stalled : Bool) (c d : Counted) : Type 0 where
+-- a stalled cycle is counted, and nothing else
+pub record Stalled (c d : Counted) : Type 0 where
   pub cycle : true ≡ ltb c.cycles d.cycles
-  pub fetch : not stalled ≡ ltb c.fetches d.fetches
+  pub fetch : false ≡ ltb c.fetches d.fetches
+  pub squash : false ≡ ltb c.squashes d.squashes
+
+-- another one is counted with a fetch
+pub record Turned (c d : Counted) : Type 0 where
+  pub cycle : true ≡ ltb c.cycles d.cycles
+  pub fetch : true ≡ ltb c.fetches d.fetches
+
+abbrev pub Told : Bool → Counted → Counted → Type 0
+Told true c d = Stalled c d
+Told false c d = Turned c d
 
 told_stalled : (c : Counted) → Told true c (after_stall c)
-told_stalled c = record { cycle = sym (more c.cycles); fetch = sym (not_more c.fetches) }
+told_stalled c = record { cycle = sym (more c.cycles); fetch = sym (not_more c.fetches); squash = sym (not_more c.squashes) }
 
 told_turned : (missed squashed taken : Bool) (c : Counted) → Told false c (after_turn missed squashed taken c)
 told_turned missed squashed taken c = record { cycle = sym (more c.cycles); fetch = sym (more c.fetches) }
@@ -87,9 +97,16 @@ counts_told code input m request h = ⊎_elim
     along {r} {r'} {n} {n'} e f t =
         subst (λ (x : Cycled). Told x.stalled m.counts n'.counts) e (subst (λ (x : Machine). Told r.stalled m.counts x.counts) f t)
 
--- while a run goes on, the answer of a cycle tells what it counts
-pub run_told : (p : Program) (requests : List ℕ) (n : ℕ) → (state_after p (bits requests n)).halted ≡ false
+run_told : (p : Program) (requests : List ℕ) (n : ℕ) → (state_after p (bits requests n)).halted ≡ false
     → Told (cycled_at p requests n).stalled (state_after p (bits requests n)).counts (state_after p (bits requests (suc n))).counts
 run_told p requests n h =
     subst (λ (m : Machine). Told (cycled_at p requests n).stalled (state_after p (bits requests n)).counts m.counts) (sym (next_state p requests n))
     (counts_told (code_of p) p.input (state_after p (bits requests n)) (is_requested requests n) h)
+
+-- while a run goes on, the answer of a cycle tells what it counts
+pub told_by : (p : Program) (requests : List ℕ) (n : ℕ) (r : Cycled) (stalled : Bool) → r ≡ cycled_at p requests n → r.stalled ≡ stalled
+    → (state_after p (bits requests n)).halted ≡ false
+    → Told stalled (state_after p (bits requests n)).counts (state_after p (bits requests (suc n))).counts
+told_by p requests n r stalled e s h =
+    subst (λ b. Told b (state_after p (bits requests n)).counts (state_after p (bits requests (suc n))).counts)
+    (sym (ap (λ (x : Cycled). x.stalled) e) ∙ s) (run_told p requests n h)
