@@ -1,12 +1,12 @@
 -- What one more cycle charges.
-use Rattle.std.proofs.Common.{◌≡◌, ℕ, suc, ◌+◌, ◌≤◌, Bool, true, false, cond, List, ◌∙◌, arith}
+use Rattle.std.proofs.Common.{◌≡◌, ℕ, suc, refl, ◌+◌, ◌≤◌, Bool, true, false, cond, List, ◌∙◌, arith}
 use Rattle.std.specs.Prelude.{eqb, ◌&&◌, slice_index}
 use Rattle.mx_turn.specs.declared.latches.Latches.{Latches}
 use Rattle.mx_turn.specs.Counted.{one}
 use Rattle.mx_turn.specs.Program.{Program}
 use Rattle.mx_profile.specs.declared.tally.Tally.{Tally}
 use Rattle.mx_profile.specs.Charges.{place_in, is_live, is_squashed, before, counts_cycle, counts_fetch, counts_squash, waiting, fetches_at, cycles_at, executed_at, cancelled_at, squashes_at}
-use Rattle.mx_profile.specs.Tallies.{IsBelow}
+use Rattle.mx_profile.specs.Tallies.{IsBelow, IsTally}
 
 module _ (p : Program) (requests : List ℕ) (words n : ℕ) (shown : Latches) (s : shown ≡ (before p requests words (suc n)).shown) (old new : List ℕ) where
   module _ (fetched : Bool) (g : fetched ≡ counts_fetch p requests words n) where
@@ -31,6 +31,20 @@ module _ (p : Program) (requests : List ℕ) (words n : ℕ) (shown : Latches) (
       → ((k : ℕ) → slice_index new k ≡ slice_index old k + one (squashed && eqb (place_in words shown.alu) k))
       → ((k : ℕ) → slice_index old k ≡ squashes_at p requests words n k) → (k : ℕ) → slice_index new k ≡ squashes_at p requests words (suc n) k
   squashes_more squashed g added tally k = added k ∙ (λ i. tally k i + one (g i && eqb (place_in words (s i).alu) k))
+
+none : (a : ℕ) → a ≡ a + 0
+none a = omega arith
+
+-- a cycle with no fetch and no squash charges nothing
+pub nothing_more : (p : Program) (requests : List ℕ) (words n : ℕ) (t : Tally)
+    → false ≡ counts_fetch p requests words n → false ≡ counts_squash p requests words n → IsTally p requests words n t → IsTally p requests words (suc n) t
+nothing_more p requests words n t f q h = record {
+  fetches = fetches_more p requests words n _ refl t.fetches.items t.fetches.items false f (λ k. none _) h.fetches;
+  cycles = cycles_more p requests words n _ refl t.cycles.items t.cycles.items false f _ _ refl refl (λ k. none _) h.cycles;
+  executed = executed_more p requests words n _ refl t.executed.items t.executed.items false f (λ k. none _) h.executed;
+  cancelled = cancelled_more p requests words n _ refl t.cancelled.items t.cancelled.items false f (λ k. none _) h.cancelled;
+  squashes = squashes_more p requests words n _ refl t.squashes.items t.squashes.items false q (λ k. none _) h.squashes;
+}
 
 pub below_more : (a b : ℕ) (t : Tally) → a ≤ b → IsBelow a t → IsBelow b t
 below_more a b t l h = record {

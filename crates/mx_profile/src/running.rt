@@ -1,12 +1,11 @@
 //! A run with its tally.
 ghost use Rattle.std.specs.Prelude.{◌≡◌, ◌≤◌, ◌<◌, ◌+◌, ◌*◌, ◌^◌, [], suc, List, ℕ, Bool, true, false, cond, OnOk, IfOk};
-ghost use Rattle.mx_turn.specs.Counted.{one};
 ghost use Rattle.mx_turn.specs.Program.{Program, state_after};
 ghost use Rattle.mx_turn.specs.Run.{bits, run_of};
 ghost use Rattle.mx_profile.specs.Charges.{waiting, counts_fetch, counts_cycle};
 ghost use Rattle.mx_profile.specs.Tallies.{HasPlaces, IsBelow, IsTally, IsProfile};
 
-use crate::tally::{Gain, Profile, Tally, gain_between};
+use crate::tally::{Profile, Tally, squashed_between};
 use mx_board::Requests;
 use mx_io::Memory;
 use mx_turn::{Counts, Machine};
@@ -17,18 +16,6 @@ struct Progress {
     tally: Tally,
     /// The cycles since the last fetch.
     waiting: u64,
-}
-
-/// The cycles since the last fetch, after one more cycle.
-fn waiting_after(waiting: u64, gain: Gain) -> u64
-    requires { waiting < 2 ^ 62 }
-    ensures { result ≡ cond gain.fetch 0 (waiting + one gain.cycle) }
-{
-    if gain.fetch {
-        0
-    } else {
-        waiting + u64::from(gain.cycle)
-    }
 }
 
 /// One cycle, the first being 0, with what is charged for it; answers whether the machine has halted.
@@ -51,18 +38,24 @@ fn run_cycle<M: Machine>(
     ensures cycles { M.cycles machine.new ≤ M.cycles machine.old + 1 }
     ensures halted { (p : Program) → M.stands machine.old p (bits requests.now cycle) → result ≡ (state_after p (bits requests.now (suc cycle))).halted }
     ensures stands { (p : Program) → M.stands machine.old p (bits requests.now cycle) → M.stands machine.new p (bits requests.now (suc cycle)) }
-    ensures tally { (p : Program) → M.stands machine.old p (bits requests.now cycle) → IsTally p requests.now words cycle progress.old.tally
-        → progress.old.waiting ≡ waiting p requests.now words cycle → IsTally p requests.now words (suc cycle) progress.new.tally }
-    ensures still_waiting { (p : Program) → M.stands machine.old p (bits requests.now cycle)
+    ensures tally { (p : Program) → M.stands machine.old p (bits requests.now cycle) → (state_after p (bits requests.now cycle)).halted ≡ false
+        → IsTally p requests.now words cycle progress.old.tally → progress.old.waiting ≡ waiting p requests.now words cycle
+        → IsTally p requests.now words (suc cycle) progress.new.tally }
+    ensures still_waiting { (p : Program) → M.stands machine.old p (bits requests.now cycle) → (state_after p (bits requests.now cycle)).halted ≡ false
         → progress.old.waiting ≡ waiting p requests.now words cycle → progress.new.waiting ≡ waiting p requests.now words (suc cycle) }
 {
     let before = machine.counts();
     let cycled = machine.cycle(requests.wants(cycle));
-    let gain = gain_between(&before, &machine.counts());
+    if cycled.stalled {
+        progress.waiting += 1;
+        return cycled.halted;
+    }
+    let squashed = squashed_between(&before, &machine.counts());
+    let took = progress.waiting + 1;
     progress
         .tally
-        .charge(words, gain, progress.waiting, &machine.latches());
-    progress.waiting = waiting_after(progress.waiting, gain);
+        .charge(words, took, squashed, &machine.latches());
+    progress.waiting = 0;
     cycled.halted
 }
 

@@ -1,5 +1,5 @@
 //! What is charged to the places of a code.
-ghost use Rattle.std.specs.Prelude.{◌≡◌, ◌<◌, ◌≤◌, ◌+◌, ◌*◌, ◌^◌, ◌-◌, ◌&&◌, ℕ, Bool, cond, eqb, ltb, length, replicate, slice_index, IfOk};
+ghost use Rattle.std.specs.Prelude.{◌≡◌, ◌<◌, ◌≤◌, ◌+◌, ◌*◌, ◌^◌, ◌-◌, ◌&&◌, ℕ, Bool, cond, eqb, ltb, leb, length, replicate, slice_index, IfOk};
 ghost use Rattle.mx_turn.specs.Counted.{one};
 ghost use Rattle.mx_profile.specs.Tallies.{HasPlaces, IsBelow};
 ghost use Rattle.mx_profile.specs.Charges.{place_of, place_in, is_live, is_squashed};
@@ -32,39 +32,33 @@ pub struct Profile {
     pub halted: bool,
 }
 
-/// What a machine counts in one cycle.
-#[derive(Clone, Copy)]
-pub(crate) struct Gain {
-    pub(crate) cycle: bool,
-    pub(crate) fetch: bool,
-    pub(crate) squash: bool,
-}
-
-/// What was counted between two counts.
-pub(crate) fn gain_between(before: &Counts, after: &Counts) -> Gain
-    ensures cycle { result.cycle ≡ ltb before.now.cycles after.now.cycles }
-    ensures fetch { result.fetch ≡ ltb before.now.fetches after.now.fetches }
-    ensures squash { result.squash ≡ ltb before.now.squashes after.now.squashes }
+/// Whether a squash was counted between two counts.
+pub(crate) fn squashed_between(before: &Counts, after: &Counts) -> bool
+    ensures { result ≡ ltb before.now.squashes after.now.squashes }
 {
-    Gain {
-        cycle: before.cycles < after.cycles,
-        fetch: before.fetches < after.fetches,
-        squash: before.squashes < after.squashes,
-    }
+    before.squashes < after.squashes
 }
 
-/// The place of an address in a code of so many words.
+/// The place of an address that is that of no word. Few are: a call of its own keeps the way of the others short.
+#[inline(never)]
+fn place_beside(words: usize, address: u32) -> usize
+    requires { words < 2 ^ 32 }
+    ensures { result ≡ cond (leb 4096 address) (words + 1) words }
+{
+    if address < 4096 { words } else { words + 1 }
+}
+
+/// The place of an address in a code of so many words. What wraps round is greater than any of their numbers.
 fn place_of(words: usize, address: u32) -> usize
     requires { words < 2 ^ 32 }
     ensures place { result ≡ place_of words address }
     ensures within { result < words + 2 }
 {
-    if address < 4096 {
-        words
-    } else if ((address - 4096) as usize) < words {
-        (address - 4096) as usize
+    let number = (address as usize).wrapping_sub(4096);
+    if number < words {
+        number
     } else {
-        words + 1
+        place_beside(words, address)
     }
 }
 
@@ -80,15 +74,51 @@ fn place_in(words: usize, stage: Stage) -> usize
     }
 }
 
-/// Adds to one entry, where something is so.
-fn add_if(table: &mut Vec<u64>, when: bool, at: usize, n: u64)
+/// Adds to one entry.
+fn add(table: &mut Vec<u64>, at: usize, n: u64)
     requires within { at < length table.old.items }
     requires room { slice_index table.old.items at + n < 2 ^ 64 }
     ensures size { length table.new.items ≡ length table.old.items }
-    ensures added { (k : ℕ) → slice_index table.new.items k ≡ slice_index table.old.items k + cond (when && eqb at k) n 0 }
+    ensures added { (k : ℕ) → slice_index table.new.items k ≡ slice_index table.old.items k + cond (eqb at k) n 0 }
+{
+    table[at] += n;
+}
+
+/// Adds one to the entry of a stage's place, where something is so. Elsewhere the place is not asked for.
+fn add_if(table: &mut Vec<u64>, when: bool, words: usize, stage: Stage)
+    requires words { words < 2 ^ 32 }
+    requires size { length table.old.items ≡ words + 2 }
+    requires room { slice_index table.old.items (place_in words stage) + 1 < 2 ^ 64 }
+    ensures size { length table.new.items ≡ length table.old.items }
+    ensures added { (k : ℕ) → slice_index table.new.items k ≡ slice_index table.old.items k + one (when && eqb (place_in words stage) k) }
 {
     if when {
-        table[at] += n;
+        add(table, place_in(words, stage), 1);
+    }
+}
+
+/// The same, where few turns have it: a call of its own keeps the way of the others short.
+#[inline(never)]
+fn add_rarely(table: &mut Vec<u64>, words: usize, stage: Stage)
+    requires words { words < 2 ^ 32 }
+    requires size { length table.old.items ≡ words + 2 }
+    requires room { slice_index table.old.items (place_in words stage) + 1 < 2 ^ 64 }
+    ensures size { length table.new.items ≡ length table.old.items }
+    ensures added { (k : ℕ) → slice_index table.new.items k ≡ slice_index table.old.items k + one (eqb (place_in words stage) k) }
+{
+    add(table, place_in(words, stage), 1);
+}
+
+/// As `add_if`, for what few turns have.
+fn add_rarely_if(table: &mut Vec<u64>, when: bool, words: usize, stage: Stage)
+    requires words { words < 2 ^ 32 }
+    requires size { length table.old.items ≡ words + 2 }
+    requires room { slice_index table.old.items (place_in words stage) + 1 < 2 ^ 64 }
+    ensures size { length table.new.items ≡ length table.old.items }
+    ensures added { (k : ℕ) → slice_index table.new.items k ≡ slice_index table.old.items k + one (when && eqb (place_in words stage) k) }
+{
+    if when {
+        add_rarely(table, words, stage);
     }
 }
 
@@ -128,42 +158,34 @@ impl Tally {
         })
     }
 
-    /// Charges what was counted in a cycle that shows these stages, with so many cycles since the fetch before.
-    pub(crate) fn charge(&mut self, words: usize, gain: Gain, waiting: u64, shown: &Latches)
+    /// Charges a turn that shows these stages. It took so many cycles, with the stalled ones before it, and squashed or not.
+    pub(crate) fn charge(&mut self, words: usize, took: u64, squashed: bool, shown: &Latches)
         requires words { words < 2 ^ 32 }
         requires sizes { HasPlaces words self.old }
         requires small { IsBelow (2 ^ 64 - 2 ^ 33) self.old }
-        requires waiting { waiting + 1 < 2 ^ 32 }
+        requires took { took < 2 ^ 32 }
         ensures sizes { HasPlaces words self.new }
         ensures fetches { (k : ℕ) → slice_index self.new.fetches.items k ≡ slice_index self.old.fetches.items k
-            + one (gain.fetch && eqb (place_in words shown.now.fetch) k) }
+            + one (eqb (place_in words shown.now.fetch) k) }
         ensures cycles { (k : ℕ) → slice_index self.new.cycles.items k ≡ slice_index self.old.cycles.items k
-            + cond (gain.fetch && eqb (place_in words shown.now.fetch) k) (waiting + one gain.cycle) 0 }
+            + cond (eqb (place_in words shown.now.fetch) k) took 0 }
         ensures executed { (k : ℕ) → slice_index self.new.executed.items k ≡ slice_index self.old.executed.items k
-            + one ((gain.fetch && is_live shown.now.mem) && eqb (place_in words shown.now.mem) k) }
+            + one (is_live shown.now.mem && eqb (place_in words shown.now.mem) k) }
         ensures cancelled { (k : ℕ) → slice_index self.new.cancelled.items k ≡ slice_index self.old.cancelled.items k
-            + one ((gain.fetch && is_squashed shown.now.mem) && eqb (place_in words shown.now.mem) k) }
+            + one (is_squashed shown.now.mem && eqb (place_in words shown.now.mem) k) }
         ensures squashes { (k : ℕ) → slice_index self.new.squashes.items k ≡ slice_index self.old.squashes.items k
-            + one (gain.squash && eqb (place_in words shown.now.alu) k) }
+            + one (squashed && eqb (place_in words shown.now.alu) k) }
     {
+        add_rarely_if(&mut self.squashes, squashed, words, shown.alu);
         let fetched = place_in(words, shown.fetch);
-        let reached = place_in(words, shown.mem);
-        let decided = place_in(words, shown.alu);
-        let took = waiting + u64::from(gain.cycle);
-        add_if(&mut self.fetches, gain.fetch, fetched, 1);
-        add_if(&mut self.cycles, gain.fetch, fetched, took);
-        add_if(
-            &mut self.executed,
-            gain.fetch && is_live(shown.mem),
-            reached,
-            1,
-        );
-        add_if(
+        add(&mut self.fetches, fetched, 1);
+        add(&mut self.cycles, fetched, took);
+        add_if(&mut self.executed, is_live(shown.mem), words, shown.mem);
+        add_rarely_if(
             &mut self.cancelled,
-            gain.fetch && is_squashed(shown.mem),
-            reached,
-            1,
+            is_squashed(shown.mem),
+            words,
+            shown.mem,
         );
-        add_if(&mut self.squashes, gain.squash, decided, 1);
     }
 }

@@ -30,7 +30,7 @@ returns-then-run_cycle-clause-tally g c = λ p s.
     let inv = c.loop-cycle.invariant.run p s in
     let within : suc i ≤ c.args.budget = omega arith in
     let h : (state_at p reqs (suc i)).halted ≡ true = sym (c.run_cycle.ensures.halted p inv.0) ∙ c.if-run_cycle.true in
-    tally_still p reqs c.args.words (suc i) h _ c.args.budget within (c.run_cycle.ensures.tally p inv.0 inv.2 inv.3)
+    tally_still p reqs c.args.words (suc i) h _ c.args.budget within (c.run_cycle.ensures.tally p inv.0 inv.1 inv.2 inv.3)
 
 pub returns-then-run_cycle-clause-still_waiting : goal.returns-then-run_cycle-clause-still_waiting
 returns-then-run_cycle-clause-still_waiting g c = λ p s.
@@ -39,4 +39,4 @@ returns-then-run_cycle-clause-still_waiting g c = λ p s.
     let inv = c.loop-cycle.invariant.run p s in
     let within : suc i ≤ c.args.budget = omega arith in
     let h : (state_at p reqs (suc i)).halted ≡ true = sym (c.run_cycle.ensures.halted p inv.0) ∙ c.if-run_cycle.true in
-    c.run_cycle.ensures.still_waiting p inv.0 inv.3 ∙ sym (waiting_still p reqs c.args.words (suc i) h c.args.budget within)
+    c.run_cycle.ensures.still_waiting p inv.0 inv.1 inv.3 ∙ sym (waiting_still p reqs c.args.words (suc i) h c.args.budget within)

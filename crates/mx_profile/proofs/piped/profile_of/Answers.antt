@@ -3,7 +3,7 @@ use Rattle.std.specs.Option.{option_copied}
 use Rattle.mx_turn.specs.Handler.{shipped}
 use Rattle.mx_turn.specs.Program.{Program, program_of}
 use Rattle.mx_profile.specs.Tallies.{IsProfile}
-use Rattle.mx_laboratory.proofs.profiled.profile_of.Goals as goal
+use Rattle.mx_profile.proofs.piped.profile_of.Goals as goal
 
 pub returns : goal.returns
 returns g c =
