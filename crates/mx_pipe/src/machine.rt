@@ -165,7 +165,7 @@ impl<C: FetchCache> Pipe<C> {
           counts = after_turn (has_missed self.old.wait) squashed taken self.old.counts;
         } }
     {
-        let missed = self.wait != Wait::NotAsked;
+        let missed = matches!(self.wait, Wait::Missed(_));
         self.wait = Wait::NotAsked;
         self.counts.turned(missed, squashed, taken);
     }

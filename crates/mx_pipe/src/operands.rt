@@ -47,6 +47,7 @@ pub fn register_of(file: &[u32; 32], mem: &Latch, r: Reg) -> u32
 }
 
 // What a word in RF reads; 0 for an operand that it has not.
+#[inline(always)]
 fn operands(inst: &Inst, to: Reg, word: u32, file: &[u32; 32]) -> (u32, u32)
     ensures { let regs = write (slice_index file.now) to word in result ≡ (reg regs (sources inst.now).0, reg regs (sources inst.now).1) }
 {
