@@ -95,7 +95,15 @@ module _ {C : Type 0} (code : Code) (p : Pipe C) (m : Machine) (h : Holds code p
       result = h.alu.result ∙ sym (number_kept i (pops i && not u) (not u) m.psw m.chain (address_of m.alu) (first code m) (second code m) m.core.md);
       md = h.alu.md;
     };
-    behind = record { mem = h.behind.mem; wb = h.behind.wb; file = h.behind.file; regs = h.behind.regs; slot = h.behind.slot };
+    behind = record {
+      mem = h.behind.mem;
+      wb = h.behind.wb;
+      to = h.behind.to;
+      within = h.behind.within;
+      file = h.behind.file;
+      regs = h.behind.regs;
+      slot = h.behind.slot;
+    };
     rest = record {
       next =
           is

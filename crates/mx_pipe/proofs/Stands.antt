@@ -21,7 +21,15 @@ waiting code p m w d stall counts h = record {
   fetch = h.fetch;
   rf = h.rf;
   alu = record { word = h.alu.word; inst = h.alu.inst; a = h.alu.a; b = h.alu.b; result = h.alu.result; md = h.alu.md };
-  behind = record { mem = h.behind.mem; wb = h.behind.wb; file = h.behind.file; regs = h.behind.regs; slot = h.behind.slot };
+  behind = record {
+    mem = h.behind.mem;
+    wb = h.behind.wb;
+    to = h.behind.to;
+    within = h.behind.within;
+    file = h.behind.file;
+    regs = h.behind.regs;
+    slot = h.behind.slot;
+  };
   rest = record {
     next = h.rest.next;
     md = h.rest.md;

@@ -1,5 +1,5 @@
 -- What the latches and the register file have to do with the definition's state.
-use Rattle.std.specs.Prelude.{◌≡◌, ℕ, Bool, true, false, not, cond, List, ◌∷◌, Option, Some, None, slice_index}
+use Rattle.std.specs.Prelude.{◌≡◌, ◌≤◌, ℕ, Bool, true, false, not, cond, List, ◌∷◌, Option, Some, None, slice_index}
 use Rattle.mx_isa.specs.declared.board.TheConstants.{CODE_BASE}
 use Rattle.mx_isa.specs.Words.{Words, reg, write}
 use Rattle.mx_isa.specs.Views.{sources, dest, is_load}
@@ -46,6 +46,8 @@ pub record IsMade (code : Code) (l : Latched) (m : Machine) : Type 0 where
 pub record IsBehind {C : Type 0} (p : Pipe C) (m : Machine) : Type 0 where
   pub mem : p.mem.word ≡ m.mem
   pub wb : p.wb.word ≡ m.wb
+  pub to : p.mem.b ≡ dest (does p.mem)
+  pub within : p.mem.b ≤ 31
   pub file : slice_index p.file ≡ m.before
   pub regs : write (slice_index p.file) (dest (does p.mem)) p.mem.result ≡ m.core.regs
   pub slot : slot_of (does p.mem) (slice_index p.file) ≡ m.slot

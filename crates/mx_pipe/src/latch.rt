@@ -5,8 +5,9 @@ use mx_turn::squash;
 use std::marker::Model;
 
 /// What passes from one stage to the next: a fetch, with its squashed mark, if there is one that was not killed; from RF to
-/// MEM what its word does, None where it does nothing, and its operands; from ALU on the number that it makes, for a load
-/// in MEM the word that it found; and the MD that it makes. In IF and in WB only the fetch is kept; nothing reads the rest.
+/// MEM what its word does, None where it does nothing, and its operands, the second of which gives way in MEM to the number
+/// of the register that the word writes; from ALU on the number that it makes, for a load in MEM the word that it found; and
+/// the MD that it makes. In IF and in WB only the fetch is kept; nothing reads the rest.
 #[derive(Clone, Copy, Debug)]
 pub struct Latch {
     pub word: Option<Fetched>,

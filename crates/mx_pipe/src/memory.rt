@@ -1,5 +1,5 @@
 //! What the word in MEM does.
-ghost use Rattle.std.specs.Prelude.{◌≡◌, cond, suc, None, false};
+ghost use Rattle.std.specs.Prelude.{◌≡◌, ◌≤◌, cond, suc, None, false};
 ghost use Rattle.mx_isa.specs.Effect.{stored, sent};
 ghost use Rattle.mx_isa.specs.Views.{dest, is_load, is_halt};
 ghost use Rattle.mx_board.specs.Data.{board, words_of};
@@ -53,7 +53,8 @@ fn sends_byte(byte: Option<u8>) -> Signal
     }
 }
 
-/// The word of a latch is in MEM: a load finds its word, a store sends one, MD and the saved fetches are written.
+/// The word of a latch is in MEM: a load finds its word, a store sends one, MD and the saved fetches are written. The latch
+/// keeps the number of the register that the word writes in WB, in the place of the second operand, which is used up.
 // One match, since each costs a jump in every cycle.
 #[inline(always)]
 pub fn reach(
@@ -65,7 +66,9 @@ pub fn reach(
     memory: &mut Board,
 ) -> Reached
     requires running { halted.old ≡ false }
+    ensures within { latch.new.b ≤ 31 }
     ensures result { latch.new ≡ record latch.old {
+      b = dest (does latch.old);
       result = reached (does latch.old) latch.old.result ((board psw.now.current.user memory.old.input).load (words_of memory.old) memory.old.taken);
     } }
     ensures md { md.new ≡ md_kept latch.old.inst latch.old.result latch.old.md md.old }
@@ -82,7 +85,7 @@ pub fn reach(
     ensures passes { result.passes ≡ cond (is_load (does latch.old)) 0 (dest (does latch.old)) }
     ensures word { result.word ≡ latch.new.result }
 {
-    match &latch.inst {
+    let reached = match &latch.inst {
         Some(Inst::Load { dest, .. }) => {
             let word = memory.load(latch.result, psw.current.user);
             latch.result = word;
@@ -118,5 +121,7 @@ pub fn reach(
             }
         }
         _ => writes(Reg::ZERO, latch.result),
-    }
+    };
+    latch.b = u32::from(reached.to.number());
+    reached
 }

@@ -1,5 +1,5 @@
 //! What a word reads and writes, and the paths on which it finds its operands.
-ghost use Rattle.std.specs.Prelude.{◌≡◌, IfSome, slice_index, unwrap_or};
+ghost use Rattle.std.specs.Prelude.{◌≡◌, ◌≤◌, IfSome, slice_index, unwrap_or};
 ghost use Rattle.mx_isa.specs.Words.{reg, write};
 ghost use Rattle.mx_isa.specs.Views.{sources, dest};
 ghost use Rattle.mx_code.specs.Delay.{idle};
@@ -32,11 +32,13 @@ fn reads(file: &[u32; 32], to: Reg, word: u32, r: Reg) -> u32
     }
 }
 
-/// The word in WB is written to the file.
+/// The number of the word in WB is written to the register that MEM named for it.
 pub fn write_back(file: &mut [u32; 32], latch: &Latch)
-    ensures { slice_index file.new ≡ write (slice_index file.old) (dest (does latch.now)) latch.now.result }
+    ensures { latch.now.b ≤ 31 → slice_index file.new ≡ write (slice_index file.old) latch.now.b latch.now.result }
 {
-    set(file, dest_of(latch), latch.result);
+    if let Some(to) = Reg::new((latch.b % 32) as u8) {
+        set(file, to, latch.result);
+    }
 }
 
 /// A register as the next word sees it, which is not yet in the file where the word in MEM writes it.

@@ -25,7 +25,8 @@ returns-clause-state g c = λ code m h.
     let user : self.psw.current.user ≡ u = ap (λ (x : Psw). x.current.user) h.rest.psw in
     let finds : (board self.psw.current.user self.board.input).load (words_of self.board) self.board.taken ≡ find =
     (λ k. (board (user k) self.board.input).load (h.rest.words k) (h.rest.taken k)) in
-    let file : slice_index c.write_back.new.file ≡ m.core.regs = c.write_back.ensures ∙ h.behind.regs in
+    let file : slice_index c.write_back.new.file ≡ m.core.regs =
+    c.write_back.ensures h.behind.within ∙ (λ k. write (slice_index self.file) (h.behind.to k) self.mem.result) ∙ h.behind.regs in
     record {
       fetch = refl;
       rf = h.fetch;
@@ -33,6 +34,8 @@ returns-clause-state g c = λ code m h.
       behind = record {
         mem = ap (λ (l : Latched). l.word) c.reach.ensures.result ∙ h.alu.word;
         wb = ap (λ (l : Latched). l.word) c.follow.ensures ∙ h.behind.mem;
+        to = ap (λ (l : Latched). l.b) c.reach.ensures.result ∙ sym (ap (λ (l : Latched). dest (does l)) c.reach.ensures.result);
+        within = c.reach.ensures.within;
         file = file;
         regs =
             (λ k. write (file k) (dest (does (c.reach.ensures.result k))) (c.reach.ensures.result k).result)

@@ -1,4 +1,4 @@
-use Rattle.std.proofs.Common.{true≢false, refl, sym, ap, ◌∙◌, cond}
+use Rattle.std.proofs.Common.{◌≡◌, arith, true≢false, refl, sym, ap, ◌∙◌, cond}
 use Rattle.mx_isa.specs.Words.{write}
 use Rattle.mx_isa.specs.Views.{dest}
 use Rattle.mx_code.specs.Delay.{data_from}
@@ -34,6 +34,8 @@ returns g c = record {
     behind = record {
       mem = λ k. (c.cleared-4.ensures k).word;
       wb = λ k. (c.cleared-5.ensures k).word;
+      to = (λ k. (c.cleared-4.ensures k).b) ∙ sym (λ k. dest (does (c.cleared-4.ensures k)));
+      within = let none : c.cleared-4.result.b ≡ 0 = λ k. (c.cleared-4.ensures k).b in omega (arith, none);
       file = no_registers;
       regs = λ k. write (no_registers k) (dest (does (c.cleared-4.ensures k))) (c.cleared-4.ensures k).result;
       slot = λ k. slot_of (does (c.cleared-4.ensures k)) (no_registers k);
