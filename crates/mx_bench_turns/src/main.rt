@@ -6,8 +6,9 @@ use anyhow::{Context, Result, bail};
 use mx_board::Requests;
 use mx_code::Image;
 use mx_icache::LineCache;
+use mx_io::Memory;
 use mx_pipe::Pipe;
-use mx_report::drive;
+use mx_report::{Driven, drive};
 use mx_turn::{Counts, Turns};
 use std::alloc::Global;
 use std::env;
@@ -58,15 +59,20 @@ fn requests(alloc: Global, cycles: u32, count: u32) -> Result<Requests> {
     }
 }
 
+// What either machine counts, where memory sufficed.
+fn counted(driven: std::result::Result<Driven, Memory>) -> Result<Counts> {
+    match driven {
+        Ok(driven) => Ok(driven.counts),
+        Err(_) => bail!("out of memory"),
+    }
+}
+
 // Drives the turn machine.
 fn turns(alloc: Global, image: &Image, requests: &Requests, cycles: u32) -> Result<Counts> {
     let Ok(mut machine) = Turns::new(alloc, image, None, LineCache::new()) else {
         bail!("out of memory")
     };
-    match drive(alloc, &mut machine, requests, cycles, 0) {
-        Ok(driven) => Ok(driven.counts),
-        Err(_) => bail!("out of memory"),
-    }
+    counted(drive(alloc, &mut machine, requests, cycles, 0))
 }
 
 // Drives the pipeline.
@@ -74,10 +80,7 @@ fn pipe(alloc: Global, image: &Image, requests: &Requests, cycles: u32) -> Resul
     let Ok(mut machine) = Pipe::new(alloc, image, None, LineCache::new()) else {
         bail!("out of memory")
     };
-    match drive(alloc, &mut machine, requests, cycles, 0) {
-        Ok(driven) => Ok(driven.counts),
-        Err(_) => bail!("out of memory"),
-    }
+    counted(drive(alloc, &mut machine, requests, cycles, 0))
 }
 
 fn main(rt: HostRuntime) -> Result<()> {
