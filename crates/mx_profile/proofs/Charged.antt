@@ -5,7 +5,8 @@ use Rattle.mx_turn.specs.declared.latches.Latches.{Latches}
 use Rattle.mx_turn.specs.Counted.{one}
 use Rattle.mx_turn.specs.Program.{Program}
 use Rattle.mx_profile.specs.declared.tally.Tally.{Tally}
-use Rattle.mx_profile.specs.Charges.{place_in, is_live, is_squashed, before, counts_cycle, counts_fetch, counts_squash, waiting, fetches_at, cycles_at, executed_at, cancelled_at, squashes_at}
+use Rattle.mx_profile.specs.Charges.{place_in, is_live, is_squashed, before, counts_cycle, counts_fetch, counts_squash, waiting}
+use Rattle.mx_profile.specs.Charges.{fetches_at, cycles_at, executed_at, cancelled_at, squashes_at}
 use Rattle.mx_profile.specs.Tallies.{IsBelow, IsTally}
 
 module _ (p : Program) (requests : List ℕ) (words n : ℕ) (shown : Latches) (s : shown ≡ (before p requests words (suc n)).shown) (old new : List ℕ) where

@@ -1,5 +1,6 @@
 -- Among rising numbers the next request is the only one that can come in a cycle.
-use Rattle.std.proofs.Common.{◌≡◌, ◌≢◌, ◌<◌, ◌≤◌, ◌+◌, ◌⊎◌, inl, inr, ℕ, zero, suc, true, false, cond, List, length, get_or, refl, arith, ap, ◌∙◌, subst, sym, ⊎_elim}
+use Rattle.std.proofs.Common.{◌≡◌, ◌≢◌, ◌<◌, ◌≤◌, ◌+◌, ◌⊎◌, inl, inr, ℕ, zero, suc, true, false, cond, List, length, get_or}
+use Rattle.std.proofs.Common.{refl, arith, ap, ◌∙◌, subst, sym, ⊎_elim}
 use Rattle.std.specs.Prelude.{eqb, nat_lt}
 use Rattle.std.specs.List.Sorted.{IsStrictlyIncreasing}
 use Rattle.std.proofs.lemmas.Bool.{cases_Bool, cases_lt, cond-true}

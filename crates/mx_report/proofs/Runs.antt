@@ -1,5 +1,6 @@
 -- Runs that grow by a cycle, and runs that have halted.
-use Rattle.std.proofs.Common.{◌≡◌, ◌≤◌, ℕ, zero, suc, Bool, true, false, cond, List, [], ◌∷◌, ◌++◌, option_to_list, append_assoc, append-nil, arith, sym, ap, ◌∙◌, ⊎_elim}
+use Rattle.std.proofs.Common.{◌≡◌, ◌≤◌, ℕ, zero, suc, Bool, true, false, cond, List}
+use Rattle.std.proofs.Common.{[], ◌∷◌, ◌++◌, option_to_list, append_assoc, append-nil, arith, sym, ap, ◌∙◌, ⊎_elim}
 use Rattle.std.specs.Prelude.{min, eqb, nat_lt, Option}
 use Rattle.std.proofs.lemmas.Bool.Decides.{nat_tests}
 use Rattle.std.proofs.lemmas.Grind.{common_steps}

@@ -62,6 +62,28 @@ fn push_line_if<M: Machine>(
     }
 }
 
+// Ends a cycle with its line, where it is one of those asked for, and answers whether the machine has halted.
+// A halt is told apart first: a cycle that did not halt then has nothing to keep for its answer.
+fn end_cycle<M: Machine>(
+    alloc: Global,
+    text: &mut Vec<u8>,
+    asked: bool,
+    cycle: u32,
+    cycled: &Cycled,
+    machine: &M,
+) -> Result<bool, AllocError>
+    ensures line { OnOk result ((p : Program) (h : List Bool) → M.stands machine.now p h
+        → text.new.items ≡ text.old.items ++ cond asked (trace_line cycle cycled.now (state_after p h).shown) []) }
+    ensures halted { IfOk result (λ halted. halted ≡ cycled.now.halted) }
+{
+    if cycled.halted {
+        push_line_if(alloc, text, asked, cycle, cycled, machine)?;
+        return Ok(true);
+    }
+    push_line_if(alloc, text, asked, cycle, cycled, machine)?;
+    Ok(false)
+}
+
 // One cycle, the first being 0: its byte, its line where it is one of the first `trace`, and whether the machine has halted.
 fn run_cycle<M: Machine>(
     alloc: Global,
@@ -88,8 +110,8 @@ fn run_cycle<M: Machine>(
 {
     let cycled = machine.cycle(cursor.comes(list, cycle));
     push_byte(console, cycled.byte)?;
-    push_line_if(alloc, text, cycle < trace, cycle, &cycled, machine)?;
-    Ok(cycled.halted)
+    let halted = end_cycle(alloc, text, cycle < trace, cycle, &cycled, machine)?;
+    Ok(halted)
 }
 
 // Runs the machine until it halts or the budget is spent, and answers whether it halted.

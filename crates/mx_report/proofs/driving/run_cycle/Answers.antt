@@ -15,13 +15,14 @@ returns-clause-halted g c = λ p s.
     let i = c.args.cycle in
     let answered : c.cycle-cycled.result ≡ cycled_at p reqs i =
     c.cycle-cycled.ensures.answer p (bits reqs i) s ∙ ap (answer_after p (bits reqs i)) c.comes.ensures.result in
-    ap (λ (r : Cycled). r.halted) answered ∙ next_halted p reqs i
+    c.in_ok-halted.ensures.halted ∙ ap (λ (r : Cycled). r.halted) answered ∙ next_halted p reqs i
 
 pub returns-clause-stands : goal.returns-clause-stands
 returns-clause-stands g c = λ p s.
     let reqs = c.args.list.now in
     let i = c.args.cycle in
-    subst (λ (r : Bool). g.M.Machine.stands c.cycle-cycled.new.self p (bits reqs i ++ r ∷ [])) c.comes.ensures.result (c.cycle-cycled.ensures.next p (bits reqs i) s)
+    subst (λ (r : Bool). g.M.Machine.stands c.cycle-cycled.new.self p (bits reqs i ++ r ∷ [])) c.comes.ensures.result
+    (c.cycle-cycled.ensures.next p (bits reqs i) s)
 
 pub returns-clause-console : goal.returns-clause-console
 returns-clause-console g c = λ p s before.
@@ -45,7 +46,7 @@ returns-clause-trace g c = λ p s going before.
     let later = subst (λ (r : Bool). g.M.Machine.stands c.cycle-cycled.new.self p (bits reqs i ++ r ∷ [])) c.comes.ensures.result
     (c.cycle-cycled.ensures.next p (bits reqs i) s) in
     let shown : Latches = (state_at p reqs (suc i)).shown in
-    c.in_ok-push_line_if.ensures p (bits reqs (suc i)) later
+    c.in_ok-halted.ensures.line p (bits reqs (suc i)) later
     ∙ ap (λ (r : Cycled). old ++ cond (nat_lt i t) (trace_line i r shown) []) answered
     ∙ ap (λ l. l ++ cond (nat_lt i t) (trace_line i (cycled_at p reqs i) (state_at p reqs (suc i)).shown) []) before
     ∙ sym (next_trace p reqs t i going)
