@@ -1,11 +1,14 @@
 -- Where the word in ALU leads, in the pipeline.
-use Rattle.std.proofs.Common.{◌≡◌, ℕ, ◌+◌, ◌%◌, ◌^◌, Bool, true, false, cond, not, ◌&&◌, Some, None, refl, sym, ap, ◌∙◌, subst}
+use Rattle.std.proofs.Common.{◌≡◌, ℕ, ◌<◌, ◌+◌, ◌%◌, ◌^◌, Bool, true, false, cond, not, ◌&&◌, Some, None, refl, sym, ap, ◌∙◌, subst, arith}
+use Rattle.std.specs.Prelude.{nat_lt}
 use Rattle.std.specs.Int.{w32, cast_unsigned}
+use Rattle.std.proofs.lemmas.Bool.{cond-true}
+use Rattle.std.proofs.lemmas.Bool.Decides.{nat_tests}
 use Rattle.mx_isa.specs.declared.inst.Inst.{Inst}
 use Rattle.mx_isa.specs.declared.inst.Inst.TheVariants.{Branch, Jspci, Jpc, Jpcrs}
 use Rattle.mx_isa.specs.Arithmetic.{condition_holds}
 use Rattle.mx_isa.specs.Words.{Words, reg}
-use Rattle.mx_isa.specs.Effect.{Decision, decides}
+use Rattle.mx_isa.specs.Effect.{Decision, decides, offset_by}
 use Rattle.mx_code.specs.Delay.{Code, next_of}
 use Rattle.mx_pcchain.specs.Fetch.{Fetch}
 use Rattle.mx_pcchain.specs.Chain.{fetch_from, pop}
@@ -19,9 +22,10 @@ use Rattle.mx_pipe.specs.declared.alu.Course.{Course}
 use Rattle.mx_pipe.specs.declared.alu.Course.TheVariants.{To, Cancels}
 use Rattle.mx_pipe.specs.declared.pipe.Pipe.{Pipe}
 use Rattle.mx_pipe.specs.declared.pipe.Wait.TheVariants.{NotAsked}
-use Rattle.mx_pipe.specs.Latched.{squashed_if}
-use Rattle.mx_pipe.specs.Courses.{told, course_of}
-use Rattle.mx_pipe.specs.Kept.{IsRead, Holds, Leads}
+use Rattle.mx_pipe.specs.Latched.{does, squashed_if}
+use Rattle.mx_pipe.specs.Made.{allowed}
+use Rattle.mx_pipe.specs.Courses.{told, course_of, target_of, course_aside}
+use Rattle.mx_pipe.specs.Kept.{IsRead, Holds, Leads, LeadsTo}
 use Rattle.mx_pipe.proofs.Makes.{allowed_kept, number_kept, cut_word, cut_read}
 
 -- as the definition decides it, the four parts: where the turn whose fetch was the last leads, and the others
@@ -42,6 +46,44 @@ is_told (Jspci a d imm) at last r = (refl, refl, refl, refl)
 is_told Jpc at last r = (refl, refl, refl, refl)
 is_told Jpcrs at last r = (refl, refl, refl, refl)
 is_told _ at last r = (refl, refl, refl, refl)
+
+-- a course that leads to a code address is known by it, the others by the instruction
+to_anew : (x : ℕ) (other : Course) → cond (nat_lt (x % 2 ^ 31) (2 ^ 31)) (To (x % 2 ^ 31)) other ≡ To (x % 2 ^ 31)
+to_anew x other =
+    let below : nat_lt (x % 2 ^ 31) (2 ^ 31) ≡ true = grind (arith, nat_tests) in
+    cond-true (nat_lt (x % 2 ^ 31) (2 ^ 31)) (To (x % 2 ^ 31)) other below
+
+-- found again by where it leads at once
+abbrev found : Course → Course → Course
+found course other = cond (nat_lt (target_of course) (2 ^ 31)) (To (target_of course)) other
+
+branch_anew : (goes squashes : Bool) (x last : ℕ)
+    → (let c = cond goes (To (x % 2 ^ 31)) (cond squashes Cancels (To (next_of None last))) in found c Cancels ≡ c)
+branch_anew true squashes x last = to_anew x Cancels
+branch_anew false true x last = refl
+branch_anew false false x last = to_anew (last + 1) Cancels
+
+pub course_anew : (user : Bool) (i : Inst) (at last : ℕ) (r : Words)
+    → (let c = course_of i at last r in found c (course_aside (allowed user i)) ≡ c)
+course_anew user (Branch a b condition s by) at last r =
+    branch_anew (condition_holds condition (reg r a) (reg r b)) s (at + cast_unsigned w32 by) last
+course_anew user (Jspci a d imm) at last r = to_anew (offset_by r a imm) Cancels
+course_anew user Jpc at last r = refl
+course_anew user Jpcrs at last r = refl
+course_anew user i at last r = to_anew (last + 1) (course_aside (allowed user i))
+
+pub leads_anew : {C : Type 0} (code : Code) (p : Pipe C) (m : Machine) → Holds code p m → (target : ℕ) → LeadsTo code m target → (course : Course)
+    → course ≡ cond (nat_lt target (2 ^ 31)) (To target) (course_aside (does p.alu)) → Leads code m course
+leads_anew code p m h target leads course is =
+    is
+    ∙ (λ k. cond (nat_lt (leads k) (2 ^ 31)) (To (leads k)) (course_aside (h.alu.inst k)))
+    ∙ course_anew m.psw.current.user (live code m.alu) (address_of m.alu) m.next.address (seen m.slot m.core.regs)
+
+pub leads_on : {C : Type 0} (code : Code) (p : Pipe C) (m : Machine) → Holds code p m → (target : ℕ) → target < 2 ^ 31 → LeadsTo code m target
+    → Leads code m (To target)
+leads_on code p m h target below leads =
+    let is : nat_lt target (2 ^ 31) ≡ true = grind (arith, nat_tests, below) in
+    leads_anew code p m h target leads (To target) (sym (cond-true (nat_lt target (2 ^ 31)) (To target) (course_aside (does p.alu)) is))
 
 pub tells_cancels : (code : Code) (m : Machine) (course : Course) → Leads code m course → (told course).cancels ≡ (decision code m).cancels
 tells_cancels code m course leads =
@@ -117,5 +159,6 @@ module _ {C : Type 0} (code : Code) (p : Pipe C) (m : Machine) (h : Holds code p
       asked = h.rest.asked;
       halted = h.rest.halted;
       shown = h.rest.shown;
+      short = h.rest.short;
     };
   }

@@ -40,6 +40,7 @@ waiting code p m w d stall counts h = record {
     asked = h.rest.asked;
     halted = h.rest.halted;
     shown = h.rest.shown;
+    short = h.rest.short;
   };
 }
 

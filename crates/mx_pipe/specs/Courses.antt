@@ -26,3 +26,14 @@ course_of (Jspci a dest imm) at last r = To (offset_by r a imm % 2 ^ 31)
 course_of Jpc at last r = Pops
 course_of Jpcrs at last r = Returns
 course_of _ at last r = To (next_of None last)
+
+-- where a course leads at once: 2^31, which is no code address, for one that cancels or pops
+abbrev pub target_of : Course → ℕ
+target_of (To a) = a
+target_of course = 2 ^ 31
+
+-- the course of an instruction that leads nowhere at once
+abbrev pub course_aside : Inst → Course
+course_aside Jpc = Pops
+course_aside Jpcrs = Returns
+course_aside i = Cancels

@@ -1,6 +1,6 @@
 -- What the latches and the register file have to do with the definition's state.
-use Rattle.std.specs.Prelude.{◌≡◌, ◌≤◌, ℕ, Bool, true, false, not, cond, List, ◌∷◌, Option, Some, None, slice_index}
-use Rattle.mx_isa.specs.declared.board.TheConstants.{CODE_BASE}
+use Rattle.std.specs.Prelude.{◌≡◌, ◌≤◌, ℕ, Bool, true, false, not, cond, eqb, List, ◌∷◌, length, Option, Some, None, slice_index}
+use Rattle.mx_isa.specs.declared.board.TheConstants.{CODE_BASE, MAX_CODE_WORDS}
 use Rattle.mx_isa.specs.Words.{Words, reg, write}
 use Rattle.mx_isa.specs.Views.{sources, dest, is_load}
 use Rattle.mx_code.specs.Decoding.{inst_of}
@@ -18,7 +18,7 @@ use Rattle.mx_pipe.specs.declared.pipe.Wait.{Wait}
 use Rattle.mx_pipe.specs.declared.pipe.Wait.TheVariants.{NotAsked, Missed}
 use Rattle.mx_pipe.specs.declared.alu.Course.{Course}
 use Rattle.mx_pipe.specs.declared.memory.Reached.{Reached}
-use Rattle.mx_pipe.specs.Courses.{course_of}
+use Rattle.mx_pipe.specs.Courses.{course_of, target_of}
 use Rattle.mx_pipe.specs.Latched.{Latched, does}
 use Rattle.mx_pipe.specs.Made.{allowed, md_behind, md_kept}
 
@@ -52,7 +52,7 @@ pub record IsBehind {C : Type 0} (p : Pipe C) (m : Machine) : Type 0 where
   pub regs : write (slice_index p.file) (dest (does p.mem)) p.mem.result ≡ m.core.regs
   pub slot : slot_of (does p.mem) (slice_index p.file) ≡ m.slot
 
--- what does not pass through latches
+-- what does not pass through latches, and that the user's words end where those of an image do
 pub record SameRest {C : Type 0} (p : Pipe C) (m : Machine) : Type 0 where
   pub next : p.next ≡ m.next
   pub md : p.md ≡ m.core.md
@@ -63,6 +63,7 @@ pub record SameRest {C : Type 0} (p : Pipe C) (m : Machine) : Type 0 where
   pub asked : p.asked ≡ m.latch
   pub halted : p.halted ≡ m.halted
   pub shown : p.shown ≡ m.shown
+  pub short : length p.code.items ≤ MAX_CODE_WORDS
 
 -- between turns, and once the words of a turn have moved on and the one in MEM has committed
 pub record Holds {C : Type 0} (code : Code) (p : Pipe C) (m : Machine) : Type 0 where
@@ -85,10 +86,18 @@ pub record Tells (learned : Reached) (mem : Latched) : Type 0 where
   pub to : learned.to ≡ dest (does mem)
   pub passes : learned.passes ≡ cond (is_load (does mem)) 0 (dest (does mem))
   pub word : learned.word ≡ mem.result
+  pub passed : learned.passed ≡ cond (eqb learned.passes 0) 0 learned.word
 
 -- where the word in ALU leads
+abbrev pub course_in : Code → Machine → Course
+course_in code m = course_of (live code m.alu) (address_of m.alu) m.next.address (seen m.slot m.core.regs)
+
 abbrev pub Leads : Code → Machine → Course → Type 0
-Leads code m course = course ≡ course_of (live code m.alu) (address_of m.alu) m.next.address (seen m.slot m.core.regs)
+Leads code m course = course ≡ course_in code m
+
+-- the same by the address that it leads to at once
+abbrev pub LeadsTo : Code → Machine → ℕ → Type 0
+LeadsTo code m target = target ≡ target_of (course_in code m)
 
 -- whether a stage holds a fetch that is not squashed
 abbrev pub is_live : Option Fetch → Bool

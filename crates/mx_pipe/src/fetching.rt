@@ -1,6 +1,6 @@
 //! The word that is fetched.
-ghost use Rattle.std.specs.Prelude.{◌≡◌, ◌<◌, ◌^◌, ◌-◌, IfSome, true, is_some, unwrap_or, slice_get, option_and_then, leb, if◌then◌else◌};
-ghost use Rattle.mx_isa.specs.declared.board.TheConstants.{CODE_BASE};
+ghost use Rattle.std.specs.Prelude.{◌≡◌, ◌≤◌, length, None, ◌<◌, ◌^◌, ◌-◌, IfSome, true, is_some, unwrap_or, slice_get, option_and_then, leb, if◌then◌else◌};
+ghost use Rattle.mx_isa.specs.declared.board.TheConstants.{CODE_BASE, MAX_CODE_WORDS};
 ghost use Rattle.mx_code.specs.Decoding.{inst_of};
 ghost use Rattle.mx_code.specs.Delay.{code_from, idle};
 ghost use Rattle.mx_turn.specs.Decoded.{ShiftFits};
@@ -13,17 +13,8 @@ use mx_code::decode;
 use mx_isa::{CODE_BASE, Inst};
 use mx_pcchain::Fetched;
 
-// What a word does, if it spells an instruction.
-#[inline(always)]
-fn decoded(word: Option<u32>) -> Option<Inst>
-    ensures what { result ≡ option_and_then inst_of word }
-    ensures fits { IfSome result ShiftFits }
-{
-    match word {
-        Some(word) => decode(word),
-        None => None,
-    }
-}
+// It spells nothing, and stands for no word: an option would cost a test in every cycle.
+const NO_WORD: u32 = u32::MAX;
 
 // The word at a place, if there is one.
 fn word_at(words: &[u32], place: usize) -> Option<u32>
@@ -35,30 +26,48 @@ fn word_at(words: &[u32], place: usize) -> Option<u32>
     }
 }
 
-// The word at an address, if there is one: the user's words stand from 4,096 on, those of the handler from 0 on.
-fn word_of(code: &[u32], handler: &[u32], address: u32) -> Option<u32>
-    ensures { result ≡ (if leb CODE_BASE address then slice_get code.now (address - CODE_BASE) else slice_get handler.now address) }
+// The word at an address where no word of the user's is: one of the handler's, which stand below those, or none.
+// Few fetches find one, and a call keeps the way of the others short.
+#[inline(never)]
+fn handler_word(handler: &[u32], address: u32) -> u32
+    ensures { inst_of result ≡ option_and_then inst_of (if leb CODE_BASE address then None else slice_get handler.now address) }
 {
     if address >= CODE_BASE {
-        word_at(code, (address - CODE_BASE) as usize)
-    } else {
-        word_at(handler, address as usize)
+        return NO_WORD;
+    }
+    match word_at(handler, address as usize) {
+        Some(word) => word,
+        None => NO_WORD,
+    }
+}
+
+// The word at an address, if there is one: the user's words stand from 4,096 on, those of the handler from 0 on.
+// An address below 4,096 wraps round to a place that no word has, so one test finds most words.
+fn word_of(code: &[u32], handler: &[u32], address: u32) -> u32
+    ensures { length code.now ≤ MAX_CODE_WORDS → inst_of result ≡ option_and_then inst_of
+        (if leb CODE_BASE address then slice_get code.now (address - CODE_BASE) else slice_get handler.now address) }
+{
+    match word_at(code, address.wrapping_sub(CODE_BASE) as usize) {
+        Some(word) => word,
+        None => handler_word(handler, address),
     }
 }
 
 // What the word at an address does.
 #[inline(always)]
 fn inst_at(code: &[u32], handler: &[u32], address: u32) -> Option<Inst>
-    ensures what { unwrap_or result idle ≡ code_with (code_from inst_of 0 handler.now) (code_from inst_of CODE_BASE code.now) address }
+    ensures what { length code.now ≤ MAX_CODE_WORDS
+        → unwrap_or result idle ≡ code_with (code_from inst_of 0 handler.now) (code_from inst_of CODE_BASE code.now) address }
     ensures fits { IfSome result ShiftFits }
 {
-    decoded(word_of(code, handler, address))
+    decode(word_of(code, handler, address))
 }
 
 /// What the word of a latch does; where there is none, or a branch squashed it, it does nothing.
 #[inline(always)]
 pub fn inst_in(code: &[u32], handler: &[u32], latch: &Latch) -> Option<Inst>
-    ensures what { unwrap_or result idle ≡ live (code_with (code_from inst_of 0 handler.now) (code_from inst_of CODE_BASE code.now)) latch.now.word }
+    ensures what { length code.now ≤ MAX_CODE_WORDS
+        → unwrap_or result idle ≡ live (code_with (code_from inst_of 0 handler.now) (code_from inst_of CODE_BASE code.now)) latch.now.word }
     ensures live { is_some result ≡ true → is_live latch.now.word ≡ true }
     ensures fits { IfSome result ShiftFits }
 {

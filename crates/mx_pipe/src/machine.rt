@@ -7,14 +7,16 @@ ghost use Rattle.mx_code.specs.Delay.{Code, next_of};
 ghost use Rattle.mx_icache.specs.Residency.{resident};
 ghost use Rattle.mx_turn.specs.Counted.{after_turn, after_stall};
 ghost use Rattle.mx_turn.specs.Stages.{fetch_of, stage_of};
-ghost use Rattle.mx_turn.specs.Cycle.{Machine as State, shifted, committed, commit_byte, showing, entered, decided, decision, turned, latched, is_taken, reached, ended, counts_after, acted_answer};
+ghost use Rattle.mx_turn.specs.Cycle.{Machine as State, shifted, committed, commit_byte, showing, entered, decided};
+ghost use Rattle.mx_turn.specs.Cycle.{decision, turned, latched, is_taken, reached, ended, counts_after, acted_answer};
 ghost use Rattle.mx_pipe.specs.declared.pipe.Wait.{Wait};
 ghost use Rattle.mx_pipe.specs.Latched.{squashed_if};
 ghost use Rattle.mx_pipe.specs.Made.{byte_of, halts};
 ghost use Rattle.mx_pipe.specs.Courses.{told};
-ghost use Rattle.mx_pipe.specs.Kept.{code_of_pipe, is_live, IsRead, IsMade, Holds, Commits, Tells, Leads, StillShown, Shows, Waits, has_missed, KeepsProgram, StandsFor};
+ghost use Rattle.mx_pipe.specs.Kept.{code_of_pipe, is_live, IsRead, IsMade, Holds, Commits, Tells};
+ghost use Rattle.mx_pipe.specs.Kept.{Leads, LeadsTo, StillShown, Shows, Waits, has_missed, KeepsProgram, StandsFor};
 
-use crate::alu::{Course, make};
+use crate::alu::{Course, NOWHERE, course_at, make};
 use crate::fetching::{address, address_of, inst_in};
 use crate::memory::{Reached, Signal, reach};
 use crate::operands::{read_operands, register_of, write_back};
@@ -41,9 +43,9 @@ impl<C: FetchCache> Pipe<C> {
     {
         write_back(&mut self.file, &self.mem);
         self.wb.follow(&self.mem);
-        self.mem = self.alu;
         reach(
             &mut self.mem,
+            &self.alu,
             &self.psw,
             &mut self.md,
             &mut self.chain,
@@ -52,17 +54,16 @@ impl<C: FetchCache> Pipe<C> {
         )
     }
 
-    // The word in RF comes into ALU, with operands from the bypass.
-    fn compute(&mut self, mem: &Reached) -> Course
+    // The word in RF comes into ALU, with operands from the bypass. Answers where it leads at once.
+    fn compute(&mut self, mem: &Reached) -> u32
         requires { Tells mem.now self.old.mem }
         ensures made { (code : Code) (m : State) → Commits code self.old m → IsMade code self.new.alu m }
-        ensures course { (code : Code) (m : State) → Commits code self.old m → Leads code m result }
-        ensures code_address { (a : ℕ) → result ≡ Course.To a → a < 2 ^ 31 }
+        ensures target { (code : Code) (m : State) → Commits code self.old m → LeadsTo code m result }
         ensures rest { self.new ≡ record self.old { alu = self.new.alu } }
     {
-        self.alu = self.rf;
         make(
             &mut self.alu,
+            &self.rf,
             mem,
             &self.md,
             &self.psw,
@@ -83,24 +84,23 @@ impl<C: FetchCache> Pipe<C> {
         read_operands(&mut self.rf, inst, mem.to, mem.word, &self.file);
     }
 
-    // The words in IF, RF and ALU move on. Answers where the one in ALU leads.
-    fn advance(&mut self, mem: &Reached) -> Course
+    // The words in IF, RF and ALU move on. Answers where the one in ALU leads at once.
+    fn advance(&mut self, mem: &Reached) -> u32
         requires { Tells mem.now self.old.mem }
         ensures state { (m : State) → Commits (code_of_pipe self.old) self.old m → Holds (code_of_pipe self.old) self.new m }
         ensures live { (code : Code) (m : State) → Commits code self.old m → is_some self.new.rf.inst ≡ true → is_live m.rf ≡ true }
-        ensures course { (code : Code) (m : State) → Commits code self.old m → Leads code m result }
-        ensures code_address { (a : ℕ) → result ≡ Course.To a → a < 2 ^ 31 }
+        ensures target { (code : Code) (m : State) → Commits code self.old m → LeadsTo code m result }
         ensures wait { self.new.wait ≡ self.old.wait }
         ensures running { self.new.halted ≡ self.old.halted }
         ensures program { KeepsProgram self.old self.new }
         ensures counts { self.new.counts ≡ self.old.counts }
         ensures cache { self.new.cache ≡ self.old.cache }
     {
-        let course = self.compute(mem);
+        let target = self.compute(mem);
         self.read(mem);
         self.rf.follow(&self.fetch);
         self.fetch.hold(Some(self.next));
-        course
+        target
     }
 
     // What the turn shows is kept. Where the word in RF does something, it is live and the turn before marked no word, so what
@@ -301,48 +301,74 @@ impl<C: FetchCache> Pipe<C> {
         false
     }
 
-    // The same, in a call of its own: few turns send a byte.
+    // The turn ends, whatever the word in MEM signals, and wherever the one in ALU leads. Few turns end so: a call of its own
+    // keeps the way of the others short.
     #[inline(never)]
-    fn end_apart(&mut self, course: Course) -> bool
-        requires cycles { self.old.counts.cycles < 2 ^ 63 }
-        requires code_address { (a : ℕ) → course ≡ Course.To a → a < 2 ^ 31 }
-        ensures taken { (code : Code) (m : State) → Holds code self.old m → result ≡ is_taken m }
-        ensures state { (code : Code) (m : State) → Holds code self.old m → Leads code m course → Holds code self.new (turned code m) }
-        ensures counts { (code : Code) (m : State) → Holds code self.old m → Leads code m course
-            → self.new.counts ≡ after_turn (has_missed self.old.wait) (not (is_taken m) && (decision code m).cancels) (is_taken m) self.old.counts }
+    fn end_apart(&mut self, signal: Signal, target: u32) -> bool
+        requires { self.old.counts.cycles < 2 ^ 63 }
+        ensures taken { (code : Code) (m : State) → Holds code self.old m → halts signal ≡ m.halted → result ≡ (not m.halted && is_taken m) }
+        ensures state { (code : Code) (m : State) → Holds code self.old m → halts signal ≡ m.halted → LeadsTo code m target
+            → Holds code self.new (ended code m) }
+        ensures counts { (code : Code) (m : State) → Holds code self.old m → halts signal ≡ m.halted → LeadsTo code m target
+            → self.new.counts ≡ after_turn (has_missed self.old.wait) (not m.halted && (not (is_taken m) && (decision code m).cancels))
+            (not m.halted && is_taken m) self.old.counts }
         ensures cycles { self.new.counts.cycles ≡ self.old.counts.cycles + 1 }
         ensures wait { self.new.wait ≡ Wait.NotAsked }
         ensures program { KeepsProgram self.old self.new }
         ensures cache { self.new.cache ≡ self.old.cache }
     {
-        self.end(course)
+        match signal {
+            Signal::Halt => {
+                self.count(false, false);
+                false
+            }
+            _ => {
+                let course = course_at(&self.alu, target);
+                self.end(course)
+            }
+        }
     }
 
     // The words of a turn move on, and what it shows is kept. Answers the signal of the word in MEM, and where the one in ALU
-    // leads.
-    fn step(&mut self) -> (Signal, Course)
+    // leads at once.
+    fn step(&mut self) -> (Signal, u32)
         requires { self.old.halted ≡ false }
         ensures state { (m : State) → Holds (code_of_pipe self.old) self.old m → Shows m
             → Holds (code_of_pipe self.old) self.new (reached (code_of_pipe self.old) self.old.board.input m) }
         ensures byte { (m : State) → Holds (code_of_pipe self.old) self.old m
             → byte_of result.0 ≡ commit_byte (code_of_pipe self.old) self.old.board.input (shifted m) }
         ensures halt { halts result.0 ≡ self.new.halted }
-        ensures course { (m : State) → Holds (code_of_pipe self.old) self.old m
-            → Leads (code_of_pipe self.old) (reached (code_of_pipe self.old) self.old.board.input m) result.1 }
-        ensures code_address { (a : ℕ) → result.1 ≡ Course.To a → a < 2 ^ 31 }
+        ensures target { (m : State) → Holds (code_of_pipe self.old) self.old m
+            → LeadsTo (code_of_pipe self.old) (reached (code_of_pipe self.old) self.old.board.input m) result.1 }
         ensures wait { self.new.wait ≡ self.old.wait }
         ensures program { KeepsProgram self.old self.new }
         ensures counts { self.new.counts ≡ self.old.counts }
         ensures cache { self.new.cache ≡ self.old.cache }
     {
         let reached = self.commit();
-        let course = self.advance(&reached);
+        let target = self.advance(&reached);
         self.show();
-        (reached.signal, course)
+        (reached.signal, target)
+    }
+
+    // Whether the turn ends as most do: the word in MEM signals nothing, the one in ALU leads to an address, and no interrupt
+    // is asked for.
+    #[inline(always)]
+    fn ends_plainly(&self, signal: Signal, target: u32) -> bool
+        ensures target { result ≡ true → target < 2 ^ 31 }
+        ensures signal { result ≡ true → signal ≡ Signal.Nothing }
+    {
+        if self.asked || target >= NOWHERE {
+            return false;
+        }
+        match signal {
+            Signal::Nothing => true,
+            _ => false,
+        }
     }
 
     // A turn acts. Where MEM holds a halt, nothing behind it takes effect.
-    // Each way answers for itself, so that whoever drives a usual turn finds nothing to ask.
+    // The usual way is short, and answers for itself, so that whoever drives it finds nothing to ask.
     fn act(&mut self) -> Cycled
         requires cycles { self.old.counts.cycles < 2 ^ 63 }
         requires running { self.old.halted ≡ false }
@@ -357,35 +383,22 @@ impl<C: FetchCache> Pipe<C> {
         ensures program { KeepsProgram self.old self.new }
         ensures cache { self.new.cache ≡ self.old.cache }
     {
-        let (signal, course) = self.step();
-        match signal {
-            Signal::Nothing => {
-                let taken = self.end(course);
-                Cycled {
-                    byte: None,
-                    taken,
-                    halted: false,
-                    stalled: false,
-                }
-            }
-            Signal::Byte(byte) => {
-                let taken = self.end_apart(course);
-                Cycled {
-                    byte: Some(byte),
-                    taken,
-                    halted: false,
-                    stalled: false,
-                }
-            }
-            Signal::Halt => {
-                self.count(false, false);
-                Cycled {
-                    byte: None,
-                    taken: false,
-                    halted: true,
-                    stalled: false,
-                }
-            }
+        let (signal, target) = self.step();
+        if self.ends_plainly(signal, target) {
+            let taken = self.end(Course::To(target));
+            return Cycled {
+                byte: None,
+                taken,
+                halted: false,
+                stalled: false,
+            };
+        }
+        let taken = self.end_apart(signal, target);
+        Cycled {
+            byte: signal.byte(),
+            taken,
+            halted: signal.halts(),
+            stalled: false,
         }
     }
 

@@ -15,13 +15,12 @@ chosen true x y = refl
 chosen false x y = refl
 
 pub returns-clause-what : goal.returns-clause-what
-returns-clause-what c =
+returns-clause-what c = λ short.
     let a : ℕ = c.args.address in
     let user : Code = code_from inst_of 4096 c.args.code.now in
     let from : ℕ → Inst = λ k. unwrap_or (option_and_then inst_of (slice_get c.args.handler.now k)) idle in
     let any : leb 0 a ≡ true = grind (arith, nat_tests) in
     let same : a ≡ a - 0 = omega arith in
-    ap (λ o. unwrap_or o idle) c.decoded.ensures.what
-    ∙ ap (λ w. unwrap_or (option_and_then inst_of w) idle) c.word_of.ensures
+    ap (λ o. unwrap_or o idle) (c.decode.ensures.exact ∙ c.word_of.ensures short)
     ∙ chosen (leb 4096 a) (slice_get c.args.code.now (a - 4096)) (slice_get c.args.handler.now a)
     ∙ ap (cond (leb 4096 a) (user a)) (ap from same ∙ sym (cond-true (leb 0 a) (from (a - 0)) idle any))

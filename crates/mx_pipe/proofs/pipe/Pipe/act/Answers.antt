@@ -1,76 +1,102 @@
-use Rattle.std.proofs.Common.{◌≡◌, ℕ, Bool, false, cond, not, ◌&&◌, List, Option, Some, None, sym, ap, ◌∙◌, subst}
+use Rattle.std.proofs.Common.{◌≡◌, Bool, false, cond, not, ◌&&◌, None, sym, ap, ◌∙◌, subst}
 use Rattle.mx_code.specs.Delay.{Code}
-use Rattle.mx_turn.specs.declared.machine.Cycled.{Cycled}
-use Rattle.mx_turn.specs.Counted.{Counted, after_turn}
-use Rattle.mx_turn.specs.Cycle.{Machine, shifted, commit_byte, reached, turned, ended, is_taken, decision, counts_after, acted_answer}
+use Rattle.mx_turn.specs.Counted.{after_turn}
+use Rattle.mx_turn.specs.Cycle.{Machine, shifted, commit_byte, reached, turned, is_taken, decision}
+use Rattle.mx_pipe.specs.declared.alu.Course.TheVariants.{To}
+use Rattle.mx_pipe.specs.declared.memory.Signal.TheVariants.{Nothing}
 use Rattle.mx_pipe.specs.declared.pipe.Pipe.{Pipe}
 use Rattle.mx_pipe.specs.Made.{byte_of, halts}
-use Rattle.mx_pipe.specs.Kept.{code_of_pipe, has_missed, Holds}
+use Rattle.mx_pipe.specs.Kept.{code_of_pipe, has_missed, Holds, Shows, Leads}
+use Rattle.mx_pipe.proofs.Decides.{leads_on}
 use Rattle.mx_pipe.proofs.pipe.Pipe.act.Goals as goal
+use Rattle.mx_pipe.proofs.pipe.Pipe.act.Goals.{After-end-taken, After-halts}
+use Rattle.mx_pipe.proofs.pipe.Pipe.act.Given as given
 
--- where MEM holds no halt
-ends_on : {C : Type 0} (code : Code) (r : Machine) → false ≡ r.halted → (p : Pipe C) → Holds code p (turned code r) → Holds code p (ended code r)
-ends_on code r on p h = subst (λ b. Holds code p (cond b r (turned code r))) on h
+-- where the turn ends as most do
+module _ (g : given.Over) (c : After-end-taken g) (m : Machine) (h : Holds (code_of_pipe c.args.self.now) c.args.self.now m) (s : Shows m) where
+  abbrev before : Pipe g.row.C.Denot
+  before = c.args.self.now
 
-module _ (code : Code) (input : Option (List ℕ)) (m : Machine) (on : false ≡ (reached code input m).halted) where
+  abbrev code : Code
+  code = code_of_pipe before
+
   abbrev r : Machine
-  r = reached code input m
+  r = reached code before.board.input m
 
-  answers_on : (taken : Bool) (byte : Option ℕ) → byte ≡ commit_byte code input (shifted m) → taken ≡ is_taken r
-      → (let a : Cycled = record { byte = byte; taken = taken; halted = false; stalled = false } in a ≡ acted_answer code input m)
-  answers_on taken byte sends takes k = record { byte = sends k; taken = (takes ∙ (λ l. not (on l) && is_taken r)) k; halted = on k; stalled = false }
+  shown : Holds code c.step-signal.new.self r
+  shown = c.step-signal.ensures.state m h s
 
-  counts_on : (missed missed' : Bool) (counts : Counted) → missed ≡ missed' → counts ≡ m.counts
-      → after_turn missed (not (is_taken r) && (decision code r).cancels) (is_taken r) counts ≡ counts_after code input missed' m
-  counts_on missed missed' counts same before =
-      λ k. after_turn (same k) (not (on k) && (not (is_taken r) && (decision code r).cancels)) (not (on k) && is_taken r) (before k)
+  quiet : c.step-signal.result.0 ≡ Nothing
+  quiet = c.ends_plainly.ensures.signal c.if-ends_plainly.true
 
-pub returns-in-Nothing-clause-state : goal.returns-in-Nothing-clause-state
-returns-in-Nothing-clause-state g c = λ m h s.
-    let code : Code = code_of_pipe c.args.self.now in
-    let shown = c.step-signal.ensures.state m h s in
-    let on = sym (ap halts c.in-Nothing.is) ∙ c.step-signal.ensures.halt ∙ shown.rest.halted in
-    ends_on code (reached code c.args.self.now.board.input m) on c.end-taken.new.self
-    (c.end-taken.ensures.state code (reached code c.args.self.now.board.input m) shown (c.step-signal.ensures.course m h))
+  on : false ≡ r.halted
+  on = sym (ap halts quiet) ∙ c.step-signal.ensures.halt ∙ shown.rest.halted
 
-pub returns-in-Nothing-clause-answer : goal.returns-in-Nothing-clause-answer
-returns-in-Nothing-clause-answer g c = λ m h s.
-    let code : Code = code_of_pipe c.args.self.now in
-    let shown = c.step-signal.ensures.state m h s in
-    let on = sym (ap halts c.in-Nothing.is) ∙ c.step-signal.ensures.halt ∙ shown.rest.halted in
-    answers_on code c.args.self.now.board.input m on c.end-taken.result None
-    (sym (ap byte_of c.in-Nothing.is) ∙ c.step-signal.ensures.byte m h)
-    (c.end-taken.ensures.taken code (reached code c.args.self.now.board.input m) shown)
+  leads : Leads code r (To c.step-signal.result.1)
+  leads =
+      leads_on code c.step-signal.new.self r shown c.step-signal.result.1 (c.ends_plainly.ensures.target c.if-ends_plainly.true)
+      (c.step-signal.ensures.target m h)
 
-pub returns-in-Nothing-clause-counts : goal.returns-in-Nothing-clause-counts
-returns-in-Nothing-clause-counts g c = λ m h s d.
-    let code : Code = code_of_pipe c.args.self.now in
-    let shown = c.step-signal.ensures.state m h s in
-    let on = sym (ap halts c.in-Nothing.is) ∙ c.step-signal.ensures.halt ∙ shown.rest.halted in
-    c.end-taken.ensures.counts code (reached code c.args.self.now.board.input m) shown (c.step-signal.ensures.course m h)
-    ∙ counts_on code c.args.self.now.board.input m on _ _ _ (ap has_missed c.step-signal.ensures.wait) (c.step-signal.ensures.counts ∙ d)
+pub returns-then-ends_plainly-clause-state : goal.returns-then-ends_plainly-clause-state
+returns-then-ends_plainly-clause-state g c = λ m h s.
+    subst (λ (b : Bool). Holds (code g c m h s) c.end-taken.new.self (cond b (r g c m h s) (turned (code g c m h s) (r g c m h s)))) (on g c m h s)
+    (c.end-taken.ensures.state (code g c m h s) (r g c m h s) (shown g c m h s) (leads g c m h s))
 
-pub returns-in-Byte-clause-state : goal.returns-in-Byte-clause-state
-returns-in-Byte-clause-state g c = λ m h s.
-    let code : Code = code_of_pipe c.args.self.now in
-    let shown = c.step-signal.ensures.state m h s in
-    let on = sym (ap halts c.in-Byte.is) ∙ c.step-signal.ensures.halt ∙ shown.rest.halted in
-    ends_on code (reached code c.args.self.now.board.input m) on c.end_apart-taken.new.self
-    (c.end_apart-taken.ensures.state code (reached code c.args.self.now.board.input m) shown (c.step-signal.ensures.course m h))
+pub returns-then-ends_plainly-clause-answer : goal.returns-then-ends_plainly-clause-answer
+returns-then-ends_plainly-clause-answer g c = λ m h s.
+    let sends : None ≡ commit_byte (code g c m h s) c.args.self.now.board.input (shifted m) =
+    sym (ap byte_of (quiet g c m h s)) ∙ c.step-signal.ensures.byte m h in
+    let takes = c.end-taken.ensures.taken (code g c m h s) (r g c m h s) (shown g c m h s) in
+    λ k. record {
+      byte = sends k;
+      taken = (takes ∙ (λ l. not (on g c m h s l) && is_taken (r g c m h s))) k;
+      halted = on g c m h s k;
+      stalled = false;
+    }
 
-pub returns-in-Byte-clause-answer : goal.returns-in-Byte-clause-answer
-returns-in-Byte-clause-answer g c = λ m h s.
-    let code : Code = code_of_pipe c.args.self.now in
-    let shown = c.step-signal.ensures.state m h s in
-    let on = sym (ap halts c.in-Byte.is) ∙ c.step-signal.ensures.halt ∙ shown.rest.halted in
-    answers_on code c.args.self.now.board.input m on c.end_apart-taken.result (Some c.in-Byte.byte)
-    (sym (ap byte_of c.in-Byte.is) ∙ c.step-signal.ensures.byte m h)
-    (c.end_apart-taken.ensures.taken code (reached code c.args.self.now.board.input m) shown)
+pub returns-then-ends_plainly-clause-counts : goal.returns-then-ends_plainly-clause-counts
+returns-then-ends_plainly-clause-counts g c = λ m h s d.
+    let taken = is_taken (r g c m h s) in
+    let cancels = (decision (code g c m h s) (r g c m h s)).cancels in
+    let missed = ap has_missed c.step-signal.ensures.wait in
+    let same = c.step-signal.ensures.counts ∙ d in
+    c.end-taken.ensures.counts (code g c m h s) (r g c m h s) (shown g c m h s) (leads g c m h s)
+    ∙ (λ k. after_turn (missed k) (not (on g c m h s k) && (not taken && cancels)) (not (on g c m h s k) && taken) (same k))
 
-pub returns-in-Byte-clause-counts : goal.returns-in-Byte-clause-counts
-returns-in-Byte-clause-counts g c = λ m h s d.
-    let code : Code = code_of_pipe c.args.self.now in
-    let shown = c.step-signal.ensures.state m h s in
-    let on = sym (ap halts c.in-Byte.is) ∙ c.step-signal.ensures.halt ∙ shown.rest.halted in
-    c.end_apart-taken.ensures.counts code (reached code c.args.self.now.board.input m) shown (c.step-signal.ensures.course m h)
-    ∙ counts_on code c.args.self.now.board.input m on _ _ _ (ap has_missed c.step-signal.ensures.wait) (c.step-signal.ensures.counts ∙ d)
+-- where it ends otherwise
+module _ (g : given.Over) (c : After-halts g) (m : Machine) (h : Holds (code_of_pipe c.args.self.now) c.args.self.now m) (s : Shows m) where
+  abbrev before' : Pipe g.row.C.Denot
+  before' = c.args.self.now
+
+  abbrev code' : Code
+  code' = code_of_pipe before'
+
+  abbrev r' : Machine
+  r' = reached code' before'.board.input m
+
+  shown' : Holds code' c.step-signal.new.self r'
+  shown' = c.step-signal.ensures.state m h s
+
+  halts' : halts c.step-signal.result.0 ≡ r'.halted
+  halts' = c.step-signal.ensures.halt ∙ shown'.rest.halted
+
+pub returns-clause-state : goal.returns-clause-state
+returns-clause-state g c = λ m h s.
+    c.end_apart-taken.ensures.state (code' g c m h s) (r' g c m h s) (shown' g c m h s) (halts' g c m h s) (c.step-signal.ensures.target m h)
+
+pub returns-clause-answer : goal.returns-clause-answer
+returns-clause-answer g c = λ m h s.
+    let sends = c.byte.ensures ∙ c.step-signal.ensures.byte m h in
+    let takes = c.end_apart-taken.ensures.taken (code' g c m h s) (r' g c m h s) (shown' g c m h s) (halts' g c m h s) in
+    let stops = c.halts.ensures ∙ halts' g c m h s in
+    λ k. record { byte = sends k; taken = takes k; halted = stops k; stalled = false }
+
+pub returns-clause-counts : goal.returns-clause-counts
+returns-clause-counts g c = λ m h s d.
+    let taken = is_taken (r' g c m h s) in
+    let cancels = (decision (code' g c m h s) (r' g c m h s)).cancels in
+    let missed = ap has_missed c.step-signal.ensures.wait in
+    let same = c.step-signal.ensures.counts ∙ d in
+    let halted = (r' g c m h s).halted in
+    c.end_apart-taken.ensures.counts (code' g c m h s) (r' g c m h s) (shown' g c m h s) (halts' g c m h s) (c.step-signal.ensures.target m h)
+    ∙ (λ k. after_turn (missed k) (not halted && (not taken && cancels)) (not halted && taken) (same k))

@@ -69,6 +69,7 @@ returns-clause-state g c = λ code m h.
         asked = h.rest.asked;
         halted = c.reach.ensures.halted ∙ ap is_halt h.alu.inst ∙ halt_is u i;
         shown = h.rest.shown;
+        short = h.rest.short;
       };
     }
 

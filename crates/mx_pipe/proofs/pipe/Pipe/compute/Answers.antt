@@ -1,4 +1,5 @@
 use Rattle.std.proofs.Common.{◌≡◌, sym, ap, ◌∙◌}
+use Rattle.std.specs.Prelude.{slice_index}
 use Rattle.mx_isa.specs.Views.{sources}
 use Rattle.mx_isa.specs.Words.{reg}
 use Rattle.mx_code.specs.Delay.{Code}
@@ -6,7 +7,7 @@ use Rattle.mx_turn.specs.Stages.{live, address_of}
 use Rattle.mx_turn.specs.System.{seen, number_of}
 use Rattle.mx_turn.specs.Cycle.{Machine, first, second}
 use Rattle.mx_pipe.specs.Made.{allowed, passed, md_behind, md_kept}
-use Rattle.mx_pipe.specs.Courses.{course_of}
+use Rattle.mx_pipe.specs.Courses.{course_of, target_of}
 use Rattle.mx_pipe.specs.Kept.{Commits}
 use Rattle.mx_pipe.proofs.Makes.{newest_is}
 use Rattle.mx_pipe.proofs.pipe.Pipe.compute.Goals as goal
@@ -16,13 +17,13 @@ use Rattle.mx_pipe.proofs.pipe.Pipe.compute.Given as given
 module _ (g : given.Over) (c : After-make g) (code : Code) (m : Machine) (h : Commits code c.args.self.now m) where
   a_is : c.make.new.alu.a ≡ first code m
   a_is =
-      c.make.ensures.a
+      c.make.ensures.a (slice_index c.args.self.now.file) (h.alu.a ∙ (λ k. reg (slice_index c.args.self.now.file) (sources (sym h.alu.inst k)).0))
       ∙ (λ k. passed c.args.mem.now.passes c.args.mem.now.word (sources (h.alu.inst k)).0 (h.alu.a k))
       ∙ newest_is code c.args.self.now m h c.args.mem.now c.requires (sources (live code m.alu)).0
 
   b_is : c.make.new.alu.b ≡ second code m
   b_is =
-      c.make.ensures.b
+      c.make.ensures.b (slice_index c.args.self.now.file) (h.alu.b ∙ (λ k. reg (slice_index c.args.self.now.file) (sources (sym h.alu.inst k)).1))
       ∙ (λ k. passed c.args.mem.now.passes c.args.mem.now.word (sources (h.alu.inst k)).1 (h.alu.b k))
       ∙ newest_is code c.args.self.now m h c.args.mem.now c.requires (sources (live code m.alu)).1
 
@@ -44,10 +45,10 @@ returns-clause-made g c = λ code m h.
           ∙ (λ k. md_behind (h.alu.inst k) (a k) (b k) (h.rest.md k));
     }
 
-pub returns-clause-course : goal.returns-clause-course
-returns-clause-course g c = λ code m h.
+pub returns-clause-target : goal.returns-clause-target
+returns-clause-target g c = λ code m h.
     let sees = seen m.slot m.core.regs in
-    c.make.ensures.course sees
+    c.make.ensures.target sees
     (a_is g c code m h ∙ (λ k. reg sees (sources (sym h.alu.inst k)).0))
     (b_is g c code m h ∙ (λ k. reg sees (sources (sym h.alu.inst k)).1))
-    ∙ (λ k. course_of (h.alu.inst k) (address_of (h.alu.word k)) (h.rest.next k).address sees)
+    ∙ (λ k. target_of (course_of (h.alu.inst k) (address_of (h.alu.word k)) (h.rest.next k).address sees))

@@ -1,4 +1,4 @@
-use Rattle.std.proofs.Common.{◌≡◌, arith, true≢false, refl, sym, ap, ◌∙◌, cond}
+use Rattle.std.proofs.Common.{◌≡◌, length, arith, true≢false, refl, sym, ap, ◌∙◌, cond}
 use Rattle.mx_isa.specs.Words.{write}
 use Rattle.mx_isa.specs.Views.{dest}
 use Rattle.mx_code.specs.Delay.{data_from}
@@ -50,6 +50,11 @@ returns g c = record {
       asked = refl;
       halted = refl;
       shown = c.nothing.ensures;
+      short =
+          let same = ap length (c.in_ok-code.ensures ∙ c.deref.ensures.value) in
+          let few = c.args.image.now.code_within in
+          let long = c.args.image.now.code.ok in
+          omega (arith, same, few, long);
     };
   };
   shows = record { older = refl; younger = λ e. absurd (true≢false (sym e)) };
