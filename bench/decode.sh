@@ -2,8 +2,8 @@
 # Decoded words a second of the proved decoder, by the built program: bench/decode.sh [WORDS]
 set -e
 words=${1:-100000000}
-cd "$(dirname "$0")/../crates/mx_bench_decode"
+cd "$(dirname "$0")/../crates/bench_decode"
 rt run -- 1000 >/dev/null 2>&1 # proves and builds it, where it is not built
 TIMEFORMAT=%U
-seconds=$( { time ./out/mx_bench_decode "$words" >/dev/null; } 2>&1 )
+seconds=$( { time ./out/bench_decode "$words" >/dev/null; } 2>&1 )
 awk -v n="$words" -v s="$seconds" 'BEGIN { printf "%d words in %.2f processor seconds: %.1f million a second\n", n, s, n / s / 1e6 }'

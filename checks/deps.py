@@ -1,6 +1,10 @@
 #!/usr/bin/env python3
-"""Tells which crates name another crate of the repository that their line of crates.txt does not list: such a one does not
-check, however many crates below it do. It takes a second.
+"""Tells where crates.txt is not what the folders say. It takes a second.
+
+A crate has to list each crate of the repository that it names, and may list only crates that stand above it in the file, which
+begins below. A prefix is a layer: mx_ parts of the toolchain and the machine, law_ laws alone, cmd_ what commands read and
+answer, lab_ the commands for people who look, embed_ the library, test_ and bench_. ALLOWED says which layer may stand on which,
+and EXCEPT which crates go beyond it, with the reason in crates.txt.
 
 usage: checks/deps.py
 """
@@ -10,14 +14,31 @@ import sys
 
 TOP = os.path.dirname(os.path.dirname(os.path.abspath(__file__)))
 LINE = re.compile(r"([a-z_0-9]+)(?: staticlib)?:(.*)$")
-NAMED = re.compile(r"\bRattle\.(mx_[a-z_0-9]+)\.|\b(mx_[a-z_0-9]+)::")
+LAYERS = ("mx", "law", "cmd", "lab", "embed", "test", "bench")
+NAMED = re.compile(r"\bRattle\.((?:%s)_[a-z_0-9]+)\.|\b((?:%s)_[a-z_0-9]+)::" % (("|".join(LAYERS),) * 2))
+ALLOWED = {
+    "mx": {"mx"},
+    "law": {"mx", "law"},
+    "cmd": {"mx", "law", "cmd"},
+    "lab": {"mx", "law", "cmd", "lab"},
+    "embed": {"mx", "law", "cmd", "embed"},
+    "test": set(LAYERS) - {"bench"},
+    "bench": set(LAYERS) - {"test"},
+}
+EXCEPT = {
+    ("mx_best", "law_order"),
+    ("mx_tasks", "law_interrupts"),
+    ("law_profile", "lab_profile"),
+}
+# The top call and the two programs stand on all that they call.
+TOPS = {"mx_command": {"law", "cmd"}, "mx_run": {"cmd"}, "mx_lab": {"cmd", "lab"}}
 
 
 def listed():
-    """Returns the crates that each crate's line lists."""
+    """Returns the crates that each crate's line lists, in the file's order."""
     with open(f"{TOP}/crates.txt", encoding="utf-8") as lines:
         found = (LINE.match(line) for line in lines)
-        return {it.group(1): set(it.group(2).split()) for it in found if it}
+        return {it.group(1): it.group(2).split() for it in found if it}
 
 
 def named(crate):
@@ -34,13 +55,33 @@ def named(crate):
     return names
 
 
+def is_allowed(crate, below):
+    """Tells whether a crate of this name may stand on one of that name."""
+    layer, other = crate.split("_")[0], below.split("_")[0]
+    return other in ALLOWED[layer] | TOPS.get(crate, set()) or (crate, below) in EXCEPT
+
+
+def faults(crates):
+    """Gives a line for each place where crates.txt is not what it should be."""
+    above = set()
+    for crate, below in crates.items():
+        own = [it for it in below if it in crates]
+        missing = sorted((named(crate) & set(crates)) - set(own) - {crate})
+        if missing:
+            yield f"{crate} does not list {', '.join(missing)}"
+        late = [it for it in own if it not in above]
+        if late:
+            yield f"{crate} stands in crates.txt before {', '.join(late)}"
+        wrong = [it for it in own if not is_allowed(crate, it)]
+        if wrong:
+            yield f"{crate} may not stand on {', '.join(wrong)}"
+        above.add(crate)
+
+
 def main():
-    crates = listed()
-    missing = {it: sorted((named(it) & set(crates)) - crates[it] - {it}) for it in crates}
-    for crate, names in missing.items():
-        if names:
-            print(f"{crate} does not list {', '.join(names)}")
-    sys.exit(1 if any(missing.values()) else 0)
+    lines = list(faults(listed()))
+    print("\n".join(lines), end="\n" if lines else "")
+    sys.exit(1 if lines else 0)
 
 
 if __name__ == "__main__":

@@ -4,7 +4,7 @@
 # and a file that takes a part as standard output, and a name that is not text.
 top=$(CDPATH= cd -- "$(dirname -- "$0")/.." && pwd) || exit 1
 program=$top/crates/mx_run/out/mx_run
-cases=$top/crates/mx_command_cases/data
+cases=$top/crates/test_command_cases/data
 folder=$(mktemp -d) || exit 1
 trap 'rm -rf "$folder"' EXIT
 cd "$folder" || exit 1

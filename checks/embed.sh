@@ -1,7 +1,7 @@
 #!/bin/bash
 # The library for C and Python, by hand: `rt ci` does not call this, since it needs cc, python3 and a built library. It
 # builds the library where that is not done, compiles examples/embed/run.c under AddressSanitizer and as C++, and gives
-# every case of crates/mx_command_cases to the library, which has to answer as the case says. A case that names more
+# every case of crates/test_command_cases to the library, which has to answer as the case says. A case that names more
 # files than the library holds is left out, and counted.
 top=$(cd -- "$(dirname -- "$0")/.." && pwd) || exit 1
 folder=$(mktemp -d) || exit 1

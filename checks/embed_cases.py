@@ -1,5 +1,5 @@
 #!/usr/bin/env python3
-"""Gives the cases of crates/mx_command_cases to the library in a file: checks/embed_cases.py LIBRARY.
+"""Gives the cases of crates/test_command_cases to the library in a file: checks/embed_cases.py LIBRARY.
 
 The files of a case get the names of the library. What a case has to answer stands in its data. The cases of faults in
 reading and writing, `failing.txt` and `puts.txt`, have no counterpart here.
@@ -9,7 +9,7 @@ import re
 import sys
 
 TOP = os.path.dirname(os.path.dirname(os.path.abspath(__file__)))
-DATA = f"{TOP}/crates/mx_command_cases/data"
+DATA = f"{TOP}/crates/test_command_cases/data"
 sys.path.insert(0, f"{TOP}/examples/embed")
 
 from zanderanvil import Zanderanvil  # noqa: E402

@@ -11,8 +11,8 @@ folder=$(mktemp -d) || exit 1
 trap 'rm -rf "$folder"' EXIT
 cc -Wall -Wextra -Werror -shared -fPIC "$top/checks/refuse.c" -o "$folder/refuse.so" -ldl || exit 1
 mkdir "$folder/files" && cd "$folder/files" || exit 1
-cp "$top"/crates/mx_command_cases/data/files/{hello,greeting,echo,loop,best_short,join_01_1,join_01_2,join_01_3}.s . || exit 1
-cp "$top"/crates/mx_command_cases/data/files/{ab,at_21} "$top/examples/hello.mxi" . || exit 1
+cp "$top"/crates/test_command_cases/data/files/{hello,greeting,echo,loop,best_short,join_01_1,join_01_2,join_01_3}.s . || exit 1
+cp "$top"/crates/test_command_cases/data/files/{ab,at_21} "$top/examples/hello.mxi" . || exit 1
 failures=0
 
 # answer N WORD..: the run in which request N is refused, or none where N is 0; prints its status, its output and its new file

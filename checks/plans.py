@@ -1,6 +1,6 @@
 #!/usr/bin/env python3
 # A slow second reading of the rules on blocks, plans and copies, as conditions on finished lists. It prints
-# crates/mx_plan_cases/data/plans.txt, always the same: checks/plans.py | cmp - crates/mx_plan_cases/data/plans.txt
+# crates/test_plan_cases/data/plans.txt, always the same: checks/plans.py | cmp - crates/test_plan_cases/data/plans.txt
 # `checks/plans.py figures` prints instead how often the greedy plan of a drawn block is longer than a shortest one.
 import random, sys
 from itertools import combinations

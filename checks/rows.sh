@@ -1,10 +1,10 @@
 #!/bin/bash
-# Worked runs by the built program, as ./mx leaves it, on real files. First the cases of crates/mx_command_cases, which the
+# Worked runs by the built program, as ./mx leaves it, on real files. First the cases of crates/test_command_cases, which the
 # merge gate runs over files in memory; then what these cases cannot say: long sources, a run that is made twice and built
 # examples. `rt ci` does not call this, since it needs a built program.
 top=$(cd -- "$(dirname -- "$0")/.." && pwd) || exit 1
 program=$top/crates/mx_run/out/mx_run
-cases=$top/crates/mx_command_cases/data
+cases=$top/crates/test_command_cases/data
 folder=$(mktemp -d) || exit 1
 trap 'rm -rf "$folder"' EXIT
 cd "$folder" || exit 1

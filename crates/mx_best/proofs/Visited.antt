@@ -14,7 +14,7 @@ use Rattle.mx_blocks.specs.Items.{StandsAt, ops, times}
 use Rattle.mx_validate.specs.Padded.{insts_of, items_of, falls}
 use Rattle.mx_validate.specs.Validity.{EachOnce, Valid, end_count}
 use Rattle.mx_validate.proofs.Listed.{stands_counts, counted_stands, stands_within}
-use Rattle.mx_order.proofs.Reorder.{once_length}
+use Rattle.law_order.proofs.Reorder.{once_length}
 use Rattle.mx_reorg.specs.Greedy.{Stands}
 use Rattle.mx_best.specs.Visits.{KeepsDelay, IsFollowed, MayPrecede, Precedes, is_terminator, MayStand, no_ops, ValidIsVisited}
 

@@ -1,13 +1,13 @@
 -- A command whose reply was performed and finished.
 use Rattle.std.proofs.Common.{◌≡◌, ◌≢◌, ℕ, ◌⊎◌, List, Bool, true, Option, inl, inr, ⊎_elim, sym, ◌∙◌, ap, subst}
-use Rattle.mx_answer.specs.declared.Status.{Status}
-use Rattle.mx_answer.specs.declared.Status.TheVariants.{WriteFault, Memory}
-use Rattle.mx_answer.specs.Answer.{Answer}
+use Rattle.cmd_answer.specs.declared.Status.{Status}
+use Rattle.cmd_answer.specs.declared.Status.TheVariants.{WriteFault, Memory}
+use Rattle.cmd_answer.specs.Answer.{Answer}
 use Rattle.mx_io.specs.Shelves.{Told, Counts}
-use Rattle.mx_answer.specs.Protocol.{Protocol, resolved, Performed, HasOwnAnswers}
-use Rattle.mx_answer.specs.Delivery.{Delivered, PutsPrefix, FailsToWrite}
-use Rattle.mx_answer.specs.Commands.{Outside, Commanded}
-use Rattle.mx_answer.proofs.Commands.{commanded, status_cases}
+use Rattle.cmd_answer.specs.Protocol.{Protocol, resolved, Performed, HasOwnAnswers}
+use Rattle.cmd_answer.specs.Delivery.{Delivered, PutsPrefix, FailsToWrite}
+use Rattle.cmd_answer.specs.Commands.{Outside, Commanded}
+use Rattle.cmd_answer.proofs.Commands.{commanded, status_cases}
 use Rattle.mx_command.specs.Headline.{AreQuiet, IsNoFault}
 
 module _ (p : Protocol) (answer : Answer) (result : Status) (before between after : Outside) where

@@ -12,26 +12,26 @@ use Rattle.mx_squash.specs.Copies.{Site}
 use Rattle.mx_layout.specs.Layout.{IsLayout, blocks_in}
 use Rattle.mx_layout.specs.Overlong.{overlong}
 use Rattle.mx_reorg.specs.Greedy.{IsGreedy}
-use Rattle.mx_schedule.specs.Schedule.{IsScheduler}
+use Rattle.law_schedule.specs.Schedule.{IsScheduler}
 use Rattle.mx_link.specs.Origins.{from_target}
 use Rattle.mx_link.specs.Linked.{linked_code, linked_data}
-use Rattle.mx_answer.specs.declared.FileKind.{FileKind}
-use Rattle.mx_answer.specs.declared.FileKind.TheVariants.{Source, Interrupts, Input}
-use Rattle.mx_answer.specs.declared.Status.{Status}
-use Rattle.mx_answer.specs.declared.Status.TheVariants.{Memory}
-use Rattle.mx_answer.specs.Answer.{Answer}
-use Rattle.mx_answer.specs.Files.{limit_of}
-use Rattle.mx_answer.specs.Protocol.{Protocol, Reads, Reading, Given, TooLong, reading_of, answered, resolved}
+use Rattle.cmd_answer.specs.declared.FileKind.{FileKind}
+use Rattle.cmd_answer.specs.declared.FileKind.TheVariants.{Source, Interrupts, Input}
+use Rattle.cmd_answer.specs.declared.Status.{Status}
+use Rattle.cmd_answer.specs.declared.Status.TheVariants.{Memory}
+use Rattle.cmd_answer.specs.Answer.{Answer}
+use Rattle.cmd_answer.specs.Files.{limit_of}
+use Rattle.cmd_answer.specs.Protocol.{Protocol, Reads, Reading, Given, TooLong, reading_of, answered, resolved}
 use Rattle.mx_io.specs.Shelves.{Told}
-use Rattle.mx_answer.specs.Delivery.{Delivered}
-use Rattle.mx_simulate.specs.Simulated.{program_answer}
-use Rattle.mx_simulate.specs.Machines.{if_asked, by_requests, requests_protocol, input_protocol}
+use Rattle.cmd_answer.specs.Delivery.{Delivered}
+use Rattle.cmd_simulate.specs.Simulated.{program_answer}
+use Rattle.cmd_simulate.specs.Machines.{if_asked, by_requests, requests_protocol, input_protocol}
 use Rattle.mx_asm.specs.Texts.{source_of}
-use Rattle.mx_meaning.specs.Boards.{board}
-use Rattle.mx_end_to_end.specs.EndToEnd.{source_program}
-use Rattle.mx_end_to_end.specs.Laws.{MeansItsSource}
-use Rattle.mx_end_to_end.proofs.Accepted.{text_means}
-use Rattle.mx_asked.specs.Commands.{Command}
+use Rattle.mx_isa.specs.Board.{board}
+use Rattle.law_end_to_end.specs.EndToEnd.{source_program}
+use Rattle.law_end_to_end.specs.Laws.{MeansItsSource}
+use Rattle.law_end_to_end.proofs.Accepted.{text_means}
+use Rattle.cmd_table.specs.Commands.{Command}
 use Rattle.mx_command.specs.Protocols.{unless_faulty, unless_overlong, Layouts, linked_protocol, run_protocol, protocol_of}
 use Rattle.mx_command.specs.Accepted.{Held, Holds, AreRequests, IsInput, Accepted}
 use Rattle.mx_command.specs.Headline.{Headline}

@@ -4,20 +4,20 @@ use Rattle.std.specs.Prelude.{All}
 use Rattle.std.proofs.lemmas.List.Elements.{All-nil, All-cons}
 use Rattle.mx_source.specs.SourceValue.{SourceValue}
 use Rattle.mx_source.specs.Printed.{printed}
-use Rattle.mx_answer.specs.declared.FileKind.TheVariants.{Module}
-use Rattle.mx_answer.specs.declared.Status.{Status}
-use Rattle.mx_answer.specs.declared.Status.TheVariants.{Done}
-use Rattle.mx_answer.specs.Answer.{Answer, prints}
-use Rattle.mx_answer.specs.Protocol.{resolved}
+use Rattle.cmd_answer.specs.declared.FileKind.TheVariants.{Module}
+use Rattle.cmd_answer.specs.declared.Status.{Status}
+use Rattle.cmd_answer.specs.declared.Status.TheVariants.{Done}
+use Rattle.cmd_answer.specs.Answer.{Answer, prints}
+use Rattle.cmd_answer.specs.Protocol.{resolved}
 use Rattle.mx_io.specs.Shelves.{Told}
-use Rattle.mx_answer.specs.Delivery.{Delivered}
+use Rattle.cmd_answer.specs.Delivery.{Delivered}
 use Rattle.mx_asm.specs.Texts.{source_of}
 use Rattle.mx_module.specs.Joined.{joined, join_fault}
-use Rattle.mx_module_laws.specs.JoinedTexts.{AreJoined}
-use Rattle.mx_module_laws.proofs.Printable.{joined_reads}
-use Rattle.mx_module_laws.proofs.Meant.{same_means}
-use Rattle.mx_meaning.specs.Boards.{board}
-use Rattle.mx_asked.specs.Commands.{Command}
+use Rattle.law_modules.specs.JoinedTexts.{AreJoined}
+use Rattle.law_modules.proofs.Printable.{joined_reads}
+use Rattle.law_modules.proofs.Meant.{same_means}
+use Rattle.mx_isa.specs.Board.{board}
+use Rattle.cmd_table.specs.Commands.{Command}
 use Rattle.mx_command.specs.Protocols.{Layouts, join_answer, printed_unless, modules_protocol, protocol_of}
 use Rattle.mx_command.specs.Accepted.{Held, Holds}
 use Rattle.mx_command.specs.Joins.{HoldModules, AcceptedModules, WhereShort, JoinHeadline}

@@ -10,18 +10,18 @@ use Rattle.mx_link.specs.Origins.{from_target}
 use Rattle.mx_link.specs.Linked.{IsLinked}
 use Rattle.mx_reorg.specs.Greedy.{IsGreedy}
 use Rattle.mx_image.specs.Contents.{Contents}
-use Rattle.mx_answer.specs.declared.Status.TheVariants.{Refused}
-use Rattle.mx_answer.specs.Answer.{prints}
-use Rattle.mx_answer.specs.Protocol.{Answers}
-use Rattle.mx_simulate.specs.declared.Limits.{Limits}
-use Rattle.mx_simulate.specs.Machines.{Files, machine_protocol}
+use Rattle.cmd_answer.specs.declared.Status.TheVariants.{Refused}
+use Rattle.cmd_answer.specs.Answer.{prints}
+use Rattle.cmd_answer.specs.Protocol.{Answers}
+use Rattle.cmd_simulate.specs.declared.Limits.{Limits}
+use Rattle.cmd_simulate.specs.Machines.{Files, machine_protocol}
 use Rattle.mx_lines.specs.declared.Fault.{Fault}
 use Rattle.mx_asm.specs.Texts.{source_of, text_fault}
-use Rattle.mx_meaning.specs.Boards.{board}
-use Rattle.mx_schedule.specs.Schedule.{IsScheduler}
-use Rattle.mx_schedule.proofs.Kept.{linked_sites, none_rejected, overlong_sites}
-use Rattle.mx_listing.specs.Listing.{listing_text, linked_parts, layout_listing}
-use Rattle.mx_listing.proofs.Listed.{listing-linked}
+use Rattle.mx_isa.specs.Board.{board}
+use Rattle.law_schedule.specs.Schedule.{IsScheduler}
+use Rattle.law_schedule.proofs.Kept.{linked_sites, none_rejected, overlong_sites}
+use Rattle.cmd_list.specs.Listing.{listing_text, linked_parts, layout_listing}
+use Rattle.cmd_list.proofs.Listed.{listing-linked}
 use Rattle.mx_command.specs.Protocols.{fault_line, overlong_line, unless_faulty, unless_overlong, Layouts, AfterLayout, linked_protocol, run_protocol, linked_contents}
 
 -- a faulty text

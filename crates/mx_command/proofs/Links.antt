@@ -14,7 +14,7 @@ use Rattle.mx_link.specs.Words.{insts_from, insts_of}
 use Rattle.mx_link.proofs.Sizes.{length-origins_from, length-insts_from}
 use Rattle.mx_link.specs.Linked.{map_from, link_map, links_of, linked_code}
 use Rattle.mx_image.specs.Contents.{IsLink, LinksFit}
-use Rattle.mx_meaning.specs.Boards.{board}
+use Rattle.mx_isa.specs.Board.{board}
 
 -- how many words these plans have
 pub total : List Site → ℕ

@@ -3,13 +3,13 @@ use Rattle.std.proofs.Common.{◌≡◌, ℕ, ◌+◌, ◌++◌, ◌<◌, List, 
 use Rattle.std.specs.Borrow.{Bor}
 use Rattle.std.specs.Global.{Global}
 use Rattle.std.proofs.lemmas.List.{at_drop_more}
-use Rattle.mx_words.specs.Command.{texts}
-use Rattle.mx_answer.specs.declared.FileKind.TheVariants.{Module}
-use Rattle.mx_answer.specs.declared.Reply.{Reply}
-use Rattle.mx_answer.specs.Answer.{Answer}
+use Rattle.cmd_line.specs.Command.{texts}
+use Rattle.cmd_answer.specs.declared.FileKind.TheVariants.{Module}
+use Rattle.cmd_answer.specs.declared.Reply.{Reply}
+use Rattle.cmd_answer.specs.Answer.{Answer}
 use Rattle.mx_io.specs.Shelves.{Told, Counts}
-use Rattle.mx_answer.specs.Protocol.{Protocol, Reads, Performed}
-use Rattle.mx_answer.specs.Replies.{reply_answer}
+use Rattle.cmd_answer.specs.Protocol.{Protocol, Reads, Performed}
+use Rattle.cmd_answer.specs.Replies.{reply_answer}
 use Rattle.mx_command.specs.Protocols.{join_answer, modules_protocol}
 
 -- what is performed by the names that are left, behind these texts, is performed by all names

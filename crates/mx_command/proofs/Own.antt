@@ -7,14 +7,14 @@ use Rattle.mx_image.specs.declared.ImageError.{ImageError}
 use Rattle.mx_image.specs.Files.{file_refusal, file_in, file_bytes}
 use Rattle.mx_turn.specs.Handler.{shipped}
 use Rattle.mx_turn.specs.Program.{Program, program_of}
-use Rattle.mx_answer.specs.declared.FileKind.{FileKind}
-use Rattle.mx_answer.specs.declared.FileKind.TheVariants.{Second}
-use Rattle.mx_answer.specs.declared.Status.{Status}
-use Rattle.mx_answer.specs.declared.Status.TheVariants.{Halted, Done, Refused, Usage, OutOfBudget, ReadFault, WriteFault, Memory, BadImage, BadEvents, Stuck}
-use Rattle.mx_answer.specs.Answer.{Answer, prints, writes, is_own}
-use Rattle.mx_answer.specs.Delivery.{HasStatus}
+use Rattle.cmd_answer.specs.declared.FileKind.{FileKind}
+use Rattle.cmd_answer.specs.declared.FileKind.TheVariants.{Second}
+use Rattle.cmd_answer.specs.declared.Status.{Status}
+use Rattle.cmd_answer.specs.declared.Status.TheVariants.{Halted, Done, Refused, Usage, OutOfBudget, ReadFault, WriteFault, Memory, BadImage, BadEvents, Stuck}
+use Rattle.cmd_answer.specs.Answer.{Answer, prints, writes, is_own}
+use Rattle.cmd_answer.specs.Delivery.{HasStatus}
 use Rattle.mx_io.specs.Shelves.{Told, Counts}
-use Rattle.mx_answer.specs.Protocol.{Protocol, Answers, Reads, IsFault, Performed, HasOwnAnswers}
+use Rattle.cmd_answer.specs.Protocol.{Protocol, Answers, Reads, IsFault, Performed, HasOwnAnswers}
 use Rattle.mx_lines.specs.declared.Fault.{Fault}
 use Rattle.mx_asm.specs.Texts.{source_of, text_fault}
 use Rattle.mx_isa.specs.declared.Place.{Place}
@@ -26,26 +26,26 @@ use Rattle.mx_layout.specs.Overlong.{Overlong, overlong}
 use Rattle.mx_squash.specs.Copies.{Site}
 use Rattle.mx_link.specs.Origins.{from_target, from_nowhere}
 use Rattle.mx_link.specs.Linked.{link_map, linked_code, linked_data}
-use Rattle.mx_listing.specs.Listing.{layout_listing}
-use Rattle.mx_meaning.specs.Boards.{board}
-use Rattle.mx_meaning.specs.Told.{status_of, meaning_answer}
+use Rattle.cmd_list.specs.Listing.{layout_listing}
+use Rattle.mx_isa.specs.Board.{board}
+use Rattle.cmd_meaning.specs.Told.{status_of, meaning_answer}
 use Rattle.mx_module.specs.LinkFaults.{Refusal}
 use Rattle.mx_module.specs.Joined.{joined, join_fault}
-use Rattle.mx_simulate.specs.declared.Limits.{Limits}
-use Rattle.mx_simulate.specs.Simulated.{program_answer}
-use Rattle.mx_simulate.specs.Machines.{Files, if_asked, by_requests, requests_protocol, input_protocol, machine_protocol}
+use Rattle.cmd_simulate.specs.declared.Limits.{Limits}
+use Rattle.cmd_simulate.specs.Simulated.{program_answer}
+use Rattle.cmd_simulate.specs.Machines.{Files, if_asked, by_requests, requests_protocol, input_protocol, machine_protocol}
 use Rattle.mx_debug.specs.declared.Ending.{Ending}
 use Rattle.mx_debug.specs.declared.Ending.TheVariants as ending
 use Rattle.mx_debug.specs.Sessions.{Session, session}
-use Rattle.mx_sessions.specs.declared.SessionLimits.{SessionLimits}
-use Rattle.mx_sessions.specs.Sessions.{session_answer, session_protocol}
-use Rattle.mx_sessions.specs.Sessions as sessions
+use Rattle.cmd_debug.specs.declared.SessionLimits.{SessionLimits}
+use Rattle.cmd_debug.specs.Sessions.{session_answer, session_protocol}
+use Rattle.cmd_debug.specs.Sessions as sessions
 use Rattle.mx_tasks.specs.Places.{lower, upper}
 use Rattle.mx_tasks.specs.Sharing.{shared}
-use Rattle.mx_sharing.specs.Runs.{shared_answer, sharing_protocol}
-use Rattle.mx_asked.specs.declared.Command.{Command as GivenCommand}
-use Rattle.mx_asked.specs.Seen.{seen_command}
-use Rattle.mx_asked.specs.Commands.{Command, Run, Meaning, Build, Exec, Listing, Gen, Soak, Migrate, Share, Debug, Best, Join}
+use Rattle.cmd_share.specs.Runs.{shared_answer, sharing_protocol}
+use Rattle.cmd_table.specs.declared.Command.{Command as GivenCommand}
+use Rattle.cmd_table.specs.Seen.{seen_command}
+use Rattle.cmd_table.specs.Commands.{Command, Run, Meaning, Build, Exec, Listing, Gen, Soak, Migrate, Share, Debug, Best, Join}
 use Rattle.mx_command.specs.Protocols.{unless_faulty, unless_overlong, unless_refused, migrated, Layouts, AfterLayout, linked_protocol, run_protocol, build_protocol, linked_contents, list_protocol, unless_wrong, wrong_with, unless_far, upper_layout, pair_code, pair_data, pair_protocol, assembled_protocol, statement_named, unless_unlabelled, labelled_protocol, protocol_of, measured, printed_unless, modules_protocol}
 use Rattle.mx_command.specs.Replied.{is_answered, IsReplied}
 

@@ -11,19 +11,19 @@ use Rattle.mx_link.specs.Origins.{from_target}
 use Rattle.mx_link.specs.Linked.{linked_code, linked_data}
 use Rattle.mx_asm.specs.Texts.{source_of, text_fault}
 use Rattle.mx_asm.proofs.Sourced.{faultless_source}
-use Rattle.mx_answer.specs.declared.FileKind.TheVariants.{First, Second}
-use Rattle.mx_answer.specs.declared.Status.{Status}
-use Rattle.mx_answer.specs.Answer.{Answer}
-use Rattle.mx_answer.specs.Protocol.{Protocol, Reads, resolved}
+use Rattle.cmd_answer.specs.declared.FileKind.TheVariants.{First, Second}
+use Rattle.cmd_answer.specs.declared.Status.{Status}
+use Rattle.cmd_answer.specs.Answer.{Answer}
+use Rattle.cmd_answer.specs.Protocol.{Protocol, Reads, resolved}
 use Rattle.mx_io.specs.Shelves.{Told}
-use Rattle.mx_answer.specs.Delivery.{Delivered}
-use Rattle.mx_schedule.specs.Schedule.{IsScheduler}
+use Rattle.cmd_answer.specs.Delivery.{Delivered}
+use Rattle.law_schedule.specs.Schedule.{IsScheduler}
 use Rattle.mx_tasks.specs.Places.{lower, upper}
 use Rattle.mx_tasks.specs.Images.{shared_code, shared_data}
-use Rattle.mx_sharing.specs.Runs.{shared_answer, sharing_protocol}
-use Rattle.mx_task_laws.specs.Sources.{IsSharingText}
-use Rattle.mx_task_laws.proofs.Texts.{texts_mean}
-use Rattle.mx_asked.specs.Commands.{Command}
+use Rattle.cmd_share.specs.Runs.{shared_answer, sharing_protocol}
+use Rattle.law_tasks.specs.Sources.{IsSharingText}
+use Rattle.law_tasks.proofs.Texts.{texts_mean}
+use Rattle.cmd_table.specs.Commands.{Command}
 use Rattle.mx_command.specs.Protocols.{Layouts, wrong_by, wrong_with, unless_wrong, unless_far, upper_layout, assembled_protocol, pair_protocol, protocol_of}
 use Rattle.mx_command.specs.Accepted.{Held}
 use Rattle.mx_command.specs.Pairs.{AcceptedPair, pair_program, PairHeadline}

@@ -14,22 +14,22 @@ use Rattle.mx_layout.specs.Overlong.{Overlong, overlong}
 use Rattle.mx_link.specs.Origins.{from_target}
 use Rattle.mx_link.specs.Linked.{linked_code, linked_data}
 use Rattle.mx_reorg.specs.Greedy.{IsGreedy}
-use Rattle.mx_schedule.specs.Schedule.{IsScheduler}
-use Rattle.mx_schedule.proofs.Layouts.{laid_out, layout_unique}
-use Rattle.mx_schedule.proofs.Kept.{kept_greedy, overlong_layout}
+use Rattle.law_schedule.specs.Schedule.{IsScheduler}
+use Rattle.law_schedule.proofs.Layouts.{laid_out, layout_unique}
+use Rattle.law_schedule.proofs.Kept.{kept_greedy, overlong_layout}
 use Rattle.mx_lines.specs.declared.Fault.{Fault}
 use Rattle.mx_asm.specs.Texts.{source_of, text_fault, ReadsAs}
 use Rattle.mx_asm.proofs.Sourced.{faultless_source, faultless_words}
-use Rattle.mx_meaning.specs.Boards.{board}
-use Rattle.mx_answer.specs.declared.Status.TheVariants.{Refused}
-use Rattle.mx_answer.specs.Answer.{prints, text_line}
-use Rattle.mx_answer.specs.Protocol.{Protocol, Answers}
+use Rattle.mx_isa.specs.Board.{board}
+use Rattle.cmd_answer.specs.declared.Status.TheVariants.{Refused}
+use Rattle.cmd_answer.specs.Answer.{prints, text_line}
+use Rattle.cmd_answer.specs.Protocol.{Protocol, Answers}
 use Rattle.mx_tasks.specs.Places.{lower, upper}
 use Rattle.mx_tasks.specs.Images.{shared_code, shared_data}
 use Rattle.mx_tasks.specs.declared.sharing.Shared.{Shared}
 use Rattle.mx_tasks.specs.declared.sharing.ShareError.TheVariants as share
 use Rattle.mx_tasks.specs.Shared.{IsPlaced, IsShared, IsShareRefusal}
-use Rattle.mx_sharing.specs.Runs.{sharing_protocol}
+use Rattle.cmd_share.specs.Runs.{sharing_protocol}
 use Rattle.mx_command.specs.Protocols.{Layouts, of_program, overlong_text, wrong_by, wrong_with, unless_wrong, assembled_protocol, unless_far, moved, upper_layout, pair_code, pair_data, pair_protocol}
 use Rattle.mx_command.specs.Sharing.{IsFitting}
 

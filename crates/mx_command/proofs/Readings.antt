@@ -4,14 +4,14 @@
 use Rattle.std.proofs.Common.{ℕ, List}
 use Rattle.mx_isa.specs.declared.Place.{Place}
 use Rattle.mx_source.specs.SourceValue.{SourceValue}
-use Rattle.mx_answer.specs.declared.FileKind.{FileKind}
-use Rattle.mx_answer.specs.declared.FileKind.TheVariants.{Source}
-use Rattle.mx_answer.specs.declared.Reply.{Reply}
-use Rattle.mx_answer.specs.Answer.{Answer}
+use Rattle.cmd_answer.specs.declared.FileKind.{FileKind}
+use Rattle.cmd_answer.specs.declared.FileKind.TheVariants.{Source}
+use Rattle.cmd_answer.specs.declared.Reply.{Reply}
+use Rattle.cmd_answer.specs.Answer.{Answer}
 use Rattle.mx_io.specs.Shelves.{Told, Counts}
-use Rattle.mx_answer.specs.Protocol.{Protocol, Reads, Performed}
-use Rattle.mx_answer.specs.Replies.{reply_answer}
-use Rattle.mx_schedule.specs.Schedule.{IsScheduler}
+use Rattle.cmd_answer.specs.Protocol.{Protocol, Reads, Performed}
+use Rattle.cmd_answer.specs.Replies.{reply_answer}
+use Rattle.law_schedule.specs.Schedule.{IsScheduler}
 use Rattle.mx_command.specs.Protocols.{Layouts, AfterLayout, linked_protocol, assembled_protocol}
 
 -- a file

@@ -9,15 +9,15 @@ use Rattle.mx_link.specs.declared.Linked.{Linked}
 use Rattle.mx_link.specs.Origins.{from_nowhere}
 use Rattle.mx_link.specs.Linked.{IsLinked, link_map}
 use Rattle.mx_reorg.specs.Greedy.{IsGreedy}
-use Rattle.mx_answer.specs.declared.Status.TheVariants.{Refused}
-use Rattle.mx_answer.specs.Answer.{prints}
-use Rattle.mx_answer.specs.Protocol.{Protocol, Answers}
-use Rattle.mx_simulate.specs.Machines.{Files}
-use Rattle.mx_sessions.specs.declared.SessionLimits.{SessionLimits}
-use Rattle.mx_sessions.specs.Sessions.{session_protocol}
-use Rattle.mx_meaning.specs.Boards.{board}
-use Rattle.mx_schedule.specs.Schedule.{IsScheduler}
-use Rattle.mx_schedule.proofs.Kept.{linked_sites, overlong_sites}
+use Rattle.cmd_answer.specs.declared.Status.TheVariants.{Refused}
+use Rattle.cmd_answer.specs.Answer.{prints}
+use Rattle.cmd_answer.specs.Protocol.{Protocol, Answers}
+use Rattle.cmd_simulate.specs.Machines.{Files}
+use Rattle.cmd_debug.specs.declared.SessionLimits.{SessionLimits}
+use Rattle.cmd_debug.specs.Sessions.{session_protocol}
+use Rattle.mx_isa.specs.Board.{board}
+use Rattle.law_schedule.specs.Schedule.{IsScheduler}
+use Rattle.law_schedule.proofs.Kept.{linked_sites, overlong_sites}
 use Rattle.mx_command.specs.Protocols.{overlong_line, unless_unlabelled, unless_overlong, no_label_line, statement_named, Layouts, stopped_protocol, labelled_protocol}
 
 module _ (layout_of : Layouts) (is : IsScheduler layout_of) (source : SourceValue) (label : List ℕ) (files : Files) (limits : SessionLimits) where

@@ -20,21 +20,21 @@ use Rattle.mx_turn.specs.Program.{program_of}
 use Rattle.mx_lines.specs.Operands.{label_named}
 use Rattle.mx_asm.specs.Texts.{source_of}
 use Rattle.mx_asm.proofs.Sourced.{faultless_source}
-use Rattle.mx_meaning.specs.Boards.{board}
-use Rattle.mx_end_to_end.specs.EndToEnd.{IsUnstuck}
-use Rattle.mx_end_to_end.proofs.Accepted.{text_laid}
+use Rattle.mx_isa.specs.Board.{board}
+use Rattle.law_end_to_end.specs.EndToEnd.{IsUnstuck}
+use Rattle.law_end_to_end.proofs.Accepted.{text_laid}
 use Rattle.mx_debug.specs.Sessions.{session}
-use Rattle.mx_debug_laws.specs.Laws.{StopsAsMeant}
-use Rattle.mx_debug_laws.proofs.Whole.{as_meant}
-use Rattle.mx_sessions.specs.Sessions.{session_answer}
-use Rattle.mx_answer.specs.declared.FileKind.TheVariants.{Source}
-use Rattle.mx_answer.specs.declared.Status.{Status}
-use Rattle.mx_answer.specs.Answer.{Answer}
-use Rattle.mx_answer.specs.Protocol.{Protocol, resolved}
+use Rattle.law_debug.specs.Laws.{StopsAsMeant}
+use Rattle.law_debug.proofs.Whole.{as_meant}
+use Rattle.cmd_debug.specs.Sessions.{session_answer}
+use Rattle.cmd_answer.specs.declared.FileKind.TheVariants.{Source}
+use Rattle.cmd_answer.specs.declared.Status.{Status}
+use Rattle.cmd_answer.specs.Answer.{Answer}
+use Rattle.cmd_answer.specs.Protocol.{Protocol, resolved}
 use Rattle.mx_io.specs.Shelves.{Told}
-use Rattle.mx_answer.specs.Delivery.{Delivered}
-use Rattle.mx_schedule.specs.Schedule.{IsScheduler}
-use Rattle.mx_asked.specs.Commands.{Command}
+use Rattle.cmd_answer.specs.Delivery.{Delivered}
+use Rattle.law_schedule.specs.Schedule.{IsScheduler}
+use Rattle.cmd_table.specs.Commands.{Command}
 use Rattle.mx_command.specs.Protocols.{Layouts, unless_faulty, unless_overlong, unless_unlabelled, statement_at, stopped_protocol, labelled_protocol, debug_protocol, protocol_of}
 use Rattle.mx_command.specs.Accepted.{Held}
 use Rattle.mx_command.specs.Stops.{AcceptedStops, accepted_stops, accepted_session, StopsHeadline}

@@ -5,14 +5,14 @@ use Rattle.mx_squash.specs.Copies.{Site}
 use Rattle.mx_layout.specs.Layout.{IsLayout, blocks_in}
 use Rattle.mx_layout.specs.Overlong.{overlong}
 use Rattle.mx_reorg.specs.Greedy.{IsGreedy}
-use Rattle.mx_answer.specs.declared.FileKind.{FileKind}
-use Rattle.mx_answer.specs.declared.FileKind.TheVariants.{Source, Interrupts, Input}
-use Rattle.mx_answer.specs.Files.{limit_of}
-use Rattle.mx_simulate.specs.declared.Limits.{Limits}
-use Rattle.mx_simulate.specs.Machines.{Files}
+use Rattle.cmd_answer.specs.declared.FileKind.{FileKind}
+use Rattle.cmd_answer.specs.declared.FileKind.TheVariants.{Source, Interrupts, Input}
+use Rattle.cmd_answer.specs.Files.{limit_of}
+use Rattle.cmd_simulate.specs.declared.Limits.{Limits}
+use Rattle.cmd_simulate.specs.Machines.{Files}
 use Rattle.mx_asm.specs.Texts.{source_of, text_fault}
-use Rattle.mx_meaning.specs.Boards.{board}
-use Rattle.mx_asked.specs.Commands.{Command, Run}
+use Rattle.mx_isa.specs.Board.{board}
+use Rattle.cmd_table.specs.Commands.{Command, Run}
 
 -- what each name holds
 abbrev pub Held : Type 0

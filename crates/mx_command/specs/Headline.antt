@@ -4,20 +4,20 @@ use Rattle.mx_io.specs.Counts.{Rose, with_more}
 use Rattle.mx_io.specs.Shelves.{Counts}
 use Rattle.mx_source.specs.SourceValue.{SourceValue}
 use Rattle.mx_source.specs.Meaning.{Run, meaning, HaltsIn}
-use Rattle.mx_order.specs.Laws.{IsPrefix}
+use Rattle.law_order.specs.Laws.{IsPrefix}
 use Rattle.mx_link.specs.Origins.{from_target}
 use Rattle.mx_link.specs.Linked.{linked_code}
 use Rattle.mx_turn.specs.Run.{MachineRun, bound}
 use Rattle.mx_report.specs.Driving.{trace_text}
-use Rattle.mx_simulate.specs.Simulated.{run_text}
-use Rattle.mx_answer.specs.declared.Status.{Status}
-use Rattle.mx_answer.specs.declared.Status.TheVariants.{Halted, OutOfBudget, ReadFault, WriteFault}
+use Rattle.cmd_simulate.specs.Simulated.{run_text}
+use Rattle.cmd_answer.specs.declared.Status.{Status}
+use Rattle.cmd_answer.specs.declared.Status.TheVariants.{Halted, OutOfBudget, ReadFault, WriteFault}
 use Rattle.mx_asm.specs.Texts.{source_of}
-use Rattle.mx_meaning.specs.Boards.{board}
-use Rattle.mx_end_to_end.specs.EndToEnd.{source_program, source_run, IsUnstuck, EndsAsMeant}
-use Rattle.mx_asked.specs.Commands.{Command}
+use Rattle.mx_isa.specs.Board.{board}
+use Rattle.law_end_to_end.specs.EndToEnd.{source_program, source_run, IsUnstuck, EndsAsMeant}
+use Rattle.cmd_table.specs.Commands.{Command}
 use Rattle.mx_command.specs.Accepted.{Held, Accepted}
-use Rattle.mx_link_laws.specs.Matches.{block_ahead}
+use Rattle.law_link.specs.Matches.{block_ahead}
 
 -- no count of faults rose: of the shelf in reading and in writing, and of the sink
 pub record AreQuiet (counts counts' : Counts) (writes writes' puts puts' : ℕ) : Type 0 where

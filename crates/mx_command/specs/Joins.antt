@@ -4,14 +4,14 @@ use Rattle.mx_io.specs.Counts.{with_more}
 use Rattle.mx_source.specs.declared.Label.{Label}
 use Rattle.mx_source.specs.Printed.{printed}
 use Rattle.mx_source.specs.Meaning.{meaning}
-use Rattle.mx_answer.specs.declared.FileKind.TheVariants.{Module}
-use Rattle.mx_answer.specs.declared.Status.{Status}
-use Rattle.mx_answer.specs.declared.Status.TheVariants.{Done}
+use Rattle.cmd_answer.specs.declared.FileKind.TheVariants.{Module}
+use Rattle.cmd_answer.specs.declared.Status.{Status}
+use Rattle.cmd_answer.specs.declared.Status.TheVariants.{Done}
 use Rattle.mx_asm.specs.Texts.{source_of}
 use Rattle.mx_asm.specs.Printable.{ReadsBack}
 use Rattle.mx_module.specs.Joined.{joined, join_fault}
-use Rattle.mx_meaning.specs.Boards.{board}
-use Rattle.mx_asked.specs.Commands.{Command, Join}
+use Rattle.mx_isa.specs.Board.{board}
+use Rattle.cmd_table.specs.Commands.{Command, Join}
 use Rattle.mx_command.specs.Accepted.{Held, Holds}
 
 -- each name holds its text, the first of them as the module of this number

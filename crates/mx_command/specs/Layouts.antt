@@ -4,10 +4,10 @@ use Rattle.mx_source.specs.SourceValue.{SourceValue}
 use Rattle.mx_squash.specs.Copies.{Site}
 use Rattle.mx_layout.specs.Layout.{IsLayout}
 use Rattle.mx_reorg.specs.Greedy.{IsGreedy}
-use Rattle.mx_meaning.specs.Boards.{board}
-use Rattle.mx_answer.specs.Protocol.{Protocol}
-use Rattle.mx_schedule.proofs.Scheduler.{scheduler}
-use Rattle.mx_asked.specs.Commands.{Command}
+use Rattle.mx_isa.specs.Board.{board}
+use Rattle.cmd_answer.specs.Protocol.{Protocol}
+use Rattle.law_schedule.proofs.Scheduler.{scheduler}
+use Rattle.cmd_table.specs.Commands.{Command}
 use Rattle.mx_command.specs.Protocols.{Layouts, protocol_of}
 
 -- the layout of each source by greedy plans at the board's place (`greedy_layout_is`)

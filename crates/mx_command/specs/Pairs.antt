@@ -4,18 +4,18 @@ use Rattle.mx_io.specs.Counts.{with_more}
 use Rattle.mx_squash.specs.Copies.{Site}
 use Rattle.mx_turn.specs.Program.{Program}
 use Rattle.mx_turn.specs.Run.{MachineRun, run_of}
-use Rattle.mx_link_laws.specs.Runs.{Linking}
+use Rattle.law_link.specs.Runs.{Linking}
 use Rattle.mx_tasks.specs.Places.{lower, upper}
 use Rattle.mx_tasks.specs.Sharing.{task_console}
-use Rattle.mx_task_laws.specs.Meant.{shared_program, MeanTheirSources}
-use Rattle.mx_task_laws.specs.Sources.{IsSharingText, linked_text, IsUnstuckAt}
-use Rattle.mx_sharing.specs.Runs.{shared_text}
-use Rattle.mx_answer.specs.declared.FileKind.TheVariants.{First, Second}
-use Rattle.mx_answer.specs.declared.Status.{Status}
-use Rattle.mx_answer.specs.declared.Status.TheVariants.{Halted, OutOfBudget}
-use Rattle.mx_asked.specs.Commands.{Command, Share}
+use Rattle.law_tasks.specs.Meant.{shared_program, MeanTheirSources}
+use Rattle.law_tasks.specs.Sources.{IsSharingText, linked_text, IsUnstuckAt}
+use Rattle.cmd_share.specs.Runs.{shared_text}
+use Rattle.cmd_answer.specs.declared.FileKind.TheVariants.{First, Second}
+use Rattle.cmd_answer.specs.declared.Status.{Status}
+use Rattle.cmd_answer.specs.declared.Status.TheVariants.{Halted, OutOfBudget}
+use Rattle.cmd_table.specs.Commands.{Command, Share}
 use Rattle.mx_command.specs.Accepted.{Held, Holds, AreRequests}
-use Rattle.mx_link_laws.specs.Matches.{block_ahead}
+use Rattle.law_link.specs.Matches.{block_ahead}
 
 -- `share` is asked for, of two texts that may share the machine, and the interrupt file that is named can be used
 pub record AcceptedPair (asked : Option Command) (held : Held) : Type 0 where

@@ -12,19 +12,19 @@ use Rattle.mx_layout.specs.Layout.{blocks_in}
 use Rattle.mx_layout.specs.Overlong.{Overlong, overlong}
 use Rattle.mx_link.specs.Origins.{from_target, from_nowhere}
 use Rattle.mx_link.specs.Linked.{link_map, linked_code, linked_data, links_of}
-use Rattle.mx_listing.specs.Listing.{layout_listing}
-use Rattle.mx_lengths.specs.Lengths.{lengths_text}
-use Rattle.mx_soak.specs.Soak.{soak_text}
+use Rattle.cmd_list.specs.Listing.{layout_listing}
+use Rattle.cmd_best.specs.Lengths.{lengths_text}
+use Rattle.cmd_soak.specs.Soak.{soak_text}
 use Rattle.mx_image.specs.declared.ImageError.{ImageError}
 use Rattle.mx_image.specs.declared.ImageError.TheVariants as image
 use Rattle.mx_image.specs.Contents.{Contents}
 use Rattle.mx_image.specs.Files.{file_refusal, file_in, file_bytes}
-use Rattle.mx_answer.specs.declared.FileKind.TheVariants.{Source, First, Second, Module, Image}
-use Rattle.mx_answer.specs.declared.Status.TheVariants.{Done, Refused, BadImage}
-use Rattle.mx_answer.specs.Answer.{Answer, prints, writes, text_line, usage}
-use Rattle.mx_answer.specs.Protocol.{Protocol, Answers, Reads}
-use Rattle.mx_simulate.specs.declared.Limits.{Limits}
-use Rattle.mx_simulate.specs.Machines.{Files, input_protocol, machine_protocol}
+use Rattle.cmd_answer.specs.declared.FileKind.TheVariants.{Source, First, Second, Module, Image}
+use Rattle.cmd_answer.specs.declared.Status.TheVariants.{Done, Refused, BadImage}
+use Rattle.cmd_answer.specs.Answer.{Answer, prints, writes, text_line, usage}
+use Rattle.cmd_answer.specs.Protocol.{Protocol, Answers, Reads}
+use Rattle.cmd_simulate.specs.declared.Limits.{Limits}
+use Rattle.cmd_simulate.specs.Machines.{Files, input_protocol, machine_protocol}
 use Rattle.mx_lines.specs.declared.Fault.{Fault}
 use Rattle.mx_lines.specs.declared.Fault.TheVariants as fault
 use Rattle.mx_lines.specs.Operands.{label_named}
@@ -33,14 +33,14 @@ use Rattle.mx_module.specs.declared.JoinFault.{JoinFault}
 use Rattle.mx_module.specs.declared.JoinFault.TheVariants.{BadName, NotDefined, DuplicateExport, NoExport, LocalClash, Line}
 use Rattle.mx_module.specs.LinkFaults.{Refusal}
 use Rattle.mx_module.specs.Joined.{joined, join_fault}
-use Rattle.mx_meaning.specs.Boards.{board}
-use Rattle.mx_meaning.specs.Told.{meaning_answer}
-use Rattle.mx_sessions.specs.declared.SessionLimits.{SessionLimits}
-use Rattle.mx_sessions.specs.Sessions.{session_protocol}
+use Rattle.mx_isa.specs.Board.{board}
+use Rattle.cmd_meaning.specs.Told.{meaning_answer}
+use Rattle.cmd_debug.specs.declared.SessionLimits.{SessionLimits}
+use Rattle.cmd_debug.specs.Sessions.{session_protocol}
 use Rattle.mx_tasks.specs.Places.{lower, upper}
 use Rattle.mx_tasks.specs.Images.{shared_code, shared_data}
-use Rattle.mx_sharing.specs.Runs.{sharing_protocol}
-use Rattle.mx_asked.specs.Commands.{Command, Run, Meaning, Build, Exec, Listing, Gen, Soak, Migrate, Share, Debug, Best, Join}
+use Rattle.cmd_share.specs.Runs.{sharing_protocol}
+use Rattle.cmd_table.specs.Commands.{Command, Run, Meaning, Build, Exec, Listing, Gen, Soak, Migrate, Share, Debug, Best, Join}
 
 abbrev pub fault_text : Fault → List ℕ
 fault_text fault.BadByte = codes "F1 BadByte"

@@ -1,8 +1,8 @@
 -- How the reply to a command ends.
 use Rattle.std.specs.Prelude.{◌≡◌, ◌⊎◌, Bool, true, false}
-use Rattle.mx_answer.specs.declared.Status.{Status}
-use Rattle.mx_answer.specs.declared.Status.TheVariants.{Usage, ReadFault, WriteFault, Memory}
-use Rattle.mx_answer.specs.Answer.{Answer}
+use Rattle.cmd_answer.specs.declared.Status.{Status}
+use Rattle.cmd_answer.specs.declared.Status.TheVariants.{Usage, ReadFault, WriteFault, Memory}
+use Rattle.cmd_answer.specs.Answer.{Answer}
 
 -- a status that words which ask for nothing, a fault outside and want of memory do not give
 abbrev pub is_answered : Status → Bool

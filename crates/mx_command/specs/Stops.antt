@@ -5,21 +5,21 @@ use Rattle.mx_squash.specs.Copies.{Site}
 use Rattle.mx_layout.specs.Layout.{IsLayout, blocks_in}
 use Rattle.mx_layout.specs.Overlong.{overlong}
 use Rattle.mx_reorg.specs.Greedy.{IsGreedy}
-use Rattle.mx_answer.specs.declared.FileKind.TheVariants.{Source}
-use Rattle.mx_answer.specs.declared.Status.{Status}
-use Rattle.mx_simulate.specs.Machines.{Files}
+use Rattle.cmd_answer.specs.declared.FileKind.TheVariants.{Source}
+use Rattle.cmd_answer.specs.declared.Status.{Status}
+use Rattle.cmd_simulate.specs.Machines.{Files}
 use Rattle.mx_asm.specs.Texts.{source_of, text_fault}
-use Rattle.mx_meaning.specs.Boards.{board}
-use Rattle.mx_end_to_end.specs.EndToEnd.{IsUnstuck}
+use Rattle.mx_isa.specs.Board.{board}
+use Rattle.law_end_to_end.specs.EndToEnd.{IsUnstuck}
 use Rattle.mx_debug.specs.Sessions.{Session, stops_of, ending_of, console_of}
-use Rattle.mx_debug_laws.specs.Laws.{Debugged, session_of, StopsAsMeant}
-use Rattle.mx_sessions.specs.declared.SessionLimits.{SessionLimits}
-use Rattle.mx_sessions.specs.Sessions.{IsAsked, status_of}
-use Rattle.mx_sessions.specs.Texts.{session_text}
-use Rattle.mx_asked.specs.Commands.{Command, Debug}
+use Rattle.law_debug.specs.Laws.{Debugged, session_of, StopsAsMeant}
+use Rattle.cmd_debug.specs.declared.SessionLimits.{SessionLimits}
+use Rattle.cmd_debug.specs.Sessions.{IsAsked, status_of}
+use Rattle.cmd_debug.specs.Texts.{session_text}
+use Rattle.cmd_table.specs.Commands.{Command, Debug}
 use Rattle.mx_command.specs.Protocols.{statement_named}
 use Rattle.mx_command.specs.Accepted.{Held, Holds, AreRequests, IsInput}
-use Rattle.mx_link_laws.specs.Matches.{block_ahead}
+use Rattle.law_link.specs.Matches.{block_ahead}
 
 -- `debug` is asked for, of a text without faults that has a statement at this code label and in which no branch is overlong, and
 -- the other files that it names can be used

@@ -1,13 +1,13 @@
 //! The file that a command reads first.
 ghost use Rattle.std.specs.Prelude.{◌≡◌, ◌≤◌, length, IfOk, IfErr, List, ℕ};
-ghost use Rattle.mx_answer.specs.Files.{limit_of};
-ghost use Rattle.mx_answer.specs.Answer.{Answer};
+ghost use Rattle.cmd_answer.specs.Files.{limit_of};
+ghost use Rattle.cmd_answer.specs.Answer.{Answer};
 ghost use Rattle.mx_io.specs.Shelves.{Counts};
-ghost use Rattle.mx_answer.specs.Protocol.{Protocol, Reads, Performed};
-ghost use Rattle.mx_answer.specs.Replies.{reply_answer};
+ghost use Rattle.cmd_answer.specs.Protocol.{Protocol, Reads, Performed};
+ghost use Rattle.cmd_answer.specs.Replies.{reply_answer};
 ghost use Rattle.mx_command.specs.Replied.{IsReplied};
 
-use mx_answer::{FileKind, Reply, read_file};
+use cmd_answer::{FileKind, Reply, read_file};
 use mx_io::{Memory, Shelf};
 use std::alloc::Global;
 

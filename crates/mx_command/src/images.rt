@@ -2,18 +2,18 @@
 ghost use Rattle.std.specs.Prelude.{◌≡◌, ◌≢◌, ◌++◌, codes, IfOk, List, ℕ, Some, None};
 ghost use Rattle.mx_image.specs.Contents.{contents_of};
 ghost use Rattle.mx_image.specs.Files.{file_refusal, file_in, file_bytes};
-ghost use Rattle.mx_answer.specs.Answer.{prints, writes};
+ghost use Rattle.cmd_answer.specs.Answer.{prints, writes};
 ghost use Rattle.mx_io.specs.Shelves.{Counts};
-ghost use Rattle.mx_answer.specs.Protocol.{Answers, Reads, Performed};
-ghost use Rattle.mx_answer.specs.Replies.{reply_answer};
-ghost use Rattle.mx_asked.specs.Seen.{seen_files};
+ghost use Rattle.cmd_answer.specs.Protocol.{Answers, Reads, Performed};
+ghost use Rattle.cmd_answer.specs.Replies.{reply_answer};
+ghost use Rattle.cmd_table.specs.Seen.{seen_files};
 ghost use Rattle.mx_command.specs.Protocols.{image_text, image_line, unless_refused, exec_protocol, migrate_answer};
 
 use crate::files::read_named;
-use mx_answer::{FileKind, Reply, Status, line_reply};
+use cmd_answer::{FileKind, Reply, Status, line_reply};
+use cmd_simulate::{Limits, RunFiles, run_image};
 use mx_image::{ImageError, read_file as read_image_file, write_file};
 use mx_io::{Memory, Shelf};
-use mx_simulate::{Limits, RunFiles, run_image};
 use std::alloc::Global;
 
 // The reply to bytes that are no image file, with the place.

@@ -1,16 +1,16 @@
 //! The reply of the command that joins modules to one source.
 ghost use Rattle.std.specs.Prelude.{◌≡◌, ◌≤◌, [], length, IfOk, IfErr, List, ℕ};
-ghost use Rattle.mx_answer.specs.Answer.{prints};
+ghost use Rattle.cmd_answer.specs.Answer.{prints};
 ghost use Rattle.mx_io.specs.Shelves.{Counts};
-ghost use Rattle.mx_answer.specs.Protocol.{Performed};
-ghost use Rattle.mx_answer.specs.Replies.{reply_answer};
-ghost use Rattle.mx_words.specs.Command.{texts};
+ghost use Rattle.cmd_answer.specs.Protocol.{Performed};
+ghost use Rattle.cmd_answer.specs.Replies.{reply_answer};
+ghost use Rattle.cmd_line.specs.Command.{texts};
 ghost use Rattle.mx_command.specs.Protocols.{join_fault_text, refusal_line, join_answer, modules_protocol};
 ghost use Rattle.mx_command.specs.Replied.{IsReplied};
 
 use crate::files::read_named;
 use crate::sources::fault_text;
-use mx_answer::{FileKind, Reply, Status, line_reply};
+use cmd_answer::{FileKind, Reply, Status, line_reply};
 use mx_io::{Memory, Shelf};
 use mx_module::{JoinError, JoinFault, Joiner};
 use std::alloc::Global;

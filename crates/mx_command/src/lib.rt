@@ -12,6 +12,6 @@ mod sourced;
 mod sources;
 mod top;
 
+pub use cmd_answer::Status;
 pub use laws::greedy_layout_is;
-pub use mx_answer::Status;
 pub use top::command;

@@ -2,14 +2,14 @@
 ghost use Rattle.std.specs.Prelude.{◌≡◌, ◌≤◌, ◌⊎◌, IfOk, List, ℕ, Some, None, map, string_bytes};
 ghost use Rattle.mx_source.specs.Printed.{printed};
 ghost use Rattle.mx_gen.specs.Generated.{generated};
-ghost use Rattle.mx_soak.specs.Soak.{soak_text};
-ghost use Rattle.mx_answer.specs.Answer.{prints, usage};
+ghost use Rattle.cmd_soak.specs.Soak.{soak_text};
+ghost use Rattle.cmd_answer.specs.Answer.{prints, usage};
 ghost use Rattle.mx_io.specs.Shelves.{Counts};
-ghost use Rattle.mx_answer.specs.Protocol.{Performed};
-ghost use Rattle.mx_answer.specs.Replies.{reply_answer};
-ghost use Rattle.mx_asked.specs.Seen.{seen_command, IsAllowed};
-ghost use Rattle.mx_asked.specs.Asked.{command_of};
-ghost use Rattle.mx_schedule.specs.Schedule.{IsScheduler};
+ghost use Rattle.cmd_answer.specs.Protocol.{Performed};
+ghost use Rattle.cmd_answer.specs.Replies.{reply_answer};
+ghost use Rattle.cmd_table.specs.Seen.{seen_command, IsAllowed};
+ghost use Rattle.cmd_table.specs.Asked.{command_of};
+ghost use Rattle.law_schedule.specs.Schedule.{IsScheduler};
 ghost use Rattle.mx_command.specs.Protocols.{Layouts, protocol_of};
 ghost use Rattle.mx_command.specs.Replied.{IsReplied};
 
@@ -18,11 +18,11 @@ use crate::images::{exec_reply, migrate_reply};
 use crate::joined::join_reply;
 use crate::shared::share_reply;
 use crate::sourced::{best_reply, build_reply, list_reply, run_reply, told_reply};
-use mx_answer::{Reply, Status, line_reply};
-use mx_asked::{Command, read_command};
+use cmd_answer::{Reply, Status, line_reply};
+use cmd_soak::soak;
+use cmd_table::{Command, read_command};
 use mx_gen::generate;
 use mx_io::{Memory, Shelf};
-use mx_soak::soak;
 use std::alloc::Global;
 
 /// The reply to `gen SEED COUNT`.

@@ -3,27 +3,27 @@ ghost use Rattle.std.specs.Prelude.{◌≡◌, ◌≤◌, length, IfOk, List, �
 ghost use Rattle.mx_link.specs.Origins.{from_target};
 ghost use Rattle.mx_link.specs.Linked.{IsLinked};
 ghost use Rattle.mx_reorg.specs.Greedy.{IsGreedy};
-ghost use Rattle.mx_meaning.specs.Boards.{board};
+ghost use Rattle.mx_isa.specs.Board.{board};
 ghost use Rattle.mx_image.specs.Files.{file_bytes};
-ghost use Rattle.mx_answer.specs.Answer.{writes};
+ghost use Rattle.cmd_answer.specs.Answer.{writes};
 ghost use Rattle.mx_io.specs.Shelves.{Counts};
-ghost use Rattle.mx_answer.specs.Protocol.{Answers, Reads, Performed};
-ghost use Rattle.mx_answer.specs.Replies.{reply_answer};
-ghost use Rattle.mx_asked.specs.Seen.{seen_files};
-ghost use Rattle.mx_schedule.specs.Schedule.{IsScheduler};
+ghost use Rattle.cmd_answer.specs.Protocol.{Answers, Reads, Performed};
+ghost use Rattle.cmd_answer.specs.Replies.{reply_answer};
+ghost use Rattle.cmd_table.specs.Seen.{seen_files};
+ghost use Rattle.law_schedule.specs.Schedule.{IsScheduler};
 ghost use Rattle.mx_command.specs.Protocols.{Layouts, linked_protocol, run_protocol, meaning_protocol, build_protocol, list_protocol, best_answer};
 ghost use Rattle.mx_command.specs.Replied.{IsReplied};
 
 use crate::files::read_named;
 use crate::sources::{Program, assembled, read_program};
-use mx_answer::{FileKind, Reply, Status};
+use cmd_answer::{FileKind, Reply, Status};
+use cmd_best::lengths_text;
+use cmd_list::listing;
+use cmd_meaning::meaning_reply;
+use cmd_simulate::{Limits, RunFiles, read_input, run_image};
 use mx_image::{ImageFile, write_file};
 use mx_io::{Memory, Shelf};
-use mx_lengths::lengths_text;
 use mx_link::Linked;
-use mx_listing::listing;
-use mx_meaning::meaning_reply;
-use mx_simulate::{Limits, RunFiles, read_input, run_image};
 use mx_source::Source;
 use std::alloc::Global;
 

@@ -1,11 +1,11 @@
 //! The top call.
 ghost use Rattle.std.specs.Prelude.{◌≡◌, ◌≢◌, ◌⊎◌, true, false, map, string_bytes, List, ℕ, None};
 ghost use Rattle.mx_io.specs.Counts.{Rose, with_more};
-ghost use Rattle.mx_answer.specs.declared.FileKind.{FileKind};
-ghost use Rattle.mx_answer.specs.Answer.{Answer, failed_answer};
-ghost use Rattle.mx_answer.specs.Protocol.{resolved, Performed, Faulted};
-ghost use Rattle.mx_answer.specs.Delivery.{Delivered, PutsPrefix};
-ghost use Rattle.mx_asked.specs.Asked.{command_of};
+ghost use Rattle.cmd_answer.specs.declared.FileKind.{FileKind};
+ghost use Rattle.cmd_answer.specs.Answer.{Answer, failed_answer};
+ghost use Rattle.cmd_answer.specs.Protocol.{resolved, Performed, Faulted};
+ghost use Rattle.cmd_answer.specs.Delivery.{Delivered, PutsPrefix};
+ghost use Rattle.cmd_table.specs.Asked.{command_of};
 ghost use Rattle.mx_command.specs.Layouts.{command_protocol};
 ghost use Rattle.mx_command.specs.Accepted.{Accepted};
 ghost use Rattle.mx_command.specs.Headline.{AreQuiet, IsNoFault, Headline};
@@ -15,7 +15,7 @@ ghost use Rattle.mx_command.specs.Joins.{AcceptedModules, JoinHeadline};
 ghost use Rattle.mx_command.specs.Writing.{writes_a_file};
 
 use crate::reply::reply_to;
-use mx_answer::{Status, finish};
+use cmd_answer::{Status, finish};
 use mx_io::{Shelf, Sink};
 use std::alloc::Global;
 

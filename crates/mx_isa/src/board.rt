@@ -31,20 +31,20 @@ pub const MAX_CODE_WORDS: usize = 60_000;
 /// How many data words an image has at most: those of user data.
 pub const MAX_DATA_WORDS: usize = 65_280;
 
-impl Place {
-    /// The place of the board.
-    pub const BOARD: Place = Place {
-        code: CODE_BASE,
-        user_data: DATA_BASE,
-        end: DATA_END,
-        console: CONSOLE,
-        input: INPUT,
-    };
+/// The place of the board.
+pub const BOARD: Place = Place {
+    code: CODE_BASE,
+    user_data: DATA_BASE,
+    end: DATA_END,
+    console: CONSOLE,
+    input: INPUT,
+};
 
+impl Place {
     /// The place of the board.
     pub fn board() -> Place
         ensures { result ≡ board }
     {
-        Place::BOARD
+        BOARD
     }
 }

@@ -1,10 +1,10 @@
 //! Runs the command for people that the words of its command line ask for, on the system's files and its standard output.
 #![tactic(auto)]
 
-use mx_answer::Status;
+use cmd_answer::Status;
+use lab_command::lab;
+use lab_watch::OnTerminal;
 use mx_io::{RealShelf, RealSink};
-use mx_laboratory::lab;
-use mx_watch::OnTerminal;
 use std::env;
 use std::io::ErrorKind;
 use std::process::ExitCode;

@@ -1,7 +1,7 @@
 //! Runs the command that the words of its command line ask for, on the system's files and its standard output.
 #![tactic(auto)]
 
-use mx_answer::Status;
+use cmd_answer::Status;
 use mx_command::command;
 use mx_io::{RealShelf, RealSink};
 use std::env;

@@ -7,7 +7,7 @@ use Rattle.mx_turn.specs.Cycle.{start}
 use Rattle.mx_turn.specs.Program.{Program, memory_of}
 use Rattle.mx_turn.specs.Run.{is_requested, bits, console_after}
 use Rattle.mx_report.proofs.Runs.{one_more_byte}
-use Rattle.mx_interrupts.specs.Saves.{takes_in}
+use Rattle.law_interrupts.specs.Saves.{takes_in}
 use Rattle.mx_tasks.specs.Sharing.{current_next, task_console, first_is_current}
 use Rattle.mx_tasks.specs.Current.{taken_before, is_even, is_current, sent_in}
 use Rattle.mx_tasks.proofs.Driven.{next_runs, next_sent, current_in}

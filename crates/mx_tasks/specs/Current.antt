@@ -3,7 +3,7 @@ use Rattle.std.specs.Prelude.{◌≡◌, ℕ, zero, suc, ◌+◌, ◌%◌, eqb, 
 use Rattle.mx_turn.specs.Counted.{one}
 use Rattle.mx_turn.specs.Program.{Program, answer_after}
 use Rattle.mx_turn.specs.Run.{is_requested, bits, console_after}
-use Rattle.mx_interrupts.specs.Saves.{takes_in}
+use Rattle.law_interrupts.specs.Saves.{takes_in}
 use Rattle.mx_tasks.specs.Sharing.{task_console, first_is_current}
 
 -- the number of cycles before cycle n in which an interrupt was taken

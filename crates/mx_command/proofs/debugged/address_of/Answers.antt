@@ -2,8 +2,8 @@ use Rattle.std.proofs.Common.{◌≡◌, ℕ, List, suc, length, sym, ap, ◌∙
 use Rattle.std.specs.Prelude.{slice_index_or}
 use Rattle.mx_link.specs.Origins.{from_nowhere}
 use Rattle.mx_link.specs.Linked.{link_map, links_of}
-use Rattle.mx_link_laws.proofs.Results.{link_at}
-use Rattle.mx_meaning.specs.Boards.{board}
+use Rattle.law_link.proofs.Results.{link_at}
+use Rattle.mx_isa.specs.Board.{board}
 use Rattle.mx_command.proofs.Links.{code_count, link_between, links_count}
 use Rattle.mx_command.proofs.debugged.address_of.Goals as goal
 

@@ -1,10 +1,10 @@
 use Rattle.std.proofs.Common.{◌≡◌, ℕ, List, IfOk, IfErr, subst}
-use Rattle.mx_answer.specs.declared.FileKind.TheVariants.{Source}
-use Rattle.mx_answer.specs.Answer.{Answer}
+use Rattle.cmd_answer.specs.declared.FileKind.TheVariants.{Source}
+use Rattle.cmd_answer.specs.Answer.{Answer}
 use Rattle.mx_io.specs.Shelves.{Told, Counts}
-use Rattle.mx_answer.specs.Protocol.{Protocol, Reads, Performed}
-use Rattle.mx_answer.specs.Replies.{reply_answer}
-use Rattle.mx_asked.specs.Seen.{seen_files}
+use Rattle.cmd_answer.specs.Protocol.{Protocol, Reads, Performed}
+use Rattle.cmd_answer.specs.Replies.{reply_answer}
+use Rattle.cmd_table.specs.Seen.{seen_files}
 use Rattle.mx_command.specs.Protocols.{debug_protocol}
 use Rattle.mx_command.proofs.Readings.{FileGiven, FileRefused}
 use Rattle.mx_command.proofs.debugged.debug_reply.Goals as goal

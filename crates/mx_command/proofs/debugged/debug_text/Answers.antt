@@ -3,9 +3,9 @@ use Rattle.mx_source.specs.SourceValue.{SourceValue}
 use Rattle.mx_lines.specs.declared.Fault.{Fault}
 use Rattle.mx_asm.specs.Texts.{source_of, text_fault}
 use Rattle.mx_io.specs.Shelves.{Told, Counts}
-use Rattle.mx_answer.specs.Protocol.{Protocol, Performed}
-use Rattle.mx_answer.specs.Replies.{reply_answer}
-use Rattle.mx_asked.specs.Seen.{seen_files}
+use Rattle.cmd_answer.specs.Protocol.{Protocol, Performed}
+use Rattle.cmd_answer.specs.Replies.{reply_answer}
+use Rattle.cmd_table.specs.Seen.{seen_files}
 use Rattle.mx_command.specs.Protocols.{unless_faulty, labelled_protocol, debug_protocol}
 use Rattle.mx_command.proofs.debugged.debug_text.Goals as goal
 

@@ -4,14 +4,14 @@ use Rattle.mx_layout.specs.Overlong.{Overlong, IsOverlong}
 use Rattle.mx_link.specs.Origins.{from_nowhere}
 use Rattle.mx_link.specs.Linked.{IsLinked, link_map}
 use Rattle.mx_reorg.specs.Greedy.{IsGreedy}
-use Rattle.mx_meaning.specs.Boards.{board}
-use Rattle.mx_answer.specs.declared.Status.TheVariants.{Refused}
-use Rattle.mx_answer.specs.Answer.{prints}
+use Rattle.mx_isa.specs.Board.{board}
+use Rattle.cmd_answer.specs.declared.Status.TheVariants.{Refused}
+use Rattle.cmd_answer.specs.Answer.{prints}
 use Rattle.mx_io.specs.Shelves.{Told, Counts}
-use Rattle.mx_answer.specs.Protocol.{Protocol, Answers, Performed}
-use Rattle.mx_answer.specs.Replies.{reply_answer}
-use Rattle.mx_sessions.specs.Sessions.{session_protocol}
-use Rattle.mx_asked.specs.Seen.{seen_files}
+use Rattle.cmd_answer.specs.Protocol.{Protocol, Answers, Performed}
+use Rattle.cmd_answer.specs.Replies.{reply_answer}
+use Rattle.cmd_debug.specs.Sessions.{session_protocol}
+use Rattle.cmd_table.specs.Seen.{seen_files}
 use Rattle.mx_command.specs.Protocols.{statement_named, overlong_line, labelled_protocol}
 use Rattle.mx_command.proofs.StoppedSources.{unlabelled, too_far, linked_plain}
 use Rattle.mx_command.proofs.debugged.labelled_reply.Goals as goal

@@ -2,7 +2,7 @@ use Rattle.mx_layout.specs.Layout.{IsLayout}
 use Rattle.mx_layout.specs.Overlong.{Overlong, IsOverlong}
 use Rattle.mx_validate.specs.Validity.{Valid}
 use Rattle.mx_reorg.specs.Greedy.{IsGreedy}
-use Rattle.mx_meaning.specs.Boards.{board}
+use Rattle.mx_isa.specs.Board.{board}
 use Rattle.mx_command.proofs.debugged.plain_source.Goals as goal
 
 pub returns-in_ok-overlong_reply-in-Err-Displacement-clause-refused : goal.returns-in_ok-overlong_reply-in-Err-Displacement-clause-refused

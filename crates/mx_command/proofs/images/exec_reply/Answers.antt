@@ -1,10 +1,10 @@
 use Rattle.std.proofs.Common.{◌≡◌, ℕ, List, IfOk, IfErr, option_map, subst}
-use Rattle.mx_answer.specs.declared.FileKind.TheVariants.{Image}
-use Rattle.mx_answer.specs.Answer.{Answer}
+use Rattle.cmd_answer.specs.declared.FileKind.TheVariants.{Image}
+use Rattle.cmd_answer.specs.Answer.{Answer}
 use Rattle.mx_io.specs.Shelves.{Told, Counts}
-use Rattle.mx_answer.specs.Protocol.{Protocol, Reads, Performed}
-use Rattle.mx_answer.specs.Replies.{reply_answer}
-use Rattle.mx_simulate.specs.Machines.{Files}
+use Rattle.cmd_answer.specs.Protocol.{Protocol, Reads, Performed}
+use Rattle.cmd_answer.specs.Replies.{reply_answer}
+use Rattle.cmd_simulate.specs.Machines.{Files}
 use Rattle.mx_command.specs.Protocols.{exec_protocol}
 use Rattle.mx_command.proofs.Readings.{FileGiven, FileRefused}
 use Rattle.mx_command.proofs.images.exec_reply.Goals as goal

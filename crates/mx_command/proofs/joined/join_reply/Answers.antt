@@ -1,8 +1,8 @@
 use Rattle.std.proofs.Common.{[], IfErr, subst}
-use Rattle.mx_words.specs.Command.{texts}
+use Rattle.cmd_line.specs.Command.{texts}
 use Rattle.mx_io.specs.Shelves.{Told, Counts}
-use Rattle.mx_answer.specs.Protocol.{Protocol, Performed}
-use Rattle.mx_answer.specs.Replies.{reply_answer}
+use Rattle.cmd_answer.specs.Protocol.{Protocol, Performed}
+use Rattle.cmd_answer.specs.Replies.{reply_answer}
 use Rattle.mx_command.specs.Protocols.{modules_protocol}
 use Rattle.mx_command.proofs.Own.{performed_is_replied, answers_modules}
 use Rattle.mx_command.proofs.joined.join_reply.Goals as goal

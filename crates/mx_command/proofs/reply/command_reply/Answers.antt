@@ -1,13 +1,13 @@
 use Rattle.std.proofs.Common.{ℕ, List, [], subst}
 use Rattle.std.specs.Borrow.{Bor}
-use Rattle.mx_words.specs.Command.{texts}
-use Rattle.mx_asked.specs.declared.Command.TheVariants as given
+use Rattle.cmd_line.specs.Command.{texts}
+use Rattle.cmd_table.specs.declared.Command.TheVariants as given
 use Rattle.mx_io.specs.Shelves.{Told, Counts}
-use Rattle.mx_answer.specs.Protocol.{Performed}
-use Rattle.mx_answer.specs.Replies.{reply_answer}
-use Rattle.mx_schedule.proofs.Scheduler.{scheduler}
+use Rattle.cmd_answer.specs.Protocol.{Performed}
+use Rattle.cmd_answer.specs.Replies.{reply_answer}
+use Rattle.law_schedule.proofs.Scheduler.{scheduler}
 use Rattle.mx_command.specs.Protocols.{Layouts, modules_protocol}
-use Rattle.mx_schedule.proofs.Scheduler.{scheduler}
+use Rattle.law_schedule.proofs.Scheduler.{scheduler}
 use Rattle.mx_command.proofs.Own.{by_command, command_is_replied}
 use Rattle.mx_command.proofs.reply.command_reply.Goals as goal
 

@@ -1,10 +1,10 @@
 use Rattle.std.proofs.Common.{◌≡◌, Option, Some, option_map, map, string_bytes, subst, sym, ap, ◌∙◌}
 use Rattle.mx_io.specs.Shelves.{Told, Counts}
-use Rattle.mx_answer.specs.Protocol.{Performed}
-use Rattle.mx_answer.specs.Replies.{reply_answer}
-use Rattle.mx_asked.specs.Seen.{seen_command}
-use Rattle.mx_asked.specs.Commands.{Command}
-use Rattle.mx_asked.specs.Asked.{command_of}
+use Rattle.cmd_answer.specs.Protocol.{Performed}
+use Rattle.cmd_answer.specs.Replies.{reply_answer}
+use Rattle.cmd_table.specs.Seen.{seen_command}
+use Rattle.cmd_table.specs.Commands.{Command}
+use Rattle.cmd_table.specs.Asked.{command_of}
 use Rattle.mx_command.specs.Protocols.{protocol_of}
 use Rattle.mx_command.proofs.reply.reply_to.Goals as goal
 

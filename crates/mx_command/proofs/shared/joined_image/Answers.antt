@@ -1,5 +1,5 @@
 use Rattle.std.proofs.Common.{◌≡◌, ℕ, sym, ap, ◌∙◌, arith}
-use Rattle.mx_answer.specs.Protocol.{Answers}
+use Rattle.cmd_answer.specs.Protocol.{Answers}
 use Rattle.mx_tasks.specs.Places.{lower, upper}
 use Rattle.mx_command.proofs.Pairs.{fitting_few, pair_linked, pair_far}
 use Rattle.mx_command.proofs.shared.joined_image.Goals as goal

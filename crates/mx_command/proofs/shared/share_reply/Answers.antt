@@ -1,13 +1,13 @@
 use Rattle.std.proofs.Common.{◌≡◌, ℕ, List, Option, IfOk, IfErr, option_map, refl, subst, sym, ap, ◌∙◌}
 use Rattle.mx_source.specs.SourceValue.{SourceValue}
-use Rattle.mx_answer.specs.declared.FileKind.TheVariants.{First, Second}
-use Rattle.mx_answer.specs.Answer.{Answer}
+use Rattle.cmd_answer.specs.declared.FileKind.TheVariants.{First, Second}
+use Rattle.cmd_answer.specs.Answer.{Answer}
 use Rattle.mx_io.specs.Shelves.{Told, Counts}
-use Rattle.mx_answer.specs.Protocol.{Protocol, Answers, Reads, Performed}
-use Rattle.mx_answer.specs.Replies.{reply_answer}
-use Rattle.mx_schedule.specs.Schedule.{IsScheduler}
+use Rattle.cmd_answer.specs.Protocol.{Protocol, Answers, Reads, Performed}
+use Rattle.cmd_answer.specs.Replies.{reply_answer}
+use Rattle.law_schedule.specs.Schedule.{IsScheduler}
 use Rattle.mx_tasks.specs.Places.{lower, upper}
-use Rattle.mx_sharing.specs.Runs.{sharing_protocol}
+use Rattle.cmd_share.specs.Runs.{sharing_protocol}
 use Rattle.mx_command.specs.Protocols.{Layouts, assembled_protocol, pair_protocol}
 use Rattle.mx_command.proofs.Own.{performed_is_replied, answers_sharing}
 use Rattle.mx_command.proofs.Readings.{SourceGiven, SourceRefused}

@@ -5,12 +5,12 @@ use Rattle.mx_source.specs.SourceValue.{SourceValue}
 use Rattle.mx_blocks.specs.Leaders.{AreBlocks}
 use Rattle.mx_squash.specs.Copies.{Site}
 use Rattle.mx_layout.specs.Layout.{blocks_in}
-use Rattle.mx_schedule.proofs.Layouts.{layout_exists}
-use Rattle.mx_lengths.specs.Lengths.{lengths_text}
-use Rattle.mx_meaning.specs.Boards.{board}
-use Rattle.mx_answer.specs.declared.Status.TheVariants.{Done, Refused}
-use Rattle.mx_answer.specs.Answer.{prints}
-use Rattle.mx_answer.specs.Replies.{reply_answer}
+use Rattle.law_schedule.proofs.Layouts.{layout_exists}
+use Rattle.cmd_best.specs.Lengths.{lengths_text}
+use Rattle.mx_isa.specs.Board.{board}
+use Rattle.cmd_answer.specs.declared.Status.TheVariants.{Done, Refused}
+use Rattle.cmd_answer.specs.Answer.{prints}
+use Rattle.cmd_answer.specs.Replies.{reply_answer}
 use Rattle.mx_command.specs.Protocols.{fault_line, measured}
 use Rattle.mx_command.proofs.sourced.best_text.Goals as goal
 

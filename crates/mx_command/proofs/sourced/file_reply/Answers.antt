@@ -2,7 +2,7 @@ use Rattle.std.proofs.Common.{ℕ, List, length, subst, sym}
 use Rattle.mx_link.specs.Origins.{from_target}
 use Rattle.mx_link.specs.Linked.{linked_code}
 use Rattle.mx_image.specs.Contents.{LinksFit}
-use Rattle.mx_meaning.specs.Boards.{board}
+use Rattle.mx_isa.specs.Board.{board}
 use Rattle.mx_command.proofs.Links.{links_fit}
 use Rattle.mx_command.proofs.sourced.file_reply.Goals as goal
 

@@ -4,11 +4,11 @@ use Rattle.mx_link.specs.Origins.{from_target}
 use Rattle.mx_link.specs.Linked.{IsLinked}
 use Rattle.mx_reorg.specs.Greedy.{IsGreedy}
 use Rattle.mx_asm.specs.Texts.{source_of, text_fault}
-use Rattle.mx_meaning.specs.Boards.{board}
-use Rattle.mx_answer.specs.declared.Status.TheVariants.{Refused}
-use Rattle.mx_answer.specs.Answer.{prints}
-use Rattle.mx_answer.specs.Protocol.{Answers}
-use Rattle.mx_answer.specs.Replies.{reply_answer}
+use Rattle.mx_isa.specs.Board.{board}
+use Rattle.cmd_answer.specs.declared.Status.TheVariants.{Refused}
+use Rattle.cmd_answer.specs.Answer.{prints}
+use Rattle.cmd_answer.specs.Protocol.{Answers}
+use Rattle.cmd_answer.specs.Replies.{reply_answer}
 use Rattle.mx_command.specs.Protocols.{overlong_line}
 use Rattle.mx_command.proofs.Laid as laid
 use Rattle.mx_command.proofs.sources.linked_text.Goals as goal

@@ -1,10 +1,10 @@
 use Rattle.std.proofs.Common.{◌≡◌, ℕ, List, IfOk, IfErr, refl, subst, sym, ap, ◌∙◌}
-use Rattle.mx_answer.specs.declared.FileKind.TheVariants.{Source}
-use Rattle.mx_answer.specs.Answer.{Answer}
+use Rattle.cmd_answer.specs.declared.FileKind.TheVariants.{Source}
+use Rattle.cmd_answer.specs.Answer.{Answer}
 use Rattle.mx_io.specs.Shelves.{Told, Counts}
-use Rattle.mx_answer.specs.Protocol.{Protocol, Answers, Reads, Performed}
-use Rattle.mx_answer.specs.Replies.{reply_answer}
-use Rattle.mx_schedule.specs.Schedule.{IsScheduler}
+use Rattle.cmd_answer.specs.Protocol.{Protocol, Answers, Reads, Performed}
+use Rattle.cmd_answer.specs.Replies.{reply_answer}
+use Rattle.law_schedule.specs.Schedule.{IsScheduler}
 use Rattle.mx_command.specs.Protocols.{Layouts, AfterLayout, linked_protocol}
 use Rattle.mx_command.proofs.Readings.{FileGiven, FileRefused}
 use Rattle.mx_command.proofs.sources.read_program.Goals as goal

@@ -1,18 +1,18 @@
 use Rattle.std.proofs.Common.{◌≡◌, ◌≢◌, Bool, true, false, Option, map, string_bytes, refl, sym, ap, ◌∙◌, subst, ⊎_elim, inl, inr}
 use Rattle.std.specs.Prelude.{is_some}
-use Rattle.mx_answer.specs.declared.Status.{Status}
-use Rattle.mx_answer.specs.declared.Status.TheVariants.{Usage, WriteFault, Memory}
-use Rattle.mx_answer.specs.Answer.{Answer}
-use Rattle.mx_answer.specs.Delivery.{HasStatus}
+use Rattle.cmd_answer.specs.declared.Status.{Status}
+use Rattle.cmd_answer.specs.declared.Status.TheVariants.{Usage, WriteFault, Memory}
+use Rattle.cmd_answer.specs.Answer.{Answer}
+use Rattle.cmd_answer.specs.Delivery.{HasStatus}
 use Rattle.mx_io.specs.Shelves.{Told, Counts}
-use Rattle.mx_answer.specs.Protocol.{Performed}
-use Rattle.mx_answer.specs.Replies.{reply_answer}
-use Rattle.mx_asked.specs.Commands.{Command}
-use Rattle.mx_asked.specs.Asked.{command_of}
+use Rattle.cmd_answer.specs.Protocol.{Performed}
+use Rattle.cmd_answer.specs.Replies.{reply_answer}
+use Rattle.cmd_table.specs.Commands.{Command}
+use Rattle.cmd_table.specs.Asked.{command_of}
 use Rattle.mx_command.specs.Protocols.{Layouts, protocol_of}
-use Rattle.mx_answer.proofs.Commands.{status_cases}
+use Rattle.cmd_answer.proofs.Commands.{status_cases}
 use Rattle.mx_command.proofs.Own.{own_answers, replied_status, replied_asks}
-use Rattle.mx_answer.specs.Commands.{Outside, Commanded}
+use Rattle.cmd_answer.specs.Commands.{Outside, Commanded}
 use Rattle.mx_command.proofs.Ended.{ended, promised}
 use Rattle.mx_command.proofs.Headline.{delivered_is_headline}
 use Rattle.mx_command.proofs.PairHeadline.{delivered_is_pair}
@@ -26,8 +26,8 @@ use Rattle.mx_command.specs.Headline.{Headline}
 use Rattle.mx_command.specs.Writing.{writes_a_file}
 use Rattle.mx_command.specs.Layouts.{greedy_layout, command_protocol}
 use Rattle.mx_command.proofs.GreedyLayouts.{greedy_is}
-use Rattle.mx_schedule.specs.Schedule.{IsScheduler}
-use Rattle.mx_answer.specs.Delivery.{Delivered}
+use Rattle.law_schedule.specs.Schedule.{IsScheduler}
+use Rattle.cmd_answer.specs.Delivery.{Delivered}
 use Rattle.mx_io.specs.Counts.{Rose}
 use Rattle.mx_command.proofs.top.command.Goals as goal
 

@@ -1,0 +1,47 @@
+//! Reading the files of a command.
+ghost use Rattle.std.specs.Prelude.{◌≡◌, ◌++◌, codes, List, ℕ, IfOk, IfErr};
+ghost use Rattle.cmd_answer.specs.declared.status.Status.TheVariants.{ReadFault};
+ghost use Rattle.cmd_answer.specs.Files.{file_word};
+ghost use Rattle.cmd_answer.specs.Answer.{prints, text_line};
+ghost use Rattle.mx_io.specs.Shelves.{Told, Counts, IsRead};
+ghost use Rattle.cmd_answer.specs.Protocol.{IsGiven, IsFault};
+ghost use Rattle.cmd_answer.specs.Replies.{reply_answer};
+
+use crate::{FileKind, Reply, Status, line_reply};
+use mx_io::{Memory, Shelf, ShelfFault};
+use std::alloc::Global;
+
+/// The bytes of a file, or the reply to its fault: `read fault: KIND failed` or `read fault: KIND too long`.
+pub fn read_file<S: Shelf>(
+    alloc: Global,
+    shelf: &mut S,
+    kind: FileKind,
+    name: &str,
+) -> Result<Result<Vec<u8>, Reply>, Memory>
+    ensures read { IsRead (S.counts shelf.old) (S.counts shelf.new) }
+    ensures given { IfOk result (λ r. IfOk r (λ v. IsGiven (S.told shelf.old) kind name.now v.items)) }
+    ensures fault { IfOk result (λ r. IfErr r (λ e. IsFault (S.told shelf.old) kind name.now
+        (S.counts shelf.old) (S.counts shelf.new) (reply_answer e))) }
+    ensures told_stays { S.told shelf.new ≡ S.told shelf.old }
+    ensures writes_stay { S.write_faults shelf.new ≡ S.write_faults shelf.old }
+{
+    match shelf.read(alloc, name, kind.limit()) {
+        Ok(bytes) => Ok(Ok(bytes)),
+        Err(ShelfFault::Failed) => Ok(Err(fault_reply(alloc, kind, " failed")?)),
+        Err(ShelfFault::TooLong) => Ok(Err(fault_reply(alloc, kind, " too long")?)),
+        Err(ShelfFault::Memory) => Err(Memory),
+    }
+}
+
+// The reply to a fault.
+fn fault_reply(alloc: Global, kind: FileKind, fault: &str) -> Result<Reply, Memory>
+    ensures { IfOk result (λ r. reply_answer r ≡ prints ReadFault (text_line (codes "read fault: " ++ file_word kind ++ fault.now))) }
+{
+    let Ok(word) = kind.word(alloc) else {
+        return Err(Memory);
+    };
+    match format!(in alloc; "read fault: {word}{fault}") {
+        Ok(text) => line_reply(alloc, Status::ReadFault, text.as_str()),
+        Err(_) => Err(Memory),
+    }
+}

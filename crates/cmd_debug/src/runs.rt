@@ -1,0 +1,110 @@
+//! A session with an image, with the files that its options name.
+ghost use Rattle.std.specs.Prelude.{◌≡◌, ◌≤◌, ◌<◌, ◌^◌, IfOk, option_map, List, ℕ};
+ghost use Rattle.std.specs.Option.{option_copied};
+ghost use Rattle.mx_board.specs.Contents.{bytes_in};
+ghost use Rattle.cmd_answer.specs.Protocol.{Performed};
+ghost use Rattle.cmd_answer.specs.Replies.{reply_answer};
+ghost use Rattle.cmd_simulate.specs.Machines.{if_asked};
+ghost use Rattle.cmd_debug.specs.Sessions.{IsAsked, status_of, image_answer, session_protocol};
+
+use crate::texts::session_text;
+use cmd_answer::{Reply, Status};
+use cmd_simulate::{RunFiles, read_input, read_requests};
+use mx_board::Requests;
+use mx_code::Image;
+use mx_debug::{Ending, stops};
+use mx_icache::LineCache;
+use mx_io::{Memory, Shelf};
+use mx_pipe::Pipe;
+use std::alloc::Global;
+
+/// What is asked of a session: after how many stops it ends, which data word is watched, and how many cycles it may take.
+#[derive(Clone, Copy, Debug, PartialEq, Eq)]
+pub struct SessionLimits {
+    pub stops: u32,
+    pub watch: u32,
+    pub budget: u32,
+}
+
+// How a session ended.
+fn status_of(ending: Ending) -> Status
+    ensures { result ≡ status_of ending }
+{
+    match ending {
+        Ending::Stopped => Status::Done,
+        Ending::Halted => Status::Halted,
+        Ending::OutOfBudget => Status::OutOfBudget,
+    }
+}
+
+// The input that a program is given, if it asks for one.
+fn if_asked(asks: bool, bytes: &[u8]) -> Option<&[u8]>
+    ensures { option_copied result ≡ if_asked asks bytes.entry.now }
+{
+    if asks { Some(bytes) } else { None }
+}
+
+// Runs an image with an input or none, under the shipped handler and with these requests, and tells its stops at an address.
+fn debug(
+    alloc: Global,
+    image: &Image,
+    input: Option<&[u8]>,
+    requests: &Requests,
+    address: u32,
+    limits: &SessionLimits,
+) -> Result<Reply, Memory>
+    requires input { bytes_in (option_copied input) ≤ 1048576 }
+    requires address { address < 2 ^ 31 }
+    requires asked { IsAsked limits.now }
+    ensures { IfOk result
+        (λ r. reply_answer r ≡ image_answer image.now.code.items image.now.user_data.items (option_copied input.entry) requests.now address limits.now) }
+{
+    let mut machine = Pipe::new(alloc, image, input, LineCache::new())?;
+    let stopped = stops(
+        alloc,
+        &mut machine,
+        address,
+        limits.stops,
+        limits.watch,
+        requests,
+        limits.budget,
+    )?;
+    let Ok(output) = session_text(alloc, limits.watch, &stopped) else {
+        return Err(Memory);
+    };
+    let status = status_of(stopped.ending);
+    Ok(Reply::Prints { status, output })
+}
+
+/// Reads the interrupt file and the input file, runs the image and tells its stops at an address. The image is given the input
+/// where it `asks` for one. A file that is named is read also where it is of no use.
+pub fn debug_image<S: Shelf>(
+    alloc: Global,
+    shelf: &mut S,
+    image: &Image,
+    asks: bool,
+    address: u32,
+    files: &RunFiles,
+    limits: &SessionLimits,
+) -> Result<Reply, Memory>
+    requires address { address < 2 ^ 31 }
+    requires asked { IsAsked limits.now }
+    ensures performed { IfOk result (λ r. Performed (S.told shelf.old)
+        (session_protocol (record { interrupts = option_map (λ s. s.now) files.now.interrupts; input = option_map (λ s. s.now) files.now.input })
+        limits.now image.now.code.items image.now.user_data.items asks address)
+        (S.counts shelf.old) (S.counts shelf.new) (reply_answer r)) }
+    ensures told_stays { S.told shelf.new ≡ S.told shelf.old }
+    ensures writes_stay { S.write_faults shelf.new ≡ S.write_faults shelf.old }
+{
+    let requests = match read_requests(alloc, shelf, files.interrupts)? {
+        Ok(requests) => requests,
+        Err(reply) => return Ok(reply),
+    };
+    let input = match read_input(alloc, shelf, files.input)? {
+        Ok(input) => input,
+        Err(reply) => return Ok(reply),
+    };
+    let input = if_asked(asks, input.as_slice());
+    let reply = debug(alloc, image, input, &requests, address, limits)?;
+    Ok(reply)
+}

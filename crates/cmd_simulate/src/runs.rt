@@ -1,0 +1,64 @@
+//! A run of an image, with the files that its options name.
+ghost use Rattle.std.specs.Prelude.{◌≡◌, IfOk, option_map, List, ℕ};
+ghost use Rattle.std.specs.Option.{option_copied};
+ghost use Rattle.cmd_answer.specs.Protocol.{Performed};
+ghost use Rattle.cmd_answer.specs.Replies.{reply_answer};
+ghost use Rattle.cmd_simulate.specs.Machines.{machine_protocol, if_asked};
+
+use crate::files::{read_input, read_requests};
+use crate::{Limits, simulate};
+use cmd_answer::Reply;
+use mx_code::Image;
+use mx_io::{Memory, Shelf};
+use std::alloc::Global;
+
+/// The names of the files that a run reads besides its program.
+#[derive(Clone, Copy, Debug)]
+pub struct RunFiles<'a> {
+    /// The cycles in which interrupts are requested; none where no file is named.
+    pub interrupts: Option<&'a str>,
+    /// The bytes of the input; none where no file is named.
+    pub input: Option<&'a str>,
+}
+
+// The input that a program is given, if it asks for one.
+fn if_asked(asks: bool, bytes: &[u8]) -> Option<&[u8]>
+    ensures { option_copied result ≡ if_asked asks bytes.entry.now }
+{
+    if asks { Some(bytes) } else { None }
+}
+
+/// Reads the interrupt file and the input file, runs the image and reports the run. The image is given the input where it
+/// `asks` for one. A file that is named is read also where it is of no use.
+pub fn run_image<S: Shelf>(
+    alloc: Global,
+    shelf: &mut S,
+    image: &Image,
+    asks: bool,
+    files: &RunFiles,
+    limits: &Limits,
+) -> Result<Reply, Memory>
+    ensures performed { IfOk result (λ r. Performed (S.told shelf.old)
+        (machine_protocol (record { interrupts = option_map (λ s. s.now) files.now.interrupts; input = option_map (λ s. s.now) files.now.input })
+        limits.now image.now.code.items image.now.user_data.items asks)
+        (S.counts shelf.old) (S.counts shelf.new) (reply_answer r)) }
+    ensures told_stays { S.told shelf.new ≡ S.told shelf.old }
+    ensures writes_stay { S.write_faults shelf.new ≡ S.write_faults shelf.old }
+{
+    let requests = match read_requests(alloc, shelf, files.interrupts)? {
+        Ok(requests) => requests,
+        Err(reply) => return Ok(reply),
+    };
+    let input = match read_input(alloc, shelf, files.input)? {
+        Ok(input) => input,
+        Err(reply) => return Ok(reply),
+    };
+    let reply = simulate(
+        alloc,
+        image,
+        if_asked(asks, input.as_slice()),
+        &requests,
+        limits,
+    )?;
+    Ok(reply)
+}

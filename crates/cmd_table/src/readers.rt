@@ -1,0 +1,261 @@
+//! What is made of the words of each command, once they are read.
+ghost use Rattle.std.specs.Prelude.{◌≡◌, IfSome, option_map};
+ghost use Rattle.cmd_line.specs.Read.{seen};
+ghost use Rattle.cmd_table.specs.Asked.{dump_of, limits_of, run_of, meaning_of, build_of, exec_of, list_of, gen_of, soak_of, migrate_of, share_of, session_limits_of, debug_of, best_of, join_of};
+ghost use Rattle.cmd_debug.specs.Sessions.{IsAsked};
+ghost use Rattle.cmd_table.specs.Seen.{seen_command, IsAllowed};
+
+use crate::command::{Command, FEWEST_MODULES, MOST_MODULES};
+use crate::numbers::{number, number_or, optional};
+use cmd_debug::SessionLimits;
+use cmd_line::Read;
+use cmd_simulate::{Limits, RunFiles};
+use mx_report::Dump;
+
+// The words of a dump, if one is asked for.
+fn dump_of(at: Option<u32>, count: u32) -> Option<Dump>
+    ensures { result ≡ dump_of at count }
+{
+    match at {
+        Some(at) => Some(Dump { at, count }),
+        None => None,
+    }
+}
+
+// The limits that four options give; None where a number is faulty.
+fn limits_of(
+    budget: Option<&str>,
+    trace: Option<&str>,
+    dump: Option<&str>,
+    count: Option<&str>,
+) -> Option<Limits>
+    ensures { result ≡ limits_of (option_map (λ s. s.now) budget.entry) (option_map (λ s. s.now) trace.entry) (option_map (λ s. s.now) dump.entry)
+        (option_map (λ s. s.now) count.entry) }
+{
+    let budget = number_or(budget, 1_000_000, 0, 100_000_000)?;
+    let trace = number_or(trace, 0, 0, 10_000)?;
+    let at = optional(dump, 0, 65_535)?;
+    let count = number_or(count, 1, 1, 65_536)?;
+    Some(Limits {
+        budget,
+        trace,
+        dump: dump_of(at, count),
+    })
+}
+
+/// What was read of `run`.
+pub fn run_read<'a>(read: &Read<'a>) -> Option<Command<'a>>
+    ensures command { option_map seen_command result ≡ run_of (seen read.entry.now) }
+    ensures allowed { IfSome result IsAllowed }
+{
+    match (read.names.as_slice(), read.values.as_slice()) {
+        ([source], [budget, trace, dump, count, interrupts, input]) => {
+            let limits = limits_of(*budget, *trace, *dump, *count)?;
+            let files = RunFiles {
+                interrupts: *interrupts,
+                input: *input,
+            };
+            Some(Command::Run {
+                source: *source,
+                files,
+                limits,
+            })
+        }
+        _ => None,
+    }
+}
+
+/// What was read of `meaning`.
+pub fn meaning_read<'a>(read: &Read<'a>) -> Option<Command<'a>>
+    ensures command { option_map seen_command result ≡ meaning_of (seen read.entry.now) }
+    ensures allowed { IfSome result IsAllowed }
+{
+    match (read.names.as_slice(), read.values.as_slice()) {
+        ([source], [steps, input]) => {
+            let steps = number_or(*steps, 1_000_000, 0, 100_000_064)?;
+            Some(Command::Meaning {
+                source: *source,
+                steps,
+                input: *input,
+            })
+        }
+        _ => None,
+    }
+}
+
+/// What was read of `build`.
+pub fn build_read<'a>(read: &Read<'a>) -> Option<Command<'a>>
+    ensures command { option_map seen_command result ≡ build_of (seen read.entry.now) }
+    ensures allowed { IfSome result IsAllowed }
+{
+    match (read.names.as_slice(), read.values.as_slice()) {
+        ([source, target], []) => Some(Command::Build {
+            source: *source,
+            target: *target,
+        }),
+        _ => None,
+    }
+}
+
+/// What was read of `exec`.
+pub fn exec_read<'a>(read: &Read<'a>) -> Option<Command<'a>>
+    ensures command { option_map seen_command result ≡ exec_of (seen read.entry.now) }
+    ensures allowed { IfSome result IsAllowed }
+{
+    match (read.names.as_slice(), read.values.as_slice()) {
+        ([image], [budget, trace, dump, count, interrupts, input]) => {
+            let limits = limits_of(*budget, *trace, *dump, *count)?;
+            let files = RunFiles {
+                interrupts: *interrupts,
+                input: *input,
+            };
+            Some(Command::Exec {
+                image: *image,
+                files,
+                limits,
+            })
+        }
+        _ => None,
+    }
+}
+
+/// What was read of `list`.
+pub fn list_read<'a>(read: &Read<'a>) -> Option<Command<'a>>
+    ensures command { option_map seen_command result ≡ list_of (seen read.entry.now) }
+    ensures allowed { IfSome result IsAllowed }
+{
+    match (read.names.as_slice(), read.values.as_slice()) {
+        ([source], []) => Some(Command::Listing { source: *source }),
+        _ => None,
+    }
+}
+
+/// What was read of `best`.
+pub fn best_read<'a>(read: &Read<'a>) -> Option<Command<'a>>
+    ensures command { option_map seen_command result ≡ best_of (seen read.entry.now) }
+    ensures allowed { IfSome result IsAllowed }
+{
+    match (read.names.as_slice(), read.values.as_slice()) {
+        ([source], []) => Some(Command::Best { source: *source }),
+        _ => None,
+    }
+}
+
+/// What was read of `gen`.
+pub fn gen_read<'a>(read: &Read<'a>) -> Option<Command<'a>>
+    ensures command { option_map seen_command result ≡ gen_of (seen read.entry.now) }
+    ensures allowed { IfSome result IsAllowed }
+{
+    match (read.names.as_slice(), read.values.as_slice()) {
+        ([seed, count], []) => {
+            let seed = number(seed, 0, 4_294_967_295)?;
+            let count = number(count, 0, 4_000)?;
+            Some(Command::Gen { seed, count })
+        }
+        _ => None,
+    }
+}
+
+/// What was read of `soak`.
+pub fn soak_read<'a>(read: &Read<'a>) -> Option<Command<'a>>
+    ensures command { option_map seen_command result ≡ soak_of (seen read.entry.now) }
+    ensures allowed { IfSome result IsAllowed }
+{
+    match (read.names.as_slice(), read.values.as_slice()) {
+        ([seed, count], []) => {
+            let seed = number(seed, 0, 4_294_967_295)?;
+            let count = number(count, 0, 4_000)?;
+            Some(Command::Soak { seed, count })
+        }
+        _ => None,
+    }
+}
+
+/// What was read of `migrate`.
+pub fn migrate_read<'a>(read: &Read<'a>) -> Option<Command<'a>>
+    ensures command { option_map seen_command result ≡ migrate_of (seen read.entry.now) }
+    ensures allowed { IfSome result IsAllowed }
+{
+    match (read.names.as_slice(), read.values.as_slice()) {
+        ([image, target], []) => Some(Command::Migrate {
+            image: *image,
+            target: *target,
+        }),
+        _ => None,
+    }
+}
+
+/// What was read of `share`.
+pub fn share_read<'a>(read: &Read<'a>) -> Option<Command<'a>>
+    ensures command { option_map seen_command result ≡ share_of (seen read.entry.now) }
+    ensures allowed { IfSome result IsAllowed }
+{
+    match (read.names.as_slice(), read.values.as_slice()) {
+        ([first, second], [budget, interrupts]) => {
+            let budget = number_or(*budget, 1_000_000, 0, 100_000_000)?;
+            Some(Command::Share {
+                first: *first,
+                second: *second,
+                interrupts: *interrupts,
+                budget,
+            })
+        }
+        _ => None,
+    }
+}
+
+// The limits of a session that three options give; None where a number is faulty.
+fn session_limits_of(
+    stops: Option<&str>,
+    watch: Option<&str>,
+    budget: Option<&str>,
+) -> Option<SessionLimits>
+    ensures limits { result
+        ≡ session_limits_of (option_map (λ s. s.now) stops.entry) (option_map (λ s. s.now) watch.entry) (option_map (λ s. s.now) budget.entry) }
+    ensures asked { IfSome result IsAsked }
+{
+    let stops = number_or(stops, 1, 1, 1_000)?;
+    let watch = number_or(watch, 256, 256, 65_535)?;
+    let budget = number_or(budget, 1_000_000, 0, 100_000_000)?;
+    Some(SessionLimits {
+        stops,
+        watch,
+        budget,
+    })
+}
+
+/// What was read of `debug`.
+pub fn debug_read<'a>(read: &Read<'a>) -> Option<Command<'a>>
+    ensures command { option_map seen_command result ≡ debug_of (seen read.entry.now) }
+    ensures allowed { IfSome result IsAllowed }
+{
+    match (read.names.as_slice(), read.values.as_slice()) {
+        ([source, label], [stops, watch, budget, interrupts, input]) => {
+            let limits = session_limits_of(*stops, *watch, *budget)?;
+            let files = RunFiles {
+                interrupts: *interrupts,
+                input: *input,
+            };
+            Some(Command::Debug {
+                source: *source,
+                label: *label,
+                files,
+                limits,
+            })
+        }
+        _ => None,
+    }
+}
+
+/// What was read of `join`.
+pub fn join_read<'a>(read: Read<'a>) -> Option<Command<'a>>
+    ensures command { option_map seen_command result ≡ join_of (seen read.entry) }
+    ensures allowed { IfSome result IsAllowed }
+{
+    let count = read.names.len();
+    if FEWEST_MODULES <= count && count <= MOST_MODULES {
+        Some(Command::Join { names: read.names })
+    } else {
+        None
+    }
+}

@@ -1,0 +1,12 @@
+pub mod Held
+pub mod Answered
+pub mod Buffers
+pub mod Outcomes
+pub mod QuietShelf
+pub mod TextSink
+pub mod Targets
+pub use Rattle.cmd_answer.specs.Answer
+pub use Rattle.cmd_answer.specs.Protocol
+pub use Rattle.mx_command.specs.Protocols
+pub use Rattle.mx_command.specs.Layouts
+pub use Rattle.mx_command.specs.Headline

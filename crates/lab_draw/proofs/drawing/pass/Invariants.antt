@@ -1,0 +1,14 @@
+use Rattle.std.proofs.Common.{◌≡◌, ◌≤◌, [], false}
+use Rattle.mx_turn.specs.Program.{Program, state_after}
+use Rattle.mx_turn.specs.Run.{bits, console_after}
+use Rattle.lab_draw.proofs.drawing.pass.Given as goal
+
+-- the machine stands for the bits so far and has not halted, and the console so far is theirs
+abbrev pub invariant-loop-cycle : goal.invariant-loop-cycle
+invariant-loop-cycle g l = record {
+  counted : g.M.Machine.cycles l.machine ≤ l.cycle;
+  run : (p : Program) → g.M.Machine.stands l.fn.machine p [] →
+      g.M.Machine.stands l.machine p (bits l.requests l.cycle)
+      × (l.console.items ≡ console_after p (bits l.requests l.cycle))
+      × ((state_after p (bits l.requests l.cycle)).halted ≡ false);
+}

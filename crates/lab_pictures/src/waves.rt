@@ -1,0 +1,149 @@
+//! A drawing as a value change dump, by IEEE 1364, which GTKWave reads.
+use crate::subject::Subject;
+use lab_draw::Frame;
+use mx_io::Memory;
+use mx_turn::Stage;
+use std::alloc::{AllocError, Global};
+
+/// The signals: their names, their widths and their letters. Each stage has its address and two marks.
+const SIGNALS: [(&str, u32, &str); 24] = [
+    ("fetch", 32, "a"),
+    ("fetch_live", 1, "b"),
+    ("fetch_squashed", 1, "c"),
+    ("rf", 32, "d"),
+    ("rf_live", 1, "e"),
+    ("rf_squashed", 1, "f"),
+    ("alu", 32, "g"),
+    ("alu_live", 1, "h"),
+    ("alu_squashed", 1, "i"),
+    ("mem", 32, "j"),
+    ("mem_live", 1, "k"),
+    ("mem_squashed", 1, "l"),
+    ("wb", 32, "m"),
+    ("wb_live", 1, "n"),
+    ("wb_squashed", 1, "o"),
+    ("a", 32, "p"),
+    ("b", 32, "q"),
+    ("result", 32, "r"),
+    ("stall", 1, "s"),
+    ("request", 1, "t"),
+    ("taken", 1, "u"),
+    ("halted", 1, "v"),
+    ("sends", 1, "w"),
+    ("console", 8, "x"),
+];
+
+// The address and the two marks of a stage.
+fn stage_values(stage: Stage) -> [u32; 3] {
+    match stage {
+        Stage::Empty => [0, 0, 0],
+        Stage::Live(address) => [address, 1, 0],
+        Stage::Squashed(address) => [address, 0, 1],
+    }
+}
+
+// The values of the signals, in their order.
+fn values_of(frame: &Frame) -> [u32; 24] {
+    let fetch = stage_values(frame.shown.fetch);
+    let rf = stage_values(frame.shown.rf);
+    let alu = stage_values(frame.shown.alu);
+    let mem = stage_values(frame.shown.mem);
+    let wb = stage_values(frame.shown.wb);
+    [
+        fetch[0],
+        fetch[1],
+        fetch[2],
+        rf[0],
+        rf[1],
+        rf[2],
+        alu[0],
+        alu[1],
+        alu[2],
+        mem[0],
+        mem[1],
+        mem[2],
+        wb[0],
+        wb[1],
+        wb[2],
+        frame.shown.a,
+        frame.shown.b,
+        frame.shown.result,
+        u32::from(frame.cycled.stalled),
+        u32::from(frame.requested),
+        u32::from(frame.cycled.taken),
+        u32::from(frame.cycled.halted),
+        u32::from(frame.cycled.byte.is_some()),
+        u32::from(frame.cycled.byte.unwrap_or(0)),
+    ]
+}
+
+// Appends the value of a signal.
+fn push_value(text: &mut String, width: u32, value: u32, letter: &str) -> Result<(), AllocError> {
+    if width == 1 {
+        write!(text, "{value}{letter}\n")
+    } else {
+        write!(text, "b{value:b} {letter}\n")
+    }
+}
+
+// Appends the signals that differ from what they were, or all of them.
+fn push_changes(
+    text: &mut String,
+    all: bool,
+    before: &[u32; 24],
+    now: &[u32; 24],
+) -> Result<(), AllocError> {
+    for k in 0..24usize {
+        if let Some(signal) = SIGNALS.get(k) {
+            let (_, width, letter) = *signal;
+            let value = now[k];
+            if all || before[k] != value {
+                push_value(text, width, value, letter)?;
+            }
+        }
+    }
+    Ok(())
+}
+
+// Appends the head, which declares the signals.
+fn push_head(text: &mut String) -> Result<(), AllocError> {
+    text.push_str(
+        "$comment a run of MIPS-X, a time unit a cycle $end\n$timescale 1 ns $end\n$scope module mx $end\n",
+    )?;
+    for signal in SIGNALS.iter() {
+        let (name, width, letter) = *signal;
+        write!(text, "$var wire {width} {letter} {name} $end\n")?;
+    }
+    text.push_str("$upscope $end\n$enddefinitions $end\n")
+}
+
+// The whole text.
+fn text_of(alloc: Global, subject: &Subject) -> Result<String, AllocError> {
+    let mut text = String::new(alloc);
+    push_head(&mut text)?;
+    let mut before = [0u32; 24];
+    let mut all = true;
+    let mut cycle = u64::from(subject.from);
+    for frame in subject.drawing.frames.iter() {
+        let now = values_of(frame);
+        write!(text, "#{cycle}\n")?;
+        push_changes(&mut text, all, &before, &now)?;
+        before = now;
+        all = false;
+        cycle = cycle.saturating_add(1);
+    }
+    write!(text, "#{cycle}\n")?;
+    Ok(text)
+}
+
+/// A drawing as a value change dump. The time is the cycle.
+///
+/// # Errors
+///
+/// `Memory` where there is no room for it.
+pub fn vcd(alloc: Global, subject: &Subject) -> Result<Vec<u8>, Memory> {
+    match text_of(alloc, subject) {
+        Ok(text) => Ok(text.into_bytes()),
+        Err(_) => Err(Memory),
+    }
+}

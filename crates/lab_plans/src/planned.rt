@@ -1,0 +1,127 @@
+//! The run of a source by plans.
+ghost use Rattle.std.specs.Prelude.{◌≡◌, ◌≤◌, ◌++◌, None, OnOk, IfOk, IfErr, List, ℕ, length};
+ghost use Rattle.std.specs.Option.{option_copied};
+ghost use Rattle.mx_source.specs.SourceValue.{IsSource};
+ghost use Rattle.mx_source.specs.Meaning.{given};
+ghost use Rattle.mx_layout.specs.Overlong.{IsRefusal};
+ghost use Rattle.mx_link.specs.Linked.{IsLinked};
+ghost use Rattle.mx_link.specs.Origins.{from_target};
+ghost use Rattle.mx_link.specs.Parts.{HaveRegisters};
+ghost use Rattle.cmd_answer.specs.Answer.{prints};
+ghost use Rattle.mx_board.specs.Contents.{bytes_in};
+ghost use Rattle.cmd_simulate.specs.Simulated.{image_answer};
+ghost use Rattle.cmd_answer.specs.Replies.{reply_answer};
+ghost use Rattle.cmd_answer.specs.declared.Status.{Status as HowItEnds};
+ghost use Rattle.mx_isa.specs.Board.{board};
+ghost use Rattle.mx_plans.specs.Files.{marks_of_lines};
+ghost use Rattle.mx_plans.specs.Says.{IsProposed};
+ghost use Rattle.lab_plans.specs.Planned.{IsRunByPlans};
+
+use crate::verdicts::told;
+use cmd_answer::Reply;
+use cmd_simulate::{Limits, simulate_on};
+use lab_watch::{Watcher, watched_pipe};
+use mx_blocks::blocks;
+use mx_board::Requests;
+use mx_code::Image;
+use mx_icache::LineCache;
+use mx_io::Memory;
+use mx_isa::BOARD;
+use mx_link::{LinkError, Linked};
+use mx_plans::{PlanLine, link_planned};
+use mx_source::Source;
+use std::alloc::{AllocError, Global};
+
+/// The input that a source is given, if it has one.
+fn given_to<'a>(source: &Source, bytes: &'a [u8]) -> Option<&'a [u8]>
+    ensures { option_copied result ≡ given source.now.input bytes.entry.now }
+{
+    match source.input() {
+        Some(_) => Some(bytes),
+        None => None,
+    }
+}
+
+/// Links a source at the board's place by the plans that the lines of a file say.
+fn linked_by(alloc: Global, source: &Source, plans: &[PlanLine]) -> Result<Linked, LinkError>
+    ensures linked { IfOk result (IsLinked (IsProposed source.now (marks_of_lines plans.now)) from_target source.now board) }
+    ensures registers { OnOk result (HaveRegisters source.now.statements) }
+    ensures source { IsSource source.now }
+    ensures refused { IfErr result (IsRefusal (IsProposed source.now (marks_of_lines plans.now)) source.now board) }
+{
+    let _statements = source.statements();
+    link_planned(alloc, source, BOARD, plans)
+}
+
+/// A reply that prints, with these lines before what it prints.
+fn behind(mut lines: Vec<u8>, reply: Reply) -> Result<Reply, AllocError>
+    ensures { IfOk result (λ r. (status : HowItEnds) (output : List ℕ)
+        → reply_answer reply ≡ prints status output → reply_answer r ≡ prints status (lines.items ++ output)) }
+{
+    match reply {
+        Reply::Prints { status, output } => {
+            lines.extend_from_slice(output.as_slice())?;
+            Ok(Reply::Prints {
+                status,
+                output: lines,
+            })
+        }
+        Reply::Writes { name, bytes } => Ok(Reply::Writes { name, bytes }),
+    }
+}
+
+/// Runs an image under the shipped handler, with an input or none, and reports the run. A watcher is told how far it has come.
+fn report_watched<W: Watcher>(
+    alloc: Global,
+    image: &Image,
+    input: Option<&[u8]>,
+    requests: &Requests,
+    budget: u32,
+    watcher: W,
+) -> Result<Reply, Memory>
+    requires { bytes_in (option_copied input) ≤ 1048576 }
+    ensures { IfOk result (λ r. reply_answer r
+        ≡ image_answer image.now.code.items image.now.user_data.items (option_copied input.entry) requests.now
+        (record { budget = budget; trace = 0; dump = None })) }
+{
+    let mut machine = watched_pipe(alloc, image, input, LineCache::new(), watcher)?;
+    let limits = Limits {
+        budget,
+        trace: 0,
+        dump: None,
+    };
+    simulate_on(alloc, &mut machine, image, requests, &limits)
+}
+
+/// Links a source by the plans that the lines of a file say, and runs it under the shipped handler with these requests:
+/// a line for each plan that is rejected, and the report of the run. A rejected plan does not run: its block is padded.
+/// A watcher is told how far the run has come.
+///
+/// # Errors
+///
+/// Those of `link`.
+pub fn planned_reply<W: Watcher>(
+    alloc: Global,
+    source: &Source,
+    plans: &[PlanLine],
+    requests: &Requests,
+    input: &[u8],
+    budget: u32,
+    watcher: W,
+) -> Result<Reply, LinkError>
+    requires { length input.now ≤ 1048576 }
+    ensures planned { IfOk result (λ r. IsRunByPlans source.now (marks_of_lines plans.now) requests.now input.now budget (reply_answer r)) }
+    ensures refused { IfErr result (IsRefusal (IsProposed source.now (marks_of_lines plans.now)) source.now board) }
+{
+    let linked = linked_by(alloc, source, plans)?;
+    let blocks = blocks(alloc, source)?;
+    let lines = told(
+        alloc,
+        source,
+        blocks.as_slice(),
+        linked.proposals.as_slice(),
+    )?;
+    let given = given_to(source, input);
+    let run = report_watched(alloc, &linked.image, given, requests, budget, watcher)?;
+    Ok(behind(lines, run)?)
+}

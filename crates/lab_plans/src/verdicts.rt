@@ -1,0 +1,116 @@
+//! What is told of the plans that are rejected.
+ghost use Rattle.std.specs.Prelude.{◌≡◌, ◌++◌, OnOk, IfOk, length, slice_index};
+ghost use Rattle.lab_plans.specs.Verdicts.{AreTold, AreVerdicts, rule_text, rejection_line, verdict_line, verdict_lines};
+
+use mx_blocks::{Block, Plan};
+use mx_plans::{Rule, first_broken_rule};
+use mx_source::Source;
+use mx_text::{push_decimal, push_line};
+use std::alloc::{AllocError, Global};
+
+/// The name of a rule, and what it asks for.
+fn rule_text(rule: Rule) -> &'static str
+    ensures { result.now ≡ rule_text rule }
+{
+    match rule {
+        Rule::Once => "Once: each instruction has to stand once",
+        Rule::Terminator => "Terminator: the last instruction has to stand as /",
+        Rule::Tail => "Tail: two items follow the / of a transfer, none that of a halt",
+        Rule::Order => "Order: dependent instructions have to stand as in the source",
+        Rule::Delay => "Delay: no load stands directly before a reader of its register",
+        Rule::LastLoad => "LastLoad: the last item is no load",
+        Rule::Room => "Room: no more items stand before the / than in the padded plan",
+    }
+}
+
+/// Appends the line of a plan that breaks a rule.
+fn push_rejection(
+    alloc: Global,
+    text: &mut Vec<u8>,
+    number: usize,
+    line: u32,
+    rule: Rule,
+) -> Result<(), AllocError>
+    ensures { OnOk result (text.new.items ≡ text.old.items ++ rejection_line number line rule) }
+{
+    text.extend_from_slice(b"plan ")?;
+    push_decimal(alloc, text, number as u64)?;
+    text.extend_from_slice(b" (line ")?;
+    push_decimal(alloc, text, u64::from(line))?;
+    text.extend_from_slice(b") rejected by ")?;
+    push_line(text, rule_text(rule))
+}
+
+/// Appends the line of a plan, if there is one.
+fn push_verdict(
+    alloc: Global,
+    text: &mut Vec<u8>,
+    number: usize,
+    line: u32,
+    verdict: Option<Rule>,
+) -> Result<(), AllocError>
+    ensures { OnOk result (text.new.items ≡ text.old.items ++ verdict_line number line verdict) }
+{
+    match verdict {
+        Some(rule) => push_rejection(alloc, text, number, line, rule),
+        None => Ok(()),
+    }
+}
+
+/// A number of a list, 0 past its end.
+fn number_at(numbers: &[u32], index: u32) -> u32
+    ensures { result ≡ slice_index numbers.now index }
+{
+    match numbers.get(index as usize) {
+        Some(number) => *number,
+        None => 0,
+    }
+}
+
+/// The first rule that each plan breaks.
+fn verdicts_of(
+    alloc: Global,
+    blocks: &[Block],
+    plans: &[Plan],
+) -> Result<Vec<Option<Rule>>, AllocError>
+    requires { length plans.now ≡ length blocks.now }
+    ensures { IfOk result (λ verdicts. AreVerdicts blocks.now plans.now verdicts.items) }
+{
+    let mut verdicts = Vec::new(alloc);
+    for i in 0..blocks.len() {
+        verdicts.push(first_broken_rule(&blocks[i], &plans[i]))?;
+    }
+    Ok(verdicts)
+}
+
+/// The lines of the plans that break a rule, by the lines of the statements of the source.
+fn verdict_lines(
+    alloc: Global,
+    lines: &[u32],
+    blocks: &[Block],
+    verdicts: &[Option<Rule>],
+) -> Result<Vec<u8>, AllocError>
+    requires { length verdicts.now ≡ length blocks.now }
+    ensures { IfOk result (λ text. text.items ≡ verdict_lines lines.now 1 blocks.now verdicts.now) }
+{
+    let mut text = Vec::new(alloc);
+    for i in 0..blocks.len() {
+        let line = number_at(lines, blocks[i].first);
+        push_verdict(alloc, &mut text, i + 1, line, verdicts[i])?;
+    }
+    Ok(text)
+}
+
+/// The lines of what is proposed for the blocks of a source and breaks a rule.
+pub(crate) fn told(
+    alloc: Global,
+    source: &Source,
+    blocks: &[Block],
+    plans: &[Plan],
+) -> Result<Vec<u8>, AllocError>
+    requires { length plans.now ≡ length blocks.now }
+    ensures { IfOk result (λ text. AreTold source.now blocks.now plans.now text.items) }
+{
+    let verdicts = verdicts_of(alloc, blocks, plans)?;
+    verdict_lines(alloc, source.lines(), blocks, verdicts.as_slice())
+}

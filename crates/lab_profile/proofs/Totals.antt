@@ -1,0 +1,64 @@
+-- The sums over all places are the counts of the run.
+use Rattle.std.proofs.Common.{◌≡◌, ℕ, zero, suc, ◌+◌, ◌<◌, Bool, true, false, cond, List, refl, arith}
+use Rattle.std.specs.Prelude.{eqb, ◌&&◌}
+use Rattle.std.proofs.lemmas.Bool.Decides.{nat_tests}
+use Rattle.mx_turn.specs.declared.latches.Stage.{Stage}
+use Rattle.mx_turn.specs.declared.latches.Stage.TheVariants.{Empty, Live, Squashed}
+use Rattle.mx_turn.specs.Counted.{one}
+use Rattle.mx_turn.specs.Program.{Program}
+use Rattle.lab_profile.specs.Charges.{sum_below, place_of, place_in, places, before, counts_cycle, counts_fetch, counts_squash, waiting, fetches_at, cycles_at, squashes_at, EachSumIsItsCount}
+use Rattle.lab_profile.proofs.Sums.{sum_plus, sum_none, sum_charge}
+use Rattle.lab_profile.proofs.Counted.{run_step, step_is}
+
+place_within : (words address : ℕ) → place_of words address < words + 2
+place_within words address = grind (arith, nat_tests)
+
+pub stage_within : (words : ℕ) (stage : Stage) → place_in words stage < places words
+stage_within words Empty = omega arith
+stage_within words (Live address) = place_within words address
+stage_within words (Squashed address) = place_within words address
+
+module _ (p : Program) (requests : List ℕ) (words : ℕ) where
+  fetches_total : (n : ℕ) → sum_below (fetches_at p requests words n) (places words) ≡ (before p requests words n).counts.fetches
+  fetches_total zero = sum_none (λ k. 0) (places words) (λ k l. refl)
+  fetches_total (suc n) =
+      let at = place_in words (before p requests words (suc n)).shown.fetch in
+      let rest = fetches_total n in
+      let more = sum_plus (fetches_at p requests words n) (λ k. cond (counts_fetch p requests words n && eqb at k) 1 0) (places words) in
+      let here = sum_charge (counts_fetch p requests words n) at 1 (places words) (stage_within words (before p requests words (suc n)).shown.fetch) in
+      let step = step_is _ _ (run_step p requests n).fetches in
+      omega arith
+
+  squashes_total : (n : ℕ) → sum_below (squashes_at p requests words n) (places words) ≡ (before p requests words n).counts.squashes
+  squashes_total zero = sum_none (λ k. 0) (places words) (λ k l. refl)
+  squashes_total (suc n) =
+      let at = place_in words (before p requests words (suc n)).shown.alu in
+      let rest = squashes_total n in
+      let more = sum_plus (squashes_at p requests words n) (λ k. cond (counts_squash p requests words n && eqb at k) 1 0) (places words) in
+      let here = sum_charge (counts_squash p requests words n) at 1 (places words) (stage_within words (before p requests words (suc n)).shown.alu) in
+      let step = step_is _ _ (run_step p requests n).squashes in
+      omega arith
+
+  -- what is charged in a cycle, and what waits after it
+  spent : (b : Bool) (w g : ℕ) → cond b (w + g) 0 + cond b 0 (w + g) ≡ w + g
+  spent true w g = omega arith
+  spent false w g = omega arith
+
+  cycles_total : (n : ℕ) → sum_below (cycles_at p requests words n) (places words) + waiting p requests words n ≡ (before p requests words n).counts.cycles
+  cycles_total zero = let none = sum_none (λ k. 0) (places words) (λ k l. refl) in omega arith
+  cycles_total (suc n) =
+      let at = place_in words (before p requests words (suc n)).shown.fetch in
+      let took = waiting p requests words n + one (counts_cycle p requests words n) in
+      let rest = cycles_total n in
+      let more = sum_plus (cycles_at p requests words n) (λ k. cond (counts_fetch p requests words n && eqb at k) took 0) (places words) in
+      let here = sum_charge (counts_fetch p requests words n) at took (places words) (stage_within words (before p requests words (suc n)).shown.fetch) in
+      let both = spent (counts_fetch p requests words n) (waiting p requests words n) (one (counts_cycle p requests words n)) in
+      let step = step_is _ _ (run_step p requests n).cycles in
+      omega arith
+
+pub sums_are_counts : EachSumIsItsCount
+sums_are_counts p requests words budget = record {
+  fetches = fetches_total p requests words budget;
+  cycles = cycles_total p requests words budget;
+  squashes = squashes_total p requests words budget;
+}

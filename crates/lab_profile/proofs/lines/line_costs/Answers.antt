@@ -1,0 +1,19 @@
+use Rattle.std.proofs.Common.{slice_index, ◌∙◌, arith}
+use Rattle.lab_profile.proofs.Gathered.{gathers_more, gathers_all}
+use Rattle.lab_profile.proofs.lines.line_costs.Goals as goal
+
+pub loop-place-preserved : goal.loop-place-preserved
+loop-place-preserved c =
+    let size = c.loop-place.invariant.size in
+    record {
+      size = c.add_word.ensures.size ∙ size;
+      executed = λ i h.
+          let (n, e, f) = c.loop-place.invariant.executed i h in
+          gathers_more (slice_index c.args.tally.now.executed.items) i c.args.origin.now c.loop-place.place n _ c.add_word.new.costs.items
+          c.loop-place-test.true (c.add_word.ensures.executed i n (omega (arith, h, size)) e) f;
+    }
+
+pub returns-clause-executed : goal.returns-clause-executed
+returns-clause-executed c i h =
+    gathers_all (slice_index c.args.tally.now.executed.items) i c.args.origin.now c.loop-place.place c.loop-place.costs.items
+    c.loop-place-test.false (c.loop-place.invariant.executed i h)

@@ -1,5 +1,0 @@
-use Rattle.mx_interrupts.proofs.Saves.{saves_all}
-use Rattle.mx_interrupts.proofs.laws.interrupt_saves.Goals as goal
-
-pub returns : goal.returns
-returns c = saves_all

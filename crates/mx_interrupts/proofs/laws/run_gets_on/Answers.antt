@@ -1,5 +1,0 @@
-use Rattle.mx_interrupts.proofs.Ends.{gets_on}
-use Rattle.mx_interrupts.proofs.laws.run_gets_on.Goals as goal
-
-pub returns : goal.returns
-returns c = gets_on

@@ -1,5 +1,0 @@
-use Rattle.mx_interrupts.proofs.Ends.{undisturbed}
-use Rattle.mx_interrupts.proofs.laws.undisturbed_run_gets_on.Goals as goal
-
-pub returns : goal.returns
-returns c = undisturbed

@@ -1,8 +1,0 @@
-//! What the lengths are.
-ghost use Rattle.mx_lengths.specs.Lengths.{GreedyLengthIs, ShortestLengthIs};
-
-/// The lengths are those of the greedy plan, and of each shortest plan.
-pub fn lengths_are_of_plans()
-    ensures greedy { GreedyLengthIs }
-    ensures shortest { ShortestLengthIs }
-{}

@@ -1,9 +1,0 @@
-use Rattle.mx_module_laws.proofs.Printable.{joined_reads}
-use Rattle.mx_module_laws.proofs.Meant.{same_means}
-use Rattle.mx_module_laws.proofs.laws.joined_reads_back.Goals as goal
-
-pub returns-clause-reads_back : goal.returns-clause-reads_back
-returns-clause-reads_back c = joined_reads
-
-pub returns-clause-means : goal.returns-clause-means
-returns-clause-means c = same_means

@@ -1,7 +1,0 @@
-use Rattle.std.proofs.Common.{◌≡◌, ◌++◌, ◌+◌, drop}
-use Rattle.mx_planned.specs.Verdicts.{verdict_lines}
-use Rattle.mx_planned.proofs.verdicts.verdict_lines.Given as goal
-
--- what is appended and what is left to append
-abbrev pub invariant-loop-i : goal.invariant-loop-i
-invariant-loop-i l = l.text.items ++ verdict_lines l.lines (l.i + 1) (drop l.i l.blocks) (drop l.i l.verdicts) ≡ verdict_lines l.lines 1 l.blocks l.verdicts

@@ -1,6 +1,0 @@
-use Rattle.std.proofs.Common.{take}
-use Rattle.mx_planned.specs.Verdicts.{AreVerdicts}
-use Rattle.mx_planned.proofs.verdicts.verdicts_of.Given as goal
-
-abbrev pub invariant-loop-i : goal.invariant-loop-i
-invariant-loop-i l = AreVerdicts (take l.i l.blocks) (take l.i l.plans) l.verdicts.items

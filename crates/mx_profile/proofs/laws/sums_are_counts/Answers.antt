@@ -1,5 +1,0 @@
-use Rattle.mx_profile.proofs.Totals.{sums_are_counts}
-use Rattle.mx_profile.proofs.laws.sums_are_counts.Goals as goal
-
-pub returns : goal.returns
-returns c = sums_are_counts

@@ -1,7 +1,0 @@
-use Rattle.std.proofs.Common.{◌≡◌}
-use Rattle.mx_profile.specs.Charges.{sum_below}
-use Rattle.mx_profile.specs.Lines.{saturated, executed_of}
-use Rattle.mx_profile.proofs.text.total.Given as goal
-
-abbrev pub invariant-loop-cost : goal.invariant-loop-cost
-invariant-loop-cost l = l.sum.executed ≡ saturated (sum_below (executed_of l.fn.costs) l.cost-index)

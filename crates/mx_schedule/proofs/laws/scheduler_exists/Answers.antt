@@ -1,5 +1,0 @@
-use Rattle.mx_schedule.proofs.Scheduler.{scheduler}
-use Rattle.mx_schedule.proofs.laws.scheduler_exists.Goals as goal
-
-pub returns : goal.returns
-returns c = scheduler

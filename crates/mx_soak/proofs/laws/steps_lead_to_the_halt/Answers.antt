@@ -1,5 +1,0 @@
-use Rattle.mx_soak.proofs.Steps.{steps_within-halts}
-use Rattle.mx_soak.proofs.laws.steps_lead_to_the_halt.Goals as goal
-
-pub returns : goal.returns
-returns c = λ source n h l. steps_within-halts source n 40009 h l

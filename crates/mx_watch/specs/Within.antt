@@ -1,5 +1,0 @@
--- The machine that is watched.
-use Rattle.mx_watch.specs.declared.watched.Watched.{Watched}
-
-abbrev pub within : {M W : Type 0} → Watched M W → M
-within t = t.machine

@@ -1,8 +1,0 @@
-use Rattle.std.specs.Prelude.{List, Option, option_map, map}
-use Rattle.mx_words.specs.Command.{texts}
-use Rattle.mx_words.specs.Reading.{Text}
-use Rattle.mx_words.specs.declared.read.Read.{Read}
-
--- the names and the values as texts
-abbrev pub seen : Read → List Text × List (Option Text)
-seen read = (texts read.names.items, map (option_map (λ s. s.now)) read.values.items)

@@ -1,0 +1,76 @@
+//! Kinds of cases.
+use crate::{images, puts, repeated, runs, shared};
+use anyhow::Result;
+use std::rt::Files;
+use test_case_files::{Cases, before, behind};
+
+/// A kind of cases, each a line of one file.
+#[derive(Clone, Copy, Debug, PartialEq, Eq)]
+pub enum Kind {
+    Runs,
+    Failing,
+    Built,
+    Images,
+    Fronts,
+    Long,
+    Stops,
+    Puts,
+    Repeated,
+    Listed,
+    Shared,
+    AtEach,
+}
+
+impl Kind {
+    pub const ALL: [Kind; 12] = [
+        Kind::Runs,
+        Kind::Failing,
+        Kind::Built,
+        Kind::Images,
+        Kind::Fronts,
+        Kind::Long,
+        Kind::Stops,
+        Kind::Puts,
+        Kind::Repeated,
+        Kind::Listed,
+        Kind::Shared,
+        Kind::AtEach,
+    ];
+}
+
+impl Cases for Kind {
+    fn file(&self) -> &'static str {
+        match *self {
+            Kind::Runs => "runs.txt",
+            Kind::Failing => "failing.txt",
+            Kind::Built => "built.txt",
+            Kind::Images => "images.txt",
+            Kind::Fronts => "fronts.txt",
+            Kind::Long => "long.txt",
+            Kind::Stops => "stops.txt",
+            Kind::Puts => "puts.txt",
+            Kind::Repeated => "repeated.txt",
+            Kind::Listed => "listed.txt",
+            Kind::Shared => "shared.txt",
+            Kind::AtEach => "at_each.txt",
+        }
+    }
+
+    fn answered<R: Files + AllocGlobal>(&self, rt: &R, line: &str) -> Result<String> {
+        let alloc = rt.alloc();
+        match *self {
+            Kind::Runs => runs::run(rt, behind(line, " ")?),
+            Kind::Failing => runs::failing(rt, behind(line, " ")?),
+            Kind::Built => runs::built(rt, line),
+            Kind::Images => images::image(alloc, before(line, " -> ")?),
+            Kind::Fronts => images::fronts(rt, before(line, " ")?),
+            Kind::Long => images::long(alloc, before(line, " -> ")?),
+            Kind::Stops => runs::stops(rt, line),
+            Kind::Puts => puts::puts(rt, line),
+            Kind::Repeated => repeated::repeated(alloc, before(line, " -> ")?),
+            Kind::Listed => repeated::listed(alloc, line),
+            Kind::Shared => shared::shared(rt, before(line, " -> ")?),
+            Kind::AtEach => shared::at_each(rt, line),
+        }
+    }
+}

@@ -1,0 +1,59 @@
+//! Commands over files in memory.
+use anyhow::Result;
+use lab_command::lab;
+use lab_watch::Unwatched;
+use mx_io::{MemoryShelf, MemorySink};
+use std::alloc::Global;
+use std::fs;
+use std::rt::Files;
+
+/// The most bytes that a case prints.
+const ROOM: usize = 1_048_576;
+
+/// How many bytes the sink takes at most in one put.
+const PIECE: usize = 4096;
+
+/// How a command ended, and what it printed.
+#[derive(Drop)]
+pub struct Ended {
+    pub status: u8,
+    pub output: MemorySink,
+}
+
+// The words of a line, between single spaces.
+fn words_of(alloc: Global, line: &str) -> Result<Vec<String>> {
+    let mut words = Vec::new(alloc);
+    for word in line.split(" ") {
+        words.push(String::from_str(alloc, word)?)?;
+    }
+    Ok(words)
+}
+
+// The stored files that the words of a line name.
+fn files_of<R: Files + AllocGlobal>(rt: &R, line: &str) -> Result<MemoryShelf> {
+    let alloc = rt.alloc();
+    let mut shelf = MemoryShelf::new(alloc);
+    for word in line.split(" ") {
+        if let Ok(bytes) = fs::read(rt, format!(in alloc; "files/{word}")?) {
+            shelf.add(word, bytes.as_slice())?;
+        }
+    }
+    Ok(shelf)
+}
+
+/// Runs the command that the words of a line ask for.
+pub fn run<R: Files + AllocGlobal>(rt: &R, line: &str) -> Result<Ended> {
+    let alloc = rt.alloc();
+    let words = words_of(alloc, line)?;
+    let mut shelf = files_of(rt, line)?;
+    let mut output = MemorySink::new(alloc, PIECE, ROOM)?;
+    let status = lab(alloc, words.as_slice(), &mut shelf, &mut output, Unwatched).number();
+    Ok(Ended { status, output })
+}
+
+/// What a case has to print, as far as it is stored.
+pub fn wanted<R: Files + AllocGlobal>(rt: &R, name: &str) -> Result<String> {
+    let alloc = rt.alloc();
+    let text = fs::read_to_string(rt, format!(in alloc; "wanted/{name}")?)?;
+    Ok(text)
+}

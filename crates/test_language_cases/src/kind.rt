@@ -1,0 +1,64 @@
+//! Kinds of cases.
+use crate::{encoded, numbers, texts};
+use anyhow::Result;
+use std::rt::Files;
+use test_case_files::{Cases, before, behind};
+
+/// A kind of cases, each a line of one file.
+#[derive(Clone, Copy, Debug, PartialEq, Eq)]
+pub enum Kind {
+    Words,
+    Compute,
+    Conditions,
+    Faults,
+    Meanings,
+    Statements,
+    Generated,
+    Encoded,
+    Handler,
+}
+
+impl Kind {
+    pub const ALL: [Kind; 9] = [
+        Kind::Words,
+        Kind::Compute,
+        Kind::Conditions,
+        Kind::Faults,
+        Kind::Meanings,
+        Kind::Statements,
+        Kind::Generated,
+        Kind::Encoded,
+        Kind::Handler,
+    ];
+}
+
+impl Cases for Kind {
+    fn file(&self) -> &'static str {
+        match *self {
+            Kind::Words => "words.txt",
+            Kind::Compute => "compute.txt",
+            Kind::Conditions => "conditions.txt",
+            Kind::Faults => "faults.txt",
+            Kind::Meanings => "meanings.txt",
+            Kind::Statements => "statements.txt",
+            Kind::Generated => "generated.txt",
+            Kind::Encoded => "encoded.txt",
+            Kind::Handler => "handler.txt",
+        }
+    }
+
+    fn answered<R: Files + AllocGlobal>(&self, rt: &R, line: &str) -> Result<String> {
+        let alloc = rt.alloc();
+        match *self {
+            Kind::Words => numbers::word(alloc, line),
+            Kind::Compute => numbers::computed(alloc, line),
+            Kind::Conditions => numbers::held(alloc, line),
+            Kind::Faults => texts::fault(rt, before(line, " ")?),
+            Kind::Meanings => texts::meaning(rt, behind(line, " ")?),
+            Kind::Statements => texts::statement(alloc, before(line, " -> ")?),
+            Kind::Generated => texts::generated(alloc, before(line, ":")?),
+            Kind::Encoded => encoded::text(alloc, before(line, " -> ")?),
+            Kind::Handler => encoded::handler(alloc, before(line, " ")?),
+        }
+    }
+}

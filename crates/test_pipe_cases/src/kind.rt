@@ -1,0 +1,39 @@
+//! The kinds of cases.
+use crate::{apart, drawn, sides, traced};
+use anyhow::Result;
+use std::rt::Files;
+use test_case_files::Cases;
+
+/// A kind of cases.
+#[derive(Clone, Copy)]
+pub enum Kind {
+    Worked,
+    Drawn,
+    Fields,
+    Traces,
+}
+
+impl Kind {
+    /// Every kind.
+    pub const ALL: [Kind; 4] = [Kind::Worked, Kind::Drawn, Kind::Fields, Kind::Traces];
+}
+
+impl Cases for Kind {
+    fn file(&self) -> &'static str {
+        match self {
+            Kind::Worked => "worked.txt",
+            Kind::Drawn => "drawn.txt",
+            Kind::Fields => "fields.txt",
+            Kind::Traces => "traces.txt",
+        }
+    }
+
+    fn answered<R: Files + AllocGlobal>(&self, rt: &R, line: &str) -> Result<String> {
+        match self {
+            Kind::Worked => sides::worked(rt.alloc(), line),
+            Kind::Drawn => drawn::alike(rt.alloc(), line),
+            Kind::Fields => apart::fields(rt.alloc(), line),
+            Kind::Traces => traced::traced(rt, line),
+        }
+    }
+}

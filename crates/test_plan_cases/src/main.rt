@@ -1,0 +1,28 @@
+//! Compares blocks, plans and copies with cases from a file, whose answers come from another program. Prints how many
+//! agree, and a line for each case that does not.
+#![tactic(auto)]
+
+mod backwards;
+mod shown;
+
+use anyhow::Result;
+use shown::answered;
+use std::rt::Files;
+use test_case_files::{Cases, compare};
+
+/// The cases of plans.
+struct Plans;
+
+impl Cases for Plans {
+    fn file(&self) -> &'static str {
+        "plans.txt"
+    }
+
+    fn answered<R: Files + AllocGlobal>(&self, rt: &R, line: &str) -> Result<String> {
+        answered(rt.alloc(), line)
+    }
+}
+
+fn main(rt: HostRuntime) -> Result<()> {
+    compare(&rt, &Plans)
+}
