@@ -1,16 +1,18 @@
 -- A protocol that was performed and finished is a command that did what its protocol says.
-use Rattle.std.proofs.Common.{◌≡◌, ◌≢◌, ℕ, ◌⊎◌, inl, inr, ⊎_elim, List, Bool, true, false, Option, Some, None, refl, sym, ap, ◌∙◌, subst, arith}
+use Rattle.std.proofs.Common.{◌≡◌, ◌≢◌, ◌++◌, [], append-nil, ℕ, ◌⊎◌, inl, inr, ⊎_elim, List, Bool, true, false, Option, Some, None, refl, sym, ap, ◌∙◌, subst}
 use Rattle.std.specs.Prelude.{is_some}
-use Rattle.mx_io.specs.Counts.{Rose, with_more}
+use Rattle.mx_io.specs.Counts.{Rose}
 use Rattle.cmd_answer.specs.declared.file.FileKind.{FileKind}
 use Rattle.cmd_answer.specs.declared.status.Status.{Status}
-use Rattle.cmd_answer.specs.declared.status.Status.TheVariants.{Halted, Done, Refused, Usage, OutOfBudget, ReadFault, WriteFault, Memory, BadImage, BadEvents, Stuck}
-use Rattle.cmd_answer.specs.Answer.{Answer, failed_answer, held_with, Written}
-use Rattle.mx_io.specs.Shelves.{Told, Counts}
+use Rattle.cmd_answer.specs.declared.status.Status.TheVariants.{Done, ReadFault, WriteFault, Memory}
+use Rattle.cmd_answer.specs.Answer.{Answer, failed_answer, held_with, files_of, Written}
+use Rattle.mx_io.specs.Reads.{Read}
 use Rattle.cmd_answer.specs.Protocol.{Protocol, resolved, Performed, Faulted, HasOwnAnswers}
-use Rattle.cmd_answer.specs.Delivery.{Delivered, PutsPrefix, FailsToWrite}
-use Rattle.cmd_answer.specs.Commands.{Outside, Finished, Commanded}
+use Rattle.cmd_answer.specs.Delivery.{Delivered, PutsPrefix}
+use Rattle.cmd_answer.specs.Logged.{answer_by, Agree}
+use Rattle.cmd_answer.specs.Commands.{Outside, Finished, Made, Commanded}
 use Rattle.cmd_answer.proofs.Protocols.{told_answer, fault_of_file, CountedFault, file_is_done}
+use Rattle.cmd_answer.proofs.Logged.{ran, agreed}
 
 -- a status is a write fault, or want of memory, or neither
 abbrev pub Neither : Status → Type 0
@@ -47,6 +49,10 @@ unfiled : (file : Option Written) (held : List ℕ → Option (List ℕ)) (n : L
 unfiled None held n empty = refl
 unfiled (Some file) held n empty = absurd (empty refl)
 
+no_files : (file : Option Written) → is_some file ≢ true → files_of file ≡ []
+no_files None empty = refl
+no_files (Some file) empty = absurd (empty refl)
+
 module _ (p : Protocol) (before after : Outside) (answer : Answer) (result : Status)
     (own : HasOwnAnswers p) (performed : Performed before.told p before.counts after.counts answer)
     (finished : Finished answer before after result) where
@@ -55,6 +61,44 @@ module _ (p : Protocol) (before after : Outside) (answer : Answer) (result : Sta
 
   delivered : Neither result → Delivered answer result before.told after.told before.written after.written
   delivered n = finished.delivered n.0 n.1
+
+  exact : Neither result
+      → (reads : List Read) × Made p before.counts after.counts reads × Delivered (answer_by p reads) result before.told after.told before.written after.written
+  exact n =
+      let made = ran before.told p before.counts after.counts answer performed in (
+        made.0,
+        record { logged = made.1; asked = made.2 },
+        given_answer answer (answer_by p made.0) before after result made.3 (delivered n),
+      )
+
+  exact_held : Neither result
+      → (reads : List Read) × (after.counts.log ≡ before.counts.log ++ reads)
+      × ((held : List ℕ → Option (List ℕ)) → Agree held reads
+      → Delivered (resolved p held) result before.told after.told before.written after.written)
+  exact_held n =
+      let is = exact n in (
+        is.0,
+        is.1.logged,
+        λ held agree. given_answer (answer_by p is.0) (resolved p held) before after result (agreed held p is.0 is.1.asked agree) is.2,
+      )
+
+  exact_prefix : result ≡ WriteFault
+      → (reads : List Read) × Made p before.counts after.counts reads × PutsPrefix (answer_by p reads) before.written after.written
+  exact_prefix w =
+      let made = ran before.told p before.counts after.counts answer performed in (
+        made.0,
+        record { logged = made.1; asked = made.2 },
+        subst (λ a. PutsPrefix a before.written after.written) made.3 (finished.put_out w),
+      )
+
+  unwrote : result ≢ Done → after.told.wrote ≡ before.told.wrote
+  unwrote not_done =
+      ⊎_elim
+      (λ fault. finished.unwrote fault)
+      (λ other. let d = delivered other in
+      let done = file_is_done before.told p before.counts after.counts answer own performed in
+      d.wrote ∙ ap (λ f. before.told.wrote ++ f) (no_files answer.file (λ file. not_done (d.status ∙ done file))) ∙ append-nil before.told.wrote)
+      (status_cases result)
 
   complete : before.told.tells ≡ true
       → ¬ Rose before.counts.faults after.counts.faults → ¬ Rose before.write_faults after.write_faults → ¬ Rose before.sink_faults after.sink_faults
@@ -77,7 +121,7 @@ module _ (p : Protocol) (before after : Outside) (answer : Answer) (result : Sta
       d
 
   read_fault : result ≡ ReadFault
-      → (given : Answer) × Faulted before.told p before.counts after.counts given × (after.written ≡ with_more before.written given.output)
+      → (given : Answer) × Faulted before.told p before.counts after.counts given × (after.written ≡ before.written ++ given.output)
   unfolding is_write_fault is_memory
   read_fault r =
       let d = delivered (neither result (ap is_write_fault r) (ap is_memory r)) in
@@ -103,6 +147,10 @@ module _ (p : Protocol) (before after : Outside) (answer : Answer) (result : Sta
 
   pub commanded : Commanded p before after result
   commanded = record {
+    exact = λ w m. exact (w, m);
+    exact_held = λ w m. exact_held (w, m);
+    exact_prefix = exact_prefix;
+    unwrote = unwrote;
     complete = complete;
     sound = sound;
     read_fault = read_fault;

@@ -5,11 +5,7 @@ use Rattle.cmd_answer.specs.declared.file.FileKind.{FileKind}
 use Rattle.cmd_answer.specs.declared.status.Status.{Status}
 use Rattle.cmd_answer.specs.declared.status.Status.TheVariants.{Usage, Done, ReadFault, WriteFault, Memory}
 use Rattle.cmd_answer.specs.Files.{file_word}
-
--- a name of the shelf, and the bytes that it is to hold
-pub record Written : Type 0 where
-  pub name : List ℕ
-  pub bytes : List ℕ
+pub use Rattle.mx_io.specs.Writes.{Written}
 
 -- how a command ends, all that it puts out, and the file that it writes, if it writes one
 pub record Answer : Type 0 where
@@ -32,6 +28,11 @@ writes name bytes = record { status = Done; output = []; file = Some (record { n
 abbrev pub held_with : Option Written → (List ℕ → Option (List ℕ)) → List ℕ → Option (List ℕ)
 held_with None held name = held name
 held_with (Some file) held name = if bytes_eq file.name name then Some file.bytes else held name
+
+-- the files that are written
+abbrev pub files_of : Option Written → List Written
+files_of None = []
+files_of (Some file) = file ∷ []
 
 -- a status that no fault outside and no want of memory gives
 abbrev pub is_own : Status → Bool

@@ -17,6 +17,7 @@ pub fn finish<S: Shelf, W: Sink>(reply: Reply, shelf: &mut S, out: &mut W) -> St
     ensures prefix { result ≡ Status.WriteFault → PutsPrefix (reply_answer reply) (W.written out.old) (W.written out.new) }
     ensures memory { result ≡ Status.Memory → W.written out.new ≡ W.written out.old }
     ensures memory_for_a_file { (reply_answer reply).file ≡ None → result ≢ Status.Memory }
+    ensures unwrote { (result ≡ Status.WriteFault) ⊎ (result ≡ Status.Memory) → (S.told shelf.new).wrote ≡ (S.told shelf.old).wrote }
     ensures kept { (result ≡ Status.WriteFault) ⊎ (result ≡ Status.Memory) → (S.told shelf.old).tells ≡ true → (n : List ℕ)
         → (S.told shelf.new).held n ≡ (S.told shelf.old).held n }
     ensures unread { S.counts shelf.new ≡ S.counts shelf.old }

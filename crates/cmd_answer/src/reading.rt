@@ -19,7 +19,8 @@ pub fn read_file<S: Shelf>(
     name: &str,
 ) -> Result<Result<Vec<u8>, Reply>, Memory>
     ensures read { IsRead (S.counts shelf.old) (S.counts shelf.new) }
-    ensures given { IfOk result (λ r. IfOk r (λ v. IsGiven (S.told shelf.old) kind name.now v.items)) }
+    ensures given { IfOk result (λ r. IfOk r (λ v. IsGiven (S.told shelf.old) kind name.now v.items
+        (S.counts shelf.old) (S.counts shelf.new))) }
     ensures fault { IfOk result (λ r. IfErr r (λ e. IsFault (S.told shelf.old) kind name.now
         (S.counts shelf.old) (S.counts shelf.new) (reply_answer e))) }
     ensures told_stays { S.told shelf.new ≡ S.told shelf.old }

@@ -5,6 +5,7 @@ use Rattle.std.specs.Option.{unwrap_or}
 use Rattle.mx_io.specs.Counts.{Rose}
 use Rattle.cmd_answer.specs.Answer.{Answer}
 use Rattle.mx_io.specs.Shelves.{Counts}
+use Rattle.mx_io.specs.Writes.{Written}
 use Rattle.cmd_answer.specs.Protocol.{Protocol, Answers, Reads, Faulted}
 use Rattle.mx_command.specs.Accepted.{Held}
 use Rattle.embed_call.specs.Answered.{FindsItsFiles}
@@ -22,14 +23,14 @@ not_none : (h : Option (List ℕ)) (bytes : List ℕ) → h ≡ Some bytes → h
 not_none h bytes is none = absurd (cc)
 
 pub finds_no_fault : (held : Held) (p : Protocol) (before after : Counts) (answer : Answer) → after.faults ≡ 0 → FindsItsFiles held p
-    → Faulted (record { tells = true; held = held }) p before after answer → ⊥
-finds_no_fault held (Answers given) before after answer z finds faulted = faulted
-finds_no_fault held (Reads kind name next) before after answer z (bytes, holds, rest) (inl (read, inl (is, inl rose))) =
+    → (wrote : List Written) → Faulted (record { tells = true; held = held; wrote = wrote }) p before after answer → ⊥
+finds_no_fault held (Answers given) before after answer z finds wrote faulted = faulted
+finds_no_fault held (Reads kind name next) before after answer z (bytes, holds, rest) wrote (inl (read, inl (is, logged, inl rose))) =
     no_rise before.faults after.faults z rose
-finds_no_fault held (Reads kind name next) before after answer z (bytes, holds, rest) (inl (read, inl (is, inr (tells, none)))) =
+finds_no_fault held (Reads kind name next) before after answer z (bytes, holds, rest) wrote (inl (read, inl (is, logged, inr (tells, none)))) =
     not_none (held name) bytes holds.there none
-finds_no_fault held (Reads kind name next) before after answer z (bytes, holds, rest) (inl (read, inr (is, long))) =
+finds_no_fault held (Reads kind name next) before after answer z (bytes, holds, rest) wrote (inl (read, inr (is, logged, long))) =
     not_long _ (held name) bytes holds.there holds.within (long.told refl)
-finds_no_fault held (Reads kind name next) before after answer z (bytes, holds, rest) (inr (between, read, found, given, more)) =
+finds_no_fault held (Reads kind name next) before after answer z (bytes, holds, rest) wrote (inr (between, read, found, given, more)) =
     let same : bytes ≡ found = ap (λ (o : Option (List ℕ)). unwrap_or o []) (sym holds.there ∙ given.exact refl) in
-    finds_no_fault held (next found) between after answer z (subst (λ b. FindsItsFiles held (next b)) same rest) more
+    finds_no_fault held (next found) between after answer z (subst (λ b. FindsItsFiles held (next b)) same rest) wrote more

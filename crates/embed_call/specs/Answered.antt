@@ -37,9 +37,9 @@ pub record Answered (asked : Option Command) (held : Held) (result : Status) (te
   pub file : writes_a_file asked ≡ true → written ≡ file_bytes (resolved (command_protocol asked) held).file
   pub no_file : writes_a_file asked ≡ false → written ≡ []
   -- where they ask for the run of a source that is accepted, for that of two, or for the stops of one: all that is promised of these
-  pub headline : (accepted : Accepted asked held) → Headline asked held accepted result (Some []) (Some text)
-  pub pair : (accepted : AcceptedPair asked held) → PairHeadline asked held accepted result (Some []) (Some text)
-  pub stops : (accepted : AcceptedStops asked held) → StopsHeadline asked held accepted result (Some []) (Some text)
+  pub headline : (accepted : Accepted asked held) → Headline asked held accepted result [] text
+  pub pair : (accepted : AcceptedPair asked held) → PairHeadline asked held accepted result [] text
+  pub stops : (accepted : AcceptedStops asked held) → StopsHeadline asked held accepted result [] text
   -- it is no fault of writing and no want of memory, and no fault of reading where each file that is read is held and within its limit
   pub no_write_fault : result ≢ WriteFault
   pub no_memory : result ≢ Memory

@@ -13,4 +13,4 @@ told_of shelf = memory.told_of shelf.files
 
 -- the counts of its reads, none of which is a fault
 abbrev pub counts_of : QuietShelf → Counts
-counts_of shelf = record { reads = memory.reads_of shelf.files; taken = memory.taken_of shelf.files; faults = 0 }
+counts_of shelf = record { reads = memory.reads_of shelf.files; taken = memory.taken_of shelf.files; faults = 0; log = memory.log_of shelf.files }

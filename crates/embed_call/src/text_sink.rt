@@ -41,7 +41,7 @@ impl TextSink {
 impl Sink for TextSink {
     ghost use Rattle.embed_call.specs.TextSink.{written_in, faults_of};
 
-    ghost written = { λ s. Some (written_in s) };
+    ghost written = { written_in };
 
     ghost faults = { faults_of };
 

@@ -20,9 +20,10 @@ module _ (p : Protocol) (answer : Answer) (result : Status) (before between afte
       → (result ≡ WriteFault → FailsToWrite answer before.sink_faults after.sink_faults between.write_faults after.write_faults)
       → (result ≡ WriteFault → PutsPrefix answer before.written after.written)
       → (result ≡ Memory → after.written ≡ before.written)
+      → ((result ≡ WriteFault) ⊎ (result ≡ Memory) → after.told.wrote ≡ between.told.wrote)
       → ((result ≡ WriteFault) ⊎ (result ≡ Memory) → between.told.tells ≡ true → (n : List ℕ) → after.told.held n ≡ between.told.held n)
       → Commanded p before after result
-  ended own performed same_told same_writes same_counts delivered write_fault put_out memory kept =
+  ended own performed same_told same_writes same_counts delivered write_fault put_out memory unwrote kept =
       commanded p before after answer result own
       (subst (λ (c : Counts). Performed before.told p before.counts c answer) (sym same_counts) performed)
       (record {
@@ -30,6 +31,7 @@ module _ (p : Protocol) (answer : Answer) (result : Status) (before between afte
         write_fault = λ w. subst (λ n. FailsToWrite answer before.sink_faults after.sink_faults n after.write_faults) same_writes (write_fault w);
         put_out = put_out;
         memory = memory;
+        unwrote = λ f. unwrote f ∙ ap (λ (x : Told). x.wrote) same_told;
         kept = λ f t n. kept f (ap (λ (x : Told). x.tells) same_told ∙ t) n ∙ ap (λ (x : Told). x.held n) same_told;
       })
 

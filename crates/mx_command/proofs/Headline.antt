@@ -96,12 +96,12 @@ module _ (asked : Option Command) (held : Held) (a : Accepted asked held) where
   means : MeansItsSource source a.sites a.requests a.input a.limits.budget
   means = text_means a.text a.sites a.requests a.input a.limits.budget a.faultless a.layout a.reach
 
-  run_is_told : (result : Status) (tells : Bool) (told' : Told) (before after : Option (List ℕ))
+  run_is_told : (result : Status) (told told' : Told) (before after : List ℕ)
       → Delivered (program_answer (source_program source a.sites a.input) code_words a.requests a.limits) result
-      (record { tells = tells; held = held }) told' before after
+      told told' before after
       → Headline asked held a result before after
   unfolding program_answer
-  run_is_told result tells told' before after d = record {
+  run_is_told result told told' before after d = record {
     status = d.status;
     output = d.output;
     sends_a_prefix = means.sent;
@@ -112,8 +112,8 @@ module _ (asked : Option Command) (held : Held) (a : Accepted asked held) where
 
   -- where the answer was delivered, the headline holds of it
   pub delivered_is_headline :
-      (layout_of : Layouts) → IsScheduler layout_of → (result : Status) (tells : Bool) (told' : Told) (before after : Option (List ℕ))
-      → Delivered (resolved (protocol_of layout_of asked) held) result (record { tells = tells; held = held }) told' before after
+      (layout_of : Layouts) → IsScheduler layout_of → (result : Status) (told told' : Told) (before after : List ℕ)
+      → Delivered (resolved (protocol_of layout_of asked) held) result told told' before after
       → Headline asked held a result before after
-  delivered_is_headline layout_of is result tells told' before after d = run_is_told result tells told' before after
-      (subst (λ (x : Answer). Delivered x result (record { tells = tells; held = held }) told' before after) (answer_is layout_of is) d)
+  delivered_is_headline layout_of is result told told' before after d = run_is_told result told told' before after
+      (subst (λ (x : Answer). Delivered x result told told' before after) (answer_is layout_of is) d)

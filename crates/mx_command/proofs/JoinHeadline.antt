@@ -65,10 +65,10 @@ module _ (asked : Option Command) (held : Held) (a : AcceptedModules asked held)
     names = short;
   }
 
-  text_is_told : (result : Status) (tells : Bool) (told' : Told) (before after : Option (List ℕ))
-      → Delivered (prints Done (printed (joined a.texts))) result (record { tells = tells; held = held }) told' before after
+  text_is_told : (result : Status) (told told' : Told) (before after : List ℕ)
+      → Delivered (prints Done (printed (joined a.texts))) result told told' before after
       → JoinHeadline asked held a result before after
-  text_is_told result tells told' before after d = record {
+  text_is_told result told told' before after d = record {
     status = d.status;
     output = d.output;
     reads_back = λ short. joined_reads a.texts (are_joined short);
@@ -77,8 +77,8 @@ module _ (asked : Option Command) (held : Held) (a : AcceptedModules asked held)
   }
 
   -- where the answer was delivered, it is that text
-  pub delivered_is_joined : (layout_of : Layouts) (result : Status) (tells : Bool) (told' : Told) (before after : Option (List ℕ))
-      → Delivered (resolved (protocol_of layout_of asked) held) result (record { tells = tells; held = held }) told' before after
+  pub delivered_is_joined : (layout_of : Layouts) (result : Status) (told told' : Told) (before after : List ℕ)
+      → Delivered (resolved (protocol_of layout_of asked) held) result told told' before after
       → JoinHeadline asked held a result before after
-  delivered_is_joined layout_of result tells told' before after d = text_is_told result tells told' before after
-      (subst (λ (x : Answer). Delivered x result (record { tells = tells; held = held }) told' before after) (answer_is layout_of) d)
+  delivered_is_joined layout_of result told told' before after d = text_is_told result told told' before after
+      (subst (λ (x : Answer). Delivered x result told told' before after) (answer_is layout_of) d)

@@ -243,8 +243,8 @@ own_answers layout_of (Some asked) = own_protocol (protocol_of layout_of (Some a
 pub fault_is_replied :
     (shelf : Told) (kind : FileKind) (name : List ℕ) (before after : Counts) (answer : Answer) → IsFault shelf kind name before after answer
     → IsReplied answer
-fault_is_replied shelf kind name before after answer (inl (is, why)) = inr (ap (λ a. a.status) is)
-fault_is_replied shelf kind name before after answer (inr (is, why)) = inr (ap (λ a. a.status) is)
+fault_is_replied shelf kind name before after answer (inl (is, logged, why)) = inr (ap (λ a. a.status) is)
+fault_is_replied shelf kind name before after answer (inr (is, logged, why)) = inr (ap (λ a. a.status) is)
 
 pub performed_is_replied :
     (shelf : Told) (p : Protocol) (before after : Counts) (answer : Answer) → HasAnswers p → Performed shelf p before after answer → IsReplied answer

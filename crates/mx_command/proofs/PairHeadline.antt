@@ -75,19 +75,19 @@ module _ (asked : Option Command) (held : Held) (a : AcceptedPair asked held) wh
       ∙ ap (λ o. resolved (unless_far 2 o (run a.lower_sites a.upper_sites)) held) a.second_shares.reach
       ∙ requests_are held a.interrupts a.requests _ a.are_requests
 
-  run_is_told : (result : Status) (tells : Bool) (told' : Told) (before after : Option (List ℕ))
-      → Delivered (shared_answer (pair_program asked held a) a.requests a.budget) result (record { tells = tells; held = held }) told' before after
+  run_is_told : (result : Status) (told told' : Told) (before after : List ℕ)
+      → Delivered (shared_answer (pair_program asked held a) a.requests a.budget) result told told' before after
       → PairHeadline asked held a result before after
   unfolding shared_answer
-  run_is_told result tells told' before after d = record {
+  run_is_told result told told' before after d = record {
     status = d.status;
     output = d.output;
     means = texts_mean a.first a.second a.lower_sites a.upper_sites a.requests a.budget a.first_shares a.second_shares;
   }
 
   -- where the answer was delivered, it is that of such a run
-  pub delivered_is_pair : (layout_of : Layouts) → IsScheduler layout_of → (result : Status) (tells : Bool) (told' : Told) (before after : Option (List ℕ))
-      → Delivered (resolved (protocol_of layout_of asked) held) result (record { tells = tells; held = held }) told' before after
+  pub delivered_is_pair : (layout_of : Layouts) → IsScheduler layout_of → (result : Status) (told told' : Told) (before after : List ℕ)
+      → Delivered (resolved (protocol_of layout_of asked) held) result told told' before after
       → PairHeadline asked held a result before after
-  delivered_is_pair layout_of is result tells told' before after d = run_is_told result tells told' before after
-      (subst (λ (x : Answer). Delivered x result (record { tells = tells; held = held }) told' before after) (answer_is layout_of is) d)
+  delivered_is_pair layout_of is result told told' before after d = run_is_told result told told' before after
+      (subst (λ (x : Answer). Delivered x result told told' before after) (answer_is layout_of is) d)

@@ -126,16 +126,16 @@ module _ (asked : Option Command) (held : Held) (a : AcceptedStops asked held) w
       (text_laid board a.text a.sites (omega arith) a.faultless (omega (arith, few)) a.layout a.reach)
       (labelled_leads source a.index found.labelled) found.within (user_word a.limits.watch a.ranges.watch.0 a.ranges.watch.1) unstuck
 
-  session_is_told : (result : Status) (tells : Bool) (told' : Told) (before after : Option (List ℕ))
-      → Delivered (session_answer (accepted_session asked held a)) result (record { tells = tells; held = held }) told' before after
+  session_is_told : (result : Status) (told told' : Told) (before after : List ℕ)
+      → Delivered (session_answer (accepted_session asked held a)) result told told' before after
       → StopsHeadline asked held a result before after
   unfolding session_answer
-  session_is_told result tells told' before after d = record { status = d.status; output = d.output; means = means }
+  session_is_told result told told' before after d = record { status = d.status; output = d.output; means = means }
 
   -- where the answer was delivered, it is that of such a session
   pub delivered_is_stops :
-      (layout_of : Layouts) → IsScheduler layout_of → (result : Status) (tells : Bool) (told' : Told) (before after : Option (List ℕ))
-      → Delivered (resolved (protocol_of layout_of asked) held) result (record { tells = tells; held = held }) told' before after
+      (layout_of : Layouts) → IsScheduler layout_of → (result : Status) (told told' : Told) (before after : List ℕ)
+      → Delivered (resolved (protocol_of layout_of asked) held) result told told' before after
       → StopsHeadline asked held a result before after
-  delivered_is_stops layout_of is result tells told' before after d = session_is_told result tells told' before after
-      (subst (λ (x : Answer). Delivered x result (record { tells = tells; held = held }) told' before after) (answer_is layout_of is) d)
+  delivered_is_stops layout_of is result told told' before after d = session_is_told result told told' before after
+      (subst (λ (x : Answer). Delivered x result told told' before after) (answer_is layout_of is) d)

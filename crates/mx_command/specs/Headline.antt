@@ -1,6 +1,6 @@
 -- The headline: what `run` promises of a source that is accepted, whatever interrupts come.
-use Rattle.std.specs.Prelude.{◌≡◌, ◌≢◌, ℕ, ◌+◌, ◌≤◌, ◌⊎◌, cond, min, true, List, length, Option}
-use Rattle.mx_io.specs.Counts.{Rose, with_more}
+use Rattle.std.specs.Prelude.{◌≡◌, ◌++◌, ◌≢◌, ℕ, ◌+◌, ◌≤◌, ◌⊎◌, cond, min, true, List, length, Option}
+use Rattle.mx_io.specs.Counts.{Rose}
 use Rattle.mx_io.specs.Shelves.{Counts}
 use Rattle.mx_source.specs.SourceValue.{SourceValue}
 use Rattle.mx_source.specs.Meaning.{Run, meaning, HaltsIn}
@@ -52,10 +52,10 @@ module _ (asked : Option Command) (held : Held) (a : Accepted asked held) where
   abbrev pub WhereUnstuck : Type 0 → Type 0
   WhereUnstuck promise = IsUnstuck accepted_source a.input (a.limits.budget + block_ahead) → promise
 
-  pub record Headline (result : Status) (before after : Option (List ℕ)) : Type 0 where
+  pub record Headline (result : Status) (before after : List ℕ) : Type 0 where
     -- it reports what the machine does
     pub status : result ≡ cond accepted_run.halted Halted OutOfBudget
-    pub output : after ≡ with_more before accepted_text
+    pub output : after ≡ before ++ accepted_text
     -- its console is a prefix of the meaning's
     pub sends_a_prefix : WhereUnstuck (IsPrefix accepted_run.console (meant (a.limits.budget + block_ahead)).console)
     -- if it halts, the meaning halts, with its console, registers and data

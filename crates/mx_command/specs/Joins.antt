@@ -1,6 +1,5 @@
 -- `join` of modules without faults, and what it promises.
-use Rattle.std.specs.Prelude.{◌≡◌, ℕ, ◌+◌, ◌≤◌, List, [], ◌∷◌, length, All, Option, Some, None}
-use Rattle.mx_io.specs.Counts.{with_more}
+use Rattle.std.specs.Prelude.{◌≡◌, ◌++◌, ℕ, ◌+◌, ◌≤◌, List, [], ◌∷◌, length, All, Option, Some, None}
 use Rattle.mx_source.specs.declared.Label.{Label}
 use Rattle.mx_source.specs.Printed.{printed}
 use Rattle.mx_source.specs.Meaning.{meaning}
@@ -34,10 +33,10 @@ module _ (asked : Option Command) (held : Held) (a : AcceptedModules asked held)
   abbrev pub WhereShort : Type 0 → Type 0
   WhereShort promise = All (λ (p : List ℕ × Label). length p.0 ≤ 200) (joined a.texts).labels → promise
 
-  pub record JoinHeadline (result : Status) (before after : Option (List ℕ)) : Type 0 where
+  pub record JoinHeadline (result : Status) (before after : List ℕ) : Type 0 where
     -- it prints the canonical text of the source that the texts join as
     pub status : result ≡ Done
-    pub output : after ≡ with_more before (printed (joined a.texts))
+    pub output : after ≡ before ++ (printed (joined a.texts))
     -- that text has no fault, and reads as the same program
     pub reads_back : WhereShort (ReadsBack (joined a.texts))
     -- so it means what the modules mean together, with any input and after any number of steps

@@ -8,3 +8,4 @@ pub mod Pairs
 pub mod Stops
 pub mod Joins
 pub mod Layouts
+pub mod Promised

@@ -1,6 +1,5 @@
 -- What `share` promises of two sources that are accepted, whatever interrupts come.
-use Rattle.std.specs.Prelude.{◌≡◌, ℕ, ◌+◌, cond, true, false, List, Option, Some}
-use Rattle.mx_io.specs.Counts.{with_more}
+use Rattle.std.specs.Prelude.{◌≡◌, ◌++◌, ℕ, ◌+◌, cond, true, false, List, Option, Some}
 use Rattle.mx_squash.specs.Copies.{Site}
 use Rattle.mx_turn.specs.Program.{Program}
 use Rattle.mx_turn.specs.Run.{MachineRun, run_of}
@@ -52,9 +51,9 @@ module _ (asked : Option Command) (held : Held) (a : AcceptedPair asked held) wh
 
   -- the status says how the run ended, exactly its report was put out, and where neither meaning is stuck within the budget and a block more, both
   -- programs do what their sources mean
-  pub record PairHeadline (result : Status) (before after : Option (List ℕ)) : Type 0 where
+  pub record PairHeadline (result : Status) (before after : List ℕ) : Type 0 where
     pub status : result ≡ cond pair_run.halted Halted OutOfBudget
-    pub output : after ≡ with_more before
+    pub output : after ≡ before ++
         (shared_text pair_run.halted pair_run.counts (task_console pair_program a.requests true a.budget) (task_console pair_program a.requests false a.budget))
     pub means : IsUnstuckAt lower first_linked.source (a.budget + block_ahead) → IsUnstuckAt upper second_linked.source (a.budget + block_ahead)
         → MeanTheirSources pair_program first_linked second_linked a.requests a.budget

@@ -1,6 +1,5 @@
 -- What `debug` promises of a source that is accepted, whatever interrupts come.
-use Rattle.std.specs.Prelude.{◌≡◌, ℕ, ◌+◌, List, Option, Some, None}
-use Rattle.mx_io.specs.Counts.{with_more}
+use Rattle.std.specs.Prelude.{◌≡◌, ◌++◌, ℕ, ◌+◌, List, Option, Some, None}
 use Rattle.mx_squash.specs.Copies.{Site}
 use Rattle.mx_layout.specs.Layout.{IsLayout, blocks_in}
 use Rattle.mx_layout.specs.Overlong.{overlong}
@@ -62,8 +61,8 @@ module _ (asked : Option Command) (held : Held) (a : AcceptedStops asked held) w
 
   -- the status says how the session ended, exactly its stops, its end and its console were put out, and where the meaning is not
   -- stuck within the budget and a block more, its stops are the visits of the meaning
-  pub record StopsHeadline (result : Status) (before after : Option (List ℕ)) : Type 0 where
+  pub record StopsHeadline (result : Status) (before after : List ℕ) : Type 0 where
     pub status : result ≡ status_of (ending_of accepted_session)
-    pub output : after ≡ with_more before
+    pub output : after ≡ before ++
         (session_text a.limits.watch (stops_of accepted_session) (ending_of accepted_session) (console_of accepted_session))
     pub means : IsUnstuck (source_of 256 a.text) a.input (a.limits.budget + block_ahead) → StopsAsMeant accepted_stops

@@ -8,10 +8,12 @@ mod joined;
 mod laws;
 mod reply;
 mod shared;
+mod shipped;
 mod sourced;
 mod sources;
 mod top;
 
 pub use cmd_answer::Status;
 pub use laws::greedy_layout_is;
+pub use shipped::command_on_system;
 pub use top::command;

@@ -1,13 +1,16 @@
 //! The top call.
-ghost use Rattle.std.specs.Prelude.{◌≡◌, ◌≢◌, ◌⊎◌, true, false, map, string_bytes, List, ℕ, None};
-ghost use Rattle.mx_io.specs.Counts.{Rose, with_more};
+ghost use Rattle.std.specs.Prelude.{◌≡◌, ◌≢◌, ◌++◌, ◌⊎◌, true, false, map, string_bytes, List, ℕ, None};
+ghost use Rattle.mx_io.specs.Counts.{Rose};
 ghost use Rattle.cmd_answer.specs.declared.FileKind.{FileKind};
 ghost use Rattle.cmd_answer.specs.Answer.{Answer, failed_answer};
-ghost use Rattle.cmd_answer.specs.Protocol.{resolved, Performed, Faulted};
+ghost use Rattle.cmd_answer.specs.Protocol.{resolved, Faulted};
+ghost use Rattle.mx_io.specs.Reads.{Read};
+ghost use Rattle.cmd_answer.specs.Logged.{answer_by, Made, Agree};
+ghost use Rattle.mx_command.specs.Promised.{Promised};
 ghost use Rattle.cmd_answer.specs.Delivery.{Delivered, PutsPrefix};
 ghost use Rattle.cmd_table.specs.Asked.{command_of};
 ghost use Rattle.mx_command.specs.Layouts.{command_protocol};
-ghost use Rattle.mx_command.specs.Accepted.{Accepted};
+ghost use Rattle.mx_command.specs.Accepted.{Held, Accepted};
 ghost use Rattle.mx_command.specs.Headline.{AreQuiet, IsNoFault, Headline};
 ghost use Rattle.mx_command.specs.Pairs.{AcceptedPair, PairHeadline};
 ghost use Rattle.mx_command.specs.Stops.{AcceptedStops, StopsHeadline};
@@ -29,6 +32,27 @@ pub fn command<S: Shelf, W: Sink>(
     shelf: &mut S,
     out: &mut W,
 ) -> Status
+    // THE PROGRAM AS IT IS SHIPPED, and every shelf and sink. The reads that were made are just those that the words ask for, by
+    // what came back from those before, and the answer by what they gave is what came out: its status, its bytes and its file.
+    ensures exact { result ≢ Status.WriteFault → result ≢ Status.Memory
+        → (reads : List Read)
+        × Made (command_protocol (command_of (map string_bytes words.now))) (S.counts shelf.old) (S.counts shelf.new) reads
+        × Delivered (answer_by (command_protocol (command_of (map string_bytes words.now))) reads) result
+        (S.told shelf.old) (S.told shelf.new) (W.written out.old) (W.written out.new) }
+
+    // So all is promised of whatever the names hold that agrees with what each read gave.
+    ensures promised { result ≢ Status.WriteFault → result ≢ Status.Memory
+        → (reads : List Read) × ((S.counts shelf.new).log ≡ (S.counts shelf.old).log ++ reads)
+        × ((held : Held) → Agree held reads → Promised (command_of (map string_bytes words.now)) held result
+        (S.told shelf.old) (S.told shelf.new) (W.written out.old) (W.written out.new)) }
+
+    // Where a write was refused, a prefix of that answer's output came out, and no file was taken whole but where the command is done.
+    ensures exact_prefix { result ≡ Status.WriteFault
+        → (reads : List Read)
+        × Made (command_protocol (command_of (map string_bytes words.now))) (S.counts shelf.old) (S.counts shelf.new) reads
+        × PutsPrefix (answer_by (command_protocol (command_of (map string_bytes words.now))) reads) (W.written out.old) (W.written out.new) }
+    ensures unwrote { result ≢ Status.Done → (S.told shelf.new).wrote ≡ (S.told shelf.old).wrote }
+
     // HEADLINE. Where the words ask for the run of a source that is accepted, the shelf tells what it holds, and no
     // fault was counted or is answered: all that `Headline` says, or memory ran out.
     ensures headline { (S.told shelf.old).tells ≡ true
@@ -76,14 +100,6 @@ pub fn command<S: Shelf, W: Sink>(
         → Delivered (resolved (command_protocol (command_of (map string_bytes words.now))) (S.told shelf.old).held) result
         (S.told shelf.old) (S.told shelf.new) (W.written out.old) (W.written out.new) }
 
-    // Whatever the shelf tells, such a status is that of an answer which the words ask for, by files that
-    // were read.
-    ensures performed { result ≢ Status.ReadFault → result ≢ Status.WriteFault → result ≢ Status.Memory
-        → (answer : Answer)
-        × Performed (S.told shelf.old) (command_protocol (command_of (map string_bytes words.now)))
-        (S.counts shelf.old) (S.counts shelf.new) answer
-        × (result ≡ answer.status) × (W.written out.new ≡ with_more (W.written out.old) answer.output) }
-
     // Usage comes exactly where the words ask for nothing.
     ensures usage { result ≡ Status.Usage → command_of (map string_bytes words.now) ≡ None }
     ensures asks_nothing { command_of (map string_bytes words.now) ≡ None
@@ -98,7 +114,7 @@ pub fn command<S: Shelf, W: Sink>(
     ensures read_fault { result ≡ Status.ReadFault → (answer : Answer)
         × Faulted (S.told shelf.old) (command_protocol (command_of (map string_bytes words.now)))
         (S.counts shelf.old) (S.counts shelf.new) answer
-        × (W.written out.new ≡ with_more (W.written out.old) answer.output) }
+        × (W.written out.new ≡ W.written out.old ++ answer.output) }
 
     // A write fault is one of the sink, or of the shelf where the command writes a file. What went out is a prefix of
     // the answer's output, or of the line of a read fault that was counted.

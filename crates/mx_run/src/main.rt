@@ -2,7 +2,7 @@
 #![tactic(auto)]
 
 use cmd_answer::Status;
-use mx_command::command;
+use mx_command::command_on_system;
 use mx_io::{RealShelf, RealSink};
 use std::env;
 use std::io::ErrorKind;
@@ -32,6 +32,6 @@ fn main(rt: HostRuntime) -> ExitCode {
     }
     let mut shelf = RealShelf::new(&rt);
     let mut out = RealSink::new(&rt);
-    let status = command(alloc, words.as_slice(), &mut shelf, &mut out);
+    let status = command_on_system(alloc, words.as_slice(), &mut shelf, &mut out);
     ExitCode::from(status.number())
 }

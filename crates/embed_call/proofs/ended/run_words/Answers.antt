@@ -44,13 +44,13 @@ returns c =
     record { reading = calm; writing = calm; putting = putting } in
     let not_memory : status ≢ Memory = c.is_memory.ensures c.if-is_memory.false in
     let delivered : Delivered (resolved (command_protocol asked) (held_in before)) status
-    (told_of before) (told_of after) (Some (written_in out)) (Some (written_in out')) =
+    (told_of before) (told_of after) (written_in out) (written_in out') =
     ⊎_elim (λ m. absurd (not_memory m)) (λ d. d) (told.complete refl calm calm putting) in
     let got = c.in_ok-file.ensures ∙ ap (λ t. target_bytes (held_in after) t status) c.in_ok-target.ensures in
     let answered : Answered asked (held_in before) status text written = record {
       status = delivered.status;
       output =
-          c.in-Some.ensures.0 ∙ ap (λ o. unwrap_or o []) delivered.output
+          c.in-Some.ensures.0 ∙ delivered.output
           ∙ ap (λ w. w ++ (resolved (command_protocol asked) (held_in before)).output) c.new-out.ensures.written;
       file = λ writes.
           let target = command_writes asked (held_in before) writes in
@@ -58,19 +58,19 @@ returns c =
           delivered.status (delivered.file refl) (got ∙ ap (λ t. target_bytes (held_in after) t status) target.1);
       no_file = λ only. got ∙ ap (λ t. target_bytes (held_in after) t status) (no_target asked only);
       headline = λ accepted. from_told
-          (λ w w'. Headline asked (held_in before) accepted status (Some w) (Some w')) _ _ text c.new-out.ensures.written c.in-Some.ensures.0
+          (λ w w'. Headline asked (held_in before) accepted status w w') _ _ text c.new-out.ensures.written c.in-Some.ensures.0
           (⊎_elim (λ m. absurd (not_memory m)) (λ h. h) (told.headline refl (inl quiet) accepted));
       pair = λ accepted. from_told
-          (λ w w'. PairHeadline asked (held_in before) accepted status (Some w) (Some w')) _ _ text c.new-out.ensures.written c.in-Some.ensures.0
+          (λ w w'. PairHeadline asked (held_in before) accepted status w w') _ _ text c.new-out.ensures.written c.in-Some.ensures.0
           (⊎_elim (λ m. absurd (not_memory m)) (λ h. h) (told.pair refl (inl quiet) accepted));
       stops = λ accepted. from_told
-          (λ w w'. StopsHeadline asked (held_in before) accepted status (Some w) (Some w')) _ _ text c.new-out.ensures.written c.in-Some.ensures.0
+          (λ w w'. StopsHeadline asked (held_in before) accepted status w w') _ _ text c.new-out.ensures.written c.in-Some.ensures.0
           (⊎_elim (λ m. absurd (not_memory m)) (λ h. h) (told.stops refl (inl quiet) accepted));
       no_write_fault = λ e. ⊎_elim putting (λ f. calm f.1) (told.write_fault e);
       no_memory = not_memory;
       no_read_fault = λ finds e.
           let fault = told.read_fault e in
-          finds_no_fault (held_in before) (command_protocol asked) (counts_of before) (counts_of after) fault.0 refl finds fault.1;
+          finds_no_fault (held_in before) (command_protocol asked) (counts_of before) (counts_of after) fault.0 refl finds _ fault.1;
     } in
     let same : held_in before ≡ held_by c.args.call.now = λ i n. c.in_ok-shelf.ensures n i in
     subst (λ (a : Option Command). Answered a (held_by c.args.call.now) status text written) (ap command_of c.requires)

@@ -81,7 +81,7 @@ whole g c =
     ended (command_protocol (asked_by g c)) (reply_answer c.in-Ok.reply) c.finish.result (before g c) (between g c) (after g c)
     (own_answers greedy_layout (asked_by g c)) (c.in-Ok.ensures.performed greedy_layout greedy_is)
     c.in-Ok.ensures.told_stays c.in-Ok.ensures.writes_stay c.finish.ensures.unread
-    c.finish.ensures.delivered c.finish.ensures.write_fault c.finish.ensures.prefix c.finish.ensures.memory c.finish.ensures.kept
+    c.finish.ensures.delivered c.finish.ensures.write_fault c.finish.ensures.prefix c.finish.ensures.memory c.finish.ensures.unwrote c.finish.ensures.kept
 
 pub returns-clause-complete : goal.returns-clause-complete
 returns-clause-complete g c = (whole g c).complete
@@ -93,28 +93,28 @@ pub returns-clause-headline : goal.returns-clause-headline
 returns-clause-headline g c = λ tells undisturbed accepted.
     promised (command_protocol (asked_by g c)) (before g c) (after g c) c.finish.result _ (whole g c)
     (delivered_is_headline (asked_by g c) (g.S.Shelf.told c.args.shelf.now).held accepted greedy_layout greedy_is c.finish.result
-    (g.S.Shelf.told c.args.shelf.now).tells (g.S.Shelf.told c.finish.new.shelf) (g.W.Sink.written c.args.out.now) (g.W.Sink.written c.finish.new.out))
+    (g.S.Shelf.told c.args.shelf.now) (g.S.Shelf.told c.finish.new.shelf) (g.W.Sink.written c.args.out.now) (g.W.Sink.written c.finish.new.out))
     tells undisturbed
 
 pub returns-clause-pair : goal.returns-clause-pair
 returns-clause-pair g c = λ tells undisturbed accepted.
     promised (command_protocol (asked_by g c)) (before g c) (after g c) c.finish.result _ (whole g c)
     (delivered_is_pair (asked_by g c) (g.S.Shelf.told c.args.shelf.now).held accepted greedy_layout greedy_is c.finish.result
-    (g.S.Shelf.told c.args.shelf.now).tells (g.S.Shelf.told c.finish.new.shelf) (g.W.Sink.written c.args.out.now) (g.W.Sink.written c.finish.new.out))
+    (g.S.Shelf.told c.args.shelf.now) (g.S.Shelf.told c.finish.new.shelf) (g.W.Sink.written c.args.out.now) (g.W.Sink.written c.finish.new.out))
     tells undisturbed
 
 pub returns-clause-stops : goal.returns-clause-stops
 returns-clause-stops g c = λ tells undisturbed accepted.
     promised (command_protocol (asked_by g c)) (before g c) (after g c) c.finish.result _ (whole g c)
     (delivered_is_stops (asked_by g c) (g.S.Shelf.told c.args.shelf.now).held accepted greedy_layout greedy_is c.finish.result
-    (g.S.Shelf.told c.args.shelf.now).tells (g.S.Shelf.told c.finish.new.shelf) (g.W.Sink.written c.args.out.now) (g.W.Sink.written c.finish.new.out))
+    (g.S.Shelf.told c.args.shelf.now) (g.S.Shelf.told c.finish.new.shelf) (g.W.Sink.written c.args.out.now) (g.W.Sink.written c.finish.new.out))
     tells undisturbed
 
 pub returns-clause-modules : goal.returns-clause-modules
 returns-clause-modules g c = λ tells undisturbed accepted.
     promised (command_protocol (asked_by g c)) (before g c) (after g c) c.finish.result _ (whole g c)
     (delivered_is_joined (asked_by g c) (g.S.Shelf.told c.args.shelf.now).held accepted greedy_layout c.finish.result
-    (g.S.Shelf.told c.args.shelf.now).tells (g.S.Shelf.told c.finish.new.shelf) (g.W.Sink.written c.args.out.now) (g.W.Sink.written c.finish.new.out))
+    (g.S.Shelf.told c.args.shelf.now) (g.S.Shelf.told c.finish.new.shelf) (g.W.Sink.written c.args.out.now) (g.W.Sink.written c.finish.new.out))
     tells undisturbed
 
 pub returns-clause-read_fault : goal.returns-clause-read_fault
@@ -123,15 +123,34 @@ returns-clause-read_fault g c = (whole g c).read_fault
 pub returns-clause-prefix : goal.returns-clause-prefix
 returns-clause-prefix g c = (whole g c).put_out
 
-pub returns-clause-performed : goal.returns-clause-performed
-returns-clause-performed g c = λ r w m.
+pub returns-clause-exact : goal.returns-clause-exact
+returns-clause-exact g c = (whole g c).exact
+
+pub returns-clause-exact_prefix : goal.returns-clause-exact_prefix
+returns-clause-exact_prefix g c = (whole g c).exact_prefix
+
+pub returns-clause-unwrote : goal.returns-clause-unwrote
+returns-clause-unwrote g c = (whole g c).unwrote
+
+pub returns-clause-promised : goal.returns-clause-promised
+returns-clause-promised g c = λ w m.
+    let asked : Option Command = asked_by g c in
+    let status : Status = c.finish.result in
     let told : Told = g.S.Shelf.told c.args.shelf.now in
-    let first : Counts = g.S.Shelf.counts c.args.shelf.now in
-    let delivered = c.finish.ensures.delivered w m in
-    let answer : Answer = reply_answer c.in-Ok.reply in
-    let performed = subst (λ (n : Counts). Performed told (command_protocol (asked_by g c)) first n answer)
-    (sym c.finish.ensures.unread) (c.in-Ok.ensures.performed greedy_layout greedy_is) in
-    (answer, performed, delivered.status, delivered.output)
+    let told' : Told = g.S.Shelf.told c.finish.new.shelf in
+    let put : List ℕ = g.W.Sink.written c.args.out.now in
+    let put' : List ℕ = g.W.Sink.written c.finish.new.out in
+    let is = (whole g c).exact_held w m in (
+      is.0,
+      is.1,
+      λ held agree. let d = is.2 held agree in record {
+        delivered = d;
+        headline = λ a. delivered_is_headline asked held a greedy_layout greedy_is status told told' put put' d;
+        pair = λ a. delivered_is_pair asked held a greedy_layout greedy_is status told told' put put' d;
+        stops = λ a. delivered_is_stops asked held a greedy_layout greedy_is status told told' put put' d;
+        modules = λ a. delivered_is_joined asked held a greedy_layout status told told' put put' d;
+      },
+    )
 
 pub returns-clause-usage : goal.returns-clause-usage
 returns-clause-usage g c = λ is.
