@@ -8,4 +8,5 @@ mod splitting;
 
 pub use block::{Block, End, Item, Plan};
 pub use laws::{blocks_exist, leaders_begin};
+pub use mx_source::Memory;
 pub use splitting::blocks;

@@ -4,5 +4,6 @@
 mod stop;
 mod stopping;
 
+pub use mx_io::Memory;
 pub use stop::{Ending, Stop, Stopped};
 pub use stopping::stops;

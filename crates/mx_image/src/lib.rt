@@ -10,5 +10,6 @@ mod words;
 
 pub use error::ImageError;
 pub use file::ImageFile;
+pub use mx_io::Memory;
 pub use version_1::{read_image, write_image};
 pub use version_2::{read_file, write_file};

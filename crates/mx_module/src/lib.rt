@@ -15,3 +15,4 @@ mod program;
 pub use error::{JoinError, JoinFault};
 pub use joiner::Joiner;
 pub use link::LinkKind;
+pub use mx_io::Memory;

@@ -12,4 +12,5 @@ mod operands;
 mod pipe;
 
 pub use latch::Latch;
+pub use mx_io::Memory;
 pub use pipe::{Pipe, Wait};

@@ -8,5 +8,6 @@ mod traces;
 
 pub use cursor::Cursor;
 pub use driving::{Driven, drive};
+pub use mx_io::Memory;
 pub use reports::{Dump, push_counts, report};
 pub use traces::trace_line;

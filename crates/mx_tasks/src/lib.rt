@@ -11,5 +11,6 @@ pub use laws::{
     current_is_by_parity, shared_image_holds_both, shared_run_is_two, short_sources_reach,
     switch_fetches, switch_is_quiet, switch_is_table, switch_returns,
 };
+pub use mx_io::Memory;
 pub use sharing::{LOWER, ShareError, Shared, UPPER, share};
 pub use switch::SWITCH;

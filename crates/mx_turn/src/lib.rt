@@ -20,6 +20,7 @@ pub use latches::{Latches, Stage};
 pub use laws::{one_user_turn, stages_are_a_window};
 pub use machine::{Cycled, Machine};
 pub use mem_stage::move_to;
+pub use mx_io::Memory;
 pub use registers::{read, set};
 pub use shown::number_of;
 pub use stages::{fetch_of, led, popped, restored, saved, squash, stage_of};
