@@ -1,11 +1,11 @@
 #!/usr/bin/env python3
-"""Proves and builds the crates below one crate, side by side: each as soon as those that it stands on are done.
+"""Proves and builds the crates below one crate or several, side by side: each as soon as those that it stands on are done.
 
-usage: checks/prove.py CRATE LOG
+usage: tools/prove.py CRATE .. LOG
 
 Only one rt works in a crate at a time, and it holds the crates below too. So a single one, `rt all`, proves a copy of just these
 crates, which has the folders out/ of the repository's own as long as it lasts. What rt prints goes to the file LOG. Standard
-error tells each crate that is done. The exit status is 0 where all are proved, else 1.
+error tells each crate that is done. The exit status is 0 where all are proved, else 1; after an interrupt what is done stays.
 """
 import os
 import shutil
@@ -14,6 +14,8 @@ import sys
 import tempfile
 import time
 
+# From nothing on four processors; what is done is kept.
+ABOUT = "From nothing this takes about half an hour; what is done is kept"
 TOP = os.path.dirname(os.path.dirname(os.path.abspath(__file__)))
 
 
@@ -24,10 +26,10 @@ def read_crates():
     return rows, {crate: [it for it in line.split(":")[1].split() if it in rows] for crate, line in rows.items()}
 
 
-def crates_below(crate, named):
-    """Returns all crates that this one stands on."""
+def crates_below(crates, named):
+    """Returns all crates that these stand on."""
     found = set()
-    left = list(named[crate])
+    left = [below for crate in crates for below in named[crate]]
     while left:
         it = left.pop()
         if it not in found:
@@ -59,9 +61,13 @@ def prove(folder, below, log):
     return run.returncode
 
 
-def main(crate, log_name):
+def main(crates, log_name):
     rows, named = read_crates()
-    below = crates_below(crate, named)
+    unknown = [it for it in crates if it not in rows]
+    if unknown:
+        print(f"mx: crates.txt has no crate {', '.join(unknown)}", file=sys.stderr)
+        return 1
+    below = crates_below(crates, named)
     # on the same disk as the repository, where that has a folder that nothing else reads
     room = f"{TOP}/.git" if os.path.isdir(f"{TOP}/.git") else None
     folder = tempfile.mkdtemp(prefix="mx-prove-", dir=room)
@@ -72,15 +78,18 @@ def main(crate, log_name):
         for name in below:
             shutil.copytree(f"{TOP}/crates/{name}", f"{folder}/crates/{name}", ignore=shutil.ignore_patterns("out"))
         move_out(below, TOP, folder)
-        print(f"mx: {len(below)} crates stand below {crate}", file=sys.stderr, flush=True)
+        print(f"mx: {len(below)} crates stand below {' and '.join(crates)}. {ABOUT}", file=sys.stderr, flush=True)
         with open(log_name, "a", encoding="utf-8") as log:
             return 1 if prove(folder, below, log) else 0
+    except KeyboardInterrupt:
+        print("mx: stopped; the next call goes on behind the crates that are done", file=sys.stderr)
+        return 1
     finally:
         move_out(below, folder, TOP)
         shutil.rmtree(folder, ignore_errors=True)
 
 
 if __name__ == "__main__":
-    if len(sys.argv) != 3:
+    if len(sys.argv) < 3:
         sys.exit(__doc__)
-    sys.exit(main(sys.argv[1], sys.argv[2]))
+    sys.exit(main(sys.argv[1:-1], sys.argv[-1]))
