@@ -1,5 +1,5 @@
 -- Frames one after the other, and the rows that are made of them.
-use Rattle.std.proofs.Common.{◌≡◌, ℕ, zero, suc, ◌+◌, ◌-◌, ◌≤◌, false, List, [], ◌∷◌, ◌++◌, length, sym, ap, ◌∙◌, subst, arith, refl}
+use Rattle.std.proofs.Common.{◌≡◌, ℕ, zero, suc, ◌+◌, ◌-◌, ◌≤◌, true, false, Some, List, [], ◌∷◌, ◌++◌, length, sym, ap, ◌∙◌, subst, arith, refl}
 use Rattle.std.specs.Prelude.{All, map, take, drop, min, slice_index_or}
 use Rattle.std.proofs.lemmas.List.{map-append, length-append, take_min}
 use Rattle.std.proofs.lemmas.List.Elements.{All-append}
@@ -12,7 +12,7 @@ use Rattle.lab_draw.specs.declared.cell.Cell.{Cell}
 use Rattle.lab_draw.specs.declared.rows.TheConstants.{SPAN}
 use Rattle.lab_draw.specs.declared.rows.Row.{Row}
 use Rattle.lab_draw.specs.Cells.{cells_from}
-use Rattle.lab_draw.specs.Frames.{IsFrameOf, IsFrame, AreFrames}
+use Rattle.lab_draw.specs.Frames.{IsFrameOf, IsFrame, AreFrames, IsEnd}
 use Rattle.lab_draw.specs.Stages.{cell_in}
 use Rattle.lab_draw.specs.Rows.{IsRow, numbers_from, AreRows}
 use Rattle.lab_draw.proofs.Cells.{cell_is_defined}
@@ -38,6 +38,18 @@ module _ (p : Program) (requests : List ℕ) where
   pub frame_halted : (i : ℕ) (f : Frame) → IsFrameOf p (bits requests i) (is_requested requests i) f
       → f.cycled.halted ≡ (state_after p (bits requests (suc i))).halted
   frame_halted i f is = ap (λ (r : Cycled). r.halted) is.cycled ∙ next_halted p requests i
+
+  -- a machine that halts in cycle i
+  pub halts_with : (i n : ℕ) → suc i ≤ n → (state_after p (bits requests i)).halted ≡ false → (state_after p (bits requests (suc i))).halted ≡ true
+      → IsEnd p requests n (Some (i + 1))
+  halts_with i n within going halted =
+      let next : suc i ≡ i + 1 = omega arith in (
+        omega (arith, within),
+        record {
+          before = λ k e. let same : i ≡ k = omega (arith, e) in subst (λ (m : ℕ). (state_after p (bits requests m)).halted ≡ false) same going;
+          halted = subst (λ (m : ℕ). (state_after p (bits requests m)).halted ≡ true) next halted;
+        },
+      )
 
   later_frames : (b n : ℕ) (fs : List Frame) → AreFrames p requests n fs → AreFrames p requests (n + b) (drop b fs)
   later_frames zero n fs are = let e : n ≡ n + 0 = omega arith in subst (λ k. AreFrames p requests k fs) e are

@@ -18,4 +18,9 @@ pub struct Frame {
     pub md: u32,
     /// The number of input bytes taken.
     pub inputs: u32,
+    /// The number that the word in ALU made in the last turn before the cycle. It is the address of a store that is in MEM in
+    /// the cycle.
+    pub address: u32,
+    /// The data word at that address; 0 where the address is none of data.
+    pub word: u32,
 }
