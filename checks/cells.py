@@ -33,11 +33,12 @@ def rows_of_text(path):
 def check_page(page, text, cycle):
     with open(page, encoding="utf-8") as file:
         dom = file.read()
-    table = dom[dom.index('id="listing"') : dom.index("</table>", dom.index('id="listing"'))]
-    found = re.findall(r'<tr[^>]*><td class="tag">([^<]*)</td><td>([0-9a-f]{8})</td>', table)
-    seen = sorted((address, mark) for marks, address in found for mark in marks.split())
-    wanted = sorted((address, cell) for address, cell in rows_of_text(text)[cycle] if cell != "..")
-    listed = {address for _, address in found}
+    listing = dom[dom.index('id="listing"') : dom.index("</section>", dom.index('id="listing"'))]
+    found = re.findall(r'<span class="tag">([^<]+)</span>([0-9a-f]{4,8}) ', listing)
+    seen = sorted((address.zfill(8), mark) for marks, address in found for mark in marks.split())
+    wanted = sorted((address, "waits" if cell == ".." else cell) for address, cell in rows_of_text(text)[cycle])
+    # Words far from the newest one are in no part of the listing that is in view.
+    listed = {address for address, _ in seen}
     wanted = [(address, cell) for address, cell in wanted if address in listed]
     assert len(wanted) >= 3, wanted
     assert seen == wanted, (seen, wanted)

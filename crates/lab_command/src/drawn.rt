@@ -11,7 +11,7 @@ use crate::ran::read_run;
 use clap::ArgMatches;
 use cmd_answer::{Reply, Status};
 use lab_draw::{Drawing, draw, rows_of};
-use lab_pictures::{Subject, html, kanata, svg, text, vcd};
+use lab_pictures::{PlaceNames, Subject, html, kanata, svg, text, vcd};
 use lab_watch::{Watcher, watched_pipe};
 use mx_board::Requests;
 use mx_code::Image;
@@ -24,16 +24,21 @@ use std::alloc::Global;
 struct Span {
     from: u32,
     count: u32,
+    budget: u32,
 }
 
 // The cycles that the words ask for, within the budget.
 fn span_given(matches: &ArgMatches) -> Span
-    ensures { result.from + result.count < 2 ^ 32 }
+    ensures { result.from + result.count ≤ result.budget }
 {
     let budget = number_given(matches, "budget");
     let from = number_given(matches, "from").min(budget);
     let count = number_given(matches, "cycles").min(budget - from);
-    Span { from, count }
+    Span {
+        from,
+        count,
+        budget,
+    }
 }
 
 // Draws cycles of the run of an image, under the shipped handler. A watcher is told how far the run has come.
@@ -46,13 +51,20 @@ fn drawing_of<W: Watcher>(
     watcher: W,
 ) -> Result<Drawing, Memory>
     requires bytes { bytes_in (option_copied input) ≤ 1048576 }
-    requires span { span.from + span.count < 2 ^ 32 }
+    requires span { span.from + span.count ≤ span.budget }
     ensures { IfOk result (λ d. IsDrawing
         (program_of shipped image.now.code.items image.now.user_data.items (option_copied input.entry))
-        requests.now span.from span.count d) }
+        requests.now span.from span.count span.budget d) }
 {
     let mut machine = watched_pipe(alloc, image, input, LineCache::new(), watcher)?;
-    let drawing = draw(alloc, &mut machine, requests, span.from, span.count)?;
+    let drawing = draw(
+        alloc,
+        &mut machine,
+        requests,
+        span.from,
+        span.count,
+        span.budget,
+    )?;
     Ok(drawing)
 }
 
@@ -90,11 +102,23 @@ pub fn draw_reply<S: Shelf, W: Watcher>(
         span,
         watcher,
     )?;
+    let names = PlaceNames::new(
+        alloc,
+        &program.source,
+        program.linked.links.as_slice(),
+        program.linked.image.code.len(),
+    );
+    let Ok(names) = names else {
+        return Err(Memory);
+    };
     let subject = Subject {
+        file: word_given(matches, "SOURCE"),
         text: program.text.as_slice(),
         lines: program.source.lines(),
         linked: &program.linked,
+        names: &names,
         from: span.from,
+        budget: span.budget,
         drawing: &drawing,
     };
     let output = picture(alloc, word_given(matches, "as"), &subject)?;

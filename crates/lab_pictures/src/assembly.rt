@@ -1,6 +1,10 @@
 //! Instructions in assembly language.
+use crate::names::PlaceNames;
 use mx_isa::{Cond, Inst, Op, Reg, Special};
 use std::alloc::AllocError;
+
+/// How many words behind a label a branch may lead to: the label's first statements may stand in its slots.
+const COPIES: u32 = 2;
 
 // The mnemonic of a branch.
 fn branch_word(cond: Cond) -> &'static str {
@@ -57,36 +61,87 @@ fn push_compute(text: &mut String, op: Op, a: Reg, b: Reg, dest: Reg) -> Result<
     }
 }
 
-// Appends a branch that stands at an address. A target is an address, in hexadecimal; `sq` marks a branch that cancels the two
-// words after it where it does not hold.
+// Appends bytes of a name, which are signs of ASCII.
+fn push_name(text: &mut String, name: &[u8]) -> Result<(), AllocError> {
+    for byte in name {
+        text.push(char::from(*byte))?;
+    }
+    Ok(())
+}
+
+// Appends the place where a transfer leads: its label, or a label and how many words behind it, or else the address, in
+// hexadecimal.
+fn push_target(text: &mut String, names: &PlaceNames, target: u32) -> Result<(), AllocError> {
+    for behind in 0..=COPIES {
+        if let Some(name) = names.code_name(target.wrapping_sub(behind)) {
+            push_name(text, name)?;
+            return if behind == 0 {
+                Ok(())
+            } else {
+                write!(text, "+{behind}")
+            };
+        }
+    }
+    write!(text, "{target:x}")
+}
+
+// Appends a branch. `sq` marks one that cancels the two words after it where it does not hold.
 fn push_branch(
     text: &mut String,
-    cond: Cond,
-    squash: bool,
-    a: Reg,
-    b: Reg,
+    names: &PlaceNames,
+    inst: (Cond, bool, Reg, Reg),
     target: u32,
 ) -> Result<(), AllocError> {
+    let (cond, squash, a, b) = inst;
     let word = branch_word(cond);
     let mark = if squash { "sq" } else { "" };
     let (a, b) = (a.number(), b.number());
-    write!(text, "{word}{mark} r{a},r{b},{target:x}")
+    write!(text, "{word}{mark} r{a},r{b},")?;
+    push_target(text, names, target)
+}
+
+// Appends an offset and its base: the label of a data word in place of its address.
+fn push_memory(
+    text: &mut String,
+    names: &PlaceNames,
+    offset: i32,
+    base: Reg,
+) -> Result<(), AllocError> {
+    let base = base.number();
+    let named = match u32::try_from(offset) {
+        Ok(address) => names.data_name(address),
+        Err(_) => None,
+    };
+    match named {
+        Some(name) => push_name(text, name)?,
+        None => write!(text, "{offset}")?,
+    }
+    write!(text, "[r{base}]")
 }
 
 /// Appends an instruction that stands at an address, in assembly language.
-pub fn push_instruction(text: &mut String, address: u32, inst: &Inst) -> Result<(), AllocError> {
+pub fn push_instruction(
+    text: &mut String,
+    names: &PlaceNames,
+    address: u32,
+    inst: &Inst,
+) -> Result<(), AllocError> {
     match *inst {
         Inst::Load { base, dest, offset } => {
-            let (base, dest) = (base.number(), dest.number());
-            write!(text, "ld {offset}[r{base}],r{dest}")
+            let dest = dest.number();
+            text.push_str("ld ")?;
+            push_memory(text, names, offset, base)?;
+            write!(text, ",r{dest}")
         }
         Inst::Store {
             base,
             value,
             offset,
         } => {
-            let (base, value) = (base.number(), value.number());
-            write!(text, "st {offset}[r{base}],r{value}")
+            let value = value.number();
+            text.push_str("st ")?;
+            push_memory(text, names, offset, base)?;
+            write!(text, ",r{value}")
         }
         Inst::Branch {
             a,
@@ -94,10 +149,13 @@ pub fn push_instruction(text: &mut String, address: u32, inst: &Inst) -> Result<
             cond,
             squash,
             by,
-        } => push_branch(text, cond, squash, a, b, address.wrapping_add_signed(by)),
+        } => {
+            let target = address.wrapping_add_signed(by);
+            push_branch(text, names, (cond, squash, a, b), target)
+        }
         Inst::Compute { a, dest, b, op } => push_compute(text, op, a, b, dest),
         Inst::Addi { a, dest, imm } => push_immediate(text, "addi", a, imm, dest),
-        Inst::Jspci { a, dest, imm } => push_immediate(text, "jspci", a, imm, dest),
+        Inst::Jspci { a, dest, imm } => push_jump(text, names, a, imm, dest),
         Inst::MoveFrom { dest, special } => {
             let (word, dest) = (special_word(special), dest.number());
             write!(text, "movfrs {word},r{dest}")
@@ -109,6 +167,29 @@ pub fn push_instruction(text: &mut String, address: u32, inst: &Inst) -> Result<
         Inst::Jpc => text.push_str("jpc"),
         Inst::Jpcrs => text.push_str("jpcrs"),
         Inst::Halt => text.push_str("halt"),
+    }
+}
+
+// Appends a jump: the label of its target where it leads to an address alone.
+fn push_jump(
+    text: &mut String,
+    names: &PlaceNames,
+    a: Reg,
+    imm: i32,
+    dest: Reg,
+) -> Result<(), AllocError> {
+    let named = match u32::try_from(imm) {
+        Ok(target) if a == Reg::ZERO => names.code_name(target),
+        _ => None,
+    };
+    match named {
+        Some(name) => {
+            let dest = dest.number();
+            text.push_str("jspci r0,#")?;
+            push_name(text, name)?;
+            write!(text, ",r{dest}")
+        }
+        None => push_immediate(text, "jspci", a, imm, dest),
     }
 }
 

@@ -1,5 +1,6 @@
 //! A drawing as a text of 100 columns, in bands of sixteen cycles.
-use crate::label::label_of;
+use crate::ending::push_ending;
+use crate::label::{label_of, push_fitted};
 use crate::marks::{cell_of, end_of, stage_name, without};
 use crate::subject::Subject;
 use lab_draw::{Cell, Frame, Row};
@@ -8,6 +9,9 @@ use std::alloc::{AllocError, Global};
 
 /// The cycles of a band.
 const COLUMNS: usize = 16;
+
+/// The signs of a word at most.
+const WORD: usize = 20;
 
 // What a cell shows, in at most four bytes.
 fn push_cell(line: &mut String, cell: Cell) -> Result<(), AllocError> {
@@ -57,7 +61,9 @@ fn push_row(
     count: usize,
 ) -> Result<(), AllocError> {
     let label = label_of(alloc, subject, row.address)?;
-    let (address, word, origin) = (&label.address, &label.word, &label.origin);
+    let (address, origin) = (&label.address, &label.origin);
+    let mut word = String::new(alloc);
+    push_fitted(&mut word, label.word.as_str(), WORD)?;
     let mut line = String::new(alloc);
     write!(line, "{address} {word:<20} {origin:>5} ")?;
     for place in begins..begins.saturating_add(count) {
@@ -182,6 +188,8 @@ fn text_of(alloc: Global, subject: &Subject, rows: &[Row]) -> Result<String, All
     text.push_str(
         "IF RF ALU MEM WB: the stages; .. waits for the cache; * squashed; ! killed by an interrupt\n",
     )?;
+    push_ending(&mut text, subject)?;
+    text.push('\n')?;
     Ok(text)
 }
 

@@ -17,9 +17,14 @@ pub struct Label {
 }
 
 // Appends a word of an address.
-fn push_code_word(text: &mut String, address: u32, word: u32) -> Result<(), AllocError> {
+fn push_code_word(
+    text: &mut String,
+    subject: &Subject,
+    address: u32,
+    word: u32,
+) -> Result<(), AllocError> {
     match decode(word) {
-        Some(inst) => push_instruction(text, address, &inst),
+        Some(inst) => push_instruction(text, subject.names, address, &inst),
         None => write!(text, "{word:08x}"),
     }
 }
@@ -57,11 +62,11 @@ pub fn label_of(
     };
     match subject.standing(address) {
         Standing::Handler(stands) => {
-            push_code_word(&mut word, address, stands)?;
+            push_code_word(&mut word, subject, address, stands)?;
             origin.push_str("h")?;
         }
         Standing::Code(stands, from) => {
-            push_code_word(&mut word, address, stands)?;
+            push_code_word(&mut word, subject, address, stands)?;
             push_origin(&mut origin, subject, from)?;
         }
         Standing::Outside => {}
@@ -72,4 +77,14 @@ pub fn label_of(
         word,
         origin,
     })
+}
+
+/// Appends a word of a label where there is room for so many signs: of a longer one, which a long name makes, the front and two
+/// dots.
+pub fn push_fitted(text: &mut String, word: &str, room: usize) -> Result<(), AllocError> {
+    if word.len() <= room {
+        return text.push_str(word);
+    }
+    text.push_str(word.get(..room.saturating_sub(2)).unwrap_or(""))?;
+    text.push_str("..")
 }

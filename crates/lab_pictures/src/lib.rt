@@ -4,18 +4,26 @@
 mod assembly;
 mod bands;
 mod document;
+mod ending;
+mod escape;
 mod konata;
 mod label;
 mod marks;
+mod names;
 mod page;
 mod picture;
+mod script;
+mod style;
 mod subject;
 mod waves;
+mod ways;
 
 pub use assembly::push_instruction;
 pub use bands::text;
 pub use document::html;
 pub use konata::kanata;
+pub use names::{NamedPlace, PlaceNames};
 pub use picture::svg;
 pub use subject::Subject;
 pub use waves::vcd;
+pub use ways::{Way, way_of};

@@ -1,5 +1,7 @@
 //! A drawing as SVG.
-use crate::label::label_of;
+use crate::ending::push_ending;
+use crate::escape::push_escaped;
+use crate::label::{label_of, push_fitted};
 use crate::marks::{cell_of, is_shown, stage_name};
 use crate::subject::Subject;
 use lab_draw::{Cell, Frame, Row};
@@ -13,9 +15,15 @@ const COLUMN: u64 = 34;
 
 const ROW: u64 = 18;
 
+/// The signs of a row's word at most.
+const WORD: usize = 29;
+
 const HEAD: u64 = 58;
 
-const FOOT: u64 = 30;
+const FOOT: u64 = 48;
+
+/// From here on a cycle has a number that is wider than a column, and only every second one is told.
+const WIDE: u64 = 100_000;
 
 /// The looks of the cells, by their stages and marks.
 fn style() -> &'static str {
@@ -72,7 +80,9 @@ fn push_label(
     let label = label_of(alloc, subject, row.address)?;
     let base = y.saturating_add(12);
     push_word(text, 6, base, label.address.as_str())?;
-    push_word(text, 76, base, label.word.as_str())?;
+    write!(text, "<text x=\"76\" y=\"{base}\">")?;
+    push_fitted(text, label.word.as_str(), WORD)?;
+    text.push_str("</text>")?;
     push_word(text, 272, base, label.origin.as_str())
 }
 
@@ -132,7 +142,9 @@ fn push_head(
     height: u64,
 ) -> Result<(), AllocError> {
     let x = across(place);
-    write!(text, "<text x=\"{x}\" y=\"16\">{cycle}</text>")?;
+    if cycle < WIDE || place % 2 == 0 {
+        write!(text, "<text x=\"{x}\" y=\"16\">{cycle}</text>")?;
+    }
     if frame.cycled.taken {
         write!(
             text,
@@ -163,8 +175,33 @@ fn count_shown(rows: &[Row]) -> u64 {
     rows.iter().filter(|row| is_shown(row)).count() as u64
 }
 
-/// Appends the picture.
-pub fn push_svg(
+// Appends the title and the description.
+fn push_told(text: &mut String, subject: &Subject) -> Result<(), AllocError> {
+    text.push_str("<title id=\"title\">")?;
+    push_escaped(text, subject.name())?;
+    text.push_str(
+        ": a run, cycle by cycle</title>\n<desc id=\"desc\">A row a fetch, a column a cycle, a cell the stage that holds the fetch; ",
+    )?;
+    push_ending(text, subject)?;
+    text.push_str("</desc>\n")
+}
+
+// Appends the foot: what the looks of the cells say, and where the run ends.
+fn push_foot(text: &mut String, subject: &Subject, bottom: u64) -> Result<(), AllocError> {
+    push_word(
+        text,
+        6,
+        bottom.saturating_add(18),
+        "stages IF RF ALU MEM WB; dashed: waits for the cache; struck: squashed; red: killed by an interrupt",
+    )?;
+    let base = bottom.saturating_add(36);
+    write!(text, "<text x=\"6\" y=\"{base}\">")?;
+    push_ending(text, subject)?;
+    text.push_str("</text>")
+}
+
+// Appends the picture.
+fn push_svg(
     alloc: Global,
     text: &mut String,
     subject: &Subject,
@@ -175,8 +212,10 @@ pub fn push_svg(
     let height = bottom.saturating_add(FOOT);
     write!(
         text,
-        "<svg xmlns=\"http://www.w3.org/2000/svg\" width=\"{width}\" height=\"{height}\">\n"
+        "<svg xmlns=\"http://www.w3.org/2000/svg\" width=\"{width}\" height=\"{height}\" viewBox=\"0 0 {width} {height}\" "
     )?;
+    text.push_str("role=\"img\" aria-labelledby=\"title desc\">\n")?;
+    push_told(text, subject)?;
     text.push_str(style())?;
     text.push_str("<rect width=\"100%\" height=\"100%\" fill=\"#fff\"/>")?;
     push_heads(text, subject, bottom.saturating_sub(24))?;
@@ -187,13 +226,7 @@ pub fn push_svg(
             number = number.saturating_add(1);
         }
     }
-    let base = bottom.saturating_add(18);
-    push_word(
-        text,
-        6,
-        base,
-        "stages IF RF ALU MEM WB; dashed: waits for the cache; struck: squashed; red: killed by an interrupt",
-    )?;
+    push_foot(text, subject, bottom)?;
     text.push_str("\n</svg>\n")
 }
 

@@ -1,18 +1,26 @@
 //! What a picture shows.
+use crate::names::PlaceNames;
 use lab_draw::Drawing;
+use mx_code::decode;
+use mx_isa::Inst;
 use mx_link::{Linked, Origin};
 use mx_turn::SHIPPED;
 
 /// A linked source and cycles of its run.
 #[derive(Clone, Copy)]
 pub struct Subject<'a> {
+    /// The name of the source's file.
+    pub file: &'a str,
     /// The text of the source.
     pub text: &'a [u8],
     /// The line of each of its statements.
     pub lines: &'a [u32],
     pub linked: &'a Linked,
+    pub names: &'a PlaceNames<'a>,
     /// The first cycle of the drawing.
     pub from: u32,
+    /// The cycles of the run at most.
+    pub budget: u32,
     pub drawing: &'a Drawing,
 }
 
@@ -28,6 +36,14 @@ pub enum Standing {
 }
 
 impl Subject<'_> {
+    /// The name of the source's file, without its folder.
+    pub fn name(&self) -> &str {
+        match self.file.rsplit_once('/') {
+            Some((_, name)) => name,
+            None => self.file,
+        }
+    }
+
     /// What stands at a code address.
     pub fn standing(&self, address: u32) -> Standing {
         match address.checked_sub(4096) {
@@ -36,6 +52,14 @@ impl Subject<'_> {
                 Some(word) => Standing::Handler(*word),
                 None => Standing::Outside,
             },
+        }
+    }
+
+    /// What the word at a code address does, where it is a word of an instruction.
+    pub fn inst_at(&self, address: u32) -> Option<Inst> {
+        match self.standing(address) {
+            Standing::Handler(word) | Standing::Code(word, _) => decode(word),
+            Standing::Outside => None,
         }
     }
 

@@ -6,7 +6,7 @@ use mx_turn::Stage;
 use std::alloc::{AllocError, Global};
 
 /// The signals: their names, their widths and their letters. Each stage has its address and two marks.
-const SIGNALS: [(&str, u32, &str); 24] = [
+const SIGNALS: [(&str, u32, &str); 25] = [
     ("fetch", 32, "a"),
     ("fetch_live", 1, "b"),
     ("fetch_squashed", 1, "c"),
@@ -31,6 +31,7 @@ const SIGNALS: [(&str, u32, &str); 24] = [
     ("halted", 1, "v"),
     ("sends", 1, "w"),
     ("console", 8, "x"),
+    ("md", 32, "y"),
 ];
 
 // The address and the two marks of a stage.
@@ -43,7 +44,7 @@ fn stage_values(stage: Stage) -> [u32; 3] {
 }
 
 // The values of the signals, in their order.
-fn values_of(frame: &Frame) -> [u32; 24] {
+fn values_of(frame: &Frame) -> [u32; 25] {
     let fetch = stage_values(frame.shown.fetch);
     let rf = stage_values(frame.shown.rf);
     let alu = stage_values(frame.shown.alu);
@@ -74,6 +75,7 @@ fn values_of(frame: &Frame) -> [u32; 24] {
         u32::from(frame.cycled.halted),
         u32::from(frame.cycled.byte.is_some()),
         u32::from(frame.cycled.byte.unwrap_or(0)),
+        frame.md,
     ]
 }
 
@@ -90,16 +92,32 @@ fn push_value(text: &mut String, width: u32, value: u32, letter: &str) -> Result
 fn push_changes(
     text: &mut String,
     all: bool,
-    before: &[u32; 24],
-    now: &[u32; 24],
+    before: &[u32; 25],
+    now: &[u32; 25],
 ) -> Result<(), AllocError> {
-    for k in 0..24usize {
+    for k in 0..25usize {
         if let Some(signal) = SIGNALS.get(k) {
             let (_, width, letter) = *signal;
             let value = now[k];
             if all || before[k] != value {
                 push_value(text, width, value, letter)?;
             }
+        }
+    }
+    Ok(())
+}
+
+// Appends the registers that differ from what they were, or all of them. r0 is none of them.
+fn push_registers(
+    text: &mut String,
+    all: bool,
+    before: &[u32; 32],
+    now: &[u32; 32],
+) -> Result<(), AllocError> {
+    for n in 1..32usize {
+        let value = now[n];
+        if all || before[n] != value {
+            write!(text, "b{value:b} R{n}\n")?;
         }
     }
     Ok(())
@@ -114,6 +132,9 @@ fn push_head(text: &mut String) -> Result<(), AllocError> {
         let (name, width, letter) = *signal;
         write!(text, "$var wire {width} {letter} {name} $end\n")?;
     }
+    for n in 1..32usize {
+        write!(text, "$var wire 32 R{n} r{n} $end\n")?;
+    }
     text.push_str("$upscope $end\n$enddefinitions $end\n")
 }
 
@@ -121,14 +142,17 @@ fn push_head(text: &mut String) -> Result<(), AllocError> {
 fn text_of(alloc: Global, subject: &Subject) -> Result<String, AllocError> {
     let mut text = String::new(alloc);
     push_head(&mut text)?;
-    let mut before = [0u32; 24];
+    let mut before = [0u32; 25];
+    let mut registers = [0u32; 32];
     let mut all = true;
     let mut cycle = u64::from(subject.from);
     for frame in subject.drawing.frames.iter() {
         let now = values_of(frame);
         write!(text, "#{cycle}\n")?;
         push_changes(&mut text, all, &before, &now)?;
+        push_registers(&mut text, all, &registers, &frame.registers)?;
         before = now;
+        registers = frame.registers;
         all = false;
         cycle = cycle.saturating_add(1);
     }

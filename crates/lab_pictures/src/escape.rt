@@ -1,0 +1,15 @@
+//! Text in HTML and SVG.
+use std::alloc::AllocError;
+
+/// Appends words as text of HTML or XML.
+pub fn push_escaped(text: &mut String, words: &str) -> Result<(), AllocError> {
+    for sign in words.chars() {
+        match sign {
+            '&' => text.push_str("&amp;")?,
+            '<' => text.push_str("&lt;")?,
+            '>' => text.push_str("&gt;")?,
+            _ => text.push(sign)?,
+        }
+    }
+    Ok(())
+}
