@@ -137,7 +137,8 @@ def long_sources(library):
     for line in lines("repeated.txt"):
         text, answer = line.split(" -> ", 1)
         word, text = text.split(": ", 1)
-        words = word.split(" ") + ["source"] + (["built"] if word == "build" else [])
+        words = word.split(" ")
+        words += ([] if "source" in words else ["source"]) + (["built"] if word == "build" else [])
         status, output, _ = library.command(*words, source=repeated(text))
         tally.add(f"{status} {output.decode().split(chr(10))[0]}" == answer, line)
     return tally.tell()
