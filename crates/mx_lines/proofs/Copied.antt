@@ -23,7 +23,7 @@ differ x y false f h e = let k = f e in cc
 pub swapped : (x y : List ℕ) → bytes_eq x y ≡ false → bytes_eq y x ≡ false
 swapped x y h = swap_by x y (bytes_eq y x) (bytes_eq-Decides y x).0 (differ x y (bytes_eq x y) (bytes_eq-Decides x y).1 h)
 
-behind_it : (first : List ℕ) (es : Labels) (i : ℕ) (n : List ℕ) (l : Label)
+pub behind_it : (first : List ℕ) (es : Labels) (i : ℕ) (n : List ℕ) (l : Label)
     → AllByRecursion (λ y. bytes_eq first y ≡ false) (map (λ (p : List ℕ × Label). p.0) es)
     → slice_get es i ≡ Some (n, l) → bytes_eq first n ≡ false
 behind_it first [] i n l h at = cc

@@ -7,7 +7,7 @@ use Rattle.std.proofs.lemmas.Option.{slice_get-map}
 use Rattle.mx_source.specs.declared.Label.{Label}
 use Rattle.mx_lines.specs.Instructions.{Labels}
 use Rattle.mx_lines.specs.Operands.{label_named}
-use Rattle.mx_lines.proofs.Copied.{absent_before}
+use Rattle.mx_lines.proofs.Copied.{absent_before, behind_it, swapped}
 use Rattle.mx_module.specs.Joined.{AreApart}
 
 abbrev pub names : Labels → List (List ℕ)
