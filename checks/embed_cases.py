@@ -38,6 +38,8 @@ def lines(name):
 
 def lent(words):
     """Returns the words with the names of the library, and the files by these; None where there are too many."""
+    if not words:
+        return [], {}
     names = ["image"] if words[0] in IMAGES else ["source", "second"]
     given, files, option = list(words), {}, None
     if words[0] in ("build", "migrate"):
