@@ -1,6 +1,7 @@
 //! The names of places.
+use indexmap::IndexMap;
 use mx_isa::{CODE_BASE, DATA_BASE};
-use mx_source::{Label, LabelTable, Source};
+use mx_source::{Label, Name, Source};
 use std::alloc::{AllocError, Global};
 
 /// What a label names.
@@ -15,7 +16,7 @@ pub enum NamedPlace {
 /// The labels of a linked source, and for each code and data word the one that names it.
 #[derive(Drop)]
 pub struct PlaceNames<'a> {
-    table: &'a LabelTable,
+    labels: &'a IndexMap<Name, Label>,
     places: Vec<NamedPlace>,
     code: Vec<Option<usize>>,
     user_data: Vec<Option<usize>>,
@@ -55,11 +56,11 @@ impl<'a> PlaceNames<'a> {
         links: &[u32],
         words: usize,
     ) -> Result<PlaceNames<'a>, AllocError> {
-        let table = source.labels();
+        let labels = source.labels();
         let mut places = Vec::new(alloc);
         let mut code = unnamed(alloc, words.saturating_add(1))?;
         let mut user_data = unnamed(alloc, source.user_data().len())?;
-        for (index, label) in table.values().iter().enumerate() {
+        for (index, label) in labels.values().enumerate() {
             let place = place_of(*label, links);
             places.push(place)?;
             match place {
@@ -80,7 +81,7 @@ impl<'a> PlaceNames<'a> {
             }
         }
         Ok(PlaceNames {
-            table,
+            labels,
             places,
             code,
             user_data,
@@ -94,10 +95,9 @@ impl<'a> PlaceNames<'a> {
 
     /// The name of a label.
     pub fn name(&self, index: usize) -> &[u8] {
-        if index < self.table.len() {
-            self.table.at(index).0
-        } else {
-            b""
+        match self.labels.get_index(index) {
+            Some((name, _)) => name.bytes(),
+            None => b"",
         }
     }
 
