@@ -1,8 +1,9 @@
 #!/bin/bash
 # The built program on linked sources: cycles a second of `run` on a nested counting loop, CYCLES of them (the first word, else
-# 100,000,000); `list` of 20,000 statements and of half as many; and the start of `run hello.s`. Processor time and peak memory.
+# 100,000,000), beside those of the same machine in plain C (turn_machine.c, by cc -O2) on the words of its listing; `list` of 20,000 statements and of half as many; and the start of `run hello.s`. Processor time and peak memory.
 set -e
 cycles=${1:-100000000}
+bench=$(cd "$(dirname "$0")" && pwd)
 cd "$(dirname "$0")/../crates/mx_run"
 rt run -- run data/hello.s >/dev/null 2>&1 # proves and builds it, where it is not built
 program=$PWD/out/mx_run
@@ -48,6 +49,11 @@ memory() {
 s=$(seconds 1 run loop.s --budget "$cycles")
 awk -v n="$cycles" -v s="$s" -v k="$(memory run loop.s --budget "$cycles")" 'BEGIN {
     printf "run: %d cycles in %.2f processor seconds: %.1f million a second; peak memory %d KB\n", n, s, n / s / 1e6, k }'
+cc -O2 -o turn_machine "$bench/turn_machine.c"
+"$program" list loop.s | awk 'NF == 3 && $3 != "h" { print $2 }' >words
+TIMEFORMAT=%U
+s=$( { time ./turn_machine "$cycles" <words >/dev/null; } 2>&1 )
+awk -v n="$cycles" -v s="$s" 'BEGIN { printf "the same in C: %.2f processor seconds: %.1f million a second\n", s, n / s / 1e6 }'
 for file in half.s many.s; do
     s=$(seconds 10 list "$file")
     awk -v f="$file" -v n="$(wc -l <"$file")" -v s="$s" -v k="$(memory list "$file")" 'BEGIN {

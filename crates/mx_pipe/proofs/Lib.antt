@@ -2,3 +2,4 @@ mod Makes
 mod Decides
 mod Shows
 mod Stands
+mod Lanes

@@ -5,6 +5,7 @@ use Rattle.mx_code.specs.Delay.{Code, code_from}
 use Rattle.mx_icache.specs.Residency.{resident}
 use Rattle.mx_turn.specs.declared.machine.Cycled.{Cycled}
 use Rattle.mx_turn.specs.Counted.{Counted}
+use Rattle.mx_turn.specs.Decoded.{code_in}
 use Rattle.mx_turn.specs.Cycle.{Machine, is_taken, entered, decided, turned, ended, latched, cycled, answer}
 use Rattle.mx_turn.specs.Program.{Program, code_with, code_of, state_after, answer_after}
 use Rattle.mx_turn.proofs.Steps.{after_one_more}
@@ -56,7 +57,7 @@ pub same_code : {C : Type 0} (p p' : Pipe C) → KeepsProgram p p' → code_of_p
 same_code p p' e = λ k. code_with (code_from inst_of 0 (e.handler k).items) (code_from inst_of 4096 (e.code k).items)
 
 pub keeps_both : {C : Type 0} (p p' p'' : Pipe C) → KeepsProgram p p' → KeepsProgram p' p'' → KeepsProgram p p''
-keeps_both p p' p'' e f = record { code = f.code ∙ e.code; handler = f.handler ∙ e.handler; input = f.input ∙ e.input }
+keeps_both p p' p'' e f = record { code = f.code ∙ e.code; handler = f.handler ∙ e.handler; decoded = f.decoded ∙ e.decoded; input = f.input ∙ e.input }
 
 module _ {C : Type 0} (holds : C → List ℕ → Type 0) (t : Pipe C) (p : Program) (h : List Bool) (s : StandsFor holds t p h) (request : Bool) where
   abbrev m : Machine
@@ -77,6 +78,7 @@ module _ {C : Type 0} (holds : C → List ℕ → Type 0) (t : Pipe C) (p : Prog
       record {
         code = ap (λ v. v.items) keeps.code ∙ s.code;
         handler = ap (λ v. v.items) keeps.handler ∙ s.handler;
+        decoded = ap code_in keeps.decoded ∙ s.decoded;
         input = keeps.input ∙ s.input;
         waits = subst (λ x. Waits holds t'.cache x t'.wait) to waits;
         counts = counts ∙ ap (λ (x : Machine). x.counts) to;

@@ -2,7 +2,8 @@
 use Rattle.std.specs.Prelude.{◌≡◌, List, ℕ, slice_index}
 use Rattle.mx_board.specs.Data.{words_of}
 use Rattle.mx_turn.specs.Cycle.{Machine}
-use Rattle.mx_turn.specs.Program.{Program}
+use Rattle.mx_turn.specs.Decoded.{code_in}
+use Rattle.mx_turn.specs.Program.{Program, code_of}
 use Rattle.mx_pipe.specs.declared.pipe.Pipe.{Pipe}
 use Rattle.mx_pipe.specs.Kept.{Waits}
 
@@ -30,3 +31,4 @@ pub record HasFields {C : Type 0} (holds : C → List ℕ → Type 0) (t : Pipe 
   pub input : t.board.input ≡ p.input
   pub code : t.code.items ≡ p.user_words
   pub handler : t.handler.items ≡ p.handler_words
+  pub decoded : code_in t.decoded ≡ code_of p

@@ -9,10 +9,11 @@ use Rattle.mx_icache.specs.Residency.{resident}
 use Rattle.mx_board.specs.Data.{words_of}
 use Rattle.mx_pcchain.specs.Fetch.{Fetch}
 use Rattle.mx_turn.specs.declared.latches.Latches.{Latches}
+use Rattle.mx_turn.specs.Decoded.{code_in}
 use Rattle.mx_turn.specs.Stages.{live, address_of, stage_of}
 use Rattle.mx_turn.specs.System.{slot_of, seen}
 use Rattle.mx_turn.specs.Cycle.{Machine, first, second, number}
-use Rattle.mx_turn.specs.Program.{Program, code_with, state_after}
+use Rattle.mx_turn.specs.Program.{Program, code_with, code_of, state_after}
 use Rattle.mx_pipe.specs.declared.pipe.Pipe.{Pipe}
 use Rattle.mx_pipe.specs.declared.pipe.Wait.{Wait}
 use Rattle.mx_pipe.specs.declared.pipe.Wait.TheVariants.{NotAsked, Missed}
@@ -128,12 +129,14 @@ has_missed (Missed n) = true
 pub record KeepsProgram {C : Type 0} (p p' : Pipe C) : Type 0 where
   pub code : p'.code ≡ p.code
   pub handler : p'.handler ≡ p.handler
+  pub decoded : p'.decoded ≡ p.decoded
   pub input : p'.board.input ≡ p.board.input
 
 -- it stands for the program after the request bits
 pub record StandsFor {C : Type 0} (holds : C → List ℕ → Type 0) (t : Pipe C) (p : Program) (h : List Bool) : Type 0 where
   pub code : t.code.items ≡ p.user_words
   pub handler : t.handler.items ≡ p.handler_words
+  pub decoded : code_in t.decoded ≡ code_of p
   pub input : t.board.input ≡ p.input
   pub waits : Waits holds t.cache (state_after p h) t.wait
   pub counts : t.counts ≡ (state_after p h).counts

@@ -10,6 +10,7 @@ mod machine;
 mod memory;
 mod operands;
 mod pipe;
+mod running;
 
 pub use latch::Latch;
 pub use mx_io::Memory;

@@ -10,7 +10,8 @@ ghost use Rattle.mx_turn.specs.Stages.{fetch_of, stage_of};
 ghost use Rattle.mx_turn.specs.Cycle.{Machine as State, shifted, committed, commit_byte, showing, entered, decided};
 ghost use Rattle.mx_turn.specs.Cycle.{decision, turned, latched, is_taken, reached, ended, counts_after, acted_answer};
 ghost use Rattle.mx_pipe.specs.declared.pipe.Wait.{Wait};
-ghost use Rattle.mx_pipe.specs.Latched.{squashed_if};
+ghost use Rattle.mx_isa.specs.Views.{is_halt};
+ghost use Rattle.mx_pipe.specs.Latched.{does, squashed_if};
 ghost use Rattle.mx_pipe.specs.Made.{byte_of, halts};
 ghost use Rattle.mx_pipe.specs.Courses.{told};
 ghost use Rattle.mx_pipe.specs.Kept.{code_of_pipe, is_live, IsRead, IsMade, Holds, Commits, Tells};
@@ -27,14 +28,17 @@ use mx_pcchain::Fetched;
 use mx_turn::{
     Counts, Cycled, Latches, Machine, Stage, fetch_of, led, popped, restored, saved, stage_of,
 };
+use std::alloc::AllocError;
 
 impl<C: FetchCache> Pipe<C> {
     // WB writes the file, and the word in ALU comes into MEM.
-    fn commit(&mut self) -> Reached
+    pub(crate) fn commit(&mut self) -> Reached
         requires { self.old.halted ≡ false }
         ensures state { (code : Code) (m : State) → Holds code self.old m → Commits code self.new (committed code self.old.board.input (shifted m)) }
         ensures byte { (code : Code) (m : State) → Holds code self.old m → byte_of result.signal ≡ commit_byte code self.old.board.input (shifted m) }
         ensures halt { halts result.signal ≡ self.new.halted }
+        ensures halted { self.new.halted ≡ is_halt (does self.old.alu) }
+        ensures asked { self.new.asked ≡ self.old.asked }
         ensures write { Tells result self.new.mem }
         ensures wait { self.new.wait ≡ self.old.wait }
         ensures program { KeepsProgram self.old self.new }
@@ -85,7 +89,7 @@ impl<C: FetchCache> Pipe<C> {
     }
 
     // The words in IF, RF and ALU move on. Answers where the one in ALU leads at once.
-    fn advance(&mut self, mem: &Reached) -> u32
+    pub(crate) fn move_on(&mut self, mem: &Reached) -> u32
         requires { Tells mem.now self.old.mem }
         ensures state { (m : State) → Commits (code_of_pipe self.old) self.old m → Holds (code_of_pipe self.old) self.new m }
         ensures live { (code : Code) (m : State) → Commits code self.old m → is_some self.new.rf.inst ≡ true → is_live m.rf ≡ true }
@@ -130,7 +134,7 @@ impl<C: FetchCache> Pipe<C> {
 
     // What the turn shows is told by the latches alone.
     #[inline(never)]
-    fn show_anew(&mut self)
+    pub(crate) fn show_anew(&mut self)
         ensures { self.new ≡ record self.old {
           shown = record {
             fetch = stage_of self.old.fetch.word;
@@ -304,7 +308,7 @@ impl<C: FetchCache> Pipe<C> {
     // The turn ends, whatever the word in MEM signals, and wherever the one in ALU leads. Few turns end so: a call of its own
     // keeps the way of the others short.
     #[inline(never)]
-    fn end_apart(&mut self, signal: Signal, target: u32) -> bool
+    pub(crate) fn end_apart(&mut self, signal: Signal, target: u32) -> bool
         requires { self.old.counts.cycles < 2 ^ 63 }
         ensures taken { (code : Code) (m : State) → Holds code self.old m → halts signal ≡ m.halted → result ≡ (not m.halted && is_taken m) }
         ensures state { (code : Code) (m : State) → Holds code self.old m → halts signal ≡ m.halted → LeadsTo code m target
@@ -346,7 +350,7 @@ impl<C: FetchCache> Pipe<C> {
         ensures cache { self.new.cache ≡ self.old.cache }
     {
         let reached = self.commit();
-        let target = self.advance(&reached);
+        let target = self.move_on(&reached);
         self.show();
         (reached.signal, target)
     }
@@ -471,6 +475,13 @@ impl<C: FetchCache> Machine for Pipe<C> {
             };
         }
         self.act()
+    }
+
+    fn advance(&mut self, most: u64, console: &mut Vec<u8>) -> Result<u64, AllocError> {
+        if self.may_run(most) {
+            return self.run_lane(most, console);
+        }
+        Ok(0)
     }
 
     fn counts(&self) -> Counts {

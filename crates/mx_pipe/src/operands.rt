@@ -11,7 +11,7 @@ use mx_isa::{Inst, Reg};
 use mx_turn::{read, set};
 
 // The register that the word of a latch writes, or r0.
-fn dest_of(latch: &Latch) -> Reg
+pub(crate) fn dest_of(latch: &Latch) -> Reg
     ensures { result ≡ dest (does latch.now) }
 {
     match &latch.inst {

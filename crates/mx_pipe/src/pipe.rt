@@ -16,7 +16,7 @@ use mx_icache::FetchCache;
 use mx_io::Memory;
 use mx_isa::CODE_BASE;
 use mx_pcchain::{Chain, Fetched, Psw};
-use mx_turn::{Counts, Latches, SHIPPED, Stage, fetch_of};
+use mx_turn::{Counts, Decoded, Latches, SHIPPED, Stage, fetch_of};
 use std::alloc::Global;
 
 /// Whether the cache has been asked for the fetch of the coming turn, and the stalled cycles that are left where that
@@ -59,6 +59,8 @@ pub struct Pipe<C> {
     /// The words of the image and of the handler.
     pub code: Vec<u32>,
     pub handler: Vec<u32>,
+    /// The same, decoded.
+    pub decoded: Decoded,
 }
 
 // What is shown before the first turn.
@@ -119,6 +121,7 @@ impl<C: FetchCache> Pipe<C> {
         ensures { IfOk result (λ t. StandsFor C.holds t
             (program_of handler.now image.now.code.items image.now.user_data.items (option_copied input.entry)) []) }
     {
+        let decoded = Decoded::new(alloc, handler, &image.code)?;
         let code = kept(alloc, &image.code)?;
         let handler = kept(alloc, handler)?;
         let board = Board::new(alloc, &image.user_data, input)?;
@@ -142,6 +145,7 @@ impl<C: FetchCache> Pipe<C> {
             cache,
             code,
             handler,
+            decoded,
         })
     }
 }

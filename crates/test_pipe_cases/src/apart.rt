@@ -54,6 +54,7 @@ fn told<C>(alloc: Global, pipe: &Pipe<C>) -> Result<String> {
         cache: _,
         code: _,
         handler: _,
+        decoded: _,
     } = pipe;
     let [_, first, ..] = *file;
     let mut text = format!(in alloc; "{first:x}")?;

@@ -6,6 +6,7 @@
 mod apart;
 mod drawn;
 mod kind;
+mod pieces;
 mod sides;
 mod traced;
 

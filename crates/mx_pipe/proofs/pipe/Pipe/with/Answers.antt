@@ -1,7 +1,9 @@
 use Rattle.std.proofs.Common.{◌≡◌, length, arith, true≢false, refl, sym, ap, ◌∙◌, cond}
 use Rattle.mx_isa.specs.Words.{write}
 use Rattle.mx_isa.specs.Views.{dest}
-use Rattle.mx_code.specs.Delay.{data_from}
+use Rattle.mx_code.specs.Decoding.{inst_of}
+use Rattle.mx_code.specs.Delay.{code_from, data_from}
+use Rattle.mx_turn.specs.Program.{code_with}
 use Rattle.mx_turn.specs.System.{slot_of}
 use Rattle.mx_turn.proofs.Stands.{no_registers, none_resident}
 use Rattle.mx_pipe.specs.Latched.{does}
@@ -10,8 +12,9 @@ use Rattle.mx_pipe.proofs.pipe.Pipe.with.Goals as goal
 
 pub returns : goal.returns
 returns g c = record {
-  code = c.in_ok-code.ensures ∙ c.deref.ensures.value;
+  code = c.in_ok-code.ensures ∙ c.deref-2.ensures.value;
   handler = c.in_ok-handler.ensures;
+  decoded = c.in_ok-decoded.ensures ∙ (λ k. code_with (code_from inst_of 0 c.args.handler.now) (code_from inst_of 4096 (c.deref.ensures.value k)));
   input = c.in_ok-board.ensures.input;
   waits = (c.requires.empty, λ k. cond (sym (none_resident 4096) k) 0 2);
   counts = c.none.ensures;
@@ -43,15 +46,15 @@ returns g c = record {
     rest = record {
       next = c.fetch_of.ensures;
       md = refl;
-      words = c.in_ok-board.ensures.words ∙ ap (data_from 256) c.deref-2.ensures.value;
+      words = c.in_ok-board.ensures.words ∙ ap (data_from 256) c.deref-3.ensures.value;
       taken = c.in_ok-board.ensures.taken;
-      chain = c.new-2.ensures;
+      chain = c.new-3.ensures;
       psw = c.start.ensures;
       asked = refl;
       halted = refl;
       shown = c.nothing.ensures;
       short =
-          let same = ap length (c.in_ok-code.ensures ∙ c.deref.ensures.value) in
+          let same = ap length (c.in_ok-code.ensures ∙ c.deref-2.ensures.value) in
           let few = c.args.image.now.code_within in
           let long = c.args.image.now.code.ok in
           omega (arith, same, few, long);

@@ -1,0 +1,110 @@
+-- The registers before the word in MEM committed, from those behind it and the one that it replaced.
+use Rattle.std.proofs.Common.{◌≡◌, ℕ, Bool, true, false, cond, eqb, List, refl, sym, ap, ◌∙◌, arith}
+use Rattle.std.specs.Prelude.{slice_index}
+use Rattle.std.proofs.lemmas.Bool.Decides.{nat_tests}
+use Rattle.mx_isa.specs.declared.inst.Special.TheVariants.{Md, Pc1, Pc2, Pc3}
+use Rattle.mx_isa.specs.declared.inst.Inst.{Inst}
+use Rattle.mx_isa.specs.declared.inst.Inst.TheVariants.{Load, Store, Branch, Compute, Addi, MoveFrom, MoveTo, Jspci, Jpc, Jpcrs, Halt}
+use Rattle.mx_isa.specs.Words.{Words, reg, write}
+use Rattle.mx_isa.specs.Effect.{Found, Change}
+use Rattle.mx_isa.specs.Views.{dest}
+use Rattle.mx_code.specs.Delay.{Code}
+use Rattle.mx_board.specs.Contents.{Contents}
+use Rattle.mx_pcchain.specs.declared.chain.Chain.{Chain}
+use Rattle.mx_turn.specs.Stages.{live}
+use Rattle.mx_turn.specs.System.{system_change, slot_of}
+use Rattle.mx_turn.specs.Cycle.{Machine, shifted, mem_change}
+use Rattle.mx_lane.specs.declared.lane.Lane.{Lane}
+use Rattle.mx_lane.specs.Lanes.{InTurn, IsLeft}
+
+put_back_at : (f : Words) (d v n : ℕ) → write (write f d v) d (reg f d) n ≡ f n
+put_back_at f d v n = grind (arith, nat_tests)
+
+put_back : (f : Words) (d v : ℕ) → write (write f d v) d (reg f d) ≡ f
+put_back f d v = λ i n. put_back_at f d v n i
+
+kept_at : (f : Words) (d n : ℕ) → write f d (reg f d) n ≡ f n
+kept_at f d n = grind (arith, nat_tests)
+
+kept : (f : Words) (d : ℕ) → write f d (reg f d) ≡ f
+kept f d = λ i n. kept_at f d n i
+
+again_at : (f : Words) (d v n : ℕ) → write f d (reg (write f d v) d) n ≡ write f d v n
+again_at f d v n = grind (arith, nat_tests)
+
+again : (f : Words) (d v : ℕ) → write f d (reg (write f d v) d) ≡ write f d v
+again f d v = λ i n. again_at f d v n i
+
+module _ (c : Chain) (at : ℕ) (r : Words) (md : ℕ) (find : ℕ → Found) (f : Words) where
+  abbrev written : Bool → Inst → Words
+  written user i = let x : Change = system_change user c i at r md find in write f x.dest x.value
+
+  undone : (user : Bool) (i : Inst) → write (written user i) (dest i) (reg f (dest i)) ≡ f
+  undone user (Load base d offset) = put_back f d _
+  undone user (Store base value offset) = refl
+  undone user (Branch a b condition s by) = refl
+  undone user (Compute a d b op) = put_back f d _
+  undone user (Addi a d imm) = put_back f d _
+  undone true (MoveFrom d Md) = put_back f d _
+  undone false (MoveFrom d Md) = put_back f d _
+  undone true (MoveFrom d Pc1) = kept f d
+  undone false (MoveFrom d Pc1) = put_back f d _
+  undone true (MoveFrom d Pc2) = kept f d
+  undone false (MoveFrom d Pc2) = put_back f d _
+  undone true (MoveFrom d Pc3) = kept f d
+  undone false (MoveFrom d Pc3) = put_back f d _
+  undone user (MoveTo a Md) = refl
+  undone user (MoveTo a Pc1) = refl
+  undone user (MoveTo a Pc2) = refl
+  undone user (MoveTo a Pc3) = refl
+  undone user (Jspci a d imm) = put_back f d _
+  undone user Jpc = refl
+  undone user Jpcrs = refl
+  undone user Halt = refl
+
+  redone : (user : Bool) (i : Inst) → write f (dest i) (reg (written user i) (dest i)) ≡ written user i
+  redone user (Load base d offset) = again f d _
+  redone user (Store base value offset) = refl
+  redone user (Branch a b condition s by) = refl
+  redone user (Compute a d b op) = again f d _
+  redone user (Addi a d imm) = again f d _
+  redone true (MoveFrom d Md) = again f d _
+  redone false (MoveFrom d Md) = again f d _
+  redone true (MoveFrom d Pc1) = kept f d
+  redone false (MoveFrom d Pc1) = again f d _
+  redone true (MoveFrom d Pc2) = kept f d
+  redone false (MoveFrom d Pc2) = again f d _
+  redone true (MoveFrom d Pc3) = kept f d
+  redone false (MoveFrom d Pc3) = again f d _
+  redone user (MoveTo a Md) = refl
+  redone user (MoveTo a Pc1) = refl
+  redone user (MoveTo a Pc2) = refl
+  redone user (MoveTo a Pc3) = refl
+  redone user (Jspci a d imm) = again f d _
+  redone user Jpc = refl
+  redone user Jpcrs = refl
+  redone user Halt = refl
+
+-- the lane may be left in any turn
+pub may_leave : {C : Type 0} (holds : C → List ℕ → Type 0) (code : Code) (m : Machine) (l : Lane) (b : Contents) (cache : C)
+    → (h : InTurn holds code m l b cache) → IsLeft code l h.before
+may_leave holds code m l b cache h =
+    let i : Inst = live code m.alu in
+    let s : Machine = shifted m in
+    let f : Words = m.core.regs in
+    let x : Change = mem_change code b.input s in
+    let mem : m.alu ≡ l.mem = ap (λ (y : Machine). y.mem) h.state in
+    let before : f ≡ h.before = ap (λ (y : Machine). y.before) h.state in
+    let file : write f x.dest x.value ≡ slice_index l.registers.file = ap (λ (y : Machine). y.core.regs) h.state in
+    let replaced : reg f (dest i) ≡ l.replaced = (λ k. reg (before k) (dest (live code (mem k)))) ∙ sym h.replaced in
+    record {
+      file =
+          sym (λ k. write (file k) (dest (live code (mem k))) (replaced k))
+          ∙ undone m.chain _ _ m.core.md _ f m.psw.current.user i
+          ∙ before;
+      regs =
+          sym (λ k. write (before k) (dest (live code (mem k))) (reg (file k) (dest (live code (mem k)))))
+          ∙ redone m.chain _ _ m.core.md _ f m.psw.current.user i
+          ∙ file;
+      slot = sym (λ k. slot_of (live code (mem k)) (before k)) ∙ ap (λ (y : Machine). y.slot) h.state;
+    }

@@ -1,0 +1,79 @@
+-- What a lane keeps of the definition's state, once the word in MEM has committed.
+use Rattle.std.specs.Prelude.{◌≡◌, ℕ, zero, suc, Bool, false, not, cond, List, [], ◌∷◌, ◌++◌, Option, Some, None, option_to_list, slice_index}
+use Rattle.mx_isa.specs.Words.{Words, reg, write}
+use Rattle.mx_isa.specs.Views.{dest}
+use Rattle.mx_isa.specs.Effect.{Decision}
+use Rattle.mx_code.specs.Delay.{Code, next_of}
+use Rattle.mx_icache.specs.Residency.{resident}
+use Rattle.mx_board.specs.Contents.{Contents}
+use Rattle.mx_board.specs.Data.{words_of}
+use Rattle.mx_turn.specs.declared.latches.Latches.{Latches}
+use Rattle.mx_turn.specs.Counted.{Counted, after_stall, after_turn}
+use Rattle.mx_turn.specs.Stages.{fetch_of, live, squash}
+use Rattle.mx_turn.specs.System.{slot_of}
+use Rattle.mx_turn.specs.Cycle.{Machine, shifted, committed, cycled, answer}
+use Rattle.mx_lane.specs.declared.lane.Lane.{Lane}
+
+-- the state that it keeps, with what it does not keep
+abbrev pub lane_of : Lane → Contents → List ℕ → Words → Latches → Counted → Machine
+lane_of l b past before shown counts = record {
+  next = l.next;
+  fetch = Some l.next;
+  rf = l.rf;
+  alu = l.alu;
+  mem = l.mem;
+  wb = l.wb;
+  past = past;
+  stall = 0;
+  latch = false;
+  core = record { regs = slice_index l.registers.file; md = l.registers.md; mem = words_of b; taken = b.taken };
+  before = before;
+  slot = l.registers.slot;
+  chain = l.registers.chain;
+  psw = l.psw;
+  halted = false;
+  shown = shown;
+  counts = counts;
+}
+
+-- what a decision does that goes back to no saved fetch
+abbrev pub plain : Decision → Machine → Machine
+plain d m = record m {
+  next = fetch_of (next_of d.target m.next.address);
+  fetch = squash d.cancels m.fetch;
+  rf = squash d.cancels m.rf;
+}
+
+-- the cycles of a turn without those of its fetch, and with those of the next one's
+abbrev pub turn_cycles : Bool → ℕ
+turn_cycles resident = cond resident 1 3
+
+abbrev pub turn_counts : Bool → Counted → Counted
+turn_counts resident counts = cond resident counts (after_stall (after_stall counts))
+
+-- the machine after n cycles without a request
+abbrev pub quietly : Code → Option (List ℕ) → ℕ → Machine → Machine
+quietly code input zero m = m
+quietly code input (suc n) m = cycled resident code input (quietly code input n m) false
+
+-- the bytes of the n cycles behind the next one
+abbrev pub later_bytes : Code → Option (List ℕ) → ℕ → Machine → List ℕ
+later_bytes code input zero m = []
+later_bytes code input (suc n) m = later_bytes code input n m ++ option_to_list (answer code input (quietly code input (suc n) m) false).byte
+
+-- the lane is in the turn that the machine is before, and the cache was asked for its fetch
+pub record InTurn {C : Type 0} (holds : C → List ℕ → Type 0) (code : Code) (m : Machine) (l : Lane) (b : Contents) (cache : C) : Type 0 where
+  pub past : List ℕ
+  pub before : Words
+  pub state : committed code b.input (shifted m) ≡ lane_of l b past before m.shown m.counts
+  pub on : m.halted ≡ false
+  pub counts : l.counts ≡ m.counts
+  pub missed : l.missed ≡ not (resident m.past m.next.address)
+  pub replaced : l.replaced ≡ reg before (dest (live code l.mem))
+  pub held : holds cache past
+
+-- by what the lane remembers of the register that the word in MEM wrote, the registers before it committed are found again
+pub record IsLeft (code : Code) (l : Lane) (before : Words) : Type 0 where
+  pub file : write (slice_index l.registers.file) (dest (live code l.mem)) l.replaced ≡ before
+  pub regs : write before (dest (live code l.mem)) (reg (slice_index l.registers.file) (dest (live code l.mem))) ≡ slice_index l.registers.file
+  pub slot : slot_of (live code l.mem) before ≡ l.registers.slot

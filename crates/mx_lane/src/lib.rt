@@ -1,0 +1,6 @@
+//! Turns without a request, many at once: the fetches in the stages and the registers alone, from commit to commit.
+#![tactic(auto)]
+
+mod lane;
+
+pub use lane::Lane;
