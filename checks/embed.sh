@@ -32,8 +32,8 @@ printf '#include <zanderanvil.h>\nint main() { return (int)zanderanvil_ask("run"
 c++ -Wall -Wextra -Werror -Ilib -c header.cc -o header.o
 tell $? 'the header as C++'
 
-python3 "$top/examples/embed/zanderanvil.py" lib/libzanderanvil.so "$top/examples/countdown.s" >out
-tell $? "zanderanvil.py: $(head -n 1 out)"
+python3 "$top/examples/embed/run.py" lib/libzanderanvil.so "$top/examples/countdown.s" >out
+tell $? "run.py: $(head -n 1 out)"
 
 python3 "$top/checks/embed_cases.py" lib/libzanderanvil.so
 tell $? 'the cases'

@@ -10,7 +10,7 @@ import sys
 
 TOP = os.path.dirname(os.path.dirname(os.path.abspath(__file__)))
 DATA = f"{TOP}/crates/test_command_cases/data"
-sys.path.insert(0, f"{TOP}/examples/embed")
+sys.path.insert(0, f"{TOP}/python")
 
 from zanderanvil import Zanderanvil  # noqa: E402
 

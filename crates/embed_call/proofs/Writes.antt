@@ -1,5 +1,5 @@
 -- `build` and `migrate` write their target where they are done, and nothing else.
-use Rattle.std.proofs.Common.{◌≡◌, ◌≢◌, ℕ, ◌⊎◌, inl, inr, List, [], length, Bool, true, false, Option, Some, None, refl, sym, ap, ◌∙◌, subst}
+use Rattle.std.proofs.Common.{◌≡◌, ◌≢◌, ℕ, ◌⊎◌, inl, inr, List, [], length, Bool, true, false, Option, Some, None, refl, sym, ap, ◌∙◌}
 use Rattle.std.specs.Prelude.{nat_lt, if◌then◌else◌}
 use Rattle.std.specs.Option.{unwrap_or}
 use Rattle.std.proofs.lemmas.Slice.Eq.{bytes_eq-Decides}
@@ -24,7 +24,7 @@ use Rattle.mx_command.specs.Protocols.{Layouts, unless_faulty, unless_overlong, 
 use Rattle.mx_command.specs.Layouts.{greedy_layout, command_protocol}
 use Rattle.mx_command.specs.Writing.{writes_a_file}
 use Rattle.embed_call.specs.Answered.{file_bytes}
-use Rattle.embed_call.specs.Targets.{target_in, bytes_at, target_bytes}
+use Rattle.embed_call.specs.Targets.{target_in, target_bytes}
 
 -- it is not done and writes nothing, or it writes this name
 abbrev pub WritesTo : List ℕ → Answer → Type 0

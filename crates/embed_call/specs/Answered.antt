@@ -3,7 +3,7 @@ use Rattle.std.specs.Prelude.{◌≡◌, ◌≢◌, ℕ, List, [], true, false, 
 use Rattle.std.specs.Str.Lines.{lines}
 use Rattle.cmd_answer.specs.declared.Status.{Status}
 use Rattle.cmd_answer.specs.declared.Status.TheVariants.{ReadFault, WriteFault, Memory}
-use Rattle.cmd_answer.specs.Answer.{Answer, Written}
+use Rattle.cmd_answer.specs.Answer.{Written}
 use Rattle.cmd_answer.specs.Protocol.{Protocol, Answers, Reads, resolved}
 use Rattle.cmd_table.specs.Commands.{Command}
 use Rattle.cmd_table.specs.Asked.{command_of}
@@ -12,6 +12,8 @@ use Rattle.mx_command.specs.Accepted.{Held, Holds, Accepted}
 use Rattle.mx_command.specs.Headline.{Headline}
 use Rattle.mx_command.specs.Pairs.{AcceptedPair, PairHeadline}
 use Rattle.mx_command.specs.Stops.{AcceptedStops, StopsHeadline}
+use Rattle.mx_command.specs.Joins.{AcceptedModules, JoinHeadline}
+use Rattle.mx_command.specs.Measures.{AcceptedBest, BestHeadline}
 use Rattle.mx_command.specs.Writing.{writes_a_file}
 use Rattle.embed_call.specs.declared.call.Call.{Call}
 
@@ -36,10 +38,13 @@ pub record Answered (asked : Option Command) (held : Held) (result : Status) (te
   pub output : text ≡ (resolved (command_protocol asked) held).output
   pub file : writes_a_file asked ≡ true → written ≡ file_bytes (resolved (command_protocol asked) held).file
   pub no_file : writes_a_file asked ≡ false → written ≡ []
-  -- where they ask for the run of a source that is accepted, for that of two, or for the stops of one: all that is promised of these
+  -- where they ask for the run of a source that is accepted, for that of two, for the stops of one, for the join of modules, or for the
+  -- lengths of plans: all that is promised of these
   pub headline : (accepted : Accepted asked held) → Headline asked held accepted result [] text
   pub pair : (accepted : AcceptedPair asked held) → PairHeadline asked held accepted result [] text
   pub stops : (accepted : AcceptedStops asked held) → StopsHeadline asked held accepted result [] text
+  pub modules : (accepted : AcceptedModules asked held) → JoinHeadline asked held accepted result [] text
+  pub best : (accepted : AcceptedBest asked held) → BestHeadline asked held accepted result [] text
   -- it is no fault of writing and no want of memory, and no fault of reading where each file that is read is held and within its limit
   pub no_write_fault : result ≢ WriteFault
   pub no_memory : result ≢ Memory

@@ -1,5 +1,5 @@
 -- A command whose reply was performed and finished.
-use Rattle.std.proofs.Common.{◌≡◌, ◌≢◌, ℕ, ◌⊎◌, List, Bool, true, Option, inl, inr, ⊎_elim, sym, ◌∙◌, ap, subst}
+use Rattle.std.proofs.Common.{◌≡◌, ◌≢◌, ℕ, ◌⊎◌, List, true, inl, inr, ⊎_elim, sym, ◌∙◌, ap, subst}
 use Rattle.cmd_answer.specs.declared.Status.{Status}
 use Rattle.cmd_answer.specs.declared.Status.TheVariants.{WriteFault, Memory}
 use Rattle.cmd_answer.specs.Answer.{Answer}

@@ -1,5 +1,5 @@
 -- The answer of an accepted run is the report of a run that does what its source means.
-use Rattle.std.proofs.Common.{◌≡◌, ℕ, ◌≤◌, ◌⊎◌, List, length, Bool, false, Option, Some, None, refl, sym, ap, ◌∙◌, subst, ⊎_elim, inl, inr, arith}
+use Rattle.std.proofs.Common.{◌≡◌, ℕ, ◌≤◌, List, length, false, Option, Some, None, refl, sym, ap, ◌∙◌, subst, arith}
 use Rattle.std.specs.Prelude.{nat_lt, is_some}
 use Rattle.std.proofs.lemmas.Bool.{cond-false}
 use Rattle.std.proofs.lemmas.Bool.Decides.{nat_tests}
@@ -9,16 +9,14 @@ use Rattle.mx_source.specs.Meaning as meant
 use Rattle.mx_turn.specs.Handler.{shipped}
 use Rattle.mx_turn.specs.Program.{program_of}
 use Rattle.mx_squash.specs.Copies.{Site}
-use Rattle.mx_layout.specs.Layout.{IsLayout, blocks_in}
+use Rattle.mx_layout.specs.Layout.{blocks_in}
 use Rattle.mx_layout.specs.Overlong.{overlong}
-use Rattle.mx_reorg.specs.Greedy.{IsGreedy}
 use Rattle.law_schedule.specs.Schedule.{IsScheduler}
 use Rattle.mx_link.specs.Origins.{from_target}
 use Rattle.mx_link.specs.Linked.{linked_code, linked_data}
 use Rattle.cmd_answer.specs.declared.FileKind.{FileKind}
 use Rattle.cmd_answer.specs.declared.FileKind.TheVariants.{Source, Interrupts, Input}
 use Rattle.cmd_answer.specs.declared.Status.{Status}
-use Rattle.cmd_answer.specs.declared.Status.TheVariants.{Memory}
 use Rattle.cmd_answer.specs.Answer.{Answer}
 use Rattle.cmd_answer.specs.Files.{limit_of}
 use Rattle.cmd_answer.specs.Protocol.{Protocol, Reads, Reading, Given, TooLong, reading_of, answered, resolved}

@@ -1,8 +1,7 @@
 -- The answer of `join` of modules without faults is the text of a source that means what they mean together.
-use Rattle.std.proofs.Common.{◌≡◌, ℕ, suc, ◌+◌, ◌≤◌, ◌++◌, List, [], ◌∷◌, length, Option, Some, None, refl, sym, ap, ◌∙◌, subst, append_assoc, length-append, append-nil, Bool, arith}
+use Rattle.std.proofs.Common.{◌≡◌, ℕ, suc, ◌+◌, ◌≤◌, ◌++◌, List, [], ◌∷◌, length, Option, refl, sym, ap, ◌∙◌, subst, append_assoc, length-append, append-nil, arith}
 use Rattle.std.specs.Prelude.{All}
 use Rattle.std.proofs.lemmas.List.Elements.{All-nil, All-cons}
-use Rattle.mx_source.specs.SourceValue.{SourceValue}
 use Rattle.mx_source.specs.Printed.{printed}
 use Rattle.cmd_answer.specs.declared.FileKind.TheVariants.{Module}
 use Rattle.cmd_answer.specs.declared.Status.{Status}
@@ -12,14 +11,14 @@ use Rattle.cmd_answer.specs.Protocol.{resolved}
 use Rattle.mx_io.specs.Shelves.{Told}
 use Rattle.cmd_answer.specs.Delivery.{Delivered}
 use Rattle.mx_asm.specs.Texts.{source_of}
-use Rattle.mx_module.specs.Joined.{joined, join_fault}
+use Rattle.mx_module.specs.Joined.{joined}
 use Rattle.law_modules.specs.JoinedTexts.{AreJoined}
 use Rattle.law_modules.proofs.Printable.{joined_reads}
 use Rattle.law_modules.proofs.Meant.{same_means}
-use Rattle.mx_isa.specs.Board.{board}
 use Rattle.cmd_table.specs.Commands.{Command}
 use Rattle.mx_command.specs.Protocols.{Layouts, join_answer, printed_unless, modules_protocol, protocol_of}
 use Rattle.mx_command.specs.Accepted.{Held, Holds}
+use Rattle.mx_command.specs.Replied.{IsWithin}
 use Rattle.mx_command.specs.Joins.{HoldModules, AcceptedModules, WhereShort, JoinHeadline}
 use Rattle.mx_command.proofs.Headline.{read_is}
 
@@ -50,7 +49,10 @@ module _ (held : Held) where
   all_short (name ∷ names) (text ∷ texts) number h =
       All-cons (λ (text : List ℕ). length text ≤ 4194304) text texts h.0.within (all_short names texts (number + 1) h.1)
 
-module _ (asked : Option Command) (held : Held) (a : AcceptedModules asked held) where
+module _ (asked : Option Command) (held : Held) (a : AcceptedModules asked held) (within : IsWithin asked) where
+  sixteen : length a.names ≤ 16
+  sixteen = subst IsWithin a.asks within
+
   answer_is : (layout_of : Layouts) → resolved (protocol_of layout_of asked) held ≡ prints Done (printed (joined a.texts))
   answer_is layout_of =
       ap (λ o. resolved (protocol_of layout_of o) held) a.asks
@@ -59,7 +61,7 @@ module _ (asked : Option Command) (held : Held) (a : AcceptedModules asked held)
 
   are_joined : WhereShort asked held a (AreJoined a.texts)
   are_joined short = record {
-    few = (let n = as_many held a.names a.texts 1 a.are_texts in let k = a.few in omega (arith, n, k));
+    few = (let n = as_many held a.names a.texts 1 a.are_texts in let k = sixteen in omega (arith, n, k));
     short = all_short held a.names a.texts 1 a.are_texts;
     faultless = a.faultless;
     names = short;
@@ -72,8 +74,8 @@ module _ (asked : Option Command) (held : Held) (a : AcceptedModules asked held)
     status = d.status;
     output = d.output;
     reads_back = λ short. joined_reads a.texts (are_joined short);
-    means = λ short bytes n. same_means (joined a.texts) (source_of 256 (printed (joined a.texts)))
-        (joined_reads a.texts (are_joined short)).same board bytes n;
+    means = λ short place bytes n. same_means (joined a.texts) (source_of 256 (printed (joined a.texts)))
+        (joined_reads a.texts (are_joined short)).same place bytes n;
   }
 
   -- where the answer was delivered, it is that text

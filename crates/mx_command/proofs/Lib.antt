@@ -1,6 +1,8 @@
 pub mod Readings
 pub mod Own
 pub mod Ended
+mod Within
+mod WholeLog
 pub mod GreedyLayouts
 pub mod Links
 pub mod Laid
@@ -13,3 +15,4 @@ pub mod JoinHeadline
 mod Labels
 mod StoppedSources
 mod StopsHeadline
+mod BestHeadline

@@ -1,15 +1,14 @@
 -- The answer of an accepted pair is the report of a run in which both programs do what their sources mean.
-use Rattle.std.proofs.Common.{◌≡◌, ℕ, ◌≤◌, Bool, List, length, Option, None, refl, ap, ◌∙◌, subst, arith}
-use Rattle.std.specs.Prelude.{slice_get}
+use Rattle.std.proofs.Common.{◌≡◌, ℕ, ◌≤◌, List, Option, None, ap, ◌∙◌, subst, arith}
 use Rattle.std.proofs.lemmas.Option.{slice_get_past}
 use Rattle.mx_isa.specs.declared.Place.{Place}
 use Rattle.mx_source.specs.SourceValue.{SourceValue}
 use Rattle.mx_squash.specs.Copies.{Site}
 use Rattle.mx_layout.specs.Layout.{blocks_in}
-use Rattle.mx_layout.specs.Overlong.{Overlong, overlong}
+use Rattle.mx_layout.specs.Overlong.{overlong}
 use Rattle.mx_link.specs.Origins.{from_target}
 use Rattle.mx_link.specs.Linked.{linked_code, linked_data}
-use Rattle.mx_asm.specs.Texts.{source_of, text_fault}
+use Rattle.mx_asm.specs.Texts.{source_of}
 use Rattle.mx_asm.proofs.Sourced.{faultless_source}
 use Rattle.cmd_answer.specs.declared.FileKind.TheVariants.{First, Second}
 use Rattle.cmd_answer.specs.declared.Status.{Status}
@@ -24,7 +23,7 @@ use Rattle.cmd_share.specs.Runs.{shared_answer, sharing_protocol}
 use Rattle.law_tasks.specs.Sources.{IsSharingText}
 use Rattle.law_tasks.proofs.Texts.{texts_mean}
 use Rattle.cmd_table.specs.Commands.{Command}
-use Rattle.mx_command.specs.Protocols.{Layouts, wrong_by, wrong_with, unless_wrong, unless_far, upper_layout, assembled_protocol, pair_protocol, protocol_of}
+use Rattle.mx_command.specs.Protocols.{Layouts, wrong_by, wrong_with, unless_wrong, unless_far, assembled_protocol, pair_protocol, protocol_of}
 use Rattle.mx_command.specs.Accepted.{Held}
 use Rattle.mx_command.specs.Pairs.{AcceptedPair, pair_program, PairHeadline}
 use Rattle.mx_command.proofs.Headline.{read_is, requests_are}

@@ -1,10 +1,10 @@
 -- Two sources that share the machine, by the layout that a function of sources gives.
-use Rattle.std.proofs.Common.{◌≡◌, ℕ, zero, suc, ◌+◌, ◌≤◌, List, [], ◌∷◌, length, Option, Some, None, refl, sym, ap, ◌∙◌, subst, arith, ◌<◌, ◌⊎◌, inl, inr, get_or}
-use Rattle.std.specs.Prelude.{All, slice_get, slice_index_or, pos, ◌-ℤ◌}
+use Rattle.std.proofs.Common.{◌≡◌, ℕ, suc, ◌+◌, ◌≤◌, List, [], ◌∷◌, length, Option, Some, None, refl, sym, ap, ◌∙◌, subst, arith, ◌<◌, ◌⊎◌, inl, inr, get_or}
+use Rattle.std.specs.Prelude.{All, slice_get, pos, ◌-ℤ◌}
 use Rattle.std.proofs.lemmas.List.Elements.{All-nil, All-cons}
 use Rattle.std.proofs.lemmas.Option.{slice_get_cases}
 use Rattle.mx_isa.specs.declared.Place.{Place}
-use Rattle.mx_source.specs.SourceValue.{SourceValue, IsSource}
+use Rattle.mx_source.specs.SourceValue.{SourceValue}
 use Rattle.mx_blocks.specs.declared.block.Plan.{Plan}
 use Rattle.mx_blocks.specs.declared.Block.{Block}
 use Rattle.mx_blocks.specs.Leaders.{AreBlocks}

@@ -1,5 +1,5 @@
 -- Every command but `build` and `migrate` only prints.
-use Rattle.std.proofs.Common.{◌≡◌, ℕ, ◌++◌, List, [], ◌∷◌, Bool, true, false, Option, Some, None, Result, Ok, Err, refl, sym, ◌∙◌}
+use Rattle.std.proofs.Common.{◌≡◌, ℕ, ◌++◌, List, [], ◌∷◌, Bool, false, Option, Some, None, Result, Ok, Err, refl}
 use Rattle.std.specs.Prelude.{is_some}
 use Rattle.mx_board.specs.declared.EventError.{EventError}
 use Rattle.mx_board.specs.RequestFile.{requests_of}
@@ -10,7 +10,7 @@ use Rattle.mx_turn.specs.Program.{Program, program_of}
 use Rattle.cmd_answer.specs.declared.FileKind.TheVariants.{Second}
 use Rattle.cmd_answer.specs.Answer.{Answer}
 use Rattle.mx_io.specs.Shelves.{Told, Counts}
-use Rattle.cmd_answer.specs.Protocol.{Protocol, Answers, Reads, Performed, OnlyPrints}
+use Rattle.cmd_answer.specs.Protocol.{Protocol, Reads, Performed, OnlyPrints}
 use Rattle.cmd_answer.proofs.Protocols.{no_file}
 use Rattle.mx_lines.specs.declared.Fault.{Fault}
 use Rattle.mx_asm.specs.Texts.{source_of, text_fault}
@@ -21,7 +21,6 @@ use Rattle.mx_layout.specs.Overlong.{Overlong, overlong}
 use Rattle.mx_squash.specs.Copies.{Site}
 use Rattle.mx_link.specs.Origins.{from_target, from_nowhere}
 use Rattle.mx_link.specs.Linked.{link_map, linked_code, linked_data}
-use Rattle.cmd_list.specs.Listing.{layout_listing}
 use Rattle.mx_isa.specs.Board.{board}
 use Rattle.cmd_meaning.specs.Told.{meaning_answer}
 use Rattle.law_schedule.proofs.Scheduler.{scheduler}

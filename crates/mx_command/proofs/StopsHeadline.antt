@@ -1,6 +1,6 @@
 -- The answer of an accepted session tells the visits of the meaning.
-use Rattle.std.proofs.Common.{◌≡◌, ℕ, zero, suc, ◌+◌, ◌*◌, ◌<◌, ◌≤◌, ◌||◌, Bool, true, false, cond, List, [], ◌∷◌, length, Option, Some, None, refl, sym, ap, ◌∙◌, subst, ⊎_elim, arith}
-use Rattle.std.specs.Prelude.{eqb, ltb, slice_get, is_some, option_and_then}
+use Rattle.std.proofs.Common.{◌≡◌, ℕ, zero, suc, ◌+◌, ◌<◌, ◌≤◌, ◌||◌, Bool, true, false, cond, List, [], ◌∷◌, length, Option, Some, None, refl, sym, ap, ◌∙◌, subst, ⊎_elim, arith}
+use Rattle.std.specs.Prelude.{eqb, ltb, slice_get, option_and_then}
 use Rattle.std.specs.Str.{bytes_eq}
 use Rattle.std.proofs.lemmas.Bool.{cases_Bool, cond-true, cond-false}
 use Rattle.std.proofs.lemmas.Bool.Decides.{nat_tests}
@@ -26,7 +26,7 @@ use Rattle.law_end_to_end.proofs.Accepted.{text_laid}
 use Rattle.mx_debug.specs.Sessions.{session}
 use Rattle.law_debug.specs.Laws.{StopsAsMeant}
 use Rattle.law_debug.proofs.Whole.{as_meant}
-use Rattle.cmd_debug.specs.Sessions.{session_answer}
+use Rattle.cmd_debug.specs.Sessions.{session_answer, IsAsked}
 use Rattle.cmd_answer.specs.declared.FileKind.TheVariants.{Source}
 use Rattle.cmd_answer.specs.declared.Status.{Status}
 use Rattle.cmd_answer.specs.Answer.{Answer}
@@ -37,6 +37,7 @@ use Rattle.law_schedule.specs.Schedule.{IsScheduler}
 use Rattle.cmd_table.specs.Commands.{Command}
 use Rattle.mx_command.specs.Protocols.{Layouts, unless_faulty, unless_overlong, unless_unlabelled, statement_at, stopped_protocol, labelled_protocol, debug_protocol, protocol_of}
 use Rattle.mx_command.specs.Accepted.{Held}
+use Rattle.mx_command.specs.Replied.{IsWithin}
 use Rattle.mx_command.specs.Stops.{AcceptedStops, accepted_stops, accepted_session, StopsHeadline}
 use Rattle.mx_command.proofs.Headline.{read_is, requests_are, input_is, given_is}
 
@@ -88,7 +89,10 @@ labelled_leads source (suc i) h =
 user_word : (a : ℕ) → 256 ≤ a → a ≤ 65535 → is_user board a ≡ true
 user_word a low high = grind (arith, nat_tests)
 
-module _ (asked : Option Command) (held : Held) (a : AcceptedStops asked held) where
+module _ (asked : Option Command) (held : Held) (a : AcceptedStops asked held) (within : IsWithin asked) where
+  ranges : IsAsked a.limits
+  ranges = subst IsWithin a.asks within
+
   abbrev source : SourceValue
   source = source_of 256 a.text
 
@@ -124,7 +128,7 @@ module _ (asked : Option Command) (held : Held) (a : AcceptedStops asked held) w
       let found = found_by source.labels a.label (length source.statements) a.index (label_named source.labels a.label) refl a.labelled in
       as_meant (accepted_stops asked held a)
       (text_laid board a.text a.sites (omega arith) a.faultless (omega (arith, few)) a.layout a.reach)
-      (labelled_leads source a.index found.labelled) found.within (user_word a.limits.watch a.ranges.watch.0 a.ranges.watch.1) unstuck
+      (labelled_leads source a.index found.labelled) found.within (user_word a.limits.watch ranges.watch.0 ranges.watch.1) unstuck
 
   session_is_told : (result : Status) (told told' : Told) (before after : List ℕ)
       → Delivered (session_answer (accepted_session asked held a)) result told told' before after

@@ -1,5 +1,5 @@
 -- The headline: what `run` promises of a source that is accepted, whatever interrupts come.
-use Rattle.std.specs.Prelude.{◌≡◌, ◌++◌, ◌≢◌, ℕ, ◌+◌, ◌≤◌, ◌⊎◌, cond, min, true, List, length, Option}
+use Rattle.std.specs.Prelude.{◌≡◌, ◌++◌, ◌≢◌, ℕ, ◌+◌, ◌≤◌, cond, min, true, List, length, Option}
 use Rattle.mx_io.specs.Counts.{Rose}
 use Rattle.mx_io.specs.Shelves.{Counts}
 use Rattle.mx_source.specs.SourceValue.{SourceValue}

@@ -1,5 +1,6 @@
 -- `join` of modules without faults, and what it promises.
 use Rattle.std.specs.Prelude.{◌≡◌, ◌++◌, ℕ, ◌+◌, ◌≤◌, List, [], ◌∷◌, length, All, Option, Some, None}
+use Rattle.mx_isa.specs.declared.Place.{Place}
 use Rattle.mx_source.specs.declared.Label.{Label}
 use Rattle.mx_source.specs.Printed.{printed}
 use Rattle.mx_source.specs.Meaning.{meaning}
@@ -9,7 +10,6 @@ use Rattle.cmd_answer.specs.declared.Status.TheVariants.{Done}
 use Rattle.mx_asm.specs.Texts.{source_of}
 use Rattle.mx_asm.specs.Printable.{ReadsBack}
 use Rattle.mx_module.specs.Joined.{joined, join_fault}
-use Rattle.mx_isa.specs.Board.{board}
 use Rattle.cmd_table.specs.Commands.{Command, Join}
 use Rattle.mx_command.specs.Accepted.{Held, Holds}
 
@@ -23,7 +23,6 @@ HoldModules held number _ _ = ⊥
 pub record AcceptedModules (asked : Option Command) (held : Held) : Type 0 where
   pub names : List (List ℕ)
   pub asks : asked ≡ Some (Join names)
-  pub few : length names ≤ 16
   pub texts : List (List ℕ)
   pub are_texts : HoldModules held 1 names texts
   pub faultless : join_fault texts ≡ None
@@ -39,6 +38,6 @@ module _ (asked : Option Command) (held : Held) (a : AcceptedModules asked held)
     pub output : after ≡ before ++ (printed (joined a.texts))
     -- that text has no fault, and reads as the same program
     pub reads_back : WhereShort (ReadsBack (joined a.texts))
-    -- so it means what the modules mean together, with any input and after any number of steps
-    pub means : WhereShort ((bytes : List ℕ) (n : ℕ)
-        → meaning (source_of 256 (printed (joined a.texts))) board bytes n ≡ meaning (joined a.texts) board bytes n)
+    -- so it means what the modules mean together, at any place, with any input and after any number of steps
+    pub means : WhereShort ((place : Place) (bytes : List ℕ) (n : ℕ)
+        → meaning (source_of 256 (printed (joined a.texts))) place bytes n ≡ meaning (joined a.texts) place bytes n)

@@ -9,3 +9,5 @@ pub mod Stops
 pub mod Joins
 pub mod Layouts
 pub mod Promised
+pub mod OnSystem
+pub mod Measures

@@ -13,7 +13,7 @@ use Rattle.law_end_to_end.specs.EndToEnd.{IsUnstuck}
 use Rattle.mx_debug.specs.Sessions.{Session, stops_of, ending_of, console_of}
 use Rattle.law_debug.specs.Laws.{Debugged, session_of, StopsAsMeant}
 use Rattle.cmd_debug.specs.declared.SessionLimits.{SessionLimits}
-use Rattle.cmd_debug.specs.Sessions.{IsAsked, status_of}
+use Rattle.cmd_debug.specs.Sessions.{status_of}
 use Rattle.cmd_debug.specs.Texts.{session_text}
 use Rattle.cmd_table.specs.Commands.{Command, Debug}
 use Rattle.mx_command.specs.Protocols.{statement_named}
@@ -28,7 +28,6 @@ pub record AcceptedStops (asked : Option Command) (held : Held) : Type 0 where
   pub files : Files
   pub limits : SessionLimits
   pub asks : asked ≡ Some (Debug name label files limits)
-  pub ranges : IsAsked limits
   pub text : List ℕ
   pub is_text : Holds held Source name text
   pub faultless : text_fault 256 65536 text ≡ None

@@ -1,5 +1,5 @@
 //! The reply of each command, before anything is put out.
-ghost use Rattle.std.specs.Prelude.{◌≡◌, ◌≤◌, ◌⊎◌, IfOk, List, ℕ, Some, None, map, string_bytes};
+ghost use Rattle.std.specs.Prelude.{◌≡◌, ◌≤◌, ◌⊎◌, IfOk, OnOk, List, ℕ, Some, None, map, string_bytes};
 ghost use Rattle.mx_source.specs.Printed.{printed};
 ghost use Rattle.mx_gen.specs.Generated.{generated};
 ghost use Rattle.cmd_soak.specs.Soak.{soak_text};
@@ -11,7 +11,7 @@ ghost use Rattle.cmd_table.specs.Seen.{seen_command, IsAllowed};
 ghost use Rattle.cmd_table.specs.Asked.{command_of};
 ghost use Rattle.law_schedule.specs.Schedule.{IsScheduler};
 ghost use Rattle.mx_command.specs.Protocols.{Layouts, protocol_of};
-ghost use Rattle.mx_command.specs.Replied.{IsReplied};
+ghost use Rattle.mx_command.specs.Replied.{IsReplied, IsWithin};
 
 use crate::debugged::debug_reply;
 use crate::images::{exec_reply, migrate_reply};
@@ -138,6 +138,7 @@ pub fn reply_to<S: Shelf>(alloc: Global, words: &[String], shelf: &mut S) -> Res
         (S.counts shelf.old) (S.counts shelf.new) (reply_answer r)) }
     ensures replied { IfOk result (λ r. IsReplied (reply_answer r) ⊎ (command_of (map string_bytes words.now) ≡ None)) }
     ensures asks_nothing { command_of (map string_bytes words.now) ≡ None → IfOk result (λ r. reply_answer r ≡ usage) }
+    ensures within { OnOk result (IsWithin (command_of (map string_bytes words.now))) }
     ensures told_stays { S.told shelf.new ≡ S.told shelf.old }
     ensures writes_stay { S.write_faults shelf.new ≡ S.write_faults shelf.old }
 {

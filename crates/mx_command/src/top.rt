@@ -3,9 +3,10 @@ ghost use Rattle.std.specs.Prelude.{◌≡◌, ◌≢◌, ◌++◌, ◌⊎◌, t
 ghost use Rattle.mx_io.specs.Counts.{Rose};
 ghost use Rattle.cmd_answer.specs.declared.FileKind.{FileKind};
 ghost use Rattle.cmd_answer.specs.Answer.{Answer, failed_answer};
-ghost use Rattle.cmd_answer.specs.Protocol.{resolved, Faulted};
+ghost use Rattle.cmd_answer.specs.Protocol.{resolved, Performed, Faulted};
 ghost use Rattle.mx_io.specs.Reads.{Read};
-ghost use Rattle.cmd_answer.specs.Logged.{answer_by, Made, Agree};
+ghost use Rattle.cmd_answer.specs.Logged.{answer_by, Agree};
+ghost use Rattle.cmd_answer.specs.Commands.{Made};
 ghost use Rattle.mx_command.specs.Promised.{Promised};
 ghost use Rattle.cmd_answer.specs.Delivery.{Delivered, PutsPrefix};
 ghost use Rattle.cmd_table.specs.Asked.{command_of};
@@ -15,6 +16,7 @@ ghost use Rattle.mx_command.specs.Headline.{AreQuiet, IsNoFault, Headline};
 ghost use Rattle.mx_command.specs.Pairs.{AcceptedPair, PairHeadline};
 ghost use Rattle.mx_command.specs.Stops.{AcceptedStops, StopsHeadline};
 ghost use Rattle.mx_command.specs.Joins.{AcceptedModules, JoinHeadline};
+ghost use Rattle.mx_command.specs.Measures.{AcceptedBest, BestHeadline};
 ghost use Rattle.mx_command.specs.Writing.{writes_a_file};
 
 use crate::reply::reply_to;
@@ -86,6 +88,14 @@ pub fn command<S: Shelf, W: Sink>(
         → (result ≡ Status.Memory)
         ⊎ JoinHeadline (command_of (map string_bytes words.now)) (S.told shelf.old).held accepted result (W.written out.old) (W.written out.new) }
 
+    // Where they ask for the lengths of the plans of a text without faults: all that `BestHeadline` says, or memory ran out.
+    ensures best { (S.told shelf.old).tells ≡ true
+        → AreQuiet (S.counts shelf.old) (S.counts shelf.new) (S.write_faults shelf.old) (S.write_faults shelf.new)
+        (W.faults out.old) (W.faults out.new) ⊎ IsNoFault result
+        → (accepted : AcceptedBest (command_of (map string_bytes words.now)) (S.told shelf.old).held)
+        → (result ≡ Status.Memory)
+        ⊎ BestHeadline (command_of (map string_bytes words.now)) (S.told shelf.old).held accepted result (W.written out.old) (W.written out.new) }
+
     // ANSWERS, of every command. Where the shelf tells what it holds and no count of faults rises, the answer is that
     // of the words and of what is held, or memory ran out.
     ensures complete { (S.told shelf.old).tells ≡ true
@@ -99,6 +109,13 @@ pub fn command<S: Shelf, W: Sink>(
     ensures sound { (S.told shelf.old).tells ≡ true → result ≢ Status.ReadFault → result ≢ Status.WriteFault → result ≢ Status.Memory
         → Delivered (resolved (command_protocol (command_of (map string_bytes words.now))) (S.told shelf.old).held) result
         (S.told shelf.old) (S.told shelf.new) (W.written out.old) (W.written out.new) }
+
+    // Whatever the shelf tells, each file was read as it says, one read counted for each, and the answer is that of the last step.
+    ensures performed { result ≢ Status.WriteFault → result ≢ Status.Memory
+        → (answer : Answer)
+        × Performed (S.told shelf.old) (command_protocol (command_of (map string_bytes words.now)))
+        (S.counts shelf.old) (S.counts shelf.new) answer
+        × (result ≡ answer.status) × (W.written out.new ≡ W.written out.old ++ answer.output) }
 
     // Usage comes exactly where the words ask for nothing.
     ensures usage { result ≡ Status.Usage → command_of (map string_bytes words.now) ≡ None }

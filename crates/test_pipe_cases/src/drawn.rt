@@ -1,7 +1,6 @@
 //! Images of drawn words.
 ghost use Rattle.std.specs.Prelude.{◌<◌};
 
-use crate::pieces::pieces_differ;
 use crate::sides::{Program, differ, told};
 use anyhow::{Context, Result, bail};
 use mx_code::Image;
@@ -129,14 +128,8 @@ fn handler(alloc: Global, draw: &mut Draw, sort: Sort) -> Result<Vec<u32>> {
     }
 }
 
-// How the machines compare on the next image; with pieces of up to a length, how the pipeline compares with itself.
-fn compared(
-    alloc: Global,
-    draw: &mut Draw,
-    sort: Sort,
-    cycles: u32,
-    longest: u32,
-) -> Result<Option<u32>> {
+// How the machines compare on the next image.
+fn compared(alloc: Global, draw: &mut Draw, sort: Sort, cycles: u32) -> Result<Option<u32>> {
     let code = draw.words(alloc, sort, 40)?;
     let user_data = draw.words(alloc, Sort::Noise, 8)?;
     let handler = handler(alloc, draw, sort)?;
@@ -147,14 +140,7 @@ fn compared(
         handler: handler.as_slice(),
         requests: requests.as_slice(),
     };
-    let input = Some(b"input".as_slice());
-    for length in 0..longest {
-        let difference = pieces_differ(alloc, &program, input, cycles, length + 1)?;
-        if difference.is_some() {
-            return Ok(difference);
-        }
-    }
-    differ(alloc, &program, input, cycles)
+    differ(alloc, &program, Some(b"input".as_slice()), cycles)
 }
 
 fn sort_of(name: &str) -> Result<Sort> {
@@ -166,8 +152,7 @@ fn sort_of(name: &str) -> Result<Sort> {
     }
 }
 
-/// How the machines compare on so many drawn images, for the case `SORT SEED COUNT CYCLES: ANSWER`, or with pieces of each
-/// length up to one, `SORT SEED COUNT CYCLES LENGTH: ANSWER`.
+/// How the machines compare on so many drawn images, for the case `SORT SEED COUNT CYCLES: ANSWER`.
 pub fn alike(alloc: Global, line: &str) -> Result<String> {
     let (case, _) = line.split_once(": ").context("no answer")?;
     let mut words = case.split(' ');
@@ -175,13 +160,9 @@ pub fn alike(alloc: Global, line: &str) -> Result<String> {
     let state = words.next().context("no seed")?.parse::<u32>()?;
     let count = words.next().context("no count")?.parse::<u32>()?;
     let cycles = words.next().context("no cycles")?.parse::<u32>()?;
-    let longest = match words.next() {
-        Some(word) => word.parse::<u32>()?,
-        None => 0,
-    };
     let mut draw = Draw { state };
     for number in 0..count {
-        let difference = compared(alloc, &mut draw, sort, cycles, longest)?;
+        let difference = compared(alloc, &mut draw, sort, cycles)?;
         if difference.is_some() {
             let answer = told(alloc, difference)?;
             return Ok(format!(in alloc; "{case}: image {number}, {answer}")?);

@@ -6,7 +6,6 @@
 mod apart;
 mod drawn;
 mod kind;
-mod pieces;
 mod sides;
 mod traced;
 

@@ -10,7 +10,7 @@ use mx_turn::{Machine, SHIPPED, Turns};
 use std::alloc::Global;
 
 /// No case has more cycles.
-pub const MOST_CYCLES: u64 = 1_000_000;
+const MOST_CYCLES: u64 = 1_000_000;
 
 /// The data words that are compared, the system's and the first of the user's.
 const WORDS: u32 = 512;
@@ -24,25 +24,8 @@ pub struct Program<'a> {
     pub requests: &'a [u32],
 }
 
-impl Program<'_> {
-    /// A pipeline before its first cycle.
-    pub fn pipe(&self, alloc: Global, input: Option<&[u8]>) -> Result<Pipe<LineCache>> {
-        if self.handler.len() > 4_096 {
-            bail!("the handler is too long")
-        }
-        let input = match input {
-            Some(bytes) if bytes.len() > 1_048_576 => bail!("the input is too long"),
-            input => input,
-        };
-        match Pipe::with(alloc, self.image, self.handler, input, LineCache::new()) {
-            Ok(pipe) => Ok(pipe),
-            Err(_) => bail!("out of memory"),
-        }
-    }
-}
-
-/// Whether two machines tell the same.
-pub fn tell_alike<A: Machine, B: Machine>(one: &A, other: &B) -> bool {
+// Whether two machines tell the same.
+fn tell_alike<A: Machine, B: Machine>(one: &A, other: &B) -> bool {
     for number in 0..32 {
         if let Some(r) = Reg::new(number) {
             if one.register(r) != other.register(r) {
@@ -56,8 +39,8 @@ pub fn tell_alike<A: Machine, B: Machine>(one: &A, other: &B) -> bool {
         && one.inputs() == other.inputs()
 }
 
-/// Whether they hold the same data words.
-pub fn hold_alike<A: Machine, B: Machine>(one: &A, other: &B) -> bool {
+// Whether they hold the same data words.
+fn hold_alike<A: Machine, B: Machine>(one: &A, other: &B) -> bool {
     for address in 0..WORDS {
         if one.user_data(address) != other.user_data(address) {
             return false;
@@ -114,7 +97,15 @@ pub fn differ(
     ) else {
         bail!("out of memory")
     };
-    let mut pipe = program.pipe(alloc, input)?;
+    let Ok(mut pipe) = Pipe::with(
+        alloc,
+        program.image,
+        program.handler,
+        input,
+        LineCache::new(),
+    ) else {
+        bail!("out of memory")
+    };
     Ok(first_difference(&mut turns, &mut pipe, program.requests, cycles))
 }
 

@@ -1,11 +1,8 @@
-use Rattle.std.proofs.Common.{◌≡◌, ◌≢◌, ℕ, true, ◌++◌, List, [], Option, Some, map, string_bytes, refl, sym, ap, ◌∙◌, subst, ⊎_elim, inl, inr}
-use Rattle.std.specs.Option.{unwrap_or}
+use Rattle.std.proofs.Common.{◌≡◌, ◌≢◌, ℕ, ◌++◌, List, [], Option, map, string_bytes, refl, sym, ap, ◌∙◌, subst, ⊎_elim, inl}
 use Rattle.mx_io.specs.Counts.{Rose}
 use Rattle.cmd_answer.specs.declared.Status.{Status}
 use Rattle.cmd_answer.specs.declared.Status.TheVariants.{Memory}
-use Rattle.cmd_answer.specs.Answer.{Answer}
 use Rattle.cmd_answer.specs.Delivery.{Delivered}
-use Rattle.mx_io.specs.Shelves.{Counts}
 use Rattle.cmd_answer.specs.Protocol.{resolved}
 use Rattle.cmd_table.specs.Asked.{command_of}
 use Rattle.cmd_table.specs.Commands.{Command}
@@ -13,10 +10,12 @@ use Rattle.mx_command.specs.Accepted.{Held}
 use Rattle.mx_command.specs.Headline.{AreQuiet, Headline}
 use Rattle.mx_command.specs.Pairs.{PairHeadline}
 use Rattle.mx_command.specs.Stops.{StopsHeadline}
+use Rattle.mx_command.specs.Joins.{JoinHeadline}
+use Rattle.mx_command.specs.Measures.{BestHeadline}
 use Rattle.mx_command.specs.Layouts.{command_protocol}
 use Rattle.embed_call.specs.Answered.{Answered}
 use Rattle.embed_call.specs.Held.{held_by}
-use Rattle.embed_call.specs.Targets.{target_in, target_bytes}
+use Rattle.embed_call.specs.Targets.{target_bytes}
 use Rattle.embed_call.specs.QuietShelf.{held_in, told_of, counts_of}
 use Rattle.embed_call.specs.TextSink.{written_in, faults_of}
 use Rattle.embed_call.proofs.Finds.{no_rise, finds_no_fault}
@@ -66,6 +65,12 @@ returns c =
       stops = λ accepted. from_told
           (λ w w'. StopsHeadline asked (held_in before) accepted status w w') _ _ text c.new-out.ensures.written c.in-Some.ensures.0
           (⊎_elim (λ m. absurd (not_memory m)) (λ h. h) (told.stops refl (inl quiet) accepted));
+      modules = λ accepted. from_told
+          (λ w w'. JoinHeadline asked (held_in before) accepted status w w') _ _ text c.new-out.ensures.written c.in-Some.ensures.0
+          (⊎_elim (λ m. absurd (not_memory m)) (λ h. h) (told.modules refl (inl quiet) accepted));
+      best = λ accepted. from_told
+          (λ w w'. BestHeadline asked (held_in before) accepted status w w') _ _ text c.new-out.ensures.written c.in-Some.ensures.0
+          (⊎_elim (λ m. absurd (not_memory m)) (λ h. h) (told.best refl (inl quiet) accepted));
       no_write_fault = λ e. ⊎_elim putting (λ f. calm f.1) (told.write_fault e);
       no_memory = not_memory;
       no_read_fault = λ finds e.

@@ -1,7 +1,7 @@
-use Rattle.std.proofs.Common.{◌≡◌, ℕ, List, suc, length, sym, ap, ◌∙◌, arith}
+use Rattle.std.proofs.Common.{ℕ, List, suc, length, ap, ◌∙◌, arith}
 use Rattle.std.specs.Prelude.{slice_index_or}
 use Rattle.mx_link.specs.Origins.{from_nowhere}
-use Rattle.mx_link.specs.Linked.{link_map, links_of}
+use Rattle.mx_link.specs.Linked.{link_map}
 use Rattle.law_link.proofs.Results.{link_at}
 use Rattle.mx_isa.specs.Board.{board}
 use Rattle.mx_command.proofs.Links.{code_count, link_between, links_count}

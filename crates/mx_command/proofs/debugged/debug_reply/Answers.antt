@@ -1,8 +1,7 @@
 use Rattle.std.proofs.Common.{◌≡◌, ℕ, List, IfOk, IfErr, subst}
 use Rattle.cmd_answer.specs.declared.FileKind.TheVariants.{Source}
-use Rattle.cmd_answer.specs.Answer.{Answer}
 use Rattle.mx_io.specs.Shelves.{Told, Counts}
-use Rattle.cmd_answer.specs.Protocol.{Protocol, Reads, Performed}
+use Rattle.cmd_answer.specs.Protocol.{Protocol, Performed}
 use Rattle.cmd_answer.specs.Replies.{reply_answer}
 use Rattle.cmd_table.specs.Seen.{seen_files}
 use Rattle.mx_command.specs.Protocols.{debug_protocol}

@@ -6,7 +6,7 @@ use Rattle.mx_io.specs.Shelves.{Told, Counts}
 use Rattle.cmd_answer.specs.Protocol.{Protocol, Performed}
 use Rattle.cmd_answer.specs.Replies.{reply_answer}
 use Rattle.cmd_table.specs.Seen.{seen_files}
-use Rattle.mx_command.specs.Protocols.{unless_faulty, labelled_protocol, debug_protocol}
+use Rattle.mx_command.specs.Protocols.{unless_faulty, labelled_protocol}
 use Rattle.mx_command.proofs.debugged.debug_text.Goals as goal
 
 pub returns-clause-performed : goal.returns-clause-performed

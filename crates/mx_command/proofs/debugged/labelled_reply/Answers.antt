@@ -1,8 +1,8 @@
-use Rattle.std.proofs.Common.{◌≡◌, ℕ, IfOk, IfErr, Some, None, refl, subst, sym, ap, ◌∙◌}
+use Rattle.std.proofs.Common.{◌≡◌, IfOk, IfErr, Some, refl, subst, sym, ap, ◌∙◌}
 use Rattle.std.specs.Prelude.{is_some}
 use Rattle.mx_layout.specs.Overlong.{Overlong, IsOverlong}
 use Rattle.mx_link.specs.Origins.{from_nowhere}
-use Rattle.mx_link.specs.Linked.{IsLinked, link_map}
+use Rattle.mx_link.specs.Linked.{IsLinked}
 use Rattle.mx_reorg.specs.Greedy.{IsGreedy}
 use Rattle.mx_isa.specs.Board.{board}
 use Rattle.cmd_answer.specs.declared.Status.TheVariants.{Refused}
@@ -12,8 +12,8 @@ use Rattle.cmd_answer.specs.Protocol.{Protocol, Answers, Performed}
 use Rattle.cmd_answer.specs.Replies.{reply_answer}
 use Rattle.cmd_debug.specs.Sessions.{session_protocol}
 use Rattle.cmd_table.specs.Seen.{seen_files}
-use Rattle.mx_command.specs.Protocols.{statement_named, overlong_line, labelled_protocol}
-use Rattle.mx_command.proofs.StoppedSources.{unlabelled, too_far, linked_plain}
+use Rattle.mx_command.specs.Protocols.{statement_named, overlong_line}
+use Rattle.mx_command.proofs.StoppedSources.{too_far, linked_plain}
 use Rattle.mx_command.proofs.debugged.labelled_reply.Goals as goal
 
 pub returns-in-Err-clause-performed : goal.returns-in-Err-clause-performed

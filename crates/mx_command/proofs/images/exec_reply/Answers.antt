@@ -1,8 +1,7 @@
 use Rattle.std.proofs.Common.{◌≡◌, ℕ, List, IfOk, IfErr, option_map, subst}
 use Rattle.cmd_answer.specs.declared.FileKind.TheVariants.{Image}
-use Rattle.cmd_answer.specs.Answer.{Answer}
 use Rattle.mx_io.specs.Shelves.{Told, Counts}
-use Rattle.cmd_answer.specs.Protocol.{Protocol, Reads, Performed}
+use Rattle.cmd_answer.specs.Protocol.{Protocol, Performed}
 use Rattle.cmd_answer.specs.Replies.{reply_answer}
 use Rattle.cmd_simulate.specs.Machines.{Files}
 use Rattle.mx_command.specs.Protocols.{exec_protocol}

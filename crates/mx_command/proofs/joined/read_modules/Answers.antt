@@ -1,4 +1,4 @@
-use Rattle.std.proofs.Common.{◌≡◌, ℕ, ◌+◌, ◌++◌, List, [], ◌∷◌, length, drop, subst, sym, ap, ◌∙◌, length-append, arith}
+use Rattle.std.proofs.Common.{◌≡◌, ◌+◌, ◌++◌, [], ◌∷◌, length, drop, subst, sym, ap, ◌∙◌, length-append, arith}
 use Rattle.cmd_line.specs.Command.{texts}
 use Rattle.mx_io.specs.Shelves.{Told, Counts}
 use Rattle.mx_command.proofs.Modules.{Continues, next_is_read, next_fails}

@@ -1,6 +1,5 @@
-use Rattle.std.proofs.Common.{◌≡◌, ℕ, ◌+◌, List, length, drop}
+use Rattle.std.proofs.Common.{◌≡◌, ◌+◌, length, drop}
 use Rattle.cmd_line.specs.Command.{texts}
-use Rattle.mx_io.specs.Shelves.{Told, Counts}
 use Rattle.mx_command.proofs.Modules.{Continues}
 use Rattle.mx_command.proofs.joined.read_modules.Given as goal
 

@@ -1,4 +1,4 @@
-use Rattle.std.proofs.Common.{◌≡◌, ℕ, sym, ap, ◌∙◌, arith}
+use Rattle.std.proofs.Common.{sym, ap, ◌∙◌, arith}
 use Rattle.cmd_answer.specs.Protocol.{Answers}
 use Rattle.mx_tasks.specs.Places.{lower, upper}
 use Rattle.mx_command.proofs.Pairs.{fitting_few, pair_linked, pair_far}

@@ -1,9 +1,8 @@
 use Rattle.std.proofs.Common.{◌≡◌, ℕ, List, Some, IfOk, IfErr, refl, subst, sym, ap, ◌∙◌}
-use Rattle.mx_source.specs.SourceValue.{SourceValue}
 use Rattle.cmd_answer.specs.declared.Status.TheVariants.{Refused}
 use Rattle.cmd_answer.specs.Answer.{Answer, prints, text_line}
 use Rattle.mx_io.specs.Shelves.{Told, Counts}
-use Rattle.cmd_answer.specs.Protocol.{Protocol, Answers, Reads, Performed}
+use Rattle.cmd_answer.specs.Protocol.{Protocol, Answers, Performed}
 use Rattle.cmd_answer.specs.Replies.{reply_answer}
 use Rattle.mx_command.specs.Protocols.{of_program, wrong_with, assembled_protocol}
 use Rattle.mx_command.specs.Sharing.{IsFitting}

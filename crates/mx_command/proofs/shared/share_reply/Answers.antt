@@ -1,4 +1,4 @@
-use Rattle.std.proofs.Common.{◌≡◌, ℕ, List, Option, IfOk, IfErr, option_map, refl, subst, sym, ap, ◌∙◌}
+use Rattle.std.proofs.Common.{◌≡◌, ℕ, List, Option, IfOk, IfErr, option_map, refl, subst, sym}
 use Rattle.mx_source.specs.SourceValue.{SourceValue}
 use Rattle.cmd_answer.specs.declared.FileKind.TheVariants.{First, Second}
 use Rattle.cmd_answer.specs.Answer.{Answer}

@@ -1,8 +1,7 @@
 use Rattle.std.proofs.Common.{◌≡◌, ℕ, List, IfOk, IfErr, refl, subst, ap, ◌∙◌}
 use Rattle.cmd_answer.specs.declared.FileKind.TheVariants.{Source}
-use Rattle.cmd_answer.specs.Answer.{Answer}
 use Rattle.mx_io.specs.Shelves.{Told, Counts}
-use Rattle.cmd_answer.specs.Protocol.{Protocol, Answers, Reads, Performed}
+use Rattle.cmd_answer.specs.Protocol.{Protocol, Answers}
 use Rattle.cmd_answer.specs.Replies.{reply_answer}
 use Rattle.mx_command.specs.Protocols.{best_answer}
 use Rattle.mx_command.proofs.Readings.{FileGiven, FileRefused}

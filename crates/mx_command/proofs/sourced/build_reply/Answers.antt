@@ -5,13 +5,11 @@ use Rattle.mx_reorg.specs.Greedy.{IsGreedy}
 use Rattle.mx_image.specs.Contents.{Contents}
 use Rattle.mx_image.specs.Files.{file_bytes}
 use Rattle.mx_isa.specs.Board.{board}
-use Rattle.cmd_answer.specs.declared.FileKind.TheVariants.{Source}
-use Rattle.cmd_answer.specs.Answer.{Answer, writes}
+use Rattle.cmd_answer.specs.Answer.{writes}
 use Rattle.mx_io.specs.Shelves.{Told, Counts}
-use Rattle.cmd_answer.specs.Protocol.{Protocol, Answers, Reads, Performed}
+use Rattle.cmd_answer.specs.Protocol.{Protocol, Answers, Performed}
 use Rattle.cmd_answer.specs.Replies.{reply_answer}
-use Rattle.law_schedule.specs.Schedule.{IsScheduler}
-use Rattle.mx_command.specs.Protocols.{Layouts, AfterLayout, linked_protocol, build_protocol}
+use Rattle.mx_command.specs.Protocols.{build_protocol}
 use Rattle.mx_command.specs.Replied.{is_answered}
 use Rattle.mx_command.proofs.Laid.{contents_linked}
 use Rattle.mx_command.proofs.Readings.{ProgramGiven, ProgramRefused}

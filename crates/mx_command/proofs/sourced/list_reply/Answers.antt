@@ -3,14 +3,11 @@ use Rattle.mx_link.specs.Origins.{from_target}
 use Rattle.mx_link.specs.Linked.{IsLinked}
 use Rattle.mx_reorg.specs.Greedy.{IsGreedy}
 use Rattle.mx_isa.specs.Board.{board}
-use Rattle.cmd_answer.specs.declared.FileKind.TheVariants.{Source}
 use Rattle.cmd_answer.specs.declared.Status.TheVariants.{Done}
-use Rattle.cmd_answer.specs.Answer.{Answer, prints}
+use Rattle.cmd_answer.specs.Answer.{prints}
 use Rattle.mx_io.specs.Shelves.{Told, Counts}
-use Rattle.cmd_answer.specs.Protocol.{Protocol, Answers, Reads, Performed}
-use Rattle.cmd_answer.specs.Replies.{reply_answer}
-use Rattle.law_schedule.specs.Schedule.{IsScheduler}
-use Rattle.mx_command.specs.Protocols.{Layouts, AfterLayout, linked_protocol, list_protocol}
+use Rattle.cmd_answer.specs.Protocol.{Protocol, Answers, Performed}
+use Rattle.mx_command.specs.Protocols.{list_protocol}
 use Rattle.mx_command.proofs.Laid.{listing_linked}
 use Rattle.mx_command.proofs.Readings.{ProgramGiven, ProgramRefused}
 use Rattle.mx_command.proofs.sourced.list_reply.Goals as goal

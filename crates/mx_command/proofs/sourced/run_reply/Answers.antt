@@ -4,14 +4,12 @@ use Rattle.mx_link.specs.Origins.{from_target}
 use Rattle.mx_link.specs.Linked.{IsLinked}
 use Rattle.mx_reorg.specs.Greedy.{IsGreedy}
 use Rattle.mx_isa.specs.Board.{board}
-use Rattle.cmd_answer.specs.declared.FileKind.TheVariants.{Source}
 use Rattle.cmd_answer.specs.Answer.{Answer}
 use Rattle.mx_io.specs.Shelves.{Told, Counts}
-use Rattle.cmd_answer.specs.Protocol.{Protocol, Reads, Performed}
+use Rattle.cmd_answer.specs.Protocol.{Protocol, Performed}
 use Rattle.cmd_answer.specs.Replies.{reply_answer}
 use Rattle.cmd_simulate.specs.Machines.{Files, machine_protocol}
-use Rattle.law_schedule.specs.Schedule.{IsScheduler}
-use Rattle.mx_command.specs.Protocols.{Layouts, AfterLayout, linked_protocol, run_protocol}
+use Rattle.mx_command.specs.Protocols.{run_protocol}
 use Rattle.mx_command.proofs.Laid.{run_linked}
 use Rattle.mx_command.proofs.Own.{performed_is_replied, answers_machine}
 use Rattle.mx_command.proofs.Readings.{ProgramGiven, ProgramRefused}

@@ -1,4 +1,4 @@
-use Rattle.std.proofs.Common.{◌≡◌, ◌≢◌, Bool, true, false, Option, map, string_bytes, refl, sym, ap, ◌∙◌, subst, ⊎_elim, inl, inr}
+use Rattle.std.proofs.Common.{◌≡◌, ◌≢◌, ℕ, List, Bool, true, false, Option, map, string_bytes, refl, sym, ap, ◌∙◌, subst, ⊎_elim, inl, inr}
 use Rattle.std.specs.Prelude.{is_some}
 use Rattle.cmd_answer.specs.declared.Status.{Status}
 use Rattle.cmd_answer.specs.declared.Status.TheVariants.{Usage, WriteFault, Memory}
@@ -16,18 +16,14 @@ use Rattle.cmd_answer.specs.Commands.{Outside, Commanded}
 use Rattle.mx_command.proofs.Ended.{ended, promised}
 use Rattle.mx_command.proofs.Headline.{delivered_is_headline}
 use Rattle.mx_command.proofs.PairHeadline.{delivered_is_pair}
-use Rattle.mx_command.specs.Pairs.{PairHeadline}
 use Rattle.mx_command.proofs.StopsHeadline.{delivered_is_stops}
-use Rattle.mx_command.specs.Stops.{StopsHeadline}
 use Rattle.mx_command.proofs.JoinHeadline.{delivered_is_joined}
-use Rattle.mx_command.specs.Joins.{JoinHeadline}
+use Rattle.mx_command.proofs.BestHeadline.{delivered_is_best}
 use Rattle.mx_command.proofs.Prints.{nothing_to_write}
-use Rattle.mx_command.specs.Headline.{Headline}
 use Rattle.mx_command.specs.Writing.{writes_a_file}
 use Rattle.mx_command.specs.Layouts.{greedy_layout, command_protocol}
 use Rattle.mx_command.proofs.GreedyLayouts.{greedy_is}
 use Rattle.law_schedule.specs.Schedule.{IsScheduler}
-use Rattle.cmd_answer.specs.Delivery.{Delivered}
 use Rattle.mx_io.specs.Counts.{Rose}
 use Rattle.mx_command.proofs.top.command.Goals as goal
 
@@ -106,16 +102,34 @@ returns-clause-pair g c = λ tells undisturbed accepted.
 pub returns-clause-stops : goal.returns-clause-stops
 returns-clause-stops g c = λ tells undisturbed accepted.
     promised (command_protocol (asked_by g c)) (before g c) (after g c) c.finish.result _ (whole g c)
-    (delivered_is_stops (asked_by g c) (g.S.Shelf.told c.args.shelf.now).held accepted greedy_layout greedy_is c.finish.result
+    (delivered_is_stops (asked_by g c) (g.S.Shelf.told c.args.shelf.now).held accepted c.in-Ok.ensures.within greedy_layout greedy_is c.finish.result
     (g.S.Shelf.told c.args.shelf.now) (g.S.Shelf.told c.finish.new.shelf) (g.W.Sink.written c.args.out.now) (g.W.Sink.written c.finish.new.out))
     tells undisturbed
 
 pub returns-clause-modules : goal.returns-clause-modules
 returns-clause-modules g c = λ tells undisturbed accepted.
     promised (command_protocol (asked_by g c)) (before g c) (after g c) c.finish.result _ (whole g c)
-    (delivered_is_joined (asked_by g c) (g.S.Shelf.told c.args.shelf.now).held accepted greedy_layout c.finish.result
+    (delivered_is_joined (asked_by g c) (g.S.Shelf.told c.args.shelf.now).held accepted c.in-Ok.ensures.within greedy_layout c.finish.result
     (g.S.Shelf.told c.args.shelf.now) (g.S.Shelf.told c.finish.new.shelf) (g.W.Sink.written c.args.out.now) (g.W.Sink.written c.finish.new.out))
     tells undisturbed
+
+pub returns-clause-best : goal.returns-clause-best
+returns-clause-best g c = λ tells undisturbed accepted.
+    promised (command_protocol (asked_by g c)) (before g c) (after g c) c.finish.result _ (whole g c)
+    (delivered_is_best (asked_by g c) (g.S.Shelf.told c.args.shelf.now).held accepted greedy_layout greedy_is c.finish.result
+    (g.S.Shelf.told c.args.shelf.now) (g.S.Shelf.told c.finish.new.shelf) (g.W.Sink.written c.args.out.now) (g.W.Sink.written c.finish.new.out))
+    tells undisturbed
+
+pub returns-clause-performed : goal.returns-clause-performed
+returns-clause-performed g c = λ w m.
+    let answer : Answer = reply_answer c.in-Ok.reply in
+    let d = c.finish.ensures.delivered w m in (
+      answer,
+      subst (λ (counts : Counts). Performed (g.S.Shelf.told c.args.shelf.now) (command_protocol (asked_by g c)) (g.S.Shelf.counts c.args.shelf.now) counts answer)
+          (sym c.finish.ensures.unread) (c.in-Ok.ensures.performed greedy_layout greedy_is),
+      d.status,
+      d.output,
+    )
 
 pub returns-clause-read_fault : goal.returns-clause-read_fault
 returns-clause-read_fault g c = (whole g c).read_fault
@@ -147,8 +161,9 @@ returns-clause-promised g c = λ w m.
         delivered = d;
         headline = λ a. delivered_is_headline asked held a greedy_layout greedy_is status told told' put put' d;
         pair = λ a. delivered_is_pair asked held a greedy_layout greedy_is status told told' put put' d;
-        stops = λ a. delivered_is_stops asked held a greedy_layout greedy_is status told told' put put' d;
-        modules = λ a. delivered_is_joined asked held a greedy_layout status told told' put put' d;
+        stops = λ a. delivered_is_stops asked held a c.in-Ok.ensures.within greedy_layout greedy_is status told told' put put' d;
+        modules = λ a. delivered_is_joined asked held a c.in-Ok.ensures.within greedy_layout status told told' put put' d;
+        best = λ a. delivered_is_best asked held a greedy_layout greedy_is status told told' put put' d;
       },
     )
 

@@ -1,10 +1,10 @@
-"""Zanderanvil from Python, by ctypes over libzanderanvil.so (docs/LIBRARY.md).
+"""The library for C, by ctypes: each command as a method, its answer as Python values."""
+from __future__ import annotations
 
-    python3 examples/embed/zanderanvil.py lib/libzanderanvil.so examples/countdown.s
-"""
 import ctypes
-import sys
+import os
 from dataclasses import dataclass, field
+from typing import Iterable, Optional, Union
 
 DONE, OUT_OF_BUDGET, MEMORY, NOT_TEXT, TOO_SHORT = 0, 3, 6, 10, 11
 
@@ -28,7 +28,7 @@ class _Outcome(ctypes.Structure):
 class Refusal(Exception):
     """A command that gave no result: the status's number, and the line that it printed."""
 
-    def __init__(self, status, output):
+    def __init__(self, status: int, output: bytes) -> None:
         super().__init__(output.decode("utf-8", "replace").strip() or f"status {status}")
         self.status = status
         self.output = output
@@ -39,12 +39,17 @@ class Run:
     """The report of a run. Without a halt there are no registers."""
 
     halted: bool
-    counts: dict
+    counts: dict[str, int]  # cycles, fetches, misses, squashes, interrupts, words, noops
     console: bytes
-    registers: list = field(default_factory=list)  # registers[n] is r[n], and registers[0] is 0
+    registers: list[int] = field(default_factory=list)  # registers[n] is r[n], and registers[0] is 0
     md: int = 0
-    data: dict = field(default_factory=dict)  # dumped words by their addresses
-    trace: list = field(default_factory=list)  # the words of each line
+    data: dict[int, int] = field(default_factory=dict)  # dumped words by their addresses
+    trace: list[list[str]] = field(default_factory=list)  # the words of each line
+
+    @property
+    def cycles(self) -> int:
+        """How many cycles the run took, the one that halted among them."""
+        return self.counts["cycles"]
 
 
 @dataclass
@@ -54,8 +59,23 @@ class Meaning:
     ended: str
     steps: int
     console: bytes
-    registers: list = field(default_factory=list)  # numbers, or `code I` for a place of code
+    registers: list[Union[int, str]] = field(default_factory=list)  # numbers, or `code I` for a place of code
     md: int = 0
+
+    @property
+    def halted(self) -> bool:
+        """Whether it halted within the steps asked for."""
+        return self.ended == "halted"
+
+
+@dataclass
+class Explained:
+    """How a run stands to the meaning of its source, in one word: `as meant`, `out of budget`, `stuck` or `running`."""
+
+    verdict: str
+    run: Run
+    meaning: Meaning
+    enough: Optional[int]  # the budget with which the run halts for sure, where the meaning halts
 
 
 class _Reader:
@@ -89,11 +109,19 @@ class _Reader:
         return [0] + read[:31], read[31]
 
 
-class Zanderanvil:
-    """The library in a file, as ./mx library leaves it."""
+# A block has at most 64 statements: a run is told by its meaning where that is not stuck within so many more than its budget.
+BLOCK = 64
 
-    def __init__(self, path):
-        self._command = ctypes.CDLL(path).zanderanvil_command
+
+class Zanderanvil:
+    """The library in a file, as ./mx library leaves it; without a path, the file that the variable ZANDERANVIL names."""
+
+    def __init__(self, path: Optional[str] = None) -> None:
+        path = path or os.environ.get("ZANDERANVIL")
+        if path is None:
+            raise FileNotFoundError("give the path of libzanderanvil.so, or set ZANDERANVIL to it (./mx library DIR makes it)")
+        self.path = os.path.abspath(path)
+        self._command = ctypes.CDLL(self.path).zanderanvil_command
         self._command.restype = _Outcome
         self._command.argtypes = [
             ctypes.POINTER(_Call), ctypes.c_char_p, ctypes.c_size_t, ctypes.c_char_p, ctypes.c_size_t,
@@ -122,15 +150,17 @@ class Zanderanvil:
             raise Refusal(outcome.status, b"")
         return outcome.status, output, file
 
-    def run(self, source, budget=1000000, interrupts=(), input=None, trace=0, dump=None, count=1):
-        """Runs a source, with an interrupt requested in each of these cycles."""
+    def run(self, source: bytes, budget: int = 1000000, interrupts: Iterable[int] = (), input: Optional[bytes] = None,
+            trace: int = 0, dump: Optional[int] = None, count: int = 1) -> Run:
+        """Runs a source, with an interrupt requested in each of these cycles, which are told in ascending order."""
         return self._run("run", "source", {"source": source}, budget, interrupts, input, trace, dump, count)
 
-    def exec(self, image, budget=1000000, interrupts=(), input=None, trace=0, dump=None, count=1):
+    def exec(self, image: bytes, budget: int = 1000000, interrupts: Iterable[int] = (), input: Optional[bytes] = None,
+             trace: int = 0, dump: Optional[int] = None, count: int = 1) -> Run:
         """Runs an image file."""
         return self._run("exec", "image", {"image": image}, budget, interrupts, input, trace, dump, count)
 
-    def meaning(self, source, steps=1000000, input=None):
+    def meaning(self, source: bytes, steps: int = 1000000, input: Optional[bytes] = None) -> Meaning:
         """Tells what a source means after so many steps."""
         words, files = ["meaning", "source", "--steps", str(steps)], {"source": source}
         self._lend(words, files, input)
@@ -142,14 +172,24 @@ class Zanderanvil:
         registers, md = told.registers()
         return Meaning(ended, steps, console, registers, md)
 
-    def list(self, source):
+    def explain(self, source: bytes, budget: int = 1000000, interrupts: Iterable[int] = (), input: Optional[bytes] = None) -> Explained:
+        """Runs a source and its meaning, and tells how they stand to each other."""
+        requests = list(interrupts)
+        meant = self.meaning(source, budget + BLOCK, input)
+        run = self.run(source, budget, requests, input)
+        if meant.halted:
+            enough = 9 * meant.steps + 96 * len(requests) + 16
+            return Explained("as meant" if run.halted else "out of budget", run, meant, enough)
+        return Explained("stuck" if meant.ended.startswith("stuck") else "running", run, meant, None)
+
+    def listing(self, source: bytes) -> list[list[str]]:
         """The listing of a source, each line as its words."""
         status, output, _ = self.command("list", "source", source=source)
         if status != DONE:
             raise Refusal(status, output)
         return [line.split(" ") for line in output.decode("ascii").splitlines()]
 
-    def build(self, source):
+    def build(self, source: bytes) -> bytes:
         """The image file of a source."""
         status, output, file = self.command("build", "source", "built", source=source)
         if status != DONE:
@@ -186,19 +226,3 @@ class Zanderanvil:
         words = [line.split(" ") for line in told.text.decode("ascii").splitlines()[1:]]
         data = {int(address, 16): int(word, 16) for address, word in words}
         return Run(status == DONE, counts, console, registers, md, data, lines)
-
-
-def main(library, path):
-    with open(path, "rb") as file:
-        source = file.read()
-    it = Zanderanvil(library)
-    run, meant = it.run(source, interrupts=[5, 9]), it.meaning(source)
-    print(f"console {run.console!r}, cycles {run.counts['cycles']}, interrupts {run.counts['interrupts']}")
-    print(f"meant {meant.console!r} in {meant.steps} steps")
-    print(f"image of {len(it.build(source))} bytes, listing of {len(it.list(source))} lines")
-
-
-if __name__ == "__main__":
-    if len(sys.argv) != 3:
-        sys.exit(__doc__)
-    main(sys.argv[1], sys.argv[2])
