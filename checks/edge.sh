@@ -1,7 +1,7 @@
 #!/bin/bash
 # What no proof can reach: the built program at the edge of the system. It needs a built program,
 # as ./mx leaves it, and tries missing, endless, long and broken files, a full device, a closed pipe
-# and a file that takes a part as standard output, and a name that is not text.
+# and a file that takes a part as standard output, a name that is not text, and each command with little stack.
 top=$(CDPATH= cd -- "$(dirname -- "$0")/.." && pwd) || exit 1
 program=$top/crates/mx_run/out/mx_run
 cases=$top/crates/test_command_cases/data
@@ -191,5 +191,39 @@ head -c 1048577 /dev/zero >noise
 "$program" exec noise >out 2>err
 status=$?
 expect 'an image over the limit' 4 'read fault: image too long'
+
+# No proof speaks of the stack: each command answers with 64 KB of it as it does with more.
+
+# shallow WORD..: the program of these words ends, prints and writes the same with 64 KB of stack; it writes `written`, if anything
+shallow() {
+    rm -f written
+    "$program" "$@" >wide 2>err
+    local wanted=$?
+    touch written && mv written wide_written
+    # An empty environment, since that stands on the stack too.
+    env -i "$BASH" -c 'ulimit -s 64; exec "$@"' shallow "$program" "$@" >out 2>err
+    status=$?
+    touch written
+    cmp -s out wide && cmp -s written wide_written && ! [ -s err ] && : >out
+    expect "$1 with 64 KB of stack" "$wanted" ''
+}
+
+"$program" gen 7 4000 >drawn
+"$program" build drawn drawn_image
+seq 5 40 9000 >requests
+printf ab >input
+shallow run drawn --trace 100 --dump 256 --count 64 --interrupts requests
+shallow run "$top/examples/echo.s" --input input
+shallow exec drawn_image --interrupts requests
+shallow build drawn written
+shallow migrate drawn_image written
+shallow list drawn
+shallow meaning drawn
+shallow debug "$top/examples/countdown.s" next --stops 3
+shallow best drawn
+shallow join "$top/examples/letters.s" "$top/examples/emit.s"
+shallow share "$top/examples/ping.s" "$top/examples/pong.s" --interrupts requests
+shallow gen 7 4000
+shallow soak 7 4000
 
 [ "$failures" -eq 0 ]

@@ -38,6 +38,8 @@ def lines(name):
 
 def lent(words):
     """Returns the words with the names of the library, and the files by these; None where there are too many."""
+    if not words:
+        return [], {}
     names = ["image"] if words[0] in IMAGES else ["source", "second"]
     given, files, option = list(words), {}, None
     if words[0] in ("build", "migrate"):
@@ -78,8 +80,8 @@ def runs(library):
     tally = Tally("runs.txt")
     for line in lines("runs.txt"):
         status, rest = line.split(" ", 1)
-        name, words = rest.split(": ", 1)
-        found = lent(words.split(" "))
+        name, words = rest.split(":", 1)
+        found = lent(words.split())
         if found is None:
             tally.left_out += 1
             continue
@@ -137,7 +139,8 @@ def long_sources(library):
     for line in lines("repeated.txt"):
         text, answer = line.split(" -> ", 1)
         word, text = text.split(": ", 1)
-        words = [word, "source"] + (["built"] if word == "build" else [])
+        words = word.split(" ")
+        words += ([] if "source" in words else ["source"]) + (["built"] if word == "build" else [])
         status, output, _ = library.command(*words, source=repeated(text))
         tally.add(f"{status} {output.decode().split(chr(10))[0]}" == answer, line)
     return tally.tell()

@@ -1,38 +1,60 @@
 #!/usr/bin/env python3
-"""What has to be read to believe the headline: every file of specs/ with a definition that `Headline.antt` leads to.
+"""What has to be read to believe the headline: every definition that the clause `headline` of `command` leads to.
 
-It follows the definitions by their names, and compares the lines of each file, without its imports, with the tables of
-README.md. The assembler, the coder and the instructions (ASIDE) are left aside.
+usage: checks/reading.py            refuses a list in docs/READING.md that is not that of the definitions
+       checks/reading.py --write    writes the tables of that page again
+       checks/reading.py --names    prints which definitions of each file are meant
+
+It begins at the clause, follows each definition by its names, types of .rt files too, and leaves aside the assembler, the coder and
+the words of a command line (ASIDE), whose lines it counts. Lines are those of a file without its imports and empty lines; of a file
+of code only those of the types that are named.
 """
 import pathlib
 import re
 import sys
 
 ROOT = pathlib.Path(__file__).resolve().parent.parent
-FIRST = ("mx_command", "Headline")
-ASIDE = {"mx_lex", "mx_lines", "mx_asm", "mx_code", "mx_isa"}
-IMPORT = re.compile(r"use Rattle\.(\w+)\.specs\.(\w+)\.\{(.*)\}$")
+PAGE = ROOT / "docs/READING.md"
+TOP = ("mx_command", "src/top.rt", "headline")
+ASIDE = {"mx_lex": "the assembler", "mx_lines": "the assembler", "mx_asm": "the assembler", "cmd_table": "the words of a command line",
+         "cmd_line": "the words of a command line"}
+# The three parts, by crates: what is claimed, the machine, and which words run.
+PARTS = {
+    "A": ("mx_command", "law_end_to_end", "law_link", "mx_source", "mx_isa", "mx_io", "cmd_answer", "cmd_simulate", "mx_report", "mx_text",
+          "law_order", "cmd_meaning"),
+    "B": ("mx_turn", "mx_pcchain", "mx_icache", "mx_board"),
+    "C": ("mx_blocks", "mx_depend", "mx_validate", "mx_reorg", "mx_squash", "mx_layout", "mx_link", "law_schedule", "mx_code"),
+}
+IMPORT = re.compile(r"(?:ghost )?use Rattle\.(\w+)\.specs\.([\w.]+?)\.\{(.*)\};?$")
 RECORD = re.compile(r"^ *(?:pub )?(?:record|data) (\S+).* where$")
 DEFINED = re.compile(r"^(?:  (?=abbrev))?(?:(?:abbrev|unfoldable|pub) )*([^\s:(){}]+) : ")
 NAME = re.compile(r"[^\s(){},;.]+")
 
 
+def imports_of(lines):
+    """Returns for each name that lines import its crate, its module and the name that it has there."""
+    found = {}
+    for line in lines:
+        if use := IMPORT.match(line.strip()):
+            for item in use[3].split(", "):
+                name, _, other = item.partition(" as ")
+                found[other or name] = (use[1], use[2], name)
+    return found
+
+
 class File:
-    """The definitions of a file by their names, and where its imports are from."""
+    """The definitions of a file of specs by their names, its lines, and where its imports are from."""
 
     def __init__(self, path):
         lines = path.read_text().splitlines()
-        self.imports = {}
-        self.lines = sum(1 for line in lines if not line.startswith("use "))
+        self.path = path
+        self.imports = imports_of(lines)
+        self.lines = sum(1 for line in lines if line and not line.startswith("use "))
+        self.says = next((line[3:] for line in lines if line.startswith("-- ")), "")
         self.defined = {}
         current = None
         for line in lines:
-            if found := IMPORT.match(line):
-                for item in found[3].split(", "):
-                    name, _, other = item.partition(" as ")
-                    self.imports[other or name] = (found[1], found[2], name)
-                continue
-            text = line.partition("--")[0]
+            text = "" if line.startswith("use ") else line.partition("--")[0]
             if found := RECORD.match(text) or DEFINED.match(text):
                 current = found[1]
             if current:
@@ -45,54 +67,112 @@ class File:
         return next((known for known, words in self.defined.items() if name in words), None)
 
 
+def type_in_code(crate, module):
+    """Returns the file of a type of the code, the type's name, and how many lines it has."""
+    name = module.split(".")[-1] if not module.endswith("TheVariants") else module.split(".")[-2]
+    for path in sorted((ROOT / "crates" / crate / "src").rglob("*.rt")):
+        item = re.search(rf"(?ms)^pub (?:struct|enum) {name}\b.*?(?:^}}|;)$", path.read_text())
+        if item:
+            return path, name, item[0].count("\n") + 1
+    return None, name, 0
+
+
+def names_of_clause():
+    """Returns the names that the clause cites, each with the place that it is imported from."""
+    text = (ROOT / "crates" / TOP[0] / TOP[1]).read_text()
+    clause = re.search(rf"ensures {TOP[2]} \{{(.*?)\}}\n\n", text, re.S)[1]
+    imports = imports_of(text.splitlines())
+    return [imports[it] for it in NAME.findall(clause) if it in imports and imports[it][0] != "std"]
+
+
 def reached():
-    """The names reached in each file."""
-    files = {
-        (path.parts[-3], path.stem): File(path) for path in ROOT.glob("crates/*/specs/*.antt")
-    }
-    found = {}
-    left = [(FIRST, name) for name in files[FIRST].defined]
+    """The names reached in each file of specs, and the types of the code."""
+    files = {(path.parts[-3], path.stem): File(path) for path in ROOT.glob("crates/*/specs/*.antt")}
+    found, types = {}, {}
+    left = names_of_clause()
     while left:
-        key, name = left.pop()
-        file = files.get(key)
-        name = file and file.where(name)
-        if name is None or name in found.setdefault(key, set()):
+        crate, module, name = left.pop()
+        if module.startswith("declared."):
+            path, own, lines = type_in_code(crate, module)
+            if path:
+                types.setdefault((crate, path), {})[own] = lines
             continue
-        found[key].add(name)
+        file = files.get((crate, module))
+        name = file and file.where(name)
+        if name is None or name in found.setdefault((crate, module), set()):
+            continue
+        found[(crate, module)].add(name)
+        if crate in ASIDE:
+            continue
         for word in file.defined[name]:
             if word in file.defined:
-                left.append((key, word))
+                left.append((crate, module, word))
             elif word in file.imports:
-                crate, module, other = file.imports[word]
-                left.append(((crate, module), other))
-    return {key: (files[key].lines, names) for key, names in found.items() if names and key[0] not in ASIDE}
+                left.append(file.imports[word])
+    return files, {key: names for key, names in found.items() if names}, types
 
 
-def main():
-    files = reached()
-    readme = (ROOT / "README.md").read_text()
-    listed = {}
-    for row in re.findall(r"^\| `crates/.*\|$", readme, re.M):
-        cells = [cell.strip() for cell in row.strip("|").split("|")]
-        crate = None
-        names = re.findall(r"`([^`]*)`", cells[0])
-        for name, lines in zip(names, cells[-1].split(", ")):
-            if name.startswith("crates/"):
-                crate = name.split("/")[1]
-            listed[(crate, pathlib.Path(name).stem)] = lines
-    wrong = False
-    for key in sorted(files):
-        lines, names = files[key]
-        told = listed.pop(key, None)
-        if told != str(lines):
-            wrong = True
-            print(f"{key[0]}/specs/{key[1]}.antt: {lines} lines, README has {told}: {' '.join(sorted(names))}")
-    for key in listed:
-        wrong = True
-        print(f"{key[0]}/specs/{key[1]}.antt: listed, but not reached")
-    print(f"{len(files)} files, {sum(lines for lines, _ in files.values())} lines")
-    return wrong
+def in_order(keys, files):
+    """Returns the files, each behind those that it imports."""
+    done = []
+
+    def visit(key):
+        if key in done or key not in keys:
+            return
+        for crate, module, _ in files[key].imports.values():
+            if (crate, module) != key:
+                visit((crate, module))
+        done.append(key)
+
+    for key in sorted(keys):
+        visit(key)
+    return done
+
+
+def page_tables():
+    """Returns the text of the tables, and the names of each file."""
+    files, found, types = reached()
+    read = {key for key in found if key[0] not in ASIDE}
+    text, sums = "", {}
+    for part, crates in PARTS.items():
+        keys = [it for it in in_order(read, files) if it[0] in crates]
+        own = [it for it in sorted(types) if it[0] in crates]
+        lines = sum(files[it].lines for it in keys) + sum(sum(types[it].values()) for it in own)
+        sums[part] = lines
+        text += f"\n<!-- {part} -->\n\n{len(keys)} files of definitions and the types of {len(own)} files of code, {lines} lines.\n\n| File | What it says | Lines |\n|---|---|---|\n"
+        for key in keys:
+            text += f"| `{files[key].path.relative_to(ROOT)}` | {files[key].says} | {files[key].lines} |\n"
+        for crate, path in own:
+            names = ", ".join(f"`{it}`" for it in sorted(types[(crate, path)]))
+            text += f"| `{path.relative_to(ROOT)}` | the types {names} | {sum(types[(crate, path)].values())} |\n"
+    stray = sorted(it for it in read | {(crate, "") for crate, _ in types} if it[0] not in sum(PARTS.values(), ()) and it[0] not in ASIDE)
+    aside = sorted(key for key in found if key[0] in ASIDE)
+    text += "\n<!-- aside -->\n\nSet aside: " + "; ".join(f"`{files[it].path.relative_to(ROOT)}`" for it in aside) + ".\n"
+    return text, found, sums, stray
+
+
+def main(words):
+    text, found, sums, stray = page_tables()
+    if words == ["--names"]:
+        for key in sorted(found):
+            print(f"{key[0]}/specs/{key[1]}.antt: {' '.join(sorted(found[key]))}")
+        return 0
+    page = PAGE.read_text()
+    own = re.findall(r"(?s)\n<!-- (\w+) -->\n(.*?)(?=\n<!-- |\n## |\Z)", page)
+    new = dict(re.findall(r"(?s)\n<!-- (\w+) -->\n(.*?)(?=\n<!-- |\Z)", text))
+    if words == ["--write"]:
+        for part, _ in own:
+            page = re.sub(rf"(?s)\n<!-- {part} -->\n.*?(?=\n<!-- |\n## |\Z)", lambda _: f"\n<!-- {part} -->\n{new[part]}", page)
+        PAGE.write_text(page.rstrip() + "\n")
+        own = re.findall(r"(?s)\n<!-- (\w+) -->\n(.*?)(?=\n<!-- |\n## |\Z)", page)
+    wrong = [part for part in new if dict(own).get(part, "").strip() != new[part].strip()]
+    for part in wrong:
+        print(f"docs/READING.md: part {part} is not that of the definitions (checks/reading.py --write)")
+    for key in stray:
+        print(f"{key[0]}/specs/{key[1]}.antt is reached and in no part")
+    print(", ".join(f"part {part} {lines} lines" for part, lines in sums.items()))
+    return 1 if wrong or stray else 0
 
 
 if __name__ == "__main__":
-    sys.exit(main())
+    sys.exit(main(sys.argv[1:]))

@@ -61,9 +61,9 @@ done
 count=0
 while IFS= read -r line; do
     rest=${line#* }
-    read -ra words <<<"${rest#*: }"
+    read -ra words <<<"${rest#*:}"
     count=$((count + 1))
-    run_case "${line%% *}" "${rest%%: *}" "${words[@]}" || tell "status $status" "the case $line"
+    run_case "${line%% *}" "${rest%%:*}" "${words[@]}" || tell "status $status" "the case $line"
 done <"$cases/runs.txt"
 [ "$failures" -eq 0 ] && [ "$count" -gt 0 ] && tell ok "$count cases"
 

@@ -25,7 +25,7 @@ compile() {
 
 # Leaves the assembly of the library at the level $1 in the folder $library, where it is not there or older than its source.
 compile_library() {
-    library=$top/crates/mx_cc/out/library$1
+    library=$top/.mx/library$1
     newer=$(find "$top/lib" -type f -newer "$library/done" -print 2>&1 | head -n 1)
     [ -e "$library/done" ] && [ -z "$newer" ] && return
     rm -rf "$library"

@@ -1,11 +1,13 @@
 //! The lines of a listing.
 ghost use Rattle.std.specs.Prelude.{◌≡◌, ◌≤◌, ◌+◌, ◌<◌, ◌++◌, OnOk, IfOk, length, slice_index, slice_index_or};
+ghost use Rattle.mx_source.specs.Names.{name_bytes, named_labels};
 ghost use Rattle.mx_text.specs.Text.{line};
 ghost use Rattle.cmd_list.specs.Listing.{listed_line, kind_text, handler_lines, code_lines, label_line, label_lines, counts_text, listing_text, linked_parts};
 
+use indexmap::IndexMap;
 use mx_io::Memory;
 use mx_link::{Linked, Origin};
-use mx_source::{Label, LabelTable, Source};
+use mx_source::{Label, Name, Source};
 use mx_text::{push_count, push_decimal, push_line, push_word};
 use mx_turn::SHIPPED;
 use std::alloc::{AllocError, Global};
@@ -116,16 +118,16 @@ fn push_code(
 fn push_label(
     text: &mut Vec<u8>,
     links: &[u32],
-    name: &[u8],
-    label: Label,
+    name: &Name,
+    label: &Label,
 ) -> Result<(), AllocError>
-    ensures { OnOk result (text.new.items ≡ text.old.items ++ label_line links.now name.now label) }
+    ensures { OnOk result (text.new.items ≡ text.old.items ++ label_line links.now (name_bytes name.now) label.now) }
 {
     match label {
         Label::Code(statement) => {
-            text.extend_from_slice(name)?;
+            text.extend_from_slice(name.bytes())?;
             text.push(b' ')?;
-            push_word(text, number_at(links, statement))?;
+            push_word(text, number_at(links, *statement))?;
             text.push(b'\n')?;
             Ok(())
         }
@@ -134,11 +136,17 @@ fn push_label(
 }
 
 // Appends the lines of the code labels, in their order.
-fn push_labels(text: &mut Vec<u8>, links: &[u32], labels: &LabelTable) -> Result<(), AllocError>
-    ensures { OnOk result (text.new.items ≡ text.old.items ++ label_lines links.now labels.now) }
+fn push_labels(
+    text: &mut Vec<u8>,
+    links: &[u32],
+    labels: &IndexMap<Name, Label>,
+) -> Result<(), AllocError>
+    ensures { OnOk result (text.new.items ≡ text.old.items ++ label_lines links.now (named_labels labels.now.entries)) }
 {
     for i in 0..labels.len() {
-        let (name, label) = labels.at(i);
+        let Some((name, label)) = labels.get_index(i) else {
+            unreachable!();
+        };
         push_label(text, links, name, label)?;
     }
     Ok(())

@@ -41,11 +41,10 @@ module _ (texts : List (List ℕ)) (few : length texts ≤ 16) (short : All (λ 
       let up = modules_up ms ms 0 chained two.1 in
       let near = texts_near texts (start 256) (omega arith) in
       record {
-        source = program_sound ms is_program two.1;
+        source = program_sound ms is_program two.1 (program_apart ms is_program two.0);
         registers = modules_registers ms ms 0;
         words = modules_words ms ms 0 near near;
         names = λ k d lt. let n = named k d lt in record { spelled = n.spelled; undotted = n.undotted; short = brief k d lt };
-        distinct = program_apart ms is_program two.0;
         within = λ k d lt. within_label (length (values_in (effects_in ms 0 ms))) _ (up k d lt);
       }
 

@@ -1,3 +1,4 @@
+pub mod Apart
 pub mod Counts
 pub mod Fronts
 pub mod LabelBounds

@@ -283,7 +283,7 @@ reads_back s good =
 -- the canonical text of a printable source
 pub printed_reads : (s : SourceValue) → IsPrintable s → ReadsBack s
 printed_reads s h =
-    let apart = are_apart s.labels h.distinct in
+    let apart = are_apart s.labels h.source.distinct in
     reads_back s
     (text_good s.labels (length s.statements) h.source.few_statements h.names apart h.source.labels_fit s.user_data h.source.few_words h.source.words_fit
     h.words h.within

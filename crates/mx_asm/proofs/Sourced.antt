@@ -10,6 +10,8 @@ use Rattle.mx_source.specs.declared.statement.Statement.{Statement}
 use Rattle.mx_source.specs.declared.statement.Value.{Value}
 use Rattle.mx_source.specs.Labels.{LabelFits, IsPlace}
 use Rattle.mx_source.specs.Statements.{StatementFits, ValueFits}
+use Rattle.mx_source.specs.Names.{AreApart}
+use Rattle.mx_asm.proofs.Apart.{none_apart, labels_apart}
 use Rattle.mx_source.specs.SourceValue.{IsSource}
 use Rattle.mx_lines.specs.declared.fault.Fault.{Fault}
 use Rattle.mx_lines.specs.declared.fault.Fault.TheVariants.{BadDirective, TooManyInstructions, DataFull, LineTooLong, DuplicateLabel}
@@ -164,6 +166,7 @@ lines_make low end all labels defined least order most none =
       labels_fit = fit;
       statements_fit = l.statements_fit (length w.ss) fit;
       words_fit = l.values_fit (length w.ss) fit;
+      distinct = subst AreApart (sym defined) (labels_apart all (start low) [] none_apart);
     })))
 
 pub faultless_source : (low end : ℕ) (text : List ℕ) → 256 ≤ low → low ≤ end → end ≤ 65536 → text_fault low end text ≡ None → IsSource (source_of low text)

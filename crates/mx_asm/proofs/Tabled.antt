@@ -12,6 +12,7 @@ use Rattle.mx_source.specs.Labels.{names_index, is_labelled, IsPlace}
 use Rattle.mx_source.specs.Printed.{place_name}
 use Rattle.mx_lines.specs.Operands.{label_named}
 use Rattle.mx_lines.specs.Instructions.{Labels}
+use Rattle.mx_lines.proofs.Copied.{swapped}
 use Rattle.mx_asm.specs.Printable.{IsLabelName}
 use Rattle.mx_asm.proofs.Readback.{Finder, Finds}
 use Rattle.mx_asm.proofs.Spellings.{Placed}
@@ -41,17 +42,6 @@ Apart (e ∷ es) = All (λ (x : List ℕ × Label). bytes_eq x.0 e.0 ≡ false) 
 
 pub same_bytes : (n : List ℕ) → bytes_eq n n ≡ true
 same_bytes n = (bytes_eq-Decides n n).1 refl
-
-swap_by : (x y : List ℕ) (r : Bool) → (r ≡ true → y ≡ x) → (x ≡ y → ⊥) → r ≡ false
-swap_by x y true f g = absurd (g (sym (f refl)))
-swap_by x y false f g = refl
-
-differ : (x y : List ℕ) (r : Bool) → (x ≡ y → r ≡ true) → r ≡ false → x ≡ y → ⊥
-differ x y true f h e = cc
-differ x y false f h e = let k = f e in cc
-
-pub swapped : (x y : List ℕ) → bytes_eq x y ≡ false → bytes_eq y x ≡ false
-swapped x y h = swap_by x y (bytes_eq y x) (bytes_eq-Decides y x).0 (differ x y (bytes_eq x y) (bytes_eq-Decides x y).1 h)
 
 each_apart : (n : List ℕ) (es : Labels) → AllByRecursion (λ y. bytes_eq n y ≡ false) (map (λ (p : List ℕ × Label). p.0) es)
     → All (λ (x : List ℕ × Label). bytes_eq x.0 n ≡ false) es

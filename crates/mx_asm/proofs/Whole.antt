@@ -6,6 +6,7 @@ use Rattle.mx_source.specs.declared.statement.Statement.{Statement}
 use Rattle.mx_source.specs.declared.statement.Value.{Value}
 use Rattle.mx_source.specs.declared.statement.Label.{Label}
 use Rattle.mx_source.specs.Labels.{LabelFits}
+use Rattle.mx_source.specs.Names.{AreApart}
 use Rattle.mx_source.specs.SourceValue.{SourceValue, IsSource}
 use Rattle.mx_source.specs.SourceValue.{source_of as listed}
 use Rattle.mx_asm.specs.declared.listing.Listing.{Listing}
@@ -51,9 +52,9 @@ module _ (low end : ℕ) (text : List ℕ) (lines : List (List ℕ)) (labels nam
       → s ≡ made l.statements.items l.lines.items l.user_data.items named l.input → ReadsAs low end text s
   whole_reads l s h e = record { faultless = sym whole_fault ∙ h.faultless; same = e ∙ whole_source l h }
 
-  pub whole_fits : (l : Listing) → 256 ≤ low → end ≤ 65536 → IsListingOf labels end (start low) lines l
+  pub whole_fits : (l : Listing) → 256 ≤ low → end ≤ 65536 → IsListingOf labels end (start low) lines l → AreApart named
       → IsSource (listed l.statements.items l.lines.items l.user_data.items named)
-  whole_fits l least most h =
+  whole_fits l least most h apart =
       let ended = labels_fit labels end lines (start low) [] 1 most least h.faultless
       (All-nil (λ (p : List ℕ × Label). LabelFits (position_at_end (start low) lines).index p.1)) in
       let count : length l.statements.items ≡ (position_at_end (start low) lines).index = (let k = h.count in omega (arith, k)) in
@@ -67,4 +68,5 @@ module _ (low end : ℕ) (text : List ℕ) (lines : List (List ℕ)) (labels nam
         labels_fit = fit;
         statements_fit = h.statements_fit (length l.statements.items) fit;
         words_fit = h.values_fit (length l.statements.items) fit;
+        distinct = subst AreApart same apart;
       })

@@ -1,7 +1,6 @@
 -- Sources whose canonical text reads back.
-use Rattle.std.specs.Prelude.{◌≡◌, ℕ, ◌+◌, ◌^◌, ◌≤◌, ◌<◌, Bool, true, false, ◌&&◌, List, [], ◌∷◌, length, map, All, None, Result, MatchResult, is_some}
-use Rattle.std.specs.List.{list_all, IsDistinct}
-use Rattle.std.specs.Str.{bytes_eq}
+use Rattle.std.specs.Prelude.{◌≡◌, ℕ, ◌+◌, ◌^◌, ◌≤◌, ◌<◌, Bool, true, false, ◌&&◌, List, [], ◌∷◌, length, All, None, Result, MatchResult, is_some}
+use Rattle.std.specs.List.{list_all}
 use Rattle.mx_isa.specs.declared.board.TheConstants.{DATA_BASE, DATA_END}
 use Rattle.mx_lex.specs.Bytes.{begins_name, continues_name}
 use Rattle.mx_isa.specs.Registers.{IsRegister}
@@ -62,13 +61,12 @@ abbrev pub IsWord : Value → Type 0
 IsWord (values.Int word) = word < 2 ^ 32
 IsWord (values.Code i) = Unit {0}
 
--- a source that its canonical text can say: labels have names of the language, all different, and none stands behind the data
+-- a source that its canonical text can say: labels have names of the language, and none stands behind the data
 pub record IsPrintable (s : SourceValue) : Type 0 where
   pub source : IsSource s
   pub registers : All NamesRegisters s.statements
   pub words : All IsWord s.user_data
   pub names : All (λ (p : List ℕ × Label). IsLabelName p.0) s.labels
-  pub distinct : IsDistinct bytes_eq (map (λ (p : List ℕ × Label). p.0) s.labels)
   pub within : All (λ (p : List ℕ × Label). IsWithin (length s.user_data) p.1) s.labels
 
 -- the same program: lines and the order of labels may differ

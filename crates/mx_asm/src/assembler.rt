@@ -10,15 +10,17 @@ ghost use Rattle.mx_asm.specs.Listings.{IsListingOf, IsRefusal};
 ghost use Rattle.mx_asm.specs.Printable.{ReadsPrinted};
 ghost use Rattle.mx_asm.specs.Texts.{ReadsAs, text_fault};
 ghost use Rattle.mx_lines.specs.Words.{texts};
+ghost use Rattle.mx_source.specs.Names.{named_labels, AreApart};
 ghost use Rattle.mx_source.specs.SourceValue.{IsSource, source_of};
 
 use crate::definitions::{Definitions, define_text};
 use crate::line::read_line;
 use crate::listing::{Listing, add};
 use crate::position::Position;
+use indexmap::IndexMap;
 use mx_isa::{DATA_BASE, DATA_END};
 use mx_lines::{AsmError, Labels, LineError, split_line};
-use mx_source::{LabelTable, Source};
+use mx_source::{Label, Name, Source};
 use std::alloc::Global;
 
 /// What all lines do from a position on, or the first faulty line.
@@ -156,13 +158,14 @@ pub fn assemble_at(alloc: Global, text: &[u8], user_data: u32, end: u32) -> Resu
 }
 
 /// The source of a listing and its labels.
-pub fn listed_source(listing: Listing, labels: LabelTable) -> Source
-    requires { IsSource (source_of listing.statements.items listing.lines.items listing.user_data.items labels) }
+pub fn listed_source(listing: Listing, labels: IndexMap<Name, Label>) -> Source
+    requires { AreApart (named_labels labels.entries)
+        → IsSource (source_of listing.statements.items listing.lines.items listing.user_data.items (named_labels labels.entries)) }
     ensures { result ≡ record {
       statements = listing.statements.items;
       lines = listing.lines.items;
       user_data = listing.user_data.items;
-      labels = labels;
+      labels = named_labels labels.entries;
       input = listing.input;
     } }
 {

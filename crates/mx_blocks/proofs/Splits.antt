@@ -11,9 +11,11 @@ use Rattle.std.proofs.lemmas.Option.{slice_get_within, slice_get-map, get_or_fro
 use Rattle.mx_isa.specs.declared.inst.Inst.{Inst}
 use Rattle.mx_isa.specs.declared.inst.Inst.TheVariants.{Jspci, Jpc, Jpcrs}
 use Rattle.mx_isa.specs.declared.inst.Inst.TheVariants.{Branch as BranchInst, Halt as HaltInst}
+use Rattle.mx_source.specs.declared.name.Name.{Name}
 use Rattle.mx_source.specs.declared.statement.Label.{Label}
 use Rattle.mx_source.specs.declared.statement.Statement.{Statement}
 use Rattle.mx_source.specs.declared.statement.Statement.TheVariants.{Plain, LaCode}
+use Rattle.mx_source.specs.Names.{named_labels}
 use Rattle.mx_source.specs.Labels.{is_labelled, names_index}
 use Rattle.mx_source.specs.Statements.{IsPlain, StatementFits}
 use Rattle.mx_source.specs.SourceValue.{SourceValue, IsSource}
@@ -21,18 +23,10 @@ use Rattle.mx_blocks.specs.declared.block.Block.{Block}
 use Rattle.mx_blocks.specs.Ends.{is_last, end_is, is_some_and, ends_as, GoesOn}
 use Rattle.mx_blocks.specs.Leaders.{ends_block, ends_there, gap, is_leader, inst_of, end_of, size, IsBlockOf, BlocksFrom}
 
-pub any_named : (i : ℕ) (labels : List (List ℕ × Label)) → list_any (names_index i) (map (λ p. p.1) labels) ≡ list_any (λ p. names_index i p.1) labels
+pub any_named : (i : ℕ) (entries : List (Name × Label))
+    → list_any (names_index i) (map (λ e. e.1) entries) ≡ list_any (λ p. names_index i p.1) (named_labels entries)
 any_named i [] = refl
-any_named i (p ∷ labels) = ap (λ b. names_index i p.1 || b) (any_named i labels)
-
--- the marks that are left, one after the other
-pub or_assoc : (a b c : Bool) → ((a || b) || c) ≡ (a || (b || c))
-or_assoc true b c = refl
-or_assoc false b c = refl
-
-pub or_false : (b : Bool) → (b || false) ≡ b
-or_false true = refl
-or_false false = refl
+any_named i (e ∷ entries) = ap (λ b. names_index i e.1 || b) (any_named i entries)
 
 pub gap_small : (labelled : ℕ → Bool) (statements : List Statement) (i : ℕ) → gap labelled statements i ≤ 63
 gap_small labelled statements zero = omega arith

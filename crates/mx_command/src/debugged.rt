@@ -51,9 +51,11 @@ fn statement_named(source: &Source, name: &str) -> Option<u32>
     let labels = source.labels();
     let count = source.statements().len();
     for i in 0..labels.len() {
-        let (found, label) = labels.at(i);
-        if wanted == found {
-            return statement_at(label, count);
+        let Some((found, label)) = labels.get_index(i) else {
+            unreachable!();
+        };
+        if wanted == found.bytes() {
+            return statement_at(*label, count);
         }
     }
     None

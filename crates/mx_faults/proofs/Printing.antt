@@ -34,7 +34,6 @@ use Rattle.mx_asm.specs.Faults.{first_fault}
 use Rattle.mx_asm.specs.Texts.{text_fault, text_labels, text_effects, source_of}
 use Rattle.mx_asm.specs.Printable.{is_name, IsLabelName, IsWithin, IsWord, IsPrintable, ReadsBack}
 use Rattle.mx_lines.proofs.Fits.{any_fits}
-use Rattle.mx_asm.proofs.Tabled.{swapped}
 use Rattle.mx_asm.proofs.LabelBounds.{define_fits, labels_fit}
 use Rattle.mx_asm.proofs.Sourced.{faultless_source, lines_fit}
 use Rattle.mx_asm.proofs.PrintedTexts.{printed_reads}
@@ -191,51 +190,6 @@ names_good (line ∷ lines) p labels all =
     names_good lines (after p (line_words line)) (with_labels p labels (line_words line))
     (front_good (line_words line) labels (label_here p) (line_good line) all)
 
-none_distinct : IsDistinct bytes_eq []
-unfolding IsDistinct
-none_distinct = tt
-
--- no name stands twice
-abbrev names : Labels → List (List ℕ)
-names labels = map (λ (p : List ℕ × Label). p.0) labels
-
-apart_push : (n : List ℕ) (labels : Labels) (l : Label) (name : List ℕ) → bytes_eq n name ≡ false → AllByRecursion (λ y. bytes_eq n y ≡ false) (names labels)
-    → AllByRecursion (λ y. bytes_eq n y ≡ false) (names (labels ++ (name, l) ∷ []))
-apart_push n [] l name h all = (h, tt)
-apart_push n (e ∷ labels) l name h all = (all.0, apart_push n labels l name h all.1)
-
-cond_none : (b : Bool) (x : Label) (o : Option Label) → is_some (cond b (Some x) o) ≡ false → (b ≡ false) × (is_some o ≡ false)
-cond_none true x o h = absurd (false≢true (sym h))
-cond_none false x o h = (refl, h)
-
-distinct_push : (labels : Labels) (l : Label) (name : List ℕ) → is_some (label_named labels name) ≡ false → IsDistinct bytes_eq (names labels)
-    → IsDistinct bytes_eq (names (labels ++ (name, l) ∷ []))
-unfolding IsDistinct
-distinct_push [] l name h d = (tt, tt)
-distinct_push (e ∷ labels) l name h d =
-    let none = cond_none (bytes_eq name e.0) e.1 (label_named labels name) h in
-    (apart_push e.0 labels l name (swapped name e.0 none.0) d.0, distinct_push labels l name none.1 d.1)
-
-added_distinct : (labels : Labels) (l : Label) (name : List ℕ) (dotted known : Bool) → is_some (label_named labels name) ≡ known
-    → IsDistinct bytes_eq (names labels)
-    → IsDistinct bytes_eq (names (cond (dotted || known) labels (labels ++ (name, l) ∷ [])))
-added_distinct labels l name true known h d = d
-added_distinct labels l name false true h d = d
-added_distinct labels l name false false h d = distinct_push labels l name h d
-
-front_distinct : (words : List Word) (labels : Labels) (l : Label) → IsDistinct bytes_eq (names labels)
-    → IsDistinct bytes_eq (names (define_front labels l words))
-unfolding define
-front_distinct (Name name ∷ Colon ∷ words) labels l d =
-    front_distinct words (define labels l name) l (added_distinct labels l name (is_dotted name) (is_some (label_named labels name)) refl d)
-front_distinct _ labels l d = d
-
-names_distinct : (lines : List (List ℕ)) (p : Position) (labels : Labels) → IsDistinct bytes_eq (names labels)
-    → IsDistinct bytes_eq (names (labels_from p labels lines))
-names_distinct [] p labels d = d
-names_distinct (line ∷ lines) p labels d =
-    names_distinct lines (after p (line_words line)) (with_labels p labels (line_words line)) (front_distinct (line_words line) labels (label_here p) d)
-
 -- data labels name no address past where the lines end
 abbrev Below : ℕ → Label → Type 0
 Below top (label.Code i) = Unit {0}
@@ -328,7 +282,6 @@ module _ (low end : ℕ) (text : List ℕ) (least : 256 ≤ low) (order : low �
     registers = lines_have labels near (start low) 1 lines;
     words = words_have labels near (start low) 1 lines;
     names = names_good lines (start low) [] (All-nil GoodEntry);
-    distinct = names_distinct lines (start low) [] none_distinct;
   }
 
 -- the canonical text of what a text without faults reads as
@@ -351,7 +304,6 @@ module _ (text : List ℕ) (none : text_fault 256 65536 text ≡ None) (short : 
         registers = own.registers;
         words = own.words;
         names = all_both s.labels own.names short;
-        distinct = own.distinct;
         within = all_within s.labels (length s.user_data) (position_at_end (start 256) (lines_of text)).address (sym ends) below;
       }
 

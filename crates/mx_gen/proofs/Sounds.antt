@@ -16,6 +16,7 @@ use Rattle.mx_source.specs.declared.statement.Statement.{Statement}
 use Rattle.mx_source.specs.declared.statement.Statement.TheVariants.{Plain, LaCode, Branch, Call, CallReg, JumpReg, Halt}
 use Rattle.mx_source.specs.Labels.{LabelFits, IsPlace, is_labelled, names_index}
 use Rattle.mx_source.specs.Statements.{StatementFits}
+use Rattle.mx_source.specs.Names.{AreApart}
 use Rattle.mx_source.specs.SourceValue.{IsSource}
 use Rattle.mx_gen.specs.Drafts.{Draft, empty, put, finished}
 use Rattle.mx_gen.specs.Generated.{draw, kind, first, second, third, address, set, opening, round, skip, item, items, generated}
@@ -188,8 +189,8 @@ sound_item x j d h =
     (sound_skip j (first x) (second x) (third x) d h)))))))
 
 -- with the halt, a sound draft of few items is a source
-pub sound_source : (j : ℕ) (d : Draft) → j ≤ 4000 → IsSound j d → IsSource (finished (put Halt d))
-sound_source j d few h = let s = sound_one j d Halt h (λ P. tt) in
+pub sound_source : (j : ℕ) (d : Draft) → j ≤ 4000 → IsSound j d → AreApart d.labels → IsSource (finished (put Halt d))
+sound_source j d few h apart = let s = sound_one j d Halt h (λ P. tt) in
     let n : length (put Halt d).statements ≤ 8 + 4 * suc j = s.few in record {
       few_statements = omega arith;
       few_words = lit≤ tt;
@@ -197,6 +198,7 @@ sound_source j d few h = let s = sound_one j d Halt h (λ P. tt) in
       labels_fit = s.labels_fit;
       statements_fit = s.statements_fit;
       words_fit = All-nil _;
+      distinct = apart;
     }
 
 -- the items that are left, and one of them

@@ -1,12 +1,14 @@
 //! A source as it grows.
 ghost use Rattle.std.specs.Prelude.{◌≡◌, ◌<◌, ◌≤◌, ◌∷◌, ◌^◌, decimal, length, OnOk, IfOk};
 ghost use Rattle.mx_isa.specs.declared.board.TheConstants.{MAX_STATEMENTS};
+ghost use Rattle.mx_source.specs.Names.{name_bytes, AreApart};
 ghost use Rattle.mx_source.specs.SourceValue.{IsSource};
 ghost use Rattle.mx_gen.specs.Drafts.{empty, put, name, finished};
 ghost use Rattle.mx_gen.specs.Sound.{IsNew};
 
+use indexmap::IndexMap;
 use itoa::Buffer;
-use mx_source::{Label, LabelTable, Memory, Source, Statement};
+use mx_source::{Label, Memory, Name, Source, Statement};
 use std::alloc::{AllocError, Global};
 use std::marker::Model;
 use std::slice;
@@ -16,7 +18,7 @@ use std::slice;
 pub(crate) struct Draft {
     statements: Vec<Statement>,
     lines: Vec<u32>,
-    labels: LabelTable,
+    labels: IndexMap<Name, Label>,
     line: u32,
 }
 
@@ -37,7 +39,7 @@ impl Draft {
         Draft {
             statements: Vec::new(alloc),
             lines: Vec::new(alloc),
-            labels: LabelTable::new(alloc),
+            labels: IndexMap::new(alloc),
             line: 1,
         }
     }
@@ -77,7 +79,7 @@ impl Draft {
     {
         let name = label_name(alloc, letter, j)?;
         let label = Label::Code(self.index());
-        let Ok(()) = self.labels.push(name.as_slice(), label) else {
+        let Ok(_) = self.labels.insert(name, label) else {
             return Err(Memory);
         };
         self.line += 1;
@@ -86,7 +88,7 @@ impl Draft {
 
     /// The source of the draft.
     pub(crate) fn finish(self) -> Source
-        requires { IsSource (finished self) }
+        requires { AreApart (finished self).labels → IsSource (finished self) }
         ensures { result ≡ finished self }
     {
         let Draft {
@@ -95,14 +97,13 @@ impl Draft {
             labels,
             line: _,
         } = self;
-        let user_data = Vec::new(*statements.allocator());
-        Source::make(statements, lines, user_data, labels)
+        Source::make(statements, lines, Vec::new(*labels.allocator()), labels)
     }
 }
 
 /// A letter and a number in decimal.
-fn label_name(alloc: Global, letter: u8, j: u32) -> Result<Vec<u8>, Memory>
-    ensures { IfOk result (λ name. name.items ≡ letter ∷ decimal j) }
+fn label_name(alloc: Global, letter: u8, j: u32) -> Result<Name, Memory>
+    ensures { IfOk result (λ name. name_bytes name ≡ letter ∷ decimal j) }
 {
     let mut buffer = Buffer::new();
     let number = buffer.format(j).as_bytes();
@@ -110,5 +111,5 @@ fn label_name(alloc: Global, letter: u8, j: u32) -> Result<Vec<u8>, Memory>
     if bytes.push(letter).is_err() || bytes.extend_from_slice(number).is_err() {
         return Err(Memory);
     }
-    Ok(bytes)
+    Name::new(alloc, bytes.as_slice())
 }

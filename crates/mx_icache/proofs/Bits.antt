@@ -1,8 +1,11 @@
 -- The bits of a mask.
-use Rattle.std.proofs.Common.{◌≡◌, ◌≢◌, ℕ, ◌*◌, ◌^◌, ◌%◌, ◌<◌, Bool, true, false, eqb, ◌||◌, refl, sym, ◌∙◌, ap, arith, bit_or}
-use Rattle.std.specs.Int.{bit_at, w16}
+use Rattle.std.proofs.Common.{◌≡◌, ◌≢◌, ℕ, ◌+◌, ◌-◌, ◌*◌, ◌/◌, ◌^◌, ◌%◌, ◌<◌, ◌≤◌, Bool, true, false, eqb, ◌||◌, refl, sym, ◌∙◌, ap, arith, bit_or, ⊎_elim}
+use Rattle.std.specs.Int.{bit_at, trailing_ones, w16, w32}
+use Rattle.std.proofs.lemmas.Bool.{cases_lt}
+use Rattle.std.proofs.Math.Nat.{div-le_self}
+use Rattle.std.proofs.lemmas.Nat.{shr-shr}
 use Rattle.std.proofs.lemmas.Bool.Decides.{nat_tests}
-use Rattle.std.proofs.lemmas.Nat.Bits.{bit_at-zero, bit_at_set_same, bit_at_set_other}
+use Rattle.std.proofs.lemmas.Nat.Bits.{bit_at-zero, bit_at_above, bit_at-trailing_ones, bit_at_set_same, bit_at_set_other}
 use Rattle.mx_icache.specs.LineSets.{is_set}
 
 pub is_set-zero : (j : ℕ) → is_set 0 j ≡ false
@@ -26,3 +29,32 @@ is_set-some m j h e = let bad : true ≡ false = sym h ∙ ap (λ n. is_set n j)
 pub zero_bits : (v : Bool) (j : ℕ) → (v || is_set 0 j) ≡ v
 zero_bits true j = refl
 zero_bits false j = is_set-zero j
+
+-- the bits of a mask that was shifted right
+shifted : (m k i : ℕ) → bit_at (m / 2 ^ k) i ≡ bit_at m (k + i)
+shifted m k i = ap (λ n. n % 2) (shr-shr m k i)
+
+-- the ones from a bit of a mask on
+module _ (m k : ℕ) (small : m < 65536) where
+  abbrev ones : ℕ
+  ones = trailing_ones w32 (m / 2 ^ k)
+
+  low : m / 2 ^ k + 1 < 2 ^ 32
+  low = let below : m / 2 ^ k ≤ m = div-le_self m (2 ^ k) in omega (arith, below, small)
+
+  pub ones_set : (j : ℕ) → j < ones → is_set m (k + j) ≡ true
+  unfolding is_set
+  ones_set j lt = ap (λ b. eqb b 1) (sym (shifted m k j) ∙ (bit_at-trailing_ones w32 (m / 2 ^ k) low).2 j lt)
+
+  beyond : 16 - k < ones → k ≤ 16 → ⊥
+  beyond lt within =
+      let place : k + (16 - k) ≡ 16 = omega (arith, within) in
+      let one : bit_at m 16 ≡ 1 = ap (λ i. bit_at m i) (sym place) ∙ sym (shifted m k (16 - k)) ∙ (bit_at-trailing_ones w32 (m / 2 ^ k) low).2 (16 - k) lt in
+      let none : bit_at m 16 ≡ 0 = bit_at_above m 16 16 small (omega arith) in
+      let bad : 1 ≡ 0 = sym one ∙ none in absurd (cc)
+
+  pub ones_within : k < 16 → k + ones ≤ 16
+  ones_within within = ⊎_elim
+      (λ lt. absurd (beyond lt (omega (arith, within))))
+      (λ ge. omega (arith, ge, within))
+      (cases_lt (16 - k) ones)

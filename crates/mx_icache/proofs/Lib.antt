@@ -6,3 +6,4 @@ pub mod SetSteps
 pub mod CacheSteps
 pub mod PlainSteps
 pub mod Fetched
+pub mod Resident

@@ -43,6 +43,13 @@ pub word_here : (set : Set) (past : List ℕ) (a w : ℕ) → SetHolds set past 
     → word_in set w (a % 16) ≡ resident past a
 word_here set past a w h p at = let address : 16 * line_of a + a % 16 ≡ a = omega arith in rw address at (h.words w (line_of a) (a % 16) p at (omega arith))
 
+-- a valid word behind an address, in its line, is resident
+pub word_in_line : (set : Set) (past : List ℕ) (a j w : ℕ) → SetHolds set past (set_of (line_of a)) → w < 8 → line_in set w ≡ Some (line_of a)
+    → a % 16 + j < 16 → word_in set w (a % 16 + j) ≡ true → resident past (a + j) ≡ true
+word_in_line set past a j w h p at inside valid =
+    let address : 16 * line_of a + (a % 16 + j) ≡ a + j = omega arith in
+    rw address at (sym (h.words w (line_of a) (a % 16 + j) p at inside) ∙ valid)
+
 -- a fetch of a valid word
 pub set_hit : (set : Set) (a : ℕ) (past : List ℕ) (w : ℕ) → SetHolds set past (set_of (line_of a)) → w < 8 → line_in set w ≡ Some (line_of a)
     → word_in set w (a % 16) ≡ true → SetHolds set (a ∷ past) (set_of (line_of a))

@@ -30,4 +30,9 @@ impl FetchCache for LineCache {
         let set = &mut self.sets[(address / 16 % 4) as usize];
         set.fetch(address)
     }
+
+    fn reach(&self, address: u32) -> u32 {
+        let set = &self.sets[(address / 16 % 4) as usize];
+        set.reach(address)
+    }
 }

@@ -1,7 +1,7 @@
 //! A set of a line cache.
-ghost use Rattle.std.specs.Prelude.{◌≡◌, ◌≢◌, ◌<◌, ◌+◌, ◌/◌, ◌%◌, ◌==◌, ◌||◌, ◌∷◌, ℕ, List, true, false, Some, None, slice_index, IfSome, IfNone};
+ghost use Rattle.std.specs.Prelude.{◌≡◌, ◌≢◌, ◌<◌, ◌≤◌, ◌+◌, ◌/◌, ◌%◌, ◌==◌, ◌||◌, ◌∷◌, ℕ, List, true, false, Some, None, slice_index, IfSome, IfNone};
 
-use crate::mask::{is_set, pair_alone, with_pair};
+use crate::mask::{is_set, pair_alone, valid_from, with_pair};
 
 /// A set of 8 ways: the line of each, a mask of its valid words, which is 0 where the way holds no
 /// line, and the way that the next line goes to.
@@ -121,6 +121,18 @@ impl Set {
         match self.hit_of(address / 16, (address % 16) as u8) {
             Some(_) => true,
             None => self.take(address),
+        }
+    }
+
+    /// How many words from an address of this set on are resident, up to the end of its line.
+    pub(crate) fn reach(&self, address: u32) -> u32
+        ensures within { address % 16 + result ≤ 16 }
+        ensures resident { (past : List ℕ) → SetHolds self.now past (set_of (line_of address))
+            → (j : ℕ) → j < result → resident past (address + j) ≡ true }
+    {
+        match self.way_of(address / 16) {
+            Some(way) => valid_from(self.masks[way], (address % 16) as u8),
+            None => 0,
         }
     }
 }

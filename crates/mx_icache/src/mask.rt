@@ -1,5 +1,5 @@
 //! Masks of the valid words of a line.
-ghost use Rattle.std.specs.Prelude.{◌≡◌, ◌≢◌, ◌<◌, ◌/◌, ◌==◌, ◌||◌, ℕ};
+ghost use Rattle.std.specs.Prelude.{◌≡◌, ◌≢◌, ◌<◌, ◌≤◌, ◌+◌, ◌/◌, ◌==◌, ◌||◌, ℕ, true};
 ghost use Rattle.mx_icache.specs.LineSets.{is_set};
 
 /// Whether the word is valid.
@@ -36,4 +36,13 @@ pub fn pair_alone(word: u8) -> u16
     ensures some { result ≢ 0 }
 {
     with_pair(0, word)
+}
+
+/// How many words from this one on are valid, up to the end of the line.
+pub fn valid_from(mask: u16, word: u8) -> u32
+    requires { word < 16 }
+    ensures within { word + result ≤ 16 }
+    ensures valid { (j : ℕ) → j < result → is_set mask (word + j) ≡ true }
+{
+    (u32::from(mask) >> word).trailing_ones()
 }

@@ -34,4 +34,8 @@ impl FetchCache for PlainCache {
         let set = &mut self.sets[(address / 16 % 4) as usize];
         set.fetch(address)
     }
+
+    fn reach(&self, _address: u32) -> u32 {
+        0
+    }
 }

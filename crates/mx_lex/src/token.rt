@@ -1,4 +1,5 @@
 //! Tokens, and what is no token.
+use thiserror::Error;
 
 /// What a token is.
 #[derive(Clone, Copy, Debug, PartialEq, Eq)]
@@ -35,10 +36,12 @@ pub struct Token {
 }
 
 /// Why there is no token at a place of the line.
-#[derive(Clone, Copy, Debug, PartialEq, Eq)]
+#[derive(Clone, Copy, Debug, PartialEq, Eq, Error)]
 pub enum LexFault {
     /// A byte outside comments that is neither a tab nor 32 to 126.
+    #[error("no text at byte {at}")]
     BadByte { at: usize },
     /// No token begins as the line does there.
+    #[error("no token at byte {at}")]
     BadToken { at: usize },
 }

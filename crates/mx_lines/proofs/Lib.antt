@@ -1,5 +1,5 @@
-pub mod Chained
 pub mod Clean
+pub mod Copied
 pub mod Fits
 pub mod LineEnds
 pub mod LineWords

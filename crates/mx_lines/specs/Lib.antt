@@ -5,5 +5,4 @@ pub mod Operands
 pub mod Mnemonics
 pub mod Instructions
 pub mod LabelTable
-pub mod Chains
 pub mod Fitting

@@ -65,9 +65,12 @@ pub enum AsmError {
 }
 
 /// Why a line is not read.
-#[derive(Debug, Drop)]
+#[derive(Debug, Drop, Error)]
 pub enum LineError {
+    /// The first fault of the line.
+    #[error("{0}")]
     Fault(Fault),
+    #[error("out of memory")]
     Memory,
 }
 

@@ -2,7 +2,6 @@
 #![tactic(auto)]
 
 mod fault;
-mod index;
 mod instructions;
 mod labels;
 mod lines;
@@ -14,7 +13,7 @@ mod word;
 
 pub use fault::{AsmError, Fault, LineError, MAX_LINE_BYTES};
 pub use instructions::instruction;
-pub use labels::Labels;
+pub use labels::{Labels, add_named};
 pub use lines::{lines_of, split_line};
 pub use mnemonic::spells;
 pub use operands::data_word;

@@ -15,7 +15,7 @@ use Rattle.mx_lines.specs.Instructions.{Labels}
 use Rattle.mx_lines.specs.Operands.{label_named}
 use Rattle.mx_asm.specs.Directives.{is_dotted}
 use Rattle.mx_asm.specs.Positions.{define, define_front, with_labels, labels_from, label_here, after, line_words}
-use Rattle.mx_asm.proofs.Tabled.{swapped}
+use Rattle.mx_lines.proofs.Copied.{swapped}
 use Rattle.mx_module.specs.Links.{has_two_dots, begins_two_dots}
 use Rattle.mx_lex.specs.Lines.{lines_of}
 use Rattle.mx_asm.specs.Positions.{start}

@@ -29,7 +29,7 @@ use Rattle.mx_module.specs.declared.link.LinkKind.TheVariants.{Import, Export}
 use Rattle.mx_module.specs.Links.{Link}
 use Rattle.mx_module.specs.Modules.{ModuleValue}
 use Rattle.mx_module.specs.LinkFaults.{Refusal, is_exported, first_exporter, or_exporter, exporter, refusal_or, fault_in_modules}
-use Rattle.mx_module.specs.Joined.{label_in, with_label, with_import, with_imports, seen_in, line_of, fault_in_lines, program_fault, effects_in, renamed, labels_in, program}
+use Rattle.mx_module.specs.Joined.{AreApart, label_in, with_label, with_import, with_imports, seen_in, line_of, fault_in_lines, program_fault, effects_in, renamed, labels_in, program}
 use Rattle.mx_module.specs.ModuleView.{IsProgram}
 use Rattle.mx_module.proofs.Appended.{statements_both, lines_both, values_both}
 use Rattle.mx_module.proofs.Chained.{Chained, first, first_room, first_near, first_low, next, program_chained}
@@ -259,8 +259,8 @@ program_labels count k (m ∷ ms) h =
     All-append (λ (p : List ℕ × Label). LabelFits count p.1) (map (renamed m k) m.labels) (labels_in (k + 1) ms) (renamed_fit count m k m.labels h.0)
     (program_labels count (k + 1) ms h.1)
 
-pub program_sound : (ms : List ModuleValue) → IsProgram ms → fault_in_lines ms 0 ms ≡ None → IsSource (program ms)
-program_sound ms h none =
+pub program_sound : (ms : List ModuleValue) → IsProgram ms → fault_in_lines ms 0 ms ≡ None → AreApart (labels_in 0 ms) → IsSource (program ms)
+program_sound ms h none apart =
     let r = fits ms ms 0 (program_chained h.texts ms h.same) none in
     let J = labels_in 0 ms in
     let count : length (statements_in (effects_in ms 0 ms)) ≡ r.last.index = (let k = r.count in omega (arith, k)) in
@@ -274,4 +274,5 @@ program_sound ms h none =
       statements_fit = subst (λ n. All (StatementFits (IsPlace J n)) (statements_in (effects_in ms 0 ms))) (sym count)
           (r.statements (IsPlace J r.last.index) covers);
       words_fit = subst (λ n. All (ValueFits (IsPlace J n)) (values_in (effects_in ms 0 ms))) (sym count) (r.values (IsPlace J r.last.index) covers);
+      distinct = apart;
     }

@@ -19,6 +19,7 @@ without_input s h = record {
   labels_fit = h.labels_fit;
   statements_fit = h.statements_fit;
   words_fit = h.words_fit;
+  distinct = h.distinct;
 }
 
 module _ (ms : List ModuleValue) (l : Listing) (named : Labels) (h : IsListingOfAll ms l) (same : named ≡ labels_in 0 ms) where

@@ -1,8 +1,7 @@
 -- What texts join as.
+pub use Rattle.mx_source.specs.Names.{AreApart}
 use Rattle.std.specs.Prelude.{◌≡◌, ℕ, ◌+◌, List, [], ◌∷◌, ◌++◌, map, codes, Option, Some, None, if◌then◌else◌}
 use Rattle.std.specs.Fmt.{decimal}
-use Rattle.std.specs.List.{IsDistinct}
-use Rattle.std.specs.Str.{bytes_eq}
 use Rattle.mx_source.specs.declared.Label.{Label}
 use Rattle.mx_source.specs.SourceValue.{SourceValue}
 use Rattle.mx_lines.specs.declared.Fault.{Fault}
@@ -91,10 +90,6 @@ program ms =
       labels = labels_in 0 ms;
       input = input_in effects;
     }
-
--- no two of these labels have one name
-abbrev pub AreApart : Labels → Type 0
-AreApart labels = IsDistinct bytes_eq (map (λ (p : List ℕ × Label). p.0) labels)
 
 -- modules without faults make this source
 pub record JoinsModules (ms : List ModuleValue) (source : SourceValue) : Type 0 where

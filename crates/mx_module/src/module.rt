@@ -6,9 +6,10 @@ ghost use Rattle.mx_module.specs.ModuleView.{text_bytes, IsShort};
 use crate::exports::Exports;
 use crate::link::Link;
 use crate::plain::{Parts, parts_of};
+use indexmap::IndexMap;
 use mx_asm::{Definitions, Listing, Position, Section, define_all, read_lines};
 use mx_lines::{AsmError, Labels, lines_of};
-use mx_source::{Label, LabelTable};
+use mx_source::{Label, Name};
 use std::alloc::{AllocError, Global};
 use std::marker::Model;
 
@@ -37,6 +38,7 @@ impl<'a> Model for Module<'a> {
 impl<'a> Module<'a> {
     ghost use Rattle.std.specs.Prelude.{◌≡◌, ◌+◌, ◌≤◌, ◌<◌, ◌^◌, [], length, map, replicate, IfOk, IfErr, IfSome, Option};
     ghost use Rattle.mx_asm.specs.Faults.{first_fault};
+    ghost use Rattle.mx_source.specs.Names.{named_labels};
     ghost use Rattle.mx_lines.specs.LabelTable.{IsNear};
     ghost use Rattle.mx_asm.specs.Listings.{IsListingOf, IsRefusal};
     ghost use Rattle.mx_lines.specs.Operands.{label_named};
@@ -106,8 +108,8 @@ impl<'a> Module<'a> {
     }
 
     /// Its labels, in order.
-    pub fn named(&self) -> &LabelTable
-        ensures { result.now ≡ self.now.labels }
+    pub fn named(&self) -> &IndexMap<Name, Label>
+        ensures { named_labels result.now.entries ≡ self.now.labels }
     {
         self.labels.table()
     }

@@ -1,9 +1,13 @@
 //! The labels of a program, under their names there.
 ghost use Rattle.std.specs.Prelude.{◌≡◌, ◌≤◌, ◌<◌, ◌++◌, length, map, IfOk, OnOk};
+ghost use Rattle.mx_source.specs.Names.{named_labels};
 ghost use Rattle.mx_module.specs.Joined;
+ghost use Rattle.mx_module.specs.Joined.{AreApart};
 
 use crate::module::Module;
-use mx_source::LabelTable;
+use indexmap::IndexMap;
+use mx_lines::add_named;
+use mx_source::{Label, Name};
 use std::alloc::{AllocError, Global};
 
 /// The name of a label in the program.
@@ -30,26 +34,30 @@ fn add_names(
     alloc: Global,
     own: &Module,
     place: usize,
-    named: &mut LabelTable,
+    named: &mut IndexMap<Name, Label>,
 ) -> Result<(), AllocError>
-    requires { place < 16 }
-    ensures { OnOk result (named.new ≡ named.old ++ map (Joined.renamed own.now place) own.now.labels) }
+    requires few { place < 16 }
+    requires apart { AreApart (named_labels named.old.entries ++ map (Joined.renamed own.now place) own.now.labels) }
+    ensures { OnOk result (named_labels named.new.entries ≡ named_labels named.old.entries ++ map (Joined.renamed own.now place) own.now.labels) }
 {
     let labels = own.named();
     for i in 0..labels.len() {
-        let (name, label) = labels.at(i);
-        let bytes = program_name(alloc, own, place, name)?;
-        named.push(&bytes, label)?;
+        let Some((name, label)) = labels.get_index(i) else {
+            unreachable!();
+        };
+        let bytes = program_name(alloc, own, place, name.bytes())?;
+        add_named(alloc, named, &bytes, *label)?;
     }
     Ok(())
 }
 
 /// The labels of all modules.
-pub fn names_of(alloc: Global, modules: &[Module]) -> Result<LabelTable, AllocError>
-    requires { length modules.now ≤ 16 }
-    ensures { IfOk result (λ m. m ≡ Joined.labels_in 0 modules.now) }
+pub fn names_of(alloc: Global, modules: &[Module]) -> Result<IndexMap<Name, Label>, AllocError>
+    requires few { length modules.now ≤ 16 }
+    requires apart { AreApart (Joined.labels_in 0 modules.now) }
+    ensures { IfOk result (λ m. named_labels m.entries ≡ Joined.labels_in 0 modules.now) }
 {
-    let mut named = LabelTable::new(alloc);
+    let mut named = IndexMap::new(alloc);
     let mut place = 0usize;
     for module in modules {
         add_names(alloc, module, place, &mut named)?;

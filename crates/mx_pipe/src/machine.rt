@@ -85,7 +85,7 @@ impl<C: FetchCache> Pipe<C> {
     }
 
     // The words in IF, RF and ALU move on. Answers where the one in ALU leads at once.
-    fn advance(&mut self, mem: &Reached) -> u32
+    fn move_on(&mut self, mem: &Reached) -> u32
         requires { Tells mem.now self.old.mem }
         ensures state { (m : State) → Commits (code_of_pipe self.old) self.old m → Holds (code_of_pipe self.old) self.new m }
         ensures live { (code : Code) (m : State) → Commits code self.old m → is_some self.new.rf.inst ≡ true → is_live m.rf ≡ true }
@@ -346,7 +346,7 @@ impl<C: FetchCache> Pipe<C> {
         ensures cache { self.new.cache ≡ self.old.cache }
     {
         let reached = self.commit();
-        let target = self.advance(&reached);
+        let target = self.move_on(&reached);
         self.show();
         (reached.signal, target)
     }

@@ -1,5 +1,5 @@
 -- Among rising numbers the next request is the only one that can come in a cycle.
-use Rattle.std.proofs.Common.{◌≡◌, ◌≢◌, ◌<◌, ◌≤◌, ◌+◌, ◌⊎◌, inl, inr, ℕ, zero, suc, true, false, cond, List, length, get_or}
+use Rattle.std.proofs.Common.{◌≡◌, ◌≢◌, ◌<◌, ◌≤◌, ◌+◌, ◌-◌, ◌⊎◌, inl, inr, ℕ, zero, suc, true, false, cond, List, [], ◌∷◌, ◌++◌, length, get_or}
 use Rattle.std.proofs.Common.{refl, arith, ap, ◌∙◌, subst, sym, ⊎_elim}
 use Rattle.std.specs.Prelude.{eqb, nat_lt}
 use Rattle.std.specs.List.Sorted.{IsStrictlyIncreasing}
@@ -9,6 +9,8 @@ use Rattle.std.proofs.lemmas.Grind.{get_or_default_zero}
 use Rattle.std.proofs.lemmas.List.Kept.{AllPairs-from_increasing}
 use Rattle.std.proofs.lemmas.List.Folds.{list_any_at, list_any_none}
 use Rattle.mx_board.specs.RequestFile.{is_wanted}
+use Rattle.mx_turn.specs.Program.{quiet}
+use Rattle.mx_turn.specs.Run.{bits}
 use Rattle.mx_report.specs.Cursor.{met_before, next_at, IsAt}
 use Rattle.mx_report.specs.declared.cursor.TheConstants.{NEVER}
 use Rattle.mx_report.specs.declared.cursor.Cursor.{Cursor}
@@ -107,3 +109,16 @@ module _ (xs : List ℕ) (rising : IsStrictlyIncreasing xs) (cursor : Cursor) (n
 
     pub passed_same : cursor.place ≡ met_before xs (suc n)
     passed_same = at.0 ∙ omega arith ∙ ap (λ b. met_before xs n + cond b 1 0) (sym passed_unwanted)
+
+-- the cycles before the next request have none
+pub skipped : (xs : List ℕ) → IsStrictlyIncreasing xs → (cursor : Cursor) (n : ℕ) → IsAt xs cursor n → (k m : ℕ) → m ≡ n + k → k ≤ cursor.next - n
+    → (bits xs m ≡ quiet (bits xs n) k) × IsAt xs cursor m
+skipped xs rising cursor n at zero m e le = let same : n ≡ m = omega (arith, e) in (sym (ap (bits xs) same), subst (IsAt xs cursor) same at)
+skipped xs rising cursor n at (suc k) zero e le = absurd (omega (arith, e))
+skipped xs rising cursor n at (suc k) (suc m) e le =
+    let before : m ≡ n + k = omega (arith, e) in
+    let earlier = skipped xs rising cursor n at k m before (omega (arith, le)) in
+    let other : cursor.next ≢ m = λ same. absurd (omega (arith, same, le, before)) in (
+      λ i. earlier.0 i ++ passed_unwanted xs rising cursor m earlier.1 other i ∷ [],
+      (passed_same xs rising cursor m earlier.1 other, earlier.1.1),
+    )

@@ -9,7 +9,7 @@ use Rattle.mx_code.specs.Delay.{Code}
 use Rattle.mx_icache.specs.Residency.{resident}
 use Rattle.mx_turn.specs.declared.Cycled.{Cycled}
 use Rattle.mx_turn.specs.Cycle.{Machine, start, is_taken, entered, decided, turned, ended, reached, latched, acted, cycled, answer, acted_answer, after_bits}
-use Rattle.mx_turn.specs.Program.{Program, code_of, memory_of, state_after, answer_after}
+use Rattle.mx_turn.specs.Program.{Program, code_of, memory_of, state_after, answer_after, quiet, quiet_bytes}
 use Rattle.mx_turn.specs.Run.{is_requested, bits, bytes_on, console_after}
 use Rattle.mx_turn.proofs.Steps.{after_one_more}
 use Rattle.mx_report.specs.Trace.{trace_line}
@@ -49,6 +49,15 @@ one_more_byte p m [] request = grind (arith, common_steps)
 one_more_byte p m (b ∷ h) request =
     ap (λ l. option_to_list (answer (code_of p) p.input m b).byte ++ l) (one_more_byte p (cycled resident (code_of p) p.input m b) h request)
     ∙ sym (append_assoc (option_to_list (answer (code_of p) p.input m b).byte) _ _)
+
+-- the console after cycles without a request
+pub quiet_console : (p : Program) (h : List Bool) (k : ℕ) → console_after p (quiet h k) ≡ console_after p h ++ quiet_bytes p h k
+quiet_console p h zero = sym (append-nil (console_after p h))
+quiet_console p h (suc k) =
+    let byte : List ℕ = option_to_list (answer_after p (quiet h k) false).byte in
+    one_more_byte p (start (memory_of p)) (quiet h k) false
+    ∙ ap (λ l. l ++ byte) (quiet_console p h k)
+    ∙ append_assoc (console_after p h) (quiet_bytes p h k) byte
 
 module _ (p : Program) (requests : List ℕ) where
   -- the machine after the first n cycles

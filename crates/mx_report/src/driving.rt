@@ -114,6 +114,43 @@ fn run_cycle<M: Machine>(
     Ok(halted)
 }
 
+// Goes on at once as far as no request comes, with one cycle of the budget left, once the cycles that may have a line are done.
+// Answers the cycle that comes next.
+fn run_ahead<M: Machine>(
+    machine: &mut M,
+    list: &[u32],
+    cursor: &Cursor,
+    cycle: u32,
+    budget: u32,
+    trace: u32,
+    console: &mut Vec<u8>,
+) -> Result<u32, AllocError>
+    requires budget { cycle < budget }
+    requires cycles { M.cycles machine.old ≤ cycle }
+    requires ascending { IsStrictlyIncreasing list.now }
+    requires before { IsAt list.now cursor.now cycle }
+    ensures onward { IfOk result (λ next. cycle ≤ next) }
+    ensures budget { IfOk result (λ next. next < budget) }
+    ensures cycles { IfOk result (λ next. M.cycles machine.new ≤ next) }
+    ensures after { IfOk result (λ next. IsAt list.now cursor.now next) }
+    ensures stands { IfOk result (λ next. (p : Program) → M.stands machine.old p (bits list.now cycle) → M.stands machine.new p (bits list.now next)) }
+    ensures console { IfOk result (λ next. (p : Program) → M.stands machine.old p (bits list.now cycle)
+        → console.old.items ≡ console_after p (bits list.now cycle) → console.new.items ≡ console_after p (bits list.now next)) }
+    ensures going { IfOk result (λ next. (p : Program) → M.stands machine.old p (bits list.now cycle)
+        → (state_after p (bits list.now cycle)).halted ≡ false → (state_after p (bits list.now next)).halted ≡ false) }
+    ensures lines { IfOk result (λ next. min trace next ≡ min trace cycle) }
+{
+    if cycle < trace {
+        return Ok(cycle);
+    }
+    let quiet = cursor
+        .next
+        .min(u64::from(budget - 1))
+        .saturating_sub(u64::from(cycle));
+    let done = machine.advance(quiet, console)?;
+    Ok(cycle + done as u32)
+}
+
 // Runs the machine until it halts or the budget is spent, and answers whether it halted.
 fn run_cycles<M: Machine>(
     alloc: Global,
@@ -135,7 +172,9 @@ fn run_cycles<M: Machine>(
         ((p : Program) → M.stands machine.old p [] → (h : List Bool) × M.stands machine.new p h × (state_after p h ≡ (run_of p list.now budget).last)) }
 {
     let mut cursor = Cursor::start(list);
-    for cycle in 0..budget {
+    let mut cycle = 0;
+    while cycle < budget {
+        cycle = run_ahead(machine, list, &cursor, cycle, budget, trace, console)?;
         if run_cycle(
             alloc,
             machine,
@@ -148,6 +187,7 @@ fn run_cycles<M: Machine>(
         )? {
             return Ok(true);
         }
+        cycle += 1;
     }
     Ok(false)
 }

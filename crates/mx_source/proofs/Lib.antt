@@ -1,3 +1,3 @@
 pub mod Grouped
-pub mod LabelTables
+pub mod Named
 pub mod Printing

@@ -1,5 +1,5 @@
+pub mod Names
 pub mod Labels
-pub mod LabelTable
 pub mod Statements
 pub mod SourceValue
 pub mod SourceView

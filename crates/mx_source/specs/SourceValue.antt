@@ -4,6 +4,7 @@ use Rattle.mx_isa.specs.declared.board.TheConstants.{MAX_STATEMENTS, MAX_DATA_WO
 use Rattle.mx_source.specs.declared.statement.Value.{Value}
 use Rattle.mx_source.specs.declared.statement.Label.{Label}
 use Rattle.mx_source.specs.declared.statement.Statement.{Statement}
+use Rattle.mx_source.specs.Names.{AreApart}
 use Rattle.mx_source.specs.Labels.{LabelFits, IsPlace}
 use Rattle.mx_source.specs.Statements.{StatementFits, ValueFits}
 
@@ -28,3 +29,4 @@ pub record IsSource (s : SourceValue) : Type 0 where
   pub labels_fit : All (λ (p : List ℕ × Label). LabelFits (length s.statements) p.1) s.labels
   pub statements_fit : All (StatementFits (IsPlace s.labels (length s.statements))) s.statements
   pub words_fit : All (ValueFits (IsPlace s.labels (length s.statements))) s.user_data
+  pub distinct : AreApart s.labels

@@ -1,3 +1,4 @@
+use Rattle.mx_source.specs.Names.{named_labels}
 use Rattle.mx_source.specs.SourceValue.{SourceValue}
 use Rattle.mx_source.specs.declared.source.Source.TheInside.{Inside}
 
@@ -7,6 +8,6 @@ source_value s = record {
   statements = s.statements.items;
   lines = s.lines.items;
   user_data = s.user_data.items;
-  labels = s.labels;
+  labels = named_labels s.labels.entries;
   input = s.input;
 }

@@ -3,14 +3,16 @@
 
 mod group;
 mod grouping;
-mod label_table;
+mod laws;
+mod name;
 mod print;
 mod source;
 mod statement;
 mod text;
 
-pub use label_table::LabelTable;
+pub use laws::names_are_their_bytes;
 pub use mx_io::Memory;
 pub use mx_isa::Place;
+pub use name::Name;
 pub use source::Source;
 pub use statement::{Label, Statement, Value, Why};

@@ -1,7 +1,9 @@
 //! The canonical text of a source.
 ghost use Rattle.std.specs.Prelude.{◌≡◌, ◌+◌, ◌<◌, ◌≤◌, ◌||◌, ◌++◌, ◌∷◌, [], length, All, false, IfOk, OnOk, codes};
 ghost use Rattle.std.specs.List.{list_any};
+ghost use Rattle.indexmap.specs.IndexMap.{values};
 ghost use Rattle.mx_isa.specs.declared.board.TheConstants.{DATA_BASE, MAX_DATA_WORDS};
+ghost use Rattle.mx_source.specs.Names.{named_labels};
 ghost use Rattle.mx_source.specs.Labels.{is_data_label};
 ghost use Rattle.mx_source.specs.Statements.{StatementFits, ValueFits};
 ghost use Rattle.mx_source.specs.SourceValue.{IsSource};
@@ -12,7 +14,8 @@ ghost use Rattle.mx_source.specs.Groups.{AreGroups};
 use crate::group::{Group, Section};
 use crate::grouping::groups;
 use crate::text::{Operand, Text};
-use crate::{Label, LabelTable, Source, Statement, Value};
+use crate::{Label, Name, Source, Statement, Value};
+use indexmap::IndexMap;
 use mx_isa::Cond;
 use std::alloc::{AllocError, Global};
 
@@ -67,12 +70,12 @@ fn data_section(
     text: &mut Text,
     places: &[Group],
     words: &[Value],
-    labels: &LabelTable,
+    labels: &IndexMap<Name, Label>,
 ) -> Result<(), AllocError>
     requires few { length words.now ≤ MAX_DATA_WORDS }
     requires fit { All (ValueFits (λ i. i < length places.now)) words.now }
-    requires groups { AreGroups Section.Code labels.now places.now }
-    ensures { OnOk result (text.new ≡ text.old ++ data_text labels.now words.now) }
+    requires groups { AreGroups Section.Code (named_labels labels.now.entries) places.now }
+    ensures { OnOk result (text.new ≡ text.old ++ data_text (named_labels labels.now.entries) words.now) }
 {
     if !has_section(words, labels) {
         return Ok(());
@@ -83,17 +86,17 @@ fn data_section(
 }
 
 /// Whether there are data words or data labels.
-fn has_section(words: &[Value], labels: &LabelTable) -> bool
-    ensures { result ≡ (has_words words.now || list_any (λ p. is_data_label p.1) labels.now) }
+fn has_section(words: &[Value], labels: &IndexMap<Name, Label>) -> bool
+    ensures { result ≡ (has_words words.now || list_any is_data_label (values labels.now)) }
 {
-    !words.is_empty() || has_data_label(labels.values())
+    !words.is_empty() || has_data_label(labels)
 }
 
 /// Whether some label is a data label.
-fn has_data_label(labels: &[Label]) -> bool
-    ensures { result ≡ list_any is_data_label labels.now }
+fn has_data_label(labels: &IndexMap<Name, Label>) -> bool
+    ensures { result ≡ list_any is_data_label (values labels.now) }
 {
-    labels.iter().any(|label| matches!(label, Label::Data(_)))
+    labels.values().any(|label| matches!(label, Label::Data(_)))
 }
 
 /// The data words with their labels, of which the groups are `at`.

@@ -1,7 +1,8 @@
 //! Sources.
 ghost use Rattle.std.specs.Prelude.{◌≡◌, Some, None, IfOk};
 
-use crate::{LabelTable, Statement, Value, print};
+use crate::{Label, Name, Statement, Value, print};
+use indexmap::IndexMap;
 use mx_io::Memory;
 use std::alloc::Global;
 use std::marker::Model;
@@ -16,7 +17,7 @@ pub struct Source {
     statements: Vec<Statement>,
     lines: Vec<u32>,
     user_data: Vec<Value>,
-    labels: LabelTable,
+    labels: IndexMap<Name, Label>,
     input: Option<u32>,
 }
 
@@ -32,20 +33,23 @@ impl Model for Source {
 }
 
 impl Source {
+    ghost use Rattle.mx_source.specs.Names.{named_labels, AreApart};
     ghost use Rattle.mx_source.specs.SourceValue.{SourceValue, IsSource, source_of};
     ghost use Rattle.mx_source.specs.Printed.{printed};
 
     /// The source of exactly these lists, without input. `lines` has the line of each statement,
-    /// counted from 1.
+    /// counted from 1. No two labels have one name, since they are keys of a map.
     pub fn make(
         statements: Vec<Statement>,
         lines: Vec<u32>,
         user_data: Vec<Value>,
-        labels: LabelTable,
+        labels: IndexMap<Name, Label>,
     ) -> Source
-        requires { IsSource (source_of statements.items lines.items user_data.items labels) }
-        ensures { result ≡ source_of statements.items lines.items user_data.items labels }
+        requires { AreApart (named_labels labels.entries) → IsSource (source_of statements.items lines.items user_data.items (named_labels labels.entries)) }
+        ensures { result ≡ source_of statements.items lines.items user_data.items (named_labels labels.entries) }
     {
+        // The map tells here that its keys are different.
+        let _count = labels.len();
         Source {
             statements,
             lines,
@@ -100,8 +104,8 @@ impl Source {
     }
 
     /// The labels, in order of their definitions.
-    pub fn labels(&self) -> &LabelTable
-        ensures value { result.now ≡ self.now.labels }
+    pub fn labels(&self) -> &IndexMap<Name, Label>
+        ensures value { named_labels result.now.entries ≡ self.now.labels }
         ensures source { IsSource self.now }
     {
         &self.labels

@@ -33,11 +33,12 @@ abbrev pub site_of : (Block → Bool) → List Site → Option Site
 site_of test [] = None
 site_of test (s ∷ others) = cond (test s.block) (Some s) (site_of test others)
 
--- item k of a plan is an instruction before the terminator's place
+-- the item is an instruction, and no no-op
 abbrev pub is_op : Option Item → Bool
 is_op (Some (Op k)) = true
 is_op _ = false
 
+-- item k of a plan is an instruction that stands before the terminator's place
 abbrev pub may_copy : Plan → ℕ → Bool
 may_copy plan k = ltb k plan.place && is_op (slice_get plan.items.items k)
 

@@ -1,5 +1,5 @@
 -- What a machine runs, and its state after a list of request bits.
-use Rattle.std.specs.Prelude.{ℕ, Bool, cond, leb, List, Option}
+use Rattle.std.specs.Prelude.{ℕ, zero, suc, Bool, false, cond, leb, List, [], ◌∷◌, ◌++◌, Option, option_to_list}
 use Rattle.mx_isa.specs.declared.board.TheConstants.{CODE_BASE, DATA_BASE}
 use Rattle.mx_isa.specs.Words.{Words}
 use Rattle.mx_code.specs.Delay.{Code, code_from, data_from}
@@ -38,3 +38,13 @@ state_after p h = after_bits resident (code_of p) p.input (start (memory_of p)) 
 -- what the next cycle answers
 abbrev pub answer_after : Program → List Bool → Bool → Cycled
 answer_after p h request = answer (code_of p) p.input (state_after p h) request
+
+-- these request bits, and then those of n cycles without a request
+abbrev pub quiet : List Bool → ℕ → List Bool
+quiet h zero = h
+quiet h (suc n) = quiet h n ++ false ∷ []
+
+-- the bytes that go to the console in n cycles without a request, after these request bits
+abbrev pub quiet_bytes : Program → List Bool → ℕ → List ℕ
+quiet_bytes p h zero = []
+quiet_bytes p h (suc n) = quiet_bytes p h n ++ option_to_list (answer_after p (quiet h n) false).byte

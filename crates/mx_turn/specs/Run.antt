@@ -60,6 +60,6 @@ run_of p requests budget =
       last = state_after p h;
     }
 
--- cycles within which compiled code of n instructions halts under k requests
+-- cycles within which linked code halts under k requests, where its source's meaning halts after n executed statements
 abbrev pub bound : ℕ → ℕ → ℕ
 bound n k = 9 * n + 96 * k + 16

@@ -1,10 +1,11 @@
 //! What a machine is, however it is kept.
-ghost use Rattle.std.specs.Prelude.{◌≡◌, ◌<◌, ◌≤◌, ◌+◌, ◌^◌, ℕ, Bool, List, [], ◌∷◌, ◌++◌};
+ghost use Rattle.std.specs.Prelude.{◌≡◌, ◌<◌, ◌≤◌, ◌+◌, ◌^◌, ℕ, Bool, false, List, [], ◌∷◌, ◌++◌, IfOk};
 ghost use Rattle.mx_isa.specs.declared.board.TheConstants.{DATA_END};
 ghost use Rattle.mx_isa.specs.Words.{reg};
 
 use crate::{Counts, Latches};
 use mx_isa::Reg;
+use std::alloc::AllocError;
 
 /// What a cycle gives: the byte that went to the console, whether an interrupt was taken, whether the machine has
 /// halted, and whether the cycle was stalled. After a halt the answer is no byte, not taken, halted, not stalled.
@@ -16,9 +17,9 @@ pub struct Cycled {
     pub stalled: bool,
 }
 
-/// A machine that runs cycle by cycle. None of its methods takes memory.
+/// A machine that runs cycle by cycle. Of its methods `advance` alone takes memory, for the console.
 pub trait Machine {
-    ghost use Rattle.mx_turn.specs.Program.{Program, state_after, answer_after};
+    ghost use Rattle.mx_turn.specs.Program.{Program, state_after, answer_after, quiet, quiet_bytes};
 
     /// It stands for this program after these request bits.
     ghost stands: { Self → Program → List Bool → Type 0 };
@@ -32,6 +33,21 @@ pub trait Machine {
         ensures answer { (p : Program) (h : List Bool) → stands self.old p h → result ≡ answer_after p h request }
         ensures next { (p : Program) (h : List Bool) → stands self.old p h → stands self.new p (h ++ request ∷ []) }
         ensures cycles { cycles self.new ≤ cycles self.old + 1 };
+
+    /// As many cycles without a request as it does at once, at most `most`, which are those that `cycle` does one by one:
+    /// their bytes go to the console, and it answers how many they are. It does not halt in them. 0 is always right.
+    fn advance(&mut self, most: u64, console: &mut Vec<u8>) -> Result<u64, AllocError>
+        requires { cycles self.old + most ≤ 2 ^ 63 }
+        ensures most { IfOk result (λ n. n ≤ most) }
+        ensures next { IfOk result (λ n. (p : Program) (h : List Bool) → stands self.old p h → stands self.new p (quiet h n)) }
+        ensures console { IfOk result (λ n. (p : Program) (h : List Bool) → stands self.old p h
+            → console.new.items ≡ console.old.items ++ quiet_bytes p h n) }
+        ensures going { IfOk result (λ n. (p : Program) (h : List Bool) → stands self.old p h
+            → (state_after p h).halted ≡ false → (state_after p (quiet h n)).halted ≡ false) }
+        ensures cycles { IfOk result (λ n. cycles self.new ≤ cycles self.old + n) }
+    {
+        Ok(0)
+    }
 
     /// What it has counted.
     fn counts(&self) -> Counts

@@ -33,3 +33,22 @@ fn the_interrupted_mode_is_restored(rt: HostRuntime) -> Result<(), Fail> {
     assert!(rt; psw.current.user && psw.current.interrupts);
     Ok(())
 }
+
+#[test]
+fn the_third_fetch_is_saved_with_its_mark(rt: HostRuntime) {
+    let first = Fetched {
+        address: 4096,
+        squashed: false,
+    };
+    let second = Fetched {
+        address: 4097,
+        squashed: false,
+    };
+    let third = Fetched {
+        address: 4098,
+        squashed: true,
+    };
+    let mut chain = Chain::new();
+    chain.enter(first, second, third);
+    assert_eq!(rt; chain.read(Special::Pc3), 0x8000_1002);
+}

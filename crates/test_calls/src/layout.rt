@@ -2,10 +2,11 @@
 ghost use Rattle.std.specs.Prelude.{◌≡◌, IfOk, length};
 
 use arrayvec::ArrayVec;
+use indexmap::IndexMap;
 use mx_blocks::{Block, Item, Plan};
 use mx_isa::{Cond, Inst, Place, Reg};
 use mx_layout::lay_out;
-use mx_source::{Label, LabelTable, Source, Statement};
+use mx_source::{Label, Name, Source, Statement};
 use mx_validate::Proposer;
 use std::alloc::Global;
 use std::test::Fail;
@@ -62,8 +63,8 @@ fn counts_down(alloc: Global) -> Result<Source, Fail>
         Statement::Halt,
     ]?;
     let lines = vec![in alloc; 1, 2, 3, 4, 5, 6]?;
-    let mut labels = LabelTable::new(alloc);
-    labels.push(b"L", Label::Code(2))?;
+    let mut labels = IndexMap::new(alloc);
+    labels.insert(Name::new(alloc, b"L")?, Label::Code(2))?;
     Ok(Source::make(statements, lines, Vec::new(alloc), labels))
 }
 

@@ -32,6 +32,10 @@ mod link;
 #[cfg(test)]
 mod listing;
 #[cfg(test)]
+mod long_plans;
+#[cfg(test)]
+mod many_requests;
+#[cfg(test)]
 mod meaning_steps;
 #[cfg(test)]
 mod meaning_text;
@@ -45,6 +49,8 @@ mod print;
 mod requests;
 #[cfg(test)]
 mod soak;
+#[cfg(test)]
+mod traces;
 #[cfg(test)]
 mod turns;
 #[cfg(test)]

@@ -1,7 +1,8 @@
 //! The sequential meaning, step by step.
+use indexmap::IndexMap;
 use mx_isa::{Inst, Place, Reg};
 use mx_seq::{Seq, Stepped};
-use mx_source::{LabelTable, Source, Statement, Value};
+use mx_source::{Source, Statement, Value};
 use std::alloc::Global;
 use std::test::Fail;
 
@@ -24,7 +25,7 @@ fn sends_one(alloc: Global) -> Result<Source, Fail> {
     ]?;
     let lines = vec![in alloc; 2, 3, 4]?;
     let user_data = vec![in alloc; Value::Int(7)]?;
-    Ok(Source::make(statements, lines, user_data, LabelTable::new(alloc)).with_input(1))
+    Ok(Source::make(statements, lines, user_data, IndexMap::new(alloc)).with_input(1))
 }
 
 #[test]

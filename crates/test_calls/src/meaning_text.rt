@@ -1,8 +1,9 @@
 //! A source that sends its first input byte, and then jumps by a word.
 use cmd_answer::{Reply, Status};
 use cmd_meaning::meaning_reply;
+use indexmap::IndexMap;
 use mx_isa::{Inst, Reg};
-use mx_source::{LabelTable, Source, Statement};
+use mx_source::{Source, Statement};
 use std::alloc::Global;
 use std::test::Fail;
 
@@ -24,7 +25,7 @@ fn sends_and_jumps(alloc: Global) -> Result<Source, Fail> {
         Statement::JumpReg { a: one },
     ]?;
     let lines = vec![in alloc; 2, 3, 4]?;
-    Ok(Source::make(statements, lines, Vec::new(alloc), LabelTable::new(alloc)).with_input(1))
+    Ok(Source::make(statements, lines, Vec::new(alloc), IndexMap::new(alloc)).with_input(1))
 }
 
 #[test]

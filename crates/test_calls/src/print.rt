@@ -1,6 +1,7 @@
 //! Canonical text.
+use indexmap::IndexMap;
 use mx_isa::{Inst, Op, Reg};
-use mx_source::{Label, LabelTable, Source, Statement, Value};
+use mx_source::{Label, Name, Source, Statement, Value};
 use std::test::Fail;
 
 #[test]
@@ -15,8 +16,8 @@ fn prints_each_part(rt: HostRuntime) -> Result<(), Fail> {
     let statements = vec![in rt.alloc(); Statement::Plain(add), Statement::Halt]?;
     let lines = vec![in rt.alloc(); 1, 2]?;
     let words = vec![in rt.alloc(); Value::Int(7)]?;
-    let mut labels = LabelTable::new(rt.alloc());
-    labels.push(b"word", Label::Data(256))?;
+    let mut labels = IndexMap::new(rt.alloc());
+    labels.insert(Name::new(rt.alloc(), b"word")?, Label::Data(256))?;
     let source = Source::make(statements, lines, words, labels).with_input(1);
     let text = source.print(rt.alloc())?;
     assert_eq!(rt;

@@ -35,10 +35,10 @@ pub struct Ended {
 }
 
 impl Case {
-    /// The words of a command, between single spaces, and no file.
+    /// The words of a command, between single spaces, and no file. Of an empty line there are none.
     pub fn new(alloc: Global, line: &str) -> Result<Case> {
         let mut words = Vec::new(alloc);
-        for word in line.split(" ") {
+        for word in line.split(" ").filter(|it| !it.is_empty()) {
             words.push(String::from_str(alloc, word)?)?;
         }
         Ok(Case {
@@ -90,7 +90,7 @@ impl Case {
     /// Each file holds what it held when the command began.
     pub fn keeps_files(&mut self, alloc: Global) -> Result<bool> {
         for file in self.files.iter() {
-            let now = self.shelf.read(alloc, file.name.as_str(), LIMIT)?;
+            let now = held(alloc, &mut self.shelf, file.name.as_str())?;
             if now.as_slice() != file.bytes.as_slice() {
                 return Ok(false);
             }
@@ -104,6 +104,15 @@ impl Case {
         let bytes = self.shelf.read(alloc, name.as_str(), LIMIT)?;
         Ok(bytes)
     }
+}
+
+/// What a name holds at the end. A read that was to fail may be this one, where the command made fewer: it is made again.
+fn held(alloc: Global, shelf: &mut MemoryShelf, name: &str) -> Result<Vec<u8>> {
+    if let Ok(bytes) = shelf.read(alloc, name, LIMIT) {
+        return Ok(bytes);
+    }
+    let bytes = shelf.read(alloc, name, LIMIT)?;
+    Ok(bytes)
 }
 
 /// The bytes that a text spells in hexadecimal, between blanks and line ends.

@@ -10,6 +10,7 @@ pub enum Kind {
     Runs,
     Failing,
     Built,
+    Joined,
     Images,
     Fronts,
     Long,
@@ -22,10 +23,11 @@ pub enum Kind {
 }
 
 impl Kind {
-    pub const ALL: [Kind; 12] = [
+    pub const ALL: [Kind; 13] = [
         Kind::Runs,
         Kind::Failing,
         Kind::Built,
+        Kind::Joined,
         Kind::Images,
         Kind::Fronts,
         Kind::Long,
@@ -44,6 +46,7 @@ impl Cases for Kind {
             Kind::Runs => "runs.txt",
             Kind::Failing => "failing.txt",
             Kind::Built => "built.txt",
+            Kind::Joined => "joined.txt",
             Kind::Images => "images.txt",
             Kind::Fronts => "fronts.txt",
             Kind::Long => "long.txt",
@@ -62,6 +65,7 @@ impl Cases for Kind {
             Kind::Runs => runs::run(rt, behind(line, " ")?),
             Kind::Failing => runs::failing(rt, behind(line, " ")?),
             Kind::Built => runs::built(rt, line),
+            Kind::Joined => runs::joined(rt, before(line, " -> ")?),
             Kind::Images => images::image(alloc, before(line, " -> ")?),
             Kind::Fronts => images::fronts(rt, before(line, " ")?),
             Kind::Long => images::long(alloc, before(line, " -> ")?),

@@ -19,10 +19,15 @@ fn text_of(alloc: Global, told: &str) -> Result<Vec<u8>> {
     Ok(text)
 }
 
-/// How a command on a source ends that is told as `COMMAND: LINE / COUNT * LINE / ..`.
+/// How a command on a source ends that is told as `COMMAND: LINE / COUNT * LINE / ..`. The name `source` comes last, where the
+/// command does not have it.
 fn ended(alloc: Global, told: &str) -> Result<Ended> {
     let (command, lines) = told.split_once(": ").context("no lines")?;
-    let words = format!(in alloc; "{command} source")?;
+    let words = if command.contains(" source") {
+        String::from_str(alloc, command)?
+    } else {
+        format!(in alloc; "{command} source")?
+    };
     let mut case = Case::new(alloc, words.as_str())?;
     case.add(alloc, "source", text_of(alloc, lines)?.as_slice())?;
     case.run(alloc)

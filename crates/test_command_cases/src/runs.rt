@@ -4,15 +4,15 @@ use anyhow::{Context, Result};
 use mx_command::Status;
 use std::fs;
 use std::rt::Files;
-use test_case_files::before;
+use test_case_files::{before, behind};
 
 /// How a command ends, for the case `STATUS NAME: WORDS`. What it prints stands in `wanted/NAME`, and what it writes
 /// in `wanted/NAME.hex`, where that is there; no other file has changed.
 pub fn run<R: Files + AllocGlobal>(rt: &R, line: &str) -> Result<String> {
     let alloc = rt.alloc();
-    let (name, words) = line.split_once(": ").context("no words")?;
+    let (name, words) = line.split_once(":").context("no words")?;
     let wanted = fs::read(rt, format!(in alloc; "wanted/{name}")?)?;
-    let mut case = Case::stored(rt, words)?;
+    let mut case = Case::stored(rt, words.trim_start())?;
     let ended = case.run(alloc)?;
     let status = ended.status.number();
     let note = if ended.output.written() != wanted.as_slice() {
@@ -32,11 +32,12 @@ pub fn run<R: Files + AllocGlobal>(rt: &R, line: &str) -> Result<String> {
     Ok(format!(in alloc; "{status} {line}{note}")?)
 }
 
-/// How a command ends whose read or write with a number fails, for the case `STATUS NUMBER: WORDS`. Where it is not
-/// done, no file has changed.
+/// How a command ends whose read or write with a number fails, and the first line that it prints, for the case
+/// `STATUS NUMBER: WORDS -> LINE`. Where it is not done, no file has changed.
 pub fn failing<R: Files + AllocGlobal>(rt: &R, line: &str) -> Result<String> {
     let alloc = rt.alloc();
-    let (number, words) = line.split_once(": ").context("no words")?;
+    let told = before(line, " -> ")?;
+    let (number, words) = told.split_once(": ").context("no words")?;
     let mut case = Case::stored(rt, words)?;
     case.fail_at(number.parse::<u64>()?)?;
     let ended = case.run(alloc)?;
@@ -46,7 +47,24 @@ pub fn failing<R: Files + AllocGlobal>(rt: &R, line: &str) -> Result<String> {
     } else {
         ""
     };
-    Ok(format!(in alloc; "{status} {line}{note}")?)
+    let first = match str::from_utf8(ended.output.written())?.lines().next() {
+        Some(first) => first,
+        None => "nothing",
+    };
+    Ok(format!(in alloc; "{status} {told} -> {first}{note}")?)
+}
+
+/// What the run of a program sends that `join` prints of these modules, for the case `MODULES -> BYTES`.
+pub fn joined<R: Files + AllocGlobal>(rt: &R, modules: &str) -> Result<String> {
+    let alloc = rt.alloc();
+    let mut join = Case::stored(rt, format!(in alloc; "join {modules}")?.as_str())?;
+    let program = join.run(alloc)?;
+    let mut run = Case::new(alloc, "run program")?;
+    run.add(alloc, "program", program.output.written())?;
+    let ended = run.run(alloc)?;
+    let report = behind(str::from_utf8(ended.output.written())?, "\nconsole ")?;
+    let sent = before(behind(report, "\n")?, "\n")?;
+    Ok(format!(in alloc; "{modules} -> {sent}")?)
 }
 
 /// Whether `exec` of the image file of a source ends and prints as `run` of the source does with the same options, for

@@ -14,3 +14,12 @@ pub returns-in-Err-Refused : goal.returns-in-Err-Refused
 returns-in-Err-Refused c =
     let here = line_fault c.args.labels.now c.args.bounds.now.end (at_front c.args.section c.args.bounds.now.data_start) [] c.args.line.now in
     found_is 1 _ here c.in-Err-Refused.fault (rw c.in-Err-Refused.field-0-is at c.in-Err-Refused.ensures.refused)
+
+none_is : (number : ℕ) (o : Option Fault) → found_or number o None ≡ None → None ≡ o
+none_is number (Some other) h = cc
+none_is number None h = refl
+
+pub returns-in-Ok : goal.returns-in-Ok
+returns-in-Ok c =
+    none_is 1 (line_fault c.args.labels.now c.args.bounds.now.end (at_front c.args.section c.args.bounds.now.data_start) [] c.args.line.now)
+    c.in-Ok.ensures.read.faultless

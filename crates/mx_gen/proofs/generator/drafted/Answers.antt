@@ -2,6 +2,7 @@ use Rattle.std.proofs.Common.{◌≡◌, ◌+◌, ◌-◌, ◌*◌, ◌%◌, ◌
 use Rattle.mx_gen.specs.Drafts.{finished}
 use Rattle.mx_gen.specs.Generated.{draw, items}
 use Rattle.mx_gen.specs.Sound.{IsSound}
+use Rattle.mx_source.specs.Names.{AreApart}
 use Rattle.mx_source.specs.SourceValue.{IsSource}
 use Rattle.mx_gen.proofs.Sounds.{sound_item, sound_source, items_step, reduced}
 use Rattle.mx_gen.proofs.generator.drafted.Goals as goal
@@ -20,5 +21,7 @@ loop-j-preserved c =
     }
 
 pub finish-requires : goal.finish-requires
-finish-requires c = let j = c.loop-j.j in let few : j ≤ 4000 = omega (arith, c.requires, c.loop-j.auto.j-end) in
-    subst (λ d. IsSource (finished d)) (sym c.in_ok-put.ensures) (sound_source j c.loop-j.draft few c.loop-j.invariant.sound)
+finish-requires c = λ apart.
+    let j = c.loop-j.j in let few : j ≤ 4000 = omega (arith, c.requires, c.loop-j.auto.j-end) in
+    subst (λ d. IsSource (finished d)) (sym c.in_ok-put.ensures)
+    (sound_source j c.loop-j.draft few c.loop-j.invariant.sound (subst (λ d. AreApart d.labels) c.in_ok-put.ensures apart))

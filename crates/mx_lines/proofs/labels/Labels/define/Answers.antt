@@ -1,13 +1,16 @@
-use Rattle.std.proofs.Common.{[], ◌∷◌, length, sym, subst}
-use Rattle.mx_lines.specs.Chains.{slot_of, Chains}
-use Rattle.mx_lines.proofs.Chained.{longer}
+use Rattle.std.proofs.Common.{◌++◌, [], ◌∷◌, sym, ap, ◌∙◌}
+use Rattle.std.proofs.lemmas.List.Elements.{All-push, All-same}
+use Rattle.mx_lines.specs.LabelTable.{IsNear, labels_view}
+use Rattle.mx_lines.specs.Operands.{label_named}
 use Rattle.mx_lines.proofs.labels.Labels.define.Goals as goal
 
-pub link-requires-clause-chains : goal.link-requires-clause-chains
-link-requires-clause-chains c =
-    let index = c.make_room.new.self in
-    let slot = slot_of (length index.heads.items) in
-    let table = c.self.inside.table in
-    let chains = longer slot table ((c.args.name.now, c.args.label) ∷ []) index.heads.items index.earlier.items c.in_ok-make_room.ensures.same.chains in
-    subst (λ n. Chains slot index.heads.items index.earlier.items c.push.new.self n) (sym c.len-place.ensures)
-    (subst (λ es. Chains slot index.heads.items index.earlier.items es (length table)) (sym c.in_ok-push.ensures.ok) chains)
+pub add_named-requires : goal.add_named-requires
+add_named-requires c = ap (λ ls. label_named ls c.args.name.now) c.self.view_is ∙ c.requires.new
+
+pub invariant_of-self-2 : goal.invariant_of-self-2
+invariant_of-self-2 c =
+    All-same (λ p. IsNear p.1) _ _ c.in_ok-add_named.ensures.ok
+    (All-push (λ p. IsNear p.1) (labels_view c.self.inside) (c.args.name.now, c.args.label) c.self.invariant c.requires.near)
+
+pub returns : goal.returns
+returns c = record { ok = c.in_ok-add_named.ensures.ok ∙ ap (λ ls. ls ++ (c.args.name.now, c.args.label) ∷ []) c.self.view_is }

@@ -25,15 +25,15 @@ module _ (g : given.Over) (c : After-show g) (m : Machine) (h : Holds (code_of_p
   commits : Commits code c.commit-reached.new.self n
   commits = c.commit-reached.ensures.state code m h
 
-  moved : Holds code c.advance-target.new.self n
+  moved : Holds code c.move_on-target.new.self n
   moved =
-      subst (λ x. Holds x c.advance-target.new.self n) same
-      (c.advance-target.ensures.state n (subst (λ x. Commits x c.commit-reached.new.self n) (sym same) commits))
+      subst (λ x. Holds x c.move_on-target.new.self n) same
+      (c.move_on-target.ensures.state n (subst (λ x. Commits x c.commit-reached.new.self n) (sym same) commits))
 
 pub returns-clause-state : goal.returns-clause-state
 returns-clause-state g c = λ m h shows.
     c.show.ensures.state (code g c m h) (n g c m h) (moved g c m h)
-    (c.advance-target.ensures.live (code g c m h) (n g c m h) (commits g c m h)) (record { older = shows.older; younger = shows.younger })
+    (c.move_on-target.ensures.live (code g c m h) (n g c m h) (commits g c m h)) (record { older = shows.older; younger = shows.younger })
 
 pub returns-clause-target : goal.returns-clause-target
-returns-clause-target g c = λ m h. c.advance-target.ensures.target (code g c m h) (n g c m h) (commits g c m h)
+returns-clause-target g c = λ m h. c.move_on-target.ensures.target (code g c m h) (n g c m h) (commits g c m h)

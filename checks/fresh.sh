@@ -1,0 +1,76 @@
+#!/bin/sh
+# Types the first commands of README and docs/LAB.md in a fresh clone with nothing kept, for both programs, and tries what goes
+# wrong first: links, blanks in paths, missing tools and files. With the word `proved` also ./mx prove, and with `library` the
+# library: these take half an hour each. By hand, before each hand-in that touches ./mx or a stored run.
+# usage: checks/fresh.sh [proved] [library]
+top=$(CDPATH='' cd -- "$(dirname -- "$0")/.." && pwd -P) || exit 1
+folder=$(mktemp -d) || exit 1
+trap 'rm -rf "$folder"' EXIT
+clone="$folder/a clone"
+git clone -q "$top" "$clone" || exit 1
+failed=0
+
+# Tells whether what was tried ended with the status $2 and with the text $3 in its output.
+tell() {
+    if [ "$status" -eq "$2" ] && grep -qF -- "$3" "$folder/out"; then
+        echo "ok: $1"
+    else
+        echo "WRONG: $1 (status $status)"
+        tail -n 5 "$folder/out"
+        failed=1
+    fi
+}
+
+# Runs a command in the folder $1, and keeps its status and all that it prints.
+run() {
+    at=$1
+    shift
+    (cd "$at" && "$@") >"$folder/out" 2>&1
+    status=$?
+}
+
+began=$(date +%s)
+run "$clone" ./mx run examples/hello.s
+tell 'run in a fresh clone' 0 'cycles 12'
+tell 'it says that it is not proved' 0 './mx prove proves it'
+echo "   the first report after $(($(date +%s) - began)) s"
+run "$clone" ./mx draw examples/countdown.s
+tell 'draw in a fresh clone' 0 'addi r0,#51,r1'
+began=$(date +%s%N)
+run "$clone" ./mx --quick run examples/hello.s
+tell 'the second call' 0 'cycles 12'
+echo "   after $((($(date +%s%N) - began) / 1000000)) ms"
+ln -s "$clone/mx" "$folder/link"
+run "$folder" ./link run "a clone/examples/hello.s"
+tell 'through a link, from another folder, with blanks in the path' 0 'cycles 12'
+run "$clone/examples" ../mx build hello.s new.mxi
+tell 'a file that is not there yet is written where the command was typed' 0 ''
+[ -s "$clone/examples/new.mxi" ] || { echo 'WRONG: new.mxi is not there'; failed=1; }
+run "$clone" ./mx run missing.s
+tell 'a file that is not there' 4 'read fault: source failed'
+run "$clone" ./mx run --budget=5 examples/hello.s
+tell 'an option with =' 3 'cycles 5'
+run "$clone" ./mx run --help
+tell 'help of a command' 0 '--interrupts FILE'
+run "$clone" ./mx
+tell 'no words' 2 'usage: ./mx'
+run "$clone" env PATH=/nowhere /bin/sh ./mx --proved run examples/hello.s
+[ "$status" -ne 0 ] && echo 'ok: without tools it ends with a message' || { echo 'WRONG: without tools'; failed=1; }
+run "$clone" git status --porcelain
+[ -z "$(grep -v new.mxi "$folder/out")" ] && echo 'ok: nothing else was written' || { echo 'WRONG: files were left'; cat "$folder/out"; failed=1; }
+for word in "$@"; do
+    case $word in
+        proved)
+            run "$clone" ./mx prove
+            tell './mx prove' 0 'is done'
+            run "$clone" ./mx --proved run examples/hello.s
+            tell 'the proved program' 0 'cycles 12'
+            ;;
+        library)
+            run "$clone" ./mx library lib
+            tell './mx library' 0 ''
+            [ -s "$clone/lib/libzanderanvil.so" ] || { echo 'WRONG: no library'; failed=1; }
+            ;;
+    esac
+done
+exit "$failed"

@@ -1,0 +1,103 @@
+#!/usr/bin/env python3
+"""The commands of all programs in one table, for `./mx COMMAND --help`, the manual pages and the completions.
+
+usage: tools/commands.py COMMAND
+"""
+import sys
+from typing import NamedTuple
+
+
+class Option(NamedTuple):
+    """An option, what stands behind it, and what it does, with its range and default."""
+    name: str
+    value: str
+    text: str
+
+
+class Command(NamedTuple):
+    """A command, its names, one line of what it does, its options, and what else has to be said."""
+    program: str
+    names: str
+    text: str
+    options: tuple = ()
+    more: str = ""
+
+
+PAGES = {"mx_run": "COMMANDS", "mx_lab": "LAB", "mx_cc": "C"}
+
+BUDGET = Option("--budget", "N", "0 to 100,000,000 cycles (1,000,000)")
+INTERRUPTS = Option("--interrupts", "FILE", "the cycles of requests, one a line, each above the one before (none)")
+INPUT = Option("--input", "FILE", "the bytes that a source with .input reads (none)")
+RUN = (
+    BUDGET,
+    INTERRUPTS,
+    INPUT,
+    Option("--dump", "A", "0 to 65,535: prints data words from this address on (no dump)"),
+    Option("--count", "N", "1 to 65,536 words of the dump (1)"),
+    Option("--trace", "N", "0 to 10,000 cycles, each with a line of its own (0)"),
+)
+
+COMMANDS = {
+    "run": Command("mx_run", "SOURCE", "assembles, links and runs a source, and reports", RUN,
+                   "Ends with 0 where the run halted, 3 where it is out of budget, 1 where the source is refused."),
+    "meaning": Command("mx_run", "SOURCE", "executes a source one statement after the other", (
+        Option("--steps", "N", "0 to 100,000,064 statements (1,000,000)"), INPUT),
+        "Ends with 0 at a halt, 3 where it still runs, 9 where it is stuck."),
+    "list": Command("mx_run", "SOURCE", "lists the linked words, and where each comes from"),
+    "build": Command("mx_run", "SOURCE IMAGE", "writes the linked program as a file"),
+    "exec": Command("mx_run", "IMAGE", "runs such a file", RUN),
+    "debug": Command("mx_run", "SOURCE LABEL", "stops the pipeline each time that it comes to a label", (
+        Option("--stops", "N", "1 to 1,000 stops (1)"),
+        Option("--watch", "A", "256 to 65,535: the data word that each stop shows (256)"),
+        BUDGET, INTERRUPTS, INPUT)),
+    "best": Command("mx_run", "SOURCE", "tells how far the scheduler is from the shortest plans"),
+    "share": Command("mx_run", "FIRST SECOND", "runs two sources on one machine", (BUDGET, INTERRUPTS)),
+    "join": Command("mx_run", "FIRST SECOND ..", "joins 2 to 16 texts to one source"),
+    "migrate": Command("mx_run", "IMAGE NEW", "writes an image file in the newest version"),
+    "gen": Command("mx_run", "SEED COUNT", "prints a generated source",
+                   more="SEED is 0 to 4,294,967,295, COUNT 0 to 4,000."),
+    "soak": Command("mx_run", "SEED COUNT", "runs a generated source under a thousand interrupts",
+                    more="SEED is 0 to 4,294,967,295, COUNT 0 to 4,000."),
+    "draw": Command("mx_lab", "SOURCE", "draws a run by its cycles", (
+        Option("--as", "FORM", "text, svg, html, kanata or vcd (text)"),
+        Option("--from", "N", "0 to 100,000,000: the first cycle that is drawn (0)"),
+        Option("--cycles", "N", "1 to 100,000 cycles (64)"),
+        BUDGET, INTERRUPTS, INPUT)),
+    "check": Command("mx_lab", "SOURCE", "tells every faulty line of a source, and what is wrong with it"),
+    "profile": Command("mx_lab", "SOURCE", "tells what each line of a source costs in a run", (BUDGET, INTERRUPTS, INPUT)),
+    "compare": Command("mx_lab", "SOURCE", "compares what four schedulers make of a source", (BUDGET, INPUT)),
+    "plans": Command("mx_lab", "SOURCE FILE", "runs a source by the plans of a scheduler of one's own", (BUDGET, INTERRUPTS, INPUT)),
+    "cc": Command("mx_cc", "FILE.c .. -o SOURCE", "compiles with gcc, and translates to a source",
+                  more="Options before the files are gcc's; without -O0, -O1, -O3 or -Os it is -O2. It needs the Debian package gcc-mips-linux-gnu."),
+    "c": Command("mx_cc", "FILE.c", "compiles with gcc at -O2, and runs it", RUN,
+                 "The options stand behind the file. It needs the Debian package gcc-mips-linux-gnu."),
+    "translate": Command("mx_cc", "FILE.s ..", "translates a compiler's assembly for MIPS-I", (
+        Option("-o", "SOURCE", "the file that is written (standard output)"),)),
+}
+
+
+def help_of(name):
+    """Returns the help of a command: its words, its options with their ranges and defaults."""
+    command = COMMANDS[name]
+    lines = [f"{name} {command.names}: {command.text}", "", f"usage: ./mx {name} {'[OPTIONS] ' if command.options else ''}{command.names}"]
+    if command.options:
+        wide = max(len(f"{it.name} {it.value}") for it in command.options)
+        lines += ["", "options (and what holds without them):"]
+        lines += [f"  {f'{it.name} {it.value}':{wide}}  {it.text}" for it in command.options]
+    if command.more:
+        lines += ["", command.more]
+    page = PAGES[command.program]
+    end = "" if command.program == "mx_cc" else "; `--` ends the options"
+    return "\n".join([*lines, "", f"docs/{page}.md has the whole of it{end}."])
+
+
+def main(words):
+    if len(words) != 1 or words[0] not in COMMANDS:
+        print(f"{__doc__.strip()}\n\n{', '.join(COMMANDS)}", file=sys.stderr)
+        return 2
+    print(help_of(words[0]))
+    return 0
+
+
+if __name__ == "__main__":
+    sys.exit(main(sys.argv[1:]))

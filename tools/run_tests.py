@@ -1,0 +1,96 @@
+#!/usr/bin/env python3
+"""Runs all tests and stored cases without proofs and without wrong bodies, for those who change code: the gate stays `rt ci`.
+
+usage: tools/run_tests.py [CRATE ..]      without names: each program that has stored output, and each crate with tests
+
+A program is built without its proof (tools/unproved.py), and run as the gate runs it: in a folder that holds the files of its
+folder data/, with the words of its file args and the bytes of stdin, and what it prints and its status have to be the stored ones.
+"""
+import concurrent.futures
+import os
+import re
+import shutil
+import subprocess
+import sys
+import tempfile
+import time
+
+import unproved
+
+TOP = os.path.dirname(os.path.dirname(os.path.abspath(__file__)))
+LIMIT = 120
+
+
+def read(path, otherwise=""):
+    """Returns the text of a file, or something else where it is not there."""
+    try:
+        with open(path, "rb") as it:
+            return it.read()
+    except FileNotFoundError:
+        return otherwise.encode()
+
+
+def has_tests(crate):
+    """Tells whether a crate has #[test] functions."""
+    folder = f"{TOP}/crates/{crate}/src"
+    return any(b"#[test]" in read(f"{at}/{it}") for at, _, files in os.walk(folder) for it in files)
+
+
+def run_tests(crate):
+    """Runs the #[test] functions of a crate, and returns what is wrong."""
+    words = ["rt", "try", "--test", "--seconds", "300"]
+    said = subprocess.run(words, cwd=f"{TOP}/crates/{crate}", stdin=subprocess.DEVNULL, capture_output=True, text=True, errors="replace")
+    return "" if said.returncode == 0 else (said.stdout + said.stderr)[-2000:]
+
+
+def run_program(crate):
+    """Builds and runs a program on its stored words, and returns what is wrong."""
+    folder = f"{TOP}/crates/{crate}"
+    with tempfile.TemporaryDirectory(prefix="mx-test-") as at:
+        if unproved.main(crate, f"{at}/program"):
+            return "it does not compile"
+        os.mkdir(f"{at}/run")
+        if os.path.isdir(f"{folder}/data"):
+            shutil.copytree(f"{folder}/data", f"{at}/run", dirs_exist_ok=True)
+        words = read(f"{folder}/args").decode().splitlines()
+        ran = subprocess.run([f"{at}/program", *words], cwd=f"{at}/run", input=read(f"{folder}/stdin"), capture_output=True, timeout=LIMIT)
+    wanted = int(read(f"{folder}/status", "0"))
+    if ran.returncode != wanted:
+        return f"status {ran.returncode} for {wanted}\n{ran.stdout.decode(errors='replace')[-1500:]}{ran.stderr.decode(errors='replace')[-500:]}"
+    if ran.stdout != read(f"{folder}/stdout"):
+        return f"other output:\n{ran.stdout.decode(errors='replace')[-1500:]}"
+    return ""
+
+
+def work(crate):
+    """Runs one crate's tests or program, and returns its name, what is wrong, and how long it took."""
+    began = time.monotonic()
+    try:
+        wrong = run_tests(crate) if has_tests(crate) else run_program(crate)
+    except (OSError, subprocess.SubprocessError) as error:
+        wrong = str(error)
+    return crate, wrong, time.monotonic() - began
+
+
+def crates():
+    """Returns the crates that have tests, and the programs that measure nothing."""
+    names = re.findall(r"(?m)^([a-z_0-9]+)[ :]", read(f"{TOP}/crates.txt").decode())
+    programs = [it for it in names if os.path.exists(f"{TOP}/crates/{it}/src/main.rt") and not it.startswith("bench_")]
+    return [it for it in names if it in programs or has_tests(it)]
+
+
+def main(names):
+    failed = 0
+    with concurrent.futures.ThreadPoolExecutor(os.cpu_count()) as pool:
+        for done in concurrent.futures.as_completed([pool.submit(work, it) for it in names or crates()]):
+            crate, wrong, seconds = done.result()
+            print(f"{'FAIL' if wrong else 'ok  '} {crate} ({seconds:.0f} s)", flush=True)
+            if wrong:
+                failed += 1
+                print(wrong, flush=True)
+    print(f"{failed} failed" if failed else "all as stored; nothing here is proved: that is rt ci")
+    return 1 if failed else 0
+
+
+if __name__ == "__main__":
+    sys.exit(main(sys.argv[1:]))
