@@ -3,10 +3,11 @@
 #include <stdio.h>
 #include <string.h>
 
-/* The two words are no part of any object. */
+/* The word is no part of any object. */
 #pragma GCC diagnostic ignored "-Warray-bounds"
 #define CONSOLE (*(volatile int *) 1020)
-#define INPUT (*(volatile int *) 1016)
+
+int _take_input(void);          /* of system.s: the next byte of the input, or EOF */
 
 #define NOTHING (-2)            /* in place of a character that was given back */
 
@@ -19,11 +20,11 @@ static FILE input = {NOTHING, 0}, console = {NOTHING, 0}, messages = {NOTHING, 0
 FILE *const stdin = &input, *const stdout = &console, *const stderr = &messages;
 int errno;
 
-/* The one function that takes a byte of the input: all others call it. */
+/* The one function that takes bytes of the input: all others call it. */
 int getchar(void) {
     int c = input.returned;
     if (c == NOTHING)
-        c = INPUT;
+        c = _take_input();
     input.returned = NOTHING;
     if (c == EOF)
         input.has_ended = 1;

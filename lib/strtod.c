@@ -24,6 +24,7 @@ struct reading {
     uint64_t significand;
     int power;
     int is_negative, is_infinite, is_nan;
+    int is_rounded;             /* it is not what the text says */
 };
 
 static int begins_with(const char *text, const char *word) {
@@ -105,6 +106,7 @@ static void to_binary(struct decimal *number, const struct format *format, struc
         power = format->least;
     }
     read->significand = whole_of(number);
+    read->is_rounded = number->past > WHOLE_LIMBS;
     read->significand += goes_up(number, read->significand);
     read->power = power;
     read->is_infinite = power + format->bits + (int) (read->significand >> format->bits) > format->largest;
@@ -131,9 +133,9 @@ static const char *read_decimal(const char *text, const struct format *format, s
         memset(&number, 0, sizeof number);
         take_digits(&number, first, end, top);
         to_binary(&number, format, read);
+    } else {
+        read->is_rounded = 1;
     }
-    if (read->is_infinite || read->significand == 0)
-        errno = ERANGE;
     return at;
 }
 
@@ -152,6 +154,7 @@ static void round_binary(const struct format *format, struct reading *read, uint
         uint64_t trace = dropped > 63 ? 0 : significand >> (dropped - 1) >> 1;
         uint64_t rest = dropped > 63 ? significand != 0 : significand - (trace << dropped), half = 1ull << (dropped > 63 ? 62 : dropped - 1);
         significand = trace + (rest > half || (rest == half && trace & 1));
+        read->is_rounded = rest != 0;
         power += dropped;
     }
     read->significand = significand;
@@ -179,8 +182,6 @@ static const char *read_hex(const char *text, const struct format *format, struc
     }
     power += read_power(&at, 'p');
     round_binary(format, read, significand, power);
-    if (read->is_infinite || (significand && !read->significand))
-        errno = ERANGE;
     return at;
 }
 
@@ -188,8 +189,18 @@ static int begins_number(const char *text) {
     return isdigit(*text) || (*text == '.' && isdigit(text[1]));
 }
 
+/* Passes letters and digits in parentheses, which a NaN may have. */
+static const char *behind_nan(const char *text) {
+    if (*text != '(')
+        return text;
+    const char *at = text + 1;
+    while (isalnum(*at) || *at == '_')
+        at++;
+    return *at == ')' ? at + 1 : text;
+}
+
 static struct reading read_floating(const char *text, char **end, const struct format *format) {
-    struct reading read = {0, 0, 0, 0, 0};
+    struct reading read = {0, 0, 0, 0, 0, 0};
     const char *at = text;
     while (isspace(*at))
         at++;
@@ -197,16 +208,21 @@ static struct reading read_floating(const char *text, char **end, const struct f
     if (*at == '-' || *at == '+')
         at++;
     if (begins_with(at, "inf")) {
-        read.is_infinite = 1;
         text = at + (begins_with(at, "infinity") ? 8 : 3);
     } else if (begins_with(at, "nan")) {
         read.is_nan = 1;
-        text = at + 3;
+        text = behind_nan(at + 3);
     } else if (begins_with(at, "0x") && (isxdigit(at[2]) || (at[2] == '.' && isxdigit(at[3])))) {
         text = read_hex(at + 2, format, &read);
     } else if (begins_number(at)) {
         text = read_decimal(at, format, &read);
+    } else {
+        read.is_negative = 0;
     }
+    int is_subnormal = !read.is_infinite && !(read.significand >> (format->bits - 1));
+    if (read.is_infinite || (read.is_rounded && is_subnormal))
+        errno = ERANGE;
+    read.is_infinite |= begins_with(at, "inf");
     if (end)
         *end = (char *) text;
     return read;

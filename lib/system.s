@@ -1,7 +1,7 @@
- # What C cannot say: the end of the program, and jumps out of functions. It is written as gcc writes assembly, since
- # the translator reads both alike. A break ends the program, and register 2 then tells its status. A jmp_buf is the
- # number of its slot in jump.c, the stack pointer, the frame pointer and registers 16 to 21, a word each (22 and 23 are
- # the translator's). A place of code is only stored, loaded and jumped to.
+ # What C cannot say: the end of the program, a byte of the input, and jumps out of functions. It is written as gcc
+ # writes assembly, since the translator reads both alike. A break ends the program, and register 2 then tells its
+ # status. A jmp_buf is the number of its slot in jump.c, the stack pointer, the frame pointer and registers 16 to 21, a
+ # word each (22 and 23 are the translator's). A place of code is only stored, loaded and jumped to.
 	.text
 
 	.align	2
@@ -16,6 +16,20 @@ _Exit:
 	break
 	.end	_Exit
 	.size	_Exit, .-_Exit
+
+ # A source has input where a load names the input's address, so the address stands here as a number.
+	.align	2
+	.globl	_take_input
+	.ent	_take_input
+	.type	_take_input, @function
+_take_input:
+	.frame	$sp,0,$31
+	.mask	0x00000000,0
+	.fmask	0x00000000,0
+	lw	$2,1016($0)
+	jr	$31
+	.end	_take_input
+	.size	_take_input, .-_take_input
 
 	.align	2
 	.globl	setjmp
