@@ -62,7 +62,7 @@ def try_drawn(job):
         with open(f'{base}.c', 'wb') as file:
             file.write(done.stdout)
         cprograms.compile_native(f'{base}.c', f'{base}.native', [CSMITH_HEADERS])
-        wanted = cprograms.run_native(f'{base}.native', b'', 5)
+        wanted = cprograms.run_native(f'{base}.native', b'', 3)
         told = try_at(folder, f'drawn{seed}', f'{base}.c', level, None, wanted, [CSMITH_HEADERS])
     except Fault as fault:
         return None if fault.is_passed_over else False, f'{"passed over" if fault.is_passed_over else "FAILED"}: {name}: -O{level} {fault}'

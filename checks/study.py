@@ -26,9 +26,11 @@ class Study:
         self.name = name
         self.plans = {}         # the rows of `compare`: words, no-ops, cycles
         self.run = {}           # the counts of `run`
+        self.own = {'words': 0, 'no-ops': 0}
         self.branch_slots = {'before': 0, 'copies': 0, 'no-ops': 0}
         self.load_slots = {'filled': 0, 'no-ops': 0}
         self.together = []      # the last row of `profile`
+        self.cycles_of = {'own': 0, 'routines': 0, 'library': 0}
         self.gcc = {}           # of each filler: words, no-ops, slots
 
 
@@ -37,25 +39,42 @@ def text_of(words):
     return done.stdout.decode(errors='replace')
 
 
-def statement_words(source):
-    """The mnemonic of each line of a source."""
-    found = {}
+def group_of(label, own, group):
+    """Whose the statements behind a label are, if those before it are of `group`: of the example's own functions, of the
+    translator's routines for products, quotients and shifts, or of the library."""
+    if re.match(r'(L\w*\.\d+|s\.\d+|_\.s.*)$', label):
+        return group            # within a function
+    return 'own' if label.split('..')[0] in own else 'routines' if label.startswith('m.') else 'library'
+
+
+def statements_of(source, own):
+    """The mnemonic of each line of a source, and whether it is of one of the example's own functions."""
+    found, group = {}, 'library'
     with open(source) as file:
         for number, line in enumerate(file, 1):
-            rest = re.sub(r'^\s*([\w.]+:\s*)*', '', line.split(';')[0]).split()
+            line = line.split(';')[0]
+            for label in re.findall(r'([\w.]+):', line):
+                group = group_of(label, own, group)
+            rest = re.sub(r'^\s*([\w.]+:\s*)*', '', line).split()
             if rest:
-                found[str(number)] = rest[0].lower()
+                found[str(number)] = rest[0].lower(), group == 'own'
     return found
 
 
-def count_slots(study, source):
-    """What stands in the slots, by the listing."""
-    mnemonics = statement_words(source)
+def count_slots(study, source, own):
+    """What the example's own functions hold, and what stands in their slots, by the listing."""
+    statements = statements_of(source, own)
     kinds = [line.split()[2] for line in text_of([RUN, 'list', source]).split('\n')
              if re.match(r'[0-9a-f]{8} [0-9a-f]{8} (\+?\d+|-)$', line)]
+    was_own = False
     for i, kind in enumerate(kinds):
-        mnemonic = mnemonics.get(kind.lstrip('+'))
-        if mnemonic in TRANSFERS and not kind.startswith('+'):
+        mnemonic, is_own = statements.get(kind, ('', was_own))
+        was_own = is_own
+        if not is_own:
+            continue
+        study.own['words'] += 1
+        study.own['no-ops'] += kind == '-'
+        if mnemonic in TRANSFERS:
             for slot in kinds[i + 1:i + 1 + SLOTS]:
                 what = 'no-ops' if slot == '-' else 'copies' if slot.startswith('+') else 'before'
                 study.branch_slots[what] += 1
@@ -63,56 +82,44 @@ def count_slots(study, source):
             study.load_slots['no-ops' if kinds[i + 1] == '-' else 'filled'] += 1
 
 
-def read_tables(study, source, given):
+def read_profile(study, text, own):
+    """The cycles of each group of functions, and of all lines together."""
+    group = 'library'
+    for line in text.split('\n'):
+        row = re.match(r' *(\d+) +(\d+) +(\d+) +(\d+) +(\d+)  (.*)$', line)
+        rest = row.group(6) if row else line
+        if row and rest == 'together':
+            study.together = [int(number) for number in row.groups()[:5]]
+            return
+        for label in re.findall(r'([\w.]+):', rest.split(';')[0]):
+            group = group_of(label, own, group)
+        if row:
+            study.cycles_of[group] += int(row.group(2))
+
+
+def read_tables(study, source, given, own):
     words = ['--budget', str(BUDGET), *(['--input', given] if given else [])]
     for line in text_of([LAB, 'compare', source, *words]).split('\n'):
         part = line.split()
         if part and part[0] in PLANS:
             study.plans[part[0]] = {'words': int(part[1]), 'no-ops': int(part[2]), 'cycles': int(part[5])}
-    for line in text_of([LAB, 'profile', source, *words]).split('\n'):
-        if line.endswith('  together'):
-            study.together = [int(word) for word in line.split()[:5]]
+    read_profile(study, text_of([LAB, 'profile', source, *words]), own)
     study.run, _ = cprograms.report([RUN, 'run', source, *words])
 
 
-def bodies(files):
-    """The text of each function and of each other label, by its name."""
-    found, name = {}, None
-    for path in files:
-        with open(path) as file:
-            for line in file:
-                begun = re.match(r'([A-Za-z_][\w.]*):', line)
-                if begun:
-                    name = begun.group(1)
-                    found.setdefault(name, '')
-                elif name and not re.match(r'\s*\.(?!word|4byte)', line):
-                    found[name] += line
-    return found
+def functions_of(assembly):
+    """The names of the functions of an assembly file."""
+    with open(assembly) as file:
+        return set(re.findall(r'^\s*\.ent\s+([\w.]+)', file.read(), re.M))
 
 
-def reached(files):
-    """The functions and data that main reaches."""
-    texts, todo, kept = bodies(files), ['main'], set()
-    while todo:
-        name = todo.pop()
-        if name in kept or name not in texts:
-            continue
-        kept.add(name)
-        todo += re.findall(r'[A-Za-z_][\w.]*', texts[name])
-    return kept
-
-
-def count_disassembly(study, kind, files, kept):
-    """Words, no-ops and slots of the functions that are reached, as the assembler leaves them."""
+def count_disassembly(path):
+    """Words, no-ops and slots of an object file, as the assembler leaves them."""
     counts = {'words': 0, 'no-ops': 0, 'branch': 0, 'branch empty': 0, 'load': 0, 'load empty': 0}
-    for path in files:
-        for part in re.split(r'\n(?=[0-9a-f]{8} <)', text_of(['mips-linux-gnu-objdump', '-d', '--no-show-raw-insn', '-z', path])):
-            named = re.match(r'[0-9a-f]{8} <([^>]*)>:', part)
-            if not named or named.group(1) not in kept:
-                continue
-            words = [line.split('\t')[1].strip() for line in part.split('\n')[1:] if line.count('\t')]
-            count_function(counts, [word.split()[0] for word in words if word])
-    study.gcc[kind] = counts
+    for part in re.split(r'\n(?=[0-9a-f]{8} <)', text_of(['mips-linux-gnu-objdump', '-d', '--no-show-raw-insn', '-z', path])):
+        words = [line.split('\t')[1].strip() for line in part.split('\n')[1:] if line.count('\t')]
+        count_function(counts, [word.split()[0] for word in words if word])
+    return counts
 
 
 def count_function(counts, words):
@@ -127,34 +134,28 @@ def count_function(counts, words):
                 counts[f'{what} empty'] += behind == 'nop'
 
 
-def compile_objects(folder, filler, sources):
-    """C by gcc for MIPS-I, with its own filler or without."""
+def compile_object(folder, filler, source):
+    """The same C by gcc for MIPS-I, with its own filler or without."""
     flags = [flag for flag in cprograms.flags() if flag != '-fno-delayed-branch'] + [filler]
-    files = []
-    for path in sources:
-        files.append(f'{folder}/{filler}.{os.path.basename(path)}.o')
-        done = cprograms.shell([GCC, '-c', *flags, '-nostdinc', '-isystem', f'{LIBRARY}/include', f'-O{LEVEL}', '-w', path, '-o', files[-1]])
-        if done.returncode:
-            raise Fault(done.stderr.decode())
-    return files
+    path = f'{folder}/{filler}.o'
+    done = cprograms.shell([GCC, '-c', *flags, '-nostdinc', '-isystem', f'{LIBRARY}/include', f'-O{LEVEL}', '-w', source, '-o', path])
+    if done.returncode:
+        raise Fault(done.stderr.decode())
+    return path
 
 
-def library_sources():
-    return [f'{LIBRARY}/{name}' for name in sorted(os.listdir(LIBRARY)) if name.endswith(('.c', '.s'))]
-
-
-def study_example(folder, name, library, objects):
+def study_example(folder, name, library):
     study = Study(name)
     source, given = f'{TOP}/examples/c/{name}.c', f'{TOP}/examples/c/{name}.in'
     given = given if os.path.exists(given) else None
     assembly, translated = f'{folder}/{name}.s', f'{folder}/{name}.mx'
     cprograms.compile_to(source, LEVEL, assembly)
     cprograms.translate([assembly, *library], translated)
-    count_slots(study, translated)
-    read_tables(study, translated, given)
-    kept = reached([assembly, *library])
+    own = {f'_{function}' for function in functions_of(assembly)}
+    count_slots(study, translated, own)
+    read_tables(study, translated, given, own)
     for kind, filler in FILLERS.items():
-        count_disassembly(study, kind, compile_objects(folder, filler, [source]) + objects[kind], kept)
+        study.gcc[kind] = count_disassembly(compile_object(folder, filler, source))
     return study
 
 
@@ -177,7 +178,7 @@ def mean(numbers):
 def static_row(study):
     plan, slots, loads = study.plans['copies'], study.branch_slots, study.load_slots
     all_slots, all_loads = sum(slots.values()), sum(loads.values())
-    cells = [f"{plan['words']:,}", f"{plan['no-ops']:,}", f"{percent(slots['before'], all_slots):.0f}",
+    cells = [f"{plan['words']:,}", f"{plan['no-ops']:,}", f"{study.own['words']:,}", f"{study.own['no-ops']:,}", f"{percent(slots['before'], all_slots):.0f}",
              f"{percent(slots['copies'], all_slots):.0f}", f"{percent(slots['no-ops'], all_slots):.0f}",
              f"{percent(loads['filled'], all_loads):.0f}"]
     for kind in ('filled', 'unfilled'):
@@ -192,6 +193,7 @@ def static_row(study):
 def dynamic_row(study):
     cycles = [f"{study.plans[plan]['cycles']:,}" for plan in PLANS]
     parts = [f'{share:.0f}' for share in shares(study)]
+    parts += [f'{percent(study.cycles_of[group], study.together[1]):.0f}' for group in study.cycles_of]
     return (f"| {study.name} | {study.together[0]:,} | {' | '.join(cycles)} | {int(study.run['misses']):,} "
             f"| {int(study.run['squashes']):,} | {' | '.join(parts)} |")
 
@@ -243,6 +245,8 @@ def sums(studies):
         'noops': mean(shares(study)[1] for study in studies),
         'squashed': mean(shares(study)[2] for study in studies),
         'stalls': mean(shares(study)[3] for study in studies),
+        'own': mean(percent(study.cycles_of['own'], study.together[1]) for study in studies),
+        'routines': mean(percent(study.cycles_of['routines'], study.together[1]) for study in studies),
         'cycles': mean(study.plans['copies']['cycles'] / study.together[0] for study in studies),
     }
     for plan in ('list', 'copies', 'best'):
@@ -262,7 +266,7 @@ and linked with the library; what `main` does not reach is left out. Each ran to
 
 ## What it says
 
-- **Branch slots.** Of the two slots behind each branch, call and jump, {before:.0f} % hold an instruction from before it, {copies:.0f} % a copy of
+- **Branch slots.** Of the two slots behind each branch, call and jump of the examples' own functions, {before:.0f} % hold an instruction from before it, {copies:.0f} % a copy of
   one from its target, and {empty:.0f} % a no-op. gcc's own filler has one slot behind each to fill, and fills {gcc_slots:.0f} % of them on the same C.
 - **Load slots.** {loads:.0f} % of the places behind a load hold an instruction that does not need what it loads. gcc's code for MIPS-I, which has the
   same delay, leaves {gcc_loads:.0f} % of them without a no-op.
@@ -272,28 +276,30 @@ and linked with the library; what `main` does not reach is left out. Each ran to
 - **Where the rest goes.** A statement takes {cycles:.2f} cycles. {statements:.0f} % of the cycles execute a statement, {noops:.0f} % a no-op, {squashed:.0f} % a word that a
   branch squashes, and {stalls:.0f} % wait for the instruction cache, which has 512 words. The cache matters most where a program goes round through many
   functions, as {worst} does ({worst_stalls:.0f} %): there no scheduler helps but one that makes the code shorter.
+- **In which functions.** {own:.0f} % of the cycles are those of the example's own functions and {routines:.0f} % those of the routines that make products, quotients and
+  shifts by a register; all others are the library's, most of them printf's and those of floating arithmetic.
 
 ![Where the cycles of each example go](study.svg)
 
 ## Words
 
-The words of the linked program and those of them that are no-ops; what the slots of branches and loads hold, in per cent; and the same C by gcc for
-MIPS-I, as its assembler leaves it, with gcc's filler (`-fdelayed-branch`) and without it: words, no-ops, and with the filler the slots behind
-branches and behind loads that hold no no-op. gcc's words are those of the functions that `main` reaches. Its products, quotients and bytes are one instruction each,
-so the two numbers of words do not tell how good either is.
+The words and the no-ops of the linked program, and of these those of the example's own functions; what the slots of branches and loads hold there,
+in per cent; and the same functions by gcc for MIPS-I, as its assembler leaves them, with gcc's filler (`-fdelayed-branch`) and without it: words,
+no-ops, and with the filler the slots behind branches and behind loads that hold no no-op, in per cent. gcc's products, quotients and bytes are one instruction
+each, so the two numbers of words do not tell how good either is.
 
-| Program | words | no-ops | before | target | empty | loads | gcc words | no-ops | unfilled words | no-ops | gcc slots | gcc loads |
-|---|---|---|---|---|---|---|---|---|---|---|---|---|
+| Program | words | no-ops | own words | own no-ops | before | target | empty | loads | gcc words | no-ops | unfilled words | no-ops | gcc slots | gcc loads |
+|---|---|---|---|---|---|---|---|---|---|---|---|---|---|---|
 """
 
 DYNAMIC = """
 ## Cycles
 
 Statements executed; cycles by the four plans of `compare` (`LAB.md`); misses of the instruction cache and squashes of the run, which is `copies`; and where its
-cycles go, in per cent.
+cycles go, in per cent: by what is done in them, and by whose functions they are.
 
-| Program | statements | padded | list | copies | best | misses | squashes | statements % | no-ops % | squashed % | cache % |
-|---|---|---|---|---|---|---|---|---|---|---|---|
+| Program | statements | padded | list | copies | best | misses | squashes | statements % | no-ops % | squashed % | cache % | own % | routines % | library % |
+|---|---|---|---|---|---|---|---|---|---|---|---|---|---|---|
 """
 
 
@@ -301,10 +307,9 @@ def main():
     studies = []
     with tempfile.TemporaryDirectory() as folder:
         library = cprograms.compile_library(LEVEL, f'{folder}/library')
-        objects = {kind: compile_objects(folder, filler, library_sources()) for kind, filler in FILLERS.items()}
         for file in sorted(os.listdir(f'{TOP}/examples/c')):
             if file.endswith('.c'):
-                studies.append(study_example(folder, file[:-2], library, objects))
+                studies.append(study_example(folder, file[:-2], library))
     with open(f'{TOP}/docs/STUDY.md', 'w') as file:
         file.write(TEXT.format(**sums(studies)))
         file.write(''.join(static_row(study) + '\n' for study in studies) + DYNAMIC)

@@ -12,7 +12,7 @@ static const char *owners[SLOTS];   /* the address of each slot's jmp_buf, or no
 int _jump_places[SLOTS];            /* only the assembly of setjmp and longjmp reads or writes these */
 
 static int is_free(const char *owner, const char *stack) {
-    return !owner || (owner < stack && owner >= _limit - STACK);
+    return !owner || (owner < stack && (uintptr_t) owner >= (uintptr_t) _limit - STACK);
 }
 
 /* The number of the slot for a jmp_buf. */

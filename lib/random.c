@@ -10,7 +10,7 @@
 #define FACTOR 16807
 
 static uint32_t sums[LONG_LAG];
-static int next;                /* the oldest sum's place */
+static int next;                /* where the oldest sum stands */
 static int has_seed;
 
 int rand(void) {
@@ -34,7 +34,7 @@ void srand(unsigned int seed) {
             number += PRIME;
     }
     has_seed = 1;
-    next = 0;
+    next = SHORT_LAG;
     for (int i = 0; i < PASSED; i++)
         rand();
 }

@@ -1,5 +1,5 @@
-/* Sorting and searching. qsort sorts by a heap, so it needs no memory and no deep stack; elements that compare as equal
-   may change places. */
+/* Sorting and searching. qsort merges, so elements that compare as equal stay in their order, as they do by the GNU
+   library. Where no memory is left for that it sorts by a heap, and they may change places. */
 #include <stdint.h>
 #include <stdlib.h>
 #include <string.h>
@@ -33,11 +33,8 @@ static void sink(char *base, size_t at, size_t end, size_t size, comparison *com
     }
 }
 
-void qsort(void *base, size_t count, size_t size, comparison *compare) {
-    char *first = base;
+static void heap_sort(char *first, size_t count, size_t size, comparison *compare) {
     size_t end = count * size;
-    if (count < 2)
-        return;
     for (size_t at = count / 2 * size; at > 0;) {
         at -= size;
         sink(first, at, end, size, compare);
@@ -47,6 +44,35 @@ void qsort(void *base, size_t count, size_t size, comparison *compare) {
         swap(first, first + end, size);
         sink(first, 0, end, size, compare);
     }
+}
+
+/* Sorts both halves, and merges them: the left one waits in `room`. */
+static void merge_sort(char *first, size_t count, size_t size, char *room, comparison *compare) {
+    size_t half = count / 2 * size;
+    char *right = first + half, *end = first + count * size, *left = room, *left_end = room + half;
+    if (count < 2)
+        return;
+    merge_sort(first, count / 2, size, room, compare);
+    merge_sort(right, count - count / 2, size, room, compare);
+    memcpy(room, first, half);
+    while (left < left_end) {
+        char **from = right < end && compare(left, right) > 0 ? &right : &left;
+        memcpy(first, *from, size);
+        *from += size;
+        first += size;
+    }
+}
+
+void qsort(void *base, size_t count, size_t size, comparison *compare) {
+    if (count < 2)
+        return;
+    char *room = malloc(count / 2 * size);
+    if (!room) {
+        heap_sort(base, count, size, compare);
+        return;
+    }
+    merge_sort(base, count, size, room, compare);
+    free(room);
 }
 
 void *bsearch(const void *key, const void *base, size_t count, size_t size, comparison *compare) {
