@@ -266,27 +266,29 @@ and linked with the library; what `main` does not reach is left out. Each ran to
 
 ## What it says
 
-- **Branch slots.** Of the two slots behind each branch, call and jump of the examples' own functions, {before:.0f} % hold an instruction from before it, {copies:.0f} % a copy of
-  one from its target, and {empty:.0f} % a no-op. gcc's own filler has one slot behind each to fill, and fills {gcc_slots:.0f} % of them on the same C.
-- **Load slots.** {loads:.0f} % of the places behind a load hold an instruction that does not need what it loads. gcc's code for MIPS-I, which has the
-  same delay, leaves {gcc_loads:.0f} % of them without a no-op.
+- **Branch slots.** Of the two slots behind each branch, call and jump of the examples' own functions, {before:.0f} % hold an instruction
+  from before it, {copies:.0f} % a copy of one from its target, and {empty:.0f} % a no-op. gcc's own filler has one slot behind each to
+  fill, and fills {gcc_slots:.0f} % of them on the same C.
+- **Load slots.** {loads:.0f} % of the places behind a load hold an instruction that does not need what it loads. gcc's code for MIPS-I,
+  which has the same delay, leaves {gcc_loads:.0f} % of them without a no-op.
 - **Cycles.** Against source order with a no-op in each slot that needs one, the list scheduler saves {saved_list:.1f} % of the cycles, and
   {saved_copies:.1f} % with copies from the target (means over the examples). Shortest plans for blocks of at most eight instructions save
   {best_more:.1f} % more: for these blocks the method of 1983 leaves next to nothing.
-- **Where the rest goes.** A statement takes {cycles:.2f} cycles. {statements:.0f} % of the cycles execute a statement, {noops:.0f} % a no-op, {squashed:.0f} % a word that a
-  branch squashes, and {stalls:.0f} % wait for the instruction cache, which has 512 words. The cache matters most where a program goes round through many
-  functions, as {worst} does ({worst_stalls:.0f} %): there no scheduler helps but one that makes the code shorter.
-- **In which functions.** {own:.0f} % of the cycles are those of the example's own functions and {routines:.0f} % those of the routines that make products, quotients and
-  shifts by a register; all others are the library's, most of them printf's and those of floating arithmetic.
+- **Where the rest goes.** A statement takes {cycles:.2f} cycles. {statements:.0f} % of the cycles execute a statement, {noops:.0f} % a
+  no-op, {squashed:.0f} % a word that a branch squashes, and {stalls:.0f} % wait for the instruction cache, which has 512 words. The cache
+  matters most where a program goes round through many functions, as {worst} does ({worst_stalls:.0f} %): there no scheduler helps but one
+  that makes the code shorter.
+- **In which functions.** {own:.0f} % of the cycles are those of the example's own functions and {routines:.0f} % those of the routines that
+  make products, quotients and shifts by a register; all others are the library's, most of them printf's and those of floating arithmetic.
 
 ![Where the cycles of each example go](study.svg)
 
 ## Words
 
-The words and the no-ops of the linked program, and of these those of the example's own functions; what the slots of branches and loads hold there,
-in per cent; and the same functions by gcc for MIPS-I, as its assembler leaves them, with gcc's filler (`-fdelayed-branch`) and without it: words,
-no-ops, and with the filler the slots behind branches and behind loads that hold no no-op, in per cent. gcc's products, quotients and bytes are one instruction
-each, so the two numbers of words do not tell how good either is.
+The words and the no-ops of the linked program, and of these those of the example's own functions; what the slots of branches and loads hold
+there, in per cent; and the same functions by gcc for MIPS-I, as its assembler leaves them, with gcc's filler (`-fdelayed-branch`) and
+without it: words, no-ops, and with the filler the slots behind branches and behind loads that hold no no-op, in per cent. gcc's products,
+quotients and bytes are one instruction each, so the two numbers of words do not tell how good either is.
 
 | Program | words | no-ops | own words | own no-ops | before | target | empty | loads | gcc words | no-ops | unfilled words | no-ops | gcc slots | gcc loads |
 |---|---|---|---|---|---|---|---|---|---|---|---|---|---|---|
@@ -295,8 +297,8 @@ each, so the two numbers of words do not tell how good either is.
 DYNAMIC = """
 ## Cycles
 
-Statements executed; cycles by the four plans of `compare` (`LAB.md`); misses of the instruction cache and squashes of the run, which is `copies`; and where its
-cycles go, in per cent: by what is done in them, and by whose functions they are.
+Statements executed; cycles by the four plans of `compare` (`LAB.md`); misses of the instruction cache and squashes of the run, which is
+`copies`; and where its cycles go, in per cent: by what is done in them, and by whose functions they are.
 
 | Program | statements | padded | list | copies | best | misses | squashes | statements % | no-ops % | squashed % | cache % | own % | routines % | library % |
 |---|---|---|---|---|---|---|---|---|---|---|---|---|---|---|
