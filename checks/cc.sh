@@ -6,7 +6,7 @@
 #   checks/cc.sh [DRAWN] [NAME ..]     DRAWN programs of csmith (100), the examples that are named (all)
 #
 # It needs the Debian packages gcc-mips-linux-gnu, qemu-user and csmith with libcsmith-dev, and two programs, which are
-# those that ./mx builds unless the environment names others:
+# the proved ones that ./mx builds unless the environment names others:
 #   MX_RUN   the simulator:   MX_RUN run FILE .., MX_RUN meaning FILE ..
 #   MX_CC    the translator:  MX_CC FILE.s .. -o OUT.s
 # CC_JOBS says how many programs are tried side by side (2).
@@ -21,7 +21,7 @@ for program in mips-linux-gnu-gcc qemu-mips csmith python3; do
 done
 for program in "$MX_RUN" "${MX_CC%% *}"; do
     if ! command -v "$program" >/dev/null; then
-        echo "checks/cc.sh: $program is not built: ./mx run examples/hello.s and ./mx cc examples/c/queens.c build it" >&2
+        echo "checks/cc.sh: $program is not built: ./mx prove mx_run mx_cc builds it, and MX_RUN and MX_CC may name those of .mx" >&2
         exit 1
     fi
 done

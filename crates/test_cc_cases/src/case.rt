@@ -16,7 +16,7 @@ const ROOM: usize = 1_048_576;
 const PIECE: usize = 4096;
 
 /// How many statements of a program are executed at most.
-const STEPS: u64 = 3_000_000;
+const STEPS: u32 = 3_000_000;
 
 /// How the command ended on the files that a line names, between single spaces, and what it printed.
 fn translated<R: Files + AllocGlobal>(rt: &R, line: &str) -> Result<(Status, MemorySink)> {
