@@ -51,7 +51,7 @@ fn slices_of(alloc: Global, texts: &[Vec<u8>]) -> Result<Vec<&[u8]>, AllocError>
 
 /// The reply that hands out a source: to a file, or to standard output.
 fn source_reply(alloc: Global, target: Option<&str>, output: Vec<u8>) -> Result<Reply, Memory>
-    ensures source { IfOk result (λ r. MatchOption target
+    ensures source { IfOk result (λ r. MatchOption target.entry
         (reply_answer r ≡ prints Done output.items)
         (λ name. reply_answer r ≡ writes name.now output.items)) }
     ensures status { IfOk result (λ r. HasStatus (reply_answer r)) }
@@ -121,8 +121,8 @@ fn reply_to<S: Shelf>(alloc: Global, words: &[String], shelf: &mut S) -> Result<
 pub fn cc<S: Shelf, W: Sink>(alloc: Global, words: &[String], shelf: &mut S, out: &mut W) -> Status
     ensures unwritten { result ≢ Status.Done → (S.told shelf.new).wrote ≡ (S.told shelf.old).wrote }
 {
-    match reply_to(alloc, words, shelf) {
-        Ok(reply) => finish(reply, shelf, out),
-        Err(_) => Status::Memory,
-    }
+    let Ok(reply) = reply_to(alloc, words, shelf) else {
+        return Status::Memory;
+    };
+    finish(reply, shelf, out)
 }
