@@ -3,7 +3,7 @@
 
 A crate has to list each crate of the repository that it names, and may list only crates that stand above it in the file, which
 begins below. A prefix is a layer: mx_ parts of the toolchain and the machine, law_ laws alone, cmd_ what commands read and
-answer, lab_ the commands for people who look, embed_ the library, test_ and bench_. ALLOWED says which layer may stand on which,
+answer, lab_ the commands for people who look, cc_ the translation of C's assembly, embed_ the library, test_ and bench_. ALLOWED says which layer may stand on which,
 and EXCEPT which crates go beyond it, with the reason in crates.txt.
 
 usage: checks/deps.py
@@ -14,13 +14,14 @@ import sys
 
 TOP = os.path.dirname(os.path.dirname(os.path.abspath(__file__)))
 LINE = re.compile(r"([a-z_0-9]+)(?: staticlib)?:(.*)$")
-LAYERS = ("mx", "law", "cmd", "lab", "embed", "test", "bench")
+LAYERS = ("mx", "law", "cmd", "lab", "cc", "embed", "test", "bench")
 NAMED = re.compile(r"\bRattle\.((?:%s)_[a-z_0-9]+)\.|\b((?:%s)_[a-z_0-9]+)::" % (("|".join(LAYERS),) * 2))
 ALLOWED = {
     "mx": {"mx"},
     "law": {"mx", "law"},
     "cmd": {"mx", "law", "cmd"},
     "lab": {"mx", "law", "cmd", "lab"},
+    "cc": {"mx", "cmd", "cc"},
     "embed": {"mx", "law", "cmd", "embed"},
     "test": set(LAYERS) - {"bench"},
     "bench": set(LAYERS) - {"test"},
@@ -30,8 +31,8 @@ EXCEPT = {
     ("mx_tasks", "law_interrupts"),
     ("law_profile", "lab_profile"),
 }
-# The top call and the two programs stand on all that they call.
-TOPS = {"mx_command": {"law", "cmd"}, "mx_run": {"cmd"}, "mx_lab": {"cmd", "lab"}}
+# The top call and the three programs stand on all that they call.
+TOPS = {"mx_command": {"law", "cmd"}, "mx_run": {"cmd"}, "mx_lab": {"cmd", "lab"}, "mx_cc": {"cmd", "cc"}}
 
 
 def listed():

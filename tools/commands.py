@@ -1,5 +1,5 @@
 #!/usr/bin/env python3
-"""The commands of both programs in one table, for `./mx COMMAND --help`, the manual pages and the completions.
+"""The commands of all programs in one table, for `./mx COMMAND --help`, the manual pages and the completions.
 
 usage: tools/commands.py COMMAND
 """
@@ -22,6 +22,8 @@ class Command(NamedTuple):
     options: tuple = ()
     more: str = ""
 
+
+PAGES = {"mx_run": "COMMANDS", "mx_lab": "LAB", "mx_cc": "C"}
 
 BUDGET = Option("--budget", "N", "0 to 100,000,000 cycles (1,000,000)")
 INTERRUPTS = Option("--interrupts", "FILE", "the cycles of requests, one a line, each above the one before (none)")
@@ -65,6 +67,12 @@ COMMANDS = {
     "profile": Command("mx_lab", "SOURCE", "tells what each line of a source costs in a run", (BUDGET, INTERRUPTS, INPUT)),
     "compare": Command("mx_lab", "SOURCE", "compares what four schedulers make of a source", (BUDGET, INPUT)),
     "plans": Command("mx_lab", "SOURCE FILE", "runs a source by the plans of a scheduler of one's own", (BUDGET, INTERRUPTS, INPUT)),
+    "cc": Command("mx_cc", "FILE.c .. -o SOURCE", "compiles with gcc, and translates to a source",
+                  more="Options before the files are gcc's; without -O0, -O1, -O3 or -Os it is -O2. It needs the Debian package gcc-mips-linux-gnu."),
+    "c": Command("mx_cc", "FILE.c", "compiles with gcc at -O2, and runs it", RUN,
+                 "The options stand behind the file. It needs the Debian package gcc-mips-linux-gnu."),
+    "translate": Command("mx_cc", "FILE.s ..", "translates a compiler's assembly for MIPS-I", (
+        Option("-o", "SOURCE", "the file that is written (standard output)"),)),
 }
 
 
@@ -78,8 +86,9 @@ def help_of(name):
         lines += [f"  {f'{it.name} {it.value}':{wide}}  {it.text}" for it in command.options]
     if command.more:
         lines += ["", command.more]
-    page = "COMMANDS" if command.program == "mx_run" else "LAB"
-    return "\n".join([*lines, "", f"docs/{page}.md has the whole of it; `--` ends the options."])
+    page = PAGES[command.program]
+    end = "" if command.program == "mx_cc" else "; `--` ends the options"
+    return "\n".join([*lines, "", f"docs/{page}.md has the whole of it{end}."])
 
 
 def main(words):

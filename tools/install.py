@@ -14,10 +14,12 @@ import shutil
 import subprocess
 import sys
 
-from commands import COMMANDS
+import commands
 
 TOP = os.path.dirname(os.path.dirname(os.path.abspath(__file__)))
 PROGRAMS = ("mx_run", "mx_lab")
+# What C programs need beside their translator stands in the repository alone.
+COMMANDS = {name: it for name, it in commands.COMMANDS.items() if it.program in PROGRAMS}
 
 
 def mnemonics():
@@ -180,7 +182,7 @@ def texts():
     """Returns the text of each file that is made, by its path below the prefix."""
     with open(f"{TOP}/mx", encoding="utf-8") as it:
         screen = re.search(r"cat <<'END'\n(.*?)\nEND\n", it.read(), re.S).group(1)
-    screen = screen[:screen.index("The programs themselves:")].replace("./mx [--quick | --proved]", "zanderanvil").replace("./mx", "zanderanvil")
+    screen = screen[:screen.index("C programs")].replace("./mx [--quick | --proved]", "zanderanvil").replace("./mx", "zanderanvil")
     files = {
         "bin/zanderanvil": launcher(),
         "share/man/man1/zanderanvil.1": page_of_all(),

@@ -1,0 +1,121 @@
+#!/usr/bin/env python3
+"""cc.py [DRAWN] [NAME ..]: what checks/cc.sh does, which has its head comment."""
+import multiprocessing
+import os
+import sys
+import tempfile
+
+import cprograms
+from cprograms import LEVELS, TOP, Fault
+
+CSMITH = ['--max-funcs', '4', '--max-block-depth', '3', '--no-argc']
+CSMITH_HEADERS = '-I/usr/include/csmith'
+SEEDS = 8                       # inputs of each test of checks/cc
+libraries = {}                  # the library's assembly, by its level
+
+
+def read(path):
+    if not path:
+        return b''
+    with open(path, 'rb') as file:
+        return file.read()
+
+
+def try_at(folder, name, source, level, given, wanted, more=()):
+    """One program at one level."""
+    base = f'{folder}/{name}.{level}'
+    cprograms.compile_to(source, level, f'{base}.s', more)
+    cprograms.translate([f'{base}.s', *libraries[level]], f'{base}.mx')
+    steps, cycles = cprograms.try_source(f'{base}.mx', given, wanted, f'{name} {level}')
+    for end in ('.s', '.mx', '.mx.interrupts'):
+        os.remove(base + end)
+    return f'-O{level} {steps} in {cycles}'
+
+
+def try_example(job):
+    """An example at all levels; a line of what it took."""
+    folder, name, source, inputs = job
+    native, told, is_good = f'{folder}/{name}.native', [], True
+    try:
+        cprograms.compile_native(source, native)
+    except Fault as fault:
+        return False, f'FAILED: {name}: {fault}'
+    for given in inputs:
+        for level in LEVELS if given == inputs[0] else LEVELS[2:3]:
+            try:
+                wanted = cprograms.run_native(native, read(given))
+                told.append(try_at(folder, name, source, level, given, wanted))
+            except Fault as fault:
+                is_good = False
+                told.append(f'-O{level} {fault}')
+    os.remove(native)
+    return is_good, f'{"ok" if is_good else "FAILED"}: {name}: {", ".join(told)}'
+
+
+def try_drawn(job):
+    """A program of csmith, at a level that goes round with its seed."""
+    folder, seed = job
+    level, name = LEVELS[seed % len(LEVELS)], f'csmith {seed}'
+    base = f'{folder}/drawn{seed}'
+    try:
+        done = cprograms.shell(['csmith', '--seed', str(seed), *CSMITH])
+        with open(f'{base}.c', 'wb') as file:
+            file.write(done.stdout)
+        cprograms.compile_native(f'{base}.c', f'{base}.native', [CSMITH_HEADERS])
+        wanted = cprograms.run_native(f'{base}.native', b'', 3)
+        told = try_at(folder, f'drawn{seed}', f'{base}.c', level, None, wanted, [CSMITH_HEADERS])
+    except Fault as fault:
+        return None if fault.is_passed_over else False, f'{"passed over" if fault.is_passed_over else "FAILED"}: {name}: -O{level} {fault}'
+    os.remove(f'{base}.c')
+    os.remove(f'{base}.native')
+    return True, f'ok: {name}: {told}'
+
+
+def examples(folder, names):
+    """The examples with their inputs, and the tests with numbers as theirs."""
+    jobs = []
+    for place in (f'{TOP}/examples/c', f'{TOP}/checks/cc'):
+        for file in sorted(os.listdir(place)):
+            name = file[:-2]
+            if not file.endswith('.c') or names and name not in names:
+                continue
+            inputs = [f'{place}/{name}.in' if os.path.exists(f'{place}/{name}.in') else None]
+            if place.endswith('checks/cc'):
+                inputs = [f'{folder}/{seed}' for seed in range(SEEDS)]
+            label = f'test_{name}' if place.endswith('checks/cc') else name
+            jobs.append((folder, label, f'{place}/{file}', inputs))
+    return jobs
+
+
+def try_all(pool, folder, drawn, names):
+    failures = 0
+    for is_good, line in pool.imap_unordered(try_example, examples(folder, names)):
+        print(line, flush=True)
+        failures += not is_good
+    same, over = 0, 0
+    for is_good, line in pool.imap_unordered(try_drawn, ((folder, seed) for seed in range(1, drawn + 1))):
+        print(line, flush=True)
+        same += is_good is True
+        over += is_good is None
+    if drawn:
+        print(f'csmith: {drawn} programs drawn, {same} the same, {over} passed over, {drawn - same - over} not')
+    return failures + drawn - same - over
+
+
+def main():
+    words = sys.argv[1:]
+    drawn = int(words.pop(0)) if words and words[0].isdigit() else 100
+    with tempfile.TemporaryDirectory() as folder:
+        for level in LEVELS:
+            libraries[level] = cprograms.compile_library(level, f'{folder}/library{level}')
+        for seed in range(SEEDS):
+            with open(f'{folder}/{seed}', 'w') as file:
+                file.write(f'{seed * 7919 + 1}\n')
+        with multiprocessing.Pool(int(os.environ.get('CC_JOBS', '2'))) as pool:
+            failures = try_all(pool, folder, drawn, words)
+    print(f'{failures} failed')
+    return 1 if failures else 0
+
+
+if __name__ == '__main__':
+    sys.exit(main())

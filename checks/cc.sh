@@ -1,0 +1,28 @@
+#!/bin/bash
+# C programs on the pipeline against the same programs under qemu-mips: the examples of examples/c at five levels of
+# optimization, the library's own tests of checks/cc, and programs that csmith draws. Of each the console and the status
+# of `meaning`, of `run`, and of `run` under 200 drawn interrupts have to be what the native program gives.
+#
+#   checks/cc.sh [DRAWN] [NAME ..]     DRAWN programs of csmith (100), the examples that are named (all)
+#
+# It needs the Debian packages gcc-mips-linux-gnu, qemu-user and csmith with libcsmith-dev, and two programs, which are
+# the proved ones that ./mx builds unless the environment names others:
+#   MX_RUN   the simulator:   MX_RUN run FILE .., MX_RUN meaning FILE ..
+#   MX_CC    the translator:  MX_CC FILE.s .. -o OUT.s
+# CC_JOBS says how many programs are tried side by side (2).
+top=$(CDPATH= cd -- "$(dirname -- "$0")/.." && pwd) || exit 1
+export MX_RUN=${MX_RUN:-$top/crates/mx_run/out/mx_run}
+export MX_CC=${MX_CC:-$top/crates/mx_cc/out/mx_cc}
+for program in mips-linux-gnu-gcc qemu-mips csmith python3; do
+    if ! command -v "$program" >/dev/null; then
+        echo "checks/cc.sh: $program is missing: apt-get install gcc-mips-linux-gnu qemu-user csmith libcsmith-dev python3" >&2
+        exit 1
+    fi
+done
+for program in "$MX_RUN" "${MX_CC%% *}"; do
+    if ! command -v "$program" >/dev/null; then
+        echo "checks/cc.sh: $program is not built: ./mx prove mx_run mx_cc builds it, and MX_RUN and MX_CC may name those of .mx" >&2
+        exit 1
+    fi
+done
+exec python3 "$top/checks/cc.py" "$@"

@@ -1,0 +1,81 @@
+//! What is said where texts are not translated.
+
+use cc_lines::{Lines, first_word, label_before, without_comment};
+use cc_translate::{Fault, TranslateError};
+use std::alloc::{AllocError, Global};
+
+/// How many labels may stand in one line.
+const MOST_LABELS: u32 = 256;
+
+/// The mnemonic or directive of the line with a number of a text.
+fn word_of(text: &[u8], number: u32) -> &[u8] {
+    let mut lines = Lines::new(text);
+    for _ in 1..number {
+        if lines.next_line().is_none() {
+            break;
+        }
+    }
+    let mut rest = match lines.next_line() {
+        Some(line) => without_comment(line),
+        None => return &[],
+    };
+    for _ in 0..MOST_LABELS {
+        match label_before(rest) {
+            Some((_, behind)) => rest = behind,
+            None => break,
+        }
+    }
+    first_word(rest)
+}
+
+/// The line for a fault: `FILE:LINE: mnemonic or directive: why`, and the symbol that it is about.
+fn fault_line(
+    alloc: Global,
+    names: &[&str],
+    texts: &[&[u8]],
+    fault: &Fault,
+) -> Result<Vec<u8>, AllocError> {
+    let mut line = Vec::new(alloc);
+    let unit = fault.unit as usize;
+    let number = fault.line;
+    let refusal = fault.refusal;
+    if let Some(name) = names.get(unit) {
+        line.extend_from_slice(name.as_bytes())?;
+    }
+    let place = format!(in alloc; ":{number}: ")?;
+    line.extend_from_slice(place.as_bytes())?;
+    if let Some(text) = texts.get(unit) {
+        line.extend_from_slice(word_of(*text, number))?;
+    }
+    let why = format!(in alloc; ": {refusal}")?;
+    line.extend_from_slice(why.as_bytes())?;
+    if let Some(symbol) = fault.symbol {
+        line.extend_from_slice(b": ")?;
+        line.extend_from_slice(symbol)?;
+    }
+    line.push(b'\n')?;
+    Ok(line)
+}
+
+/// The line for what is wrong, or nothing where memory ran out.
+pub(crate) fn message(
+    alloc: Global,
+    names: &[&str],
+    texts: &[&[u8]],
+    error: &TranslateError,
+) -> Result<Vec<u8>, AllocError> {
+    let text = match *error {
+        TranslateError::Fault(fault) => return fault_line(alloc, names, texts, &fault),
+        TranslateError::NoMain => format!(in alloc; "no file defines main\n")?,
+        TranslateError::Statements(count) => {
+            format!(in alloc; "{count} statements, and a source has at most 20000\n")?
+        }
+        TranslateError::Words(count) => {
+            format!(in alloc;
+                "{count} data words, and a source has at most 65280, 2048 of them for heap and stack\n"
+            )?
+        }
+        TranslateError::Memory => return Err(AllocError),
+    };
+    Ok(text.into_bytes())
+}

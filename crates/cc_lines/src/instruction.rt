@@ -1,0 +1,184 @@
+//! Instructions of MIPS-I, as the assembler of a compiler's output takes them.
+
+/// A general register, by its number from 0 to 31.
+#[derive(Clone, Copy, Debug, PartialEq, Eq)]
+pub struct Register(pub u8);
+
+impl Register {
+    pub const ZERO: Register = Register(0);
+
+    pub const STACK: Register = Register(29);
+
+    pub const FRAME: Register = Register(30);
+
+    pub const LINK: Register = Register(31);
+}
+
+/// What is computed of two words.
+#[derive(Clone, Copy, Debug, PartialEq, Eq)]
+pub enum Operation {
+    Add,
+    Sub,
+    And,
+    Or,
+    Xor,
+    Nor,
+    /// 1 where the first is less than the second as a signed number, else 0.
+    Less,
+    /// The same of unsigned numbers.
+    Lower,
+}
+
+/// The ways to shift a word.
+#[derive(Clone, Copy, Debug, PartialEq, Eq)]
+pub enum Shift {
+    Left,
+    Right,
+    Arithmetic,
+}
+
+/// A second operand.
+#[derive(Clone, Copy, Debug, PartialEq, Eq)]
+pub enum Source {
+    Register(Register),
+    Number(u32),
+}
+
+/// How much of memory a load or a store moves.
+#[derive(Clone, Copy, Debug, PartialEq, Eq)]
+pub enum Width {
+    Byte { signed: bool },
+    Half { signed: bool },
+    Word,
+    /// From the byte to the end of its word: `lwl` and `swl`.
+    Left,
+    /// From the start of the word to the byte: `lwr` and `swr`.
+    Right,
+}
+
+/// Products and quotients, which go to LO and HI.
+#[derive(Clone, Copy, Debug, PartialEq, Eq)]
+pub enum Long {
+    Product { signed: bool },
+    Quotient { signed: bool },
+}
+
+/// The registers of products and quotients.
+#[derive(Clone, Copy, Debug, PartialEq, Eq)]
+pub enum Special {
+    Lo,
+    Hi,
+}
+
+/// When a branch is taken.
+#[derive(Clone, Copy, Debug, PartialEq, Eq)]
+pub enum Condition {
+    Equal,
+    NotEqual,
+    Less,
+    NotLess,
+    Greater,
+    NotGreater,
+    Lower,
+    NotLower,
+    Higher,
+    NotHigher,
+}
+
+impl Condition {
+    /// The condition that holds where this one does not.
+    pub fn opposite(self) -> Condition {
+        match self {
+            Condition::Equal => Condition::NotEqual,
+            Condition::NotEqual => Condition::Equal,
+            Condition::Less => Condition::NotLess,
+            Condition::NotLess => Condition::Less,
+            Condition::Greater => Condition::NotGreater,
+            Condition::NotGreater => Condition::Greater,
+            Condition::Lower => Condition::NotLower,
+            Condition::NotLower => Condition::Lower,
+            Condition::Higher => Condition::NotHigher,
+            Condition::NotHigher => Condition::Higher,
+        }
+    }
+}
+
+/// Where a jump or a call goes.
+#[derive(Clone, Copy, Debug, PartialEq, Eq)]
+pub enum LinkFrom {
+    /// To the symbol of the statement.
+    Symbol,
+    /// To what a register holds.
+    Register(Register),
+}
+
+/// An instruction. Where it names a symbol, that stands beside it, in its statement, and is added to the offset.
+#[derive(Clone, Copy, Debug, PartialEq, Eq)]
+pub enum Instruction {
+    Compute {
+        op: Operation,
+        rd: Register,
+        rs: Register,
+        second: Source,
+    },
+    Shift {
+        op: Shift,
+        rd: Register,
+        rs: Register,
+        by: Source,
+    },
+    Move {
+        rd: Register,
+        rs: Register,
+    },
+    Number {
+        rd: Register,
+        value: u32,
+    },
+    Address {
+        rd: Register,
+        base: Register,
+        offset: u32,
+    },
+    Load {
+        width: Width,
+        rd: Register,
+        base: Register,
+        offset: u32,
+    },
+    Store {
+        width: Width,
+        rs: Register,
+        base: Register,
+        offset: u32,
+    },
+    Long {
+        op: Long,
+        rs: Register,
+        rt: Register,
+    },
+    FromSpecial {
+        special: Special,
+        rd: Register,
+    },
+    ToSpecial {
+        special: Special,
+        rs: Register,
+    },
+    Branch {
+        condition: Condition,
+        rs: Register,
+        second: Source,
+    },
+    Jump(LinkFrom),
+    Call(LinkFrom),
+    Break,
+    Nop,
+}
+
+/// An instruction and the symbol that it names.
+#[derive(Clone, Copy)]
+pub struct Statement<'a> {
+    pub instruction: Instruction,
+    pub symbol: Option<&'a [u8]>,
+}

@@ -1,0 +1,24 @@
+//! Lines of MIPS-I assembly, as a compiler writes it: the labels at the front of a line, and the instruction or the directive
+//! behind them, or why it is not taken.
+#![tactic(auto)]
+
+mod cursor;
+mod directive;
+mod instruction;
+mod line;
+mod mnemonic;
+mod operand;
+mod quoted;
+mod reading;
+mod refusal;
+
+pub use cursor::{Lines, without_comment};
+pub use directive::{Directive, Section};
+pub use instruction::{
+    Condition, Instruction, LinkFrom, Long, Operation, Register, Shift, Source, Special, Statement,
+    Width,
+};
+pub use line::{Line, first_word, label_before, line_read};
+pub use operand::{Values, Word};
+pub use quoted::push_quoted;
+pub use refusal::{LineError, Refusal};

@@ -1,0 +1,166 @@
+//! Operands of instructions, and the values of data directives.
+
+use crate::cursor::{is_named, number, split_at_byte, split_name, trimmed, trimmed_front};
+use crate::instruction::Register;
+use crate::refusal::Refusal;
+
+/// What stands between the commas of an instruction.
+#[derive(Clone, Copy)]
+pub(crate) enum Operand<'a> {
+    Register(Register),
+    Number(u32),
+    /// A symbol with an addend.
+    Symbol(&'a [u8], u32),
+    /// An offset, a symbol perhaps, and a base.
+    Memory(Option<&'a [u8]>, u32, Register),
+}
+
+/// What a data directive may hold: a number, or a symbol with an addend.
+#[derive(Clone, Copy)]
+pub enum Word<'a> {
+    Number(u32),
+    Symbol(&'a [u8], u32),
+}
+
+/// The values of a data directive, one after the other.
+#[derive(Clone, Copy)]
+pub struct Values<'a> {
+    rest: &'a [u8],
+}
+
+/// The names of registers that have one besides their number.
+const NAMED: [(&str, u8); 5] = [("zero", 0), ("sp", 29), ("fp", 30), ("s8", 30), ("ra", 31)];
+
+/// The number of a register's name, in which the `$` is left out.
+fn register_number(name: &[u8]) -> Option<u8> {
+    for (spelling, value) in &NAMED {
+        if name == spelling.as_bytes() {
+            return Some(*value);
+        }
+    }
+    match name {
+        [units @ b'0'..=b'9'] => Some(*units - b'0'),
+        [tens @ b'1'..=b'3', units @ b'0'..=b'9'] => {
+            let value = (*tens - b'0') * 10 + (*units - b'0');
+            if value < 32 { Some(value) } else { None }
+        }
+        _ => None,
+    }
+}
+
+/// Whether a name without its `$` is one of a register that programs may not name.
+fn is_kept_name(name: &[u8]) -> bool {
+    name == b"at".as_slice()
+        || name == b"gp".as_slice()
+        || name == b"k0".as_slice()
+        || name == b"k1".as_slice()
+}
+
+/// Whether a name without its `$` is one of a floating-point register.
+fn is_floating(name: &[u8]) -> bool {
+    match name {
+        [b'f', rest @ ..] => !rest.is_empty() && rest.iter().all(|b| b.is_ascii_digit()),
+        _ => false,
+    }
+}
+
+/// The register that a text spells, if it is none the reason, or nothing where it is no register's name.
+fn register_named(text: &[u8]) -> Option<Result<Register, Refusal>> {
+    let [b'$', name @ ..] = text else {
+        return None;
+    };
+    if is_floating(name) {
+        return Some(Err(Refusal::FloatingPoint));
+    }
+    if is_kept_name(name) {
+        return Some(Err(Refusal::KeptRegister));
+    }
+    match register_number(name) {
+        Some(1) | Some(22..=28) => Some(Err(Refusal::KeptRegister)),
+        Some(value) => Some(Ok(Register(value))),
+        None => None,
+    }
+}
+
+/// The register that a text spells.
+pub(crate) fn register_read(text: &[u8]) -> Result<Register, Refusal> {
+    register_named(text).unwrap_or(Err(Refusal::BadOperands))
+}
+
+/// The addend behind a symbol.
+fn addend_read(text: &[u8]) -> Result<u32, Refusal> {
+    let text = trimmed(text);
+    match text {
+        [] => Ok(0),
+        [b'+', rest @ ..] | [b'-', rest @ ..] => match trimmed_front(rest) {
+            [first, ..] if is_named(*first) && !first.is_ascii_digit() => Err(
+                Refusal::LabelArithmetic,
+            ),
+            _ => number(text).ok_or(Refusal::BadOperands),
+        },
+        _ => Err(Refusal::BadOperands),
+    }
+}
+
+/// The number that a text spells, or the symbol with its addend.
+pub(crate) fn word_read(text: &[u8]) -> Result<Word<'_>, Refusal> {
+    match text {
+        [b'0'..=b'9', ..] | [b'-', ..] | [b'+', ..] => match number(text) {
+            Some(value) => Ok(Word::Number(value)),
+            None => Err(Refusal::BadNumber),
+        },
+        [first, ..] if is_named(*first) => {
+            let (name, rest) = split_name(text);
+            Ok(Word::Symbol(name, addend_read(rest)?))
+        }
+        _ => Err(Refusal::BadOperands),
+    }
+}
+
+/// The operand in memory with this base, before which the text stands.
+fn memory_read(before: &[u8], base: Register) -> Result<Operand<'_>, Refusal> {
+    if before.is_empty() {
+        return Ok(Operand::Memory(None, 0, base));
+    }
+    Ok(match word_read(before)? {
+        Word::Number(offset) => Operand::Memory(None, offset, base),
+        Word::Symbol(name, offset) => Operand::Memory(Some(name), offset, base),
+    })
+}
+
+/// The operand that a text spells.
+pub(crate) fn operand_read(text: &[u8]) -> Result<Operand<'_>, Refusal> {
+    if let Some(register) = register_named(text) {
+        return Ok(Operand::Register(register?));
+    }
+    if let [front @ .., b')'] = text {
+        let (before, inner) = split_at_byte(front, b'(');
+        return memory_read(trimmed(before), register_read(trimmed(inner))?);
+    }
+    Ok(match word_read(text)? {
+        Word::Number(value) => Operand::Number(value),
+        Word::Symbol(name, offset) => Operand::Symbol(name, offset),
+    })
+}
+
+impl<'a> Values<'a> {
+    /// The values that a text holds.
+    pub fn new(text: &'a [u8]) -> Values<'a> {
+        Values { rest: text }
+    }
+
+    /// How many values there are at most.
+    pub fn most(&self) -> usize {
+        self.rest.len()
+    }
+
+    /// The next value, if there is one.
+    pub fn next_value(&mut self) -> Result<Option<Word<'a>>, Refusal> {
+        if self.rest.is_empty() {
+            return Ok(None);
+        }
+        let (first, rest) = split_at_byte(self.rest, b',');
+        self.rest = rest;
+        Ok(Some(word_read(trimmed(first))?))
+    }
+}

@@ -1,0 +1,100 @@
+//! Texts in quotes.
+
+use crate::refusal::{LineError, Refusal};
+
+/// How far a quoted text was read.
+#[derive(Clone, Copy)]
+enum Reading {
+    Outside,
+    Inside,
+    Escaped,
+    /// In an octal number, with its value and how many digits may follow.
+    Octal(u8, u8),
+}
+
+/// The byte that a letter behind `\` stands for.
+fn escape(letter: u8) -> Option<u8> {
+    Some(match letter {
+        b'n' => b'\n',
+        b't' => b'\t',
+        b'r' => b'\r',
+        b'b' => 8,
+        b'f' => 12,
+        b'v' => 11,
+        b'"' | b'\\' => letter,
+        _ => return None,
+    })
+}
+
+/// The byte behind 8 times a number and a digit.
+fn octal(value: u8, digit: u8) -> u8 {
+    value.wrapping_mul(8).wrapping_add(digit.wrapping_sub(b'0'))
+}
+
+/// Where the reading is behind a byte inside quotes.
+fn inside(bytes: &mut Vec<u8>, byte: u8, ended: bool) -> Result<Reading, LineError> {
+    match byte {
+        b'\\' => Ok(Reading::Escaped),
+        b'"' => {
+            if ended {
+                bytes.push(0)?;
+            }
+            Ok(Reading::Outside)
+        }
+        _ => {
+            bytes.push(byte)?;
+            Ok(Reading::Inside)
+        }
+    }
+}
+
+/// Where the reading is behind a byte that follows `\`.
+fn escaped(bytes: &mut Vec<u8>, byte: u8) -> Result<Reading, LineError> {
+    if let b'0'..=b'7' = byte {
+        return Ok(Reading::Octal(octal(0, byte), 2));
+    }
+    match escape(byte) {
+        Some(value) => {
+            bytes.push(value)?;
+            Ok(Reading::Inside)
+        }
+        None => Err(LineError::Refused(Refusal::BadText)),
+    }
+}
+
+/// Where the reading is behind one byte more.
+fn next_reading(
+    bytes: &mut Vec<u8>,
+    reading: Reading,
+    byte: u8,
+    ended: bool,
+) -> Result<Reading, LineError> {
+    match reading {
+        Reading::Outside => match byte {
+            b'"' => Ok(Reading::Inside),
+            b' ' | b'\t' | b',' => Ok(Reading::Outside),
+            _ => Err(LineError::Refused(Refusal::BadText)),
+        },
+        Reading::Inside => inside(bytes, byte, ended),
+        Reading::Escaped => escaped(bytes, byte),
+        Reading::Octal(value, left) => {
+            if left > 0 && matches!(byte, b'0'..=b'7') {
+                return Ok(Reading::Octal(octal(value, byte), left - 1));
+            }
+            bytes.push(value)?;
+            inside(bytes, byte, ended)
+        }
+    }
+}
+
+/// Adds the bytes of quoted texts between commas, each with a byte 0 behind it where they are `ended`.
+pub fn push_quoted(bytes: &mut Vec<u8>, text: &[u8], ended: bool) -> Result<(), LineError> {
+    let mut reading = Reading::Outside;
+    for byte in text {
+        reading = next_reading(bytes, reading, *byte, ended)?;
+    }
+    match reading {
+        Reading::Outside => Ok(()),
+        _ => Err(LineError::Refused(Refusal::BadText)),
+    }
+}

@@ -1,0 +1,57 @@
+//! What functions and data are made of.
+
+use cc_lines::Instruction;
+
+/// A line of a function that matters: a label, a statement, or where the next statements come from.
+#[derive(Clone, Copy)]
+pub(crate) enum Item {
+    /// A label, by the number of its symbol.
+    Label(u32),
+    /// An instruction, the number of the symbol that it names, and its line.
+    Code {
+        instruction: Instruction,
+        symbol: Option<u32>,
+        line: u32,
+    },
+    Location {
+        file: u32,
+        line: u32,
+    },
+}
+
+/// A function: its items are those from `first` to before `end`.
+#[derive(Clone, Copy)]
+pub(crate) struct Function {
+    pub symbol: u32,
+    pub unit: u32,
+    pub first: usize,
+    pub end: usize,
+    /// Whether register 30 is its frame pointer.
+    pub points: bool,
+    pub frame: u32,
+    /// Where register 31 is saved, from the stack pointer on.
+    pub saved_link: Option<u32>,
+    pub kept: bool,
+}
+
+/// A word of data that is a symbol and an addend.
+#[derive(Clone, Copy)]
+pub(crate) struct Reference {
+    pub at: u32,
+    pub symbol: u32,
+    pub addend: u32,
+    pub line: u32,
+}
+
+/// A datum from one label to the next: `size` bytes, of which those that are not held are 0.
+#[derive(Drop)]
+pub(crate) struct Object {
+    pub symbol: u32,
+    pub unit: u32,
+    pub align: u32,
+    pub size: u32,
+    pub bytes: Vec<u8>,
+    pub references: Vec<Reference>,
+    pub address: u32,
+    pub kept: bool,
+}

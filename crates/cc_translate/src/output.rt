@@ -1,0 +1,231 @@
+//! The text of the translation.
+
+use crate::symbols::Symbols;
+use indexmap::IndexMap;
+use itoa::Buffer;
+use std::alloc::{AllocError, Global};
+
+/// The routines that statements call.
+#[derive(Clone, Copy, Debug, PartialEq, Eq)]
+pub(crate) enum Routine {
+    /// The low word of a product.
+    Low,
+    Product,
+    SignedProduct,
+    Quotient,
+    SignedQuotient,
+    ShiftLeft,
+    ShiftRight,
+    ShiftArithmetic,
+}
+
+impl Routine {
+    pub const ALL: [Routine; 8] = [
+        Routine::Low,
+        Routine::SignedProduct,
+        Routine::Product,
+        Routine::SignedQuotient,
+        Routine::Quotient,
+        Routine::ShiftLeft,
+        Routine::ShiftRight,
+        Routine::ShiftArithmetic,
+    ];
+
+    /// Its label.
+    pub fn name(self) -> &'static str {
+        match self {
+            Routine::Low => "m.mul",
+            Routine::Product => "m.multu",
+            Routine::SignedProduct => "m.mult",
+            Routine::Quotient => "m.divu",
+            Routine::SignedQuotient => "m.div",
+            Routine::ShiftLeft => "m.sll",
+            Routine::ShiftRight => "m.srl",
+            Routine::ShiftArithmetic => "m.sra",
+        }
+    }
+}
+
+/// Tables of data that statements read.
+#[derive(Clone, Copy, Debug, PartialEq, Eq)]
+pub(crate) enum Mask {
+    LoadLeft,
+    LoadRight,
+    StoreLeft,
+    StoreRight,
+}
+
+impl Mask {
+    pub const ALL: [Mask; 4] = [
+        Mask::LoadLeft,
+        Mask::LoadRight,
+        Mask::StoreLeft,
+        Mask::StoreRight,
+    ];
+
+    /// Its label.
+    pub fn name(self) -> &'static str {
+        match self {
+            Mask::LoadLeft => "t.lwl",
+            Mask::LoadRight => "t.lwr",
+            Mask::StoreLeft => "t.swl",
+            Mask::StoreRight => "t.swr",
+        }
+    }
+
+    /// Its words.
+    pub fn words(self) -> [u32; 4] {
+        match self {
+            Mask::LoadLeft => [0, 0xff, 0xffff, 0xff_ffff],
+            Mask::LoadRight => [0xffff_ff00, 0xffff_0000, 0xff00_0000, 0],
+            Mask::StoreLeft => [0xffff_ffff, 0xff_ffff, 0xffff, 0xff],
+            Mask::StoreRight => [0xff00_0000, 0xffff_0000, 0xffff_ff00, 0xffff_ffff],
+        }
+    }
+}
+
+/// The text, how many statements it has, and what else it needs.
+#[derive(Drop)]
+pub(crate) struct Output {
+    pub text: Vec<u8>,
+    pub statements: u32,
+    /// The numbers that statements load from data, in order.
+    pub numbers: IndexMap<u32, u32>,
+    /// The addends to the first byte behind all data that statements load from data.
+    pub ends: IndexMap<u32, u32>,
+    pub routines: Vec<Routine>,
+    pub masks: Vec<Mask>,
+    /// How many labels of its own it has.
+    pub labels: u32,
+    /// Whether it reads input.
+    pub input: bool,
+}
+
+impl Output {
+    /// The empty text.
+    pub fn new(alloc: Global) -> Output {
+        Output {
+            text: Vec::new(alloc),
+            statements: 0,
+            numbers: IndexMap::new(alloc),
+            ends: IndexMap::new(alloc),
+            routines: Vec::new(alloc),
+            masks: Vec::new(alloc),
+            labels: 0,
+            input: false,
+        }
+    }
+
+    /// Adds text.
+    pub fn put(&mut self, text: &str) -> Result<(), AllocError> {
+        self.text.extend_from_slice(text.as_bytes())
+    }
+
+    /// Adds a number.
+    pub fn number(&mut self, value: i64) -> Result<(), AllocError> {
+        self.text
+            .extend_from_slice(Buffer::new().format(value).as_bytes())
+    }
+
+    /// Adds text in which each `%` stands for the next of these numbers.
+    fn filled(&mut self, text: &str, numbers: &[i64]) -> Result<(), AllocError> {
+        let mut left = numbers.iter();
+        for byte in text.as_bytes() {
+            if *byte == b'%' {
+                if let Some(value) = left.next() {
+                    self.number(*value)?;
+                }
+            } else {
+                self.text.push(*byte)?;
+            }
+        }
+        Ok(())
+    }
+
+    /// Adds the end of a statement, in which each `%` stands for the next of these numbers.
+    pub fn filled_line(&mut self, text: &str, numbers: &[i64]) -> Result<(), AllocError> {
+        self.filled(text, numbers)?;
+        self.put("\n")?;
+        self.statements = self.statements.saturating_add(1);
+        Ok(())
+    }
+
+    /// Adds a statement, in which each `%` stands for the next of these numbers.
+    pub fn statement(&mut self, text: &str, numbers: &[i64]) -> Result<(), AllocError> {
+        self.put("        ")?;
+        self.filled_line(text, numbers)
+    }
+
+    /// Adds a statement that ends with the name of a symbol and what follows it.
+    pub fn statement_to(
+        &mut self,
+        text: &str,
+        numbers: &[i64],
+        symbols: &Symbols,
+        symbol: u32,
+        behind: &str,
+    ) -> Result<(), AllocError> {
+        self.put("        ")?;
+        self.filled(text, numbers)?;
+        self.name(symbols, symbol)?;
+        self.put(behind)?;
+        self.put("\n")?;
+        self.statements = self.statements.saturating_add(1);
+        Ok(())
+    }
+
+    /// Adds the name that a symbol has in the source: with a `_` before a name of C, and the number of its text behind it
+    /// where it is that text's own.
+    pub fn name(&mut self, symbols: &Symbols, number: u32) -> Result<(), AllocError> {
+        let Some(symbol) = symbols.at(symbols.resolved(number)) else {
+            return Ok(());
+        };
+        let (rest, local) = match symbol.name {
+            [b'$', rest @ ..] => (rest, true),
+            name => (name, false),
+        };
+        if !local {
+            self.put("_")?;
+        }
+        for byte in rest {
+            if *byte == b'$' {
+                self.put(".S.")?;
+            } else {
+                self.text.push(*byte)?;
+            }
+        }
+        if local || symbol.owner != 0 {
+            self.put(if local { "." } else { ".." })?;
+            self.number(i64::from(symbol.owner))?;
+        }
+        Ok(())
+    }
+
+    /// Adds a line with the label of a symbol.
+    pub fn label(&mut self, symbols: &Symbols, symbol: u32) -> Result<(), AllocError> {
+        self.name(symbols, symbol)?;
+        self.put(":\n")
+    }
+
+    /// A new label of its own: its number.
+    pub fn fresh(&mut self) -> u32 {
+        self.labels = self.labels.saturating_add(1);
+        self.labels
+    }
+
+    /// Notes that a routine is called.
+    pub fn need(&mut self, routine: Routine) -> Result<(), AllocError> {
+        if !self.routines.contains(&routine) {
+            self.routines.push(routine)?;
+        }
+        Ok(())
+    }
+
+    /// Notes that a table is read.
+    pub fn need_mask(&mut self, mask: Mask) -> Result<(), AllocError> {
+        if !self.masks.contains(&mask) {
+            self.masks.push(mask)?;
+        }
+        Ok(())
+    }
+}

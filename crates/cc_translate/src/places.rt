@@ -1,0 +1,441 @@
+//! Where data are, with each pointer divided by 4 once as long as it is known.
+
+use crate::effects::{HI, bit, writes};
+use crate::item::{Function, Item};
+use crate::plan::{Place, Plan, Step};
+use crate::program::Program;
+use crate::symbols::Meaning;
+use cc_lines::{Instruction, LinkFrom, Long, Operation, Register, Source, Width};
+
+/// The register with the stack pointer / 4.
+pub(crate) const STACK_WORDS: u8 = 28;
+
+/// The register with the frame pointer / 4, in functions that have one.
+pub(crate) const FRAME_WORDS: u8 = 23;
+
+/// The registers that take quotients of pointers: the last one only in functions without a frame pointer.
+const QUOTIENTS: [u8; 3] = [22, 27, FRAME_WORDS];
+
+/// The farthest that a load or a store reaches, in words.
+const REACH: u32 = 65535;
+
+/// What is known of a register.
+#[derive(Clone, Copy)]
+enum Known {
+    Nothing,
+    /// It holds this number.
+    Number(u32),
+    /// A quarter of what it holds is at so many words from what another register holds; and whether it is a multiple of 4.
+    Words { base: u8, words: u32, whole: bool },
+}
+
+/// What is known between two statements.
+#[derive(Clone, Copy)]
+struct Knowledge {
+    known: [Known; 32],
+    /// Which of the registers for quotients is next.
+    turn: u8,
+    /// Whether register 30 is the frame pointer.
+    points: bool,
+}
+
+/// Whether a number of words, signed, is in reach.
+fn in_reach(words: u32) -> bool {
+    words <= REACH || words >= 0u32.wrapping_sub(REACH)
+}
+
+/// A quarter of a signed number, rounded down.
+fn quarter(bytes: u32) -> u32 {
+    if bytes >= 0x8000_0000 {
+        (bytes >> 2) | 0xc000_0000
+    } else {
+        bytes >> 2
+    }
+}
+
+/// The number of a byte in its word.
+fn byte_of(bytes: u32) -> u8 {
+    (bytes & 3) as u8
+}
+
+impl Knowledge {
+    /// What is known where control may come from anywhere.
+    fn new(points: bool, turn: u8) -> Knowledge {
+        Knowledge {
+            known: [Known::Nothing; 32],
+            turn,
+            points,
+        }
+    }
+
+    /// What is known of a register.
+    fn of(&self, register: Register) -> Known {
+        if register == Register::ZERO {
+            return Known::Number(0);
+        }
+        if register == Register::STACK {
+            return Known::Words {
+                base: STACK_WORDS,
+                words: 0,
+                whole: true,
+            };
+        }
+        if register == Register::FRAME && self.points {
+            return Known::Words {
+                base: FRAME_WORDS,
+                words: 0,
+                whole: true,
+            };
+        }
+        match self.known.as_slice().get(usize::from(register.0)) {
+            Some(known) => *known,
+            None => Known::Nothing,
+        }
+    }
+
+    /// Notes what is known of a register.
+    fn note(&mut self, register: Register, known: Known) {
+        if let Some(place) = self.known.as_mut_slice().get_mut(usize::from(register.0)) {
+            *place = known;
+        }
+    }
+
+    /// Forgets what is known by way of a register that changes.
+    fn forget_base(&mut self, changed: u8) {
+        for known in self.known.iter_mut() {
+            if let Known::Words { base, .. } = *known {
+                if base == changed {
+                    *known = Known::Nothing;
+                }
+            }
+        }
+    }
+
+    /// Forgets the registers of a set.
+    fn forget(&mut self, set: u64) {
+        for (number, known) in self.known.iter_mut().enumerate() {
+            let number = u8::try_from(number).unwrap_or(0);
+            if set & bit(number) != 0 {
+                *known = Known::Nothing;
+            }
+        }
+    }
+
+    /// The register that takes the next quotient.
+    fn next_quotient(&mut self) -> u8 {
+        let count = if self.points { 2 } else { 3 };
+        let turn = self.turn % count;
+        self.turn = (turn + 1) % count;
+        let register = match QUOTIENTS.as_slice().get(usize::from(turn)) {
+            Some(register) => *register,
+            None => 22,
+        };
+        self.forget_base(register);
+        register
+    }
+
+    /// Where the datum at an offset from a base is, and the division that is needed before.
+    fn place(&mut self, base: Register, offset: u32) -> (Place, Option<(u8, u8)>) {
+        let far = (
+            Place::Far {
+                base: base.0,
+                bytes: offset,
+            },
+            None,
+        );
+        match self.of(base) {
+            Known::Number(value) => {
+                let address = value.wrapping_add(offset);
+                let words = quarter(address);
+                if in_reach(words) {
+                    return (
+                        Place::Byte {
+                            base: 0,
+                            words,
+                            byte: byte_of(address),
+                        },
+                        None,
+                    );
+                }
+                far
+            }
+            Known::Words {
+                base: from,
+                words,
+                whole,
+            } => {
+                let sum = words.wrapping_add(quarter(offset));
+                if !in_reach(sum) || (!whole && offset % 4 != 0) {
+                    return far;
+                }
+                if whole {
+                    return (
+                        Place::Byte {
+                            base: from,
+                            words: sum,
+                            byte: byte_of(offset),
+                        },
+                        None,
+                    );
+                }
+                (
+                    Place::Turned {
+                        base: from,
+                        words: sum,
+                        by: base.0,
+                    },
+                    None,
+                )
+            }
+            Known::Nothing => {
+                let words = quarter(offset);
+                if offset % 4 != 0 || !in_reach(words) {
+                    return far;
+                }
+                let into = self.next_quotient();
+                self.note(
+                    base,
+                    Known::Words {
+                        base: into,
+                        words: 0,
+                        whole: false,
+                    },
+                );
+                (
+                    Place::Turned {
+                        base: into,
+                        words,
+                        by: base.0,
+                    },
+                    Some((base.0, into)),
+                )
+            }
+        }
+    }
+
+    /// What is known of the sum of a register and a number.
+    fn sum(&self, rs: Register, number: u32) -> Known {
+        match self.of(rs) {
+            Known::Number(value) => Known::Number(value.wrapping_add(number)),
+            Known::Words { base, words, whole } if number % 4 == 0 => Known::Words {
+                base,
+                words: words.wrapping_add(quarter(number)),
+                whole,
+            },
+            _ => Known::Nothing,
+        }
+    }
+
+    /// What is known of what an instruction computes.
+    fn computed(&self, instruction: &Instruction, address: Option<u32>) -> Known {
+        match *instruction {
+            Instruction::Number { value, .. } => Known::Number(value),
+            Instruction::Address { base, offset, .. } => match address {
+                Some(address) => self.sum(base, address.wrapping_add(offset)),
+                None => Known::Nothing,
+            },
+            Instruction::Move { rs, .. } => self.of(rs),
+            Instruction::Compute {
+                op: Operation::Add,
+                rs,
+                second: Source::Number(n),
+                ..
+            } => self.sum(rs, n),
+            Instruction::Compute {
+                op: Operation::Sub,
+                rs,
+                second: Source::Number(n),
+                ..
+            } => { self.sum(rs, n.wrapping_neg()) }
+            Instruction::Compute {
+                op: Operation::Add,
+                rs,
+                second: Source::Register(rt),
+                ..
+            } => {
+                match (self.of(rs), self.of(rt)) {
+                    (Known::Number(value), _) => self.sum(rt, value),
+                    (_, Known::Number(value)) => self.sum(rs, value),
+                    _ => Known::Nothing,
+                }
+            }
+            Instruction::Compute {
+                op: Operation::Or,
+                rs,
+                second: Source::Number(n),
+                ..
+            } => match self.of(rs) {
+                Known::Number(value) => Known::Number(value | n),
+                _ => Known::Nothing,
+            },
+            Instruction::Compute {
+                op: Operation::Or,
+                rs,
+                second: Source::Register(Register(0)),
+                ..
+            } => self.of(rs),
+            _ => Known::Nothing,
+        }
+    }
+
+    /// Learns what an instruction does.
+    fn learn(&mut self, instruction: &Instruction, plan: &Plan, address: Option<u32>) {
+        let known = self.computed(instruction, address);
+        for register in clobbered(instruction, plan) {
+            if register != 0 && !(register == FRAME_WORDS && self.points) {
+                self.forget_base(register);
+            }
+        }
+        let written = writes(instruction);
+        self.forget(written);
+        if written & bit(29) != 0 {
+            self.forget_base(STACK_WORDS);
+        }
+        if self.points && written & bit(30) != 0 {
+            self.forget_base(FRAME_WORDS);
+        }
+        if let Some(rd) = target(instruction) {
+            if rd != Register::STACK && rd != Register::ZERO {
+                self.note(rd, known);
+            }
+        }
+    }
+}
+
+/// The register that an instruction computes.
+fn target(instruction: &Instruction) -> Option<Register> {
+    match *instruction {
+        Instruction::Number { rd, .. }
+        | Instruction::Address { rd, .. }
+        | Instruction::Move { rd, .. }
+        | Instruction::Compute { rd, .. } => Some(rd),
+        _ => None,
+    }
+}
+
+/// The registers of quotients that the translation of an instruction uses for something else, or 0.
+fn clobbered(instruction: &Instruction, plan: &Plan) -> [u8; 3] {
+    let far = matches!(plan.place, Some(Place::Far { .. }));
+    match *instruction {
+        Instruction::Load {
+            width: Width::Left | Width::Right,
+            ..
+        }
+        | Instruction::Store {
+            width: Width::Left | Width::Right,
+            ..
+        } => [22, 27, 0],
+        Instruction::Load { .. } | Instruction::Store { .. } if far => [27, 0, 0],
+        Instruction::Long {
+            op: Long::Product { .. },
+            ..
+        } if plan.live & bit(HI) != 0 => [22, 27, 0],
+        Instruction::Long { .. } => [27, 0, 0],
+        Instruction::Shift {
+            by: Source::Register(_),
+            ..
+        } => [27, 0, 0],
+        Instruction::Call(_) => QUOTIENTS,
+        _ => [0, 0, 0],
+    }
+}
+
+/// Whether what is known is lost behind an instruction.
+fn ends(instruction: &Instruction) -> bool {
+    matches!(
+        instruction,
+        Instruction::Jump(LinkFrom::Symbol | LinkFrom::Register(_)) | Instruction::Break
+    )
+}
+
+/// The address of the symbol of a statement: 0 where it has none, and none where it is a place.
+fn address_of(program: &Program, symbol: Option<u32>) -> Option<u32> {
+    match symbol {
+        None => Some(0),
+        Some(symbol) => match program.symbols.meaning(symbol) {
+            Meaning::Place { .. } | Meaning::End => None,
+            _ => Some(program.address(symbol)),
+        },
+    }
+}
+
+/// Finds where the datum of one statement is, and learns what it does.
+fn place_one(
+    program: &Program,
+    knowledge: &mut Knowledge,
+    instruction: &Instruction,
+    symbol: Option<u32>,
+    plan: &mut Plan,
+) {
+    let address = address_of(program, symbol);
+    let at = match *instruction {
+        Instruction::Load {
+            base,
+            offset,
+            width,
+            ..
+        }
+        | Instruction::Store {
+            base,
+            offset,
+            width,
+            ..
+        } => {
+            let offset = offset.wrapping_add(address.unwrap_or(0));
+            match width {
+                Width::Left | Width::Right => {
+                    plan.place = Some(Place::Far {
+                        base: base.0,
+                        bytes: offset,
+                    });
+                    None
+                }
+                _ => Some((base, offset)),
+            }
+        }
+        Instruction::Call(LinkFrom::Register(r)) => Some((r, 0)),
+        _ => None,
+    };
+    if let Some((base, offset)) = at {
+        let (place, divided) = knowledge.place(base, offset);
+        plan.place = Some(place);
+        plan.divided = divided;
+    }
+    knowledge.learn(instruction, plan, address);
+}
+
+/// Finds where the datum of each statement of a function is.
+pub(crate) fn find_places(
+    program: &Program,
+    function: &Function,
+    items: &[Item],
+    plans: &mut [Plan],
+) {
+    let mut knowledge = Knowledge::new(function.points, 0);
+    for (i, item) in items.iter().enumerate() {
+        let Some(plan) = plans.get_mut(i) else {
+            break;
+        };
+        match item {
+            Item::Location { .. } => {}
+            Item::Label(label) => {
+                if program.symbols.is_used(*label) {
+                    knowledge = Knowledge::new(function.points, knowledge.turn);
+                }
+            }
+            Item::Code {
+                instruction,
+                symbol,
+                ..
+            } => {
+                if let Step::Gone = plan.step {
+                    continue;
+                }
+                place_one(program, &mut knowledge, instruction, *symbol, plan);
+                if ends(instruction) {
+                    knowledge = Knowledge::new(function.points, knowledge.turn);
+                }
+            }
+        }
+    }
+}

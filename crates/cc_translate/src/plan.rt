@@ -1,0 +1,41 @@
+//! What looking over several statements leaves for each of them.
+
+use cc_lines::{Condition, Register, Source};
+
+/// Where a datum of a load or a store is.
+#[derive(Clone, Copy)]
+pub(crate) enum Place {
+    /// At so many words from what the register holds, from this byte of the word on.
+    Byte { base: u8, words: u32, byte: u8 },
+    /// At so many words from what the register holds, from the byte on that the low bits of another register tell.
+    Turned { base: u8, words: u32, by: u8 },
+    /// At so many bytes from what the register holds.
+    Far { base: u8, bytes: u32 },
+}
+
+/// What becomes of a statement.
+#[derive(Clone, Copy)]
+pub(crate) enum Step {
+    /// It is translated.
+    Kept,
+    /// A comparison that its branch makes.
+    Gone,
+    /// A branch that makes a comparison.
+    Fused {
+        condition: Condition,
+        rs: Register,
+        second: Source,
+    },
+}
+
+/// What is known of a statement from those around it.
+#[derive(Clone, Copy)]
+pub(crate) struct Plan {
+    pub step: Step,
+    /// What is read behind it.
+    pub live: u64,
+    /// Where its datum is, if it loads or stores.
+    pub place: Option<Place>,
+    /// A register that is divided by 4 before it, and the one that takes the quotient.
+    pub divided: Option<(u8, u8)>,
+}

@@ -1,0 +1,238 @@
+//! What `main` reaches.
+
+use crate::error::{Fault, TranslateError};
+use crate::item::{Item, Object, Reference};
+use crate::program::Program;
+use crate::symbols::Meaning;
+use cc_lines::{Instruction, Refusal, Register};
+use std::alloc::{AllocError, Global};
+
+/// How something is named.
+#[derive(Clone, Copy, Debug, PartialEq, Eq)]
+enum Use {
+    /// Control goes there.
+    Jump,
+    /// A load or a store is there.
+    Memory,
+    /// Its address is taken, with so much added.
+    Address(u32),
+}
+
+/// Something that a statement or a word of data names.
+#[derive(Clone, Copy)]
+struct Named {
+    symbol: u32,
+    unit: u32,
+    line: u32,
+    how: Use,
+}
+
+/// How an instruction names its symbol.
+fn use_of(instruction: &Instruction) -> Use {
+    match *instruction {
+        Instruction::Load { .. } | Instruction::Store { .. } => Use::Memory,
+        Instruction::Address { base, offset, .. } => {
+            if base == Register::ZERO {
+                Use::Address(offset)
+            } else {
+                Use::Memory
+            }
+        }
+        _ => Use::Jump,
+    }
+}
+
+/// Whether nothing behind an instruction follows on it.
+fn is_last(instruction: &Instruction) -> bool {
+    matches!(instruction, Instruction::Jump(_) | Instruction::Break)
+}
+
+/// What the items of a function name. Answers whether control may go on behind them.
+fn note_items(named: &mut Vec<Named>, unit: u32, items: &[Item]) -> Result<bool, AllocError> {
+    let mut goes_on = true;
+    for item in items {
+        if let Item::Code {
+            instruction,
+            symbol,
+            line,
+        } = item
+        {
+            goes_on = !is_last(instruction);
+            if let Some(symbol) = symbol {
+                let how = use_of(instruction);
+                named.push(Named {
+                    symbol: *symbol,
+                    unit,
+                    line: *line,
+                    how,
+                })?;
+            }
+        }
+    }
+    Ok(goes_on)
+}
+
+/// What the words of a datum name.
+fn note_references(
+    named: &mut Vec<Named>,
+    unit: u32,
+    references: &[Reference],
+) -> Result<(), AllocError> {
+    for one in references {
+        let how = Use::Address(one.addend);
+        named.push(Named {
+            symbol: one.symbol,
+            unit,
+            line: one.line,
+            how,
+        })?;
+    }
+    Ok(())
+}
+
+/// Keeps a function, and the next one where control may go on into it.
+fn keep_function(
+    program: &mut Program,
+    named: &mut Vec<Named>,
+    number: u32,
+) -> Result<(), AllocError> {
+    let mut at = number as usize;
+    for _ in 0..program.functions.len() {
+        let Some(function) = program.functions.get(at).copied() else {
+            break;
+        };
+        if function.kept {
+            break;
+        }
+        let goes_on = note_items(named, function.unit, program.items_of(&function))?;
+        if let Some(kept) = program.functions.as_mut_slice().get_mut(at) {
+            kept.kept = true;
+        }
+        if !goes_on {
+            break;
+        }
+        at = at.saturating_add(1);
+    }
+    Ok(())
+}
+
+/// Keeps a datum.
+fn keep_object(
+    program: &mut Program,
+    named: &mut Vec<Named>,
+    number: u32,
+) -> Result<(), AllocError> {
+    if let Some(object) = program.objects.as_mut_slice().get_mut(number as usize) {
+        if !object.kept {
+            object.kept = true;
+            note_references(named, object.unit, &object.references)?;
+        }
+    }
+    Ok(())
+}
+
+/// Gives a function a word of data that holds its place, if it has none.
+fn describe(alloc: Global, program: &mut Program, function: u32) -> Result<(), AllocError> {
+    let Some(function) = program.function(function) else {
+        return Ok(());
+    };
+    match program.symbols.at(function.symbol) {
+        Some(symbol) if symbol.descriptor.is_none() => {}
+        _ => return Ok(()),
+    }
+    let Ok(number) = u32::try_from(program.objects.len()) else {
+        return Err(AllocError);
+    };
+    program.objects.push(Object {
+        symbol: function.symbol,
+        unit: function.unit,
+        align: 4,
+        size: 4,
+        bytes: Vec::new(alloc),
+        references: Vec::new(alloc),
+        address: 0,
+        kept: true,
+    })?;
+    program.symbols.describe(function.symbol, number);
+    Ok(())
+}
+
+/// Keeps what a symbol stands for. Answers why it is refused, if it is.
+fn keep(
+    alloc: Global,
+    program: &mut Program,
+    named: &mut Vec<Named>,
+    one: Named,
+) -> Result<Option<Refusal>, AllocError> {
+    program.symbols.use_it(one.symbol);
+    let jumps = one.how == Use::Jump;
+    match program.symbols.meaning(one.symbol) {
+        Meaning::Function(number) => {
+            if !jumps {
+                describe(alloc, program, number)?;
+            }
+            keep_function(program, named, number)?;
+        }
+        Meaning::Place { function, .. } => match one.how {
+            Use::Jump | Use::Address(0) => keep_function(program, named, function)?,
+            _ => return Ok(Some(Refusal::LabelArithmetic)),
+        },
+        Meaning::Object(number) => {
+            if jumps {
+                return Ok(Some(Refusal::NoPlace));
+            }
+            keep_object(program, named, number)?;
+        }
+        Meaning::End => match one.how {
+            Use::Address(_) => {}
+            _ => return Ok(Some(Refusal::NoPlace)),
+        },
+        Meaning::Limit => {
+            if jumps {
+                return Ok(Some(Refusal::NoPlace));
+            }
+        }
+        _ => match program.symbols.at(one.symbol) {
+            Some(symbol) if symbol.weak && !jumps => {}
+            _ => return Ok(Some(Refusal::Undefined)),
+        },
+    }
+    Ok(None)
+}
+
+/// The fault of a symbol that is refused.
+fn refused<'a>(program: &Program<'a>, one: Named, refusal: Refusal) -> TranslateError<'a> {
+    let symbol = match program.symbols.at(one.symbol) {
+        Some(symbol) => Some(symbol.name),
+        None => None,
+    };
+    TranslateError::Fault(Fault {
+        unit: one.unit,
+        line: one.line,
+        refusal,
+        symbol,
+    })
+}
+
+/// Keeps what `main` reaches.
+pub(crate) fn reach<'a>(
+    alloc: Global,
+    program: &mut Program<'a>,
+) -> Result<u32, TranslateError<'a>> {
+    let main = program.symbols.number(b"main")?;
+    let Meaning::Function(number) = program.symbols.meaning(main) else {
+        return Err(TranslateError::NoMain);
+    };
+    program.symbols.use_it(main);
+    let mut named = Vec::new(alloc);
+    keep_function(program, &mut named, number)?;
+    for _ in 0..u64::MAX {
+        let Some(one) = named.pop() else {
+            break;
+        };
+        if let Some(refusal) = keep(alloc, program, &mut named, one)? {
+            return Err(refused(program, one, refusal));
+        }
+    }
+    Ok(main)
+}

@@ -1,0 +1,2 @@
+        .globl main
+main:   jr $31

@@ -1,0 +1,4 @@
+        .globl main
+main:   jr $31
+        .data
+x:      .gpword main

@@ -1,0 +1,3 @@
+        .globl main
+main:   mtc1 $4,$f12
+        jr $31

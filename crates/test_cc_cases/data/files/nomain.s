@@ -1,0 +1,2 @@
+        .globl main
+other:  jr $31

@@ -1,0 +1,5 @@
+        .globl main
+main:
+        .set noreorder
+        jr $31
+        nop

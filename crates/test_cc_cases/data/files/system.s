@@ -1,0 +1,5 @@
+        .globl main
+main:
+        li $2,4001
+        syscall
+        jr $31

@@ -1,0 +1,3 @@
+        .globl main
+main:   jr $31
+main:   jr $31

@@ -1,0 +1,3 @@
+        .globl main
+main:   jal missing
+        jr $31

@@ -1,0 +1,4 @@
+        .globl main
+main:
+        frob $2,$3
+        jr $31

@@ -1,0 +1,32 @@
+//! Kinds of cases.
+use crate::case;
+use anyhow::Result;
+use std::rt::Files;
+use test_case_files::{Cases, behind};
+
+/// A kind of cases, each a line of one file.
+#[derive(Clone, Copy, Debug, PartialEq, Eq)]
+pub enum Kind {
+    Runs,
+    Refusals,
+}
+
+impl Kind {
+    pub const ALL: [Kind; 2] = [Kind::Runs, Kind::Refusals];
+}
+
+impl Cases for Kind {
+    fn file(&self) -> &'static str {
+        match *self {
+            Kind::Runs => "runs.txt",
+            Kind::Refusals => "refusals.txt",
+        }
+    }
+
+    fn answered<R: Files + AllocGlobal>(&self, rt: &R, line: &str) -> Result<String> {
+        match *self {
+            Kind::Runs => case::run(rt, line),
+            Kind::Refusals => case::refusal(rt, behind(line, " ")?),
+        }
+    }
+}

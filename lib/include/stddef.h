@@ -1,0 +1,16 @@
+/* Sizes, differences of pointers, and the pointer to nothing. */
+#ifndef _STDDEF_H
+#define _STDDEF_H
+
+typedef __SIZE_TYPE__ size_t;
+typedef __PTRDIFF_TYPE__ ptrdiff_t;
+typedef __WCHAR_TYPE__ wchar_t;
+typedef struct {
+    long long _integer;
+    double _floating;
+} max_align_t;
+
+#define NULL ((void *) 0)
+#define offsetof(type, member) __builtin_offsetof(type, member)
+
+#endif

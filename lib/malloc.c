@@ -1,0 +1,107 @@
+/* The heap: what lies between the data and the stack. It is one row of blocks, each a head and then what the program
+   got; the first free one that is large enough is taken. A free block takes in those behind it when it is met. */
+#include "heap.h"
+#include <errno.h>
+#include <stdint.h>
+#include <stdlib.h>
+#include <string.h>
+
+#define IS_USED 1u                  /* sizes are multiples of a head, so this bit is free in them */
+
+typedef union {
+    uint32_t size;                  /* in bytes, with the head, and IS_USED */
+    uint64_t alignment;
+} head;
+
+#define HEAD sizeof(head)
+
+static head *first, *past;          /* the row, and where it ends */
+static head *hint;                  /* no block before it is free */
+
+static head *behind(const head *block) {
+    return (head *) ((char *) block + (block->size & ~IS_USED));
+}
+
+static void begin(void) {
+    first = (head *) (((uintptr_t) _end + HEAD - 1) & -HEAD);
+    past = (head *) (((uintptr_t) _limit - STACK) & -HEAD);
+    hint = first;
+    if (first < past)
+        first->size = (char *) past - (char *) first;
+    else
+        past = first;
+}
+
+/* Takes in the free blocks behind a free one. */
+static void join(head *block) {
+    for (head *next = behind(block); next < past && !(next->size & IS_USED); next = behind(block))
+        block->size += next->size;
+}
+
+/* Leaves the block `size` bytes and makes a free one of the others. */
+static void split(head *block, uint32_t size) {
+    if (block->size > size) {
+        ((head *) ((char *) block + size))->size = block->size - size;
+        block->size = size;
+    }
+}
+
+static void *no_memory(void) {
+    errno = ENOMEM;
+    return NULL;
+}
+
+void *malloc(size_t size) {
+    if (!first)
+        begin();
+    if (size > (size_t) ((char *) past - (char *) first))
+        return no_memory();
+    uint32_t needed = (size + 2 * HEAD - 1) & -HEAD;
+    int is_first = 1;
+    for (head *block = hint; block < past; block = behind(block)) {
+        if (block->size & IS_USED)
+            continue;
+        join(block);
+        if (is_first)
+            hint = block;
+        is_first = 0;
+        if (block->size < needed)
+            continue;
+        split(block, needed);
+        block->size |= IS_USED;
+        if (block == hint)
+            hint = behind(block);
+        return block + 1;
+    }
+    return no_memory();
+}
+
+void free(void *block) {
+    if (!block)
+        return;
+    head *freed = (head *) block - 1;
+    freed->size &= ~IS_USED;
+    if (freed < hint)
+        hint = freed;
+}
+
+void *calloc(size_t count, size_t size) {
+    if (size && count > SIZE_MAX / size)
+        return no_memory();
+    void *block = malloc(count * size);
+    return block ? memset(block, 0, count * size) : NULL;
+}
+
+void *realloc(void *block, size_t size) {
+    if (!block)
+        return malloc(size);
+    size_t room = (((head *) block - 1)->size & ~IS_USED) - HEAD;
+    if (size <= room)
+        return block;
+    void *larger = malloc(size);
+    if (larger) {
+        memcpy(larger, block, room);
+        free(block);
+    }
+    return larger;
+}

@@ -1,0 +1,104 @@
+#!/bin/sh
+# C programs, for ./mx:
+#   tools/cc.sh TOP cc [options of gcc] FILE.c .. -o OUT.s    compiles, and translates to one source
+#   tools/cc.sh TOP c FILE.c [options of run]                 compiles one file at -O2, and runs it
+# TOP is the repository's top folder. Files that end in .s are taken as assembly. ./mx is called for the programs mx_cc
+# (as `./mx translate`) and mx_run; MX_FLAGS, if it is set, stands before their command, as --quick does.
+top=$1
+gcc=mips-linux-gnu-gcc
+use='usage: ./mx cc [options of gcc] FILE.c .. -o OUT.s, or ./mx c FILE.c [options of run]'
+
+# Says what is wrong, and ends with a status.
+fail() {
+    echo "mx: $1" >&2
+    exit "$2"
+}
+
+# Compiles the file $1 to the assembly $2, with the options behind them.
+compile() {
+    source=$1
+    target=$2
+    shift 2
+    # shellcheck disable=SC2046
+    "$gcc" -S $(cat "$top/lib/flags") -nostdinc -isystem "$top/lib/include" "$@" "$source" -o "$target"
+}
+
+# Leaves the assembly of the library at the level $1 in the folder $library, where it is not there or older than its source.
+compile_library() {
+    library=$top/.mx/library$1
+    newer=$(find "$top/lib" -type f -newer "$library/done" -print 2>&1 | head -n 1)
+    [ -e "$library/done" ] && [ -z "$newer" ] && return
+    rm -rf "$library"
+    mkdir -p "$library" || exit 10
+    for file in "$top"/lib/*.c; do
+        compile "$file" "$library/$(basename "$file" .c).s" "$1" || exit 1
+    done
+    for file in "$top"/lib/*.s; do
+        if [ -e "$file" ]; then cp "$file" "$library/" || exit 10; fi
+    done
+    : >"$library/done"
+}
+
+# Compiles the files of the list $files at the level $level with the options of the list $options, and translates them with
+# the library to the file $1. Faults name files as they were given, with .s behind them.
+translate() {
+    case $1 in
+        /*) out=$1 ;;
+        *) out=$PWD/$1 ;;
+    esac
+    compile_library "$level"
+    names=
+    for file in $files; do
+        name=$(printf %s "$file" | tr / _)
+        case $file in
+            *.s) cp "$file" "$work/$name" || exit 4 ;;
+            *)
+                name=$name.s
+                # shellcheck disable=SC2086
+                compile "$file" "$work/$name" -g1 "$level" $options || exit 1
+                ;;
+        esac
+        names="$names $name"
+    done
+    # shellcheck disable=SC2086
+    (cd "$work" && "$top/mx" ${MX_FLAGS-} translate $names "$library"/*.s -o "$out")
+}
+
+[ $# -ge 3 ] || fail "$use" 2
+command -v "$gcc" >/dev/null 2>&1 || fail 'install the Debian package gcc-mips-linux-gnu' 10
+work=$(mktemp -d) || exit 10
+trap 'rm -rf "$work"' EXIT
+trap 'exit 10' HUP INT TERM
+command=$2
+shift 2
+level=-O2
+options=
+files=
+target=
+case $command in
+    cc)
+        while [ $# -gt 0 ]; do
+            case $1 in
+                -o)
+                    [ $# -ge 2 ] || fail "$use" 2
+                    target=$2
+                    shift
+                    ;;
+                -O*) level=$1 ;;
+                -*) options="$options $1" ;;
+                *) files="$files $1" ;;
+            esac
+            shift
+        done
+        if [ -z "$target" ] || [ -z "$files" ]; then fail "$use" 2; fi
+        translate "$target"
+        ;;
+    c)
+        files=$1
+        shift
+        translate "$work/program" && "$top/mx" ${MX_FLAGS-} run "$work/program" "$@"
+        ;;
+    *)
+        fail "$use" 2
+        ;;
+esac
