@@ -16,3 +16,4 @@ mod Labels
 mod StoppedSources
 mod StopsHeadline
 mod BestHeadline
+mod Accepting

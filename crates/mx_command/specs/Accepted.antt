@@ -50,3 +50,8 @@ pub record Accepted (asked : Option Command) (held : Held) : Type 0 where
   pub are_requests : AreRequests held files.interrupts requests
   pub input : List ℕ
   pub is_input : IsInput held files.input input
+
+-- whatever the two files are called and whatever the limits are, the run of this text under the interrupts of this file is accepted
+abbrev pub CanBeRun : List ℕ → List ℕ → Type 0
+CanBeRun text interrupts = (held : Held) (name file : List ℕ) (limits : Limits) → (held name ≡ Some text) → (held file ≡ Some interrupts)
+    → Accepted (Some (Run name (record { interrupts = Some file; input = None }) limits)) held

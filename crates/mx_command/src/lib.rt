@@ -1,6 +1,7 @@
 //! The commands as one call: what the words of a command line ask for, done over any shelf and any sink.
 #![tactic(auto)]
 
+mod accepting;
 mod debugged;
 mod files;
 mod images;
@@ -13,6 +14,7 @@ mod sourced;
 mod sources;
 mod top;
 
+pub use accepting::can_be_run;
 pub use cmd_answer::Status;
 pub use laws::greedy_layout_is;
 pub use shipped::command_on_system;

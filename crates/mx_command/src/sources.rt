@@ -126,8 +126,8 @@ pub fn overlong_reply(alloc: Global, line: u32, from: u32, to: u32) -> Result<Re
     Ok(reply)
 }
 
-// A source, linked by the list scheduler, or the reply to its first branch that does not reach its target.
-fn linked_source(alloc: Global, source: &Source) -> Result<Result<Linked, Reply>, Memory>
+/// A source, linked by the list scheduler, or the reply to its first branch that does not reach its target.
+pub fn linked_source(alloc: Global, source: &Source) -> Result<Result<Linked, Reply>, Memory>
     ensures linked { IfOk result (λ r. IfOk r (λ l. IsLinked IsGreedy from_target source.now board l)) }
     ensures refused { IfOk result (λ r. IfErr r (λ reply. (found : Overlong) × IsOverlong IsGreedy source.now board found
         × (reply_answer reply ≡ prints Status.Refused (overlong_line found.line found.from found.to)))) }

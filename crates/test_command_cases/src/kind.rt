@@ -1,5 +1,5 @@
 //! Kinds of cases.
-use crate::{images, puts, repeated, runs, shared};
+use crate::{accepted, images, puts, repeated, runs, shared};
 use anyhow::Result;
 use std::rt::Files;
 use test_case_files::{Cases, before, behind};
@@ -20,10 +20,11 @@ pub enum Kind {
     Listed,
     Shared,
     AtEach,
+    Accepted,
 }
 
 impl Kind {
-    pub const ALL: [Kind; 13] = [
+    pub const ALL: [Kind; 14] = [
         Kind::Runs,
         Kind::Failing,
         Kind::Built,
@@ -37,6 +38,7 @@ impl Kind {
         Kind::Listed,
         Kind::Shared,
         Kind::AtEach,
+        Kind::Accepted,
     ];
 }
 
@@ -56,6 +58,7 @@ impl Cases for Kind {
             Kind::Listed => "listed.txt",
             Kind::Shared => "shared.txt",
             Kind::AtEach => "at_each.txt",
+            Kind::Accepted => "accepted.txt",
         }
     }
 
@@ -75,6 +78,7 @@ impl Cases for Kind {
             Kind::Listed => repeated::listed(alloc, line),
             Kind::Shared => shared::shared(rt, before(line, " -> ")?),
             Kind::AtEach => shared::at_each(rt, line),
+            Kind::Accepted => accepted::accepted(rt, before(line, " -> ")?),
         }
     }
 }

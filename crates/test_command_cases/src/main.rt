@@ -2,6 +2,7 @@
 //! outside. Prints a line for each kind of case, and one for each case that differs.
 #![tactic(auto)]
 
+mod accepted;
 mod case;
 mod images;
 mod kind;
