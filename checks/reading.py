@@ -5,9 +5,9 @@ usage: checks/reading.py            refuses a list in docs/READING.md that is no
        checks/reading.py --write    writes the tables of that page again
        checks/reading.py --names    prints which definitions of each file are meant
 
-It begins at the clause, follows each definition by its names, types of .rt files too, and leaves aside the assembler, the coder and
-the words of a command line (ASIDE), whose lines it counts. Lines are those of a file without its imports and empty lines; of a file
-of code only those of the types that are named.
+It begins at the clause, follows each definition by its names, types of .rt files too, and leaves aside the assembler and the words
+of a command line (ASIDE). Lines are those of the definitions that are reached and of the comments over them, without imports and
+empty lines; of a file of code those of the types that are named.
 """
 import pathlib
 import re
@@ -18,13 +18,15 @@ PAGE = ROOT / "docs/READING.md"
 TOP = ("mx_command", "src/top.rt", "headline")
 ASIDE = {"mx_lex": "the assembler", "mx_lines": "the assembler", "mx_asm": "the assembler", "cmd_table": "the words of a command line",
          "cmd_line": "the words of a command line"}
-# The three parts, by crates: what is claimed, the machine, and which words run.
+# The parts, by crates or by single files: how reports and interrupt files are spelled, what is claimed, the machine, and which words run.
 PARTS = {
-    "A": ("mx_command", "law_end_to_end", "law_link", "mx_source", "mx_isa", "mx_io", "cmd_answer", "cmd_simulate", "mx_report", "mx_text",
-          "law_order", "cmd_meaning"),
+    "D": ("mx_text", "mx_report", ("mx_board", "RequestFile"), ("cmd_simulate", "Simulated")),
+    "A": ("mx_command", "law_end_to_end", "law_link", "mx_source", "mx_isa", "mx_io", "cmd_answer", "cmd_simulate", "law_order",
+          "cmd_meaning"),
     "B": ("mx_turn", "mx_pcchain", "mx_icache", "mx_board"),
     "C": ("mx_blocks", "mx_depend", "mx_validate", "mx_reorg", "mx_squash", "mx_layout", "mx_link", "law_schedule", "mx_code"),
 }
+SHOWN = "ABCD"
 IMPORT = re.compile(r"(?:ghost )?use Rattle\.(\w+)\.specs\.([\w.]+?)\.\{(.*)\};?$")
 RECORD = re.compile(r"^ *(?:pub )?(?:record|data) (\S+).* where$")
 DEFINED = re.compile(r"^(?:  (?=abbrev))?(?:(?:abbrev|unfoldable|pub) )*([^\s:(){}]+) : ")
@@ -49,16 +51,28 @@ class File:
         lines = path.read_text().splitlines()
         self.path = path
         self.imports = imports_of(lines)
-        self.lines = sum(1 for line in lines if line and not line.startswith("use "))
         self.says = next((line[3:] for line in lines if line.startswith("-- ")), "")
         self.defined = {}
+        self.lengths = {}
         current = None
+        comments = 0
         for line in lines:
-            text = "" if line.startswith("use ") else line.partition("--")[0]
+            if not line or line.startswith("use "):
+                continue
+            text = line.partition("--")[0]
+            if not text.strip():
+                comments += 1
+                continue
             if found := RECORD.match(text) or DEFINED.match(text):
                 current = found[1]
             if current:
                 self.defined.setdefault(current, set()).update(NAME.findall(text))
+                self.lengths[current] = self.lengths.get(current, 0) + 1 + comments
+                comments = 0
+
+    def lines_of(self, names):
+        """How many lines these definitions have, with the comments over them and within."""
+        return sum(self.lengths[it] for it in names)
 
     def where(self, name):
         """The definition that the name, or the variant of a type, belongs to."""
@@ -129,23 +143,38 @@ def in_order(keys, files):
     return done
 
 
+def part_of(key):
+    """Returns the part that a file of this crate and name belongs to."""
+    return next((part for part, own in PARTS.items() if key in own or key[0] in own), None)
+
+
+def listed(names):
+    """Returns names as a page lists them."""
+    return ", ".join(f"`{it}`" for it in names)
+
+
 def page_tables():
-    """Returns the text of the tables, and the names of each file."""
+    """Returns the text of the tables, the names of each file, and the lines of each part."""
     files, found, types = reached()
     read = {key for key in found if key[0] not in ASIDE}
     text, sums = "", {}
-    for part, crates in PARTS.items():
-        keys = [it for it in in_order(read, files) if it[0] in crates]
-        own = [it for it in sorted(types) if it[0] in crates]
-        lines = sum(files[it].lines for it in keys) + sum(sum(types[it].values()) for it in own)
+    for part in SHOWN:
+        keys = [it for it in in_order(read, files) if part_of(it) == part]
+        own = [it for it in sorted(types) if part_of((it[0], "")) == part]
+        lines = sum(files[it].lines_of(found[it]) for it in keys) + sum(sum(types[it].values()) for it in own)
         sums[part] = lines
-        text += f"\n<!-- {part} -->\n\n{len(keys)} files of definitions and the types of {len(own)} files of code, {lines} lines.\n\n| File | What it says | Lines |\n|---|---|---|\n"
+        text += f"\n<!-- {part} -->\n\nDefinitions of {len(keys)} files and types of {len(own)} files of code, {lines} lines.\n\n| File | What it says | Lines |\n|---|---|---|\n"
         for key in keys:
-            text += f"| `{files[key].path.relative_to(ROOT)}` | {files[key].says} | {files[key].lines} |\n"
+            file = files[key]
+            says = file.says if file.says.endswith(".") else f"{file.says[:1].upper()}{file.says[1:]}."
+            meant = [it for it in file.defined if it in found[key]]
+            others = [it for it in file.defined if it not in found[key]]
+            only = "" if not others else f" All but {listed(others)}." if len(others) < len(meant) else f" Of it {listed(meant)}."
+            text += f"| `{file.path.relative_to(ROOT)}` | {says}{only} | {file.lines_of(found[key])} |\n"
         for crate, path in own:
             names = ", ".join(f"`{it}`" for it in sorted(types[(crate, path)]))
             text += f"| `{path.relative_to(ROOT)}` | the types {names} | {sum(types[(crate, path)].values())} |\n"
-    stray = sorted(it for it in read | {(crate, "") for crate, _ in types} if it[0] not in sum(PARTS.values(), ()) and it[0] not in ASIDE)
+    stray = sorted(it for it in read | {(crate, "") for crate, _ in types} if part_of(it) is None and it[0] not in ASIDE)
     aside = sorted(key for key in found if key[0] in ASIDE)
     text += "\n<!-- aside -->\n\nSet aside: " + "; ".join(f"`{files[it].path.relative_to(ROOT)}`" for it in aside) + ".\n"
     return text, found, sums, stray
