@@ -7,13 +7,16 @@
 #include <stdio.h>
 #include <stdlib.h>
 
-enum { CODE_BASE = 4096, MAX_WORDS = 60000, DATA_WORDS = 65536, CONSOLE = 255, SETS = 4, WAYS = 8 };
+enum { CODE_BASE = 4096, MAX_WORDS = 60000, DATA_WORDS = 65536, CONSOLE = 255, SETS = 4, WAYS = 8, NO_SLOT = 32 };
 enum kind { BRANCH, COMPUTE, SHIFT, FROM, TO, LOAD, STORE, ADDI, JUMP, POP, POP_RESTORE, HALT, NOTHING };
 
 struct word { uint8_t kind, a, b, dest, op, squash; int32_t number; };
-struct fetch { uint32_t address; bool there, squashed; };
+/* a stage: the address of its fetch with bit 31 set where it is squashed, or EMPTY */
+typedef uint64_t stage;
 struct set { uint32_t tag[WAYS]; uint16_t valid[WAYS]; uint8_t next; };
 struct counts { uint64_t cycles, fetches, misses, squashes, interrupts; };
+
+static const stage EMPTY = (stage)1 << 32, SQUASHED = (stage)1 << 31;
 
 static const uint32_t handler[] = {
     0x88020001, 0x88040002, 0x50001001, 0x50002002, 0x88020003, 0x88040004, 0x50001003, 0x88020005,
@@ -27,8 +30,8 @@ static const struct word idle = { .kind = NOTHING };
 
 static uint32_t regs[32], md, data[DATA_WORDS], chain[3];
 static uint32_t slot_value;
-static uint8_t slot;
-static struct fetch next, in_if, in_rf, in_alu, in_mem, in_wb;
+static uint8_t slot = NO_SLOT;
+static stage next, in_if, in_rf, in_alu, in_mem, in_wb;
 static struct set sets[SETS];
 static struct counts counts;
 static bool user = true, interrupts = true, old_user = false, old_interrupts = false, latch, halted, missed;
@@ -67,12 +70,12 @@ static inline uint32_t sees(uint8_t r) { return r == slot ? slot_value : regs[r]
 
 static inline void put(uint8_t r, uint32_t value) { if (r) regs[r] = value; }
 
-static inline const struct word *live(const struct fetch *f)
-{
-    return f->there && !f->squashed && f->address < code_end ? &code[f->address] : &idle;
-}
+/* A squashed or empty stage is beyond all code. */
+static inline const struct word *live(stage s) { return s < code_end ? &code[s] : &idle; }
 
-static uint32_t computed(const struct word *w, uint32_t a, uint32_t b)
+static inline uint32_t address_of(stage s) { return s & 0x7fffffff; }
+
+static inline uint32_t computed(const struct word *w, uint32_t a, uint32_t b)
 {
     switch (w->op) {
     case 0: return a + b;
@@ -94,39 +97,53 @@ static uint32_t computed(const struct word *w, uint32_t a, uint32_t b)
     }
 }
 
-static uint32_t loaded(uint32_t address)
+static inline uint32_t loaded(uint32_t address)
 {
     if (address == CONSOLE || address >= DATA_WORDS) return 0;
     return user && address < CONSOLE ? 0 : data[address];
 }
 
-static void store(uint32_t address, uint32_t value)
+static inline void store(uint32_t address, uint32_t value)
 {
     if (address == CONSOLE) sent++;
     else if (address < DATA_WORDS && (!user || address > CONSOLE)) data[address] = value;
 }
 
-static inline void commit(const struct word *w, uint32_t at)
+static inline void load(uint8_t dest, uint32_t value)
 {
-    uint32_t a = sees(w->a), b = sees(w->b), old = regs[w->dest];
-    uint8_t dest = w->dest;
-    slot = 0, slot_value = 0;
-    switch (w->kind) {
-    case COMPUTE: put(dest, computed(w, a, b)); break;
-    case SHIFT:
-        put(dest, w->op ? (w->number ? b << (32 - w->number) | a >> w->number : a) : (uint32_t)((int32_t)a >> w->number));
-        break;
-    case ADDI: put(dest, a + (uint32_t)w->number); break;
-    case LOAD: put(dest, loaded(a + (uint32_t)w->number)); slot = dest; slot_value = dest ? old : 0; break;
-    case STORE: store(a + (uint32_t)w->number, b); break;
-    case FROM: if (!w->op) put(dest, md); else if (!user) put(dest, chain[w->op - 1]); break;
-    case TO: if (!w->op) md = a; else if (!user) chain[w->op - 1] = a; break;
-    case JUMP: put(dest, at + 3); break;
-    case HALT: halted = true; break;
-    }
+    uint32_t old = regs[dest];
+    put(dest, value);
+    slot = dest, slot_value = old;
 }
 
-static bool holds(uint8_t condition, uint32_t a, uint32_t b)
+static inline void commit(const struct word *w, uint32_t at)
+{
+    uint32_t value;
+    switch (w->kind) {
+    case COMPUTE: value = computed(w, sees(w->a), sees(w->b)); break;
+    case SHIFT:
+        value = sees(w->a);
+        if (!w->op) value = (uint32_t)((int32_t)value >> w->number);
+        else if (w->number) value = sees(w->b) << (32 - w->number) | value >> w->number;
+        break;
+    case ADDI: value = sees(w->a) + (uint32_t)w->number; break;
+    case LOAD: load(w->dest, loaded(sees(w->a) + (uint32_t)w->number)); return;
+    case STORE: store(sees(w->a) + (uint32_t)w->number, sees(w->b)); slot = NO_SLOT; return;
+    case FROM: value = !w->op ? md : user ? regs[w->dest] : chain[w->op - 1]; break;
+    case TO:
+        if (!w->op) md = sees(w->a);
+        else if (!user) chain[w->op - 1] = sees(w->a);
+        slot = NO_SLOT;
+        return;
+    case JUMP: value = at + 3; break;
+    case HALT: halted = true; slot = NO_SLOT; return;
+    default: slot = NO_SLOT; return;
+    }
+    put(w->dest, value);
+    slot = NO_SLOT;
+}
+
+static inline bool holds(uint8_t condition, uint32_t a, uint32_t b)
 {
     switch (condition) {
     case 0: return a == b;
@@ -138,49 +155,47 @@ static bool holds(uint8_t condition, uint32_t a, uint32_t b)
     }
 }
 
-static struct fetch fetch_of(uint32_t address) { return (struct fetch){ address & 0x7fffffff, true, false }; }
-
 static void pop(bool restores)
 {
     if (user) return;
-    next = (struct fetch){ chain[0] & 0x7fffffff, true, chain[0] >> 31 };
+    next = chain[0];
     chain[0] = chain[1], chain[1] = chain[2];
     if (restores) user = old_user, interrupts = old_interrupts;
 }
 
-/* Whether a squashing branch did not hold. */
-static inline bool decide(const struct word *w, uint32_t at)
+static inline stage squashed(stage s) { return s == EMPTY ? s : s | SQUASHED; }
+
+/* The word in ALU decides where the next fetch goes, and whether the two words behind it are cancelled. */
+static inline void decide(const struct word *w, uint32_t at)
 {
     switch (w->kind) {
     case BRANCH:
-        if (holds(w->op, sees(w->a), sees(w->b))) next = fetch_of(at + (uint32_t)w->number);
-        else if (w->squash) { in_if.squashed = in_rf.squashed = true; return true; }
-        return false;
-    case JUMP: next = fetch_of(sees(w->a) + (uint32_t)w->number); return false;
-    case POP: pop(false); return false;
-    case POP_RESTORE: pop(true); return false;
-    default: return false;
+        if (holds(w->op, sees(w->a), sees(w->b))) next = address_of(at + (uint32_t)w->number);
+        else if (w->squash) in_if = squashed(in_if), in_rf = squashed(in_rf), counts.squashes++;
+        return;
+    case JUMP: next = address_of(sees(w->a) + (uint32_t)w->number); return;
+    case POP: pop(false); return;
+    case POP_RESTORE: pop(true); return;
+    default: return;
     }
 }
 
-static uint32_t kept(const struct fetch *f) { return f->there ? f->address | (uint32_t)f->squashed << 31 : 0; }
+static uint32_t kept(stage s) { return s == EMPTY ? 0 : (uint32_t)s; }
 
 static void enter(void)
 {
-    chain[0] = kept(&in_alu), chain[1] = kept(&in_rf), chain[2] = kept(&in_if);
+    chain[0] = kept(in_alu), chain[1] = kept(in_rf), chain[2] = kept(in_if);
     old_user = user, old_interrupts = interrupts, user = interrupts = latch = false;
-    next = fetch_of(0);
-    in_if.there = in_rf.there = in_alu.there = false;
+    next = 0, in_if = in_rf = in_alu = EMPTY;
+    counts.interrupts++;
 }
 
-static inline bool cached(uint32_t address)
+/* Makes a word that is not resident so. */
+static bool fill(struct set *s, uint32_t line, uint32_t word)
 {
-    struct set *s = &sets[address / 16 % SETS];
-    uint32_t line = address / 16;
-    uint16_t bit = 1u << address % 16, pair = 3u << (address % 16 & ~1u);
+    uint16_t pair = 3u << (word & ~1u);
     for (int way = 0; way < WAYS; way++)
         if (s->valid[way] && s->tag[way] == line) {
-            if (s->valid[way] & bit) return true;
             s->valid[way] |= pair;
             return false;
         }
@@ -188,22 +203,30 @@ static inline bool cached(uint32_t address)
     return false;
 }
 
-static inline void cycle(bool request)
+static inline bool cached(uint32_t address)
 {
-    latch |= request;
-    counts.cycles++;
-    if (stall) { stall--; return; }
+    uint32_t line = address / 16, word = address % 16;
+    struct set *s = &sets[line % SETS];
+    for (int way = 0; way < WAYS; way++)
+        if (s->tag[way] == line && s->valid[way] >> word & 1) return true;
+    return fill(s, line, word);
+}
+
+/* A cycle in which no fetch waits. */
+static inline void turn(void)
+{
     in_wb = in_mem, in_mem = in_alu, in_alu = in_rf, in_rf = in_if, in_if = next;
-    commit(live(&in_mem), in_mem.address);
-    counts.fetches++, counts.misses += missed;
+    commit(live(in_mem), address_of(in_mem));
+    counts.fetches++;
+    if (missed) counts.misses++;
     if (halted) return;
-    if (latch && interrupts && in_alu.there) enter(), counts.interrupts++;
+    if (latch && interrupts && in_alu != EMPTY) enter();
     else {
-        next = fetch_of(next.address + 1);
-        counts.squashes += decide(live(&in_alu), in_alu.address);
+        next = address_of(next + 1);
+        decide(live(in_alu), address_of(in_alu));
     }
-    missed = !cached(next.address);
-    stall = missed ? 2 : 0;
+    missed = !cached(address_of(next));
+    if (missed) stall = 2;
 }
 
 int main(int count, char **words)
@@ -214,11 +237,17 @@ int main(int count, char **words)
     for (uint32_t i = 0; i < sizeof handler / sizeof *handler; i++) code[i] = decode(handler[i]);
     for (uint32_t i = sizeof handler / sizeof *handler; i < CODE_BASE; i++) code[i] = idle;
     while (code_end < CODE_BASE + MAX_WORDS && scanf("%x", &word) == 1) code[code_end++] = decode(word);
-    next = fetch_of(CODE_BASE), missed = !cached(next.address), stall = 2;
-    for (uint64_t i = 0; i < cycles && !halted; i++) {
-        bool request = came < requests && i == came * (cycles / requests);
-        came += request;
-        cycle(request);
+    next = CODE_BASE, in_if = in_rf = in_alu = in_mem = in_wb = EMPTY;
+    missed = !cached(CODE_BASE), stall = 2;
+    /* Each round goes from one request to the next, or to the end. */
+    while (counts.cycles < cycles && !halted) {
+        latch |= came < requests;
+        came++;
+        uint64_t end = came < requests ? came * (cycles / requests) : cycles;
+        for (; counts.cycles < end && !halted; counts.cycles++) {
+            if (stall) stall--;
+            else turn();
+        }
     }
     printf("cycles %llu\nfetches %llu\nmisses %llu\nsquashes %llu\ninterrupts %llu\n", (unsigned long long)counts.cycles,
         (unsigned long long)counts.fetches, (unsigned long long)counts.misses, (unsigned long long)counts.squashes,

@@ -1,2 +1,3 @@
 pub mod Turning
 pub mod Leaving
+pub mod Windows

@@ -1,5 +1,5 @@
 -- A turn without a request, from commit to commit.
-use Rattle.std.proofs.Common.{◌≡◌, ℕ, zero, suc, ◌+◌, Bool, true, false, cond, not, ◌&&◌, ◌||◌, List, [], ◌∷◌, ◌++◌, Option, option_to_list, append_assoc, append-nil, refl, sym, ap, ◌∙◌, subst, arith}
+use Rattle.std.proofs.Common.{◌≡◌, ℕ, zero, suc, ◌+◌, Bool, true, false, cond, not, ◌&&◌, ◌||◌, List, [], ◌∷◌, ◌++◌, Option, Some, None, option_to_list, append_assoc, append-nil, refl, sym, ap, ◌∙◌, subst, arith}
 use Rattle.std.specs.Prelude.{slice_index, is_some}
 use Rattle.std.proofs.lemmas.Bool.{eq-eqb}
 use Rattle.mx_isa.specs.declared.inst.Inst.{Inst}
@@ -9,6 +9,7 @@ use Rattle.mx_isa.specs.Effect.{Decision}
 use Rattle.mx_code.specs.Delay.{Code}
 use Rattle.mx_icache.specs.Residency.{resident}
 use Rattle.mx_board.specs.Contents.{Contents}
+use Rattle.mx_pcchain.specs.Fetch.{Fetch}
 use Rattle.mx_pcchain.specs.Chain.{pop}
 use Rattle.mx_pcchain.specs.Modes.{psw_restored}
 use Rattle.mx_turn.specs.declared.latches.Latches.{Latches}
@@ -23,6 +24,10 @@ use Rattle.mx_lane.specs.Lanes.{lane_of, plain, turn_cycles, turn_counts, quietl
 no_request : (on held : Bool) → (on && (false && held)) ≡ false
 no_request true held = refl
 no_request false held = refl
+
+pub unsquashed : (f : Option Fetch) → f ≡ squash false f
+unsquashed None = refl
+unsquashed (Some f) = refl
 
 and_false : (b : Bool) → (b && false) ≡ false
 and_false true = refl

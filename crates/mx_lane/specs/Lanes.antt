@@ -1,5 +1,5 @@
 -- What a lane keeps of the definition's state, once the word in MEM has committed.
-use Rattle.std.specs.Prelude.{◌≡◌, ℕ, zero, suc, Bool, false, not, cond, List, [], ◌∷◌, ◌++◌, Option, Some, None, option_to_list, slice_index}
+use Rattle.std.specs.Prelude.{◌≡◌, ◌<◌, ◌+◌, ℕ, zero, suc, Bool, true, false, not, cond, List, [], ◌∷◌, ◌++◌, Option, Some, None, option_to_list, slice_index}
 use Rattle.mx_isa.specs.Words.{Words, reg, write}
 use Rattle.mx_isa.specs.Views.{dest}
 use Rattle.mx_isa.specs.Effect.{Decision}
@@ -13,6 +13,8 @@ use Rattle.mx_turn.specs.Stages.{fetch_of, live, squash}
 use Rattle.mx_turn.specs.System.{slot_of}
 use Rattle.mx_turn.specs.Cycle.{Machine, shifted, committed, cycled, answer}
 use Rattle.mx_lane.specs.declared.lane.Lane.{Lane}
+use Rattle.mx_lane.specs.declared.queue.Queue.{Queue}
+use Rattle.mx_lane.specs.declared.queue.Window.{Window}
 
 -- the state that it keeps, with what it does not keep
 abbrev pub lane_of : Lane → Contents → List ℕ → Words → Latches → Counted → Machine
@@ -35,6 +37,15 @@ lane_of l b past before shown counts = record {
   shown = shown;
   counts = counts;
 }
+
+-- a lane with what changes in each turn taken from a queue
+abbrev pub joined : Queue → Lane → Lane
+joined q l = record l { next = q.next; rf = q.rf; alu = q.alu; mem = q.mem; wb = q.wb; counts = q.counts; missed = q.missed }
+
+-- the words of a window are resident, and a fetch of one leaves the cache as it is
+pub record IsKnown {C : Type 0} (holds : C → List ℕ → Type 0) (w : Window) (cache : C) : Type 0 where
+  pub here : (past : List ℕ) → holds cache past → (j : ℕ) → j < w.words → resident past (w.low + j) ≡ true
+  pub kept : (past : List ℕ) → holds cache past → (j : ℕ) → j < w.words → holds cache ((w.low + j) ∷ past)
 
 -- what a decision does that goes back to no saved fetch
 abbrev pub plain : Decision → Machine → Machine

@@ -2,5 +2,6 @@
 #![tactic(auto)]
 
 mod lane;
+mod queue;
 
 pub use lane::Lane;

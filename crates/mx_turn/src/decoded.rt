@@ -1,5 +1,5 @@
 //! Code words, decoded once.
-ghost use Rattle.std.specs.Prelude.{◌≡◌, ◌≤◌, ◌-◌, ◌++◌, IfOk, All, map, length, replicate};
+ghost use Rattle.std.specs.Prelude.{◌≡◌, ◌≤◌, ◌-◌, ◌++◌, IfOk, IfSome, IfNone, All, map, length, replicate};
 ghost use Rattle.mx_isa.specs.declared.board.TheConstants.{CODE_BASE, MAX_CODE_WORDS};
 ghost use Rattle.mx_code.specs.Decoding.{inst_of};
 ghost use Rattle.mx_code.specs.Delay.{idle, code_from};
@@ -79,6 +79,18 @@ impl Decoded {
         match both(alloc, handler, user) {
             Ok(insts) => Ok(Decoded { insts }),
             Err(_) => Err(Memory),
+        }
+    }
+
+    /// What a stage does, where it stands; none where it does nothing.
+    pub fn get(&self, stage: Held) -> Option<&Inst>
+        ensures what { IfSome result (λ i. i.now ≡ live (code_in self.now) stage) }
+        ensures fits { IfSome result (λ i. ShiftFits i.now) }
+        ensures nothing { IfNone result (live (code_in self.now) stage ≡ idle) }
+    {
+        match self.insts.get(stage.place()) {
+            Some(inst) => Some(inst),
+            None => None,
         }
     }
 

@@ -1,35 +1,31 @@
-use Rattle.std.proofs.Common.{◌≡◌, ◌++◌, arith, append_assoc, sym, ap, ◌∙◌, subst}
+use Rattle.std.proofs.Common.{◌≡◌, ◌+◌, ◌++◌, sym, ap, ◌∙◌, subst}
 use Rattle.mx_turn.specs.Decoded.{code_in}
 use Rattle.mx_turn.specs.Cycle.{Machine}
-use Rattle.mx_lane.specs.Lanes.{quietly, later_bytes, InTurn}
-use Rattle.mx_lane.proofs.Turning.{quietly_more, bytes_more}
+use Rattle.mx_lane.specs.declared.lane.Lane.{Lane}
+use Rattle.mx_lane.specs.Lanes.{joined, quietly, InTurn}
 use Rattle.mx_lane.proofs.lane.Lane.run.Goals as goal
+use Rattle.mx_lane.proofs.lane.Lane.run.Goals.{After-take}
+use Rattle.mx_lane.proofs.lane.Lane.run.Given as given
 
-pub loop-done-preserved : goal.loop-done-preserved
-loop-done-preserved g c = record {
-  within =
-      let few = c.in_ok-cycles.ensures.few in
-      let room = c.loop-done-test.true in
-      let before = c.loop-done.invariant.within in
-      omega (arith, few, room, before);
-  risen =
-      let now = c.in_ok-cycles.ensures.risen in
-      let before = c.loop-done.invariant.risen in
-      omega (arith, now, before);
-  input = c.in_ok-cycles.ensures.input ∙ c.loop-done.invariant.input;
-  turns = λ m h.
-      let code = code_in c.args.code.now in
-      let input = c.args.board.now.input in
-      let done = c.loop-done.done in
-      let n = c.in_ok-cycles.cycles in
-      let before = c.loop-done.invariant.turns m h in
-      let x : Machine = quietly code input done m in
-      let same = c.loop-done.invariant.input in (
-        subst (λ (y : Machine). InTurn g.C.FetchCache.holds code y c.turn.new.self c.turn.new.board c.turn.new.cache)
-            ((λ k. quietly code (same k) n x) ∙ sym (quietly_more code input done n m)) (c.in_ok-cycles.ensures.next x before.0),
-        c.in_ok-cycles.ensures.console x before.0
-            ∙ (λ k. before.1 k ++ later_bytes code (same k) n x)
-            ∙ append_assoc c.args.console.now.items (later_bytes code input done m) (later_bytes code input n x)
-            ∙ ap (λ l. c.args.console.now.items ++ l) (sym (bytes_more code input done n m)),
-      );
-}
+-- the lane with its queue apart is in the turn that the lane is in
+apart : (g : given.Over) (c : After-take g) (m : Machine)
+    → InTurn g.C.FetchCache.holds (code_in c.args.code.now) m c.args.self.now c.args.board.now c.args.cache.now
+    → InTurn g.C.FetchCache.holds (code_in c.args.code.now) m (joined c.queue-queue.result c.args.self.now) c.args.board.now c.args.cache.now
+apart g c m h =
+    subst (λ (l : Lane). InTurn g.C.FetchCache.holds (code_in c.args.code.now) m l c.args.board.now c.args.cache.now)
+    (sym c.queue-queue.ensures.joined) h
+
+pub returns-clause-next : goal.returns-clause-next
+returns-clause-next g c = λ m h.
+    subst (λ (l : Lane). InTurn g.C.FetchCache.holds (code_in c.args.code.now)
+    (quietly (code_in c.args.code.now) c.args.board.now.input c.in_ok-done.done m) l c.go.new.board c.go.new.cache)
+    (sym c.take.ensures) (c.in_ok-done.ensures.next m (apart g c m h))
+
+pub returns-clause-console : goal.returns-clause-console
+returns-clause-console g c = λ m h. c.in_ok-done.ensures.console m (apart g c m h)
+
+pub returns-clause-risen : goal.returns-clause-risen
+returns-clause-risen g c =
+    ap (λ (l : Lane). l.counts.cycles) c.take.ensures
+    ∙ c.in_ok-done.ensures.risen
+    ∙ ap (λ x. x.cycles + c.in_ok-done.done) c.queue-queue.ensures.counts

@@ -1,0 +1,87 @@
+use Rattle.std.proofs.Common.{◌≡◌, false, not, ◌&&◌, ◌++◌, option_to_list, sym, ap, ◌∙◌}
+use Rattle.std.specs.Prelude.{slice_index}
+use Rattle.mx_isa.specs.declared.inst.Inst.{Inst}
+use Rattle.mx_isa.specs.Words.{reg}
+use Rattle.mx_isa.specs.Effect.{Decision, decides}
+use Rattle.mx_isa.specs.Views.{dest}
+use Rattle.mx_code.specs.Delay.{Code}
+use Rattle.mx_turn.specs.Stages.{address_of, live}
+use Rattle.mx_turn.specs.System.{pops, seen}
+use Rattle.mx_turn.specs.Cycle.{Machine, decision}
+use Rattle.mx_lane.specs.declared.lane.Lane.{Lane}
+use Rattle.mx_lane.specs.Lanes.{lane_of, joined, InTurn}
+use Rattle.mx_lane.proofs.Turning.{goes_on, sends}
+use Rattle.mx_lane.proofs.queue.Queue.turn_of.Goals as goal
+use Rattle.mx_lane.proofs.queue.Queue.turn_of.Goals.{After-count}
+use Rattle.mx_lane.proofs.queue.Queue.turn_of.Given as given
+
+module _ (g : given.Over) (c : After-count g) (code : Code) (m : Machine) (does : c.args.inst.now ≡ live code c.args.self.now.alu)
+    (h : InTurn g.C.FetchCache.holds code m (joined c.args.self.now c.args.lane.now) c.args.board.now c.args.cache.now) where
+  abbrev from : Lane
+  from = joined c.args.self.now c.args.lane.now
+
+  abbrev moved : Lane
+  moved = joined c.move_on.new.self c.args.lane.now
+
+  abbrev committed : Lane
+  committed = joined c.move_on.new.self c.commit-byte.new.lane
+
+  abbrev counted : Lane
+  counted = joined c.count.new.self c.commit-byte.new.lane
+
+  -- where the word in ALU leads
+  abbrev d : Decision
+  d = record { target = c.in-Some.lead.target; cancels = c.in-Some.lead.cancels }
+
+  stays : (pops (live code c.args.self.now.alu) && not c.args.lane.now.psw.current.user) ≡ false
+  stays = ap (λ i. pops i && not c.args.lane.now.psw.current.user) (sym does) ∙ c.in-Some.ensures.stays
+
+  leads : d ≡ decision code (lane_of from c.args.board.now h.past h.before m.shown m.counts)
+  leads =
+      let at = address_of c.args.self.now.alu in
+      let sees = seen c.args.lane.now.registers.slot (slice_index c.args.lane.now.registers.file) in
+      λ k. record {
+        target = (c.in-Some.ensures.target ∙ ap (λ (i : Inst). (decides i at sees).target) does) k;
+        cancels = (c.in-Some.ensures.cancels ∙ ap (λ (i : Inst). (decides i at sees).cancels) does) k;
+      }
+
+  -- the word has come into MEM
+  comes : c.args.inst.now ≡ live code c.move_on.new.self.mem
+  comes =
+      does
+      ∙ ap (live code)
+      (sym (ap (λ (x : Machine). x.mem) (c.move_on.ensures.state c.args.lane.now c.args.board.now h.past h.before m.shown m.counts)))
+
+  rest : counted ≡ record committed { counts = counted.counts; missed = counted.missed }
+  rest = ap (λ q. joined q c.commit-byte.new.lane) c.count.ensures.rest
+
+pub returns-clause-next : goal.returns-clause-next
+returns-clause-next g c = λ code m does h.
+    goes_on g.C.FetchCache.holds code m (from g c code m does h) (moved g c code m does h) (committed g c code m does h) (counted g c code m does h)
+    c.args.board.now c.commit-byte.new.board c.args.cache.now c.count.new.cache (d g c code m does h) c.count.result h
+    (stays g c code m does h) (leads g c code m does h)
+    (λ past before shown counts. c.move_on.ensures.state c.args.lane.now c.args.board.now past before shown counts)
+    (λ past before shown counts. c.commit-byte.ensures.state code past before shown counts (comes g c code m does h))
+    (c.count.ensures.cycles h.past h.held)
+    c.commit-byte.ensures.input
+    c.move_on.ensures.counts
+    c.move_on.ensures.missed
+    (c.count.ensures.counts h.past h.held)
+    (c.count.ensures.missed h.past h.held)
+    (c.count.ensures.cache h.past h.held)
+    (c.commit-byte.ensures.replaced
+    ∙ ap (λ (i : Inst). reg (slice_index c.args.lane.now.registers.file) (dest i)) (comes g c code m does h))
+    (rest g c code m does h)
+
+pub returns-clause-console : goal.returns-clause-console
+returns-clause-console g c = λ code m does h.
+    let sent =
+    sends g.C.FetchCache.holds code m (from g c code m does h) (moved g c code m does h) (committed g c code m does h) (counted g c code m does h)
+    c.args.board.now c.commit-byte.new.board c.args.cache.now c.count.new.cache (d g c code m does h) c.count.result h
+    (stays g c code m does h) (leads g c code m does h)
+    (λ past before shown counts. c.move_on.ensures.state c.args.lane.now c.args.board.now past before shown counts)
+    (λ past before shown counts. c.commit-byte.ensures.state code past before shown counts (comes g c code m does h))
+    (c.count.ensures.cycles h.past h.held)
+    c.commit-byte.result
+    (λ past before shown counts. c.commit-byte.ensures.byte code past before shown counts (comes g c code m does h)) in
+    c.in_ok-push_byte.ensures.ok ∙ ap (λ l. c.args.console.now.items ++ l) (sym sent)

@@ -1,0 +1,339 @@
+//! Turns without a request, with what changes in each of them apart from the registers.
+ghost use Rattle.std.specs.Prelude.{◌≡◌, ◌<◌, ◌≤◌, ◌+◌, ◌^◌, ◌++◌, ◌∷◌, ◌&&◌, not, false, true, ℕ, List, IfOk, OnOk, IfSome, slice_index};
+ghost use Rattle.mx_board.specs.Contents.{Contents};
+ghost use Rattle.mx_isa.specs.Words.{Words, reg};
+ghost use Rattle.mx_isa.specs.Effect.{decides};
+ghost use Rattle.mx_isa.specs.Views.{dest, is_halt};
+ghost use Rattle.mx_code.specs.Delay.{Code, next_of};
+ghost use Rattle.mx_icache.specs.Residency.{resident};
+ghost use Rattle.mx_turn.specs.declared.latches.Latches.{Latches as Shown};
+ghost use Rattle.mx_turn.specs.Counted.{Counted, after_turn, after_stall};
+ghost use Rattle.mx_turn.specs.Decoded.{ShiftFits, code_in};
+ghost use Rattle.mx_turn.specs.Stages.{address_of, fetch_of, live, squash};
+ghost use Rattle.mx_turn.specs.System.{pops, seen};
+ghost use Rattle.mx_turn.specs.Cycle.{Machine as State, shifted, committed, commit_byte, decision};
+ghost use Rattle.mx_lane.specs.Lanes.{lane_of, joined, plain, turn_cycles, turn_counts, quietly, later_bytes, InTurn, IsKnown};
+
+use crate::Lane;
+use mx_board::Board;
+use mx_icache::FetchCache;
+use mx_isa::Inst;
+use mx_text::push_byte;
+use mx_turn::{Coming, Counts, Decoded, Held, decide, read, squash};
+use std::alloc::AllocError;
+
+/// The cycles of the longest turn, with the stalled ones of its fetch.
+const LONGEST_TURN: u64 = 3;
+
+/// So many words from an address on, which are resident.
+#[derive(Clone, Copy)]
+pub struct Window {
+    pub low: u32,
+    pub words: u32,
+}
+
+// Apart from the registers, of which any may be written, the compiler keeps these where the processor reads them at once.
+/// What of a lane changes in each turn: the fetches in the stages, the counts, and whether the fetch of the turn missed; and which
+/// words need not be looked up in the cache.
+#[derive(Drop)]
+pub struct Queue {
+    pub next: Coming,
+    pub rf: Held,
+    pub alu: Held,
+    pub mem: Held,
+    pub wb: Held,
+    pub counts: Counts,
+    pub missed: bool,
+    pub window: Window,
+}
+
+/// Where a word leads that goes back to no saved fetch: to an address, if not to the next word, and whether it cancels the two
+/// words behind it.
+#[derive(Clone, Copy)]
+struct Lead {
+    target: Option<u32>,
+    cancels: bool,
+}
+
+impl Window {
+    /// No word.
+    pub fn empty() -> Window
+        ensures { result.words ≡ 0 }
+    {
+        Window { low: 0, words: 0 }
+    }
+
+    // Whether it has an address, of which the cache then need not be asked.
+    #[inline(always)]
+    #[tactic(auto, using(crate::proofs::Windows::has_here, crate::proofs::Windows::has_kept))]
+    fn has<C: FetchCache>(&self, address: u32, _cache: &C) -> bool
+        requires known { IsKnown C.holds self.now _cache.now }
+        ensures resident { result ≡ true → (past : List ℕ) → C.holds _cache.now past → resident past address ≡ true }
+        ensures keeps { result ≡ true → (past : List ℕ) → C.holds _cache.now past → C.holds _cache.now (address ∷ past) }
+    {
+        if address < self.low {
+            return false;
+        }
+        address - self.low < self.words
+    }
+}
+
+impl Queue {
+    // Where a transfer in ALU leads; none where it goes back to a saved fetch.
+    #[inline(always)]
+    fn transfer(&self, inst: &Inst, lane: &Lane) -> Option<Lead>
+        ensures target { IfSome result (λ l. l.target ≡ (decides inst.now (address_of self.now.alu)
+            (seen lane.now.registers.slot (slice_index lane.now.registers.file))).target) }
+        ensures cancels { IfSome result (λ l. l.cancels ≡ (decides inst.now (address_of self.now.alu)
+            (seen lane.now.registers.slot (slice_index lane.now.registers.file))).cancels) }
+        ensures code_address { IfSome result (λ l. IfSome l.target (λ a. a < 2 ^ 31)) }
+        ensures stays { IfSome result (λ l. (pops inst.now && not lane.now.psw.current.user) ≡ false) }
+    {
+        let decided = decide(inst, self.alu.address(), &lane.registers);
+        if goes_back(decided.pops, lane.psw.current.user) {
+            return None;
+        }
+        Some(Lead {
+            target: decided.target,
+            cancels: decided.cancels,
+        })
+    }
+
+    // Where the word in ALU leads; none where it goes back to a saved fetch, or is a halt. Most words are no transfers.
+    #[inline(always)]
+    fn lead(&self, inst: &Inst, lane: &Lane) -> Option<Lead>
+        ensures target { IfSome result (λ l. l.target ≡ (decides inst.now (address_of self.now.alu)
+            (seen lane.now.registers.slot (slice_index lane.now.registers.file))).target) }
+        ensures cancels { IfSome result (λ l. l.cancels ≡ (decides inst.now (address_of self.now.alu)
+            (seen lane.now.registers.slot (slice_index lane.now.registers.file))).cancels) }
+        ensures code_address { IfSome result (λ l. IfSome l.target (λ a. a < 2 ^ 31)) }
+        ensures stays { IfSome result (λ l. (pops inst.now && not lane.now.psw.current.user) ≡ false) }
+        ensures on { IfSome result (λ l. is_halt inst.now ≡ false) }
+    {
+        match inst {
+            Inst::Branch { .. } | Inst::Jspci { .. } | Inst::Jpc | Inst::Jpcrs => {
+                self.transfer(inst, lane)
+            }
+            Inst::Halt => None,
+            _ => Some(Lead {
+                target: None,
+                cancels: false,
+            }),
+        }
+    }
+
+    // The stages move on, the next fetch being where the word in ALU leads.
+    #[inline(always)]
+    fn move_on(&mut self, lead: &Lead)
+        requires code_address { IfSome lead.now.target (λ a. a < 2 ^ 31) }
+        ensures state { (l : Lane) (b : Contents) (past : List ℕ) (before : Words) (shown : Shown) (counts : Counted)
+            → lane_of (joined self.new l) b (self.new.next.address ∷ past) before shown counts
+            ≡ shifted (plain (record { target = lead.now.target; cancels = lead.now.cancels }) (lane_of (joined self.old l) b past before shown counts)) }
+        ensures counts { self.new.counts ≡ self.old.counts }
+        ensures missed { self.new.missed ≡ self.old.missed }
+        ensures window { self.new.window ≡ self.old.window }
+    {
+        self.wb = self.mem;
+        self.mem = self.alu;
+        self.alu = squashed(lead.cancels, self.rf);
+        self.rf = squashed(lead.cancels, self.next.held());
+        self.next = led_to(lead.target, &self.next);
+    }
+
+    // The word in MEM commits.
+    #[inline(always)]
+    fn commit(&self, inst: &Inst, lane: &mut Lane, board: &mut Board) -> Option<u8>
+        requires fits { ShiftFits inst.now }
+        requires on { is_halt inst.now ≡ false }
+        ensures state { (code : Code) (past : List ℕ) (before : Words) (shown : Shown) (counts : Counted) → inst.now ≡ live code self.now.mem
+            → lane_of (joined self.now lane.new) board.new past (slice_index lane.old.registers.file) shown counts
+            ≡ committed code board.old.input (lane_of (joined self.now lane.old) board.old past before shown counts) }
+        ensures byte { (code : Code) (past : List ℕ) (before : Words) (shown : Shown) (counts : Counted) → inst.now ≡ live code self.now.mem
+            → result ≡ commit_byte code board.old.input (lane_of (joined self.now lane.old) board.old past before shown counts) }
+        ensures input { board.new.input ≡ board.old.input }
+        ensures replaced { lane.new.replaced ≡ reg (slice_index lane.old.registers.file) (dest inst.now) }
+    {
+        lane.replaced = read(&lane.registers.file, inst.dest());
+        lane.registers
+            .commit(inst, self.mem.address(), lane.psw.current.user, board)
+            .byte
+    }
+
+    // The cache is asked for the next fetch. Answers how many cycles that takes.
+    #[inline(never)]
+    fn ask<C: FetchCache>(&mut self, cache: &mut C) -> u64
+        requires room { self.old.counts.cycles + 2 ≤ 2 ^ 63 }
+        ensures cycles { (past : List ℕ) → C.holds cache.old past → result ≡ turn_cycles (resident past self.old.next.address) }
+        ensures few { result ≤ 3 }
+        ensures some { 0 < result }
+        ensures risen { self.new.counts.cycles + 1 ≡ self.old.counts.cycles + result }
+        ensures counts { (past : List ℕ) → C.holds cache.old past
+            → self.new.counts ≡ turn_counts (resident past self.old.next.address) self.old.counts }
+        ensures missed { (past : List ℕ) → C.holds cache.old past → self.new.missed ≡ not (resident past self.old.next.address) }
+        ensures cache { (past : List ℕ) → C.holds cache.old past → C.holds cache.new (self.old.next.address ∷ past) }
+        ensures known { IsKnown C.holds self.new.window cache.new }
+        ensures rest { self.new ≡ record self.old { counts = self.new.counts; missed = self.new.missed; window = self.new.window } }
+    {
+        let address = self.next.address();
+        let hit = cache.fetch(address);
+        self.window = Window {
+            low: address,
+            words: cache.reach(address),
+        };
+        self.missed = !hit;
+        if hit {
+            return 1;
+        }
+        self.counts.stalled();
+        self.counts.stalled();
+        LONGEST_TURN
+    }
+
+    // The turn is counted, with the stalled cycles of the next fetch. Answers how many cycles these are.
+    #[inline(always)]
+    fn count<C: FetchCache>(&mut self, cancels: bool, cache: &mut C) -> u64
+        requires room { self.old.counts.cycles + 3 ≤ 2 ^ 63 }
+        requires known { IsKnown C.holds self.old.window cache.old }
+        ensures cycles { (past : List ℕ) → C.holds cache.old past → result ≡ turn_cycles (resident past self.old.next.address) }
+        ensures few { result ≤ 3 }
+        ensures some { 0 < result }
+        ensures risen { self.new.counts.cycles ≡ self.old.counts.cycles + result }
+        ensures counts { (past : List ℕ) → C.holds cache.old past
+            → self.new.counts ≡ turn_counts (resident past self.old.next.address) (after_turn self.old.missed cancels false self.old.counts) }
+        ensures missed { (past : List ℕ) → C.holds cache.old past → self.new.missed ≡ not (resident past self.old.next.address) }
+        ensures cache { (past : List ℕ) → C.holds cache.old past → C.holds cache.new (self.old.next.address ∷ past) }
+        ensures known { IsKnown C.holds self.new.window cache.new }
+        ensures rest { self.new ≡ record self.old { counts = self.new.counts; missed = self.new.missed; window = self.new.window } }
+    {
+        self.counts.turned(self.missed, cancels, false);
+        if self.window.has(self.next.address(), cache) {
+            self.missed = false;
+            return 1;
+        }
+        self.ask(cache)
+    }
+
+    // One turn of a word, with the stalled cycles of the next fetch. Answers how many cycles they are; 0, and nothing is done,
+    // where the word is a halt or goes back to a saved fetch.
+    #[inline(always)]
+    fn turn_of<C: FetchCache>(
+        &mut self,
+        inst: &Inst,
+        lane: &mut Lane,
+        board: &mut Board,
+        cache: &mut C,
+        console: &mut Vec<u8>,
+    ) -> Result<u64, AllocError>
+        requires room { self.old.counts.cycles + 3 ≤ 2 ^ 63 }
+        requires fits { ShiftFits inst.now }
+        requires known { IsKnown C.holds self.old.window cache.old }
+        ensures few { IfOk result (λ n. n ≤ 3) }
+        ensures risen { IfOk result (λ n. self.new.counts.cycles ≡ self.old.counts.cycles + n) }
+        ensures input { board.new.input ≡ board.old.input }
+        ensures known { OnOk result (IsKnown C.holds self.new.window cache.new) }
+        ensures next { IfOk result (λ n. (code : Code) (m : State) → inst.now ≡ live code self.old.alu
+            → InTurn C.holds code m (joined self.old lane.old) board.old cache.old
+            → InTurn C.holds code (quietly code board.old.input n m) (joined self.new lane.new) board.new cache.new) }
+        ensures console { IfOk result (λ n. (code : Code) (m : State) → inst.now ≡ live code self.old.alu
+            → InTurn C.holds code m (joined self.old lane.old) board.old cache.old
+            → console.new.items ≡ console.old.items ++ later_bytes code board.old.input n m) }
+    {
+        let Some(lead) = self.lead(inst, lane) else {
+            return Ok(0);
+        };
+        self.move_on(&lead);
+        let byte = self.commit(inst, lane, board);
+        push_byte(console, byte)?;
+        Ok(self.count(lead.cancels, cache))
+    }
+
+    // The same of the word in ALU. A squashed one, or one beyond the code, does nothing.
+    #[inline(always)]
+    fn turn<C: FetchCache>(
+        &mut self,
+        lane: &mut Lane,
+        code: &Decoded,
+        board: &mut Board,
+        cache: &mut C,
+        console: &mut Vec<u8>,
+    ) -> Result<u64, AllocError>
+        requires room { self.old.counts.cycles + 3 ≤ 2 ^ 63 }
+        requires known { IsKnown C.holds self.old.window cache.old }
+        ensures few { IfOk result (λ n. n ≤ 3) }
+        ensures risen { IfOk result (λ n. self.new.counts.cycles ≡ self.old.counts.cycles + n) }
+        ensures input { board.new.input ≡ board.old.input }
+        ensures known { OnOk result (IsKnown C.holds self.new.window cache.new) }
+        ensures next { IfOk result (λ n. (m : State) → InTurn C.holds (code_in code.now) m (joined self.old lane.old) board.old cache.old
+            → InTurn C.holds (code_in code.now) (quietly (code_in code.now) board.old.input n m) (joined self.new lane.new) board.new cache.new) }
+        ensures console { IfOk result (λ n. (m : State) → InTurn C.holds (code_in code.now) m (joined self.old lane.old) board.old cache.old
+            → console.new.items ≡ console.old.items ++ later_bytes (code_in code.now) board.old.input n m) }
+    {
+        match code.get(self.alu) {
+            Some(inst) => self.turn_of(inst, lane, board, cache, console),
+            None => self.turn_of(&Inst::default(), lane, board, cache, console),
+        }
+    }
+
+    /// Turns without a request, of at most so many cycles, up to one whose word in ALU is a halt or goes back to a saved fetch.
+    /// Answers how many cycles they are.
+    #[inline(always)]
+    pub fn go<C: FetchCache>(
+        &mut self,
+        most: u64,
+        lane: &mut Lane,
+        code: &Decoded,
+        board: &mut Board,
+        cache: &mut C,
+        console: &mut Vec<u8>,
+    ) -> Result<u64, AllocError>
+        requires room { self.old.counts.cycles + most ≤ 2 ^ 63 }
+        requires known { IsKnown C.holds self.old.window cache.old }
+        ensures most { IfOk result (λ n. n ≤ most) }
+        ensures risen { IfOk result (λ n. self.new.counts.cycles ≡ self.old.counts.cycles + n) }
+        ensures input { OnOk result (board.new.input ≡ board.old.input) }
+        ensures next { IfOk result (λ n. (m : State) → InTurn C.holds (code_in code.now) m (joined self.old lane.old) board.old cache.old
+            → InTurn C.holds (code_in code.now) (quietly (code_in code.now) board.old.input n m) (joined self.new lane.new) board.new cache.new) }
+        ensures console { IfOk result (λ n. (m : State) → InTurn C.holds (code_in code.now) m (joined self.old lane.old) board.old cache.old
+            → console.new.items ≡ console.old.items ++ later_bytes (code_in code.now) board.old.input n m) }
+    {
+        let mut left: u64 = most;
+        while left >= LONGEST_TURN {
+            let cycles = self.turn(lane, code, board, cache, console)?;
+            if cycles == 0 {
+                return Ok(most - left);
+            }
+            left -= cycles;
+        }
+        Ok(most - left)
+    }
+}
+
+// A stage, squashed where a branch cancels it. Few are.
+#[tactic(auto, using(crate::proofs::Turning::unsquashed))]
+fn squashed(cancels: bool, stage: Held) -> Held
+    ensures { result ≡ squash cancels stage }
+{
+    if cancels {
+        Held::of(squash(true, stage.stage()))
+    } else {
+        stage
+    }
+}
+
+// The next fetch: of a target, or of the address behind the last one.
+fn led_to(target: Option<u32>, last: &Coming) -> Coming
+    requires { IfSome target (λ a. a < 2 ^ 31) }
+    ensures { result ≡ fetch_of (next_of target last.now.address) }
+{
+    match target {
+        Some(target) => Coming::at(target),
+        None => last.following(),
+    }
+}
+
+// Whether a word goes back from the system.
+fn goes_back(pops: bool, user: bool) -> bool
+    ensures { result ≡ (pops && not user) }
+{
+    pops && !user
+}
