@@ -1,20 +1,25 @@
 -- Frames one after the other, and the rows that are made of them.
-use Rattle.std.proofs.Common.{◌≡◌, ℕ, zero, suc, ◌+◌, ◌-◌, ◌≤◌, true, false, Some, List, [], ◌∷◌, ◌++◌, length, sym, ap, ◌∙◌, subst, arith, refl}
-use Rattle.std.specs.Prelude.{All, map, take, drop, min, slice_index_or}
+use Rattle.std.proofs.Common.{◌≡◌, ℕ, zero, suc, ◌+◌, ◌-◌, ◌<◌, ◌≤◌, Bool, true, false, Some, None, List, [], ◌∷◌, ◌++◌, length, sym, ap, ◌∙◌, subst, ⊎_elim, inl, inr, arith, refl}
+use Rattle.std.specs.Prelude.{All, map, take, drop, min, slice_get, slice_index_or, leb, nat_lt, cond}
+use Rattle.std.specs.List.{position_or_len}
 use Rattle.std.proofs.lemmas.List.{map-append, length-append, take_min}
 use Rattle.std.proofs.lemmas.List.Elements.{All-append}
+use Rattle.std.proofs.lemmas.List.Sums.{passes_at_first, fails_before_first}
+use Rattle.std.proofs.lemmas.Bool.{cases_lt}
+use Rattle.std.proofs.lemmas.Bool.Decides.{nat_tests}
+use Rattle.std.proofs.lemmas.Option.{slice_get_within, slice_get-get_or, slice_get_cases, get_or_from_slice_get}
 use Rattle.mx_turn.specs.declared.Cycled.{Cycled}
 use Rattle.mx_turn.specs.Program.{Program, state_after}
 use Rattle.mx_turn.specs.Run.{is_requested, bits}
 use Rattle.mx_report.proofs.Runs.{next_halted}
 use Rattle.lab_draw.specs.declared.frame.Frame.{Frame}
 use Rattle.lab_draw.specs.declared.cell.Cell.{Cell}
-use Rattle.lab_draw.specs.declared.rows.TheConstants.{SPAN}
 use Rattle.lab_draw.specs.declared.rows.Row.{Row}
 use Rattle.lab_draw.specs.Cells.{cells_from}
 use Rattle.lab_draw.specs.Frames.{IsFrameOf, IsFrame, AreFrames, IsEnd}
 use Rattle.lab_draw.specs.Stages.{cell_in}
-use Rattle.lab_draw.specs.Rows.{IsRow, numbers_from, AreRows}
+use Rattle.lab_draw.specs.Coming.{HaveCome}
+use Rattle.lab_draw.specs.Rows.{span, first_come, IsRow, numbers_from, AreRows}
 use Rattle.lab_draw.proofs.Cells.{cell_is_defined}
 
 module _ (p : Program) (requests : List ℕ) where
@@ -72,9 +77,9 @@ module _ (p : Program) (requests : List ℕ) where
   row_is_defined : (n : ℕ) (frames : List Frame) (row : Row) → AreFrames p requests n frames → IsRow frames row
       → row.cells.items ≡ cells_from p requests row.fetch (n + row.begins) (length row.cells.items)
   row_is_defined n frames row are is =
-      let seen : List Frame = take SPAN (drop row.begins frames) in
+      let seen : List Frame = take span (drop row.begins frames) in
       is.cells
-      ∙ cells_are_defined (n + row.begins) row.fetch seen (first_frames SPAN _ _ (later_frames row.begins n frames are))
+      ∙ cells_are_defined (n + row.begins) row.fetch seen (first_frames span _ _ (later_frames row.begins n frames are))
       ∙ ap (λ (cells : List Cell). cells_from p requests row.fetch (n + row.begins) (length cells)) (sym is.cells)
 
   pub rows_are_defined : (n : ℕ) (frames : List Frame) (rows : List Row) → AreFrames p requests n frames → All (IsRow frames) rows
@@ -95,19 +100,82 @@ one_more : (n : ℕ) → n + 1 ≡ suc n
 one_more n = omega arith
 
 -- one more row
-pub more_rows : (frames : List Frame) (first : ℕ) (rows others : List Row) (row : Row) → AreRows frames first rows → IsRow frames row
-    → row.fetch ≡ first + length rows → others ≡ rows ++ row ∷ [] → AreRows frames first others
-more_rows frames first rows others row are is fetch e = subst (AreRows frames first) (sym e) (record {
+pub more_rows : (frames : List Frame) (first passed : ℕ) (rows others : List Row) (row : Row) → HaveCome frames first passed rows → IsRow frames row
+    → row.fetch ≡ first + length rows → others ≡ rows ++ row ∷ [] → HaveCome frames first passed others
+more_rows frames first passed rows others row are is fetch e = subst (HaveCome frames first passed) (sym e) (record {
   numbers =
       map-append (λ (r : Row). r.fetch) rows (row ∷ [])
       ∙ (λ k. are.numbers k ++ fetch k ∷ [])
       ∙ numbers_more first (length rows)
       ∙ sym (ap (numbers_from first) (length-append rows (row ∷ []) ∙ one_more (length rows)));
   each = All-append (IsRow frames) rows (row ∷ []) are.each (only frames row is);
+  all = λ k f l s.
+      let less = are.all k f l s in
+      let longer : length (rows ++ row ∷ []) ≡ length rows + 1 = length-append rows (row ∷ []) in
+      omega (arith, less, longer);
 })
 
-pub no_rows : (frames : List Frame) (first : ℕ) → AreRows frames first []
-no_rows frames first = record { numbers = refl; each = λ k d lt. absurd (omega (arith, lt)) }
+-- the place of a frame that has come to a fetch, where none before it has
+module _ (fetch i : ℕ) (frames : List Frame) (f : Frame) (is : slice_get frames i ≡ Some f) (come : fetch ≤ f.turn)
+    (before : (k : ℕ) (g : Frame) → k < i → slice_get frames k ≡ Some g → g.turn < fetch) where
+  abbrev has_come : Frame → Bool
+  has_come g = leb fetch g.turn
+
+  abbrev found : ℕ
+  found = position_or_len has_come frames
+
+  is_inside : i < length frames
+  is_inside = slice_get_within frames i f is
+
+  not_early : found < i → ⊥
+  not_early less =
+      let inside : found < length frames = omega (arith, less, is_inside) in
+      let passes : leb fetch (slice_index_or frames found f).turn ≡ true = passes_at_first has_come frames f inside in
+      let behind = before found (slice_index_or frames found f) less (slice_get-get_or frames found f inside) in
+      grind (arith, nat_tests)
+
+  not_late : i < found → ⊥
+  not_late later =
+      let fails : has_come f ≡ false = ap has_come (sym (get_or_from_slice_get frames i f f is)) ∙ fails_before_first has_come frames i f later in
+      grind (arith, nat_tests)
+
+  come_at : first_come fetch frames ≡ Some i
+  come_at =
+      let same : found ≡ i = ⊎_elim
+      (λ less. absurd (not_early less))
+      (λ more. ⊎_elim (λ later. absurd (not_late later)) (λ no_later. omega (arith, more, no_later)) (cases_lt i found))
+      (cases_lt found i) in
+      let inside : found < length frames = omega (arith, same, is_inside) in
+      let test : nat_lt found (length frames) ≡ true = grind (arith, nat_tests) in
+      ap (λ b. cond b (Some found) None) test ∙ ap (λ k. Some k) same
+
+-- the first frame that has come to the next fetch
+pub comes_first : (frames : List Frame) (first passed fetch : ℕ) (rows : List Row) → HaveCome frames first passed rows → passed < length frames
+    → fetch ≡ first + length rows → ((f : Frame) → slice_get frames passed ≡ Some f → fetch ≤ f.turn) → first_come fetch frames ≡ Some passed
+comes_first frames first passed fetch rows so_far within next come = elim (slice_get_cases frames passed).1 [
+  | inl h ↦ come_at fetch passed frames h.0 h.2 (come h.0 h.2) (λ k g l s. let less = so_far.all k g l s in omega (arith, less, next))
+  | inr h ↦ absurd (let beyond = h.0 in omega (arith, beyond, within))
+]
+
+-- a frame is passed, where no fetch is left to whose turn it has come
+pub one_passed : (frames : List Frame) (first passed : ℕ) (rows : List Row) → HaveCome frames first passed rows
+    → ((f : Frame) → slice_get frames passed ≡ Some f → f.turn < first + length rows) → HaveCome frames first (suc passed) rows
+one_passed frames first passed rows so_far here = record {
+  numbers = so_far.numbers;
+  each = so_far.each;
+  all = λ k f l s. ⊎_elim
+      (λ less. so_far.all k f less s)
+      (λ last. let same : k ≡ passed = omega (arith, l, last) in here f (subst (λ j. slice_get frames j ≡ Some f) same s))
+      (cases_lt k passed);
+}
+
+-- all frames are passed
+pub have_come : (frames : List Frame) (first : ℕ) (rows : List Row) → HaveCome frames first (length frames) rows → AreRows frames first rows
+have_come frames first rows h =
+    record { numbers = h.numbers; each = h.each; all = λ k d l. h.all k (slice_index_or frames k d) l (slice_get-get_or frames k d l) }
+
+pub no_rows : (frames : List Frame) (first : ℕ) → HaveCome frames first 0 []
+no_rows frames first = record { numbers = refl; each = λ k d lt. absurd (omega (arith, lt)); all = λ k f lt s. absurd (omega (arith, lt)) }
 
 -- a part of the frames, as a slice gives it
 pub first_ones : (n m : ℕ) (frames : List Frame) → m ≡ min n (length frames) → take (m - 0) frames ≡ take n frames

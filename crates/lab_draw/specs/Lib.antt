@@ -2,3 +2,4 @@ pub mod Cells
 pub mod Frames
 pub mod Stages
 pub mod Rows
+pub mod Coming

@@ -1,10 +1,11 @@
 //! The rows of a drawing.
-ghost use Rattle.std.specs.Prelude.{◌≡◌, ◌≤◌, ◌+◌, ◌<◌, ◌^◌, All, IfOk, OnOk, ℕ, List, map, take, drop, length, EachIndex, slice_index_or};
+ghost use Rattle.std.specs.Prelude.{◌≡◌, ◌≤◌, ◌+◌, ◌<◌, All, IfOk, IfSome, IfNone, OnOk, Some, ℕ, List, map, take, length, slice_get, suc};
 ghost use Rattle.mx_turn.specs.Program.{Program};
 ghost use Rattle.lab_draw.specs.Cells.{cells_from};
+ghost use Rattle.lab_draw.specs.Coming.{HaveCome};
 ghost use Rattle.lab_draw.specs.Frames.{AreFrames};
 ghost use Rattle.lab_draw.specs.Stages.{cell_in as frame_cell};
-ghost use Rattle.lab_draw.specs.Rows.{address_of, earlier, first_address, first_fetch, IsRow, AreRows};
+ghost use Rattle.lab_draw.specs.Rows.{address_of, earlier, first_address, first_come, first_fetch, IsRow, AreRows};
 
 use crate::{Cell, Frame, cell_in, stage_in};
 use mx_io::Memory;
@@ -21,7 +22,7 @@ pub struct Row {
     pub fetch: u64,
     /// Its address; none where the frames end before its turn.
     pub address: Option<u32>,
-    /// The place of the first of its cells among the frames.
+    /// The place of the first of its cells among the frames: of the first one that has come to its turn.
     pub begins: usize,
     /// What the frames from there on show of it.
     pub cells: Vec<Cell>,
@@ -77,7 +78,7 @@ fn first_frames(frames: &[Frame], count: usize) -> &[Frame]
 // The row of a fetch, from a frame on.
 fn row_of(alloc: Global, frames: &[Frame], fetch: u64, begins: usize) -> Result<Row, AllocError>
     requires { begins ≤ length frames.now }
-    ensures row { IfOk result (IsRow frames.now) }
+    ensures row { IfOk result (λ row. first_come fetch frames.now ≡ Some begins → IsRow frames.now row) }
     ensures fetch { IfOk result (λ row. row.fetch ≡ fetch) }
     ensures begins { IfOk result (λ row. row.begins ≡ begins) }
 {
@@ -90,7 +91,7 @@ fn row_of(alloc: Global, frames: &[Frame], fetch: u64, begins: usize) -> Result<
     })
 }
 
-// Appends the row of a fetch.
+// Appends the row of the next fetch, which begins at the first frame that has come to its turn.
 fn add_row(
     alloc: Global,
     frames: &[Frame],
@@ -101,33 +102,28 @@ fn add_row(
 ) -> Result<(), AllocError>
     requires begins { begins < length frames.now }
     requires next { fetch ≡ first + length rows.old.items }
-    ensures { OnOk result (AreRows frames.now first rows.old.items → AreRows frames.now first rows.new.items) }
+    requires come { (f : Frame) → slice_get frames.now begins ≡ Some f → fetch ≤ f.turn }
+    requires so_far { HaveCome frames.now first begins rows.old.items }
+    ensures so_far { OnOk result (HaveCome frames.now first begins rows.new.items) }
+    ensures count { OnOk result (length rows.new.items ≡ length rows.old.items + 1) }
 {
     let row = row_of(alloc, frames, fetch, begins)?;
     rows.push(row)?;
     Ok(())
 }
 
-// Appends the row of the fetch behind the last one, if its turn has come at the frame where it begins.
-fn push_row(
-    alloc: Global,
-    frames: &[Frame],
-    begins: usize,
-    first: u64,
-    rows: &mut Vec<Row>,
-) -> Result<(), AllocError>
-    requires { begins < length frames.now }
-    ensures { OnOk result (AreRows frames.now first rows.old.items → AreRows frames.now first rows.new.items) }
+// The fetch behind so many rows, if its turn has come.
+fn next_fetch(first: u64, count: usize, turn: u64) -> Option<u64>
+    ensures some { IfSome result (λ fetch. (fetch ≡ first + count) × (fetch ≤ turn)) }
+    ensures none { IfNone result (turn < first + count) }
 {
-    if let Some(fetch) = first.checked_add(rows.len() as u64) {
-        if fetch <= frames[begins].turn {
-            return add_row(alloc, frames, begins, first, fetch, rows);
-        }
+    match first.checked_add(count as u64) {
+        Some(fetch) if fetch <= turn => Some(fetch),
+        _ => None,
     }
-    Ok(())
 }
 
-// Appends the rows of the five fetches that may be in a stage at a frame, those that are there aside.
+// Appends the row of each fetch whose turn has come at a frame, those that are there aside.
 fn push_rows(
     alloc: Global,
     frames: &[Frame],
@@ -135,18 +131,19 @@ fn push_rows(
     first: u64,
     rows: &mut Vec<Row>,
 ) -> Result<(), AllocError>
-    requires { begins < length frames.now }
-    ensures { OnOk result (AreRows frames.now first rows.old.items → AreRows frames.now first rows.new.items) }
+    requires begins { begins < length frames.now }
+    requires so_far { HaveCome frames.now first begins rows.old.items }
+    ensures { OnOk result (HaveCome frames.now first (suc begins) rows.new.items) }
 {
-    push_row(alloc, frames, begins, first, rows)?;
-    push_row(alloc, frames, begins, first, rows)?;
-    push_row(alloc, frames, begins, first, rows)?;
-    push_row(alloc, frames, begins, first, rows)?;
-    push_row(alloc, frames, begins, first, rows)
+    let turn = frames[begins].turn;
+    'rows: while let Some(fetch) = next_fetch(first, rows.len(), turn) {
+        add_row(alloc, frames, begins, first, fetch, rows)?;
+    }
+    Ok(())
 }
 
 // The rows from a fetch on.
-#[tactic(auto, using(crate::proofs::Recorded::no_rows))]
+#[tactic(auto, using(crate::proofs::Recorded::no_rows, crate::proofs::Recorded::have_come))]
 fn rows_from(alloc: Global, frames: &[Frame], first: u64) -> Result<Vec<Row>, AllocError>
     ensures { IfOk result (λ v. AreRows frames.now first v.items) }
 {
@@ -167,7 +164,8 @@ fn first_fetch(frames: &[Frame]) -> u64
     }
 }
 
-/// The rows of some frames, a fetch each: first the fetches that may be in a stage in the first of them.
+/// The rows of some frames, one for each fetch from the oldest that may be in a stage in the first of them to the newest of
+/// the last.
 ///
 /// # Errors
 ///

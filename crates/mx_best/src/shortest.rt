@@ -4,6 +4,7 @@ ghost use Rattle.mx_blocks.specs.declared.block.Plan.{Plan};
 ghost use Rattle.mx_blocks.specs.Leaders.{size};
 ghost use Rattle.mx_validate.specs.Padded.{items_of};
 ghost use Rattle.mx_validate.specs.Validity.{Valid, end_count};
+ghost use Rattle.mx_reorg.specs.Greedy.{IsGreedy};
 ghost use Rattle.mx_best.specs.Shortest.{IsShortest, most_searched};
 
 use crate::search::fill;
@@ -15,12 +16,14 @@ use mx_validate::Proposer;
 /// The greatest number of instructions of a block whose shortest plan is looked for.
 pub const MOST_SEARCHED: usize = 8;
 
-/// A valid plan of a block of at most `MOST_SEARCHED` instructions; no valid plan of it has fewer items.
+/// A valid plan of a block of at most `MOST_SEARCHED` instructions; no valid plan of it has fewer items. Where the greedy
+/// plan is such a plan, it is the answer.
 ///
 /// The greedy plan bounds the length, and each shorter length is searched, the least first.
 pub fn best(block: &Block) -> Plan
     requires { size block.now ≤ most_searched }
-    ensures { IsShortest block.now result }
+    ensures shortest { IsShortest block.now result }
+    ensures greedy { (plan : Plan) → IsGreedy block.now plan → IsShortest block.now plan → result ≡ plan }
 {
     let mut scheduler = ListProposer;
     let greedy = scheduler.propose(block);

@@ -1,5 +1,4 @@
 use Rattle.std.proofs.Common.{◌≡◌, ◌≤◌, ◌+◌, suc, true, ℕ, arith, sym, ap, ◌∙◌, subst}
-use Rattle.mx_turn.specs.Cycle.{Machine}
 use Rattle.mx_turn.specs.Run.{bits}
 use Rattle.mx_report.proofs.Runs.{state_at, state_still, console_still}
 use Rattle.lab_draw.proofs.Recorded.{halts_with}
