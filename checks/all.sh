@@ -3,7 +3,7 @@
 # usage: checks/all.sh
 top=$(CDPATH='' cd -- "$(dirname -- "$0")/.." && pwd -P) || exit 1
 failed=
-for check in deps.py edits.py reading.py rows.sh edge.sh planned.sh profiles.py memory.sh; do
+for check in deps.py edits.py reading.py rows.sh edge.sh words.sh planned.sh profiles.py memory.sh; do
     if "$top/checks/$check" >"/tmp/mx-check.$$" 2>&1; then
         echo "ok: $check"
     else

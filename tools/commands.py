@@ -28,6 +28,7 @@ PAGES = {"mx_run": "COMMANDS", "mx_lab": "LAB", "mx_cc": "C"}
 BUDGET = Option("--budget", "N", "0 to 100,000,000 cycles (1,000,000)")
 INTERRUPTS = Option("--interrupts", "FILE", "the cycles of requests, one a line, each above the one before (none)")
 INPUT = Option("--input", "FILE", "the bytes that a source with .input reads (none)")
+OUTPUT = Option("--output", "FILE", "the file that what is printed goes to (standard output)")
 RUN = (
     BUDGET,
     INTERRUPTS,
@@ -62,11 +63,15 @@ COMMANDS = {
         Option("--as", "FORM", "text, svg, html, kanata or vcd (text)"),
         Option("--from", "N", "0 to 100,000,000: the first cycle that is drawn (0)"),
         Option("--cycles", "N", "1 to 100,000 cycles (64)"),
-        BUDGET, INTERRUPTS, INPUT)),
-    "check": Command("mx_lab", "SOURCE", "tells every faulty line of a source, and what is wrong with it"),
-    "profile": Command("mx_lab", "SOURCE", "tells what each line of a source costs in a run", (BUDGET, INTERRUPTS, INPUT)),
-    "compare": Command("mx_lab", "SOURCE", "compares what four schedulers make of a source", (BUDGET, INPUT)),
-    "plans": Command("mx_lab", "SOURCE FILE", "runs a source by the plans of a scheduler of one's own", (BUDGET, INTERRUPTS, INPUT)),
+        BUDGET, INTERRUPTS, INPUT, OUTPUT)),
+    "check": Command("mx_lab", "SOURCE", "tells every faulty line of a source, and what is wrong with it", (
+        Option("--all", "", "shows more than the first twenty"),
+        Option("--as", "FORM", "text or json (text)"), OUTPUT)),
+    "explain": Command("mx_lab", "SOURCE", "tells how a run stands beside what the source means", (
+        Option("--as", "FORM", "text or json (text)"), BUDGET, INTERRUPTS, INPUT, OUTPUT)),
+    "profile": Command("mx_lab", "SOURCE", "tells what each line of a source costs in a run", (BUDGET, INTERRUPTS, INPUT, OUTPUT)),
+    "compare": Command("mx_lab", "SOURCE", "compares what four schedulers make of a source", (BUDGET, INTERRUPTS, INPUT, OUTPUT)),
+    "plans": Command("mx_lab", "SOURCE FILE", "runs a source by the plans of a scheduler of one's own", (BUDGET, INTERRUPTS, INPUT, OUTPUT)),
     "cc": Command("mx_cc", "FILE.c .. -o SOURCE", "compiles with gcc, and translates to a source",
                   more="Options before the files are gcc's; without -O0, -O1, -O3 or -Os it is -O2. It needs the Debian package gcc-mips-linux-gnu."),
     "c": Command("mx_cc", "FILE.c", "compiles with gcc at -O2, and runs it", RUN,

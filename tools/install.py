@@ -111,7 +111,8 @@ def zsh():
     commands = "\n".join(f'        "{name}:{it.text}"' for name, it in COMMANDS.items())
     cases = ""
     for name, it in COMMANDS.items():
-        options = " ".join(f"'{option.name}[{option.text.replace(':', ',')}]:{option.value}:_files'" for option in it.options)
+        options = " ".join(
+            f"'{option.name}[{option.text.replace(':', ',')}]{f':{option.value}:_files' if option.value else ''}'" for option in it.options)
         cases += f"        {name}) _arguments {options} '*:file:_files' ;;\n"
     return f"""#compdef zanderanvil
 _zanderanvil() {{
@@ -135,7 +136,9 @@ def fish():
     lines = ["complete -c zanderanvil -n __fish_use_subcommand -l version -d 'tells the version'"]
     for name, it in COMMANDS.items():
         lines.append(f'complete -c zanderanvil -n __fish_use_subcommand -a {name} -d "{it.text}"')
-        lines += [f"complete -c zanderanvil -n '__fish_seen_subcommand_from {name}' -l {option.name[2:]} -r -d \"{option.text}\"" for option in it.options]
+        lines += [
+            f"complete -c zanderanvil -n '__fish_seen_subcommand_from {name}' -l {option.name[2:]}{' -r' if option.value else ''} -d \"{option.text}\""
+            for option in it.options]
     return "\n".join(lines) + "\n"
 
 

@@ -4,15 +4,17 @@
 mod checked;
 mod compared;
 mod drawn;
+mod explained;
+mod failure;
 mod given;
 mod linked;
 mod planned;
 mod printed;
 mod profiled;
 mod ran;
-mod sentence;
 mod top;
 mod words;
 
 pub use cmd_answer::Status;
-pub use top::lab;
+pub use failure::{Cause, Causes, Unknown};
+pub use top::{Ended, lab};

@@ -6,6 +6,7 @@ ghost use Rattle.mx_link.specs.Linked.{IsLinked};
 ghost use Rattle.mx_isa.specs.Board.{board};
 
 use cmd_answer::{FileKind, Reply, Status, line_reply, read_file};
+use lab_check::{fault_code, fault_name};
 use mx_asm::assemble;
 use mx_io::{Memory, Shelf};
 use mx_isa::BOARD;
@@ -23,30 +24,10 @@ pub struct LinkedSource {
     pub linked: Linked,
 }
 
-/// The text of a fault.
-pub fn fault_text(fault: Fault) -> &'static str {
-    match fault {
-        Fault::BadByte => "F1 BadByte",
-        Fault::BadToken => "F2 BadToken",
-        Fault::UnknownMnemonic => "F3 UnknownMnemonic",
-        Fault::BadOperands => "F4 BadOperands",
-        Fault::BadRegister => "F5 BadRegister",
-        Fault::NumberOutOfRange => "F6 NumberOutOfRange",
-        Fault::DuplicateLabel => "F7 DuplicateLabel",
-        Fault::UndefinedLabel => "F8 UndefinedLabel",
-        Fault::WrongLabelKind => "F9 WrongLabelKind",
-        Fault::SystemInstruction => "F10 SystemInstruction",
-        Fault::BadDirective => "F11 BadDirective",
-        Fault::TooManyInstructions => "F12 TooManyInstructions",
-        Fault::DataFull => "F13 DataFull",
-        Fault::LineTooLong => "F14 LineTooLong",
-    }
-}
-
 // The reply to a faulty source.
 fn fault_reply(alloc: Global, line: u32, fault: Fault) -> Result<Reply, Memory> {
-    let fault = fault_text(fault);
-    match format!(in alloc; "line {line}: {fault}") {
+    let (code, name) = (fault_code(fault), fault_name(fault));
+    match format!(in alloc; "line {line}: {code} {name}") {
         Ok(text) => line_reply(alloc, Status::Refused, text.as_str()),
         Err(_) => Err(Memory),
     }

@@ -1,7 +1,7 @@
 //! `plans`: its words and its reply.
 ghost use Rattle.std.specs.Prelude.{◌≤◌, length, IfOk};
 
-use crate::given::{number_given, word_given};
+use crate::given::{file_given, file_if_given, number_given};
 use crate::linked::{overlong_reply, read_source};
 use crate::words::{run_options, source_arg};
 use clap::{Arg, ArgAction, ArgMatches, Command};
@@ -103,15 +103,15 @@ fn run_reply<S: Shelf, W: Watcher>(
     matches: &ArgMatches,
     watcher: W,
 ) -> Result<Reply, Memory> {
-    let plans = match plans_of(alloc, shelf, source, word_given(matches, "FILE"))? {
+    let plans = match plans_of(alloc, shelf, source, file_given(matches, "FILE"))? {
         Ok(plans) => plans,
         Err(reply) => return Ok(reply),
     };
-    let requests = match read_requests(alloc, shelf, matches.get_str("interrupts"))? {
+    let requests = match read_requests(alloc, shelf, file_if_given(matches, "interrupts"))? {
         Ok(requests) => requests,
         Err(reply) => return Ok(reply),
     };
-    let input = match read_input(alloc, shelf, matches.get_str("input"))? {
+    let input = match read_input(alloc, shelf, file_if_given(matches, "input"))? {
         Ok(input) => input,
         Err(reply) => return Ok(reply),
     };
@@ -138,7 +138,7 @@ pub fn plans_reply<S: Shelf, W: Watcher>(
     matches: &ArgMatches,
     watcher: W,
 ) -> Result<Reply, Memory> {
-    let source = match read_source(alloc, shelf, word_given(matches, "SOURCE"))? {
+    let source = match read_source(alloc, shelf, file_given(matches, "SOURCE"))? {
         Ok(source) => source,
         Err(reply) => return Ok(reply),
     };

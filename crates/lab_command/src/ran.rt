@@ -7,7 +7,7 @@ ghost use Rattle.mx_link.specs.Linked.{IsLinked};
 ghost use Rattle.mx_board.specs.Contents.{bytes_in};
 ghost use Rattle.mx_isa.specs.Board.{board};
 
-use crate::given::{number_given, word_given};
+use crate::given::{file_given, file_if_given, number_given};
 use crate::linked::{LinkedSource, read_linked};
 use clap::ArgMatches;
 use cmd_answer::Reply;
@@ -46,15 +46,15 @@ pub fn read_run<S: Shelf>(
 ) -> Result<Result<GivenRun, Reply>, Memory>
     ensures { IfOk result (λ r. IfOk r (λ run. IsLinked IsGreedy from_target run.program.source board run.program.linked)) }
 {
-    let program = match read_linked(alloc, shelf, word_given(matches, "SOURCE"))? {
+    let program = match read_linked(alloc, shelf, file_given(matches, "SOURCE"))? {
         Ok(program) => program,
         Err(reply) => return Ok(Err(reply)),
     };
-    let requests = match read_requests(alloc, shelf, matches.get_str("interrupts"))? {
+    let requests = match read_requests(alloc, shelf, file_if_given(matches, "interrupts"))? {
         Ok(requests) => requests,
         Err(reply) => return Ok(Err(reply)),
     };
-    let input = match read_input(alloc, shelf, matches.get_str("input"))? {
+    let input = match read_input(alloc, shelf, file_if_given(matches, "input"))? {
         Ok(input) => input,
         Err(reply) => return Ok(Err(reply)),
     };

@@ -1,6 +1,7 @@
 //! The words of the command line.
 use crate::checked::check_command;
 use crate::compared::compare_command;
+use crate::explained::explain_command;
 use crate::planned::plans_command;
 use crate::profiled::profile_command;
 use clap::{Arg, ArgAction, ArgMatches, Command, value_parser};
@@ -17,7 +18,7 @@ pub fn source_arg<'a>(alloc: Global) -> Arg<'a> {
     Arg::new(alloc, "SOURCE")
         .required(true)
         .action(ArgAction::Set)
-        .help("the source, in assembly language")
+        .help("the source, in assembly language; - is standard input")
 }
 
 // An option with a file's name.
@@ -66,6 +67,18 @@ pub fn run_options<'a>(alloc: Global, command: Command<'a>) -> Result<Command<'a
         .arg(file_option(alloc, "input", "the bytes of the input"))
 }
 
+// The file that a command's output goes to.
+fn with_output<'a>(alloc: Global, command: Command<'a>) -> Result<Command<'a>, AllocError> {
+    command.arg(
+        Arg::new(alloc, "output")
+            .short('o')
+            .long("output")
+            .value_name("FILE")
+            .action(ArgAction::Set)
+            .help("writes what is printed to a file"),
+    )
+}
+
 // The form of a picture.
 fn form_option<'a>(alloc: Global) -> Arg<'a> {
     Arg::new(alloc, "as")
@@ -109,11 +122,12 @@ fn command_line<'a>(alloc: Global) -> Result<Command<'a>, AllocError> {
         .version("1.0")
         .subcommand_required(true)
         .arg_required_else_help(true)
-        .subcommand(draw_command(alloc)?)?
-        .subcommand(check_command(alloc)?)?
-        .subcommand(profile_command(alloc)?)?
-        .subcommand(compare_command(alloc)?)?
-        .subcommand(plans_command(alloc)?)
+        .subcommand(with_output(alloc, draw_command(alloc)?)?)?
+        .subcommand(with_output(alloc, check_command(alloc)?)?)?
+        .subcommand(with_output(alloc, explain_command(alloc)?)?)?
+        .subcommand(with_output(alloc, profile_command(alloc)?)?)?
+        .subcommand(with_output(alloc, compare_command(alloc)?)?)?
+        .subcommand(with_output(alloc, plans_command(alloc)?)?)
 }
 
 /// What the words say.

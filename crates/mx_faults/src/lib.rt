@@ -15,5 +15,6 @@ pub use laws::{
     first_faulty_line, least_is_least,
 };
 pub use line_fault::LineFault;
-pub use span::Span;
+pub use role::{Role, places};
+pub use span::{Span, token_span};
 pub use walk::assemble_all;

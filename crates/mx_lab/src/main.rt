@@ -2,15 +2,41 @@
 #![tactic(auto)]
 
 use cmd_answer::Status;
-use lab_command::lab;
+use lab_command::{Cause, Causes, lab};
 use lab_watch::OnTerminal;
 use mx_io::{RealShelf, RealSink};
-use std::env;
-use std::io::ErrorKind;
+use std::alloc::Global;
+use std::io::{ErrorKind, Read, Write};
 use std::process::ExitCode;
+use std::{env, fs};
 
 /// The exit status where a word is not UTF-8.
 const NOT_TEXT: u8 = 10;
+
+// The files of the system.
+#[derive(Clone, Copy)]
+struct OnSystem<'a> {
+    rt: &'a HostRuntime,
+}
+
+impl Causes for OnSystem<'_> {
+    fn cause(&self, _alloc: Global, name: &str) -> Option<Cause> {
+        let mut byte = [0u8; 1];
+        let read = match fs::open(self.rt, name) {
+            Ok(mut file) => file.read(&mut byte),
+            Err(error) => Err(error),
+        };
+        match read {
+            Ok(_) => None,
+            Err(error) => Some(match error.kind() {
+                ErrorKind::NotFound => Cause::Missing,
+                ErrorKind::PermissionDenied => Cause::Denied,
+                ErrorKind::IsADirectory => Cause::Folder,
+                _ => Cause::Other,
+            }),
+        }
+    }
+}
 
 fn main(rt: HostRuntime) -> ExitCode {
     let alloc = rt.alloc();
@@ -33,12 +59,15 @@ fn main(rt: HostRuntime) -> ExitCode {
     }
     let mut shelf = RealShelf::new(&rt);
     let mut out = RealSink::new(&rt);
-    let status = lab(
+    let ended = lab(
         alloc,
         words.as_slice(),
         &mut shelf,
         &mut out,
         OnTerminal::new(&rt),
+        OnSystem { rt: &rt },
     );
-    ExitCode::from(status.number())
+    // what cannot be told is told by the exit status
+    let _ = rt.stderr().write_all(&ended.errors);
+    ExitCode::from(ended.status.number())
 }

@@ -1,6 +1,6 @@
 //! Commands over files in memory.
 use anyhow::Result;
-use lab_command::lab;
+use lab_command::{Unknown, lab};
 use lab_watch::Unwatched;
 use mx_io::{MemoryShelf, MemorySink};
 use std::alloc::Global;
@@ -13,11 +13,34 @@ const ROOM: usize = 1_048_576;
 /// How many bytes the sink takes at most in one put.
 const PIECE: usize = 4096;
 
-/// How a command ended, and what it printed.
+/// How a command ended, what it printed, and what went to standard error.
 #[derive(Drop)]
 pub struct Ended {
     pub status: u8,
     pub output: MemorySink,
+    pub errors: Vec<u8>,
+}
+
+impl Ended {
+    /// The status, with a `!` behind it where all that was said went to standard error, and `?` where some of it did.
+    pub fn told(&self, alloc: Global) -> Result<String> {
+        let status = self.status;
+        let mark = match (self.errors.is_empty(), self.output.written().is_empty()) {
+            (true, _) => "",
+            (false, true) => "!",
+            (false, false) => "?",
+        };
+        Ok(format!(in alloc; "{status}{mark}")?)
+    }
+
+    /// What was said: what was printed, or what went to standard error.
+    pub fn said(&self) -> &[u8] {
+        if self.errors.is_empty() {
+            self.output.written()
+        } else {
+            self.errors.as_slice()
+        }
+    }
 }
 
 // The words of a line, between single spaces.
@@ -47,8 +70,19 @@ pub fn run<R: Files + AllocGlobal>(rt: &R, line: &str) -> Result<Ended> {
     let words = words_of(alloc, line)?;
     let mut shelf = files_of(rt, line)?;
     let mut output = MemorySink::new(alloc, PIECE, ROOM)?;
-    let status = lab(alloc, words.as_slice(), &mut shelf, &mut output, Unwatched).number();
-    Ok(Ended { status, output })
+    let ended = lab(
+        alloc,
+        words.as_slice(),
+        &mut shelf,
+        &mut output,
+        Unwatched,
+        Unknown,
+    );
+    Ok(Ended {
+        status: ended.status.number(),
+        output,
+        errors: ended.errors,
+    })
 }
 
 /// What a case has to print, as far as it is stored.

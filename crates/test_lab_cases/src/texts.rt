@@ -3,14 +3,14 @@ use crate::case::{run, wanted};
 use anyhow::{Context, Result};
 use std::rt::Files;
 
-/// How a command ends, for the case `STATUS NAME: WORDS`. What it prints is `wanted/NAME`.
+/// How a command ends, for the case `STATUS NAME: WORDS`. What it prints, or what goes to standard error, is `wanted/NAME`.
 pub fn whole<R: Files + AllocGlobal>(rt: &R, case: &str) -> Result<String> {
     let alloc = rt.alloc();
     let (name, words) = case.split_once(": ").context("no words")?;
     let wanted = wanted(rt, name)?;
     let ended = run(rt, words)?;
-    let status = ended.status;
-    let note = if ended.output.written() == wanted.as_bytes() {
+    let status = ended.told(alloc)?;
+    let note = if ended.said() == wanted.as_bytes() {
         ""
     } else {
         ", of another output"

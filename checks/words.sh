@@ -1,0 +1,62 @@
+#!/bin/sh
+# What the laboratory does with words and files that cannot be used: what it tells, where, and with which status. By hand, and
+# no part of the gate: it needs a built mx_lab, that of ./mx or the one that MX_LAB names.
+
+top=$(CDPATH='' cd -- "$(dirname -- "$0")/.." && pwd -P) || exit 10
+program=${MX_LAB-$top/crates/mx_lab/out/mx_lab}
+work=$(mktemp -d) || exit 10
+trap 'rm -rf "$work"' EXIT
+cd "$work" || exit 10
+failed=0
+
+# Says what differs.
+differs() {
+    failed=$((failed + 1))
+    echo "words.sh: $1"
+}
+
+# With the words that follow it ends with the status $1, has the line $2 on standard error, and nothing on standard output.
+refuses() {
+    status=$1
+    line=$2
+    shift 2
+    "$program" "$@" >out 2>err </dev/null
+    ended=$?
+    [ "$ended" -eq "$status" ] || differs "$*: status $ended, and not $status"
+    [ ! -s out ] || differs "$*: something on standard output"
+    grep -qxF -- "$line" err || differs "$*: not on standard error: $line"
+}
+
+printf '        addi r0,#65,r1\n        st   255[r0],r1\n        halt\n' >ok.s
+printf '        b    nowhere\n' >bad.s
+printf 'x\n' >events
+mkdir folder
+refuses 2 "  tip: a similar subcommand exists: 'check'" chek ok.s
+refuses 2 "  tip: a similar value exists: 'html'" draw ok.s --as htm
+refuses 2 "error: the following required arguments were not provided:" check
+refuses 4 "no such file: none.s" check none.s
+refuses 4 "no such file: none" draw ok.s --input none
+refuses 4 "a folder, and no file: folder" explain folder
+refuses 1 "bad.s: line 1: F8 UndefinedLabel" draw bad.s
+refuses 8 "events: interrupts line 1: BadLine" profile ok.s --interrupts events
+refuses 5 "cannot be written: folder" draw ok.s -o folder
+if [ "$(id -u)" -ne 0 ]; then
+    chmod 0 bad.s
+    refuses 4 "permission denied: bad.s" check bad.s
+fi
+
+# Standard input, and a file for the output.
+"$program" profile ok.s >wanted || differs "profile ok.s: status $?"
+"$program" profile - <ok.s >got || differs "profile -: status $?"
+cmp -s wanted got || differs "profile - prints something else"
+"$program" profile ok.s -o got >out || differs "profile -o: status $?"
+cmp -s wanted got || differs "profile -o writes something else"
+[ ! -s out ] || differs "profile -o prints"
+cp got kept
+"$program" profile bad.s --output got 2>err && differs "profile bad.s: status 0"
+cmp -s kept got || differs "a refused source changes the file of -o"
+
+if [ "$failed" -gt 0 ]; then
+    exit 1
+fi
+echo 'words.sh: all as said'

@@ -1,0 +1,95 @@
+//! What a source is refused for, as it is told.
+use crate::finding::{Finding, Severity};
+use crate::found::{Shown, line_at};
+use crate::hint::{hint, said};
+use crate::labels::Definition;
+use crate::sentence::sentence;
+use mx_lines::Fault;
+use std::alloc::{AllocError, Global};
+
+/// The number of a fault.
+pub fn fault_code(fault: Fault) -> &'static str {
+    match fault {
+        Fault::BadByte => "F1",
+        Fault::BadToken => "F2",
+        Fault::UnknownMnemonic => "F3",
+        Fault::BadOperands => "F4",
+        Fault::BadRegister => "F5",
+        Fault::NumberOutOfRange => "F6",
+        Fault::DuplicateLabel => "F7",
+        Fault::UndefinedLabel => "F8",
+        Fault::WrongLabelKind => "F9",
+        Fault::SystemInstruction => "F10",
+        Fault::BadDirective => "F11",
+        Fault::TooManyInstructions => "F12",
+        Fault::DataFull => "F13",
+        Fault::LineTooLong => "F14",
+    }
+}
+
+/// The name of a fault.
+pub fn fault_name(fault: Fault) -> &'static str {
+    match fault {
+        Fault::BadByte => "BadByte",
+        Fault::BadToken => "BadToken",
+        Fault::UnknownMnemonic => "UnknownMnemonic",
+        Fault::BadOperands => "BadOperands",
+        Fault::BadRegister => "BadRegister",
+        Fault::NumberOutOfRange => "NumberOutOfRange",
+        Fault::DuplicateLabel => "DuplicateLabel",
+        Fault::UndefinedLabel => "UndefinedLabel",
+        Fault::WrongLabelKind => "WrongLabelKind",
+        Fault::SystemInstruction => "SystemInstruction",
+        Fault::BadDirective => "BadDirective",
+        Fault::TooManyInstructions => "TooManyInstructions",
+        Fault::DataFull => "DataFull",
+        Fault::LineTooLong => "LineTooLong",
+    }
+}
+
+/// A faulty line, as it is told.
+pub fn fault_finding<'a>(
+    alloc: Global,
+    shown: Shown<'a>,
+    definitions: &[Definition],
+) -> Result<Finding<'a>, AllocError> {
+    let message = sentence(alloc, &shown)?;
+    let hint = hint(alloc, &shown, definitions)?;
+    Ok(Finding {
+        line: shown.line,
+        text: shown.text,
+        marks: shown.marks,
+        span: shown.span,
+        severity: Severity::Error,
+        code: fault_code(shown.fault),
+        name: fault_name(shown.fault),
+        message,
+        hint,
+    })
+}
+
+/// A branch from an address that does not reach its target, as it is told.
+pub fn overlong_finding<'a>(
+    alloc: Global,
+    lines: &[&'a [u8]],
+    line: u32,
+    from: u32,
+    to: u32,
+) -> Result<Finding<'a>, AllocError> {
+    Ok(Finding {
+        line,
+        text: line_at(lines, line),
+        marks: Vec::new(alloc),
+        span: None,
+        severity: Severity::Error,
+        code: "L1",
+        name: "Displacement",
+        message: format!(in alloc;
+            "the branch at 0x{from:x} does not reach its target at 0x{to:x}: it goes 32768 words back and 32767 on"
+        )?,
+        hint: said(
+            alloc,
+            "a `jr` goes to any place, which `la LABEL,R` puts into a register",
+        )?,
+    })
+}

@@ -1,0 +1,55 @@
+//! What `check` tells of a line.
+use mx_faults::Span;
+
+/// How grave it is: a source with an error is refused, and one with a warning is not.
+#[derive(Clone, Copy, Debug, PartialEq, Eq)]
+pub enum Severity {
+    Error,
+    Warning,
+}
+
+impl Severity {
+    /// Its word.
+    pub fn word(self) -> &'static str {
+        match self {
+            Severity::Error => "error",
+            Severity::Warning => "warning",
+        }
+    }
+}
+
+/// What is found at a line of a text.
+#[derive(Drop)]
+pub struct Finding<'a> {
+    /// The number of the line, counted from 1.
+    pub line: u32,
+    /// The line, and the marks under it.
+    pub text: &'a [u8],
+    pub marks: Vec<u8>,
+    /// The bytes that are marked, if some are.
+    pub span: Option<Span>,
+    pub severity: Severity,
+    /// The number and the name of the fault or the warning, as `F3` and `UnknownMnemonic`.
+    pub code: &'static str,
+    pub name: &'static str,
+    pub message: String,
+    pub hint: Option<String>,
+}
+
+impl Finding<'_> {
+    /// The column of the first byte that is marked, counted from 1; the first one where none is.
+    pub fn column(&self) -> usize {
+        match self.span {
+            Some(span) => span.start.saturating_add(1),
+            None => 1,
+        }
+    }
+
+    /// The column behind the last byte that is marked; behind the line where none is.
+    pub fn end_column(&self) -> usize {
+        match self.span {
+            Some(span) => span.end.saturating_add(1),
+            None => self.text.len().saturating_add(1),
+        }
+    }
+}

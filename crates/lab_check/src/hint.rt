@@ -1,0 +1,204 @@
+//! What may have been meant by a faulty line.
+
+use crate::foreign::{directive_instead, mnemonic_instead, register_instead};
+use crate::found::Shown;
+use crate::labels::{Definition, first_definition, names_of, other_case};
+use crate::nearest::nearest;
+use crate::operand::operand_hint;
+use crate::sentence::{BYTE_ORDER_MARK, MNEMONICS, char_of, name_of, text_of, token_of};
+use mx_asm::{line_words, statement_words};
+use mx_lines::{Fault, Word, spells};
+use std::alloc::{AllocError, Global};
+
+/// The directives of the language.
+const DIRECTIVES: [&str; 5] = [".code", ".data", ".word", ".space", ".input"];
+
+/// A hint of these words.
+pub fn said(alloc: Global, text: &str) -> Result<Option<String>, AllocError> {
+    Ok(Some(String::from_str(alloc, text)?))
+}
+
+// A hint of these words, if there are any.
+fn said_if(alloc: Global, text: Option<&str>) -> Result<Option<String>, AllocError> {
+    match text {
+        Some(text) => said(alloc, text),
+        None => Ok(None),
+    }
+}
+
+// The name that was meant in the place of a word.
+fn meant(alloc: Global, word: &str, names: &[&str]) -> Result<Option<String>, AllocError> {
+    match nearest(alloc, word, names)? {
+        Some(name) => Ok(Some(format!(in alloc; "did you mean `{name}`?")?)),
+        None => Ok(None),
+    }
+}
+
+// F1: signs that editors and word processors put in the place of others.
+fn byte_hint(alloc: Global, shown: &Shown) -> Result<Option<String>, AllocError> {
+    match char_of(shown) {
+        Some(BYTE_ORDER_MARK) => said(
+            alloc,
+            "this is a byte order mark: store the text as UTF-8 without one",
+        ),
+        Some("\u{a0}") => said(
+            alloc,
+            "this is a no-break space: a space or a tab stands between words",
+        ),
+        Some("\u{2212}" | "\u{2013}" | "\u{2014}") => said(alloc, "a minus is written `-`"),
+        Some("\r") => said(alloc, "a line ends with LF, or with CR and LF"),
+        _ => said(alloc, "behind a `;` any text may stand"),
+    }
+}
+
+// F2: bytes at which no token begins.
+fn token_hint(alloc: Global, token: &[u8]) -> Result<Option<String>, AllocError> {
+    match token {
+        [b'(' | b')', ..] => said(alloc, "an address is OFFSET[R], as `4[r1]`"),
+        [b'$' | b'%', ..] => said(
+            alloc,
+            "a register is written `r1`, without a sign before it",
+        ),
+        [b'\'' | b'"', ..] => said(alloc, "a character is written as its number: 65 is `A`"),
+        [b'/' | b'*' | b'!' | b'@' | b'|', ..] => said(alloc, "a comment begins with `;`"),
+        [b'+', ..] => said(alloc, "a number that is not negative has no sign"),
+        [b'-', ..] => said(
+            alloc,
+            "a `-` stands directly before the digits of its number",
+        ),
+        [b'0'..=b'9', ..] => said(
+            alloc,
+            "a number is decimal, or hexadecimal behind `0x`; a name begins with a letter or `_`",
+        ),
+        _ => Ok(None),
+    }
+}
+
+// The second word is the name of an instruction, so that the first one may be a label.
+fn is_before_mnemonic(words: &[Word]) -> bool {
+    match statement_words(words) {
+        [Word::Name(_), Word::Name(second), ..] => is_mnemonic(second),
+        _ => false,
+    }
+}
+
+// The name is a mnemonic.
+fn is_mnemonic(name: &[u8]) -> bool {
+    for mnemonic in &MNEMONICS {
+        if spells(name, mnemonic) {
+            return true;
+        }
+    }
+    false
+}
+
+// F3: a word of another machine, a label without its colon, or a slip.
+fn mnemonic_hint(
+    alloc: Global,
+    words: &[Word],
+    token: &[u8],
+) -> Result<Option<String>, AllocError> {
+    let word = text_of(token);
+    if let Some(instead) = mnemonic_instead(token) {
+        return said(alloc, instead);
+    }
+    if is_before_mnemonic(words) {
+        return Ok(Some(format!(in alloc; "a label has a `:` behind it: `{word}:`")?));
+    }
+    let lower = word.to_ascii_lowercase(alloc)?;
+    meant(alloc, lower.as_str(), &MNEMONICS)
+}
+
+// The number of a register, behind another letter or zeros.
+fn register_number(token: &[u8]) -> Option<u32> {
+    let digits = match token {
+        [b'r' | b'R' | b'x' | b'X', digits @ ..] => text_of(digits),
+        _ => return None,
+    };
+    match digits.parse::<u32>() {
+        Ok(number) if number <= 31 => Some(number),
+        _ => None,
+    }
+}
+
+// F5: a register of another machine, or a number with zeros in front.
+fn register_hint(alloc: Global, token: &[u8]) -> Result<Option<String>, AllocError> {
+    if let Some(instead) = register_instead(token) {
+        return said(alloc, instead);
+    }
+    match register_number(token) {
+        Some(number) => Ok(Some(format!(in alloc; "did you mean `r{number}`?")?)),
+        None => Ok(None),
+    }
+}
+
+// F6: a number that is too wide for its place.
+fn range_hint(alloc: Global, name: &[u8]) -> Result<Option<String>, AllocError> {
+    if spells(name, "addi") {
+        return said(
+            alloc,
+            "a wider number is a data word: `ld LABEL[r0],R` loads the word that `.word` puts there",
+        );
+    }
+    Ok(None)
+}
+
+// F7: where the label stands first.
+fn repeat_hint(
+    alloc: Global,
+    token: &[u8],
+    definitions: &[Definition],
+) -> Result<Option<String>, AllocError> {
+    match first_definition(definitions, token) {
+        Some(line) => Ok(Some(format!(in alloc; "line {line} defines it first")?)),
+        None => Ok(None),
+    }
+}
+
+// F8: a label in other letters, or a slip.
+fn label_hint(
+    alloc: Global,
+    token: &[u8],
+    definitions: &[Definition],
+) -> Result<Option<String>, AllocError> {
+    if let Some(other) = other_case(definitions, token) {
+        let name = text_of(other.name);
+        let line = other.line;
+        return Ok(Some(format!(in alloc;
+            "line {line} defines `{name}`: in labels small and capital letters differ"
+        )?));
+    }
+    let names = names_of(alloc, definitions)?;
+    meant(alloc, text_of(token), &names)
+}
+
+// F11: a directive of another assembler, or a slip.
+fn directive_hint(alloc: Global, token: &[u8]) -> Result<Option<String>, AllocError> {
+    match (directive_instead(token), token) {
+        (Some(instead), _) => said(alloc, instead),
+        (None, [b'.', ..]) => meant(alloc, text_of(token), &DIRECTIVES),
+        _ => Ok(None),
+    }
+}
+
+/// What may have been meant by a faulty line, in a sentence, where something is known.
+pub fn hint(
+    alloc: Global,
+    shown: &Shown,
+    definitions: &[Definition],
+) -> Result<Option<String>, AllocError> {
+    let token = token_of(shown);
+    let words = line_words(alloc, shown.text)?;
+    match shown.fault {
+        Fault::BadByte => byte_hint(alloc, shown),
+        Fault::BadToken => token_hint(alloc, token),
+        Fault::UnknownMnemonic => mnemonic_hint(alloc, &words, token),
+        Fault::BadOperands => operand_hint(alloc, shown, &words),
+        Fault::BadRegister => register_hint(alloc, token),
+        Fault::NumberOutOfRange => range_hint(alloc, name_of(&words)),
+        Fault::DuplicateLabel => repeat_hint(alloc, token, definitions),
+        Fault::UndefinedLabel => label_hint(alloc, token, definitions),
+        Fault::BadDirective => directive_hint(alloc, token),
+        _ => Ok(None),
+    }
+}

@@ -1,0 +1,24 @@
+//! What is wrong with a text, in words: its faulty lines, what may have been meant, and what is seldom meant.
+#![tactic(auto)]
+
+mod checking;
+mod error;
+mod finding;
+mod foreign;
+mod found;
+mod hint;
+mod json;
+mod labels;
+mod marked;
+mod nearest;
+mod operand;
+mod reach;
+mod report;
+mod sentence;
+mod warning;
+
+pub use checking::{Checked, check};
+pub use error::{fault_code, fault_name};
+pub use finding::{Finding, Severity};
+pub use found::{Findings, MOST_LINES, Shown, check_text};
+pub use report::{Form, push_findings};

@@ -1,0 +1,117 @@
+//! What may have been meant by an operand that does not stand in its place.
+
+use crate::found::Shown;
+use crate::hint::said;
+use crate::sentence::{name_of, text_of, token_of};
+use mx_asm::{line_words, statement_words};
+use mx_faults::{Role, places};
+use mx_lines::{Word, spells};
+use std::alloc::{AllocError, Global};
+
+// How many words of the statement stand before the bytes that are shown.
+fn words_before(alloc: Global, shown: &Shown) -> Result<usize, AllocError> {
+    let front = match shown.span {
+        Some(span) => shown.text.get(..span.start).unwrap_or(&[]),
+        None => &[],
+    };
+    let words = line_words(alloc, front)?;
+    Ok(statement_words(&words).len())
+}
+
+// A `,` was left out.
+fn comma_hint(alloc: Global, token: &[u8]) -> Result<Option<String>, AllocError> {
+    match token {
+        [b',' | b'[' | b']' | b':', ..] => Ok(None),
+        _ => {
+            let word = text_of(token);
+            Ok(Some(format!(in alloc; "a `,` is missing before `{word}`")?))
+        }
+    }
+}
+
+// A number, with or without its `#`, stands where a register does.
+fn register_hint(alloc: Global, name: &[u8], token: &[u8]) -> Result<Option<String>, AllocError> {
+    match token {
+        [b'#' | b'-' | b'0'..=b'9', ..] if spells(name, "add") => {
+            said(alloc, "`addi R,#NUMBER,R` adds a number")
+        }
+        [b'#' | b'-' | b'0'..=b'9', ..] if spells(name, "sub") => {
+            said(alloc, "`addi R,#-NUMBER,R` takes a number away")
+        }
+        [b'#' | b'-' | b'0'..=b'9', ..] => said(
+            alloc,
+            "a register stands here: `addi r0,#NUMBER,R` puts a number into one",
+        ),
+        _ => Ok(None),
+    }
+}
+
+// The `#` was left out, or a register stands where a number does.
+fn hash_hint(alloc: Global, name: &[u8], token: &[u8]) -> Result<Option<String>, AllocError> {
+    let word = text_of(token);
+    match token {
+        [b'-' | b'0'..=b'9', ..] => Ok(Some(format!(in alloc;
+            "a number has a `#` before it: `#{word}`"
+        )?)),
+        [b'r' | b'R', ..] if spells(name, "addi") => {
+            said(alloc, "`add R,R,R` adds two registers")
+        }
+        _ => Ok(None),
+    }
+}
+
+// What stands where an address begins.
+fn open_hint(alloc: Global, name: &[u8]) -> Result<Option<String>, AllocError> {
+    if spells(name, "st") {
+        return said(alloc, "the address stands first: `st OFFSET[R],R`");
+    }
+    said(alloc, "the address stands first: `ld OFFSET[R],R`")
+}
+
+// The hint where something else stands in a place.
+fn place_hint(
+    alloc: Global,
+    role: Role,
+    name: &[u8],
+    token: &[u8],
+) -> Result<Option<String>, AllocError> {
+    match role {
+        Role::Comma => comma_hint(alloc, token),
+        Role::Register => register_hint(alloc, name, token),
+        Role::Hash => hash_hint(alloc, name, token),
+        Role::Open => open_hint(alloc, name),
+        Role::Offset => said(
+            alloc,
+            "a number or a data label stands before the `[`, as `0[r1]`",
+        ),
+        Role::Immediate => said(
+            alloc,
+            "a number stands behind the `#`: `la LABEL,R` gives the address of a label",
+        ),
+        Role::CodeName | Role::AnyName => said(alloc, "the name of a label stands here"),
+        _ => Ok(None),
+    }
+}
+
+/// F4: what may have been meant by the word that does not stand in its place.
+pub fn operand_hint(
+    alloc: Global,
+    shown: &Shown,
+    words: &[Word],
+) -> Result<Option<String>, AllocError> {
+    let name = name_of(words);
+    let Some(roles) = places(alloc, statement_words(words))? else {
+        return Ok(None);
+    };
+    let before = words_before(alloc, shown)?;
+    if before == 0 {
+        return Ok(None);
+    }
+    match roles.get(before - 1) {
+        Some(role) => place_hint(alloc, *role, name, token_of(shown)),
+        None => said(
+            alloc,
+            "there is an operand too many; a comment begins with `;`",
+        ),
+    }
+}

@@ -1,0 +1,296 @@
+//! What is wrong with a faulty line, in a sentence.
+use crate::found::Shown;
+use mx_asm::{line_words, statement_words};
+use mx_lines::{Fault, Word, spells};
+use std::alloc::{AllocError, Global};
+use std::str;
+
+/// The byte order mark, which cannot be seen.
+pub const BYTE_ORDER_MARK: &str = "\u{feff}";
+
+// Mnemonics with operands of one form.
+struct Operands {
+    form: &'static str,
+    names: &'static [&'static str],
+}
+
+const THREE: [&str; 10] = [
+    "add", "sub", "subnc", "and", "or", "xor", "bic", "rotlb", "mstep", "dstep",
+];
+
+const TWO: [&str; 4] = ["not", "mstart", "mov", "callr"];
+
+const BRANCHES: [&str; 10] = [
+    "beq", "bne", "blt", "bge", "blo", "bhs", "bgt", "ble", "bhi", "blos",
+];
+
+const OPERANDS: &[Operands] = &[
+    Operands {
+        form: "R,R,R",
+        names: &THREE,
+    },
+    Operands {
+        form: "R,R",
+        names: &TWO,
+    },
+    Operands {
+        form: "R,R,LABEL",
+        names: &BRANCHES,
+    },
+    Operands {
+        form: "R,#NUMBER,R",
+        names: &["asr", "addi"],
+    },
+    Operands {
+        form: "R,R,#NUMBER,R",
+        names: &["sh"],
+    },
+    Operands {
+        form: "md,R",
+        names: &["movfrs"],
+    },
+    Operands {
+        form: "R,md",
+        names: &["movtos"],
+    },
+    Operands {
+        form: "OFFSET[R],R",
+        names: &["ld", "st"],
+    },
+    Operands {
+        form: "LABEL,R",
+        names: &["la", "call"],
+    },
+    Operands {
+        form: "LABEL",
+        names: &["b"],
+    },
+    Operands {
+        form: "R",
+        names: &["jr"],
+    },
+    Operands {
+        form: "NUMBER",
+        names: &[".space"],
+    },
+    Operands {
+        form: "VALUE,VALUE and so on",
+        names: &[".word"],
+    },
+];
+
+/// The mnemonics of the language but for those of the system.
+pub const MNEMONICS: [&str; 37] = [
+    "add", "sub", "subnc", "and", "or", "xor", "bic", "rotlb", "mstep", "dstep", "not", "mstart",
+    "asr", "sh", "addi", "mov", "nop", "movfrs", "movtos", "ld", "st", "la", "beq", "bne", "blt",
+    "bge", "blo", "bhs", "bgt", "ble", "bhi", "blos", "b", "call", "callr", "jr", "halt",
+];
+
+// One of the names is this one, in either case.
+fn is_among(names: &[&str], name: &[u8]) -> bool {
+    for one in names {
+        if spells(name, one) {
+            return true;
+        }
+    }
+    false
+}
+
+/// The operands that stand behind a mnemonic or a directive.
+pub fn form_of(name: &[u8]) -> &'static str {
+    for operands in OPERANDS {
+        if is_among(operands.names, name) {
+            return operands.form;
+        }
+    }
+    "nothing"
+}
+
+/// Bytes as a text; none where they are not UTF-8.
+pub fn text_of(bytes: &[u8]) -> &str {
+    str::from_utf8(bytes).unwrap_or("")
+}
+
+/// The bytes of a line that are shown.
+pub fn token_of<'a>(shown: &Shown<'a>) -> &'a [u8] {
+    match shown.span {
+        Some(span) => shown.text.get(span.start..span.end).unwrap_or(&[]),
+        None => &[],
+    }
+}
+
+/// The first word of a statement, if it is a name.
+pub fn name_of<'a>(words: &[Word<'a>]) -> &'a [u8] {
+    match statement_words(words) {
+        [Word::Name(name), ..] => name,
+        _ => &[],
+    }
+}
+
+// The numbers that may stand behind a mnemonic or a directive.
+fn range_of(name: &[u8]) -> &'static str {
+    if spells(name, "asr") || spells(name, "sh") {
+        "0 to 31"
+    } else if spells(name, ".space") {
+        "0 to 65280"
+    } else if spells(name, ".word") {
+        "-2147483648 to 4294967295"
+    } else {
+        "-65536 to 65535"
+    }
+}
+
+// F4: a word that does not stand in its place, or a word that is missing.
+fn operands_sentence(alloc: Global, name: &[u8], token: &[u8]) -> Result<String, AllocError> {
+    let shown = text_of(token);
+    if name.is_empty() {
+        return Ok(format!(in alloc;
+            "`{shown}` stands where a mnemonic or a directive stands, which is a name"
+        )?);
+    }
+    let form = form_of(name);
+    let name_text = text_of(name);
+    if token == name {
+        return Ok(format!(in alloc;
+            "`{name_text}` has too few operands: {form} stands behind it"
+        )?);
+    }
+    Ok(format!(in alloc;
+        "`{shown}` does not stand in its place: {form} stands behind `{name_text}`"
+    )?)
+}
+
+// F9: a label of the other kind.
+fn kind_sentence(alloc: Global, name: &[u8], token: &str) -> Result<String, AllocError> {
+    if spells(name, "ld") || spells(name, "st") {
+        Ok(format!(in alloc; "`{token}` is a code label: an offset is a number or a data label")?)
+    } else {
+        Ok(format!(in alloc; "`{token}` is a data label: a target is a code label")?)
+    }
+}
+
+// F11: a label that begins with `.`, an unknown directive, or a statement that does not stand in its place.
+fn directive_sentence(alloc: Global, name: &[u8], token: &[u8]) -> Result<String, AllocError> {
+    let shown = text_of(token);
+    let form = form_of(name);
+    let name_text = text_of(name);
+    if spells(token, ".word") || spells(token, ".space") {
+        return Ok(format!(in alloc;
+            "`{shown}` stands in the data section, behind a line `.data`, and {form} stands behind it"
+        )?);
+    }
+    if token != name {
+        return match token {
+            [b'.', ..] => Ok(format!(in alloc;
+                "`{shown}` is no label: a label does not begin with a `.`"
+            )?),
+            _ => Ok(format!(in alloc;
+                "`{shown}` does not stand in its place: {form} stands behind `{name_text}`"
+            )?),
+        };
+    }
+    match token {
+        [b'.', ..] => Ok(format!(in alloc;
+            "`{shown}` is no directive: those are .code, .data, .word, .space and .input"
+        )?),
+        _ => Ok(format!(in alloc;
+            "`{shown}` stands in the code section: a line `.code` goes back to it"
+        )?),
+    }
+}
+
+// The sentence of a fault that a token shows.
+fn token_sentence(
+    alloc: Global,
+    fault: Fault,
+    name: &[u8],
+    token: &[u8],
+) -> Result<String, AllocError> {
+    let shown = text_of(token);
+    match fault {
+        Fault::BadToken => Ok(format!(in alloc;
+            "`{shown}` is no token: a name, a number or one of , [ ] # : stands here"
+        )?),
+        Fault::UnknownMnemonic => Ok(format!(in alloc;
+            "`{shown}` is no mnemonic: a statement begins with a mnemonic or a directive"
+        )?),
+        Fault::BadOperands => operands_sentence(alloc, name, token),
+        Fault::BadRegister => Ok(format!(in alloc;
+            "`{shown}` is no register: those are r0 to r31, and md where a special name stands"
+        )?),
+        Fault::NumberOutOfRange => {
+            let range = range_of(name);
+            Ok(format!(in alloc;
+                "{shown} is outside its range: a number from {range} stands here"
+            )?)
+        }
+        Fault::DuplicateLabel => Ok(format!(in alloc;
+            "`{shown}` is a label already: each label is defined once in a text"
+        )?),
+        Fault::UndefinedLabel => Ok(format!(in alloc;
+            "`{shown}` is defined nowhere: a label of the text stands here"
+        )?),
+        Fault::WrongLabelKind => kind_sentence(alloc, name, shown),
+        Fault::SystemInstruction => Ok(format!(in alloc;
+            "`{shown}` belongs to the system: a source moves md alone, and has no jpc and jpcrs"
+        )?),
+        _ => directive_sentence(alloc, name, token),
+    }
+}
+
+// The character that begins with a byte of a line, where the bytes from there on are one in UTF-8.
+fn char_at(line: &[u8], start: usize) -> Option<&str> {
+    for count in 1..5usize {
+        let end = start.saturating_add(count);
+        if let Ok(text) = str::from_utf8(line.get(start..end).unwrap_or(&[])) {
+            return Some(text);
+        }
+    }
+    None
+}
+
+/// The character at the front of the bytes that are shown, as it was typed.
+pub fn char_of<'a>(shown: &Shown<'a>) -> Option<&'a str> {
+    match shown.span {
+        Some(span) => char_at(shown.text, span.start),
+        None => None,
+    }
+}
+
+// F1: the byte.
+fn byte_sentence(alloc: Global, shown: &Shown) -> Result<String, AllocError> {
+    let byte = match token_of(shown) {
+        [byte, ..] => *byte,
+        [] => 0,
+    };
+    match char_of(shown) {
+        Some(typed) if byte > 126 && typed != BYTE_ORDER_MARK => Ok(format!(in alloc;
+            "`{typed}` stands outside a comment, where tabs and the bytes 32 to 126 may stand"
+        )?),
+        _ => Ok(format!(in alloc;
+            "byte {byte} stands outside a comment, where tabs and the bytes 32 to 126 may stand"
+        )?),
+    }
+}
+
+/// What is wrong with a faulty line, and what stands in the place of what is wrong.
+pub fn sentence(alloc: Global, shown: &Shown) -> Result<String, AllocError> {
+    let token = token_of(shown);
+    match shown.fault {
+        Fault::BadByte => byte_sentence(alloc, shown),
+        Fault::TooManyInstructions => Ok(format!(in alloc;
+            "with this line there are more than 20000 instructions, which is all that a source may have"
+        )?),
+        Fault::DataFull => Ok(format!(in alloc;
+            "there is no room for the data: the last word is at address 65535"
+        )?),
+        Fault::LineTooLong => {
+            let count = shown.text.len();
+            Ok(format!(in alloc; "the line has {count} bytes, and a line has at most 255")?)
+        }
+        fault => {
+            let words = line_words(alloc, shown.text)?;
+            token_sentence(alloc, fault, name_of(&words), token)
+        }
+    }
+}

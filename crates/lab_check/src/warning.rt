@@ -1,0 +1,244 @@
+//! What is not wrong with a source, and is seldom meant.
+use crate::finding::{Finding, Severity};
+use crate::found::line_at;
+use crate::hint::said;
+use crate::labels::{Definition, definitions_of};
+use crate::marked::marks_under;
+use crate::reach::{reached, ways_of};
+use crate::sentence::text_of;
+use mx_asm::{line_words, statement_words};
+use mx_faults::token_span;
+use mx_isa::{INPUT, Inst, Reg};
+use mx_lines::Word;
+use mx_source::{Label, Source, Statement};
+use std::alloc::{AllocError, Global};
+
+// A kind of warning.
+#[derive(Clone, Copy, Debug, PartialEq, Eq)]
+enum Kind {
+    RunsPastEnd,
+    Unreached,
+    UnusedLabel,
+    UnreadInput,
+}
+
+impl Kind {
+    // Its number.
+    fn code(self) -> &'static str {
+        match self {
+            Kind::RunsPastEnd => "W1",
+            Kind::Unreached => "W2",
+            Kind::UnusedLabel => "W3",
+            Kind::UnreadInput => "W4",
+        }
+    }
+
+    // Its name.
+    fn name(self) -> &'static str {
+        match self {
+            Kind::RunsPastEnd => "RunsPastEnd",
+            Kind::Unreached => "Unreached",
+            Kind::UnusedLabel => "UnusedLabel",
+            Kind::UnreadInput => "UnreadInput",
+        }
+    }
+
+    // What helps, where that is the same wherever it is found.
+    fn hint(self) -> Option<&'static str> {
+        match self {
+            Kind::RunsPastEnd => Some("a `halt` there ends the run"),
+            Kind::UnreadInput => Some("`ld 254[r0],R` takes the next byte of the input"),
+            _ => None,
+        }
+    }
+}
+
+// Where it is found: a line, counted from 1, and the place of a token there.
+#[derive(Clone, Copy)]
+struct Spot {
+    line: u32,
+    place: usize,
+}
+
+// The lines of a text, and what is found so far.
+#[derive(Drop)]
+struct Search<'a, 'l> {
+    alloc: Global,
+    lines: &'l [&'a [u8]],
+    found: Vec<Finding<'a>>,
+}
+
+impl<'a> Search<'a, '_> {
+    // Adds a warning.
+    fn add(&mut self, kind: Kind, spot: Spot, message: String) -> Result<(), AllocError> {
+        let text = line_at(self.lines, spot.line);
+        let span = match token_span(text, spot.place) {
+            Some(span) if span.start < span.end => Some(span),
+            _ => None,
+        };
+        let hint = match kind.hint() {
+            Some(hint) => said(self.alloc, hint)?,
+            None => None,
+        };
+        let marks = marks_under(self.alloc, text, span)?;
+        self.found.push(Finding {
+            line: spot.line,
+            text,
+            marks,
+            span,
+            severity: Severity::Warning,
+            code: kind.code(),
+            name: kind.name(),
+            message,
+            hint,
+        })?;
+        Ok(())
+    }
+
+    // Where the statement of a line stands.
+    fn statement_spot(&self, line: u32) -> Result<Spot, AllocError> {
+        let words = line_words(self.alloc, line_at(self.lines, line))?;
+        let place = words.len().saturating_sub(statement_words(&words).len());
+        Ok(Spot { line, place })
+    }
+}
+
+// Adds the statements that are come to and may go on behind the last one.
+fn add_ends(search: &mut Search, source: &Source, reached: &[bool]) -> Result<(), AllocError> {
+    let count = source.statements().len();
+    if count == 0 {
+        let message = format!(in search.alloc; "there is no statement: a run is stuck at once")?;
+        return search.add(Kind::RunsPastEnd, Spot { line: 1, place: 0 }, message);
+    }
+    let mut behind = 0usize;
+    for (statement, line) in source.statements().iter().zip(source.lines()) {
+        let is_reached = reached.get(behind).copied().unwrap_or(false);
+        behind = behind.saturating_add(1);
+        if is_reached && may_leave(statement, behind == count, count) {
+            let spot = search.statement_spot(*line)?;
+            let message = format!(in search.alloc;
+                "a run may go on behind the last statement from here, where it is stuck"
+            )?;
+            search.add(Kind::RunsPastEnd, spot, message)?;
+        }
+    }
+    Ok(())
+}
+
+// A statement may go on behind the last one, of so many.
+fn may_leave(statement: &Statement, is_last: bool, count: usize) -> bool {
+    let ways = ways_of(statement);
+    let is_target = match ways.target {
+        Some(target) => target as usize >= count,
+        None => false,
+    };
+    (ways.on && is_last) || is_target
+}
+
+// Adds the first of each row of statements that no run comes to.
+fn add_unreached(search: &mut Search, source: &Source, reached: &[bool]) -> Result<(), AllocError> {
+    let mut is_open = true;
+    for (is_reached, line) in reached.iter().zip(source.lines()) {
+        if is_open && !*is_reached {
+            let spot = search.statement_spot(*line)?;
+            let message = format!(in search.alloc; "no run comes to this statement")?;
+            search.add(Kind::Unreached, spot, message)?;
+        }
+        is_open = *is_reached;
+    }
+    Ok(())
+}
+
+// Marks the labels that the operands of a line name.
+fn mark_used(source: &Source, words: &[Word], used: &mut [bool]) {
+    for word in statement_words(words).iter().skip(1) {
+        if let Word::Name(name) = *word {
+            if let Some((index, _, _)) = source.labels().get_full(name) {
+                if let Some(mark) = used.get_mut(index) {
+                    *mark = true;
+                }
+            }
+        }
+    }
+}
+
+// For each label, in order, whether an operand names it.
+fn used_labels(search: &Search, source: &Source) -> Result<Vec<bool>, AllocError> {
+    let mut used = vec![in search.alloc; false; source.labels().len()]?;
+    for line in search.lines {
+        let words = line_words(search.alloc, line)?;
+        mark_used(source, &words, &mut used);
+    }
+    Ok(used)
+}
+
+// The label names the first statement, as a name for the whole program does.
+fn is_entry(source: &Source, definition: &Definition) -> bool {
+    match source.labels().get(definition.name) {
+        Some(Label::Code(0)) => true,
+        _ => false,
+    }
+}
+
+// Adds the labels that no operand names.
+fn add_unused(search: &mut Search, source: &Source) -> Result<(), AllocError> {
+    let definitions = definitions_of(search.alloc, search.lines)?;
+    let used = used_labels(search, source)?;
+    for (definition, is_used) in definitions.iter().zip(&used) {
+        if !*is_used && !is_entry(source, definition) {
+            let name = text_of(definition.name);
+            let message = format!(in search.alloc; "the label `{name}` is used nowhere")?;
+            let spot = Spot {
+                line: definition.line,
+                place: definition.place,
+            };
+            search.add(Kind::UnusedLabel, spot, message)?;
+        }
+    }
+    Ok(())
+}
+
+// A statement may load from the address of the input.
+fn may_read_input(statement: &Statement) -> bool {
+    match *statement {
+        Statement::Plain(Inst::Load { base, offset, .. }) => {
+            base != Reg::ZERO || offset == INPUT as i32
+        }
+        _ => false,
+    }
+}
+
+// Adds an input that no statement can read.
+fn add_unread(search: &mut Search, source: &Source) -> Result<(), AllocError> {
+    let Some(line) = source.input() else {
+        return Ok(());
+    };
+    for statement in source.statements() {
+        if may_read_input(statement) {
+            return Ok(());
+        }
+    }
+    let spot = search.statement_spot(line)?;
+    let message = format!(in search.alloc; "the source has an input, and no statement reads it")?;
+    search.add(Kind::UnreadInput, spot, message)
+}
+
+/// What is seldom meant in a source, of a text of these lines: a run may go on behind its last statement, no run comes to
+/// a statement, a label is used nowhere, an input is never read; in this order, each by its lines.
+pub fn warnings<'a>(
+    alloc: Global,
+    lines: &[&'a [u8]],
+    source: &Source,
+) -> Result<Vec<Finding<'a>>, AllocError> {
+    let mut search = Search {
+        alloc,
+        lines,
+        found: Vec::new(alloc),
+    };
+    let reached = reached(alloc, source)?;
+    add_ends(&mut search, source, &reached)?;
+    add_unreached(&mut search, source, &reached)?;
+    add_unused(&mut search, source)?;
+    add_unread(&mut search, source)?;
+    Ok(search.found)
+}

@@ -1,0 +1,124 @@
+//! What goes to standard error.
+ghost use Rattle.std.specs.Prelude.{◌≡◌};
+ghost use Rattle.lab_command.specs.Sides;
+
+use crate::given::{file_if_given, word_given};
+use clap::ArgMatches;
+use cmd_answer::Status;
+use std::alloc::{AllocError, Global};
+
+/// Why a file cannot be read.
+#[derive(Clone, Copy, Debug, PartialEq, Eq)]
+pub enum Cause {
+    /// It is not there.
+    Missing,
+    /// It may not be read.
+    Denied,
+    /// It is a folder.
+    Folder,
+    /// Something else.
+    Other,
+}
+
+impl Cause {
+    // Its words.
+    fn words(self) -> &'static str {
+        match self {
+            Cause::Missing => "no such file",
+            Cause::Denied => "permission denied",
+            Cause::Folder => "a folder, and no file",
+            Cause::Other => "cannot be read",
+        }
+    }
+}
+
+/// Who is asked why a file cannot be read.
+pub trait Causes: Copy + Drop {
+    /// Why the file of this name cannot be read, if that is so and is known.
+    fn cause(&self, alloc: Global, name: &str) -> Option<Cause>;
+}
+
+/// Nobody knows.
+#[derive(Clone, Copy, Debug)]
+pub struct Unknown;
+
+impl Causes for Unknown {
+    fn cause(&self, _alloc: Global, _name: &str) -> Option<Cause> {
+        None
+    }
+}
+
+/// The options that name files which are read.
+const READ: [&str; 4] = ["SOURCE", "FILE", "interrupts", "input"];
+
+/// What ends with this status is an error, and no output: the words, a file or a source cannot be used. What `check` tells
+/// of a refused source is its output.
+pub fn is_error(is_check: bool, status: Status) -> bool
+    ensures { result ≡ Sides.is_error is_check status }
+{
+    match status {
+        Status::Usage
+        | Status::ReadFault
+        | Status::WriteFault
+        | Status::Memory
+        | Status::BadImage
+        | Status::BadEvents => true,
+        Status::Refused => !is_check,
+        Status::Halted | Status::Done | Status::OutOfBudget | Status::Stuck => false,
+    }
+}
+
+// The first of the files that cannot be read, and why.
+fn unread<'a, C: Causes>(
+    alloc: Global,
+    matches: &ArgMatches<'a>,
+    causes: C,
+) -> Option<(&'a str, Cause)> {
+    for option in READ {
+        if let Some(name) = file_if_given(matches, option) {
+            if let Some(cause) = causes.cause(alloc, name) {
+                return Some((name, cause));
+            }
+        }
+    }
+    None
+}
+
+// The name of the file that a reply with this status speaks of.
+fn file_of<'a>(matches: &ArgMatches<'a>, status: Status, said: &[u8]) -> &'a str {
+    match status {
+        Status::BadEvents if said.starts_with(b"plans") => word_given(matches, "FILE"),
+        Status::BadEvents => word_given(matches, "interrupts"),
+        _ => word_given(matches, "SOURCE"),
+    }
+}
+
+// Bytes with a name before them.
+fn named(alloc: Global, name: &str, said: &[u8]) -> Result<Vec<u8>, AllocError> {
+    let mut text = Vec::new(alloc);
+    if !name.is_empty() {
+        text.extend_from_slice(name.as_bytes())?;
+        text.extend_from_slice(b": ")?;
+    }
+    text.extend_from_slice(said)?;
+    Ok(text)
+}
+
+/// What goes to standard error where a command says this and ends with this status: the file, and why.
+pub fn error_text<C: Causes>(
+    alloc: Global,
+    matches: &ArgMatches,
+    status: Status,
+    said: &[u8],
+    causes: C,
+) -> Result<Vec<u8>, AllocError> {
+    if status == Status::ReadFault {
+        if let Some((name, cause)) = unread(alloc, matches, causes) {
+            let words = cause.words();
+            let line = format!(in alloc; "{words}: {name}\n")?;
+            return Ok(line.into_bytes());
+        }
+        return Vec::from_slice(alloc, said);
+    }
+    named(alloc, file_of(matches, status, said), said)
+}

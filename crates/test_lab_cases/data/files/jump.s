@@ -1,0 +1,1 @@
+        jr   r31        ; never set
