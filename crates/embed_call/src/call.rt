@@ -2,7 +2,7 @@
 
 /// A command, and the files that it may read. Each is bytes that are lent for the call.
 #[repr(C)]
-#[derive(Clone, Copy)]
+#[derive(Clone, Copy, Debug)]
 pub struct Call<'a> {
     /// The words of the command, in UTF-8, one on each line.
     pub words: &'a [u8],

@@ -4,7 +4,7 @@ ghost use Rattle.std.specs.Str.{IsUtf8};
 ghost use Rattle.embed_call.specs.Held.{held_by};
 ghost use Rattle.embed_call.specs.Answered.{Answered, asked_by};
 ghost use Rattle.embed_call.specs.Buffers.{filled};
-ghost use Rattle.embed_call.specs.Outcomes.{Returns, number_in, IsOutcome};
+ghost use Rattle.embed_call.specs.Outcomes.{Returns, number_in, IsOutcome, memory_number, no_text_number};
 
 use crate::{Call, CallFault, Ended, end_of};
 use std::alloc::Global;
@@ -71,10 +71,10 @@ fn number_of(ended: &Ended, room: usize, file_room: usize) -> u32
 /// Answers a call into two buffers: all that the command puts out, and the file that it writes.
 pub fn answer_call(alloc: Global, call: &Call, output: &mut [u8], file: &mut [u8]) -> Outcome
     // Words that are not UTF-8 ask for nothing, and nothing comes back but their number.
-    ensures not_text { ¬ IsUtf8 call.now.words.now → Returns NOT_TEXT [] [] output.old output.new file.old file.new result }
+    ensures not_text { ¬ IsUtf8 call.now.words.now → Returns no_text_number [] [] output.old output.new file.old file.new result }
 
     // Else memory ran out, and nothing comes back but its number, or the answer of `command` came back.
-    ensures answered { IsUtf8 call.now.words.now → Returns MEMORY [] [] output.old output.new file.old file.new result
+    ensures answered { IsUtf8 call.now.words.now → Returns memory_number [] [] output.old output.new file.old file.new result
         ⊎ IsOutcome (asked_by call.now) (held_by call.now) output.old output.new file.old file.new result }
 {
     match end_of(alloc, call) {

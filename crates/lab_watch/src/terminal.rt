@@ -1,4 +1,6 @@
 //! Standard error, where it is a terminal.
+ghost use Rattle.std.specs.Prelude.{◌≡◌, ◌/◌};
+
 use crate::watched::Watcher;
 use std::io::IsTerminal;
 
@@ -16,11 +18,18 @@ impl<'a> OnTerminal<'a> {
     }
 }
 
+// The whole millions of a number of cycles.
+fn millions_in(cycles: u64) -> u64
+    ensures { result ≡ cycles / 1000000 }
+{
+    cycles / 1_000_000
+}
+
 impl Watcher for OnTerminal<'_> {
     fn tell(&self, cycles: u64) {
         let err = self.rt.stderr();
         if err.is_terminal() {
-            let millions = cycles / 1_000_000;
+            let millions = millions_in(cycles);
             // what cannot be shown is not missed
             let _ = eprint!(err; "\r{millions} million cycles");
         }
