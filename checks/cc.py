@@ -58,7 +58,7 @@ def try_drawn(job):
     level, name = LEVELS[seed % len(LEVELS)], f'csmith {seed}'
     base = f'{folder}/drawn{seed}'
     try:
-        done = cprograms.shell(['csmith', '--seed', str(seed), *CSMITH])
+        done = cprograms.shell(['csmith', '--seed', str(seed), *CSMITH], cwd=folder)    # it leaves a file where it runs
         with open(f'{base}.c', 'wb') as file:
             file.write(done.stdout)
         cprograms.compile_native(f'{base}.c', f'{base}.native', [CSMITH_HEADERS])

@@ -14,6 +14,11 @@ fail() {
     exit "$2"
 }
 
+# The name of the file $1 in the folder of the work.
+name_of() {
+    printf %s "$1" | tr / _
+}
+
 # Compiles the file $1 to the assembly $2, with the options behind them.
 compile() {
     source=$1
@@ -39,17 +44,48 @@ compile_library() {
     : >"$library/done"
 }
 
+# The place in C that the line $2 of the assembly $1 of a file comes from, or nothing where gcc tells none, as of data.
+place_in_c() {
+    awk -v last="$2" '
+        $1 == ".file" && NF == 3 { gsub("\"", "", $3); names[$2] = $3 }
+        NR <= last && $1 ~ /^\.(text|s?data|rdata|s?bss|section|previous)$/ { place = "" }
+        NR <= last && $1 == ".loc" { place = $2 " " $3 }
+        END { if (split(place, it, " ")) print names[it[1]] ":" it[2] }' "$1"
+}
+
+# Tells what $work/said has of a fault, by the names of the files as they were given, and by lines of C where they are C.
+tell_fault() {
+    IFS=: read -r name line rest <"$work/said"
+    for file in $files; do
+        case $name in
+            "$(name_of "$file")")
+                echo "$file:$line:$rest"
+                return
+                ;;
+            "$(name_of "$file").s")
+                place=$(place_in_c "$work/$name" "$line")
+                echo "${place:-$file}:$rest"
+                return
+                ;;
+        esac
+    done
+    cat "$work/said"
+}
+
 # Compiles the files of the list $files at the level $level with the options of the list $options, and translates them with
-# the library to the file $1. Faults name files as they were given, with .s behind them.
+# the library to the file $1.
 translate() {
     case $1 in
         /*) out=$1 ;;
         *) out=$PWD/$1 ;;
     esac
+    for file in $files; do
+        [ -f "$file" ] && [ -r "$file" ] || fail "$file: there is no such file, or it cannot be read" 4
+    done
     compile_library "$level"
     names=
     for file in $files; do
-        name=$(printf %s "$file" | tr / _)
+        name=$(name_of "$file")
         case $file in
             *.s) cp "$file" "$work/$name" || exit 4 ;;
             *)
@@ -61,7 +97,15 @@ translate() {
         names="$names $name"
     done
     # shellcheck disable=SC2086
-    (cd "$work" && "$top/mx" ${MX_FLAGS-} translate $names "$library"/*.s -o "$out")
+    (cd "$work" && "$top/mx" ${MX_FLAGS-} translate $names "$library"/*.s -o "$out") >"$work/said"
+    status=$?
+    case $status in
+        0) ;;
+        1) tell_fault ;;
+        5) fail "$1: this file cannot be written" 5 ;;
+        *) cat "$work/said" ;;
+    esac
+    return $status
 }
 
 [ $# -ge 3 ] || fail "$use" 2

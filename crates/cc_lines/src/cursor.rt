@@ -1,4 +1,6 @@
 //! Pieces of a text.
+ghost use Rattle.std.specs.Prelude.{◌≡◌, ◌<◌, [], None, IfSome};
+ghost use Rattle.cc_lines.specs.Bytes;
 
 /// The lines of a text, with what their ends leave of a CR.
 #[derive(Drop)]
@@ -24,12 +26,16 @@ impl<'a> Lines<'a> {
 }
 
 /// Whether a byte is a blank.
-pub(crate) fn is_blank(byte: u8) -> bool {
+pub(crate) fn is_blank(byte: u8) -> bool
+    ensures { result ≡ Bytes.is_blank byte }
+{
     byte == b' ' || byte == b'\t' || byte == b'\r'
 }
 
 /// Whether a byte may stand in a name.
-pub(crate) fn is_named(byte: u8) -> bool {
+pub(crate) fn is_named(byte: u8) -> bool
+    ensures { result ≡ Bytes.is_named byte }
+{
     byte.is_ascii_alphanumeric() || byte == b'_' || byte == b'.' || byte == b'$'
 }
 
@@ -99,33 +105,34 @@ pub fn without_comment(line: &[u8]) -> &[u8] {
 }
 
 /// The value of a digit in a base of at most 16.
-fn digit(byte: u8, base: u64) -> Option<u64> {
+fn digit(byte: u8, base: u32) -> Option<u32>
+    ensures below { IfSome result (λ d. d < base) }
+{
     let value = match byte {
-        b'0'..=b'9' => u64::from(byte - b'0'),
-        b'a'..=b'f' => u64::from(byte - b'a') + 10,
-        b'A'..=b'F' => u64::from(byte - b'A') + 10,
+        b'0'..=b'9' => u32::from(byte - b'0'),
+        b'a'..=b'f' => u32::from(byte - b'a') + 10,
+        b'A'..=b'F' => u32::from(byte - b'A') + 10,
         _ => return None,
     };
     if value < base { Some(value) } else { None }
 }
 
 /// The number that digits spell in a base of at most 16, if it is below 2^32.
-fn digits(text: &[u8], base: u64) -> Option<u64> {
+fn digits(text: &[u8], base: u32) -> Option<u32>
+    ensures some { text.now ≡ [] → result ≡ None }
+{
     if text.is_empty() {
         return None;
     }
-    let mut value = 0u64;
+    let mut value = 0u32;
     for byte in text {
         value = value.checked_mul(base)?.checked_add(digit(*byte, base)?)?;
-        if value > u64::from(u32::MAX) {
-            return None;
-        }
     }
     Some(value)
 }
 
 /// The number that a text spells, below 2^32, without a sign: decimal, octal behind a `0`, hexadecimal behind `0x`.
-fn unsigned(text: &[u8]) -> Option<u64> {
+fn unsigned(text: &[u8]) -> Option<u32> {
     match text {
         [b'0', b'x', rest @ ..] | [b'0', b'X', rest @ ..] => digits(rest, 16),
         [b'0', b'0'..=b'9', ..] => digits(text, 8),
@@ -140,7 +147,6 @@ pub(crate) fn number(text: &[u8]) -> Option<u32> {
         [b'+', rest @ ..] => (false, trimmed_front(rest)),
         _ => (false, text),
     };
-    let value = unsigned(rest)?;
-    let word = u32::try_from(value).ok()?;
+    let word = unsigned(rest)?;
     Some(if negative { word.wrapping_neg() } else { word })
 }

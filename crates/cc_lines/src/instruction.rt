@@ -1,4 +1,6 @@
 //! Instructions of MIPS-I, as the assembler of a compiler's output takes them.
+ghost use Rattle.std.specs.Prelude.{◌≡◌, ℕ, not};
+ghost use Rattle.cc_lines.specs.Conditions.{holds};
 
 /// A general register, by its number from 0 to 31.
 #[derive(Clone, Copy, Debug, PartialEq, Eq)]
@@ -87,7 +89,9 @@ pub enum Condition {
 
 impl Condition {
     /// The condition that holds where this one does not.
-    pub fn opposite(self) -> Condition {
+    pub fn opposite(self) -> Condition
+        ensures { (a b : ℕ) → holds result a b ≡ not (holds self a b) }
+    {
         match self {
             Condition::Equal => Condition::NotEqual,
             Condition::NotEqual => Condition::Equal,

@@ -1,4 +1,6 @@
 //! Operands of instructions, and the values of data directives.
+ghost use Rattle.std.specs.Prelude.{◌<◌, IfSome, IfOk};
+ghost use Rattle.cc_lines.specs.Registers.{IsTaken};
 
 use crate::cursor::{is_named, number, split_at_byte, split_name, trimmed, trimmed_front};
 use crate::instruction::Register;
@@ -32,7 +34,9 @@ pub struct Values<'a> {
 const NAMED: [(&str, u8); 5] = [("zero", 0), ("sp", 29), ("fp", 30), ("s8", 30), ("ra", 31)];
 
 /// The number of a register's name, in which the `$` is left out.
-fn register_number(name: &[u8]) -> Option<u8> {
+fn register_number(name: &[u8]) -> Option<u8>
+    ensures register { IfSome result (λ n. n < 32) }
+{
     for (spelling, value) in &NAMED {
         if name == spelling.as_bytes() {
             return Some(*value);
@@ -65,7 +69,9 @@ fn is_floating(name: &[u8]) -> bool {
 }
 
 /// The register that a text spells, if it is none the reason, or nothing where it is no register's name.
-fn register_named(text: &[u8]) -> Option<Result<Register, Refusal>> {
+fn register_named(text: &[u8]) -> Option<Result<Register, Refusal>>
+    ensures taken { IfSome result (λ r. IfOk r (λ register. IsTaken register.0)) }
+{
     let [b'$', name @ ..] = text else {
         return None;
     };
@@ -83,7 +89,9 @@ fn register_named(text: &[u8]) -> Option<Result<Register, Refusal>> {
 }
 
 /// The register that a text spells.
-pub(crate) fn register_read(text: &[u8]) -> Result<Register, Refusal> {
+pub(crate) fn register_read(text: &[u8]) -> Result<Register, Refusal>
+    ensures taken { IfOk result (λ register. IsTaken register.0) }
+{
     register_named(text).unwrap_or(Err(Refusal::BadOperands))
 }
 

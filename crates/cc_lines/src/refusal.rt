@@ -1,4 +1,5 @@
 //! Why a line is not taken.
+ghost use Rattle.std.specs.Prelude.{◌≡◌};
 
 use std::alloc::{AllocError, AllocFailed};
 use thiserror::Error;
@@ -52,19 +53,25 @@ pub enum LineError {
 }
 
 impl From<AllocError> for LineError {
-    fn from(_: AllocError) -> LineError {
+    fn from(_: AllocError) -> LineError
+        ensures { result ≡ LineError.Memory }
+    {
         LineError::Memory
     }
 }
 
 impl<T: Drop> From<AllocFailed<T>> for LineError {
-    fn from(_: AllocFailed<T>) -> LineError {
+    fn from(_: AllocFailed<T>) -> LineError
+        ensures { result ≡ LineError.Memory }
+    {
         LineError::Memory
     }
 }
 
 impl From<Refusal> for LineError {
-    fn from(refusal: Refusal) -> LineError {
+    fn from(refusal: Refusal) -> LineError
+        ensures { result ≡ LineError.Refused refusal }
+    {
         LineError::Refused(refusal)
     }
 }
