@@ -1,8 +1,10 @@
 //! The commands for people who look: pictures of a run. What their words are, and how each is answered.
 #![tactic(auto)]
 
+mod cached;
 mod checked;
 mod compared;
+mod disassembled;
 mod drawn;
 mod given;
 mod linked;
@@ -12,6 +14,7 @@ mod profiled;
 mod ran;
 mod sentence;
 mod top;
+mod traced;
 mod words;
 
 pub use cmd_answer::Status;

@@ -1,9 +1,12 @@
 //! The top call.
+use crate::cached::caches_reply;
 use crate::checked::check_reply;
 use crate::compared::compare_reply;
+use crate::disassembled::disassemble_reply;
 use crate::drawn::draw_reply;
 use crate::planned::plans_reply;
 use crate::profiled::profile_reply;
+use crate::traced::trace_reply;
 use crate::words::read_words;
 use clap::error::ErrorKind;
 use clap::{ArgMatches, Error};
@@ -47,6 +50,9 @@ fn answered_by<S: Shelf, T: Watcher>(
         "check" => check_reply(alloc, shelf, matches),
         "profile" => profile_reply(alloc, shelf, matches, watcher),
         "compare" => compare_reply(alloc, shelf, matches, watcher),
+        "disassemble" => disassemble_reply(alloc, shelf, matches),
+        "caches" => caches_reply(alloc, shelf, matches, watcher),
+        "trace" => trace_reply(alloc, shelf, matches, watcher),
         "plans" => plans_reply(alloc, shelf, matches, watcher),
         _ => Err(Memory),
     }

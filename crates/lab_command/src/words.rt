@@ -1,8 +1,11 @@
 //! The words of the command line.
+use crate::cached::caches_command;
 use crate::checked::check_command;
 use crate::compared::compare_command;
+use crate::disassembled::disassemble_command;
 use crate::planned::plans_command;
 use crate::profiled::profile_command;
+use crate::traced::trace_command;
 use clap::{Arg, ArgAction, ArgMatches, Command, value_parser};
 use std::alloc::{AllocError, Global};
 
@@ -113,6 +116,9 @@ fn command_line<'a>(alloc: Global) -> Result<Command<'a>, AllocError> {
         .subcommand(check_command(alloc)?)?
         .subcommand(profile_command(alloc)?)?
         .subcommand(compare_command(alloc)?)?
+        .subcommand(disassemble_command(alloc)?)?
+        .subcommand(caches_command(alloc)?)?
+        .subcommand(trace_command(alloc)?)?
         .subcommand(plans_command(alloc)?)
 }
 
