@@ -3,7 +3,7 @@
 
 usage: checks/profiles.py [SOURCES]
 
-It needs mx_lab and mx_run as ./mx leaves them. The sources, 300 of them if no number is given, are those of `gen`, each with
+It needs mx_lab and mx_run as ./mx leaves them, or the programs that MX_LAB and MX_RUN name. The sources, 300 of them if no number is given, are those of `gen`, each with
 drawn interrupts. Of each profile: the sums are the counts of `run`; each line's count is how often the interpreter, which is
 written from docs/SOURCE.md, executes it, and all together are the steps of `meaning`; the copies stand where `list` has them.
 """
@@ -15,14 +15,16 @@ import sys
 import tempfile
 
 TOP = os.path.dirname(os.path.dirname(os.path.abspath(__file__)))
-COST = re.compile(r" *(\d+) +(\d+) +(\d+) +(\d+) +(\d+)  (.*)")
+COST = re.compile(r".{6} +(\d+) +(\d+) +(?:\d+\.\d|-) +(?:\d+\.\d\d|-) +(\d+) +(\d+) +(\d+) +(\d+)  (.*)")
+HEAD = ["line", "count", "cycles", "%", "CPI", "stalls", "no-ops", "squashed", "killed", "source"]
 COUNTS = ("cycles", "fetches", "misses", "squashes", "interrupts")
 WORD = 2**32
 
 
 def answered(program, *words):
     """Returns the exit status of a program and what it prints."""
-    done = subprocess.run([f"{TOP}/crates/{program}/out/{program}", *words], capture_output=True, check=False)
+    named = os.environ.get(program.upper(), f"{TOP}/crates/{program}/out/{program}")
+    done = subprocess.run([named, *words], capture_output=True, check=False)
     return done.returncode, done.stdout.decode("latin-1")
 
 
@@ -89,16 +91,17 @@ def counts_of(text):
 def profiled(source, text):
     """Returns the costs and the copies of the lines of a profile, the costs of its named rows, and its counts."""
     rows = text.split("\n")
-    assert rows.pop(0).split() == ["count", "cycles", "stalls", "no-ops", "cancelled", "source"]
+    assert rows.pop(0).split() == HEAD
     costs, copies, named = {}, {}, {}
     for number, line in enumerate(source.splitlines(), 1):
         row = rows.pop(0)
         found = COST.fullmatch(row)
-        assert (found[6] if found else row.lstrip()) == line, (row, line)
+        assert (found[7] if found else row.lstrip()) == line, (row, line)
         if found:
-            costs[number] = [int(it) for it in found.groups()[:5]]
+            assert int(row[:6]) == number
+            costs[number] = [int(it) for it in found.groups()[:6]]
         if rows[0].strip().startswith("copies at "):
-            copies[number] = rows.pop(0).split()[2:]
+            copies[number] = [it.removeprefix("0x") for it in rows.pop(0).split()[2:]]
     while COST.fullmatch(rows[0]):
         *numbers, name = COST.fullmatch(rows.pop(0)).groups()
         named[name] = [int(it) for it in numbers]
@@ -125,6 +128,9 @@ def check(seed, count, folder):
     assert {it: counts[it] for it in COUNTS} == {it: ran[it] for it in COUNTS}
     columns = [sum(column) for column in zip(*costs.values(), named["the handler"], named["behind the code"])]
     assert columns == named["together"]
+    # the cycles of a row are those of its other columns
+    for count, cycles, *others in [*costs.values(), *named.values()]:
+        assert cycles == count + sum(others)
     assert columns[1] + counts["waiting"] == ran["cycles"]
     assert columns[1] - columns[2] == ran["fetches"]
     assert columns[3] == counts["noops passed"]

@@ -2,6 +2,7 @@
 """study.py: writes docs/STUDY.md and docs/study.svg: what the reorganizer makes of the examples of examples/c at -O2,
 and what gcc's own filler leaves of the same C. It takes the programs that checks/cc.sh takes, by MX_RUN, MX_CC and
 MX_LAB (the program of `compare` and `profile`)."""
+import json
 import os
 import re
 import sys
@@ -82,29 +83,22 @@ def count_slots(study, source, own):
             study.load_slots['no-ops' if kinds[i + 1] == '-' else 'filled'] += 1
 
 
-def read_profile(study, text, own):
+def read_profile(study, profile, own):
     """The cycles of each group of functions, and of all lines together."""
     group = 'library'
-    for line in text.split('\n'):
-        row = re.match(r' *(\d+) +(\d+) +(\d+) +(\d+) +(\d+)  (.*)$', line)
-        rest = row.group(6) if row else line
-        if row and rest == 'together':
-            study.together = [int(number) for number in row.groups()[:5]]
-            return
-        for label in re.findall(r'([\w.]+):', rest.split(';')[0]):
-            group = group_of(label, own, group)
-        if row:
-            study.cycles_of[group] += int(row.group(2))
+    for row in profile['rows']:
+        group = group_of(row['name'], own, group)
+        study.cycles_of[group] += row['cycles']
+    rows = [*profile['rows'], profile['handler'], profile['behind']]
+    study.together = [sum(row[column] for row in rows) for column in ('count', 'cycles', 'stalls', 'noops', 'squashed')]
 
 
 def read_tables(study, source, given, own):
-    words = ['--budget', str(BUDGET), *(['--input', given] if given else [])]
-    for line in text_of([LAB, 'compare', source, *words]).split('\n'):
-        part = line.split()
-        if part and part[0] in PLANS:
-            study.plans[part[0]] = {'words': int(part[1]), 'no-ops': int(part[2]), 'cycles': int(part[5])}
-    read_profile(study, text_of([LAB, 'profile', source, *words]), own)
-    study.run, _ = cprograms.report([RUN, 'run', source, *words])
+    words = ['--budget', str(BUDGET), '--as', 'json', *(['--input', given] if given else [])]
+    for row in json.loads(text_of([LAB, 'compare', source, *words]))['schedulers']:
+        study.plans[row['plans']] = {'words': row['words'], 'no-ops': row['noops'], 'cycles': row['cycles']}
+    read_profile(study, json.loads(text_of([LAB, 'profile', source, '--by', 'label', *words])), own)
+    study.run, _ = cprograms.report([RUN, 'run', source, *(word for word in words if word not in ('--as', 'json'))])
 
 
 def functions_of(assembly):

@@ -1,8 +1,10 @@
 //! The commands for people who look: pictures of a run. What their words are, and how each is answered.
 #![tactic(auto)]
 
+mod cached;
 mod checked;
 mod compared;
+mod disassembled;
 mod drawn;
 mod explained;
 mod failure;
@@ -13,6 +15,7 @@ mod printed;
 mod profiled;
 mod ran;
 mod top;
+mod traced;
 mod words;
 
 pub use cmd_answer::Status;

@@ -1,5 +1,5 @@
 //! Sources, assembled and linked, or the reply to what is wrong with them.
-ghost use Rattle.std.specs.Prelude.{◌≤◌, length, IfOk};
+ghost use Rattle.std.specs.Prelude.{◌≤◌, length, vec_len, IfOk};
 ghost use Rattle.mx_reorg.specs.Greedy.{IsGreedy};
 ghost use Rattle.mx_link.specs.Origins.{from_target};
 ghost use Rattle.mx_link.specs.Linked.{IsLinked};
@@ -79,6 +79,25 @@ fn linked_source(alloc: Global, source: &Source) -> Result<Result<Linked, Reply>
     }
 }
 
+/// A text, linked as `mx_run` links it, or the reply to what is wrong with it.
+pub fn linked_text(alloc: Global, text: Vec<u8>) -> Result<Result<LinkedSource, Reply>, Memory>
+    requires { vec_len text ≤ 4194304 }
+    ensures { IfOk result (λ r. IfOk r (λ p. IsLinked IsGreedy from_target p.source board p.linked)) }
+{
+    let source = match assembled(alloc, text.as_slice())? {
+        Ok(source) => source,
+        Err(reply) => return Ok(Err(reply)),
+    };
+    match linked_source(alloc, &source)? {
+        Ok(linked) => Ok(Ok(LinkedSource {
+            text,
+            source,
+            linked,
+        })),
+        Err(reply) => Ok(Err(reply)),
+    }
+}
+
 /// The source of this name, linked as `mx_run` links it, or the reply to the fault of its file, or to what is wrong with its text.
 pub fn read_linked<S: Shelf>(
     alloc: Global,
@@ -91,16 +110,8 @@ pub fn read_linked<S: Shelf>(
         Ok(text) => text,
         Err(reply) => return Ok(Err(reply)),
     };
-    let source = match assembled(alloc, text.as_slice())? {
-        Ok(source) => source,
-        Err(reply) => return Ok(Err(reply)),
-    };
-    match linked_source(alloc, &source)? {
-        Ok(linked) => Ok(Ok(LinkedSource {
-            text,
-            source,
-            linked,
-        })),
+    match linked_text(alloc, text)? {
+        Ok(program) => Ok(Ok(program)),
         Err(reply) => Ok(Err(reply)),
     }
 }

@@ -1,20 +1,89 @@
 //! `profile`: its words and its reply.
-use crate::printed::printed;
-use crate::ran::read_run;
+use crate::given::word_given;
+use crate::ran::{GivenRun, read_run};
 use crate::words::{run_options, source_arg};
-use clap::{ArgMatches, Command};
+use clap::{Arg, ArgAction, ArgMatches, Command};
 use cmd_answer::{Reply, Status};
-use lab_profile::{Profile, profile_of, profile_text};
-use lab_watch::Watcher;
+use lab_costs::{By, Calls, Column, Subject, callgrind, calls_of, profile_json, profile_text};
+use lab_profile::{Profile, profile_of};
+use lab_watch::{Watcher, watched_pipe};
+use mx_icache::LineCache;
 use mx_io::{Memory, Shelf};
 use std::alloc::{AllocError, Global};
+
+// An option that takes one of some words.
+fn choice<'a>(
+    alloc: Global,
+    name: &'a str,
+    words: &'static [&'static str],
+    default: &'a str,
+    help: &'a str,
+) -> Arg<'a> {
+    Arg::new(alloc, name)
+        .long(name)
+        .action(ArgAction::Set)
+        .default_value(default)
+        .value_parser(words)
+        .help(help)
+}
 
 /// The words of `profile`.
 pub fn profile_command<'a>(alloc: Global) -> Result<Command<'a>, AllocError> {
     let bare = Command::new(alloc, "profile")
-        .about("tells what each line of a source costs in a run")
-        .arg(source_arg(alloc))?;
+        .about("tells what each part of a source costs in a run")
+        .arg(source_arg(alloc))?
+        .arg(choice(
+            alloc,
+            "by",
+            ["line", "label", "function", "c"].as_slice(),
+            "line",
+            "the parts that are told: lines, labels, functions, or lines of C",
+        )
+        .value_name("PART"))?
+        .arg(choice(
+            alloc,
+            "sort",
+            [
+                "line", "count", "cycles", "cpi", "stalls", "noops", "squashed", "killed",
+            ]
+            .as_slice(),
+            "line",
+            "the column whose greatest number comes first; line is the order of the source",
+        )
+        .value_name("COLUMN"))?
+        .arg(choice(
+            alloc,
+            "as",
+            ["text", "json", "callgrind"].as_slice(),
+            "text",
+            "the form of the profile",
+        )
+        .value_name("FORM"))?;
     run_options(alloc, bare)
+}
+
+// The parts that the words ask for.
+fn by_given(matches: &ArgMatches) -> By {
+    match word_given(matches, "by") {
+        "label" => By::Label,
+        "function" => By::Function,
+        "c" => By::C,
+        _ => By::Line,
+    }
+}
+
+// The column that the words ask for.
+fn column_given(matches: &ArgMatches) -> Column {
+    match word_given(matches, "sort") {
+        "count" => Column::Count,
+        "cycles" => Column::Cycles,
+        "cpi" => Column::Cpi,
+        "stalls" => Column::Stalls,
+        "noops" => Column::Noops,
+        "squashed" => Column::Squashed,
+        "killed" => Column::Killed,
+        _ => Column::Line,
+    }
 }
 
 // How a profiled run ended.
@@ -24,6 +93,39 @@ fn status_of(profile: &Profile) -> Status {
     } else {
         Status::OutOfBudget
     }
+}
+
+// The calls of a run.
+fn calls_in<W: Watcher>(alloc: Global, run: &GivenRun, watcher: W) -> Result<Calls, Memory> {
+    let program = &run.program;
+    let input = run.asked_input();
+    let image = &program.linked.image;
+    let mut machine = watched_pipe(alloc, image, input, LineCache::new(), watcher)?;
+    calls_of(
+        alloc,
+        &mut machine,
+        &program.source,
+        &program.linked,
+        &run.requests,
+        run.budget,
+    )
+}
+
+// A profile in the form that the words ask for.
+fn text_of<W: Watcher>(
+    alloc: Global,
+    matches: &ArgMatches,
+    run: &GivenRun,
+    subject: &Subject,
+    watcher: W,
+) -> Result<Vec<u8>, Memory> {
+    let (by, column) = (by_given(matches), column_given(matches));
+    let text = match word_given(matches, "as") {
+        "json" => return profile_json(alloc, subject, by, column),
+        "callgrind" => callgrind(alloc, subject, &calls_in(alloc, run, watcher)?, by),
+        _ => profile_text(alloc, subject, by, column),
+    };
+    text.map_err(|_| Memory)
 }
 
 /// The reply to `profile SOURCE`.
@@ -46,12 +148,16 @@ pub fn profile_reply<S: Shelf, W: Watcher>(
         run.budget,
         watcher,
     )?;
-    let text = profile_text(
-        alloc,
-        program.text.as_slice(),
-        &program.source,
-        &program.linked,
-        &profile,
-    );
-    printed(status_of(&profile), text)
+    let subject = Subject {
+        file: word_given(matches, "SOURCE"),
+        text: program.text.as_slice(),
+        source: &program.source,
+        linked: &program.linked,
+        profile: &profile,
+    };
+    let output = text_of(alloc, matches, &run, &subject, watcher)?;
+    Ok(Reply::Prints {
+        status: status_of(&profile),
+        output,
+    })
 }

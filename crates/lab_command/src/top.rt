@@ -1,13 +1,16 @@
 //! The top call.
 ghost use Rattle.std.specs.Prelude.{◌≡◌, true};
 
+use crate::cached::caches_reply;
 use crate::checked::check_reply;
 use crate::compared::compare_reply;
+use crate::disassembled::disassemble_reply;
 use crate::drawn::draw_reply;
 use crate::explained::explain_reply;
 use crate::failure::{Causes, error_text, is_error};
 use crate::planned::plans_reply;
 use crate::profiled::profile_reply;
+use crate::traced::trace_reply;
 use crate::words::read_words;
 use clap::error::ErrorKind;
 use clap::{ArgMatches, Error};
@@ -38,6 +41,9 @@ fn answered_by<S: Shelf, T: Watcher>(
         "explain" => explain_reply(alloc, shelf, matches, watcher),
         "profile" => profile_reply(alloc, shelf, matches, watcher),
         "compare" => compare_reply(alloc, shelf, matches, watcher),
+        "disassemble" => disassemble_reply(alloc, shelf, matches),
+        "caches" => caches_reply(alloc, shelf, matches, watcher),
+        "trace" => trace_reply(alloc, shelf, matches, watcher),
         "plans" => plans_reply(alloc, shelf, matches, watcher),
         _ => Err(Memory),
     }

@@ -1,9 +1,12 @@
 //! The words of the command line.
+use crate::cached::caches_command;
 use crate::checked::check_command;
 use crate::compared::compare_command;
+use crate::disassembled::disassemble_command;
 use crate::explained::explain_command;
 use crate::planned::plans_command;
 use crate::profiled::profile_command;
+use crate::traced::trace_command;
 use clap::{Arg, ArgAction, ArgMatches, Command, value_parser};
 use std::alloc::{AllocError, Global};
 
@@ -127,6 +130,9 @@ fn command_line<'a>(alloc: Global) -> Result<Command<'a>, AllocError> {
         .subcommand(with_output(alloc, explain_command(alloc)?)?)?
         .subcommand(with_output(alloc, profile_command(alloc)?)?)?
         .subcommand(with_output(alloc, compare_command(alloc)?)?)?
+        .subcommand(with_output(alloc, disassemble_command(alloc)?)?)?
+        .subcommand(with_output(alloc, caches_command(alloc)?)?)?
+        .subcommand(with_output(alloc, trace_command(alloc)?)?)?
         .subcommand(with_output(alloc, plans_command(alloc)?)?)
 }
 

@@ -1,6 +1,6 @@
 //! What is told of a source that is linked and run.
 
-use crate::Slots;
+use crate::{Slots, TransferSlots};
 
 /// The figures of a source that is linked by some plans and run.
 #[derive(Clone, Copy, Debug, PartialEq, Eq)]
@@ -9,12 +9,17 @@ pub struct Figures {
     pub words: usize,
     /// How many of them are the no-op.
     pub noops: u32,
+    /// How many of them are copies.
+    pub copies: u32,
     /// The slots behind branches, calls and jumps, two each.
-    pub transfers: Slots,
+    pub transfers: TransferSlots,
     /// The places directly behind loads, one each.
     pub loads: Slots,
     /// The cycles of the run.
     pub cycles: u64,
+    /// The fetches of the run that missed, and the branches that squashed.
+    pub misses: u64,
+    pub squashes: u64,
     /// Whether the run halted within its budget.
     pub halted: bool,
 }

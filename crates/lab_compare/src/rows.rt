@@ -83,7 +83,11 @@ fn measured<W: Watcher>(
         (program_of shipped linked.now.image.code.items linked.now.image.user_data.items (given source.now.input conditions.now.input.now))
         conditions.now.requests.now conditions.now.budget).halted) }
 {
-    let (transfers, loads) = slots_of(source.statements(), linked.origin.as_slice());
+    let (transfers, loads) = slots_of(
+        source.statements(),
+        linked.image.code.as_slice(),
+        linked.origin.as_slice(),
+    );
     let input = given_to(source, conditions.input);
     let mut machine = watched_pipe(alloc, &linked.image, input, LineCache::new(), watcher)?;
     let driven = drive(
@@ -96,9 +100,12 @@ fn measured<W: Watcher>(
     Ok(Figures {
         words: linked.image.code.len(),
         noops: linked.noops,
+        copies: linked.copies,
         transfers,
         loads,
         cycles: cycles_in(&driven),
+        misses: driven.counts.misses,
+        squashes: driven.counts.squashes,
         halted: has_halted(&driven),
     })
 }

@@ -70,7 +70,7 @@ fn push_name(text: &mut String, name: &[u8]) -> Result<(), AllocError> {
 }
 
 // Appends the place where a transfer leads: its label, or a label and how many words behind it, or else the address, in
-// hexadecimal.
+// hexadecimal, behind `0x`.
 fn push_target(text: &mut String, names: &PlaceNames, target: u32) -> Result<(), AllocError> {
     for behind in 0..=COPIES {
         if let Some(name) = names.code_name(target.wrapping_sub(behind)) {
@@ -82,7 +82,7 @@ fn push_target(text: &mut String, names: &PlaceNames, target: u32) -> Result<(),
             };
         }
     }
-    write!(text, "{target:x}")
+    write!(text, "0x{target:x}")
 }
 
 // Appends a branch. `sq` marks one that cancels the two words after it where it does not hold.

@@ -56,10 +56,21 @@ impl<'a> PlaceNames<'a> {
         links: &[u32],
         words: usize,
     ) -> Result<PlaceNames<'a>, AllocError> {
-        let labels = source.labels();
+        let data_words = source.user_data().len();
+        PlaceNames::of_labels(alloc, source.labels(), data_words, links, words)
+    }
+
+    /// These labels, over so many data words, the addresses of the statements' blocks, and so many code words.
+    pub fn of_labels(
+        alloc: Global,
+        labels: &'a IndexMap<Name, Label>,
+        data_words: usize,
+        links: &[u32],
+        words: usize,
+    ) -> Result<PlaceNames<'a>, AllocError> {
         let mut places = Vec::new(alloc);
         let mut code = unnamed(alloc, words.saturating_add(1))?;
-        let mut user_data = unnamed(alloc, source.user_data().len())?;
+        let mut user_data = unnamed(alloc, data_words)?;
         for (index, label) in labels.values().enumerate() {
             let place = place_of(*label, links);
             places.push(place)?;

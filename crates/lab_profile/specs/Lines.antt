@@ -11,7 +11,7 @@ abbrev pub saturated : ℕ → ℕ
 saturated n = min n (2 ^ 64 - 1)
 
 abbrev pub no_cost : LineCost
-no_cost = record { executed = 0; cycles = 0; stalls = 0; noops = 0; cancelled = 0 }
+no_cost = record { executed = 0; cycles = 0; stalls = 0; noops = 0; cancelled = 0; killed = 0; squashes = 0 }
 
 -- how often the words of statement i were executed, as its cost says
 abbrev pub executed_of : List LineCost → ℕ → ℕ

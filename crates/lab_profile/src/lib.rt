@@ -7,12 +7,10 @@ mod lines;
 mod piped;
 mod running;
 mod tally;
-mod text;
 
 pub use by_line::costs_by_line;
 pub use laws::{lines_follow_statements, sums_are_counts};
-pub use lines::{LineCost, line_costs};
+pub use lines::{LineCost, cost_at, line_costs, total};
 pub use piped::profile_of;
 pub use running::profile;
 pub use tally::{Profile, Tally};
-pub use text::profile_text;

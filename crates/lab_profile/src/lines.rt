@@ -1,25 +1,30 @@
 //! The costs of the words of a code, gathered by the statements that they come from.
 ghost use Rattle.std.specs.Prelude.{◌≡◌, ◌<◌, ◌+◌, ℕ, cond, eqb, IfOk, length, slice_index};
 ghost use Rattle.law_executions.specs.Gathered.{is_of};
-ghost use Rattle.lab_profile.specs.Lines.{saturated, executed_of, CountsStatements};
+ghost use Rattle.lab_profile.specs.Lines.{saturated, executed_of, executed_together, CountsStatements};
 
 use crate::tally::Tally;
 use mx_link::Origin;
 use std::alloc::{AllocError, Global};
 
-/// What a statement cost: its own word, the copies of it, and the no-ops and squashed words behind it.
+/// What a statement cost: its words, which are its own word, the copies of it, and the no-ops behind it. Each fetch of them,
+/// and each stalled cycle before one, is a cycle of one of the columns behind `cycles`, or is that in which it was executed.
 #[derive(Clone, Copy, Debug, PartialEq, Eq)]
 pub struct LineCost {
     /// How often it was executed, at its own word or at a copy.
     pub executed: u64,
-    /// The cycles of the fetches of its own word, of its copies, and of the no-ops behind it.
+    /// The cycles of the fetches of its words, with the stalled ones before them.
     pub cycles: u64,
     /// Those of them that were stalled before a fetch.
     pub stalls: u64,
     /// How often a no-op behind it was executed.
     pub noops: u64,
-    /// How often a word behind it was squashed.
+    /// How often a word of it was squashed.
     pub cancelled: u64,
+    /// How many fetches of its words came to no end: an interrupt killed them, or they were under way as the run ended.
+    pub killed: u64,
+    /// How often its branch squashed the words in its slots.
+    pub squashes: u64,
 }
 
 /// No cost.
@@ -29,11 +34,13 @@ pub(crate) const NO_COST: LineCost = LineCost {
     stalls: 0,
     noops: 0,
     cancelled: 0,
+    killed: 0,
+    squashes: 0,
 };
 
 impl LineCost {
     /// Both costs.
-    pub(crate) fn plus(self, other: LineCost) -> LineCost
+    pub fn plus(self, other: LineCost) -> LineCost
         ensures { result.executed ≡ saturated (self.executed + other.executed) }
     {
         LineCost {
@@ -42,6 +49,8 @@ impl LineCost {
             stalls: self.stalls.saturating_add(other.stalls),
             noops: self.noops.saturating_add(other.noops),
             cancelled: self.cancelled.saturating_add(other.cancelled),
+            killed: self.killed.saturating_add(other.killed),
+            squashes: self.squashes.saturating_add(other.squashes),
         }
     }
 }
@@ -56,25 +65,31 @@ fn entry(list: &[u64], at: usize) -> u64
     }
 }
 
-/// The cycles of a place, and those of them that were stalled.
-fn cycles_at(tally: &Tally, place: usize) -> LineCost
+/// What a place cost beside what was executed there.
+fn cost_beside(tally: &Tally, place: usize) -> LineCost
     ensures { result.executed ≡ 0 }
 {
     let cycles = entry(tally.cycles.as_slice(), place);
     let fetches = entry(tally.fetches.as_slice(), place);
+    let executed = entry(tally.executed.as_slice(), place);
+    let cancelled = entry(tally.cancelled.as_slice(), place);
     LineCost {
         cycles,
         stalls: cycles.saturating_sub(fetches),
+        cancelled,
+        killed: fetches.saturating_sub(executed).saturating_sub(cancelled),
+        squashes: entry(tally.squashes.as_slice(), place),
         ..NO_COST
     }
 }
 
 /// What a place cost that is no word of a statement: the handler, or what lies behind the code.
-pub(crate) fn cost_at(tally: &Tally, place: usize) -> LineCost {
+pub fn cost_at(tally: &Tally, place: usize) -> LineCost
+    ensures { result.executed ≡ slice_index tally.now.executed.items place }
+{
     LineCost {
         executed: entry(tally.executed.as_slice(), place),
-        cancelled: entry(tally.cancelled.as_slice(), place),
-        ..cycles_at(tally, place)
+        ..cost_beside(tally, place)
     }
 }
 
@@ -95,14 +110,14 @@ fn word_cost(tally: &Tally, place: usize, from: Origin, owner: u32) -> (u32, Lin
     ensures { (i : ℕ) → cond (eqb result.0 i) result.1.executed 0 ≡ cond (is_of i from) (slice_index tally.now.executed.items place) 0 }
 {
     let executed = entry(tally.executed.as_slice(), place);
-    let cycles = cycles_at(tally, place);
+    let beside = cost_beside(tally, place);
     match from {
-        Origin::Own(i) | Origin::Copy(i) => (i, LineCost { executed, ..cycles }),
+        Origin::Own(i) | Origin::Copy(i) => (i, LineCost { executed, ..beside }),
         Origin::Pad => (
             owner,
             LineCost {
                 noops: executed,
-                ..cycles
+                ..beside
             },
         ),
     }
@@ -115,16 +130,7 @@ fn add_word(costs: &mut Vec<LineCost>, tally: &Tally, place: usize, from: Origin
         → executed_of costs.new.items i ≡ saturated (n + cond (is_of i from) (slice_index tally.now.executed.items place) 0) }
 {
     let (statement, cost) = word_cost(tally, place, from, owner);
-    let cancelled = entry(tally.cancelled.as_slice(), place);
     add(costs, statement, cost);
-    add(
-        costs,
-        owner,
-        LineCost {
-            cancelled,
-            ..NO_COST
-        },
-    );
 }
 
 /// The last statement whose own word stands up to a word from there, where `owner` is the one before it.
@@ -135,8 +141,8 @@ fn owner_at(owner: u32, from: Origin) -> u32 {
     }
 }
 
-/// The cost of each of so many statements, by where the words of the code come from. A no-op that was put in, and a word
-/// that was squashed, is that of the last statement whose own word stands before it.
+/// The cost of each of so many statements, by where the words of the code come from. A no-op that was put in is that of the
+/// last statement whose own word stands before it; a copy, also where it is squashed, is that of the statement copied.
 pub fn line_costs(
     alloc: Global,
     statements: usize,
@@ -154,4 +160,15 @@ pub fn line_costs(
         add_word(&mut costs, tally, place, from, owner);
     }
     Ok(costs)
+}
+
+/// All costs together.
+pub fn total(costs: &[LineCost]) -> LineCost
+    ensures { result.executed ≡ saturated (executed_together costs.now) }
+{
+    let mut sum = NO_COST;
+    for cost in costs {
+        sum = sum.plus(*cost);
+    }
+    sum
 }

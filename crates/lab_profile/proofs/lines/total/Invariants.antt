@@ -1,7 +1,7 @@
 use Rattle.std.proofs.Common.{◌≡◌}
 use Rattle.lab_profile.specs.Charges.{sum_below}
 use Rattle.lab_profile.specs.Lines.{saturated, executed_of}
-use Rattle.lab_profile.proofs.text.total.Given as goal
+use Rattle.lab_profile.proofs.lines.total.Given as goal
 
 abbrev pub invariant-loop-cost : goal.invariant-loop-cost
 invariant-loop-cost l = l.sum.executed ≡ saturated (sum_below (executed_of l.fn.costs) l.cost-index)

@@ -1,0 +1,135 @@
+//! Caches as a chart: misses by size.
+use crate::study::{CacheRow, Study};
+use std::alloc::{AllocError, Global};
+
+/// The sizes on the chart, in words.
+const SIZES: [u64; 5] = [128, 256, 512, 1024, 2048];
+
+/// The numbers of ways, each a curve, with its colour.
+const CURVES: [(u32, &str); 4] = [
+    (1, "#b4442f"),
+    (2, "#c98a17"),
+    (4, "#3d7f4f"),
+    (8, "#2f62a8"),
+];
+
+/// Where the plane of the chart lies, and how large it is.
+const LEFT: u64 = 70;
+
+const TOP: u64 = 40;
+
+const WIDTH: u64 = 480;
+
+const HEIGHT: u64 = 280;
+
+/// How many lines go across the plane.
+const LINES: u64 = 4;
+
+const HEAD: &str =
+    r#"<svg xmlns="http://www.w3.org/2000/svg" viewBox="0 0 640 390" font-family="sans-serif" font-size="12">
+<title>Misses by the size of the cache</title>
+<rect width="640" height="390" fill="white"/>
+<text x="70" y="22" font-size="14">Misses in per cent of the fetches, by words of the cache</text>
+"#;
+
+// How far to the right a size stands.
+fn across(index: u64) -> u64 {
+    LEFT.saturating_add(index.saturating_mul(WIDTH) / 4)
+}
+
+// How far down a part of the greatest share stands.
+fn down(part: u64, most: u64) -> u64 {
+    let up = part.saturating_mul(HEIGHT).checked_div(most).unwrap_or(0);
+    TOP.saturating_add(HEIGHT.saturating_sub(up))
+}
+
+// Misses in hundredths of a per cent of the fetches.
+fn share(misses: u64, fetches: u64) -> u64 {
+    misses
+        .saturating_mul(10_000)
+        .checked_div(fetches)
+        .unwrap_or(0)
+}
+
+// The share of the cache of a size and a number of ways, if it was looked at.
+fn share_of(rows: &[CacheRow], fetches: u64, size: u64, ways: u32) -> Option<u64> {
+    let row = rows.iter().find(|row| row.geometry.words() == size && row.geometry.ways == ways)?;
+    Some(share(row.misses, fetches))
+}
+
+// Appends the lines across and what they stand for.
+fn push_lines(alloc: Global, svg: &mut String, most: u64) -> Result<(), AllocError> {
+    for line in 0..=LINES {
+        let part = most.saturating_mul(line) / LINES;
+        let y = down(part, most);
+        let (ones, rest) = (part / 100, part % 100);
+        let right = LEFT.saturating_add(WIDTH);
+        let drawn = format!(in alloc;
+            "<path d=\"M{LEFT} {y}H{right}\" stroke=\"#ccc\"/>\n<text x=\"62\" y=\"{y}\" text-anchor=\"end\">{ones}.{rest:02}%</text>\n"
+        )?;
+        svg.push_str(drawn.as_str())?;
+    }
+    Ok(())
+}
+
+// Appends the sizes.
+fn push_sizes(alloc: Global, svg: &mut String) -> Result<(), AllocError> {
+    for (index, size) in SIZES.iter().enumerate() {
+        let x = across(index as u64);
+        let text = format!(in alloc;
+            "<text x=\"{x}\" y=\"342\" text-anchor=\"middle\">{size}</text>\n"
+        )?;
+        svg.push_str(text.as_str())?;
+    }
+    Ok(())
+}
+
+// Appends the curve of a number of ways.
+fn push_curve(
+    alloc: Global,
+    svg: &mut String,
+    study: &Study,
+    most: u64,
+    curve: (u32, &str),
+) -> Result<(), AllocError> {
+    let (ways, colour) = curve;
+    svg.push_str("<polyline fill=\"none\" stroke-width=\"2\" stroke=\"")?;
+    svg.push_str(colour)?;
+    svg.push_str("\" points=\"")?;
+    for (index, size) in SIZES.iter().enumerate() {
+        let rows = study.rows.as_slice();
+        if let Some(part) = share_of(rows, study.counts.fetches, *size, ways) {
+            let (x, y) = (across(index as u64), down(part, most));
+            let point = format!(in alloc; "{x},{y} ")?;
+            svg.push_str(point.as_str())?;
+        }
+    }
+    svg.push_str("\"/>\n")?;
+    let y = TOP.saturating_add(u64::from(ways).saturating_mul(18));
+    let key = format!(in alloc;
+        "<text x=\"560\" y=\"{y}\" fill=\"{colour}\">{ways} ways</text>\n"
+    )?;
+    svg.push_str(key.as_str())
+}
+
+// The greatest share of all rows, at least a hundredth of a per cent.
+fn greatest(study: &Study) -> u64 {
+    let mut most = 1;
+    for row in study.rows.iter() {
+        most = most.max(share(row.misses, study.counts.fetches));
+    }
+    most
+}
+
+/// Caches as a chart in SVG: of each number of ways the misses in per cent of the fetches, by the size of the cache.
+pub fn caches_svg(alloc: Global, study: &Study) -> Result<Vec<u8>, AllocError> {
+    let most = greatest(study);
+    let mut svg = String::from_str(alloc, HEAD)?;
+    push_lines(alloc, &mut svg, most)?;
+    push_sizes(alloc, &mut svg)?;
+    for curve in CURVES {
+        push_curve(alloc, &mut svg, study, most, curve)?;
+    }
+    svg.push_str("</svg>\n")?;
+    Ok(svg.into_bytes())
+}

@@ -1,0 +1,16 @@
+//! What other caches of code words would make of a run.
+#![tactic(auto)]
+
+mod cache;
+mod chart;
+mod document;
+mod geometry;
+mod study;
+mod table;
+
+pub use cache::Cache;
+pub use chart::caches_svg;
+pub use document::caches_json;
+pub use geometry::{Geometry, SHIPPED, geometries};
+pub use study::{CacheRow, Study, study_of};
+pub use table::caches_text;

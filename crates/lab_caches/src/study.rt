@@ -1,0 +1,100 @@
+//! A run with many caches.
+ghost use Rattle.std.specs.Prelude.{◌≡◌};
+
+use crate::cache::Cache;
+use crate::geometry::Geometry;
+use mx_board::Requests;
+use mx_io::Memory;
+use mx_turn::{Counts, Machine, Stage};
+use std::alloc::{AllocError, Global};
+
+/// What a cache makes of a run.
+#[derive(Clone, Copy, Debug, PartialEq, Eq)]
+pub struct CacheRow {
+    pub geometry: Geometry,
+    pub misses: u64,
+    pub cycles: u64,
+}
+
+/// A run, and what each cache makes of it.
+#[derive(Drop)]
+pub struct Study {
+    /// What the machine counted with its own cache.
+    pub counts: Counts,
+    pub halted: bool,
+    pub rows: Vec<CacheRow>,
+}
+
+// The empty caches.
+fn caches_of(alloc: Global, geometries: &[Geometry]) -> Result<Vec<Cache>, AllocError> {
+    let mut caches = Vec::new(alloc);
+    for geometry in geometries {
+        caches.push(Cache::new(alloc, *geometry)?)?;
+    }
+    Ok(caches)
+}
+
+// Has each cache fetch what the last turn of a machine fetched.
+fn fetch_in(caches: &mut Vec<Cache>, fetch: Stage) {
+    let (Stage::Live(address) | Stage::Squashed(address)) = fetch else {
+        return;
+    };
+    for cache in caches.iter_mut() {
+        cache.fetch(address);
+    }
+}
+
+// Runs a machine until it halts or the budget is spent; answers whether it halted.
+fn run<M: Machine>(
+    machine: &mut M,
+    requests: &Requests,
+    budget: u32,
+    caches: &mut Vec<Cache>,
+) -> bool
+    requires { M.cycles machine.old ≡ 0 }
+{
+    for cycle in 0..budget {
+        let cycled = machine.cycle(requests.wants(cycle));
+        if !cycled.stalled {
+            fetch_in(caches, machine.latches().fetch);
+        }
+        if cycled.halted {
+            return true;
+        }
+    }
+    false
+}
+
+/// Runs a machine from its start without requests, until it halts or the budget is spent, and has each of these caches fetch
+/// what it fetches: that is the same whatever its cache answers, since a stall only delays.
+pub fn study_of<M: Machine>(
+    alloc: Global,
+    machine: &mut M,
+    budget: u32,
+    geometries: &[Geometry],
+) -> Result<Study, Memory>
+    requires { M.cycles machine.old ≡ 0 }
+{
+    let Ok(mut caches) = caches_of(alloc, geometries) else {
+        return Err(Memory);
+    };
+    let halted = run(machine, &Requests::none(alloc), budget, &mut caches);
+    let counts = machine.counts();
+    let mut rows = Vec::new(alloc);
+    for cache in caches.iter() {
+        let (geometry, misses) = (cache.geometry(), cache.misses());
+        let row = CacheRow {
+            geometry,
+            misses,
+            cycles: geometry.cycles(counts.fetches, misses),
+        };
+        if rows.push(row).is_err() {
+            return Err(Memory);
+        }
+    }
+    Ok(Study {
+        counts,
+        halted,
+        rows,
+    })
+}

@@ -1,0 +1,148 @@
+//! `caches`: its words and its reply.
+ghost use Rattle.std.specs.Prelude.{◌≤◌, length};
+ghost use Rattle.std.specs.Option.{option_copied};
+ghost use Rattle.mx_board.specs.Contents.{bytes_in};
+
+use crate::given::{file_given, file_if_given, number_given, word_given};
+use crate::linked::{LinkedSource, read_linked};
+use crate::words::source_arg;
+use clap::{Arg, ArgAction, ArgMatches, Command, value_parser};
+use cmd_answer::{Reply, Status, line_reply};
+use cmd_simulate::read_input;
+use lab_caches::{Study, caches_json, caches_svg, caches_text, geometries, study_of};
+use lab_watch::{Watcher, watched_pipe};
+use mx_icache::LineCache;
+use mx_io::{Memory, Shelf};
+use std::alloc::{AllocError, Global};
+
+/// The most words of a line, and the greatest cost of a miss.
+const MOST_WORDS: i64 = 64;
+
+const MOST_PENALTY: i64 = 1000;
+
+/// The most cycles of the run.
+const MOST_BUDGET: i64 = 100_000_000;
+
+// An option with a number.
+fn number_option<'a>(
+    alloc: Global,
+    name: &'a str,
+    default: &'a str,
+    least: i64,
+    most: i64,
+    help: &'a str,
+) -> Arg<'a> {
+    Arg::new(alloc, name)
+        .long(name)
+        .value_name("N")
+        .action(ArgAction::Set)
+        .default_value(default)
+        .value_parser(value_parser!(u32).range(least..=most))
+        .help(help)
+}
+
+// The form of what is printed.
+fn form_option<'a>(alloc: Global) -> Arg<'a> {
+    Arg::new(alloc, "as")
+        .long("as")
+        .value_name("FORM")
+        .action(ArgAction::Set)
+        .default_value("text")
+        .value_parser(["text", "json", "svg"].as_slice())
+        .help("the form of the table")
+}
+
+/// The words of `caches`.
+pub fn caches_command<'a>(alloc: Global) -> Result<Command<'a>, AllocError> {
+    let words = "the words of a line";
+    let brought = "the words that a miss brings, at most those of a line";
+    let cost = "the cycles that a miss costs";
+    let budget = "the most cycles that the run may take";
+    Command::new(alloc, "caches")
+        .about("tells what other caches would make of a run")
+        .arg(source_arg(alloc))?
+        .arg(form_option(alloc))?
+        .arg(number_option(alloc, "line", "16", 1, MOST_WORDS, words))?
+        .arg(number_option(alloc, "brings", "2", 1, MOST_WORDS, brought))?
+        .arg(number_option(alloc, "penalty", "2", 0, MOST_PENALTY, cost))?
+        .arg(number_option(alloc, "budget", "1000000", 1, MOST_BUDGET, budget))?
+        .arg(
+            Arg::new(alloc, "input")
+                .long("input")
+                .value_name("FILE")
+                .action(ArgAction::Set)
+                .help("the bytes of the input"),
+        )
+}
+
+// The input, where the source asks for one.
+fn asked_input<'a>(program: &LinkedSource, bytes: &'a [u8]) -> Option<&'a [u8]>
+    requires { length bytes.now ≤ 1048576 }
+    ensures { bytes_in (option_copied result) ≤ 1048576 }
+{
+    match program.source.input() {
+        Some(_) => Some(bytes),
+        None => None,
+    }
+}
+
+// What the caches make of the run of a linked source.
+fn study_in<W: Watcher>(
+    alloc: Global,
+    program: &LinkedSource,
+    bytes: &[u8],
+    matches: &ArgMatches,
+    watcher: W,
+) -> Result<Study, Memory>
+    requires { length bytes.now ≤ 1048576 }
+{
+    let line = number_given(matches, "line");
+    let brings = number_given(matches, "brings");
+    let Ok(all) = geometries(alloc, line, brings, number_given(matches, "penalty")) else {
+        return Err(Memory);
+    };
+    let input = asked_input(program, bytes);
+    let image = &program.linked.image;
+    let mut machine = watched_pipe(alloc, image, input, LineCache::new(), watcher)?;
+    let budget = number_given(matches, "budget");
+    study_of(alloc, &mut machine, budget, all.as_slice())
+}
+
+// The study in the form that the words ask for.
+fn text_of(alloc: Global, matches: &ArgMatches, study: &Study) -> Result<Vec<u8>, Memory> {
+    match word_given(matches, "as") {
+        "json" => caches_json(alloc, word_given(matches, "SOURCE"), study),
+        "svg" => caches_svg(alloc, study).map_err(|_| Memory),
+        _ => caches_text(alloc, study).map_err(|_| Memory),
+    }
+}
+
+/// The reply to `caches SOURCE`.
+pub fn caches_reply<S: Shelf, W: Watcher>(
+    alloc: Global,
+    shelf: &mut S,
+    matches: &ArgMatches,
+    watcher: W,
+) -> Result<Reply, Memory> {
+    if number_given(matches, "brings") > number_given(matches, "line") {
+        return line_reply(alloc, Status::Usage, "--brings is more than --line");
+    }
+    let program = match read_linked(alloc, shelf, file_given(matches, "SOURCE"))? {
+        Ok(program) => program,
+        Err(reply) => return Ok(reply),
+    };
+    let input = match read_input(alloc, shelf, file_if_given(matches, "input"))? {
+        Ok(input) => input,
+        Err(reply) => return Ok(reply),
+    };
+    let study = study_in(alloc, &program, input.as_slice(), matches, watcher)?;
+    let status = if study.halted {
+        Status::Done
+    } else {
+        Status::OutOfBudget
+    };
+    Ok(Reply::Prints {
+        status,
+        output: text_of(alloc, matches, &study)?,
+    })
+}

@@ -1,0 +1,23 @@
+//! What a run of a source cost, told by its lines, its labels or the lines of C that it was made from: as a text, as JSON, and
+//! in the format of callgrind.
+#![tactic(auto)]
+
+mod callgrind;
+mod calling;
+mod document;
+mod grouping;
+mod positions;
+mod rows;
+mod shown;
+mod spent;
+mod subject;
+mod text;
+
+pub use callgrind::callgrind;
+pub use calling::{Calls, calls_of};
+pub use document::profile_json;
+pub use grouping::By;
+pub use rows::Column;
+pub use spent::{Spent, spent};
+pub use subject::Subject;
+pub use text::profile_text;

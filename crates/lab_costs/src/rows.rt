@@ -1,0 +1,94 @@
+//! Rows of costs.
+ghost use Rattle.std.specs.Prelude.{◌≡◌};
+ghost use Rattle.lab_costs.specs.Columns.{number_in};
+
+use crate::grouping::{By, Grouping, grouping_by};
+use crate::subject::Subject;
+use lab_profile::{LineCost, costs_by_line};
+use std::alloc::{AllocError, Global};
+
+/// A column by which rows are put in order: those of the greatest number first.
+#[derive(Clone, Copy, Debug, PartialEq, Eq)]
+pub enum Column {
+    /// The order of the source.
+    Line,
+    Count,
+    Cycles,
+    Cpi,
+    Stalls,
+    Noops,
+    Squashed,
+    Killed,
+}
+
+/// How many parts of a cycle for each statement are told apart.
+const PARTS: u64 = 1000;
+
+impl Column {
+    /// What a cost has in the column.
+    fn number(self, cost: &LineCost) -> u64
+        ensures { result ≡ number_in self cost.now }
+    {
+        match self {
+            Column::Line => 0,
+            Column::Count => cost.executed,
+            Column::Cycles => cost.cycles,
+            Column::Cpi => {
+                let parts = cost.cycles.saturating_mul(PARTS);
+                parts.checked_div(cost.executed).unwrap_or(0)
+            }
+            Column::Stalls => cost.stalls,
+            Column::Noops => cost.noops,
+            Column::Squashed => cost.cancelled,
+            Column::Killed => cost.killed,
+        }
+    }
+}
+
+/// A part of a source, with what it cost.
+#[derive(Clone, Copy, Debug, PartialEq, Eq)]
+pub(crate) struct Row<'a> {
+    pub name: &'a [u8],
+    /// A line, counted from 1; 0 where there is none.
+    pub line: u32,
+    pub cost: LineCost,
+}
+
+// Which parts have statements.
+fn with_statements(alloc: Global, grouping: &Grouping) -> Result<Vec<bool>, AllocError> {
+    let mut has = vec![in alloc; false; grouping.groups.len()]?;
+    for key in grouping.keys.iter() {
+        let place = *key as usize;
+        if place < has.len() {
+            has[place] = true;
+        }
+    }
+    Ok(has)
+}
+
+/// The parts of a source that have statements, with what they cost, in the order of a column.
+pub(crate) fn rows_by<'a>(
+    alloc: Global,
+    subject: &Subject<'a>,
+    costs: &[LineCost],
+    by: By,
+    column: Column,
+) -> Result<Vec<Row<'a>>, AllocError> {
+    let grouping = grouping_by(alloc, subject, by)?;
+    let has = with_statements(alloc, &grouping)?;
+    let count = grouping.keys.len().min(costs.len());
+    let keys = &grouping.keys.as_slice()[..count];
+    let sums = costs_by_line(alloc, keys, &costs[..count])?;
+    let mut rows = Vec::new(alloc);
+    for ((group, cost), has) in grouping.groups.iter().zip(sums.iter()).zip(has.iter()) {
+        if *has {
+            rows.push(Row {
+                name: group.name,
+                line: group.line,
+                cost: *cost,
+            })?;
+        }
+    }
+    rows.sort_by_key(|row| u64::MAX - column.number(&row.cost))?;
+    Ok(rows)
+}

@@ -1,0 +1,66 @@
+//! What is told of.
+use lab_profile::{LineCost, Profile, cost_at, line_costs, total};
+use mx_link::{Linked, Origin};
+use mx_source::Source;
+use std::alloc::{AllocError, Global};
+
+/// A source that was linked and run, with what its run cost.
+#[derive(Clone, Copy)]
+pub struct Subject<'a> {
+    /// The name of its file.
+    pub file: &'a str,
+    pub text: &'a [u8],
+    pub source: &'a Source,
+    pub linked: &'a Linked,
+    pub profile: &'a Profile,
+}
+
+impl<'a> Subject<'a> {
+    /// Where the words of the code come from.
+    pub(crate) fn origin(&self) -> &'a [Origin] {
+        self.linked.origin.as_slice()
+    }
+
+    /// How many words the code has.
+    pub(crate) fn words(&self) -> usize {
+        self.linked.image.code.len()
+    }
+
+    /// The cost of each statement.
+    pub(crate) fn statement_costs(&self, alloc: Global) -> Result<Vec<LineCost>, AllocError> {
+        let statements = self.source.statements().len();
+        line_costs(alloc, statements, self.origin(), &self.profile.tally)
+    }
+
+    /// What the handler cost.
+    pub(crate) fn handler(&self) -> LineCost {
+        cost_at(&self.profile.tally, self.words())
+    }
+
+    /// What the words behind the code cost, which are none of the source.
+    pub(crate) fn behind(&self) -> LineCost {
+        cost_at(&self.profile.tally, self.words().saturating_add(1))
+    }
+
+    /// All costs together, where these are those of the statements.
+    pub(crate) fn together(&self, costs: &[LineCost]) -> LineCost {
+        total(costs).plus(self.handler()).plus(self.behind())
+    }
+
+    /// The line of a statement; 0 where there is none.
+    pub(crate) fn line_of(&self, statement: u32) -> u32 {
+        self.source
+            .lines()
+            .get(statement as usize)
+            .copied()
+            .unwrap_or(0)
+    }
+}
+
+/// The lines of a text, without the end of its last line.
+pub(crate) fn lines_of(text: &[u8]) -> &[u8] {
+    match text {
+        [lines @ .., b'\n'] => lines,
+        _ => text,
+    }
+}

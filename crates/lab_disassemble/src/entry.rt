@@ -1,0 +1,29 @@
+//! What is told of a word.
+use crate::places::Place;
+
+/// A word of a code, with what is told of it.
+#[derive(Drop)]
+pub struct Entry {
+    pub address: u32,
+    pub word: u32,
+    /// The word in assembly language; `.word` and its number where it spells no instruction.
+    pub text: String,
+    /// The code labels at this address.
+    pub labels: Vec<String>,
+    /// The statements, counted from 0, whose block begins at this address: the first, and the one behind the last.
+    pub statements: Option<(u32, u32)>,
+    /// The line of the statement that the word comes from; 0 where none is known.
+    pub line: u32,
+    /// The number of its block, counted from 1; 0 where none is known.
+    pub block: u32,
+    /// What the place is, where it is known.
+    pub place: Option<Place>,
+}
+
+/// The words of a code.
+#[derive(Drop)]
+pub struct Listing {
+    pub entries: Vec<Entry>,
+    /// Whether lines, blocks and places are known.
+    pub has_places: bool,
+}

@@ -1,0 +1,17 @@
+//! The words of a linked source or of an image file in assembly language, each with what its place is.
+#![tactic(auto)]
+
+mod document;
+mod entry;
+mod images;
+mod instruction;
+mod places;
+mod sources;
+mod text;
+
+pub use document::listing_json;
+pub use entry::{Entry, Listing};
+pub use images::image_listing;
+pub use places::{Place, Slot};
+pub use sources::source_listing;
+pub use text::listing_text;
