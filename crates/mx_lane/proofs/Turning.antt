@@ -1,5 +1,5 @@
 -- A turn without a request, from commit to commit.
-use Rattle.std.proofs.Common.{◌≡◌, ℕ, zero, suc, ◌+◌, Bool, true, false, cond, not, ◌&&◌, ◌||◌, List, [], ◌∷◌, ◌++◌, Option, Some, None, option_to_list, append_assoc, append-nil, refl, sym, ap, ◌∙◌, subst, arith}
+use Rattle.std.proofs.Common.{◌≡◌, ℕ, zero, suc, ◌+◌, Bool, true, false, cond, not, ◌&&◌, ◌||◌, List, ◌∷◌, ◌++◌, Option, Some, None, option_to_list, append_assoc, append-nil, refl, sym, ap, ◌∙◌, subst, arith}
 use Rattle.std.specs.Prelude.{slice_index, is_some}
 use Rattle.std.proofs.lemmas.Bool.{eq-eqb}
 use Rattle.mx_isa.specs.declared.inst.Inst.{Inst}
@@ -13,7 +13,7 @@ use Rattle.mx_pcchain.specs.Fetch.{Fetch}
 use Rattle.mx_pcchain.specs.Chain.{pop}
 use Rattle.mx_pcchain.specs.Modes.{psw_restored}
 use Rattle.mx_turn.specs.declared.latches.Latches.{Latches}
-use Rattle.mx_turn.specs.Counted.{Counted, after_stall, after_turn}
+use Rattle.mx_turn.specs.Counted.{Counted, after_turn}
 use Rattle.mx_turn.specs.Stages.{live, squash}
 use Rattle.mx_turn.specs.System.{pops, restores}
 use Rattle.mx_turn.specs.Cycle.{Machine, shifted, committed, commit_byte, showing, is_taken, decision, decided, led, waited, latched, acted, cycled, answer}

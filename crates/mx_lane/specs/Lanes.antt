@@ -1,5 +1,5 @@
 -- What a lane keeps of the definition's state, once the word in MEM has committed.
-use Rattle.std.specs.Prelude.{◌≡◌, ◌<◌, ◌+◌, ℕ, zero, suc, Bool, true, false, not, cond, List, [], ◌∷◌, ◌++◌, Option, Some, None, option_to_list, slice_index}
+use Rattle.std.specs.Prelude.{◌≡◌, ◌<◌, ◌+◌, ℕ, zero, suc, Bool, true, false, not, cond, List, [], ◌∷◌, ◌++◌, Option, Some, option_to_list, slice_index}
 use Rattle.mx_isa.specs.Words.{Words, reg, write}
 use Rattle.mx_isa.specs.Views.{dest}
 use Rattle.mx_isa.specs.Effect.{Decision}
@@ -8,7 +8,7 @@ use Rattle.mx_icache.specs.Residency.{resident}
 use Rattle.mx_board.specs.Contents.{Contents}
 use Rattle.mx_board.specs.Data.{words_of}
 use Rattle.mx_turn.specs.declared.latches.Latches.{Latches}
-use Rattle.mx_turn.specs.Counted.{Counted, after_stall, after_turn}
+use Rattle.mx_turn.specs.Counted.{Counted, after_stall}
 use Rattle.mx_turn.specs.Stages.{fetch_of, live, squash}
 use Rattle.mx_turn.specs.System.{slot_of}
 use Rattle.mx_turn.specs.Cycle.{Machine, shifted, committed, cycled, answer}

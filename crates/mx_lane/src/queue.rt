@@ -1,5 +1,5 @@
 //! Turns without a request, with what changes in each of them apart from the registers.
-ghost use Rattle.std.specs.Prelude.{◌≡◌, ◌<◌, ◌≤◌, ◌+◌, ◌^◌, ◌++◌, ◌∷◌, ◌&&◌, not, false, true, ℕ, List, IfOk, OnOk, IfSome, slice_index};
+ghost use Rattle.std.specs.Prelude.{◌≡◌, ◌<◌, ◌≤◌, ◌+◌, ◌^◌, ◌++◌, ◌∷◌, ◌&&◌, not, false, true, ℕ, List, IfOk, OnOk, IfSome, IfNone, slice_index};
 ghost use Rattle.mx_board.specs.Contents.{Contents};
 ghost use Rattle.mx_isa.specs.Words.{Words, reg};
 ghost use Rattle.mx_isa.specs.Effect.{decides};
@@ -99,9 +99,9 @@ impl Queue {
         })
     }
 
-    // Where the word in ALU leads; none where it goes back to a saved fetch, or is a halt. Most words are no transfers.
+    // The word in ALU leads to the next one, where it is no transfer and no halt.
     #[inline(always)]
-    fn lead(&self, inst: &Inst, lane: &Lane) -> Option<Lead>
+    fn plain_lead(&self, inst: &Inst, lane: &Lane) -> Option<Lead>
         ensures target { IfSome result (λ l. l.target ≡ (decides inst.now (address_of self.now.alu)
             (seen lane.now.registers.slot (slice_index lane.now.registers.file))).target) }
         ensures cancels { IfSome result (λ l. l.cancels ≡ (decides inst.now (address_of self.now.alu)
@@ -111,10 +111,7 @@ impl Queue {
         ensures on { IfSome result (λ l. is_halt inst.now ≡ false) }
     {
         match inst {
-            Inst::Branch { .. } | Inst::Jspci { .. } | Inst::Jpc | Inst::Jpcrs => {
-                self.transfer(inst, lane)
-            }
-            Inst::Halt => None,
+            Inst::Branch { .. } | Inst::Jspci { .. } | Inst::Jpc | Inst::Jpcrs | Inst::Halt => None,
             _ => Some(Lead {
                 target: None,
                 cancels: false,
@@ -138,6 +135,58 @@ impl Queue {
         self.alu = squashed(lead.cancels, self.rf);
         self.rf = squashed(lead.cancels, self.next.held());
         self.next = led_to(lead.target, &self.next);
+    }
+
+    // The stages move on, where a transfer in ALU leads. Answers whether it cancels the two words behind it; none, and nothing is
+    // done, where it goes back to a saved fetch; nor of a halt.
+    #[inline(always)]
+    fn follow(&mut self, inst: &Inst, lane: &Lane) -> Option<bool>
+        ensures state { IfSome result (λ c. (l : Lane) (b : Contents) (past : List ℕ) (before : Words) (shown : Shown) (counts : Counted)
+            → lane_of (joined self.new l) b (self.new.next.address ∷ past) before shown counts
+            ≡ shifted (plain (decides inst.now (address_of self.old.alu)
+            (seen lane.now.registers.slot (slice_index lane.now.registers.file)))
+            (lane_of (joined self.old l) b past before shown counts))) }
+        ensures cancels { IfSome result (λ c. c ≡ (decides inst.now (address_of self.old.alu)
+            (seen lane.now.registers.slot (slice_index lane.now.registers.file))).cancels) }
+        ensures stays { IfSome result (λ c. (pops inst.now && not lane.now.psw.current.user) ≡ false) }
+        ensures counts { self.new.counts ≡ self.old.counts }
+        ensures missed { self.new.missed ≡ self.old.missed }
+        ensures window { self.new.window ≡ self.old.window }
+        ensures nothing { IfNone result (self.new ≡ self.old) }
+        ensures on { IfSome result (λ c. is_halt inst.now ≡ false) }
+    {
+        if is_halt(inst) {
+            return None;
+        }
+        let Some(lead) = self.transfer(inst, lane) else {
+            return None;
+        };
+        self.move_on(&lead);
+        Some(lead.cancels)
+    }
+
+    // The same of any word in ALU. Most are no transfers.
+    #[inline(always)]
+    fn step(&mut self, inst: &Inst, lane: &Lane) -> Option<bool>
+        ensures state { IfSome result (λ c. (l : Lane) (b : Contents) (past : List ℕ) (before : Words) (shown : Shown) (counts : Counted)
+            → lane_of (joined self.new l) b (self.new.next.address ∷ past) before shown counts
+            ≡ shifted (plain (decides inst.now (address_of self.old.alu)
+            (seen lane.now.registers.slot (slice_index lane.now.registers.file)))
+            (lane_of (joined self.old l) b past before shown counts))) }
+        ensures cancels { IfSome result (λ c. c ≡ (decides inst.now (address_of self.old.alu)
+            (seen lane.now.registers.slot (slice_index lane.now.registers.file))).cancels) }
+        ensures stays { IfSome result (λ c. (pops inst.now && not lane.now.psw.current.user) ≡ false) }
+        ensures counts { self.new.counts ≡ self.old.counts }
+        ensures missed { self.new.missed ≡ self.old.missed }
+        ensures window { self.new.window ≡ self.old.window }
+        ensures nothing { IfNone result (self.new ≡ self.old) }
+        ensures on { IfSome result (λ c. is_halt inst.now ≡ false) }
+    {
+        let Some(lead) = self.plain_lead(inst, lane) else {
+            return self.follow(inst, lane);
+        };
+        self.move_on(&lead);
+        Some(lead.cancels)
     }
 
     // The word in MEM commits.
@@ -189,6 +238,29 @@ impl Queue {
         LONGEST_TURN
     }
 
+    // A turn is counted whose fetch missed, or whose word cancels two. Few do: a call of its own keeps the way of the others short.
+    #[inline(never)]
+    fn count_apart(&mut self, cancels: bool)
+        requires { self.old.counts.cycles < 2 ^ 63 }
+        ensures { self.new ≡ record self.old { counts = after_turn self.old.missed cancels false self.old.counts; missed = false } }
+    {
+        self.counts.turned(self.missed, cancels, false);
+        self.missed = false;
+    }
+
+    // The turn is counted; of its fetch nothing is to be remembered then.
+    #[inline(always)]
+    fn count_turn(&mut self, cancels: bool)
+        requires { self.old.counts.cycles < 2 ^ 63 }
+        ensures { self.new ≡ record self.old { counts = after_turn self.old.missed cancels false self.old.counts; missed = false } }
+    {
+        if self.missed || cancels {
+            self.count_apart(cancels);
+        } else {
+            self.counts.turned(false, false, false);
+        }
+    }
+
     // The turn is counted, with the stalled cycles of the next fetch. Answers how many cycles these are.
     #[inline(always)]
     fn count<C: FetchCache>(&mut self, cancels: bool, cache: &mut C) -> u64
@@ -205,9 +277,8 @@ impl Queue {
         ensures known { IsKnown C.holds self.new.window cache.new }
         ensures rest { self.new ≡ record self.old { counts = self.new.counts; missed = self.new.missed; window = self.new.window } }
     {
-        self.counts.turned(self.missed, cancels, false);
+        self.count_turn(cancels);
         if self.window.has(self.next.address(), cache) {
-            self.missed = false;
             return 1;
         }
         self.ask(cache)
@@ -238,13 +309,12 @@ impl Queue {
             → InTurn C.holds code m (joined self.old lane.old) board.old cache.old
             → console.new.items ≡ console.old.items ++ later_bytes code board.old.input n m) }
     {
-        let Some(lead) = self.lead(inst, lane) else {
+        let Some(cancels) = self.step(inst, lane) else {
             return Ok(0);
         };
-        self.move_on(&lead);
         let byte = self.commit(inst, lane, board);
         push_byte(console, byte)?;
-        Ok(self.count(lead.cancels, cache))
+        Ok(self.count(cancels, cache))
     }
 
     // The same of the word in ALU. A squashed one, or one beyond the code, does nothing.
@@ -308,16 +378,21 @@ impl Queue {
     }
 }
 
-// A stage, squashed where a branch cancels it. Few are.
+// A stage, squashed where a branch cancels it.
+#[inline(always)]
 #[tactic(auto, using(crate::proofs::Turning::unsquashed))]
 fn squashed(cancels: bool, stage: Held) -> Held
     ensures { result ≡ squash cancels stage }
 {
-    if cancels {
-        Held::of(squash(true, stage.stage()))
-    } else {
-        stage
-    }
+    if cancels { marked(stage) } else { stage }
+}
+
+// A squashed stage. Few are: a call of its own keeps the way of the others short.
+#[inline(never)]
+fn marked(stage: Held) -> Held
+    ensures { result ≡ squash true stage }
+{
+    Held::of(squash(true, stage.stage()))
 }
 
 // The next fetch: of a target, or of the address behind the last one.
@@ -336,4 +411,11 @@ fn goes_back(pops: bool, user: bool) -> bool
     ensures { result ≡ (pops && not user) }
 {
     pops && !user
+}
+
+// Whether a word is a halt.
+fn is_halt(inst: &Inst) -> bool
+    ensures { result ≡ is_halt inst.now }
+{
+    matches!(inst, Inst::Halt)
 }

@@ -1,15 +1,17 @@
-use Rattle.std.proofs.Common.{◌≡◌, false, not, ◌&&◌, ◌++◌, option_to_list, sym, ap, ◌∙◌}
+use Rattle.std.proofs.Common.{◌≡◌, false, not, ◌&&◌, ◌++◌, sym, ap, ◌∙◌}
 use Rattle.std.specs.Prelude.{slice_index}
 use Rattle.mx_isa.specs.declared.inst.Inst.{Inst}
 use Rattle.mx_isa.specs.Words.{reg}
 use Rattle.mx_isa.specs.Effect.{Decision, decides}
 use Rattle.mx_isa.specs.Views.{dest}
 use Rattle.mx_code.specs.Delay.{Code}
+use Rattle.mx_icache.specs.Residency.{resident}
+use Rattle.mx_turn.specs.Counted.{after_turn}
 use Rattle.mx_turn.specs.Stages.{address_of, live}
 use Rattle.mx_turn.specs.System.{pops, seen}
 use Rattle.mx_turn.specs.Cycle.{Machine, decision}
 use Rattle.mx_lane.specs.declared.lane.Lane.{Lane}
-use Rattle.mx_lane.specs.Lanes.{lane_of, joined, InTurn}
+use Rattle.mx_lane.specs.Lanes.{lane_of, joined, turn_counts, InTurn}
 use Rattle.mx_lane.proofs.Turning.{goes_on, sends}
 use Rattle.mx_lane.proofs.queue.Queue.turn_of.Goals as goal
 use Rattle.mx_lane.proofs.queue.Queue.turn_of.Goals.{After-count}
@@ -21,17 +23,17 @@ module _ (g : given.Over) (c : After-count g) (code : Code) (m : Machine) (does 
   from = joined c.args.self.now c.args.lane.now
 
   abbrev moved : Lane
-  moved = joined c.move_on.new.self c.args.lane.now
+  moved = joined c.step.new.self c.args.lane.now
 
   abbrev committed : Lane
-  committed = joined c.move_on.new.self c.commit-byte.new.lane
+  committed = joined c.step.new.self c.commit-byte.new.lane
 
   abbrev counted : Lane
   counted = joined c.count.new.self c.commit-byte.new.lane
 
   -- where the word in ALU leads
   abbrev d : Decision
-  d = record { target = c.in-Some.lead.target; cancels = c.in-Some.lead.cancels }
+  d = decides c.args.inst.now (address_of c.args.self.now.alu) (seen c.args.lane.now.registers.slot (slice_index c.args.lane.now.registers.file))
 
   stays : (pops (live code c.args.self.now.alu) && not c.args.lane.now.psw.current.user) ≡ false
   stays = ap (λ i. pops i && not c.args.lane.now.psw.current.user) (sym does) ∙ c.in-Some.ensures.stays
@@ -40,17 +42,14 @@ module _ (g : given.Over) (c : After-count g) (code : Code) (m : Machine) (does 
   leads =
       let at = address_of c.args.self.now.alu in
       let sees = seen c.args.lane.now.registers.slot (slice_index c.args.lane.now.registers.file) in
-      λ k. record {
-        target = (c.in-Some.ensures.target ∙ ap (λ (i : Inst). (decides i at sees).target) does) k;
-        cancels = (c.in-Some.ensures.cancels ∙ ap (λ (i : Inst). (decides i at sees).cancels) does) k;
-      }
+      ap (λ (i : Inst). decides i at sees) does
 
   -- the word has come into MEM
-  comes : c.args.inst.now ≡ live code c.move_on.new.self.mem
+  comes : c.args.inst.now ≡ live code c.step.new.self.mem
   comes =
       does
       ∙ ap (live code)
-      (sym (ap (λ (x : Machine). x.mem) (c.move_on.ensures.state c.args.lane.now c.args.board.now h.past h.before m.shown m.counts)))
+      (sym (ap (λ (x : Machine). x.mem) (c.in-Some.ensures.state c.args.lane.now c.args.board.now h.past h.before m.shown m.counts)))
 
   rest : counted ≡ record committed { counts = counted.counts; missed = counted.missed }
   rest = ap (λ q. joined q c.commit-byte.new.lane) c.count.ensures.rest
@@ -60,13 +59,15 @@ returns-clause-next g c = λ code m does h.
     goes_on g.C.FetchCache.holds code m (from g c code m does h) (moved g c code m does h) (committed g c code m does h) (counted g c code m does h)
     c.args.board.now c.commit-byte.new.board c.args.cache.now c.count.new.cache (d g c code m does h) c.count.result h
     (stays g c code m does h) (leads g c code m does h)
-    (λ past before shown counts. c.move_on.ensures.state c.args.lane.now c.args.board.now past before shown counts)
+    (λ past before shown counts. c.in-Some.ensures.state c.args.lane.now c.args.board.now past before shown counts)
     (λ past before shown counts. c.commit-byte.ensures.state code past before shown counts (comes g c code m does h))
     (c.count.ensures.cycles h.past h.held)
     c.commit-byte.ensures.input
-    c.move_on.ensures.counts
-    c.move_on.ensures.missed
-    (c.count.ensures.counts h.past h.held)
+    c.step.ensures.counts
+    c.step.ensures.missed
+    (c.count.ensures.counts h.past h.held
+    ∙ (λ k. turn_counts (resident h.past c.step.new.self.next.address)
+    (after_turn c.step.new.self.missed (c.in-Some.ensures.cancels k) false c.step.new.self.counts)))
     (c.count.ensures.missed h.past h.held)
     (c.count.ensures.cache h.past h.held)
     (c.commit-byte.ensures.replaced
@@ -79,7 +80,7 @@ returns-clause-console g c = λ code m does h.
     sends g.C.FetchCache.holds code m (from g c code m does h) (moved g c code m does h) (committed g c code m does h) (counted g c code m does h)
     c.args.board.now c.commit-byte.new.board c.args.cache.now c.count.new.cache (d g c code m does h) c.count.result h
     (stays g c code m does h) (leads g c code m does h)
-    (λ past before shown counts. c.move_on.ensures.state c.args.lane.now c.args.board.now past before shown counts)
+    (λ past before shown counts. c.in-Some.ensures.state c.args.lane.now c.args.board.now past before shown counts)
     (λ past before shown counts. c.commit-byte.ensures.state code past before shown counts (comes g c code m does h))
     (c.count.ensures.cycles h.past h.held)
     c.commit-byte.result
