@@ -1,4 +1,6 @@
 //! Loads and stores.
+ghost use Rattle.std.specs.Prelude.{◌≡◌};
+ghost use Rattle.std.specs.Int.{w32, cast_signed};
 
 use crate::item::Function;
 use crate::output::{Mask, Output};
@@ -37,12 +39,10 @@ enum Part {
 }
 
 /// A word as a signed number.
-pub(crate) fn signed(word: u32) -> i64 {
-    if word >= 0x8000_0000 {
-        i64::from(word) - 4_294_967_296
-    } else {
-        i64::from(word)
-    }
+pub(crate) fn signed(word: u32) -> i64
+    ensures { result ≡ cast_signed w32 word }
+{
+    i64::from(word.cast_signed())
 }
 
 /// Puts a number into a register.

@@ -1,4 +1,5 @@
 //! Where data are, with each pointer divided by 4 once as long as it is known.
+ghost use Rattle.std.specs.Prelude.{◌≡◌, ◌+◌, ◌*◌, ◌/◌, ◌%◌, ◌-◌, ◌^◌, ◌<◌, ◌≤◌, ◌⊎◌, ◌↔◌, IsTrue};
 
 use crate::effects::{HI, bit, writes};
 use crate::item::{Function, Item};
@@ -40,21 +41,28 @@ struct Knowledge {
 }
 
 /// Whether a number of words, signed, is in reach.
-fn in_reach(words: u32) -> bool {
+fn in_reach(words: u32) -> bool
+    ensures { IsTrue result ↔ (words ≤ 65535) ⊎ (2 ^ 32 - 65535 ≤ words) }
+{
     words <= REACH || words >= 0u32.wrapping_sub(REACH)
 }
 
 /// A quarter of a signed number, rounded down.
-fn quarter(bytes: u32) -> u32 {
+fn quarter(bytes: u32) -> u32
+    ensures positive { bytes < 2 ^ 31 → result ≡ bytes / 4 }
+    ensures negative { 2 ^ 31 ≤ bytes → result ≡ bytes / 4 + 3 * 2 ^ 30 }
+{
     if bytes >= 0x8000_0000 {
-        (bytes >> 2) | 0xc000_0000
+        (bytes >> 2) + 0xc000_0000
     } else {
         bytes >> 2
     }
 }
 
 /// The number of a byte in its word.
-fn byte_of(bytes: u32) -> u8 {
+fn byte_of(bytes: u32) -> u8
+    ensures { result ≡ bytes % 4 }
+{
     (bytes & 3) as u8
 }
 

@@ -1,4 +1,6 @@
 //! What `main` reaches.
+ghost use Rattle.std.specs.Prelude.{◌≡◌};
+ghost use Rattle.cc_translate.specs.Views;
 
 use crate::error::{Fault, TranslateError};
 use crate::item::{Item, Object, Reference};
@@ -43,7 +45,9 @@ fn use_of(instruction: &Instruction) -> Use {
 }
 
 /// Whether nothing behind an instruction follows on it.
-fn is_last(instruction: &Instruction) -> bool {
+fn is_last(instruction: &Instruction) -> bool
+    ensures { result ≡ Views.is_last instruction.now }
+{
     matches!(instruction, Instruction::Jump(_) | Instruction::Break)
 }
 

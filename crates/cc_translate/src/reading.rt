@@ -1,4 +1,6 @@
 //! Reading the texts.
+ghost use Rattle.std.specs.Prelude.{◌≡◌};
+ghost use Rattle.cc_translate.specs.Views;
 
 use crate::error::{TranslateError, error_at};
 use crate::item::{Function, Item};
@@ -195,7 +197,9 @@ fn label<'a>(
 }
 
 /// Whether an instruction has a delay slot.
-fn jumps(instruction: &Instruction) -> bool {
+fn jumps(instruction: &Instruction) -> bool
+    ensures { result ≡ Views.has_slot instruction.now }
+{
     matches!(
         instruction,
         Instruction::Branch { .. } | Instruction::Jump(_) | Instruction::Call(_)

@@ -1,4 +1,6 @@
 //! The translation of one statement, by itself and its plan.
+ghost use Rattle.std.specs.Prelude.{◌≡◌};
+ghost use Rattle.cc_translate.specs.Views;
 
 use crate::effects::{HI, bit};
 use crate::fusing::{Comparison, tested_by};
@@ -22,7 +24,9 @@ const LO_REGISTER: u8 = 24;
 const HI_REGISTER: u8 = 25;
 
 /// The register of a special one.
-fn special_register(special: Special) -> u8 {
+fn special_register(special: Special) -> u8
+    ensures { result ≡ Views.register_of special }
+{
     match special {
         Special::Lo => LO_REGISTER,
         Special::Hi => HI_REGISTER,

@@ -1,4 +1,5 @@
 //! The data of the translation.
+ghost use Rattle.std.specs.Prelude.{◌≡◌, ◌-◌};
 
 use crate::item::Object;
 use crate::layout::FIRST_BYTE;
@@ -23,7 +24,9 @@ struct Image {
 const LIMIT: u32 = 4 * 65536;
 
 /// Where an address is in the image.
-fn place_in(address: u32) -> usize {
+fn place_in(address: u32) -> usize
+    ensures { result ≡ address - 1024 }
+{
     u64::from(address).saturating_sub(FIRST_BYTE) as usize
 }
 
