@@ -84,12 +84,22 @@ fn unread<'a, C: Causes>(
     None
 }
 
-// The name of the file that a reply with this status speaks of.
+// The name of the source, or of the file that may be one; empty where the words name none.
+fn source_named<'a>(matches: &ArgMatches<'a>) -> &'a str {
+    match word_given(matches, "SOURCE") {
+        "" => word_given(matches, "FILE"),
+        name => name,
+    }
+}
+
+// The name of the file that a reply with this status speaks of; empty where it speaks of the words.
 fn file_of<'a>(matches: &ArgMatches<'a>, status: Status, said: &[u8]) -> &'a str {
     match status {
+        Status::Usage => "",
+        Status::BadImage => word_given(matches, "FILE"),
         Status::BadEvents if said.starts_with(b"plans") => word_given(matches, "FILE"),
         Status::BadEvents => word_given(matches, "interrupts"),
-        _ => word_given(matches, "SOURCE"),
+        _ => source_named(matches),
     }
 }
 
