@@ -49,7 +49,7 @@ impl Causes for Unknown {
 }
 
 /// The options that name files which are read.
-const READ: [&str; 4] = ["SOURCE", "FILE", "interrupts", "input"];
+const READ: [&str; 5] = ["SOURCE", "IMAGE", "FILE", "interrupts", "input"];
 
 /// What ends with this status is an error, and no output: the words, a file or a source cannot be used. What `check` tells
 /// of a refused source is its output.
@@ -89,6 +89,7 @@ fn file_of<'a>(matches: &ArgMatches<'a>, status: Status, said: &[u8]) -> &'a str
     match status {
         Status::BadEvents if said.starts_with(b"plans") => word_given(matches, "FILE"),
         Status::BadEvents => word_given(matches, "interrupts"),
+        Status::BadImage => word_given(matches, "IMAGE"),
         _ => word_given(matches, "SOURCE"),
     }
 }
