@@ -1,7 +1,8 @@
 -- What goes to standard error, and what to standard output.
 use Rattle.std.specs.Prelude.{Bool, true, false, cond}
 use Rattle.cmd_answer.specs.declared.status.Status.{Status}
-use Rattle.cmd_answer.specs.declared.status.Status.TheVariants.{Halted, Done, Refused, Usage, OutOfBudget, ReadFault, WriteFault, Memory, BadImage, BadEvents, Stuck}
+use Rattle.cmd_answer.specs.declared.status.Status.TheVariants.{Halted, Done, OutOfBudget, Stuck}
+use Rattle.cmd_answer.specs.declared.status.Status.TheVariants.{Refused, Usage, ReadFault, WriteFault, Memory, BadImage, BadEvents}
 
 -- an answer of this status is an error; what `check` tells of a refused source is its output
 abbrev pub is_error : Bool → Status → Bool

@@ -1,12 +1,19 @@
 //! `explain`: its words and its reply.
+ghost use Rattle.std.specs.Prelude.{◌≡◌, IfOk};
+ghost use Rattle.mx_source.specs.Meaning.{given};
+ghost use Rattle.mx_turn.specs.Handler.{shipped};
+ghost use Rattle.mx_turn.specs.Program.{program_of};
+ghost use Rattle.mx_turn.specs.Run.{run_of};
+
 use crate::given::word_given;
 use crate::printed::printed;
 use crate::ran::{GivenRun, read_run};
 use crate::words::{run_options, source_arg};
 use clap::{Arg, ArgAction, ArgMatches, Command};
 use cmd_answer::{Reply, Status};
-use lab_explain::{Explained, Ran, Standing, explained_json, explained_text, run_linked, stand};
-use lab_watch::Watcher;
+use lab_explain::{Explained, Ran, Standing, explained_json, explained_text, run_machine, stand};
+use lab_watch::{Watcher, watched_pipe};
+use mx_icache::LineCache;
 use mx_io::{Memory, Shelf};
 use mx_lines::lines_of;
 use std::alloc::{AllocError, Global};
@@ -67,6 +74,22 @@ fn status_of(ran: &Ran) -> Status {
     }
 }
 
+// How the run of a linked source stands after its budget, under the shipped handler. A watcher is told how far it has come.
+fn source_run<W: Watcher>(alloc: Global, run: &GivenRun, watcher: W) -> Result<Ran, Memory>
+    ensures halted { IfOk result (λ r. r.halted ≡ (run_of
+        (program_of shipped run.now.program.linked.image.code.items run.now.program.linked.image.user_data.items
+        (given run.now.program.source.input run.now.input.items)) run.now.requests run.now.budget).halted) }
+    ensures cycles { IfOk result (λ r. r.cycles ≡ (run_of
+        (program_of shipped run.now.program.linked.image.code.items run.now.program.linked.image.user_data.items
+        (given run.now.program.source.input run.now.input.items)) run.now.requests run.now.budget).counts.cycles) }
+{
+    let image = &run.program.linked.image;
+    let input = run.asked_input();
+    let mut machine = watched_pipe(alloc, image, input, LineCache::new(), watcher)?;
+    let ran = run_machine(alloc, &mut machine, &run.requests, run.budget)?;
+    Ok(ran)
+}
+
 /// The reply to `explain SOURCE`.
 pub fn explain_reply<S: Shelf, W: Watcher>(
     alloc: Global,
@@ -81,14 +104,6 @@ pub fn explain_reply<S: Shelf, W: Watcher>(
     let program = &run.program;
     let steps = run.budget.saturating_add(STATEMENTS_AHEAD);
     let standing = stand(alloc, &program.source, &run.input, steps)?;
-    let ran = run_linked(
-        alloc,
-        &program.source,
-        &program.linked.image,
-        &run.input,
-        &run.requests,
-        run.budget,
-        watcher,
-    )?;
+    let ran = source_run(alloc, &run, watcher)?;
     printed(status_of(&ran), told(alloc, &run, standing, ran, matches))
 }

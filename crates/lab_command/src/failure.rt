@@ -49,7 +49,7 @@ impl Causes for Unknown {
 }
 
 /// The options that name files which are read.
-const READ: [&str; 4] = ["SOURCE", "FILE", "interrupts", "input"];
+const READ: [&str; 5] = ["SOURCE", "IMAGE", "FILE", "interrupts", "input"];
 
 /// What ends with this status is an error, and no output: the words, a file or a source cannot be used. What `check` tells
 /// of a refused source is its output.

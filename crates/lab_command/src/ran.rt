@@ -1,9 +1,10 @@
 //! Sources with what their runs are given.
-ghost use Rattle.std.specs.Prelude.{◌≤◌, vec_len, IfOk};
+ghost use Rattle.std.specs.Prelude.{◌≡◌, ◌≤◌, vec_len, IfOk};
 ghost use Rattle.std.specs.Option.{option_copied};
 ghost use Rattle.mx_reorg.specs.Greedy.{IsGreedy};
 ghost use Rattle.mx_link.specs.Origins.{from_target};
 ghost use Rattle.mx_link.specs.Linked.{IsLinked};
+ghost use Rattle.mx_source.specs.Meaning.{given};
 ghost use Rattle.mx_board.specs.Contents.{bytes_in};
 ghost use Rattle.mx_isa.specs.Board.{board};
 
@@ -29,7 +30,8 @@ pub struct GivenRun {
 impl GivenRun {
     /// The input, where the source asks for one.
     pub fn asked_input(&self) -> Option<&[u8]>
-        ensures { bytes_in (option_copied result) ≤ 1048576 }
+        ensures bytes { bytes_in (option_copied result) ≤ 1048576 }
+        ensures given { option_copied result ≡ given self.now.program.source.input self.now.input.items }
     {
         match self.program.source.input() {
             Some(_) => Some(self.input.as_slice()),

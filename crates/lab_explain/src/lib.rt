@@ -7,7 +7,7 @@ mod standing;
 mod told;
 mod verdict;
 
-pub use run::{Ran, run_linked};
+pub use run::{Ran, run_machine};
 pub use standing::{Standing, stand};
 pub use told::{Explained, explained_json, explained_text};
 pub use verdict::{Verdict, enough, verdict_of};
