@@ -52,7 +52,9 @@ fn files_of<'a>(
     for (key, line) in functions.keys.iter().zip(lines.iter()) {
         if let Some(position) = position_at(positions, *line) {
             if let Some(file) = files.get_mut(*key as usize) {
-                *file = Option::or(*file, Some(position.file));
+                if file.is_none() {
+                    *file = Some(position.file);
+                }
             }
         }
     }
@@ -248,7 +250,12 @@ pub fn callgrind(
         Vec::new(alloc)
     };
     let functions = grouping_by(alloc, subject, By::Function)?;
-    let files = files_of(alloc, subject.source.lines(), &functions, positions.as_slice())?;
+    let files = files_of(
+        alloc,
+        subject.source.lines(),
+        &functions,
+        positions.as_slice(),
+    )?;
     let names = Names {
         subject: *subject,
         functions,
