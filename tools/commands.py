@@ -60,7 +60,7 @@ COMMANDS = {
     "soak": Command("mx_run", "SEED COUNT", "runs a generated source under a thousand interrupts",
                     more="SEED is 0 to 4,294,967,295, COUNT 0 to 4,000."),
     "draw": Command("mx_lab", "SOURCE", "draws a run by its cycles", (
-        Option("--as", "FORM", "text, svg, html, kanata or vcd (text)"),
+        Option("--as", "FORM", "text, svg, html, json, kanata or vcd (text)"),
         Option("--from", "N", "0 to 100,000,000: the first cycle that is drawn (0)"),
         Option("--cycles", "N", "1 to 100,000 cycles (64)"),
         BUDGET, INTERRUPTS, INPUT, OUTPUT)),

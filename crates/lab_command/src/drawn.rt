@@ -11,7 +11,7 @@ use crate::ran::read_run;
 use clap::ArgMatches;
 use cmd_answer::{Reply, Status};
 use lab_draw::{Drawing, draw, rows_of};
-use lab_pictures::{PlaceNames, Subject, html, kanata, svg, text, vcd};
+use lab_pictures::{PlaceNames, Subject, html, json, kanata, svg, text, vcd};
 use lab_watch::{Watcher, watched_pipe};
 use mx_board::Requests;
 use mx_code::Image;
@@ -75,6 +75,7 @@ fn picture(alloc: Global, form: &str, subject: &Subject) -> Result<Vec<u8>, Memo
     match form {
         "svg" => svg(alloc, subject, rows),
         "html" => html(alloc, subject, rows),
+        "json" => json(alloc, subject, rows),
         "kanata" => kanata(alloc, subject, rows),
         "vcd" => vcd(alloc, subject),
         _ => text(alloc, subject, rows),

@@ -89,7 +89,7 @@ fn form_option<'a>(alloc: Global) -> Arg<'a> {
         .value_name("FORM")
         .action(ArgAction::Set)
         .default_value("text")
-        .value_parser(["text", "svg", "html", "kanata", "vcd"].as_slice())
+        .value_parser(["text", "svg", "html", "json", "kanata", "vcd"].as_slice())
         .help("the form of the picture")
 }
 

@@ -1,4 +1,4 @@
-//! Drawings of a run as pictures: texts, SVG, HTML, and the formats Kanata and VCD.
+//! Drawings of a run as pictures: texts, SVG, HTML, JSON, and the formats Kanata and VCD.
 #![tactic(auto)]
 
 mod assembly;
@@ -6,9 +6,11 @@ mod bands;
 mod document;
 mod ending;
 mod escape;
+mod json_document;
 mod konata;
 mod label;
 mod marks;
+mod members;
 mod names;
 mod page;
 mod picture;
@@ -21,6 +23,7 @@ mod ways;
 pub use assembly::push_instruction;
 pub use bands::text;
 pub use document::html;
+pub use json_document::json;
 pub use konata::kanata;
 pub use names::{NamedPlace, PlaceNames};
 pub use picture::svg;
