@@ -18,6 +18,6 @@ pub use calling::{Calls, calls_of};
 pub use document::profile_json;
 pub use grouping::By;
 pub use rows::Column;
-pub use spent::{Spent, spent};
+pub use spent::{Spent, spent_in};
 pub use subject::Subject;
 pub use text::profile_text;
