@@ -2,7 +2,7 @@
 use crate::grouping::By;
 use crate::rows::{Column, Row, rows_by};
 use crate::shown::text_of;
-use crate::spent::{Spent, spent};
+use crate::spent::{Spent, spent_in};
 use crate::subject::Subject;
 use lab_profile::{LineCost, Tally};
 use mx_io::Memory;
@@ -181,7 +181,7 @@ fn document_of<'a>(
         halted: subject.profile.halted,
         counts: counts_record(&subject.profile.counts),
         waiting: subject.profile.waiting,
-        spent: spent_record(spent(subject, costs)),
+        spent: spent_record(spent_in(subject, costs)),
         by: word_of(by),
         rows: row_records(alloc, rows.as_slice())?,
         handler: cost_record(handler, 0, subject.handler()),

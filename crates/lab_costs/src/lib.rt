@@ -2,9 +2,9 @@
 //! in the format of callgrind.
 #![tactic(auto)]
 
-mod callgrind;
 mod calling;
 mod document;
+mod events;
 mod grouping;
 mod positions;
 mod rows;
@@ -13,11 +13,11 @@ mod spent;
 mod subject;
 mod text;
 
-pub use callgrind::callgrind;
 pub use calling::{Calls, calls_of};
 pub use document::profile_json;
+pub use events::callgrind;
 pub use grouping::By;
 pub use rows::Column;
-pub use spent::{Spent, spent};
+pub use spent::{Spent, spent_in};
 pub use subject::Subject;
 pub use text::profile_text;

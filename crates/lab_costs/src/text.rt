@@ -2,7 +2,7 @@
 use crate::grouping::By;
 use crate::rows::{Column, Row, rows_by};
 use crate::shown::{ratio_text, share_text};
-use crate::spent::{Spent, spent};
+use crate::spent::{Spent, spent_in};
 use crate::subject::{Subject, lines_of};
 use lab_profile::{LineCost, Profile};
 use mx_isa::CODE_BASE;
@@ -255,7 +255,7 @@ pub fn profile_text(
         }
     }
     push_rest(alloc, &mut text, subject, together)?;
-    push_spent(alloc, &mut text, spent(subject, costs))?;
+    push_spent(alloc, &mut text, spent_in(subject, costs))?;
     push_sums(alloc, &mut text, subject.profile, together.noops)?;
     Ok(text)
 }
