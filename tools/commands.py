@@ -69,8 +69,21 @@ COMMANDS = {
         Option("--as", "FORM", "text or json (text)"), OUTPUT)),
     "explain": Command("mx_lab", "SOURCE", "tells how a run stands beside what the source means", (
         Option("--as", "FORM", "text or json (text)"), BUDGET, INTERRUPTS, INPUT, OUTPUT)),
-    "profile": Command("mx_lab", "SOURCE", "tells what each line of a source costs in a run", (BUDGET, INTERRUPTS, INPUT, OUTPUT)),
-    "compare": Command("mx_lab", "SOURCE", "compares what four schedulers make of a source", (BUDGET, INTERRUPTS, INPUT, OUTPUT)),
+    "profile": Command("mx_lab", "SOURCE", "tells what each part of a source costs in a run", (
+        Option("--by", "PART", "line, label, function, or c for lines of C (line)"),
+        Option("--sort", "COLUMN", "line, count, cycles, cpi, stalls, noops, squashed or killed (line)"),
+        Option("--as", "FORM", "text, json or callgrind (text)"), BUDGET, INTERRUPTS, INPUT, OUTPUT)),
+    "compare": Command("mx_lab", "SOURCE", "compares what four schedulers make of a source", (
+        Option("--as", "FORM", "text, json or csv (text)"), BUDGET, INTERRUPTS, INPUT, OUTPUT)),
+    "disassemble": Command("mx_lab", "FILE", "lists the words of a source or an image in assembly language", (
+        Option("--as", "FORM", "text or json (text)"), OUTPUT)),
+    "caches": Command("mx_lab", "SOURCE", "tells what other caches would make of a run", (
+        Option("--line", "N", "1 to 64 words of a line (16)"),
+        Option("--brings", "N", "1 to 64 words, at most those of a line, that a miss makes valid (2)"),
+        Option("--penalty", "N", "0 to 1,000 cycles of a miss (2)"),
+        Option("--as", "FORM", "text, json or svg (text)"), BUDGET, INPUT, OUTPUT)),
+    "trace": Command("mx_lab", "SOURCE", "tells each turn of a run, for programs that replay it", (
+        Option("--as", "FORM", "jsonl (jsonl)"), BUDGET, INTERRUPTS, INPUT, OUTPUT)),
     "plans": Command("mx_lab", "SOURCE FILE", "runs a source by the plans of a scheduler of one's own", (BUDGET, INTERRUPTS, INPUT, OUTPUT)),
     "cc": Command("mx_cc", "FILE.c .. -o SOURCE", "compiles with gcc, and translates to a source",
                   more="Options before the files are gcc's; without -O0, -O1, -O3 or -Os it is -O2. It needs the Debian package gcc-mips-linux-gnu."),

@@ -6,6 +6,7 @@ use std::rt::Files;
 
 /// The most bytes of a text, and of an interrupt file.
 const MOST_TEXT: usize = 4_194_304;
+
 const MOST_REQUESTS: usize = 1_048_576;
 
 /// Whether the headline speaks of the run of a text under the interrupts of a file, for the case `TEXT INTERRUPTS -> yes`.
