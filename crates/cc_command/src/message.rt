@@ -7,7 +7,7 @@ use std::alloc::{AllocError, Global};
 /// How many labels may stand in one line.
 const MOST_LABELS: u32 = 256;
 
-/// The mnemonic or directive of the line with a number of a text.
+/// The mnemonic or directive of the line with a number of a text, or its last label where it has labels alone.
 fn word_of(text: &[u8], number: u32) -> &[u8] {
     let mut lines = Lines::new(text);
     for _ in 1..number {
@@ -19,13 +19,16 @@ fn word_of(text: &[u8], number: u32) -> &[u8] {
         Some(line) => without_comment(line),
         None => return &[],
     };
+    let mut label: &[u8] = &[];
     for _ in 0..MOST_LABELS {
-        match label_before(rest) {
-            Some((_, behind)) => rest = behind,
-            None => break,
-        }
+        let Some((name, behind)) = label_before(rest) else {
+            break;
+        };
+        label = name;
+        rest = behind;
     }
-    first_word(rest)
+    let word = first_word(rest);
+    if word.is_empty() { label } else { word }
 }
 
 /// The line for a fault: `FILE:LINE: mnemonic or directive: why`, and the symbol that it is about.

@@ -1,4 +1,5 @@
 //! The words of the command.
+ghost use Rattle.std.specs.Prelude.{◌≢◌, [], IfOk, IfSome};
 
 use std::alloc::{AllocError, Global};
 
@@ -10,7 +11,9 @@ pub(crate) struct Asked<'a> {
 }
 
 /// What the words ask for, or nothing where they ask for no translation.
-pub(crate) fn asked_by(alloc: Global, words: &[String]) -> Result<Option<Asked<'_>>, AllocError> {
+pub(crate) fn asked_by(alloc: Global, words: &[String]) -> Result<Option<Asked<'_>>, AllocError>
+    ensures files { IfOk result (λ r. IfSome r (λ asked. asked.files.items ≢ [])) }
+{
     let mut files = Vec::new(alloc);
     let mut target = None;
     let mut names_target = false;
