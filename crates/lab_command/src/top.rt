@@ -143,7 +143,7 @@ pub struct Ended {
 }
 
 // A command that ended so, with nothing for standard error.
-fn ended(alloc: Global, status: Status) -> Ended {
+fn quietly(alloc: Global, status: Status) -> Ended {
     Ended {
         status,
         errors: Vec::new(alloc),
@@ -157,7 +157,7 @@ fn failed(alloc: Global, status: Status, words: &str, name: &str) -> Ended {
             status,
             errors: line.into_bytes(),
         },
-        Err(_) => ended(alloc, status),
+        Err(_) => quietly(alloc, status),
     }
 }
 
@@ -180,7 +180,7 @@ fn put_out<S: Shelf, W: Sink>(alloc: Global, answer: Answer, shelf: &mut S, out:
     }
     match file {
         None => match put_all(out, said.as_slice()) {
-            Ok(()) => ended(alloc, status),
+            Ok(()) => quietly(alloc, status),
             Err(_) => failed(
                 alloc,
                 Status::WriteFault,
@@ -189,7 +189,7 @@ fn put_out<S: Shelf, W: Sink>(alloc: Global, answer: Answer, shelf: &mut S, out:
             ),
         },
         Some(name) => match shelf.write(name, said.as_slice()) {
-            Ok(()) => ended(alloc, status),
+            Ok(()) => quietly(alloc, status),
             Err(ShelfFault::Memory) => failed(alloc, Status::Memory, "no memory", ""),
             Err(_) => failed(alloc, Status::WriteFault, "cannot be written: ", name),
         },
