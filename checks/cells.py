@@ -83,4 +83,5 @@ def main(words):
         check_page(words[0], words[1], int(words[2]))
 
 
-main(sys.argv[1:])
+if __name__ == "__main__":
+    main(sys.argv[1:])

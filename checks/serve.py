@@ -1,0 +1,339 @@
+#!/usr/bin/env python3
+"""Drives the page of the workbench in headless Chromium, and compares what it shows with what the commands print.
+
+usage: checks/serve.py FOLDER
+
+Pictures of the page, on three widths, light and dark, are left in FOLDER, to be looked at. It needs the program chromium, and the
+programs as ./mx leaves them."""
+import contextlib
+import json
+import os
+import re
+import signal
+import subprocess
+import sys
+import tempfile
+import time
+
+import page
+from cells import rows_of_text
+from page import tell
+
+TOP = os.path.dirname(os.path.dirname(os.path.abspath(__file__)))
+MX = f"{TOP}/mx"
+MOVED, STEPS = 100, 30  # milliseconds from a key to the moved diagram, and of a step
+QUIET = {**os.environ, "MX_QUIET": "1"}
+# A sort that runs for about 2,000 cycles; in the mistaken one a register stands where a number has to.
+SORT = """        la   word,r1
+        ld   0[r1],r2
+        st   255[r0],r2     ; the two bytes of a letter beyond ASCII
+        ld   1[r1],r2
+        st   255[r0],r2
+        addi r0,#20,r1      ; how many steps the next pass has
+outer:  la   table,r3
+        add  r3,r1,r4
+inner:  ld   0[r3],r5
+        ld   1[r3],r6
+        bge  r6,r5,keep
+        st   0[r3],r6
+        st   1[r3],r5
+keep:   addi r3,#1,r3
+        bne  r3,r4,inner
+        addi r1,#-1,r1
+        bne  r1,r0,outer
+        halt
+        .data
+word:   .word 195,169
+table:  .word 40,17,48,23,51,45,54,48,42,34,2,54,30,50,16,42,9,3,27,31,5
+"""
+MISTAKEN = SORT.replace("bge  r6,r5,keep", "bge  r6,r5,kept")
+MISTAKE = (11, "kept")
+# A loop of 10,000,000 cycles and more.
+LONG = "loop:   addi r1,#1,r1\n        b    loop\n"
+# What would be markup, were a text taken for it.
+MARKUP = "; <img src=x onerror=\"document.title='run'\"> </script><b>\nhalt: halt ; &lt;i&gt;\n"
+REQUEST = 260
+
+
+@contextlib.contextmanager
+def serving(*words):
+    """Starts the workbench, and yields its process and its address; in the end interrupts it."""
+    process = subprocess.Popen([MX, "serve", *words], stdout=subprocess.PIPE, stderr=subprocess.DEVNULL, text=True, env=QUIET)
+    try:
+        yield process, process.stdout.readline().split()[-1]
+    finally:
+        if process.poll() is None:
+            process.send_signal(signal.SIGINT)
+            process.wait(10)
+
+
+def printed(source, *words):
+    """Returns what a command prints of a source."""
+    with tempfile.TemporaryDirectory() as folder:
+        with open(f"{folder}/source.s", "w", encoding="utf-8") as it:
+            it.write(source)
+        with open(f"{folder}/requests", "w", encoding="utf-8") as it:
+            it.write(f"{REQUEST}\n")
+        words = [word.replace("REQUESTS", f"{folder}/requests") for word in words]
+        ran = subprocess.run([MX, words[0], f"{folder}/source.s", *words[1:]], capture_output=True, env=QUIET, check=False)
+        return ran.stdout
+
+
+# The milliseconds from a key to the moved diagram, with its layout.
+MOVING = """new Promise(done => {
+  const began = performance.now(), seen = new MutationObserver(() => {
+    seen.disconnect();
+    document.body.getBoundingClientRect();
+    done(performance.now() - began);
+  });
+  document.execCommand('insertText', false, ';TYPED\\n');
+  setTimeout(() => seen.observe(document.getElementById('rows'), { childList: true }), 0);
+})"""
+
+
+def wait_for(bench, what, seconds=20):
+    """Waits until something holds in the page, and tells whether it came to hold."""
+    ends = time.monotonic() + seconds
+    while time.monotonic() < ends:
+        if bench.ask(what):
+            return True
+        time.sleep(0.02)
+    return False
+
+
+def type_source(bench, text):
+    """Puts a text in place of the source, as a paste does."""
+    bench.ask("document.getElementById('source').focus(); document.getElementById('source').select()")
+    bench.call("Input.insertText", text=text)
+
+
+def put(bench, field, value):
+    """Puts a value into a field, as a reader does."""
+    bench.ask(f"(it => {{ it.value = '{value}'; it.dispatchEvent(new Event('input')); }})(document.getElementById('{field}'))")
+
+
+def settled(bench):
+    """Waits until the end of the run is known, with all that is asked of it."""
+    return wait_for(bench, "state.isSettled")
+
+
+def try_faults(bench):
+    """A sort with a mistake is typed, seen at its token, and mended."""
+    type_source(bench, MISTAKEN)
+    tell("the fault is found", wait_for(bench, "document.querySelector('.wrong') !== null"))
+    marked = bench.ask("document.querySelector('.wrong').textContent")
+    tell("it is marked at its token", marked == MISTAKE[1], marked)
+    listed = bench.ask("[...document.querySelectorAll('#findings button')].map(it => it.textContent)")
+    tell("it is told with its line", len(listed) >= 1 and f"line {MISTAKE[0]}," in listed[0], listed)
+    bench.ask("document.querySelector('#findings button').click()")
+    selected = bench.ask("(it => it.value.slice(it.selectionStart, it.selectionEnd))(document.getElementById('source'))")
+    tell("its button selects the token", selected == MISTAKE[1], selected)
+    bench.call("Input.insertText", text="keep")
+    tell("mended, it runs", wait_for(bench, "document.querySelector('.wrong') === null") and settled(bench))
+
+
+def cells_shown(bench):
+    """Returns the address and the cell of each row that shows something in the cycle."""
+    shown = bench.ask("""[...document.querySelectorAll('#rows .row')].flatMap(row => [...row.querySelectorAll('.cell.on')].map(cell =>
+      [row.querySelector('.name span').textContent, cell.textContent, cell.className]))""")
+    marks = {"squashed": "*", "killed": "!"}
+    found = []
+    for address, cell, look in shown:
+        mark = "".join(sign for name, sign in marks.items() if name in look)
+        found.append((address.zfill(8), ".." if cell == "wait" else cell + mark))
+    return sorted(found)
+
+
+def go(bench, cycle):
+    bench.ask(f"(it => {{ it.value = {cycle}; it.dispatchEvent(new Event('change')); }})(document.getElementById('cycle'))")
+    wait_for(bench, f"document.getElementById('told').textContent.startsWith('cycle {cycle}:')")
+    bench.settle()
+
+
+def click_head(bench, cycle):
+    """Clicks on a cycle's number, with the mouse."""
+    at = bench.ask(f"""(it => {{ const box = it.getBoundingClientRect(); return [box.x + box.width / 2, box.y + 8]; }})(
+      [...document.querySelectorAll('#heads .head')].find(it => it.textContent.split('\\n')[0] === '{cycle}'))""")
+    for kind in ("mousePressed", "mouseReleased"):
+        bench.call("Input.dispatchMouseEvent", type=kind, x=at[0], y=at[1], button="left", clickCount=1)
+    bench.settle()
+
+
+def try_cycles(bench):
+    """Cycle 250 and back, an interrupt behind it, and what stands there against `draw`."""
+    bench.ask("document.getElementById('run').click()")
+    settled(bench)
+    go(bench, 250)
+    bench.ask("document.getElementById('view').focus()")
+    bench.key("ArrowLeft")
+    tell("a step back", bench.cycle() == 249, bench.cycle())
+    bench.key("ArrowRight")
+    go(bench, REQUEST)
+    click_head(bench, REQUEST)
+    tell("a click on a cycle's number sets an interrupt", bench.ask("document.getElementById('interrupts').value") == str(REQUEST))
+    bench.ask("document.getElementById('view').focus()")
+    bench.key("i")
+    tell("the key i takes it back", bench.ask("document.getElementById('interrupts').value") == "")
+    bench.key("i")
+    settled(bench)
+    for cycle in (250, REQUEST, REQUEST + 3, REQUEST + 12):
+        go(bench, cycle)
+        text = printed(SORT, "draw", "--cycles", "400", "--interrupts", "REQUESTS").decode()
+        with tempfile.NamedTemporaryFile("w", suffix=".text") as it:
+            it.write(text)
+            it.flush()
+            wanted = sorted(rows_of_text(it.name)[cycle])
+        shown = cells_shown(bench)
+        tell(f"the cells of cycle {cycle} are those of draw", shown == [(a.replace("--------", "0000----"), c) for a, c in wanted], (shown, wanted))
+
+
+def registers_shown(bench):
+    """Returns the registers and md as hexadecimal digits."""
+    shown = bench.ask("[...document.querySelectorAll('#registers tr')].slice(1).map(row => [...row.children].map(it => it.textContent.trim()))")
+    return {name.lstrip(">"): digits for name, digits, *_ in shown}
+
+
+def try_end(bench):
+    """Registers and console at the end against the report of `run`."""
+    bench.ask("document.getElementById('run').click()")
+    time.sleep(0.5)
+    settled(bench)
+    bench.settle()
+    report = printed(SORT, "run", "--interrupts", "REQUESTS")
+    last = int(re.search(rb"cycles (\d+)", report)[1]) - 1
+    tell("run goes to the last cycle", bench.cycle() == last, (bench.cycle(), last))
+    wanted = {name.decode(): digits.decode() for name, digits in re.findall(rb"(?m)^(r\d+|md) ([0-9a-f]{8})$", report)}
+    shown = registers_shown(bench)
+    tell("the registers are those of the report", all(shown[name] == digits for name, digits in wanted.items()) and len(wanted) == 32, (shown, wanted))
+    count = int(re.search(rb"console (\d+)\n", report)[1])
+    console = report.split(b"console %d\n" % count)[1][:count]
+    tell("the console is that of the report", bench.ask("document.getElementById('console').textContent") == console.decode(), console)
+
+
+def try_search(bench):
+    """The first byte to the console and the visits of a line, against the cycles of `draw`."""
+    drawn = json.loads(printed(SORT, "draw", "--cycles", "100000", "--as", "json"))
+    sent = [k for k, cycle in enumerate(drawn["cycles"]) if isinstance(cycle, list) and cycle[11] >= 0]
+    lines = {word[0]: word[4] for word in drawn["listing"]}
+    visits = sorted(begins + cells.index("3") for address, begins, cells in drawn["rows"] if lines.get(address) == 12 and "3" in cells)
+    for kind, first, wanted in (("byte", 0, sent[:2]), ("line", 1000, [cycle for cycle in visits if cycle > 1000][:3])):
+        go(bench, first)
+        bench.ask(f"document.getElementById('kind').value = '{kind}'; document.getElementById('line').value = 12")
+        found = []
+        for _ in wanted:
+            bench.ask("document.getElementById('after').click()")
+            bench.settle()
+            found.append(bench.cycle())
+        tell(f"the next cycles with a {kind} are found", found == wanted, (found, wanted))
+
+
+def try_download(bench):
+    bench.ask("""(() => { URL.createObjectURL = content => { window.taken = content; return '#'; };
+      document.getElementById('form').value = 'svg'; document.getElementById('download').click(); })()""")
+    wait_for(bench, "window.taken !== undefined")
+    taken = bench.ask("window.taken.text()")
+    tell("the SVG is that of draw", taken == printed(SORT, "draw", "--as", "svg").decode().replace("source.s", "stdin"), taken[:80])
+
+
+def try_speed(bench):
+    took = []
+    for digit in "123456":
+        bench.ask("document.getElementById('source').focus(); document.getElementById('source').setSelectionRange(0, 0)")
+        took.append(bench.ask(MOVING.replace("TYPED", digit)))
+        settled(bench)
+    tell(f"from a key to the moved diagram at most {MOVED} ms, at the best of six", min(took) <= MOVED, took)
+    go(bench, 0)
+    took = bench.ask(page.STEP_TIME)
+    tell(f"a step takes at most {STEPS} ms", took <= STEPS, took)
+    print(f"    a step takes {took:.1f} ms")
+
+
+def try_long(bench):
+    """A run of 10,000,000 cycles, walked near its end."""
+    put(bench, "budget", 10_000_000)
+    type_source(bench, LONG)
+    tell("the end of the long run is told", wait_for(bench, "/10000000 cycles/.test(document.getElementById('end').textContent)", 60))
+    for cycle in (9_000_000, 1_234_567, 9_999_999):
+        began = time.monotonic()
+        go(bench, cycle)
+        print(f"    cycle {cycle} is there after {time.monotonic() - began:.2f} s")
+        told = json.loads(printed(LONG, "draw", "--budget", "10000000", "--from", str(cycle), "--cycles", "1", "--as", "json"))
+        wanted = dict(zip(told["cycles"][0][12][::2], told["cycles"][0][12][1::2]))
+        shown = registers_shown(bench)
+        tell(f"r1 in cycle {cycle}", int(shown["r1"], 16) == wanted.get(1, 0), (shown["r1"], wanted))
+
+
+def try_markup(bench):
+    type_source(bench, MARKUP)
+    settled(bench)
+    bench.settle()
+    made = bench.ask("[document.querySelectorAll('img, b').length, document.title]")
+    tell("what a text holds is no markup", made == [0, "Zanderanvil: the workbench"], made)
+
+
+def try_link(bench, url):
+    time.sleep(0.6)
+    kept = bench.ask("location.hash")
+    source = bench.ask("document.getElementById('source').value")
+    bench.call("Page.navigate", url="about:blank")
+    bench.open(url + kept)
+    settled(bench)
+    tell("the address carries the exercise", source and bench.ask("document.getElementById('source').value") == source, kept[:60])
+
+
+def try_names(bench):
+    nodes = [node for node in bench.call("Accessibility.getFullAXTree")["nodes"] if not node.get("ignored")]
+    unnamed = [node["role"]["value"] for node in nodes if node.get("role", {}).get("value") in page.NAMED and not node.get("name", {}).get("value")]
+    count = sum(node.get("role", {}).get("value") in page.NAMED for node in nodes)
+    tell("every control has a name for screen readers", count > 20 and not unnamed, unnamed)
+
+
+def try_look(url, width, height, dark, name):
+    """The page at a size: contrast, nothing beside the screen, and a picture of it."""
+    bench = page.Page(width, height, dark)
+    bench.open(url)
+    type_source(bench, SORT)
+    settled(bench)
+    go(bench, 250)
+    bench.ask("document.getElementById('costs').click(); document.getElementById('compare').click()")
+    time.sleep(1.5)
+    faint = bench.ask(page.TOO_FAINT)
+    tell(f"contrast is at least {page.CONTRAST} in {os.path.basename(name)}", not faint, faint[:4])
+    wide = bench.ask("document.documentElement.scrollWidth - innerWidth")
+    tell("nothing stands beside the screen", wide <= 0, wide)
+    if width < 1100:
+        whole = bench.ask("document.documentElement.scrollHeight")
+        bench.call("Emulation.setDeviceMetricsOverride", width=width, height=min(whole, 3000), deviceScaleFactor=1, mobile=False)
+        bench.settle()
+    bench.picture(name)
+    bench.close()
+
+
+def main():
+    folder = sys.argv[1]
+    with serving(f"{TOP}/examples/countdown.s") as (_, url):
+        bench = page.Page(1500, 900)
+        bench.open(url)
+        tell("FILE is the source", "counts down from 3" in bench.ask("document.getElementById('source').value"))
+        try_faults(bench)
+        try_cycles(bench)
+        try_end(bench)
+        put(bench, "interrupts", "")
+        settled(bench)
+        try_search(bench)
+        try_download(bench)
+        try_speed(bench)
+        try_names(bench)
+        try_markup(bench)
+        try_link(bench, url)
+        try_long(bench)
+        tell("the page has no fault", not bench.faults, bench.faults)
+        bench.close()
+        for width, height in ((1500, 900), (800, 1000), (390, 844)):
+            for scheme in ("light", "dark"):
+                try_look(url, width, height, scheme == "dark", os.path.join(folder, f"serve-{width}-{scheme}.png"))
+    return 1 if page.failures else 0
+
+
+if __name__ == "__main__":
+    sys.exit(main())

@@ -1,0 +1,383 @@
+#!/usr/bin/env python3
+"""The workbench: a server on this machine alone, whose answers are those of the built programs.
+
+usage: ./mx serve [--port N] [--host H] [FILE]
+
+It prints the address of its page, with a token that every request must have, and goes on until it is interrupted. Of the disk it
+reads FILE, and at its start its own page and the examples; it writes nothing.
+"""
+import argparse
+import base64
+import glob
+import hashlib
+import hmac
+import http
+import http.server
+import io
+import ipaddress
+import json
+import os
+import re
+import secrets
+import signal
+import socket
+import socketserver
+import sys
+import threading
+import time
+from urllib.parse import parse_qs, urlsplit
+
+import fields
+import programs
+from fields import Refused
+
+FOLDER = os.path.dirname(os.path.abspath(__file__))
+TOP = os.path.dirname(os.path.dirname(FOLDER))
+MOST_CONNECTIONS = 16
+# As many more are told that there are too many; those beyond are closed.
+MOST_TOLD = 16
+HEAD_SECONDS, BODY_SECONDS, ANSWER_SECONDS, LINGER_SECONDS = 5, 10, 30, 1
+MOST_SOURCE = 4_194_304
+READ_FAULT, NOT_STARTED = 4, 10
+COMMANDS = tuple(fields.FIELDS)
+# No page of another server may hold the page, learn its address, or get what it is answered.
+HEADERS = {
+    "Cache-Control": "no-store",
+    "Connection": "close",
+    "Cross-Origin-Resource-Policy": "same-origin",
+    "Referrer-Policy": "no-referrer",
+    "X-Content-Type-Options": "nosniff",
+    "X-Frame-Options": "DENY",
+}
+
+
+class TimedReader(io.RawIOBase):
+    """What a client sends, up to a time."""
+
+    def __init__(self, connection):
+        super().__init__()
+        self.connection = connection
+        self.ends = 0
+
+    def give(self, seconds):
+        """Sets from now on the time that is left."""
+        self.ends = time.monotonic() + seconds
+
+    def readable(self):
+        return True
+
+    def readinto(self, buffer):
+        left = self.ends - time.monotonic()
+        if left <= 0:
+            raise TimeoutError
+        self.connection.settimeout(left)
+        return self.connection.recv_into(buffer)
+
+
+def policy(page):
+    """Returns the content policy of the page: only its own script and style, and requests to this server."""
+    def digest(element):
+        text = re.search(rf"<{element}>(.*?)</{element}>", page, re.S).group(1)
+        return base64.b64encode(hashlib.sha256(text.encode()).digest()).decode()
+    return (f"default-src 'none'; script-src 'sha256-{digest('script')}'; style-src 'sha256-{digest('style')}'; connect-src 'self'; "
+            "img-src data:; base-uri 'none'; form-action 'none'; frame-ancestors 'none'")
+
+
+def read_text(name):
+    """Returns the text of a file of the repository."""
+    with open(name, encoding="utf-8") as it:
+        return it.read()
+
+
+def read_source(name):
+    """Returns the text of a source, and raises OSError where it cannot be read or is too long."""
+    with open(name, "rb") as it:
+        content = it.read(MOST_SOURCE + 1)
+    if len(content) > MOST_SOURCE:
+        raise OSError(f"it has more than {MOST_SOURCE} bytes")
+    return content.decode("utf-8", "replace")
+
+
+class Workbench(socketserver.ThreadingTCPServer):
+    """The server, and what it keeps: the page, the examples, the programs, the token."""
+    daemon_threads = True
+    block_on_close = False
+    allow_reuse_address = True
+    request_queue_size = 64
+
+    def __init__(self, words):
+        self.address_family = socket.AF_INET6 if ":" in words.host else socket.AF_INET
+        super().__init__((words.host, words.port), Handler)
+        self.host, self.port = words.host, self.server_address[1]
+        self.file, self.is_proved = words.file, words.proved
+        self.token = secrets.token_urlsafe(24)
+        self.programs = programs.Programs(words.lab, words.run)
+        self.page = read_text(f"{FOLDER}/page.html")
+        self.policy = policy(self.page)
+        self.examples = {os.path.basename(it): read_text(it) for it in sorted(glob.glob(f"{TOP}/examples/*.s"))}
+        # The connections that are served, and those that are told that there are too many.
+        self.served, self.told = set(), set()
+        self.lock = threading.Lock()
+        # One body is read at a time: its object takes some times its size, and hundredths of a second.
+        self.reading = threading.Lock()
+
+    def address(self):
+        """Returns the address of the page."""
+        host = f"[{self.host}]" if ":" in self.host else self.host
+        return f"http://{host}:{self.port}/?token={self.token}"
+
+    def is_own(self, host):
+        """Tells whether a Host header names this server. Where it listens at every address, each address does, and no other name."""
+        found = re.fullmatch(r"(\[[0-9a-fA-F:.]+\]|[^:\[\]]+)(?::([0-9]{1,5}))?", host)
+        if not found or int(found.group(2) or 80) != self.port:
+            return False
+        name = found.group(1).strip("[]").lower()
+        if name in ("127.0.0.1", "localhost", self.host.lower()):
+            return True
+        return self.host in ("0.0.0.0", "::", "") and is_address(name)
+
+    def page_now(self):
+        """Returns the page with what it begins with."""
+        given = {"examples": self.examples, "proved": self.is_proved, "file": None, "source": None}
+        if self.file:
+            given["file"] = os.path.basename(self.file)
+            try:
+                given["source"] = read_source(self.file)
+            except OSError:
+                pass  # it was there at the start; the page begins with an example
+        return self.page.replace('"GIVEN"', json.dumps(given).replace("<", "\\u003c"), 1)
+
+    def process_request(self, request, client_address):
+        """Serves a connection in a thread of its own, while there are not too many."""
+        with self.lock:
+            for kept, most in ((self.served, MOST_CONNECTIONS), (self.told, MOST_TOLD)):
+                if len(kept) < most:
+                    kept.add(request)
+                    break
+            else:
+                kept = None
+        if kept is None:
+            self.shutdown_request(request)
+        else:
+            super().process_request(request, client_address)
+
+    def shutdown_request(self, request):
+        super().shutdown_request(request)
+        with self.lock:
+            self.served.discard(request)
+            self.told.discard(request)
+
+    def handle_error(self, request, client_address):
+        """A client that has gone, or does not read, is no fault of the server's."""
+        if not isinstance(sys.exc_info()[1], OSError):
+            super().handle_error(request, client_address)
+
+
+def is_address(name):
+    try:
+        ipaddress.ip_address(name)
+    except ValueError:
+        return False
+    return True
+
+
+class Handler(http.server.BaseHTTPRequestHandler):
+    """One connection, which has one request."""
+    protocol_version = "HTTP/1.1"
+    server_version, sys_version = "zanderanvil", ""
+
+    def setup(self):
+        super().setup()
+        self.timed = TimedReader(self.connection)
+        self.rfile = io.BufferedReader(self.timed)
+
+    def log_message(self, format, *args):
+        pass
+
+    def handle(self):
+        """Reads a request, and answers it."""
+        self.close_connection = True
+        self.requestline, self.request_version, self.command = "", "HTTP/1.1", ""
+        try:
+            if self.request in self.server.told:
+                raise Refused(503, f"more than {MOST_CONNECTIONS} connections")
+            self.timed.give(HEAD_SECONDS)
+            self.raw_requestline = self.rfile.readline(65537)
+            if not self.raw_requestline:
+                return
+            if len(self.raw_requestline) > 65536:
+                raise Refused(414, "the address is too long")
+            if self.parse_request():
+                self.answer_request()
+        except TimeoutError:
+            self.refuse(Refused(408, "the request takes too long"))
+        except Refused as refused:
+            self.refuse(refused)
+        self.linger()
+
+    def send_error(self, code, message=None, explain=None):
+        """Answers what the library refuses of a head."""
+        self.refuse(Refused(code, message or http.HTTPStatus(code).phrase))
+
+    def handle_expect_100(self):
+        """Asks for the body of a request only where it is to be read."""
+        self.check()
+        return super().handle_expect_100()
+
+    def answer_request(self):
+        if self.request_version == "HTTP/0.9":
+            raise Refused(400, "no version of HTTP")
+        path = self.check()
+        if path == "/":
+            return self.answer_page()
+        command = path.removeprefix("/api/")
+        opened = self.open(command)
+        try:
+            printed = self.server.programs.answer(opened, self.connection)
+        finally:
+            opened.close()
+        try:
+            self.send_pieces(200, "application/json", programs.document(command, printed))
+        finally:
+            printed.close()
+        return None
+
+    def open(self, command):
+        """Reads a body, and puts what it asks of a command into files in memory, which are all that is kept of it."""
+        body = self.read_body()
+        with self.server.reading:
+            return self.server.programs.open(command, fields.read_fields(command, body))
+
+    def check(self):
+        """Returns the path of a request that is to be answered: it is meant for this server, has the token, and names something."""
+        hosts, origins = self.headers.get_all("Host", []), self.headers.get_all("Origin", [])
+        if len(hosts) != 1 or not self.server.is_own(hosts[0]):
+            raise Refused(403, "Host names another server")
+        if any(origin != f"http://{hosts[0]}" for origin in origins):
+            raise Refused(403, "Origin is another server")
+        try:
+            address = urlsplit(self.path)
+        except ValueError:
+            raise Refused(400, "the address is none") from None
+        if not self.has_token(address):
+            raise Refused(403, "no token, or another one")
+        named = address.path.removeprefix("/api/")
+        if address.path != "/" and (named == address.path or named not in COMMANDS):
+            raise Refused(404, "there is nothing at this path")
+        wanted = "GET" if address.path == "/" else "POST"
+        if self.command != wanted:
+            raise Refused(405, f"only {wanted} is answered here", wanted)
+        return address.path
+
+    def has_token(self, address):
+        """Tells whether a request has the token: in a header, or for the page in its address."""
+        given = [self.headers.get("X-Token", ""), self.headers.get("Authorization", "").removeprefix("Bearer ")]
+        if address.path == "/":
+            given += parse_qs(address.query).get("token", [])
+        return any(hmac.compare_digest(it.encode(errors="replace"), self.server.token.encode()) for it in given)
+
+    def read_body(self):
+        """Returns the body of a request."""
+        if self.headers.get("Transfer-Encoding") is not None:
+            raise Refused(411, "the length of the body is to be told")
+        length = self.headers.get("Content-Length", "")
+        if not re.fullmatch("[0-9]{1,12}", length, re.ASCII):
+            raise Refused(411, "the length of the body is to be told")
+        if int(length) > fields.MOST_BODY:
+            raise Refused(413, f"a body has at most {fields.MOST_BODY} bytes")
+        self.timed.give(BODY_SECONDS)
+        body, read = bytearray(int(length)), 0
+        while read < len(body):
+            got = self.rfile.readinto(memoryview(body)[read:])
+            if not got:
+                raise Refused(400, "the body ends too soon")
+            read += got
+        return body
+
+    def answer_page(self):
+        headers = {"Content-Security-Policy": self.server.policy}
+        self.send_pieces(200, "text/html; charset=utf-8", [self.server.page_now().encode()], headers)
+
+    def refuse(self, refused):
+        """Answers with a refusal."""
+        told = {"error": refused.wrong}
+        headers = {}
+        if refused.status == 405:
+            headers["Allow"] = refused.field
+        elif refused.field is not None:
+            told["field"] = refused.field
+        if self.request_version == "HTTP/0.9":
+            self.request_version = "HTTP/1.0"
+        self.send_pieces(refused.status, "application/json", [json.dumps(told).encode() + b"\n"], headers)
+
+    def send_pieces(self, status, kind, pieces, headers=()):
+        """Sends an answer, which the end of the connection ends."""
+        ends = time.monotonic() + ANSWER_SECONDS
+        self.send_response(status)
+        for name, value in {"Content-Type": kind, **HEADERS, **dict(headers)}.items():
+            self.send_header(name, value)
+        try:
+            self.connection.settimeout(ANSWER_SECONDS)
+            self.end_headers()
+            for piece in () if self.command == "HEAD" else pieces:
+                self.connection.settimeout(max(0.001, ends - time.monotonic()))
+                self.connection.sendall(piece)
+        except TimeoutError:
+            raise ConnectionError("the client does not read") from None
+
+    def linger(self):
+        """Takes what a client still sends, for a while: else it might not get the answer."""
+        try:
+            self.connection.shutdown(socket.SHUT_WR)
+            self.timed.give(LINGER_SECONDS)
+            while self.timed.read(65536):
+                pass
+        except OSError:
+            pass  # it has gone, or goes on for too long
+
+
+def read_words():
+    """Returns what the command line says. ./mx names the programs."""
+    parser = argparse.ArgumentParser(prog="mx serve", description="starts the workbench: a page in the browser, on this machine alone")
+    parser.add_argument("--port", type=int, default=0, metavar="N", help="0 to 65535: the port; a free one where it is 0 or left out")
+    parser.add_argument("--host", default="127.0.0.1", metavar="H", help="the address to listen at (127.0.0.1, which only this machine reaches)")
+    parser.add_argument("file", nargs="?", metavar="FILE", help="the source that the page begins with; it is read only")
+    parser.add_argument("--lab", required=True, help=argparse.SUPPRESS)
+    parser.add_argument("--run", required=True, help=argparse.SUPPRESS)
+    parser.add_argument("--proved", action="store_true", help=argparse.SUPPRESS)
+    words = parser.parse_args()
+    if not 0 <= words.port <= 65535:
+        parser.error("--port: no number from 0 to 65535")
+    return words
+
+
+def interrupted(_number, _frame):
+    raise KeyboardInterrupt
+
+
+def main():
+    words = read_words()
+    try:
+        if words.file:
+            read_source(words.file)
+    except OSError as error:
+        print(f"mx: {error}", file=sys.stderr)
+        return READ_FAULT
+    try:
+        server = Workbench(words)
+    except OSError as error:
+        print(f"mx: {error}", file=sys.stderr)
+        return NOT_STARTED
+    signal.signal(signal.SIGINT, interrupted)
+    signal.signal(signal.SIGTERM, interrupted)
+    try:
+        print(f"The workbench is at {server.address()}", flush=True)
+        print("Ctrl-C ends it.", file=sys.stderr, flush=True)
+        server.serve_forever()
+    except KeyboardInterrupt:
+        server.programs.end()
+    return 0
+
+
+if __name__ == "__main__":
+    sys.exit(main())
