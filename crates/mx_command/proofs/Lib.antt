@@ -16,4 +16,4 @@ mod Labels
 mod StoppedSources
 mod StopsHeadline
 mod BestHeadline
-mod Accepting
+mod Premises

@@ -28,7 +28,7 @@ fn are_requests(alloc: Global, bytes: &[u8]) -> Result<bool, Memory>
 }
 
 // Whether each branch of a source, laid out by greedy plans, reaches its target.
-#[tactic(auto, using(crate::proofs::Accepting::reaches_is))]
+#[tactic(auto, using(crate::proofs::Premises::reaches_is))]
 fn reaches(alloc: Global, source: &Source) -> Result<bool, Memory>
     ensures { IfOk result (λ all. all ≡ true → (sites : List Site) × IsLayout IsGreedy source.now board sites
         × (overlong source.now board (blocks_in sites) ≡ None)) }
@@ -41,7 +41,6 @@ fn reaches(alloc: Global, source: &Source) -> Result<bool, Memory>
 
 /// Whether the text has no fault, none of its branches is overlong, and the interrupt file is well formed: then the headline
 /// speaks of `run` of this text under these interrupts, whatever the two files are called and whatever the limits are.
-#[tactic(auto, using(crate::proofs::Accepting::accepted_is))]
 pub fn can_be_run(alloc: Global, text: &[u8], interrupts: &[u8]) -> Result<bool, Memory>
     requires text { length text.now ≤ 4194304 }
     requires interrupts { length interrupts.now ≤ 1048576 }
@@ -51,8 +50,9 @@ pub fn can_be_run(alloc: Global, text: &[u8], interrupts: &[u8]) -> Result<bool,
         Ok(source) => source,
         Err(_) => return Ok(false),
     };
-    if !reaches(alloc, &source)? {
-        return Ok(false);
+    if reaches(alloc, &source)? {
+        let wanted = are_requests(alloc, interrupts)?;
+        return Ok(wanted);
     }
-    are_requests(alloc, interrupts)
+    Ok(false)
 }
