@@ -6,7 +6,6 @@ usage: checks/clients.py COUNT
 """
 import concurrent.futures
 import json
-import os
 import random
 import re
 import signal

@@ -288,10 +288,8 @@ def try_names(bench):
     tell("every control has a name for screen readers", count > 20 and not unnamed, unnamed)
 
 
-def try_look(url, width, height, dark, name):
+def try_look(bench, width, name):
     """The page at a size: contrast, nothing beside the screen, and a picture of it."""
-    bench = page.Page(width, height, dark)
-    bench.open(url)
     type_source(bench, SORT)
     settled(bench)
     go(bench, 250)
@@ -306,32 +304,46 @@ def try_look(url, width, height, dark, name):
         bench.call("Emulation.setDeviceMetricsOverride", width=width, height=min(whole, 3000), deviceScaleFactor=1, mobile=False)
         bench.settle()
     bench.picture(name)
-    bench.close()
+
+
+@contextlib.contextmanager
+def opened(url, width, height, dark=False):
+    """Opens the page in a Chromium of its own, which ends with what is done there."""
+    bench = page.Page(width, height, dark)
+    try:
+        bench.open(url)
+        yield bench
+    finally:
+        bench.close()
+
+
+def try_page(bench, url):
+    """What a reader does, one thing after the other."""
+    tell("FILE is the source", "counts down from 3" in bench.ask("document.getElementById('source').value"))
+    try_faults(bench)
+    try_cycles(bench)
+    try_end(bench)
+    put(bench, "interrupts", "")
+    settled(bench)
+    try_search(bench)
+    try_download(bench)
+    try_speed(bench)
+    try_names(bench)
+    try_markup(bench)
+    try_link(bench, url)
+    try_long(bench)
+    tell("the page has no fault", not bench.faults, bench.faults)
 
 
 def main():
     folder = sys.argv[1]
     with serving(f"{TOP}/examples/countdown.s") as (_, url):
-        bench = page.Page(1500, 900)
-        bench.open(url)
-        tell("FILE is the source", "counts down from 3" in bench.ask("document.getElementById('source').value"))
-        try_faults(bench)
-        try_cycles(bench)
-        try_end(bench)
-        put(bench, "interrupts", "")
-        settled(bench)
-        try_search(bench)
-        try_download(bench)
-        try_speed(bench)
-        try_names(bench)
-        try_markup(bench)
-        try_link(bench, url)
-        try_long(bench)
-        tell("the page has no fault", not bench.faults, bench.faults)
-        bench.close()
+        with opened(url, 1500, 900) as bench:
+            try_page(bench, url)
         for width, height in ((1500, 900), (800, 1000), (390, 844)):
             for scheme in ("light", "dark"):
-                try_look(url, width, height, scheme == "dark", os.path.join(folder, f"serve-{width}-{scheme}.png"))
+                with opened(url, width, height, scheme == "dark") as bench:
+                    try_look(bench, width, os.path.join(folder, f"serve-{width}-{scheme}.png"))
     return 1 if page.failures else 0
 
 
