@@ -23,7 +23,7 @@ fn choice<'a>(
         .long(name)
         .action(ArgAction::Set)
         .default_value(default)
-        .value_parser(words)
+        .value_parser(&*words)
         .help(help)
 }
 

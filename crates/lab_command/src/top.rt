@@ -163,8 +163,8 @@ fn failed(alloc: Global, status: Status, words: &str, name: &str) -> Ended {
 
 // Puts out what a command answers, or writes it to the file that is named. An error does neither.
 fn put_out<S: Shelf, W: Sink>(alloc: Global, answer: Answer, shelf: &mut S, out: &mut W) -> Ended
-    ensures unprinted { answer.is_error ≡ true → W.written out.new ≡ W.written out.old }
-    ensures unwritten { answer.is_error ≡ true → S.told shelf.new ≡ S.told shelf.old }
+    ensures unprinted { answer.entry.is_error ≡ true → W.written out.new ≡ W.written out.old }
+    ensures unwritten { answer.entry.is_error ≡ true → S.told shelf.new ≡ S.told shelf.old }
 {
     let Answer {
         status,
