@@ -314,7 +314,9 @@ def opened(url, width, height, dark=False):
         bench.open(url)
         yield bench
     finally:
-        bench.close()
+        # Chromium's other processes may still write into its folder as it is taken away.
+        with contextlib.suppress(OSError):
+            bench.close()
 
 
 def try_page(bench, url):
