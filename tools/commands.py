@@ -23,7 +23,7 @@ class Command(NamedTuple):
     more: str = ""
 
 
-PAGES = {"mx_run": "COMMANDS", "mx_lab": "LAB", "mx_cc": "C"}
+PAGES = {"mx_run": "COMMANDS", "mx_lab": "LAB", "mx_cc": "C", "serve": "SERVE"}
 
 BUDGET = Option("--budget", "N", "0 to 100,000,000 cycles (1,000,000)")
 INTERRUPTS = Option("--interrupts", "FILE", "the cycles of requests, one a line, each above the one before (none)")
@@ -85,6 +85,10 @@ COMMANDS = {
     "trace": Command("mx_lab", "SOURCE", "tells each turn of a run, for programs that replay it", (
         Option("--as", "FORM", "jsonl (jsonl)"), BUDGET, INTERRUPTS, INPUT, OUTPUT)),
     "plans": Command("mx_lab", "SOURCE FILE", "runs a source by the plans of a scheduler of one's own", (BUDGET, INTERRUPTS, INPUT, OUTPUT)),
+    "serve": Command("serve", "[FILE]", "starts a workbench in the browser", (
+        Option("--port", "N", "0 to 65,535 (a free one)"),
+        Option("--host", "H", "the address to listen at (127.0.0.1)")),
+        "It prints the address of its page; Ctrl-C ends it."),
     "cc": Command("mx_cc", "FILE.c .. -o SOURCE", "compiles with gcc, and translates to a source",
                   more="Options before the files are gcc's; without -O0, -O1, -O3 or -Os it is -O2. It needs the Debian package gcc-mips-linux-gnu."),
     "c": Command("mx_cc", "FILE.c", "compiles with gcc at -O2, and runs it", RUN,
@@ -105,7 +109,7 @@ def help_of(name):
     if command.more:
         lines += ["", command.more]
     page = PAGES[command.program]
-    end = "" if command.program == "mx_cc" else "; `--` ends the options"
+    end = "" if command.program in ("mx_cc", "serve") else "; `--` ends the options"
     return "\n".join([*lines, "", f"docs/{page}.md has the whole of it{end}."])
 
 

@@ -185,6 +185,8 @@ def texts():
     """Returns the text of each file that is made, by its path below the prefix."""
     with open(f"{TOP}/mx", encoding="utf-8") as it:
         screen = re.search(r"cat <<'END'\n(.*?)\nEND\n", it.read(), re.S).group(1)
+    # the workbench stands in the repository alone
+    screen = "".join(line for line in screen.splitlines(True) if not line.startswith("  serve "))
     screen = screen[:screen.index("C programs")].replace("./mx [--quick | --proved]", "zanderanvil").replace("./mx", "zanderanvil")
     files = {
         "bin/zanderanvil": launcher(),
