@@ -31,7 +31,7 @@ printf '        addi r0,#65,r1\n        st   255[r0],r1\n        halt\n' >ok.s
 printf '        b    nowhere\n' >bad.s
 printf 'x\n' >events
 mkdir folder
-refuses 2 "  tip: a similar subcommand exists: 'check'" chek ok.s
+refuses 2 "  tip: some similar subcommands exist: 'caches', 'check'" chek ok.s
 refuses 2 "  tip: a similar value exists: 'html'" draw ok.s --as htm
 refuses 2 "error: the following required arguments were not provided:" check
 refuses 4 "no such file: none.s" check none.s
