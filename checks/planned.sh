@@ -35,12 +35,14 @@ report() {
     echo 'md 00000000'
 }
 
-# expect NAME STATUS SOURCE PLANS: `plans` of a file with these plans ends so, and prints what `wanted` holds
+# expect NAME STATUS SOURCE PLANS: `plans` of a file with these plans ends so, and prints what `wanted` holds; where the file is
+# faulty, that goes to standard error behind the file's name, and nothing is printed
 expect() {
     printf -- "$4" >file
     "$top/mx" plans "$3" file >out 2>err
-    local status=$?
-    if [ "$status" -eq "$2" ] && cmp -s out wanted && ! [ -s err ]; then tell ok "$1"; else tell "status $status, $(head -n 1 out)" "$1"; fi
+    local status=$? told=out quiet=err
+    [ "$2" -eq 0 ] || told=err quiet=out
+    if [ "$status" -eq "$2" ] && cmp -s "$told" wanted && ! [ -s "$quiet" ]; then tell ok "$1"; else tell "status $status, $(head -n 1 "$told")" "$1"; fi
 }
 
 report 29 17 6 1 8 0 321 1=00000030 2=00000030 >countdown
@@ -76,14 +78,14 @@ expect 'a shortest plan of two loads' 0 two_loads.s '1 0 3 2\n'
 } >wanted
 expect 'a load directly before a reader' 0 two_loads.s '0 1 2 3\n'
 
-echo 'plans line 2: BadWord' >wanted
+echo 'file: plans line 2: BadWord' >wanted
 expect 'a word that is none' 8 countdown.s '0 1\n0 x / - -\n'
 expect 'the number 64' 8 countdown.s '0 1\n0 64 / - -\n'
-echo 'plans line 1: TooLong' >wanted
+echo 'file: plans line 1: TooLong' >wanted
 expect '132 words' 8 countdown.s "$(printf -- '- %.0s' {1..132})\n"
-echo 'plans line 2: TwoPlaces' >wanted
+echo 'file: plans line 2: TwoPlaces' >wanted
 expect 'two places of a branch' 8 countdown.s '0 1\n0 / 1 / - -\n'
-echo 'plans line 4: NoBlock' >wanted
+echo 'file: plans line 4: NoBlock' >wanted
 expect 'a line too many' 8 countdown.s '\n\n\n0\n'
 
 printf '0 1\n0 1 / - -\n/\n' >wanted
@@ -92,7 +94,7 @@ status=$?
 if [ "$status" -eq 0 ] && cmp -s out wanted; then tell ok 'the plans of the list scheduler'; else tell "status $status" 'the plans of the list scheduler'; fi
 "$top/mx" plans countdown.s missing >out 2>err
 status=$?
-if [ "$status" -eq 4 ] && [ "$(cat out)" = 'read fault: plans failed' ]; then tell ok 'no plan file'; else tell "status $status" 'no plan file'; fi
+if [ "$status" -eq 4 ] && [ "$(cat err)" = 'no such file: missing' ] && ! [ -s out ]; then tell ok 'no plan file'; else tell "status $status" 'no plan file'; fi
 
 # consoled FILE: what a program sent, of a report or of the text of a meaning, with a `?` for each byte 0
 consoled() { sed -n '/^console/,/^registers/p' "$1" | tr '\0' '?'; }
