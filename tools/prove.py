@@ -15,7 +15,7 @@ import tempfile
 import time
 
 # From nothing on four processors; what is done is kept.
-ABOUT = "From nothing this takes about half an hour; what is done is kept"
+ABOUT = "From nothing this takes half an hour to an hour; what is done is kept"
 TOP = os.path.dirname(os.path.dirname(os.path.abspath(__file__)))
 
 
