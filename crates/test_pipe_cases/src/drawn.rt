@@ -9,13 +9,13 @@ use std::alloc::Global;
 
 /// Numbers that look like any, the same for the same seed.
 #[derive(Drop)]
-struct Draw {
+pub struct Draw {
     state: u32,
 }
 
-/// How the words of an image are drawn, and when requests come.
+/// How the words of an image are drawn.
 #[derive(Clone, Copy)]
-enum Sort {
+pub enum Sort {
     /// Any words, under the shipped handler.
     Noise,
     /// Instructions over four registers, so that nearly each reads what one before it writes.
@@ -24,7 +24,20 @@ enum Sort {
     Handlers,
 }
 
+/// A drawn image with its handler, and the cycles in which a request comes.
+#[derive(Drop)]
+pub struct DrawnProgram {
+    pub image: Image,
+    pub handler: Vec<u32>,
+    pub requests: Vec<u32>,
+}
+
 impl Draw {
+    /// The numbers of a seed.
+    pub fn new(state: u32) -> Draw {
+        Draw { state }
+    }
+
     fn next(&mut self) -> u32 {
         let mut x = self.state;
         x ^= x << 13;
@@ -128,22 +141,37 @@ fn handler(alloc: Global, draw: &mut Draw, sort: Sort) -> Result<Vec<u32>> {
     }
 }
 
-// How the machines compare on the next image.
-fn compared(alloc: Global, draw: &mut Draw, sort: Sort, cycles: u32) -> Result<Option<u32>> {
+/// The next image.
+pub fn drawn_program(
+    alloc: Global,
+    draw: &mut Draw,
+    sort: Sort,
+    cycles: u32,
+) -> Result<DrawnProgram> {
     let code = draw.words(alloc, sort, 40)?;
     let user_data = draw.words(alloc, Sort::Noise, 8)?;
     let handler = handler(alloc, draw, sort)?;
     let requests = draw.requests(alloc, cycles)?;
-    let image = Image::new(code, user_data).context("too many words")?;
+    Ok(DrawnProgram {
+        image: Image::new(code, user_data).context("too many words")?,
+        handler,
+        requests,
+    })
+}
+
+// How the machines compare on the next image.
+fn compared(alloc: Global, draw: &mut Draw, sort: Sort, cycles: u32) -> Result<Option<u32>> {
+    let drawn = drawn_program(alloc, draw, sort, cycles)?;
     let program = Program {
-        image: &image,
-        handler: handler.as_slice(),
-        requests: requests.as_slice(),
+        image: &drawn.image,
+        handler: drawn.handler.as_slice(),
+        requests: drawn.requests.as_slice(),
     };
     differ(alloc, &program, Some(b"input".as_slice()), cycles)
 }
 
-fn sort_of(name: &str) -> Result<Sort> {
+/// The sort of this name.
+pub fn sort_of(name: &str) -> Result<Sort> {
     match name {
         "noise" => Ok(Sort::Noise),
         "hazards" => Ok(Sort::Hazards),
@@ -160,7 +188,7 @@ pub fn alike(alloc: Global, line: &str) -> Result<String> {
     let state = words.next().context("no seed")?.parse::<u32>()?;
     let count = words.next().context("no count")?.parse::<u32>()?;
     let cycles = words.next().context("no cycles")?.parse::<u32>()?;
-    let mut draw = Draw { state };
+    let mut draw = Draw::new(state);
     for number in 0..count {
         let difference = compared(alloc, &mut draw, sort, cycles)?;
         if difference.is_some() {

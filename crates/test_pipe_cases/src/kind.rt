@@ -1,5 +1,5 @@
 //! The kinds of cases.
-use crate::{apart, drawn, sides, traced};
+use crate::{apart, drawn, pieces, sides, traced};
 use anyhow::Result;
 use std::rt::Files;
 use test_case_files::Cases;
@@ -9,13 +9,20 @@ use test_case_files::Cases;
 pub enum Kind {
     Worked,
     Drawn,
+    Pieces,
     Fields,
     Traces,
 }
 
 impl Kind {
     /// Every kind.
-    pub const ALL: [Kind; 4] = [Kind::Worked, Kind::Drawn, Kind::Fields, Kind::Traces];
+    pub const ALL: [Kind; 5] = [
+        Kind::Worked,
+        Kind::Drawn,
+        Kind::Pieces,
+        Kind::Fields,
+        Kind::Traces,
+    ];
 }
 
 impl Cases for Kind {
@@ -23,6 +30,7 @@ impl Cases for Kind {
         match self {
             Kind::Worked => "worked.txt",
             Kind::Drawn => "drawn.txt",
+            Kind::Pieces => "pieces.txt",
             Kind::Fields => "fields.txt",
             Kind::Traces => "traces.txt",
         }
@@ -32,6 +40,7 @@ impl Cases for Kind {
         match self {
             Kind::Worked => sides::worked(rt.alloc(), line),
             Kind::Drawn => drawn::alike(rt.alloc(), line),
+            Kind::Pieces => pieces::alike(rt.alloc(), line),
             Kind::Fields => apart::fields(rt.alloc(), line),
             Kind::Traces => traced::traced(rt, line),
         }

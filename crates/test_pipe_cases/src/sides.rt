@@ -24,8 +24,8 @@ pub struct Program<'a> {
     pub requests: &'a [u32],
 }
 
-// Whether two machines tell the same.
-fn tell_alike<A: Machine, B: Machine>(one: &A, other: &B) -> bool {
+/// Whether two machines tell the same.
+pub fn tell_alike<A: Machine, B: Machine>(one: &A, other: &B) -> bool {
     for number in 0..32 {
         if let Some(r) = Reg::new(number) {
             if one.register(r) != other.register(r) {
