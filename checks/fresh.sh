@@ -48,6 +48,19 @@ tell 'a file that is not there yet is written where the command was typed' 0 ''
 [ -s "$clone/examples/new.mxi" ] || { echo 'WRONG: new.mxi is not there'; failed=1; }
 run "$clone" ./mx run missing.s
 tell 'a file that is not there' 4 'read fault: source failed'
+tell 'and which one' 4 'mx: no such file: missing.s'
+run "$clone" ./mx rnu examples/hello.s
+tell 'a command that there is not' 2 'mx: there is no command rnu; did you mean run?'
+run "$clone" ./mx run --budgte 5 examples/hello.s
+tell 'an option that there is not' 2 'mx: run has no option --budgte; did you mean --budget?'
+run "$clone" ./mx run --budget 200000000 examples/hello.s
+tell 'a number out of range' 2 'mx: --budget is 200000000, and may be 0 to 100,000,000'
+run "$clone" ./mx debug examples/countdown.s nxet
+tell 'a label that there is not' 1 'mx: there is no label nxet; did you mean next?'
+run "$clone" ./mx exec examples/hello.s
+tell 'a source in the place of an image' 7 'is no image file'
+run "$clone" ./mx run README.md
+tell 'a source with faults' 1 'mx: ./mx check README.md tells every faulty line'
 run "$clone" ./mx run --budget=5 examples/hello.s
 tell 'an option with =' 3 'cycles 5'
 run "$clone" ./mx run --help

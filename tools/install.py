@@ -40,6 +40,7 @@ def version():
 def launcher():
     """Returns the text of bin/zanderanvil, which starts the program of a command."""
     lab = "|".join(name for name, it in COMMANDS.items() if it.program == "mx_lab")
+    run = "|".join(name for name, it in COMMANDS.items() if it.program == "mx_run")
     helps = "|".join(f"{name},--help,2" for name, it in COMMANDS.items() if it.program == "mx_run")
     return f"""#!/bin/sh
 # Starts the program of a command: zanderanvil run SOURCE, zanderanvil draw SOURCE, and so on.
@@ -49,6 +50,10 @@ while [ -h "$self" ]; do
     case $link in /*) self=$link ;; *) self=$(dirname -- "$self")/$link ;; esac
 done
 here=$(CDPATH='' cd -- "$(dirname -- "$self")/.." && pwd -P) || exit 10
+# Says on standard error what to do about a command that ended with the status $1.
+hint() {{
+    command -v python3 >/dev/null 2>&1 && MX_NAME=zanderanvil python3 -B "$here/share/zanderanvil/hint.py" "$@"
+}}
 case ${{1-}},${{2-}},$# in
     {helps}) exec cat "$here/share/zanderanvil/help/$1" ;;
 esac
@@ -57,7 +62,14 @@ case ${{1-}} in
     lab) shift; exec "$here/libexec/zanderanvil/mx_lab" "$@" ;;
     --version) echo "zanderanvil {version()}, proved" ;;
     -h | --help) exec cat "$here/share/zanderanvil/help/all" ;;
-    *) exec "$here/libexec/zanderanvil/mx_run" "$@" ;;
+    '') cat "$here/share/zanderanvil/help/all"; exit 2 ;;
+    {run})
+        "$here/libexec/zanderanvil/mx_run" "$@"
+        status=$?
+        case $status in [1-9]) hint "$status" "$@" ;; esac
+        exit "$status"
+        ;;
+    *) hint 2 "$@"; exit 2 ;;
 esac
 """
 
@@ -213,6 +225,8 @@ def main(prefix):
             it.write(text)
     os.chmod(f"{prefix}/bin/zanderanvil", 0o755)
     os.makedirs(f"{prefix}/libexec/zanderanvil", exist_ok=True)
+    for name in ("commands.py", "hint.py"):
+        shutil.copy(f"{TOP}/tools/{name}", f"{prefix}/share/zanderanvil/{name}")
     for name in PROGRAMS:
         shutil.copy(f"{TOP}/crates/{name}/out/{name}", f"{prefix}/libexec/zanderanvil/{name}")
     print(f"zanderanvil {version()} is in {prefix}/bin")
