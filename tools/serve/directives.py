@@ -1,4 +1,5 @@
 """What a text in C may ask of its preprocessor: the headers of the library, and nothing else that names a file."""
+import bisect
 import re
 
 SPLICE = re.compile(r"\\[ \t\f\v]*\n")
@@ -34,7 +35,6 @@ class Lines:
     """The lines of a text as the preprocessor has them: lines that are spliced are one, and a comment is a blank."""
 
     def __init__(self, text):
-        self.begins = [0]
         # Where each splice stood in the text without splices, so that lines can be told by the text as it was.
         pieces = SPLICE.split(text)
         self.text = "".join(pieces)
@@ -46,7 +46,7 @@ class Lines:
 
     def number_of(self, place):
         """Returns the number of the line of the text on which a place stands."""
-        return self.text.count("\n", 0, place) + sum(it <= place for it in self.splices) + 1
+        return self.text.count("\n", 0, place) + bisect.bisect_right(self.splices, place) + 1
 
     def read(self):
         """Yields each line with its place, and what else is refused as (place, why)."""
@@ -66,15 +66,15 @@ class Lines:
 
 
 def find_refused(text, headers):
-    """Returns what is not taken of a text in C, each with its line: (line, why)."""
+    """Yields what is not taken of a text in C, each with its line: (line, why)."""
     text = text.replace("\r\n", "\n")
     found = CONTROL.search(text)
     if found:
-        return [(text.count("\n", 0, found.start()) + 1, "a control character")]
-    lines, refused = Lines(text), []
+        yield text.count("\n", 0, found.start()) + 1, "a control character"
+        return
+    lines = Lines(text)
     for place, line, why in lines.read():
         if why is None:
             why = why_refused(line, headers)
         if why is not None:
-            refused.append((lines.number_of(place), why))
-    return refused
+            yield lines.number_of(place), why

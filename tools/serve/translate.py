@@ -1,6 +1,7 @@
 """Compiles a text in C with gcc for MIPS, and translates what it writes to a source, in a folder of its own that is taken away."""
 import contextlib
 import glob
+import itertools
 import json
 import os
 import re
@@ -24,7 +25,7 @@ LEVEL = "-O2"
 # What gcc and what it loads are below.
 READ = ("/usr/bin", "/usr/lib", "/usr/libexec", "/usr/mips-linux-gnu", "/lib", "/lib64")
 SECONDS, MOST_MEMORY, MOST_WRITTEN = 10, 1_073_741_824, 4_194_304
-MOST_TEXT, MOST_FAULTS = 262_144, 30
+MOST_TEXT, MOST_FAULTS, MOST_MESSAGE = 262_144, 30, 1000
 MOST_TURNS, TURN_SECONDS, LOOK_SECONDS = 3, 20, 0.05
 TEXT, ASSEMBLY = "source.c", "source.s"
 SECTION = re.compile(r"\s*\.(text|s?data|rdata|s?bss|section|previous)\b")
@@ -35,7 +36,7 @@ WORD = re.compile(rb"[A-Za-z0-9_$]+|.")
 
 def finding(line, message, column=1, behind=1, severity="error"):
     """Returns what is wrong on a line, or with the whole where the line is 0, from a column to the one behind; both count bytes from 1."""
-    return {"severity": severity, "line": line, "column": column, "end_column": behind, "message": message}
+    return {"severity": severity, "line": line, "column": column, "end_column": behind, "message": message[:MOST_MESSAGE]}
 
 
 def finding_of_line(line, message, content):
@@ -77,16 +78,24 @@ def has_gone(connection):
     return bool(poll.poll(0))
 
 
+def objects_in(line):
+    """Returns the list of objects that a line of gcc spells, or None where it is another one, as one that was cut off."""
+    try:
+        told = json.loads(line)
+    except ValueError:
+        return None
+    return told if isinstance(told, list) else None
+
+
 def lines_from_gcc(text, content):
     """Returns the findings that gcc tells as JSON, and those lines of it that are none."""
     found, others = [], []
     for line in text.splitlines():
-        try:
-            told = json.loads(line)
-        except ValueError:
+        told = objects_in(line)
+        if told is None:
             others.append(line)
-            continue
-        found += [from_gcc(it, content) for it in told if it["kind"] != "note"]
+        else:
+            found += [from_gcc(it, content) for it in told if it["kind"] != "note"]
     return found, others
 
 
@@ -152,9 +161,9 @@ class Translator:
             raise Refused(501, self.missing)
         if len(text) > MOST_TEXT:
             raise Refused(400, f"source: a text in C has at most {MOST_TEXT} bytes", "source")
-        refused = find_refused(text.decode(), self.headers)
+        refused, content = list(itertools.islice(find_refused(text.decode(), self.headers), MOST_FAULTS)), text.splitlines()
         if refused:
-            return self.document(None, [finding_of_line(line, why, text.splitlines()) for line, why in refused[:MOST_FAULTS]])
+            return self.document(None, [finding_of_line(line, why, content) for line, why in refused])
         with self.turns.taken(client, connection), tempfile.TemporaryDirectory(prefix="mx-serve-") as folder:
             return self.document(*self.translate(text, folder, connection))
 
