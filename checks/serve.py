@@ -376,7 +376,7 @@ def try_c(bench):
     listed = bench.ask("state.range.entries.filter(it => it.line === 7).map(it => it.origin)")
     tell("the listing has the line of C beside the words", listed and set(listed) <= {"7", "+7"}, listed)
     go(bench, 0)
-    bench.ask("state.loaded.then(() => 0)")
+    bench.ask("Promise.resolve(state.loaded).then(() => 0)")
     bench.ask("document.getElementById('listing').scrollTop = 20 * state.range.entries.findIndex(it => it.words && it.words.startsWith('8: '))")
     bench.settle()
     listed = bench.ask("[...document.querySelectorAll('#listing .comment')].map(it => it.textContent)")
