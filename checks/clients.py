@@ -5,24 +5,28 @@ below 200 MB, and still answers.
 usage: checks/clients.py COUNT
 """
 import concurrent.futures
+import glob
 import json
 import random
 import re
 import signal
 import socket
 import sys
+import tempfile
 import threading
 import time
 from urllib.parse import urlsplit
 
-from page import tell
+import chromium
+from chromium import tell
 from serve import TOP, serving
-
-import page
 
 CLIENTS, MOST_MEMORY = 8, 200  # and megabytes
 SOURCE = "        addi r0,#72,r1\n        st   255[r0],r1\n        halt\n"
 ENDLESS = "loop:   b    loop\n"
+TEXT = "#include <stdio.h>\nint main(void) { puts(\"x\"); return 0; }\n"
+# What gcc takes seconds for, unless it is ended.
+SLOW_TEXT = "#define A(x) x x x x x x x x x x\nint main(void) { return 0; }\nint a[] = { A(A(A(A(A(A(A(1,))))))) };\n"
 SLOW = 24  # how many of the requests are slow ones, which take seconds
 
 
@@ -96,6 +100,23 @@ def drawn(client):
     return status if json.loads(body)["output"]["from"] == 0 else 0
 
 
+def translated(client, text):
+    """Returns 200 where a text in C is answered as it should be: by a source, or by what is wrong; also where there is no gcc."""
+    status, body = client.send(client.post({"source": text}, "/api/translate"))
+    told = json.loads(body)
+    if status == 501 and "gcc-mips-linux-gnu" in told["error"]:
+        return 200
+    return status if (told["output"]["source"] is None) == bool(told["status"]) == bool(told["output"]["findings"]) else 0
+
+
+def left_in_c(client):
+    """Goes away while its text is compiled."""
+    with client.connect() as connection:
+        connection.sendall(client.post({"source": SLOW_TEXT}, "/api/translate"))
+        time.sleep(random.random() / 5)
+    return 0
+
+
 def left(client):
     """Goes away before the run of its request ends."""
     with client.connect() as connection:
@@ -115,6 +136,13 @@ TRIES = {
     "a faulty source": (200, lambda client: client.send(client.post({"source": "x", "input": "a"}))[0]),
     "a good check": (200, lambda client: client.send(client.post({"source": "x"}, "/api/check"))[0]),
     "a client that leaves": (0, left),
+    "a client that leaves gcc": (0, left_in_c),
+    "a good text in C": (200, lambda client: translated(client, TEXT)),
+    "a faulty text in C": (200, lambda client: translated(client, TEXT.replace("0", "zero"))),
+    "a file in C that is not the library's": (200, lambda client: translated(client, '#include "/etc/passwd"\n' + TEXT)),
+    "the same by a macro": (200, lambda client: translated(client, '#define NAME "/etc/passwd"\n#include NAME\n' + TEXT)),
+    "a name that is a path": (400, lambda client: client.send(client.post({"source": SOURCE, "name": "../source"}))[0]),
+    "a name": (200, lambda client: client.send(client.post({"source": SOURCE, "name": "sum.s"}))[0]),
     "no token": (403, lambda client: client.send(client.post({"source": SOURCE}, X_Token=None))[0]),
     "another token": (403, lambda client: client.send(client.post({"source": SOURCE}, X_Token="x" * 32))[0]),
     "a token in the address alone": (403, lambda client: client.send(client.post({"source": SOURCE}, f"/api/run?token={client.token}", X_Token=None))[0]),
@@ -258,6 +286,7 @@ def main():
         try_long(client)
         time.sleep(1)
         tell("no run is left", not children_of(process), children_of(process))
+        tell("no text is left", not glob.glob(f"{tempfile.gettempdir()}/mx-serve-*/source.c"))
         memory = memory_of(process)
         tell(f"the server has at most {MOST_MEMORY} MB", memory <= MOST_MEMORY, memory)
         print(f"    it had {memory:.0f} MB")
@@ -266,7 +295,7 @@ def main():
         process.send_signal(signal.SIGINT)
         status, took = process.wait(5), time.monotonic() - began
         tell("an interrupt ends it at once", status == 0 and took < 1, (status, took))
-    return 1 if page.failures else 0
+    return 1 if chromium.failures else 0
 
 
 if __name__ == "__main__":

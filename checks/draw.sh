@@ -26,19 +26,12 @@ for form in text svg html kanata vcd; do
     tell "$form is written" $?
 done
 
-browser() {
-    chromium --headless --no-sandbox --disable-gpu --hide-scrollbars --window-size=1600,900 "$@" 2>browser.log
-}
-
-browser --screenshot="$folder/svg.png" "file://$folder/countdown.svg"
-[ -s svg.png ]
+"$top/checks/chromium.py" "file://$folder/countdown.svg" svg.png && [ -s svg.png ]
 tell 'Chromium draws the SVG: svg.png' $?
-browser --screenshot="$folder/html.png" "file://$folder/countdown.html#20"
-[ -s html.png ]
+"$top/checks/chromium.py" "file://$folder/countdown.html#20" html.png page.txt && [ -s html.png ]
 tell 'Chromium draws the page at cycle 20: html.png' $?
 
 # Cycle 20 of the page, and the stages in its listing as the script wrote them.
-browser --dump-dom "file://$folder/countdown.html#20" >page.txt
 grep -q 'id="told"[^>]*>cycle 20: ' page.txt
 tell 'the page shows cycle 20' $?
 "$top/checks/cells.py" page.txt countdown.text 20

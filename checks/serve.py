@@ -15,9 +15,9 @@ import sys
 import tempfile
 import time
 
-import page
+import chromium
 from cells import rows_of_text
-from page import tell
+from chromium import CONTRAST, NAMED, STEP_TIME, TOO_FAINT, Page, tell
 
 TOP = os.path.dirname(os.path.dirname(os.path.abspath(__file__)))
 MX = f"{TOP}/mx"
@@ -52,7 +52,22 @@ MISTAKE = (11, "kept")
 LONG = "loop:   addi r1,#1,r1\n        b    loop\n"
 # What would be markup, were a text taken for it.
 MARKUP = "; <img src=x onerror=\"document.title='run'\"> </script><b>\nhalt: halt ; &lt;i&gt;\n"
+MARKUP_C = "/* <img src=x> </script> */\nint main(void) { char *it = \"<b>x</b><script>\"; return 0; }\n"
 REQUEST = 260
+# The data words in which the handler keeps the saved fetches.
+SAVED = (3, 4, 5)
+# A sum of five numbers.
+SUM = """#include <stdio.h>
+
+static const int table[] = {1, 2, 3, 4, 5};
+
+int main(void) {
+    int sum = 0;
+    for (int at = 0, number; at < 5; at++) { number = ((volatile const int *) table)[at]; sum += number; }
+    printf("%d\\n", sum);
+    return 0;
+}
+"""
 
 
 @contextlib.contextmanager
@@ -232,7 +247,7 @@ def try_download(bench):
       document.getElementById('form').value = 'svg'; document.getElementById('download').click(); })()""")
     wait_for(bench, "window.taken !== undefined")
     taken = bench.ask("window.taken.text()")
-    tell("the SVG is that of draw", taken == printed(SORT, "draw", "--as", "svg").decode().replace("source.s", "stdin"), taken[:80])
+    tell("the SVG is that of draw", taken == printed(SORT, "draw", "--as", "svg").decode().replace("source.s", "countdown.s"), taken[:80])
 
 
 def try_speed(bench):
@@ -243,7 +258,7 @@ def try_speed(bench):
         settled(bench)
     tell(f"from a key to the moved diagram at most {MOVED} ms, at the best of six", min(took) <= MOVED, took)
     go(bench, 0)
-    took = bench.ask(page.STEP_TIME)
+    took = bench.ask(STEP_TIME)
     tell(f"a step takes at most {STEPS} ms", took <= STEPS, took)
     print(f"    a step takes {took:.1f} ms")
 
@@ -264,11 +279,124 @@ def try_long(bench):
 
 
 def try_markup(bench):
-    type_source(bench, MARKUP)
+    for language, text in (("assembly", MARKUP), ("c", MARKUP_C), ("c", MARKUP_C.replace("return 0", "return '<img>'[<b>x</b>]")), ("assembly", MARKUP)):
+        choose(bench, "language", language)
+        type_source(bench, text)
+        wait_for(bench, "state.isSettled || document.querySelector('.wrong') !== null", 60)
+        bench.settle()
+        made = bench.ask("[document.querySelectorAll('img, b, i:not(.cost i)').length, document.title]")
+        tell(f"what a text holds is no markup, in {language}", made == [0, "Zanderanvil: the workbench"], made)
+
+
+def choose(bench, field, value):
+    """Chooses an entry of a menu."""
+    bench.ask(f"(it => {{ it.value = '{value}'; it.dispatchEvent(new Event('change')); }})(document.getElementById('{field}'))")
+
+
+def shown_of_cache(bench):
+    """Returns the lines of the cache as it is shown: for each set the lines with their valid words, the oldest first."""
+    shown = bench.ask("[...document.querySelectorAll('#sets .set')].map(set => [...set.querySelectorAll('.held')].map(it => it.textContent))")
+    return [[(int(it.split()[0], 16), {at for at, sign in enumerate(it.split()[1]) if sign != "\u00b7"}) for it in lines if it != "no line"] for lines in shown]
+
+
+def cache_of(traced, cycle):
+    """Returns what the cache holds behind a cycle, by a second reading of docs/MACHINE.md on the fetches of `trace`, and the misses."""
+    sets, misses = [[], [], [], []], 0
+    for turn in traced:
+        if turn["cycle"] > cycle:
+            break
+        line, at = divmod(turn["fetch"], 16)
+        lines = sets[line % 4]
+        held = next((it for it in lines if it[0] == line * 16), None)
+        if held is None:
+            lines.append(held := (line * 16, set()))
+            del lines[:-8]
+        if at not in held[1]:
+            held[1].update((at, at ^ 1))
+            misses += 1
+    return sets, misses
+
+
+def chain_of(turns, cycle):
+    """Returns the three words that the handler stores first behind a cycle: the fetches that the interrupt in it has saved."""
+    stores = {it["store"]["to"]: it["store"]["value"] for it in reversed(turns) if it["cycle"] > cycle and "store" in it}
+    return [stores[place] for place in SAVED]
+
+
+def try_kept(bench):
+    """The sets of the cache and the saved fetches in some cycles, against `trace`; and far from the first cycle."""
+    type_source(bench, SORT)
+    put(bench, "interrupts", REQUEST)
     settled(bench)
+    traced = [json.loads(line) for line in printed(SORT, "trace", "--interrupts", "REQUESTS").splitlines()]
+    turns = [it for it in traced if "fetch" in it]
+    for cycle in (0, 3, 40, REQUEST, REQUEST + 30, 1500):
+        go(bench, cycle)
+        wanted, misses = cache_of(turns, cycle)
+        shown = shown_of_cache(bench)
+        tell(f"the cache of cycle {cycle} is that of its fetches", shown == wanted, (shown, wanted))
+        counted = bench.ask("[state.replay.at(state.cycle).misses, state.replay.at(state.cycle).differs]")
+        tell(f"it has missed as often as the machine, up to cycle {cycle}", counted == [misses, 0], (counted, misses))
+    go(bench, REQUEST + 10)
+    saved = bench.ask("[...document.querySelectorAll('#saved tr')].map(row => row.children[1].textContent)")
+    wanted = chain_of(turns, REQUEST)
+    tell("the saved fetches are those that the handler stores", [int(it, 16) for it in saved[:3]] == wanted, (saved, wanted))
+    tell("the mode is the system's then", saved[3] == "system", saved)
+    put(bench, "interrupts", "")
+    settled(bench)
+
+
+def try_c(bench):
+    """A text in C: a mistake at its token, the run, lines of C in the listing and at the margin, against `c` and `cc`."""
+    choose(bench, "language", "c")
+    type_source(bench, SUM.replace("sum += number", "sum += numbers"))
+    tell("gcc's error is found", wait_for(bench, "document.querySelector('.wrong') !== null", 60))
+    marked = bench.ask("document.querySelector('.wrong').textContent")
+    tell("it is marked at its token", marked == "numbers", marked)
+    type_source(bench, SUM.replace("return 0;", 'asm("mfc0 $2,$12"); return 0;'))
+    wait_for(bench, "/mfc0/.test(document.getElementById('findings').textContent)", 60)
+    listed = bench.ask("[...document.querySelectorAll('#findings button')].map(it => it.textContent)")
+    tell("a refusal of the translator names its line of C", len(listed) == 1 and listed[0].startswith("line 9,"), listed)
+    type_source(bench, '#include "/etc/passwd"\n' + SUM)
+    wait_for(bench, "/headers of the library/.test(document.getElementById('findings').textContent)", 60)
+    listed = bench.ask("[...document.querySelectorAll('#findings button')].map(it => it.textContent)")
+    tell("a file elsewhere is not included", len(listed) == 1 and listed[0].startswith("line 1,"), listed)
+    type_source(bench, SUM)
+    wait_for(bench, "!document.getElementById('findings').textContent")
+    tell("mended, it runs", wait_for(bench, "state.isSettled", 60))
+    bench.ask("document.getElementById('run').click()")
+    time.sleep(0.5)
+    settled(bench)
+    sent = bench.ask("document.getElementById('console').textContent")
+    tell("its console has the sum", sent == "15\n", sent)
+    bench.ask("document.getElementById('costs').checked || document.getElementById('costs').click()")
+    wait_for(bench, "state.costs.size > 0")
+    costs = dict(bench.ask("[...state.costs]"))
+    tell("the margin has cycles of the loop's lines, and of no line that is none", set(costs) <= set(range(1, 12)) and costs.get(7, 0) > 5, costs)
+    listed = bench.ask("state.range.entries.filter(it => it.line === 7).map(it => it.origin)")
+    tell("the listing has the line of C beside the words", listed and set(listed) <= {"7", "+7"}, listed)
+    go(bench, 0)
+    bench.ask("Promise.resolve(state.loaded).then(() => 0)")
+    bench.ask("document.getElementById('listing').scrollTop = 20 * state.range.entries.findIndex(it => it.words && it.words.startsWith('8: '))")
     bench.settle()
-    made = bench.ask("[document.querySelectorAll('img, b').length, document.title]")
-    tell("what a text holds is no markup", made == [0, "Zanderanvil: the workbench"], made)
+    listed = bench.ask("[...document.querySelectorAll('#listing .comment')].map(it => it.textContent)")
+    tell("the line stands above its words", '8: printf("%d\\n", sum);' in listed, listed)
+    bench.ask("document.getElementById('costs').click(); document.getElementById('adopt').click()")
+    settled(bench)
+    begins = bench.ask("[document.getElementById('language').value, document.getElementById('source').value.slice(0, 40)]")
+    tell("its translation can be taken as the text", begins[0] == "assembly" and begins[1].startswith("; translated from assembly"), begins)
+
+
+def try_examples(bench):
+    """Each example runs, those in C as well, with the input that it has."""
+    names = bench.ask("[...document.querySelectorAll('#examples option')].map(it => it.value).filter(it => it)")
+    tell("the menu has examples in both languages", "countdown.s" in names and "queens.c" in names, names)
+    for name in ("echo.s", "queens.c", "calc.c"):
+        choose(bench, "examples", name)
+        ran = wait_for(bench, "state.isSettled", 120)
+        end = bench.ask("document.getElementById('end').textContent")
+        tell(f"{name} runs to its end", ran and end.startswith("the run halts in cycle "), end)
+        tell(f"{name} is what its answers are named by", bench.ask("state.name") == name)
 
 
 def try_link(bench, url):
@@ -283,8 +411,8 @@ def try_link(bench, url):
 
 def try_names(bench):
     nodes = [node for node in bench.call("Accessibility.getFullAXTree")["nodes"] if not node.get("ignored")]
-    unnamed = [node["role"]["value"] for node in nodes if node.get("role", {}).get("value") in page.NAMED and not node.get("name", {}).get("value")]
-    count = sum(node.get("role", {}).get("value") in page.NAMED for node in nodes)
+    unnamed = [node["role"]["value"] for node in nodes if node.get("role", {}).get("value") in NAMED and not node.get("name", {}).get("value")]
+    count = sum(node.get("role", {}).get("value") in NAMED for node in nodes)
     tell("every control has a name for screen readers", count > 20 and not unnamed, unnamed)
 
 
@@ -295,8 +423,8 @@ def try_look(bench, width, name):
     go(bench, 250)
     bench.ask("document.getElementById('costs').click(); document.getElementById('compare').click()")
     time.sleep(1.5)
-    faint = bench.ask(page.TOO_FAINT)
-    tell(f"contrast is at least {page.CONTRAST} in {os.path.basename(name)}", not faint, faint[:4])
+    faint = bench.ask(TOO_FAINT)
+    tell(f"contrast is at least {CONTRAST} in {os.path.basename(name)}", not faint, faint[:4])
     wide = bench.ask("document.documentElement.scrollWidth - innerWidth")
     tell("nothing stands beside the screen", wide <= 0, wide)
     if width < 1100:
@@ -309,14 +437,12 @@ def try_look(bench, width, name):
 @contextlib.contextmanager
 def opened(url, width, height, dark=False):
     """Opens the page in a Chromium of its own, which ends with what is done there."""
-    bench = page.Page(width, height, dark)
+    bench = Page(width, height, dark)
     try:
         bench.open(url)
         yield bench
     finally:
-        # Chromium's other processes may still write into its folder as it is taken away.
-        with contextlib.suppress(OSError):
-            bench.close()
+        bench.close()
 
 
 def try_page(bench, url):
@@ -330,10 +456,18 @@ def try_page(bench, url):
     try_search(bench)
     try_download(bench)
     try_speed(bench)
+    try_kept(bench)
     try_names(bench)
-    try_markup(bench)
     try_link(bench, url)
     try_long(bench)
+    put(bench, "budget", 1_000_000)
+    if bench.ask("given.missing === null"):
+        try_c(bench)
+        try_examples(bench)
+        try_markup(bench)
+        try_link(bench, url)
+    else:
+        print("    C is not tried: " + bench.ask("given.missing"))
     tell("the page has no fault", not bench.faults, bench.faults)
 
 
@@ -346,7 +480,7 @@ def main():
             for scheme in ("light", "dark"):
                 with opened(url, width, height, scheme == "dark") as bench:
                     try_look(bench, width, os.path.join(folder, f"serve-{width}-{scheme}.png"))
-    return 1 if page.failures else 0
+    return 1 if chromium.failures else 0
 
 
 if __name__ == "__main__":

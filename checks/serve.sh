@@ -1,7 +1,7 @@
 #!/bin/sh
 # The workbench, by a browser and by clients that do not behave. By hand, and no part of the gate: it needs the built programs as
-# ./mx leaves them, Python 3.10 or later, and Debian's package chromium. The pictures that Chromium makes are left in the folder that
-# is named first, or in a new one, to be looked at; COUNT is how many requests the clients make.
+# ./mx leaves them, Python 3.10 or later, and Debian's package chromium; C is tried where gcc-mips-linux-gnu is there. The pictures that
+# Chromium makes are left in the folder that is named first, or in a new one, to be looked at; COUNT is how many requests the clients make.
 #
 # usage: checks/serve.sh [FOLDER [COUNT]]
 top=$(CDPATH='' cd -- "$(dirname -- "$0")/.." && pwd -P) || exit 1

@@ -1,5 +1,6 @@
 """What a request of the workbench may hold: the fields of each command's body, and their ranges."""
 import json
+import re
 from typing import NamedTuple
 
 MOST_BODY = 4_194_304
@@ -16,16 +17,18 @@ NUMBERS = {
     "count": (1, 65_536),
 }
 CHOICES = {"as": ("json", "text", "svg", "html", "kanata", "vcd")}
-RUN = ("source", "interrupts", "input", "budget")
+RUN = ("source", "name", "interrupts", "input", "budget")
 FIELDS = {
-    "check": ("source",),
+    "check": ("source", "name"),
     "run": (*RUN, "trace", "dump", "count"),
     "explain": RUN,
     "draw": (*RUN, "from", "cycles", "as"),
     "profile": RUN,
     "compare": RUN,
-    "disassemble": ("source",),
+    "disassemble": ("source", "name"),
+    "translate": ("source",),
 }
+NAME = "[A-Za-z0-9_][A-Za-z0-9_.-]{0,63}"
 # An object with some strings, and in it the lists of cycles and of bytes: whatever else is nested would only take memory.
 MOST_OBJECTS, MOST_LISTS, MOST_QUOTES = 1, 2, 64
 
@@ -41,6 +44,7 @@ class Refused(Exception):
 class Asked(NamedTuple):
     """What a request asks of a command: the bytes of its files, and its options in order."""
     source: bytes
+    name: str
     interrupts: bytes | None
     input: bytes | None
     options: list
@@ -105,6 +109,13 @@ def read_text(field, value):
         raise wrong(field, "half of a surrogate pair") from None
 
 
+def read_name(value):
+    """Returns what the answer calls the source."""
+    if not isinstance(value, str) or not re.fullmatch(NAME, value):
+        raise wrong("name", f"no name of the form {NAME}")
+    return value
+
+
 def read_requests(value):
     """Returns the interrupt file that asks for requests in these cycles."""
     if not isinstance(value, list) or len(value) > MOST_REQUESTS:
@@ -145,6 +156,7 @@ def read_fields(command, body):
             options.append((field, read_choice(field, given[field])))
     return Asked(
         source=read_text("source", given["source"]),
+        name=read_name(given.get("name", "source")),
         interrupts=read_requests(given["interrupts"]) if "interrupts" in given else None,
         input=read_input(given["input"]) if "input" in given else None,
         options=options,

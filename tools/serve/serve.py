@@ -4,7 +4,8 @@
 usage: ./mx serve [--port N] [--host H] [FILE]
 
 It prints the address of its page, with a token that every request must have, and goes on until it is interrupted. Of the disk it
-reads FILE, and at its start its own page and the examples; it writes nothing.
+reads FILE, and at its start its own page and the examples. What it writes are links to a command's standard input, by the names that
+sources have, and texts in C for gcc: both in folders for temporary files, which it takes away.
 """
 import argparse
 import base64
@@ -29,6 +30,7 @@ from urllib.parse import parse_qs, urlsplit
 
 import fields
 import programs
+import translate
 from fields import Refused
 
 FOLDER = os.path.dirname(os.path.abspath(__file__))
@@ -112,9 +114,10 @@ class Workbench(socketserver.ThreadingTCPServer):
         self.file, self.is_proved = words.file, words.proved
         self.token = secrets.token_urlsafe(24)
         self.programs = programs.Programs(words.lab, words.run)
+        self.translator = translate.Translator(words.cc, self.programs, is_loopback(words.host))
         self.page = read_text(f"{FOLDER}/page.html")
         self.policy = policy(self.page)
-        self.examples = {os.path.basename(it): read_text(it) for it in sorted(glob.glob(f"{TOP}/examples/*.s"))}
+        self.examples = [*examples_in("examples", ".s"), *examples_in("examples/c", ".c")]
         # The connections that are served, and those that are told that there are too many.
         self.served, self.told = set(), set()
         self.lock = threading.Lock()
@@ -138,7 +141,7 @@ class Workbench(socketserver.ThreadingTCPServer):
 
     def page_now(self):
         """Returns the page with what it begins with."""
-        given = {"examples": self.examples, "proved": self.is_proved, "file": None, "source": None}
+        given = {"examples": self.examples, "proved": self.is_proved, "file": None, "source": None, "missing": self.translator.missing}
         if self.file:
             given["file"] = os.path.basename(self.file)
             try:
@@ -171,6 +174,20 @@ class Workbench(socketserver.ThreadingTCPServer):
         """A client that has gone, or does not read, is no fault of the server's."""
         if not isinstance(sys.exc_info()[1], OSError):
             super().handle_error(request, client_address)
+
+
+def examples_in(folder, suffix):
+    """Returns the sources of a folder of the repository, each with its name, its text and its input, if there is one."""
+    found = []
+    for name in sorted(glob.glob(f"{TOP}/{folder}/*{suffix}")):
+        given = name.removesuffix(suffix) + ".in"
+        found.append({"name": os.path.basename(name), "source": read_text(name), "input": read_text(given) if os.path.exists(given) else ""})
+    return found
+
+
+def is_loopback(host):
+    """Tells whether an address is this machine's own."""
+    return host == "localhost" or is_address(host) and ipaddress.ip_address(host).is_loopback
 
 
 def is_address(name):
@@ -231,6 +248,8 @@ class Handler(http.server.BaseHTTPRequestHandler):
         if path == "/":
             return self.answer_page()
         command = path.removeprefix("/api/")
+        if command == "translate":
+            return self.answer_translation()
         opened = self.open(command)
         try:
             printed = self.server.programs.answer(opened, self.connection)
@@ -241,6 +260,14 @@ class Handler(http.server.BaseHTTPRequestHandler):
         finally:
             printed.close()
         return None
+
+    def answer_translation(self):
+        """Answers what a text in C is translated to."""
+        body = self.read_body()
+        with self.server.reading:
+            text = fields.read_fields("translate", body).source
+        answer = self.server.translator.answer(text, self.client_address[0], self.connection)
+        self.send_pieces(200, "application/json", [answer])
 
     def open(self, command):
         """Reads a body, and puts what it asks of a command into files in memory, which are all that is kept of it."""
@@ -344,6 +371,7 @@ def read_words():
     parser.add_argument("file", nargs="?", metavar="FILE", help="the source that the page begins with; it is read only")
     parser.add_argument("--lab", required=True, help=argparse.SUPPRESS)
     parser.add_argument("--run", required=True, help=argparse.SUPPRESS)
+    parser.add_argument("--cc", default="", help=argparse.SUPPRESS)
     parser.add_argument("--proved", action="store_true", help=argparse.SUPPRESS)
     words = parser.parse_args()
     if not 0 <= words.port <= 65535:
