@@ -87,10 +87,10 @@ fn span_given(
 {
     let from = number_given(matches, "from");
     let to = matches.get_one::<u32>("to").unwrap_or(last);
-    let refused = if from > to {
-        format!(in alloc; "--from {from} is more than --to {to}")
-    } else if from > last {
+    let refused = if from > last {
         format!(in alloc; "--from {from} is behind the last cycle of the undisturbed run, {last}")
+    } else if from > to {
+        format!(in alloc; "--from {from} is more than --to {to}")
     } else {
         return Ok(Ok(Span {
             from,
@@ -111,8 +111,8 @@ fn excess_reply(alloc: Global, span: Span, is_pairs: bool) -> Result<Option<Repl
     if runs <= MOST_RUNS {
         return Ok(None);
     }
-    let cycles = u64::from(span.to.saturating_sub(span.from)).saturating_add(1);
-    let step = cycles.div_ceil(most);
+    let behind = u64::from(span.to.saturating_sub(span.from));
+    let step = behind.checked_div(most).unwrap_or(0).saturating_add(1);
     let text = format!(in alloc;
         "{runs} runs are more than {MOST_RUNS}: --step {step} makes fewer"
     );

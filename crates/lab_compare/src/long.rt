@@ -14,10 +14,19 @@ const PLAIN: [&str; 2] = ["misses", "squashes"];
 /// What the sums are told under.
 const ALL: &str = "all";
 
+// How many characters a name has.
+fn width_of(name: &str) -> usize {
+    let mut width = 0usize;
+    for _sign in name.chars() {
+        width = width.saturating_add(1);
+    }
+    width
+}
+
 // Appends a name, with blanks behind it up to a width.
 fn push_name(table: &mut String, name: &str, width: usize) -> Result<(), AllocError> {
     table.push_str(name)?;
-    for _ in name.chars().count()..width {
+    for _blank in width_of(name)..width {
         table.push_str(" ")?;
     }
     Ok(())
@@ -118,9 +127,9 @@ fn push_sums(
 
 /// Several comparisons as a table, a row for each source and scheduler, and their sums.
 pub fn long_table(alloc: Global, compared: &[Compared]) -> Result<Vec<u8>, AllocError> {
-    let mut width = "source".len();
+    let mut width = width_of("source");
     for one in compared {
-        width = width.max(one.source.chars().count());
+        width = width.max(width_of(one.source));
     }
     let mut table = String::new(alloc);
     push_head(alloc, &mut table, width)?;

@@ -9,7 +9,7 @@ apart_in span = span.to + 1 - span.from
 -- those of a span among the first n cycles from its first on
 abbrev pub cycles_among : Span → ℕ → List ℕ
 cycles_among span zero = []
-cycles_among span (suc n) = cycles_among span n ++ cond (n % span.step == 0) (span.from + n ∷ []) []
+cycles_among span (suc n) = cycles_among span n ++ cond (n % span.step == 0) ((span.from + n) ∷ []) []
 
 -- the cycles of a span, in order
 abbrev pub cycles_in : Span → List ℕ

@@ -29,9 +29,9 @@ pub struct Run {
 
 // What a run gave, with how its last request became an interrupt.
 fn run_in(driven: Driven, entry: Option<Entry>) -> Run
-    ensures cycles { result.cycles ≡ driven.entry.counts.cycles }
-    ensures halted { result.halted ≡ driven.entry.halted }
-    ensures console { result.console.items ≡ driven.entry.console.items }
+    ensures cycles { result.cycles ≡ driven.counts.cycles }
+    ensures halted { result.halted ≡ driven.halted }
+    ensures console { result.console.items ≡ driven.console.items }
 {
     Run {
         cycles: driven.counts.cycles,

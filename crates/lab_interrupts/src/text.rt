@@ -118,7 +118,8 @@ fn width_of(spread: &Spread) -> i64 {
         return 1;
     }
     let apart = spread.greatest.saturating_sub(spread.least);
-    (apart / i64::from(MOST_LINES)).saturating_add(1)
+    let part = apart.checked_div(i64::from(MOST_LINES)).unwrap_or(0);
+    part.saturating_add(1)
 }
 
 // Appends a line of a histogram: numbers from one on, and how many runs have them.
@@ -137,8 +138,8 @@ fn push_bin(
         format!(in alloc; "{first:>7} {runs:>9}  ")?
     };
     push(text, front.as_str())?;
-    let bar = runs.saturating_mul(LONGEST_BAR).div_ceil(most.max(1));
-    for _ in 0..bar {
+    let rest = runs.saturating_mul(LONGEST_BAR).saturating_sub(1);
+    for _sign in 0..=rest.checked_div(most).unwrap_or(0) {
         text.push(b'#')?;
     }
     text.push(b'\n')?;
