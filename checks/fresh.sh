@@ -36,6 +36,10 @@ tell 'it says that it is not proved' 0 './mx prove proves it'
 echo "   the first report after $(($(date +%s) - began)) s"
 run "$clone" ./mx draw examples/countdown.s
 tell 'draw in a fresh clone' 0 'addi r0,#51,r1'
+run "$clone" ./mx interrupts examples/greeting.s
+tell 'an interrupt in each cycle' 0 'longest wait        9 cycles, of the request in cycle 0, at line 2: la   msg,r1'
+run "$clone" ./mx compare examples/hello.s examples/countdown.s examples/greeting.s
+tell 'several sources' 0 'all                   best          21  91.3%'
 began=$(date +%s%N)
 run "$clone" ./mx --quick run examples/hello.s
 tell 'the second call' 0 'cycles 12'

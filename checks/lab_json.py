@@ -5,11 +5,14 @@ usage: checks/lab_json.py [SOURCE..]
 
 It needs mx_lab as ./mx leaves it, or the program that MX_LAB names, and Debian's python3-jsonschema. Without sources it takes those
 of examples/. Of each: every text fits the schema; a profile's columns are the sums of its words', and those of each row make its
-cycles; of `caches` the machine's own has the run's figures; what `disassemble` prints assembles to its words by the table of
+cycles; of `caches` the machine's own has the run's figures; of `interrupts` some rows are those of single runs and their traces, and
+the sums those of the rows; of all sources together, `compare` has the rows of each by itself, and their sums; what `disassemble` prints assembles to its words by the table of
 docs/MACHINE.md; a trace is replayed by checks/replay.py, also with interrupts; callgrind_annotate, where it is installed, reads the
 profile.
 """
+import collections
 import glob
+import itertools
 import json
 import os
 import re
@@ -138,6 +141,98 @@ def check_caches(caches):
     need(not caches["halted"] or own[0]["cycles"] == caches["cycles"], "its cycles are the run's")
 
 
+def traced(source, path):
+    """The turns of a run, and its last line."""
+    lines = [json.loads(line) for line in printed("trace", source, "--interrupts", path).splitlines()]
+    return lines[1:-1], lines[-1]
+
+
+def interrupt_of(turns, last):
+    """When the interrupt of a request in cycle `last` is taken, and when the handler is fetched; and what ALU holds."""
+    for at, turn in enumerate(turns):
+        if turn["cycle"] >= last and turn["interrupt"]:
+            if at + 1 == len(turns):
+                return None
+            return turn["cycle"], turns[at + 1]["cycle"], turns[at - 2]["fetch"]
+    return None
+
+
+def check_row(source, row, undisturbed, folder):
+    path = f"{folder}/requests"
+    with open(path, "w", encoding="ascii") as file:
+        file.writelines(f"{cycle}\n" for cycle in row["requests"])
+    turns, end = traced(source, path)
+    where = f"of {source} under {row['requests']}"
+    need((row["cycles"], row["halted"]) == (end["cycles"], end["halted"]), f"the cycles {where}")
+    wanted = row["cycles"] - undisturbed["cycles"] if row["halted"] and undisturbed["halted"] else None
+    need(row["cost"] == wanted, f"the cost {where}")
+    entry, told = interrupt_of(turns, row["requests"][-1]), row["interrupt"]
+    need((entry is None) == (told is None), f"whether there is an interrupt {where}")
+    if told:
+        need(entry == (told["taken"], told["handler"], told["address"]), f"how it is interrupted {where}: {entry}")
+        need(told["wait"] == told["handler"] - row["requests"][-1], f"the wait {where}")
+    return [turn["byte"] for turn in turns if turn.get("byte") is not None]
+
+
+def check_spread(spread, bins, numbers, what):
+    numbers.sort()
+    need([(it["cycles"], it["runs"]) for it in bins] == sorted(collections.Counter(numbers).items()), f"the histogram of {what}")
+    wanted = {"least": numbers[0], "median": numbers[(len(numbers) - 1) // 2], "greatest": numbers[-1]} if numbers else None
+    need(spread == wanted, f"the spread of {what}")
+
+
+def check_interrupts(source, told, listing, folder):
+    rows, sums, undisturbed = told["rows"], told["sums"], told["undisturbed"]
+    cycles = list(range(told["from"], told["to"] + 1, told["step"]))
+    wanted = [list(it) for it in itertools.combinations(cycles, 2)] if told["pairs"] else [[it] for it in cycles]
+    need([it["requests"] for it in rows] == wanted, f"the requests of {source}")
+    turns, _ = traced(source, "/dev/null")
+    console = [turn["byte"] for turn in turns if turn.get("byte") is not None]
+    lines, line = {}, 0
+    for word in listing["words"]:
+        line = word["place"]["line"] if word["place"]["kind"] == "own" else line
+        lines[word["address"]] = word["place"]["line"] or line
+    for row in [*rows[:40], *rows[40:: 1 + len(rows) // 40]]:
+        need((check_row(source, row, undisturbed, folder) == console) == row["same_console"], f"the console of {source}")
+        if row["interrupt"]:
+            need(row["interrupt"]["line"] == lines.get(row["interrupt"]["address"], 0), f"the line of {source} under {row['requests']}")
+    entered = [it for it in rows if it["interrupt"]]
+    other = [it for it in rows if it["halted"] and not it["same_console"]]
+    counts = len(rows), sum(it["halted"] for it in rows), len(other), len(entered)
+    need(counts == tuple(sums[it] for it in ("runs", "halted", "other_console", "interrupted")), f"the sums of {source}")
+    need(not other, f"the console of {source}")
+    check_spread(sums["cost"], told["costs"], [it["cost"] for it in rows if it["cost"] is not None], "costs")
+    check_spread(sums["wait"], told["waits"], [it["interrupt"]["wait"] for it in entered], "waits")
+    longest = max(entered, key=lambda it: it["interrupt"]["wait"], default=None)
+    need(sums["longest_wait"] == longest, f"the longest wait of {source}")
+
+
+def added(first, second):
+    """The sums of the fields of two records."""
+    return {key: added(value, second[key]) if isinstance(value, dict) else value if isinstance(value, str) else
+            value and second[key] if isinstance(value, bool) else value + second[key] for key, value in first.items()}
+
+
+def check_several(sources, schema):
+    """Compares sources together, and each by itself."""
+    told = json.loads(printed("compare", *sources, "--as", "json"))
+    jsonschema.validate(told, schema)
+    alone = [json.loads(printed("compare", it, "--as", "json")) for it in sources]
+    need(told["sources"] == [{"source": it["source"], "schedulers": it["schedulers"]} for it in alone], "the records of each source")
+    sums, halted = None, 0
+    for it in alone:
+        runs = all(plans["halted"] for plans in it["schedulers"])
+        halted += runs
+        if not runs:
+            for plans in it["schedulers"]:
+                plans.update(cycles=0, misses=0, squashes=0)
+        sums = [added(*pair) for pair in zip(sums, it["schedulers"])] if sums else it["schedulers"]
+    need(told["sums"] == {"sources": len(sources), "halted": halted, "schedulers": sums}, "the sums of the sources")
+    rows = printed("compare", *sources, "--as", "csv").splitlines()
+    need(rows[1:] == [row for it in sources for row in printed("compare", it, "--as", "csv").splitlines()[1:]], "the rows of all sources")
+    print(f"{len(sources)} sources together")
+
+
 def check_trace(source, words, schema):
     lines = printed("trace", source, *words).splitlines()
     for line in [lines[0], *lines[1:200], lines[-1]]:
@@ -166,6 +261,10 @@ def check(source, schema, folder):
             check_profile(found[command])
     check_words(found["disassemble"], data_labels(source))
     check_caches(found["caches"])
+    for words in (["--step", str(1 + found["caches"]["cycles"] // 2000)], ["--pairs", "--step", str(1 + found["caches"]["cycles"] // 20)]):
+        told = json.loads(printed("interrupts", source, *words, "--as", "json"))
+        jsonschema.validate(told, schema)
+        check_interrupts(source, told, found["disassemble"], folder)
     turns, _ = check_trace(source, [], schema)
     requests = f"{folder}/requests"
     with open(requests, "w", encoding="ascii") as file:
@@ -189,6 +288,8 @@ def main():
     with tempfile.TemporaryDirectory() as folder:
         for source in sources:
             check(source, schema, folder)
+    if len(sources) > 1:
+        check_several(sources, schema)
 
 
 if __name__ == "__main__":

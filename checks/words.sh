@@ -40,6 +40,11 @@ refuses 4 "a folder, and no file: folder" explain folder
 refuses 1 "bad.s: line 1: F8 UndefinedLabel" draw bad.s
 refuses 8 "events: interrupts line 1: BadLine" profile ok.s --interrupts events
 refuses 5 "cannot be written: folder" draw ok.s -o folder
+refuses 1 "bad.s: line 1: F8 UndefinedLabel" compare ok.s bad.s
+refuses 4 "no such file: none.s" compare ok.s none.s
+refuses 2 "--from 9 is more than --to 8" interrupts ok.s --from 9 --to 8
+refuses 2 "--from 500 is behind the last cycle of the undisturbed run, 11" interrupts ok.s --from 500
+refuses 4 "no such file: none.s" interrupts none.s
 if [ "$(id -u)" -ne 0 ]; then
     chmod 0 bad.s
     refuses 4 "permission denied: bad.s" check bad.s

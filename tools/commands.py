@@ -66,14 +66,15 @@ COMMANDS = {
         BUDGET, INTERRUPTS, INPUT, OUTPUT)),
     "check": Command("mx_lab", "SOURCE", "tells every faulty line of a source, and what is wrong with it", (
         Option("--all", "", "shows more than the first twenty"),
-        Option("--as", "FORM", "text or json (text)"), OUTPUT)),
+        Option("--as", "FORM", "text or json (text)"),
+        Option("--colour", "WHEN", "always or never: the text in the colours of a terminal (never; ./mx says always on a terminal)"), OUTPUT)),
     "explain": Command("mx_lab", "SOURCE", "tells how a run stands beside what the source means", (
         Option("--as", "FORM", "text or json (text)"), BUDGET, INTERRUPTS, INPUT, OUTPUT)),
     "profile": Command("mx_lab", "SOURCE", "tells what each part of a source costs in a run", (
         Option("--by", "PART", "line, label, function, or c for lines of C (line)"),
         Option("--sort", "COLUMN", "line, count, cycles, cpi, stalls, noops, squashed or killed (line)"),
         Option("--as", "FORM", "text, json or callgrind (text)"), BUDGET, INTERRUPTS, INPUT, OUTPUT)),
-    "compare": Command("mx_lab", "SOURCE", "compares what four schedulers make of a source", (
+    "compare": Command("mx_lab", "SOURCE ..", "compares what four schedulers make of sources", (
         Option("--as", "FORM", "text, json or csv (text)"), BUDGET, INTERRUPTS, INPUT, OUTPUT)),
     "disassemble": Command("mx_lab", "FILE", "lists the words of a source or an image in assembly language", (
         Option("--as", "FORM", "text or json (text)"), OUTPUT)),
@@ -82,6 +83,13 @@ COMMANDS = {
         Option("--brings", "N", "1 to 64 words, at most those of a line, that a miss makes valid (2)"),
         Option("--penalty", "N", "0 to 1,000 cycles of a miss (2)"),
         Option("--as", "FORM", "text, json or svg (text)"), BUDGET, INPUT, OUTPUT)),
+    "interrupts": Command("mx_lab", "SOURCE", "tells what an interrupt costs, in each cycle of a run in turn", (
+        Option("--from", "N", "0 to 100,000,000: the first cycle in which a request comes (0)"),
+        Option("--to", "N", "0 to 100,000,000: the last one (that of the undisturbed run)"),
+        Option("--step", "N", "1 to 100,000,000 cycles between the requests of two runs (1)"),
+        Option("--pairs", "", "runs with a request in each two of the cycles"),
+        Option("--rows", "", "prints a row for each run as well"),
+        Option("--as", "FORM", "text, json or csv (text)"), BUDGET, INPUT, OUTPUT)),
     "trace": Command("mx_lab", "SOURCE", "tells each turn of a run, for programs that replay it", (
         Option("--as", "FORM", "jsonl (jsonl)"), BUDGET, INTERRUPTS, INPUT, OUTPUT)),
     "plans": Command("mx_lab", "SOURCE FILE", "runs a source by the plans of a scheduler of one's own", (BUDGET, INTERRUPTS, INPUT, OUTPUT)),

@@ -1,5 +1,5 @@
 //! What is printed of a text.
-use crate::finding::Finding;
+use crate::finding::{Finding, Severity};
 use crate::json::json_line;
 use std::alloc::{AllocError, Global};
 
@@ -8,16 +8,59 @@ use std::alloc::{AllocError, Global};
 pub enum Form {
     /// A line for each, with the line of the source and what may have been meant.
     Text,
+    /// The same, in the colours of a terminal.
+    Coloured,
     /// An object for each, on a line of its own.
     Json,
 }
 
-// Puts down a line with blanks before it.
-fn push_line(output: &mut Vec<u8>, line: &[u8]) -> Result<(), AllocError> {
-    output.extend_from_slice(b"    ")?;
-    output.extend_from_slice(line)?;
-    output.push(b'\n')?;
-    Ok(())
+/// What begins a text in a colour on a terminal, and what ends it.
+const BOLD: &str = "\x1b[1m";
+
+const RED: &str = "\x1b[1;31m";
+
+const YELLOW: &str = "\x1b[1;33m";
+
+const CYAN: &str = "\x1b[36m";
+
+const PLAIN: &str = "\x1b[0m";
+
+// The colour of how grave a finding is.
+fn colour_of(severity: Severity) -> &'static str {
+    match severity {
+        Severity::Error => RED,
+        Severity::Warning => YELLOW,
+    }
+}
+
+// Puts down a text, in a colour where the form has colours.
+fn push_in(output: &mut Vec<u8>, form: Form, colour: &str, text: &[u8]) -> Result<(), AllocError> {
+    if form != Form::Coloured {
+        return output.extend_from_slice(text);
+    }
+    output.extend_from_slice(colour.as_bytes())?;
+    output.extend_from_slice(text)?;
+    output.extend_from_slice(PLAIN.as_bytes())
+}
+
+// Puts down where and what a finding is.
+fn push_head(
+    alloc: Global,
+    output: &mut Vec<u8>,
+    file: &str,
+    finding: &Finding,
+    form: Form,
+) -> Result<(), AllocError> {
+    let (line, column) = (finding.line, finding.column());
+    let severity = finding.severity.word();
+    let (code, name, message) = (finding.code, finding.name, finding.message.as_str());
+    let place = format!(in alloc; "{file}:{line}:{column}:")?;
+    let grave = format!(in alloc; "{severity}:")?;
+    let told = format!(in alloc; " {code} {name}: {message}\n")?;
+    push_in(output, form, BOLD, place.as_bytes())?;
+    output.push(b' ')?;
+    push_in(output, form, colour_of(finding.severity), grave.as_bytes())?;
+    output.extend_from_slice(told.as_bytes())
 }
 
 // Puts down a finding: where and what it is, the line, the marks under it, and what may have been meant.
@@ -26,20 +69,23 @@ fn push_finding(
     output: &mut Vec<u8>,
     file: &str,
     finding: &Finding,
+    form: Form,
 ) -> Result<(), AllocError> {
-    let (line, column) = (finding.line, finding.column());
-    let severity = finding.severity.word();
-    let (code, name, message) = (finding.code, finding.name, finding.message.as_str());
-    let head = format!(in alloc; "{file}:{line}:{column}: {severity}: {code} {name}: {message}\n")?;
-    output.extend_from_slice(head.as_bytes())?;
-    push_line(output, finding.text)?;
+    push_head(alloc, output, file, finding, form)?;
+    output.extend_from_slice(b"    ")?;
+    output.extend_from_slice(finding.text)?;
+    output.push(b'\n')?;
     if !finding.marks.is_empty() {
-        push_line(output, &finding.marks)?;
+        output.extend_from_slice(b"    ")?;
+        push_in(output, form, colour_of(finding.severity), &finding.marks)?;
+        output.push(b'\n')?;
     }
     if let Some(hint) = &finding.hint {
-        let hint = hint.as_str();
-        let text = format!(in alloc; "hint: {hint}")?;
-        push_line(output, text.as_bytes())?;
+        output.extend_from_slice(b"    ")?;
+        push_in(output, form, CYAN, b"hint:")?;
+        output.push(b' ')?;
+        output.extend_from_slice(hint.as_bytes())?;
+        output.push(b'\n')?;
     }
     Ok(())
 }
@@ -54,7 +100,7 @@ pub fn push_findings(
 ) -> Result<(), AllocError> {
     for finding in findings {
         match form {
-            Form::Text => push_finding(alloc, output, file, finding)?,
+            Form::Text | Form::Coloured => push_finding(alloc, output, file, finding, form)?,
             Form::Json => output.extend_from_slice(json_line(alloc, file, finding)?.as_bytes())?,
         }
     }

@@ -5,8 +5,8 @@ ghost use Rattle.mx_board.specs.Contents.{bytes_in};
 
 use crate::given::{file_given, file_if_given, number_given, word_given};
 use crate::linked::{LinkedSource, read_linked};
-use crate::words::source_arg;
-use clap::{Arg, ArgAction, ArgMatches, Command, value_parser};
+use crate::words::{budget_option, input_option, number_option, source_arg};
+use clap::{Arg, ArgAction, ArgMatches, Command};
 use cmd_answer::{Reply, Status, line_reply};
 use cmd_simulate::read_input;
 use lab_caches::{Study, caches_json, caches_svg, caches_text, geometries, study_of};
@@ -19,27 +19,6 @@ use std::alloc::{AllocError, Global};
 const MOST_WORDS: i64 = 64;
 
 const MOST_PENALTY: i64 = 1000;
-
-/// The most cycles of the run.
-const MOST_BUDGET: i64 = 100_000_000;
-
-// An option with a number.
-fn number_option<'a>(
-    alloc: Global,
-    name: &'a str,
-    default: &'a str,
-    least: i64,
-    most: i64,
-    help: &'a str,
-) -> Arg<'a> {
-    Arg::new(alloc, name)
-        .long(name)
-        .value_name("N")
-        .action(ArgAction::Set)
-        .default_value(default)
-        .value_parser(value_parser!(u32).range(least..=most))
-        .help(help)
-}
 
 // The form of what is printed.
 fn form_option<'a>(alloc: Global) -> Arg<'a> {
@@ -57,7 +36,6 @@ pub fn caches_command<'a>(alloc: Global) -> Result<Command<'a>, AllocError> {
     let words = "the words of a line";
     let brought = "the words that a miss brings, at most those of a line";
     let cost = "the cycles that a miss costs";
-    let budget = "the most cycles that the run may take";
     Command::new(alloc, "caches")
         .about("tells what other caches would make of a run")
         .arg(source_arg(alloc))?
@@ -65,14 +43,8 @@ pub fn caches_command<'a>(alloc: Global) -> Result<Command<'a>, AllocError> {
         .arg(number_option(alloc, "line", "16", 1, MOST_WORDS, words))?
         .arg(number_option(alloc, "brings", "2", 1, MOST_WORDS, brought))?
         .arg(number_option(alloc, "penalty", "2", 0, MOST_PENALTY, cost))?
-        .arg(number_option(alloc, "budget", "1000000", 1, MOST_BUDGET, budget))?
-        .arg(
-            Arg::new(alloc, "input")
-                .long("input")
-                .value_name("FILE")
-                .action(ArgAction::Set)
-                .help("the bytes of the input"),
-        )
+        .arg(budget_option(alloc))?
+        .arg(input_option(alloc))
 }
 
 // The input, where the source asks for one.

@@ -24,11 +24,19 @@ pub fn check_command<'a>(alloc: Global) -> Result<Command<'a>, AllocError> {
         .default_value("text")
         .value_parser(["text", "json"].as_slice())
         .help("the form of what is found");
+    let colour = Arg::new(alloc, "colour")
+        .long("colour")
+        .value_name("WHEN")
+        .action(ArgAction::Set)
+        .default_value("never")
+        .value_parser(["always", "never"].as_slice())
+        .help("whether the text is in the colours of a terminal");
     Command::new(alloc, "check")
         .about("tells every faulty line of a source, and what is wrong with it")
         .arg(source_arg(alloc))?
         .arg(all)?
-        .arg(form)
+        .arg(form)?
+        .arg(colour)
 }
 
 // So many of something, in words: `1 line has a fault`.
@@ -68,7 +76,7 @@ fn push_last(alloc: Global, output: &mut Vec<u8>, checked: &Checked) -> Result<(
 fn report(alloc: Global, file: &str, checked: &Checked, form: Form) -> Result<Vec<u8>, AllocError> {
     let mut output = Vec::new(alloc);
     push_findings(alloc, &mut output, file, &checked.findings, form)?;
-    if form == Form::Text {
+    if form != Form::Json {
         push_last(alloc, &mut output, checked)?;
     }
     Ok(output)
@@ -99,8 +107,9 @@ pub fn check_reply<S: Shelf>(
     } else {
         MOST_SHOWN
     };
-    let form = match word_given(matches, "as") {
-        "json" => Form::Json,
+    let form = match (word_given(matches, "as"), word_given(matches, "colour")) {
+        ("json", _) => Form::Json,
+        (_, "always") => Form::Coloured,
         _ => Form::Text,
     };
     let checked = check(alloc, &text, most)?;

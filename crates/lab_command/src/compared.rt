@@ -1,12 +1,18 @@
 //! `compare`: its words and its reply.
-use crate::given::word_given;
-use crate::linked::overlong_reply;
-use crate::ran::read_run;
+ghost use Rattle.std.specs.Prelude.{◌≤◌, vec_len};
+
+use crate::given::{file_by, file_if_given, number_given, word_given, words_given};
+use crate::linked::{LinkedSource, overlong_reply, read_linked};
 use crate::words::{run_options, source_arg};
 use clap::{Arg, ArgAction, ArgMatches, Command};
 use cmd_answer::{Reply, Status};
-use lab_compare::{Comparison, Conditions, compare, comparison_csv, comparison_json, table_of};
+use cmd_simulate::{read_input, read_requests};
+use lab_compare::{
+    Compared, Comparison, Conditions, compare, comparison_json, comparisons_csv, comparisons_json,
+    long_table, table_of,
+};
 use lab_watch::Watcher;
+use mx_board::Requests;
 use mx_io::{Memory, Shelf};
 use mx_link::LinkError;
 use std::alloc::{AllocError, Global};
@@ -14,8 +20,8 @@ use std::alloc::{AllocError, Global};
 /// The words of `compare`.
 pub fn compare_command<'a>(alloc: Global) -> Result<Command<'a>, AllocError> {
     let bare = Command::new(alloc, "compare")
-        .about("compares what four schedulers make of a source")
-        .arg(source_arg(alloc))?
+        .about("compares what four schedulers make of a source, or of several")
+        .arg(source_arg(alloc).num_args(1..).action(ArgAction::Append))?
         .arg(
             Arg::new(alloc, "as")
                 .long("as")
@@ -28,42 +34,155 @@ pub fn compare_command<'a>(alloc: Global) -> Result<Command<'a>, AllocError> {
     run_options(alloc, bare)
 }
 
-// A comparison in the form that the words ask for.
-fn text_of(
+// A linked source, by its name.
+#[derive(Drop)]
+struct NamedSource<'a> {
+    name: &'a str,
+    program: LinkedSource,
+}
+
+// Sources, and what the run of each is given.
+#[derive(Drop)]
+struct GivenSources<'a> {
+    sources: Vec<NamedSource<'a>>,
+    requests: Requests,
+    input: Vec<u8>,
+    ghost within: { vec_len input ≤ 1048576 },
+}
+
+// The reply to what is wrong with a source. Where there are several, it names the source.
+fn source_reply(alloc: Global, name: &str, is_one: bool, reply: Reply) -> Result<Reply, Memory> {
+    let Reply::Prints { status, output } = reply else {
+        return Ok(reply);
+    };
+    if is_one {
+        return Ok(Reply::Prints { status, output });
+    }
+    let mut text = Vec::new(alloc);
+    for piece in [name.as_bytes(), b": ", output.as_slice()] {
+        if text.extend_from_slice(piece).is_err() {
+            return Err(Memory);
+        }
+    }
+    Ok(Reply::Prints {
+        status,
+        output: text,
+    })
+}
+
+// The sources that the words name, linked, or the reply to the first that is wrong.
+fn read_sources<'a, S: Shelf>(
     alloc: Global,
-    matches: &ArgMatches,
-    comparison: &Comparison,
-) -> Result<Vec<u8>, Memory> {
-    let source = word_given(matches, "SOURCE");
-    match word_given(matches, "as") {
-        "json" => comparison_json(alloc, source, comparison),
-        "csv" => comparison_csv(alloc, source, comparison),
-        _ => table_of(alloc, comparison).map_err(|_| Memory),
+    shelf: &mut S,
+    matches: &ArgMatches<'a>,
+) -> Result<Result<Vec<NamedSource<'a>>, Reply>, Memory> {
+    let names = words_given(matches, "SOURCE");
+    let mut sources = Vec::new(alloc);
+    for name in names {
+        match read_linked(alloc, shelf, file_by(*name))? {
+            Ok(program) => {
+                if sources.push(NamedSource { name, program }).is_err() {
+                    return Err(Memory);
+                }
+            }
+            Err(reply) => {
+                let is_one = names.len() == 1;
+                return Ok(Err(source_reply(alloc, name, is_one, reply)?));
+            }
+        }
+    }
+    Ok(Ok(sources))
+}
+
+// The sources with what their runs are given, or the reply to the first of these that is wrong.
+fn read_given<'a, S: Shelf>(
+    alloc: Global,
+    shelf: &mut S,
+    matches: &ArgMatches<'a>,
+) -> Result<Result<GivenSources<'a>, Reply>, Memory> {
+    let sources = match read_sources(alloc, shelf, matches)? {
+        Ok(sources) => sources,
+        Err(reply) => return Ok(Err(reply)),
+    };
+    let requests = match read_requests(alloc, shelf, file_if_given(matches, "interrupts"))? {
+        Ok(requests) => requests,
+        Err(reply) => return Ok(Err(reply)),
+    };
+    let input = match read_input(alloc, shelf, file_if_given(matches, "input"))? {
+        Ok(input) => input,
+        Err(reply) => return Ok(Err(reply)),
+    };
+    Ok(Ok(GivenSources {
+        sources,
+        requests,
+        input,
+    }))
+}
+
+// The comparison of each source, or the reply to the first that a scheduler cannot link.
+fn compare_each<'a, W: Watcher>(
+    alloc: Global,
+    given: &GivenSources<'a>,
+    budget: u32,
+    watcher: W,
+) -> Result<Result<Vec<Compared<'a>>, Reply>, Memory> {
+    let conditions = Conditions {
+        requests: &given.requests,
+        input: given.input.as_slice(),
+        budget,
+    };
+    let mut compared = Vec::new(alloc);
+    for one in given.sources.iter() {
+        let source = one.name;
+        match compare(alloc, &one.program.source, &conditions, watcher) {
+            Ok(comparison) => {
+                if compared.push(Compared { source, comparison }).is_err() {
+                    return Err(Memory);
+                }
+            }
+            Err(LinkError::Displacement { line, from, to }) => {
+                let reply = overlong_reply(alloc, line, from, to)?;
+                let is_one = given.sources.len() == 1;
+                return Ok(Err(source_reply(alloc, source, is_one, reply)?));
+            }
+            Err(LinkError::Memory) => return Err(Memory),
+        }
+    }
+    Ok(Ok(compared))
+}
+
+// Comparisons in the form that the words ask for.
+fn text_of(alloc: Global, matches: &ArgMatches, compared: &[Compared]) -> Result<Vec<u8>, Memory> {
+    let one: Option<&Comparison> = match compared {
+        [one] => Some(&one.comparison),
+        _ => None,
+    };
+    match (word_given(matches, "as"), one) {
+        ("json", Some(one)) => comparison_json(alloc, word_given(matches, "SOURCE"), one),
+        ("json", None) => comparisons_json(alloc, compared),
+        ("csv", _) => comparisons_csv(alloc, compared),
+        (_, Some(one)) => table_of(alloc, one).map_err(|_| Memory),
+        (_, None) => long_table(alloc, compared).map_err(|_| Memory),
     }
 }
 
-/// The reply to `compare SOURCE`.
+/// The reply to `compare SOURCE ..`.
 pub fn compare_reply<S: Shelf, W: Watcher>(
     alloc: Global,
     shelf: &mut S,
     matches: &ArgMatches,
     watcher: W,
 ) -> Result<Reply, Memory> {
-    let run = match read_run(alloc, shelf, matches)? {
-        Ok(run) => run,
+    let given = match read_given(alloc, shelf, matches)? {
+        Ok(given) => given,
         Err(reply) => return Ok(reply),
     };
-    let conditions = Conditions {
-        requests: &run.requests,
-        input: run.input.as_slice(),
-        budget: run.budget,
-    };
-    match compare(alloc, &run.program.source, &conditions, watcher) {
-        Ok(comparison) => Ok(Reply::Prints {
+    let budget = number_given(matches, "budget");
+    match compare_each(alloc, &given, budget, watcher)? {
+        Ok(compared) => Ok(Reply::Prints {
             status: Status::Done,
-            output: text_of(alloc, matches, &comparison)?,
+            output: text_of(alloc, matches, compared.as_slice())?,
         }),
-        Err(LinkError::Displacement { line, from, to }) => overlong_reply(alloc, line, from, to),
-        Err(LinkError::Memory) => Err(Memory),
+        Err(reply) => Ok(reply),
     }
 }

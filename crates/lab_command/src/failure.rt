@@ -2,7 +2,7 @@
 ghost use Rattle.std.specs.Prelude.{◌≡◌};
 ghost use Rattle.lab_command.specs.Sides;
 
-use crate::given::{file_if_given, word_given};
+use crate::given::{file_by, word_given, words_given};
 use clap::ArgMatches;
 use cmd_answer::Status;
 use std::alloc::{AllocError, Global};
@@ -75,7 +75,8 @@ fn unread<'a, C: Causes>(
     causes: C,
 ) -> Option<(&'a str, Cause)> {
     for option in READ {
-        if let Some(name) = file_if_given(matches, option) {
+        for word in words_given(matches, option) {
+            let name = file_by(*word);
             if let Some(cause) = causes.cause(alloc, name) {
                 return Some((name, cause));
             }
@@ -84,11 +85,13 @@ fn unread<'a, C: Causes>(
     None
 }
 
-// The name of the source, or of the file that may be one; empty where the words name none.
+// The name of the source, or of the file that may be one; empty where the words name none, or several: what is said then
+// names the one that it is about.
 fn source_named<'a>(matches: &ArgMatches<'a>) -> &'a str {
-    match word_given(matches, "SOURCE") {
-        "" => word_given(matches, "FILE"),
-        name => name,
+    match words_given(matches, "SOURCE") {
+        [] => word_given(matches, "FILE"),
+        [name] => *name,
+        _ => "",
     }
 }
 

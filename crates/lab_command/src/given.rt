@@ -16,11 +16,24 @@ pub fn word_given<'a>(matches: &ArgMatches<'a>, name: &str) -> &'a str {
     matches.get_str(name).unwrap_or("")
 }
 
-/// The file that a word names, if there is one: `-` is standard input.
+/// The words of an option or a name, in order.
+pub fn words_given<'m, 'a>(matches: &'m ArgMatches<'a>, name: &str) -> &'m [&'a str] {
+    matches.get_strs(name).unwrap_or(&[])
+}
+
+/// The file of a word: `-` is standard input.
+pub fn file_by<'a>(word: &'a str) -> &'a str {
+    match word {
+        STANDARD_INPUT => STANDARD_INPUT_FILE,
+        word => word,
+    }
+}
+
+/// The file that a word names, if there is one.
 pub fn file_if_given<'a>(matches: &ArgMatches<'a>, name: &str) -> Option<&'a str> {
     match matches.get_str(name) {
-        Some(STANDARD_INPUT) => Some(STANDARD_INPUT_FILE),
-        word => word,
+        Some(word) => Some(file_by(word)),
+        None => None,
     }
 }
 

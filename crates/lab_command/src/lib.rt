@@ -9,6 +9,7 @@ mod drawn;
 mod explained;
 mod failure;
 mod given;
+mod interrupted;
 mod linked;
 mod planned;
 mod printed;

@@ -8,6 +8,7 @@ use crate::disassembled::disassemble_reply;
 use crate::drawn::draw_reply;
 use crate::explained::explain_reply;
 use crate::failure::{Causes, error_text, is_error};
+use crate::interrupted::interrupts_reply;
 use crate::planned::plans_reply;
 use crate::profiled::profile_reply;
 use crate::traced::trace_reply;
@@ -43,6 +44,7 @@ fn answered_by<S: Shelf, T: Watcher>(
         "compare" => compare_reply(alloc, shelf, matches, watcher),
         "disassemble" => disassemble_reply(alloc, shelf, matches),
         "caches" => caches_reply(alloc, shelf, matches, watcher),
+        "interrupts" => interrupts_reply(alloc, shelf, matches, watcher),
         "trace" => trace_reply(alloc, shelf, matches, watcher),
         "plans" => plans_reply(alloc, shelf, matches, watcher),
         _ => Err(Memory),

@@ -4,6 +4,7 @@ use crate::checked::check_command;
 use crate::compared::compare_command;
 use crate::disassembled::disassemble_command;
 use crate::explained::explain_command;
+use crate::interrupted::interrupts_command;
 use crate::planned::plans_command;
 use crate::profiled::profile_command;
 use crate::traced::trace_command;
@@ -33,8 +34,8 @@ fn file_option<'a>(alloc: Global, name: &'a str, help: &'a str) -> Arg<'a> {
         .help(help)
 }
 
-// An option with a number.
-fn number_option<'a>(
+/// An option with a number.
+pub fn number_option<'a>(
     alloc: Global,
     name: &'a str,
     default: &'a str,
@@ -51,23 +52,27 @@ fn number_option<'a>(
         .help(help)
 }
 
+/// The most cycles of a run.
+pub fn budget_option<'a>(alloc: Global) -> Arg<'a> {
+    let most = "the most cycles that the run may take";
+    number_option(alloc, "budget", "1000000", 1, MOST_BUDGET, most)
+}
+
+/// The input of a run.
+pub fn input_option<'a>(alloc: Global) -> Arg<'a> {
+    file_option(alloc, "input", "the bytes of the input")
+}
+
 /// The options of a run: its budget, its interrupt requests and its input.
 pub fn run_options<'a>(alloc: Global, command: Command<'a>) -> Result<Command<'a>, AllocError> {
     command
-        .arg(number_option(
-            alloc,
-            "budget",
-            "1000000",
-            1,
-            MOST_BUDGET,
-            "the most cycles that the run may take",
-        ))?
+        .arg(budget_option(alloc))?
         .arg(file_option(
             alloc,
             "interrupts",
             "the cycles in which an interrupt is requested",
         ))?
-        .arg(file_option(alloc, "input", "the bytes of the input"))
+        .arg(input_option(alloc))
 }
 
 // The file that a command's output goes to.
@@ -132,6 +137,7 @@ fn command_line<'a>(alloc: Global) -> Result<Command<'a>, AllocError> {
         .subcommand(with_output(alloc, compare_command(alloc)?)?)?
         .subcommand(with_output(alloc, disassemble_command(alloc)?)?)?
         .subcommand(with_output(alloc, caches_command(alloc)?)?)?
+        .subcommand(with_output(alloc, interrupts_command(alloc)?)?)?
         .subcommand(with_output(alloc, trace_command(alloc)?)?)?
         .subcommand(with_output(alloc, plans_command(alloc)?)?)
 }

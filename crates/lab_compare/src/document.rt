@@ -1,4 +1,6 @@
-//! A comparison as JSON and as CSV.
+//! Comparisons as JSON and as CSV.
+use crate::schedulers::schedulers;
+use crate::several::{Compared, together};
 use crate::{Comparison, Figures};
 use csv::WriterBuilder;
 use mx_io::Memory;
@@ -46,6 +48,29 @@ struct Document<'a> {
     schedulers: Vec<FiguresRecord>,
 }
 
+/// A source among several.
+#[derive(Drop, Serialize)]
+struct SourceRecord<'a> {
+    source: &'a str,
+    schedulers: Vec<FiguresRecord>,
+}
+
+/// What several sources come to together.
+#[derive(Drop, Serialize)]
+struct SumsRecord {
+    sources: u64,
+    halted: u64,
+    schedulers: Vec<FiguresRecord>,
+}
+
+/// Comparisons of several sources.
+#[derive(Drop, Serialize)]
+struct LongDocument<'a> {
+    command: &'static str,
+    sources: Vec<SourceRecord<'a>>,
+    sums: SumsRecord,
+}
+
 /// The names of the columns.
 const COLUMNS: [&str; 15] = [
     "source",
@@ -64,16 +89,6 @@ const COLUMNS: [&str; 15] = [
     "misses",
     "squashes",
 ];
-
-// The schedulers, with their figures.
-fn schedulers(comparison: &Comparison) -> [(&'static str, &Figures); 4] {
-    [
-        ("padded", &comparison.padded),
-        ("list", &comparison.list),
-        ("copies", &comparison.copies),
-        ("best", &comparison.best),
-    ]
-}
 
 fn figures_record(plans: &'static str, figures: &Figures) -> FiguresRecord {
     let slots = figures.transfers;
@@ -125,13 +140,58 @@ pub fn comparison_json(
         source,
         schedulers,
     };
-    let Ok(mut text) = to_vec_pretty(alloc, &document) else {
+    printed(alloc, &document)
+}
+
+// A document as text, with a line feed behind it.
+fn printed<D: Serialize>(alloc: Global, document: &D) -> Result<Vec<u8>, Memory> {
+    let Ok(mut text) = to_vec_pretty(alloc, document) else {
         return Err(Memory);
     };
     if text.push(b'\n').is_err() {
         return Err(Memory);
     }
     Ok(text)
+}
+
+// The records of several sources.
+fn source_records<'a>(
+    alloc: Global,
+    compared: &[Compared<'a>],
+) -> Result<Vec<SourceRecord<'a>>, AllocError> {
+    let mut records = Vec::new(alloc);
+    for one in compared {
+        records.push(SourceRecord {
+            source: one.source,
+            schedulers: figures_records(alloc, &one.comparison)?,
+        })?;
+    }
+    Ok(records)
+}
+
+// Comparisons of several sources, with their sums.
+fn long_document<'a>(
+    alloc: Global,
+    compared: &[Compared<'a>],
+) -> Result<LongDocument<'a>, AllocError> {
+    let all = together(compared);
+    Ok(LongDocument {
+        command: "compare",
+        sources: source_records(alloc, compared)?,
+        sums: SumsRecord {
+            sources: all.sources as u64,
+            halted: all.halted as u64,
+            schedulers: figures_records(alloc, &all.sums)?,
+        },
+    })
+}
+
+/// Comparisons of several sources as JSON, with their sums.
+pub fn comparisons_json(alloc: Global, compared: &[Compared]) -> Result<Vec<u8>, Memory> {
+    match long_document(alloc, compared) {
+        Ok(document) => printed(alloc, &document),
+        Err(_) => Err(Memory),
+    }
 }
 
 // The numbers of a row. The cycles of a run that has not halted are left empty.
@@ -177,12 +237,8 @@ fn fields_of(
     Ok(fields)
 }
 
-/// A comparison as CSV (RFC 4180, with lines that end in LF): a row of names, and a row for each scheduler.
-pub fn comparison_csv(
-    alloc: Global,
-    source: &str,
-    comparison: &Comparison,
-) -> Result<Vec<u8>, Memory> {
+/// Comparisons as CSV (RFC 4180, with lines that end in LF): a row of names, and a row for each source and scheduler.
+pub fn comparisons_csv(alloc: Global, compared: &[Compared]) -> Result<Vec<u8>, Memory> {
     let mut writer = WriterBuilder::new().from_writer(Vec::new(alloc));
     for name in COLUMNS {
         if writer.write_field(name.as_bytes()).is_err() {
@@ -192,17 +248,19 @@ pub fn comparison_csv(
     if writer.end_record().is_err() {
         return Err(Memory);
     }
-    for (plans, figures) in schedulers(comparison) {
-        let Ok(fields) = fields_of(alloc, source, plans, figures) else {
-            return Err(Memory);
-        };
-        for field in fields.iter() {
-            if writer.write_field(field.as_bytes()).is_err() {
+    for one in compared {
+        for (plans, figures) in schedulers(&one.comparison) {
+            let Ok(fields) = fields_of(alloc, one.source, plans, figures) else {
+                return Err(Memory);
+            };
+            for field in fields.iter() {
+                if writer.write_field(field.as_bytes()).is_err() {
+                    return Err(Memory);
+                }
+            }
+            if writer.end_record().is_err() {
                 return Err(Memory);
             }
-        }
-        if writer.end_record().is_err() {
-            return Err(Memory);
         }
     }
     writer.into_inner().map_err(|_| Memory)

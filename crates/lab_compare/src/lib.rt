@@ -4,13 +4,18 @@
 mod comparison;
 mod document;
 mod figures;
+mod long;
 mod rows;
+mod schedulers;
+mod several;
 mod slots;
 mod table;
 
 pub use comparison::{Comparison, Conditions, compare};
-pub use document::{comparison_csv, comparison_json};
+pub use document::{comparison_json, comparisons_csv, comparisons_json};
 pub use figures::Figures;
+pub use long::long_table;
 pub use rows::figures_of;
+pub use several::{Compared, Together, together};
 pub use slots::{Filling, Slots, TransferSlots};
 pub use table::table_of;

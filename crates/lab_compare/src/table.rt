@@ -26,7 +26,12 @@ fn share_text(alloc: Global, part: u64, whole: u64) -> Result<String, AllocError
 }
 
 /// Appends a number and its part of a whole.
-fn push_cell(alloc: Global, table: &mut String, part: u64, whole: u64) -> Result<(), AllocError> {
+pub(crate) fn push_cell(
+    alloc: Global,
+    table: &mut String,
+    part: u64,
+    whole: u64,
+) -> Result<(), AllocError> {
     let share = share_text(alloc, part, whole)?;
     let cell = format!(in alloc; " {part:>9} {share:>6}")?;
     table.push_str(cell.as_str())

@@ -1,0 +1,215 @@
+//! `interrupts`: its words and its reply.
+ghost use Rattle.std.specs.Prelude.{◌≤◌, ◌<◌, IfOk};
+
+use crate::given::{number_given, word_given};
+use crate::ran::{GivenRun, read_run};
+use crate::words::{MOST_BUDGET, budget_option, input_option, number_option, source_arg};
+use clap::{Arg, ArgAction, ArgMatches, Command, value_parser};
+use cmd_answer::{Reply, Status, line_reply};
+use lab_interrupts::{
+    Places, Run, Span, Sweep, cycles_in, pairs, places_of, run_with, singles, sweep_csv,
+    sweep_json, sweep_text,
+};
+use lab_watch::Watcher;
+use mx_board::Requests;
+use mx_io::{Memory, Shelf};
+use std::alloc::{AllocError, Global};
+
+/// The most runs.
+const MOST_RUNS: u64 = 100_000;
+
+/// The most cycles of which each two make a run.
+const MOST_PAIRED: u64 = 447;
+
+// The option for the last cycle.
+fn to_option<'a>(alloc: Global) -> Arg<'a> {
+    Arg::new(alloc, "to")
+        .long("to")
+        .value_name("N")
+        .action(ArgAction::Set)
+        .value_parser(value_parser!(u32).range(0..=MOST_BUDGET))
+        .help("the last cycle in which a request comes; that of the undisturbed run without it")
+}
+
+// The form of what is told.
+fn form_option<'a>(alloc: Global) -> Arg<'a> {
+    Arg::new(alloc, "as")
+        .long("as")
+        .value_name("FORM")
+        .action(ArgAction::Set)
+        .default_value("text")
+        .value_parser(["text", "json", "csv"].as_slice())
+        .help("the form of what is told")
+}
+
+// A flag.
+fn flag<'a>(alloc: Global, name: &'a str, help: &'a str) -> Arg<'a> {
+    Arg::new(alloc, name)
+        .long(name)
+        .action(ArgAction::SetTrue)
+        .help(help)
+}
+
+/// The words of `interrupts`.
+pub fn interrupts_command<'a>(alloc: Global) -> Result<Command<'a>, AllocError> {
+    let from = "the first cycle in which a request comes";
+    let step = "how many cycles the requests of two runs are apart";
+    let in_two = "runs with a request in each two of the cycles";
+    let rows = "tells each run as well";
+    Command::new(alloc, "interrupts")
+        .about("tells what an interrupt costs, in each cycle of a run in turn")
+        .arg(source_arg(alloc))?
+        .arg(number_option(alloc, "from", "0", 0, MOST_BUDGET, from))?
+        .arg(to_option(alloc))?
+        .arg(number_option(alloc, "step", "1", 1, MOST_BUDGET, step))?
+        .arg(flag(alloc, "pairs", in_two))?
+        .arg(flag(alloc, "rows", rows))?
+        .arg(form_option(alloc))?
+        .arg(budget_option(alloc))?
+        .arg(input_option(alloc))
+}
+
+// The reply to words that cannot be followed.
+fn usage_reply(alloc: Global, text: Result<String, AllocError>) -> Result<Reply, Memory> {
+    match text {
+        Ok(text) => line_reply(alloc, Status::Usage, text.as_str()),
+        Err(_) => Err(Memory),
+    }
+}
+
+// The cycles that the words ask for, of a run whose last cycle is this one; or the reply where there are none.
+fn span_given(
+    alloc: Global,
+    matches: &ArgMatches,
+    last: u32,
+) -> Result<Result<Span, Reply>, Memory>
+    ensures { IfOk result (λ r. IfOk r (λ span. 0 < span.step)) }
+{
+    let from = number_given(matches, "from");
+    let to = matches.get_one::<u32>("to").unwrap_or(last);
+    let refused = if from > last {
+        format!(in alloc; "--from {from} is behind the last cycle of the undisturbed run, {last}")
+    } else if from > to {
+        format!(in alloc; "--from {from} is more than --to {to}")
+    } else {
+        return Ok(Ok(Span {
+            from,
+            to: to.min(last),
+            step: number_given(matches, "step").max(1),
+        }));
+    };
+    Ok(Err(usage_reply(alloc, refused)?))
+}
+
+// The reply where a span makes too many runs.
+fn excess_reply(alloc: Global, span: Span, is_pairs: bool) -> Result<Option<Reply>, Memory> {
+    let (runs, most) = if is_pairs {
+        (span.pairs(), MOST_PAIRED)
+    } else {
+        (span.count(), MOST_RUNS)
+    };
+    if runs <= MOST_RUNS {
+        return Ok(None);
+    }
+    let behind = u64::from(span.to.saturating_sub(span.from));
+    let step = behind.checked_div(most).unwrap_or(0).saturating_add(1);
+    let text = format!(in alloc;
+        "{runs} runs are more than {MOST_RUNS}: --step {step} makes fewer"
+    );
+    Ok(Some(usage_reply(alloc, text)?))
+}
+
+// The runs with requests in the cycles of a span, beside the undisturbed run.
+fn sweep_of<W: Watcher>(
+    alloc: Global,
+    run: &GivenRun,
+    undisturbed: &Run,
+    span: Span,
+    is_pairs: bool,
+    watcher: W,
+) -> Result<Sweep, Memory>
+    requires { 0 < span.step }
+{
+    let Ok(cycles) = cycles_in(alloc, span) else {
+        return Err(Memory);
+    };
+    let image = &run.program.linked.image;
+    let input = run.asked_input();
+    let console = undisturbed.console.as_slice();
+    let cycles = cycles.as_slice();
+    let rows = if is_pairs {
+        pairs(alloc, image, input, run.budget, console, cycles, watcher)?
+    } else {
+        singles(alloc, image, input, run.budget, console, cycles, watcher)?
+    };
+    Ok(Sweep {
+        cycles: undisturbed.cycles,
+        halted: undisturbed.halted,
+        span,
+        is_pairs,
+        rows,
+    })
+}
+
+// A sweep in the form that the words ask for.
+fn text_of(
+    alloc: Global,
+    matches: &ArgMatches,
+    run: &GivenRun,
+    sweep: &Sweep,
+) -> Result<Vec<u8>, Memory> {
+    let program = &run.program;
+    let places = places_of(alloc, program.source.lines(), program.linked.origin.as_slice());
+    let Ok(places) = places else {
+        return Err(Memory);
+    };
+    let source = word_given(matches, "SOURCE");
+    match word_given(matches, "as") {
+        "json" => sweep_json(alloc, source, sweep, &places),
+        "csv" => sweep_csv(alloc, source, sweep, &places),
+        _ => {
+            let with_rows = matches.get_flag("rows");
+            let text = program.text.as_slice();
+            sweep_text(alloc, sweep, &places, text, with_rows).map_err(|_| Memory)
+        }
+    }
+}
+
+// The status of a sweep: whether each of its runs halted.
+fn status_of(sweep: &Sweep) -> Status {
+    if sweep.halted && sweep.rows.iter().all(|row| row.halted) {
+        Status::Done
+    } else {
+        Status::OutOfBudget
+    }
+}
+
+/// The reply to `interrupts SOURCE`.
+pub fn interrupts_reply<S: Shelf, W: Watcher>(
+    alloc: Global,
+    shelf: &mut S,
+    matches: &ArgMatches,
+    watcher: W,
+) -> Result<Reply, Memory> {
+    let run = match read_run(alloc, shelf, matches)? {
+        Ok(run) => run,
+        Err(reply) => return Ok(reply),
+    };
+    let image = &run.program.linked.image;
+    let none = Requests::none(alloc);
+    let undisturbed = run_with(alloc, image, run.asked_input(), &none, run.budget)?;
+    let last = undisturbed.cycles.saturating_sub(1).min(u64::from(run.budget)) as u32;
+    let span = match span_given(alloc, matches, last)? {
+        Ok(span) => span,
+        Err(reply) => return Ok(reply),
+    };
+    let is_pairs = matches.get_flag("pairs");
+    if let Some(reply) = excess_reply(alloc, span, is_pairs)? {
+        return Ok(reply);
+    }
+    let sweep = sweep_of(alloc, &run, &undisturbed, span, is_pairs, watcher)?;
+    Ok(Reply::Prints {
+        status: status_of(&sweep),
+        output: text_of(alloc, matches, &run, &sweep)?,
+    })
+}

@@ -1,0 +1,4 @@
+pub mod Within
+pub mod Spans
+pub mod Sweeps
+pub mod Sums
