@@ -1,51 +1,18 @@
-//! `caches`: its words and its reply.
+//! The reply of `caches`.
 ghost use Rattle.std.specs.Prelude.{◌≤◌, length};
 ghost use Rattle.std.specs.Option.{option_copied};
 ghost use Rattle.mx_board.specs.Contents.{bytes_in};
 
 use crate::given::{file_given, file_if_given, number_given, word_given};
 use crate::linked::{LinkedSource, read_linked};
-use crate::words::{budget_option, input_option, number_option, source_arg};
-use clap::{Arg, ArgAction, ArgMatches, Command};
+use clap::ArgMatches;
 use cmd_answer::{Reply, Status, line_reply};
 use cmd_simulate::read_input;
 use lab_caches::{Study, caches_json, caches_svg, caches_text, geometries, study_of};
 use lab_watch::{Watcher, watched_pipe};
 use mx_icache::LineCache;
 use mx_io::{Memory, Shelf};
-use std::alloc::{AllocError, Global};
-
-/// The most words of a line, and the greatest cost of a miss.
-const MOST_WORDS: i64 = 64;
-
-const MOST_PENALTY: i64 = 1000;
-
-// The form of what is printed.
-fn form_option<'a>(alloc: Global) -> Arg<'a> {
-    Arg::new(alloc, "as")
-        .long("as")
-        .value_name("FORM")
-        .action(ArgAction::Set)
-        .default_value("text")
-        .value_parser(["text", "json", "svg"].as_slice())
-        .help("the form of the table")
-}
-
-/// The words of `caches`.
-pub fn caches_command<'a>(alloc: Global) -> Result<Command<'a>, AllocError> {
-    let words = "the words of a line";
-    let brought = "the words that a miss brings, at most those of a line";
-    let cost = "the cycles that a miss costs";
-    Command::new(alloc, "caches")
-        .about("tells what other caches would make of a run")
-        .arg(source_arg(alloc))?
-        .arg(form_option(alloc))?
-        .arg(number_option(alloc, "line", "16", 1, MOST_WORDS, words))?
-        .arg(number_option(alloc, "brings", "2", 1, MOST_WORDS, brought))?
-        .arg(number_option(alloc, "penalty", "2", 0, MOST_PENALTY, cost))?
-        .arg(budget_option(alloc))?
-        .arg(input_option(alloc))
-}
+use std::alloc::Global;
 
 // The input, where the source asks for one.
 fn asked_input<'a>(program: &LinkedSource, bytes: &'a [u8]) -> Option<&'a [u8]>

@@ -1,8 +1,7 @@
-//! `check`: its words and its reply.
+//! The reply of `check`.
 use crate::given::{file_given, word_given};
 use crate::printed::printed;
-use crate::words::source_arg;
-use clap::{Arg, ArgAction, ArgMatches, Command};
+use clap::ArgMatches;
 use cmd_answer::{FileKind, Reply, Status, read_file};
 use lab_check::{Checked, Form, MOST_LINES, check, push_findings};
 use mx_io::{Memory, Shelf};
@@ -10,34 +9,6 @@ use std::alloc::{AllocError, Global};
 
 /// How many faulty lines and how many warnings are shown.
 const MOST_SHOWN: usize = 20;
-
-/// The words of `check`.
-pub fn check_command<'a>(alloc: Global) -> Result<Command<'a>, AllocError> {
-    let all = Arg::new(alloc, "all")
-        .long("all")
-        .action(ArgAction::SetTrue)
-        .help("shows more than the first twenty");
-    let form = Arg::new(alloc, "as")
-        .long("as")
-        .value_name("FORM")
-        .action(ArgAction::Set)
-        .default_value("text")
-        .value_parser(["text", "json"].as_slice())
-        .help("the form of what is found");
-    let colour = Arg::new(alloc, "colour")
-        .long("colour")
-        .value_name("WHEN")
-        .action(ArgAction::Set)
-        .default_value("never")
-        .value_parser(["always", "never"].as_slice())
-        .help("whether the text is in the colours of a terminal");
-    Command::new(alloc, "check")
-        .about("tells every faulty line of a source, and what is wrong with it")
-        .arg(source_arg(alloc))?
-        .arg(all)?
-        .arg(form)?
-        .arg(colour)
-}
 
 // So many of something, in words: `1 line has a fault`.
 fn push_count(alloc: Global, output: &mut Vec<u8>, checked: &Checked) -> Result<(), AllocError> {

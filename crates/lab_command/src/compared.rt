@@ -1,10 +1,9 @@
-//! `compare`: its words and its reply.
+//! The reply of `compare`.
 ghost use Rattle.std.specs.Prelude.{◌≤◌, vec_len};
 
 use crate::given::{file_by, file_if_given, number_given, word_given, words_given};
 use crate::linked::{LinkedSource, overlong_reply, read_linked};
-use crate::words::{run_options, source_arg};
-use clap::{Arg, ArgAction, ArgMatches, Command};
+use clap::ArgMatches;
 use cmd_answer::{Reply, Status};
 use cmd_simulate::{read_input, read_requests};
 use lab_compare::{
@@ -15,24 +14,7 @@ use lab_watch::Watcher;
 use mx_board::Requests;
 use mx_io::{Memory, Shelf};
 use mx_link::LinkError;
-use std::alloc::{AllocError, Global};
-
-/// The words of `compare`.
-pub fn compare_command<'a>(alloc: Global) -> Result<Command<'a>, AllocError> {
-    let bare = Command::new(alloc, "compare")
-        .about("compares what four schedulers make of a source, or of several")
-        .arg(source_arg(alloc).num_args(1..).action(ArgAction::Append))?
-        .arg(
-            Arg::new(alloc, "as")
-                .long("as")
-                .value_name("FORM")
-                .action(ArgAction::Set)
-                .default_value("text")
-                .value_parser(["text", "json", "csv"].as_slice())
-                .help("the form of the comparison"),
-        )?;
-    run_options(alloc, bare)
-}
+use std::alloc::Global;
 
 // A linked source, by its name.
 #[derive(Drop)]

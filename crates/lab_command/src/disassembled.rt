@@ -1,37 +1,16 @@
-//! `disassemble`: its words and its reply.
+//! The reply of `disassemble`.
 use crate::given::{file_given, word_given};
 use crate::linked::linked_text;
 use crate::printed::printed;
-use clap::{Arg, ArgAction, ArgMatches, Command};
+use clap::ArgMatches;
 use cmd_answer::{FileKind, Reply, Status, line_reply, read_file};
 use lab_disassemble::{Listing, image_listing, listing_json, listing_text, source_listing};
 use mx_image::{ImageError, read_file as read_image_file};
 use mx_io::{Memory, Shelf};
-use std::alloc::{AllocError, Global};
+use std::alloc::Global;
 
 /// What an image file begins with.
 const MAGIC: &[u8] = b"MXIM";
-
-/// The words of `disassemble`.
-pub fn disassemble_command<'a>(alloc: Global) -> Result<Command<'a>, AllocError> {
-    Command::new(alloc, "disassemble")
-        .about("lists the words of a source or an image file in assembly language")
-        .arg(
-            Arg::new(alloc, "FILE")
-                .required(true)
-                .action(ArgAction::Set)
-                .help("the source, in assembly language, or the image file"),
-        )?
-        .arg(
-            Arg::new(alloc, "as")
-                .long("as")
-                .value_name("FORM")
-                .action(ArgAction::Set)
-                .default_value("text")
-                .value_parser(["text", "json"].as_slice())
-                .help("the form of the listing"),
-        )
-}
 
 // The reply to bytes that are no image file.
 fn image_reply(alloc: Global, error: &ImageError) -> Result<Reply, Memory> {

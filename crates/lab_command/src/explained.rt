@@ -1,4 +1,4 @@
-//! `explain`: its words and its reply.
+//! The reply of `explain`.
 ghost use Rattle.std.specs.Prelude.{◌≡◌, IfOk};
 ghost use Rattle.mx_source.specs.Meaning.{given};
 ghost use Rattle.mx_turn.specs.Handler.{shipped};
@@ -8,8 +8,7 @@ ghost use Rattle.mx_turn.specs.Run.{run_of};
 use crate::given::word_given;
 use crate::printed::printed;
 use crate::ran::{GivenRun, read_run};
-use crate::words::{run_options, source_arg};
-use clap::{Arg, ArgAction, ArgMatches, Command};
+use clap::ArgMatches;
 use cmd_answer::{Reply, Status};
 use lab_explain::{Explained, Ran, Standing, explained_json, explained_text, run_machine, stand};
 use lab_watch::{Watcher, watched_pipe};
@@ -20,22 +19,6 @@ use std::alloc::{AllocError, Global};
 
 /// How many statements more than its budget has cycles the meaning of a run is not to be stuck in.
 const STATEMENTS_AHEAD: u32 = 64;
-
-/// The words of `explain`.
-pub fn explain_command<'a>(alloc: Global) -> Result<Command<'a>, AllocError> {
-    let form = Arg::new(alloc, "as")
-        .long("as")
-        .value_name("FORM")
-        .action(ArgAction::Set)
-        .default_value("text")
-        .value_parser(["text", "json"].as_slice())
-        .help("the form of what is told");
-    let bare = Command::new(alloc, "explain")
-        .about("tells how a run stands beside what the source means")
-        .arg(source_arg(alloc))?
-        .arg(form)?;
-    run_options(alloc, bare)
-}
 
 // What is told of a run and a meaning, in a form.
 fn told(

@@ -1,10 +1,9 @@
-//! `interrupts`: its words and its reply.
+//! The reply of `interrupts`.
 ghost use Rattle.std.specs.Prelude.{◌≤◌, ◌<◌, IfOk};
 
 use crate::given::{number_given, word_given};
 use crate::ran::{GivenRun, read_run};
-use crate::words::{MOST_BUDGET, budget_option, input_option, number_option, source_arg};
-use clap::{Arg, ArgAction, ArgMatches, Command, value_parser};
+use clap::ArgMatches;
 use cmd_answer::{Reply, Status, line_reply};
 use lab_interrupts::{
     Places, Run, Span, Sweep, cycles_in, pairs, places_of, run_with, singles, sweep_csv,
@@ -21,54 +20,6 @@ const MOST_RUNS: u64 = 100_000;
 /// The most cycles of which each two make a run.
 const MOST_PAIRED: u64 = 447;
 
-// The option for the last cycle.
-fn to_option<'a>(alloc: Global) -> Arg<'a> {
-    Arg::new(alloc, "to")
-        .long("to")
-        .value_name("N")
-        .action(ArgAction::Set)
-        .value_parser(value_parser!(u32).range(0..=MOST_BUDGET))
-        .help("the last cycle in which a request comes; that of the undisturbed run without it")
-}
-
-// The form of what is told.
-fn form_option<'a>(alloc: Global) -> Arg<'a> {
-    Arg::new(alloc, "as")
-        .long("as")
-        .value_name("FORM")
-        .action(ArgAction::Set)
-        .default_value("text")
-        .value_parser(["text", "json", "csv"].as_slice())
-        .help("the form of what is told")
-}
-
-// A flag.
-fn flag<'a>(alloc: Global, name: &'a str, help: &'a str) -> Arg<'a> {
-    Arg::new(alloc, name)
-        .long(name)
-        .action(ArgAction::SetTrue)
-        .help(help)
-}
-
-/// The words of `interrupts`.
-pub fn interrupts_command<'a>(alloc: Global) -> Result<Command<'a>, AllocError> {
-    let from = "the first cycle in which a request comes";
-    let step = "how many cycles the requests of two runs are apart";
-    let in_two = "runs with a request in each two of the cycles";
-    let rows = "tells each run as well";
-    Command::new(alloc, "interrupts")
-        .about("tells what an interrupt costs, in each cycle of a run in turn")
-        .arg(source_arg(alloc))?
-        .arg(number_option(alloc, "from", "0", 0, MOST_BUDGET, from))?
-        .arg(to_option(alloc))?
-        .arg(number_option(alloc, "step", "1", 1, MOST_BUDGET, step))?
-        .arg(flag(alloc, "pairs", in_two))?
-        .arg(flag(alloc, "rows", rows))?
-        .arg(form_option(alloc))?
-        .arg(budget_option(alloc))?
-        .arg(input_option(alloc))
-}
-
 // The reply to words that cannot be followed.
 fn usage_reply(alloc: Global, text: Result<String, AllocError>) -> Result<Reply, Memory> {
     match text {
@@ -78,11 +29,7 @@ fn usage_reply(alloc: Global, text: Result<String, AllocError>) -> Result<Reply,
 }
 
 // The cycles that the words ask for, of a run whose last cycle is this one; or the reply where there are none.
-fn span_given(
-    alloc: Global,
-    matches: &ArgMatches,
-    last: u32,
-) -> Result<Result<Span, Reply>, Memory>
+fn span_given(alloc: Global, matches: &ArgMatches, last: u32) -> Result<Result<Span, Reply>, Memory>
     ensures { IfOk result (λ r. IfOk r (λ span. 0 < span.step)) }
 {
     let from = number_given(matches, "from");
@@ -159,7 +106,11 @@ fn text_of(
     sweep: &Sweep,
 ) -> Result<Vec<u8>, Memory> {
     let program = &run.program;
-    let places = places_of(alloc, program.source.lines(), program.linked.origin.as_slice());
+    let places = places_of(
+        alloc,
+        program.source.lines(),
+        program.linked.origin.as_slice(),
+    );
     let Ok(places) = places else {
         return Err(Memory);
     };
@@ -198,7 +149,10 @@ pub fn interrupts_reply<S: Shelf, W: Watcher>(
     let image = &run.program.linked.image;
     let none = Requests::none(alloc);
     let undisturbed = run_with(alloc, image, run.asked_input(), &none, run.budget)?;
-    let last = undisturbed.cycles.saturating_sub(1).min(u64::from(run.budget)) as u32;
+    let last = undisturbed
+        .cycles
+        .saturating_sub(1)
+        .min(u64::from(run.budget)) as u32;
     let span = match span_given(alloc, matches, last)? {
         Ok(span) => span,
         Err(reply) => return Ok(reply),

@@ -15,6 +15,7 @@ mod planned;
 mod printed;
 mod profiled;
 mod ran;
+mod table;
 mod top;
 mod traced;
 mod words;

@@ -1,10 +1,9 @@
-//! `plans`: its words and its reply.
+//! The reply of `plans`.
 ghost use Rattle.std.specs.Prelude.{◌≤◌, length, IfOk};
 
 use crate::given::{file_given, file_if_given, number_given};
 use crate::linked::{overlong_reply, read_source};
-use crate::words::{run_options, source_arg};
-use clap::{Arg, ArgAction, ArgMatches, Command};
+use clap::ArgMatches;
 use cmd_answer::{Reply, Status, line_reply};
 use cmd_simulate::{read_input, read_requests};
 use lab_plans::planned_reply;
@@ -14,37 +13,10 @@ use mx_io::{Memory, Shelf, ShelfFault};
 use mx_link::LinkError;
 use mx_plans::{PlanError, PlanLine, print_plans, read_plans};
 use mx_source::Source;
-use std::alloc::{AllocError, Global};
+use std::alloc::Global;
 
 /// The most bytes of a plan file.
 const MOST_BYTES: usize = 1_048_576;
-
-// The file, unless one is printed.
-fn file_arg<'a>(alloc: Global) -> Result<Arg<'a>, AllocError> {
-    let bare = Arg::new(alloc, "FILE")
-        .action(ArgAction::Set)
-        .help("the plans, a line for each block");
-    bare.required_unless_present("print")
-}
-
-// The flag that asks for a file.
-fn print_flag<'a>(alloc: Global) -> Result<Arg<'a>, AllocError> {
-    let bare = Arg::new(alloc, "print")
-        .long("print")
-        .action(ArgAction::SetTrue)
-        .help("prints the plans of the list scheduler");
-    bare.conflicts_with("FILE")
-}
-
-/// The words of `plans`.
-pub fn plans_command<'a>(alloc: Global) -> Result<Command<'a>, AllocError> {
-    let bare = Command::new(alloc, "plans")
-        .about("runs a source by plans from a file")
-        .arg(source_arg(alloc))?
-        .arg(file_arg(alloc)?)?
-        .arg(print_flag(alloc)?)?;
-    run_options(alloc, bare)
-}
 
 // The bytes of a plan file, or the reply to its fault.
 fn read_plan_file<S: Shelf>(

@@ -1,66 +1,14 @@
-//! `profile`: its words and its reply.
+//! The reply of `profile`.
 use crate::given::word_given;
 use crate::ran::{GivenRun, read_run};
-use crate::words::{run_options, source_arg};
-use clap::{Arg, ArgAction, ArgMatches, Command};
+use clap::ArgMatches;
 use cmd_answer::{Reply, Status};
 use lab_costs::{By, Calls, Column, Subject, callgrind, calls_of, profile_json, profile_text};
 use lab_profile::{Profile, profile_of};
 use lab_watch::{Watcher, watched_pipe};
 use mx_icache::LineCache;
 use mx_io::{Memory, Shelf};
-use std::alloc::{AllocError, Global};
-
-// An option that takes one of some words.
-fn choice<'a>(
-    alloc: Global,
-    name: &'a str,
-    words: &'static [&'static str],
-    default: &'a str,
-    help: &'a str,
-) -> Arg<'a> {
-    Arg::new(alloc, name)
-        .long(name)
-        .action(ArgAction::Set)
-        .default_value(default)
-        .value_parser(&*words)
-        .help(help)
-}
-
-/// The words of `profile`.
-pub fn profile_command<'a>(alloc: Global) -> Result<Command<'a>, AllocError> {
-    let bare = Command::new(alloc, "profile")
-        .about("tells what each part of a source costs in a run")
-        .arg(source_arg(alloc))?
-        .arg(choice(
-            alloc,
-            "by",
-            ["line", "label", "function", "c"].as_slice(),
-            "line",
-            "the parts that are told: lines, labels, functions, or lines of C",
-        )
-        .value_name("PART"))?
-        .arg(choice(
-            alloc,
-            "sort",
-            [
-                "line", "count", "cycles", "cpi", "stalls", "noops", "squashed", "killed",
-            ]
-            .as_slice(),
-            "line",
-            "the column whose greatest number comes first; line is the order of the source",
-        )
-        .value_name("COLUMN"))?
-        .arg(choice(
-            alloc,
-            "as",
-            ["text", "json", "callgrind"].as_slice(),
-            "text",
-            "the form of the profile",
-        )
-        .value_name("FORM"))?;
-    run_options(alloc, bare)
-}
+use std::alloc::Global;
 
 // The parts that the words ask for.
 fn by_given(matches: &ArgMatches) -> By {

@@ -28,7 +28,7 @@ fn status_of(kind: ErrorKind) -> Status {
     }
 }
 
-// The reply of a command. Another one is added here and in `command_line`.
+// The reply of a command. Another one is added here and in the table of commands.
 fn answered_by<S: Shelf, T: Watcher>(
     alloc: Global,
     name: &str,

@@ -1,31 +1,13 @@
-//! `trace`: its words and its reply.
+//! The reply of `trace`.
 use crate::given::word_given;
 use crate::ran::read_run;
-use crate::words::{run_options, source_arg};
-use clap::{Arg, ArgAction, ArgMatches, Command};
+use clap::ArgMatches;
 use cmd_answer::{Reply, Status};
 use lab_trace::trace_of;
 use lab_watch::{Watcher, watched_pipe};
 use mx_icache::LineCache;
 use mx_io::{Memory, Shelf};
-use std::alloc::{AllocError, Global};
-
-/// The words of `trace`.
-pub fn trace_command<'a>(alloc: Global) -> Result<Command<'a>, AllocError> {
-    let bare = Command::new(alloc, "trace")
-        .about("tells each turn of a run, for programs that replay it")
-        .arg(source_arg(alloc))?
-        .arg(
-            Arg::new(alloc, "as")
-                .long("as")
-                .value_name("FORM")
-                .action(ArgAction::Set)
-                .default_value("jsonl")
-                .value_parser(["jsonl"].as_slice())
-                .help("the form of the trace: a JSON text a line"),
-        )?;
-    run_options(alloc, bare)
-}
+use std::alloc::Global;
 
 /// The reply to `trace SOURCE`.
 pub fn trace_reply<S: Shelf, W: Watcher>(

@@ -1,150 +1,148 @@
-//! The words of the command line.
-use crate::cached::caches_command;
-use crate::checked::check_command;
-use crate::compared::compare_command;
-use crate::disassembled::disassemble_command;
-use crate::explained::explain_command;
-use crate::interrupted::interrupts_command;
-use crate::planned::plans_command;
-use crate::profiled::profile_command;
-use crate::traced::trace_command;
+//! The words of the command line, by the table of commands.
+use crate::table::{COMMANDS, CommandRow, Names, OptionRow, Takes};
 use clap::{Arg, ArgAction, ArgMatches, Command, value_parser};
 use std::alloc::{AllocError, Global};
 
-/// The most cycles of a run.
-pub const MOST_BUDGET: i64 = 100_000_000;
+/// What is said of a source.
+const SOURCE: &str = "the source, in assembly language; - is standard input";
 
-/// The most cycles of a drawing.
-pub const MOST_DRAWN: i64 = 100_000;
-
-/// The source, which stands first.
-pub fn source_arg<'a>(alloc: Global) -> Arg<'a> {
-    Arg::new(alloc, "SOURCE")
+// A name that has to be there.
+fn name_arg<'a>(alloc: Global, name: &'static str, help: &'static str) -> Arg<'a> {
+    Arg::new(alloc, name)
         .required(true)
         .action(ArgAction::Set)
-        .help("the source, in assembly language; - is standard input")
-}
-
-// An option with a file's name.
-fn file_option<'a>(alloc: Global, name: &'a str, help: &'a str) -> Arg<'a> {
-    Arg::new(alloc, name)
-        .long(name)
-        .value_name("FILE")
-        .action(ArgAction::Set)
         .help(help)
 }
 
-/// An option with a number.
-pub fn number_option<'a>(
-    alloc: Global,
-    name: &'a str,
-    default: &'a str,
-    least: i64,
-    most: i64,
-    help: &'a str,
-) -> Arg<'a> {
-    Arg::new(alloc, name)
-        .long(name)
+// What stands first behind a command.
+fn first_arg<'a>(alloc: Global, names: Names) -> Arg<'a> {
+    match names {
+        Names::File => name_arg(
+            alloc,
+            "FILE",
+            "the source, in assembly language, or the image file",
+        ),
+        Names::Sources => name_arg(alloc, "SOURCE", SOURCE)
+            .num_args(1..)
+            .action(ArgAction::Append),
+        Names::Source | Names::Plans => name_arg(alloc, "SOURCE", SOURCE),
+    }
+}
+
+// An option, before what it takes is said.
+fn bare_option<'a>(alloc: Global, row: &OptionRow) -> Arg<'a> {
+    Arg::new(alloc, row.name).long(row.name).help(row.help)
+}
+
+// An option that takes a number.
+fn number_option<'a>(alloc: Global, row: &OptionRow, least: i64, most: i64) -> Arg<'a> {
+    bare_option(alloc, row)
         .value_name("N")
         .action(ArgAction::Set)
-        .default_value(default)
         .value_parser(value_parser!(u32).range(least..=most))
-        .help(help)
 }
 
-/// The most cycles of a run.
-pub fn budget_option<'a>(alloc: Global) -> Arg<'a> {
-    let most = "the most cycles that the run may take";
-    number_option(alloc, "budget", "1000000", 1, MOST_BUDGET, most)
+// An option that takes one of some words.
+fn word_option<'a>(
+    alloc: Global,
+    row: &OptionRow,
+    called: &'static str,
+    words: &'static [&'static str],
+) -> Arg<'a> {
+    bare_option(alloc, row)
+        .value_name(called)
+        .action(ArgAction::Set)
+        .value_parser(&*words)
 }
 
-/// The input of a run.
-pub fn input_option<'a>(alloc: Global) -> Arg<'a> {
-    file_option(alloc, "input", "the bytes of the input")
+// The option of a row.
+fn option_arg<'a>(alloc: Global, row: &OptionRow) -> Arg<'a> {
+    match row.takes {
+        Takes::Nothing => bare_option(alloc, row).action(ArgAction::SetTrue),
+        Takes::File => bare_option(alloc, row)
+            .value_name("FILE")
+            .action(ArgAction::Set),
+        Takes::Number {
+            default: Some(default),
+            least,
+            most,
+        } => number_option(alloc, row, least, most).default_value(default),
+        Takes::Number {
+            default: None,
+            least,
+            most,
+        } => number_option(alloc, row, least, most),
+        Takes::Word {
+            called,
+            words,
+            default,
+        } => word_option(alloc, row, called, words).default_value(default),
+    }
 }
 
-/// The options of a run: its budget, its interrupt requests and its input.
-pub fn run_options<'a>(alloc: Global, command: Command<'a>) -> Result<Command<'a>, AllocError> {
-    command
-        .arg(budget_option(alloc))?
-        .arg(file_option(
-            alloc,
-            "interrupts",
-            "the cycles in which an interrupt is requested",
-        ))?
-        .arg(input_option(alloc))
+// The plan file, unless one is printed.
+fn plans_arg<'a>(alloc: Global) -> Result<Arg<'a>, AllocError> {
+    let bare = Arg::new(alloc, "FILE")
+        .action(ArgAction::Set)
+        .help("the plans, a line for each block");
+    bare.required_unless_present("print")
+}
+
+// The flag that asks for a plan file.
+fn print_flag<'a>(alloc: Global) -> Result<Arg<'a>, AllocError> {
+    let bare = Arg::new(alloc, "print")
+        .long("print")
+        .action(ArgAction::SetTrue)
+        .help("prints the plans of the list scheduler");
+    bare.conflicts_with("FILE")
 }
 
 // The file that a command's output goes to.
-fn with_output<'a>(alloc: Global, command: Command<'a>) -> Result<Command<'a>, AllocError> {
-    command.arg(
-        Arg::new(alloc, "output")
-            .short('o')
-            .long("output")
-            .value_name("FILE")
-            .action(ArgAction::Set)
-            .help("writes what is printed to a file"),
-    )
-}
-
-// The form of a picture.
-fn form_option<'a>(alloc: Global) -> Arg<'a> {
-    Arg::new(alloc, "as")
-        .long("as")
-        .value_name("FORM")
+fn output_option<'a>(alloc: Global) -> Arg<'a> {
+    Arg::new(alloc, "output")
+        .short('o')
+        .long("output")
+        .value_name("FILE")
         .action(ArgAction::Set)
-        .default_value("text")
-        .value_parser(["text", "svg", "html", "json", "kanata", "vcd"].as_slice())
-        .help("the form of the picture")
+        .help("writes what is printed to a file")
 }
 
-// `draw`.
-fn draw_command<'a>(alloc: Global) -> Result<Command<'a>, AllocError> {
-    let bare = Command::new(alloc, "draw")
-        .about("draws the instructions of a run by its cycles")
-        .arg(source_arg(alloc))?
-        .arg(form_option(alloc))?
-        .arg(number_option(
-            alloc,
-            "from",
-            "0",
-            0,
-            MOST_BUDGET,
-            "the first cycle that is drawn",
-        ))?
-        .arg(number_option(
-            alloc,
-            "cycles",
-            "64",
-            1,
-            MOST_DRAWN,
-            "how many cycles are drawn",
-        ))?;
-    run_options(alloc, bare)
+// A command with what stands behind it, before its options.
+fn named_command<'a>(alloc: Global, row: &CommandRow) -> Result<Command<'a>, AllocError> {
+    let bare = Command::new(alloc, row.name)
+        .about(row.about)
+        .arg(first_arg(alloc, row.names))?;
+    if row.names == Names::Plans {
+        return bare.arg(plans_arg(alloc)?)?.arg(print_flag(alloc)?);
+    }
+    Ok(bare)
 }
 
-// The whole command line. Another command is added here and in `answered_by`.
-fn command_line<'a>(alloc: Global) -> Result<Command<'a>, AllocError> {
-    Command::new(alloc, "mx_lab")
+// The command of a row.
+fn command_of<'a>(alloc: Global, row: &CommandRow) -> Result<Command<'a>, AllocError> {
+    let mut command = named_command(alloc, row)?;
+    for option in row.options {
+        command = command.arg(option_arg(alloc, option))?;
+    }
+    command.arg(output_option(alloc))
+}
+
+// The whole command line.
+fn command_line<'a>(alloc: Global, rows: &[CommandRow]) -> Result<Command<'a>, AllocError> {
+    let mut whole = Command::new(alloc, "mx_lab")
         .about("Shows what a program for MIPS-X does, in pictures and tables.")
         .version("1.0")
         .subcommand_required(true)
-        .arg_required_else_help(true)
-        .subcommand(with_output(alloc, draw_command(alloc)?)?)?
-        .subcommand(with_output(alloc, check_command(alloc)?)?)?
-        .subcommand(with_output(alloc, explain_command(alloc)?)?)?
-        .subcommand(with_output(alloc, profile_command(alloc)?)?)?
-        .subcommand(with_output(alloc, compare_command(alloc)?)?)?
-        .subcommand(with_output(alloc, disassemble_command(alloc)?)?)?
-        .subcommand(with_output(alloc, caches_command(alloc)?)?)?
-        .subcommand(with_output(alloc, interrupts_command(alloc)?)?)?
-        .subcommand(with_output(alloc, trace_command(alloc)?)?)?
-        .subcommand(with_output(alloc, plans_command(alloc)?)?)
+        .arg_required_else_help(true);
+    for row in rows {
+        whole = whole.subcommand(command_of(alloc, row)?)?;
+    }
+    Ok(whole)
 }
 
 /// What the words say.
 pub fn read_words<'a>(alloc: Global, words: &'a [String]) -> Result<ArgMatches<'a>, clap::Error> {
-    command_line(alloc)?
+    command_line(alloc, COMMANDS)?
         .no_binary_name(true)
         .try_get_matches_from(words)
 }

@@ -1,0 +1,397 @@
+//! The table of commands: their names, what stands behind them, and their options.
+
+/// The most cycles of a run.
+const MOST_BUDGET: i64 = 100_000_000;
+
+/// The most cycles of a drawing.
+const MOST_DRAWN: i64 = 100_000;
+
+/// The most words of a line of a cache, and the greatest cost of a miss.
+const MOST_WORDS: i64 = 64;
+
+const MOST_PENALTY: i64 = 1000;
+
+/// What stands behind the name of a command.
+#[derive(Clone, Copy, PartialEq, Eq)]
+pub enum Names {
+    /// A source.
+    Source,
+    /// One source or more.
+    Sources,
+    /// A source or an image file.
+    File,
+    /// A source and a plan file, or the flag that asks for one.
+    Plans,
+}
+
+/// What stands behind the name of an option.
+#[derive(Clone, Copy)]
+pub enum Takes {
+    Nothing,
+    File,
+    /// A number, and the one that is taken where it is left out, if there is one.
+    Number {
+        default: Option<&'static str>,
+        least: i64,
+        most: i64,
+    },
+    /// One of some words, what it is called in help, and the word that is taken where it is left out.
+    Word {
+        called: &'static str,
+        words: &'static [&'static str],
+        default: &'static str,
+    },
+}
+
+/// An option, without its two hyphens.
+#[derive(Clone, Copy)]
+pub struct OptionRow {
+    pub name: &'static str,
+    pub takes: Takes,
+    pub help: &'static str,
+}
+
+/// A command.
+#[derive(Clone, Copy)]
+pub struct CommandRow {
+    pub name: &'static str,
+    pub about: &'static str,
+    pub names: Names,
+    pub options: &'static [OptionRow],
+}
+
+const BUDGET: OptionRow = OptionRow {
+    name: "budget",
+    takes: Takes::Number {
+        default: Some("1000000"),
+        least: 1,
+        most: MOST_BUDGET,
+    },
+    help: "the most cycles that the run may take",
+};
+
+const INTERRUPTS: OptionRow = OptionRow {
+    name: "interrupts",
+    takes: Takes::File,
+    help: "the cycles in which an interrupt is requested",
+};
+
+const INPUT: OptionRow = OptionRow {
+    name: "input",
+    takes: Takes::File,
+    help: "the bytes of the input",
+};
+
+// The form of what is printed.
+const TEXT_JSON: [&str; 2] = ["text", "json"];
+
+const TEXT_JSON_CSV: [&str; 3] = ["text", "json", "csv"];
+
+const PICTURES: [&str; 6] = ["text", "svg", "html", "json", "kanata", "vcd"];
+
+const DRAW: [OptionRow; 6] = [
+    OptionRow {
+        name: "as",
+        takes: Takes::Word {
+            called: "FORM",
+            words: &PICTURES,
+            default: "text",
+        },
+        help: "the form of the picture",
+    },
+    OptionRow {
+        name: "from",
+        takes: Takes::Number {
+            default: Some("0"),
+            least: 0,
+            most: MOST_BUDGET,
+        },
+        help: "the first cycle that is drawn",
+    },
+    OptionRow {
+        name: "cycles",
+        takes: Takes::Number {
+            default: Some("64"),
+            least: 1,
+            most: MOST_DRAWN,
+        },
+        help: "how many cycles are drawn",
+    },
+    BUDGET,
+    INTERRUPTS,
+    INPUT,
+];
+
+const CHECK: [OptionRow; 3] = [
+    OptionRow {
+        name: "all",
+        takes: Takes::Nothing,
+        help: "shows more than the first twenty",
+    },
+    OptionRow {
+        name: "as",
+        takes: Takes::Word {
+            called: "FORM",
+            words: &TEXT_JSON,
+            default: "text",
+        },
+        help: "the form of what is found",
+    },
+    OptionRow {
+        name: "colour",
+        takes: Takes::Word {
+            called: "WHEN",
+            words: &["always", "never"],
+            default: "never",
+        },
+        help: "whether the text is in the colours of a terminal",
+    },
+];
+
+const EXPLAIN: [OptionRow; 4] = [
+    OptionRow {
+        name: "as",
+        takes: Takes::Word {
+            called: "FORM",
+            words: &TEXT_JSON,
+            default: "text",
+        },
+        help: "the form of what is told",
+    },
+    BUDGET,
+    INTERRUPTS,
+    INPUT,
+];
+
+const PROFILE: [OptionRow; 6] = [
+    OptionRow {
+        name: "by",
+        takes: Takes::Word {
+            called: "PART",
+            words: &["line", "label", "function", "c"],
+            default: "line",
+        },
+        help: "the parts that are told: lines, labels, functions, or lines of C",
+    },
+    OptionRow {
+        name: "sort",
+        takes: Takes::Word {
+            called: "COLUMN",
+            words: &[
+                "line", "count", "cycles", "cpi", "stalls", "noops", "squashed", "killed",
+            ],
+            default: "line",
+        },
+        help: "the column whose greatest number comes first; line is the order of the source",
+    },
+    OptionRow {
+        name: "as",
+        takes: Takes::Word {
+            called: "FORM",
+            words: &["text", "json", "callgrind"],
+            default: "text",
+        },
+        help: "the form of the profile",
+    },
+    BUDGET,
+    INTERRUPTS,
+    INPUT,
+];
+
+const COMPARE: [OptionRow; 4] = [
+    OptionRow {
+        name: "as",
+        takes: Takes::Word {
+            called: "FORM",
+            words: &TEXT_JSON_CSV,
+            default: "text",
+        },
+        help: "the form of the comparison",
+    },
+    BUDGET,
+    INTERRUPTS,
+    INPUT,
+];
+
+const DISASSEMBLE: [OptionRow; 1] = [OptionRow {
+    name: "as",
+    takes: Takes::Word {
+        called: "FORM",
+        words: &TEXT_JSON,
+        default: "text",
+    },
+    help: "the form of the listing",
+}];
+
+const CACHES: [OptionRow; 6] = [
+    OptionRow {
+        name: "as",
+        takes: Takes::Word {
+            called: "FORM",
+            words: &["text", "json", "svg"],
+            default: "text",
+        },
+        help: "the form of the table",
+    },
+    OptionRow {
+        name: "line",
+        takes: Takes::Number {
+            default: Some("16"),
+            least: 1,
+            most: MOST_WORDS,
+        },
+        help: "the words of a line",
+    },
+    OptionRow {
+        name: "brings",
+        takes: Takes::Number {
+            default: Some("2"),
+            least: 1,
+            most: MOST_WORDS,
+        },
+        help: "the words that a miss brings, at most those of a line",
+    },
+    OptionRow {
+        name: "penalty",
+        takes: Takes::Number {
+            default: Some("2"),
+            least: 0,
+            most: MOST_PENALTY,
+        },
+        help: "the cycles that a miss costs",
+    },
+    BUDGET,
+    INPUT,
+];
+
+const SWEEP: [OptionRow; 8] = [
+    OptionRow {
+        name: "from",
+        takes: Takes::Number {
+            default: Some("0"),
+            least: 0,
+            most: MOST_BUDGET,
+        },
+        help: "the first cycle in which a request comes",
+    },
+    OptionRow {
+        name: "to",
+        takes: Takes::Number {
+            default: None,
+            least: 0,
+            most: MOST_BUDGET,
+        },
+        help: "the last cycle in which a request comes; that of the undisturbed run without it",
+    },
+    OptionRow {
+        name: "step",
+        takes: Takes::Number {
+            default: Some("1"),
+            least: 1,
+            most: MOST_BUDGET,
+        },
+        help: "how many cycles the requests of two runs are apart",
+    },
+    OptionRow {
+        name: "pairs",
+        takes: Takes::Nothing,
+        help: "runs with a request in each two of the cycles",
+    },
+    OptionRow {
+        name: "rows",
+        takes: Takes::Nothing,
+        help: "tells each run as well",
+    },
+    OptionRow {
+        name: "as",
+        takes: Takes::Word {
+            called: "FORM",
+            words: &TEXT_JSON_CSV,
+            default: "text",
+        },
+        help: "the form of what is told",
+    },
+    BUDGET,
+    INPUT,
+];
+
+const TRACE: [OptionRow; 4] = [
+    OptionRow {
+        name: "as",
+        takes: Takes::Word {
+            called: "FORM",
+            words: &["jsonl"],
+            default: "jsonl",
+        },
+        help: "the form of the trace: a JSON text a line",
+    },
+    BUDGET,
+    INTERRUPTS,
+    INPUT,
+];
+
+const PLANS: [OptionRow; 3] = [BUDGET, INTERRUPTS, INPUT];
+
+/// The commands, in the order in which help tells them. Another one is added here and in `answered_by`.
+pub const COMMANDS: &[CommandRow] = &[
+    CommandRow {
+        name: "draw",
+        about: "draws the instructions of a run by its cycles",
+        names: Names::Source,
+        options: &DRAW,
+    },
+    CommandRow {
+        name: "check",
+        about: "tells every faulty line of a source, and what is wrong with it",
+        names: Names::Source,
+        options: &CHECK,
+    },
+    CommandRow {
+        name: "explain",
+        about: "tells how a run stands beside what the source means",
+        names: Names::Source,
+        options: &EXPLAIN,
+    },
+    CommandRow {
+        name: "profile",
+        about: "tells what each part of a source costs in a run",
+        names: Names::Source,
+        options: &PROFILE,
+    },
+    CommandRow {
+        name: "compare",
+        about: "compares what four schedulers make of a source, or of several",
+        names: Names::Sources,
+        options: &COMPARE,
+    },
+    CommandRow {
+        name: "disassemble",
+        about: "lists the words of a source or an image file in assembly language",
+        names: Names::File,
+        options: &DISASSEMBLE,
+    },
+    CommandRow {
+        name: "caches",
+        about: "tells what other caches would make of a run",
+        names: Names::Source,
+        options: &CACHES,
+    },
+    CommandRow {
+        name: "interrupts",
+        about: "tells what an interrupt costs, in each cycle of a run in turn",
+        names: Names::Source,
+        options: &SWEEP,
+    },
+    CommandRow {
+        name: "trace",
+        about: "tells each turn of a run, for programs that replay it",
+        names: Names::Source,
+        options: &TRACE,
+    },
+    CommandRow {
+        name: "plans",
+        about: "runs a source by plans from a file",
+        names: Names::Plans,
+        options: &PLANS,
+    },
+];
