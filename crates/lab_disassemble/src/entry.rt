@@ -1,5 +1,11 @@
 //! What is told of a word.
+ghost use Rattle.std.specs.Prelude.{IfOk};
+ghost use Rattle.lab_words.specs.Naming.{Naming, NameAlike, naming};
+ghost use Rattle.lab_disassemble.specs.Listed.{IsEntry};
+
 use crate::places::Place;
+use lab_words::{PlaceNames, word_text};
+use std::alloc::{AllocError, Global};
 
 /// A word of a code, with what is told of it.
 #[derive(Drop)]
@@ -26,4 +32,28 @@ pub struct Listing {
     pub entries: Vec<Entry>,
     /// Whether lines, blocks and places are known.
     pub has_places: bool,
+}
+
+impl Entry {
+    /// What is told of a word at an address by itself.
+    pub(crate) fn of_word(
+        alloc: Global,
+        names: &PlaceNames,
+        address: u32,
+        word: u32,
+    ) -> Result<Entry, AllocError>
+        ensures { (n : Naming) → NameAlike (naming names.now) n → IfOk result (IsEntry n address word) }
+    {
+        let text = word_text(alloc, names, address, word)?;
+        Ok(Entry {
+            address,
+            word,
+            text,
+            labels: Vec::new(alloc),
+            statements: None,
+            line: 0,
+            block: 0,
+            place: None,
+        })
+    }
 }

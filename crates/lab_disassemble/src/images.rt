@@ -1,8 +1,7 @@
 //! The words of an image file.
 use crate::entry::{Entry, Listing};
-use crate::instruction::instruction_text;
 use indexmap::IndexMap;
-use lab_pictures::PlaceNames;
+use lab_words::PlaceNames;
 use mx_image::ImageFile;
 use mx_isa::CODE_BASE;
 use std::alloc::{AllocError, Global};
@@ -18,20 +17,11 @@ pub fn image_listing(alloc: Global, file: &ImageFile) -> Result<Listing, AllocEr
         let here = file.links.get(begun..).unwrap_or(&[]);
         let beginning = here.iter().take_while(|link| **link == address).count();
         let next = begun.saturating_add(beginning);
-        entries.push(Entry {
-            address,
-            word: *word,
-            text: instruction_text(alloc, &names, address, *word)?,
-            labels: Vec::new(alloc),
-            statements: if beginning > 0 {
-                Some((begun.min(20_001) as u32, next.min(20_001) as u32))
-            } else {
-                None
-            },
-            line: 0,
-            block: 0,
-            place: None,
-        })?;
+        let mut entry = Entry::of_word(alloc, &names, address, *word)?;
+        if beginning > 0 {
+            entry.statements = Some((begun.min(20_001) as u32, next.min(20_001) as u32));
+        }
+        entries.push(entry)?;
         begun = next;
         address = address.saturating_add(1);
     }

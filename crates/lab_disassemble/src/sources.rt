@@ -1,8 +1,11 @@
 //! The words of a linked source.
+ghost use Rattle.std.specs.Prelude.{IfOk, length, slice_index};
+ghost use Rattle.lab_words.specs.Naming.{Naming, NameAlike, naming, names_of};
+ghost use Rattle.lab_disassemble.specs.Listed.{AreEntries};
+
 use crate::entry::{Entry, Listing};
-use crate::instruction::instruction_text;
 use crate::places::place_at;
-use lab_pictures::{NamedPlace, PlaceNames};
+use lab_words::{NamedPlace, PlaceNames};
 use mx_isa::CODE_BASE;
 use mx_link::Linked;
 use mx_source::Source;
@@ -42,13 +45,16 @@ fn labels_at(
     Ok(labels)
 }
 
-// The words of a linked source, with the names of its places.
+/// The words of a linked source, with the names of its places.
 fn entries_of(
     alloc: Global,
     source: &Source,
     linked: &Linked,
     names: &PlaceNames,
-) -> Result<Vec<Entry>, AllocError> {
+) -> Result<Vec<Entry>, AllocError>
+    ensures { (n : Naming) → NameAlike (naming names.now) n →
+        IfOk result (λ entries. AreEntries n linked.now.image.code.items entries.items) }
+{
     let labels = code_labels(alloc, names)?;
     let mut left = labels.as_slice();
     let (statements, lines) = (source.statements(), source.lines());
@@ -65,18 +71,14 @@ fn entries_of(
         }
         let named = labels_at(alloc, names, left, address)?;
         left = left.get(named.len()..).unwrap_or(&[]);
-        entries.push(Entry {
-            address,
-            word: *word,
-            text: instruction_text(alloc, names, address, *word)?,
-            labels: named,
-            statements: None,
-            line: statement
-                .and_then(|statement| lines.get(statement as usize).copied())
-                .unwrap_or(0),
-            block,
-            place,
-        })?;
+        let mut entry = Entry::of_word(alloc, names, address, *word)?;
+        entry.labels = named;
+        entry.line = statement
+            .and_then(|statement| lines.get(statement as usize).copied())
+            .unwrap_or(0);
+        entry.block = block;
+        entry.place = place;
+        entries.push(entry)?;
         address = address.saturating_add(1);
     }
     Ok(entries)
@@ -87,15 +89,20 @@ pub fn source_listing(
     alloc: Global,
     source: &Source,
     linked: &Linked,
-) -> Result<Listing, AllocError> {
+) -> Result<Listing, AllocError>
+    ensures { IfOk result (λ listing. AreEntries
+        (names_of source.now.labels (slice_index linked.now.links.items) (length linked.now.image.code.items) (length source.now.user_data))
+        linked.now.image.code.items listing.entries.items) }
+{
     let names = PlaceNames::new(
         alloc,
         source,
         linked.links.as_slice(),
         linked.image.code.len(),
     )?;
+    let entries = entries_of(alloc, source, linked, &names)?;
     Ok(Listing {
-        entries: entries_of(alloc, source, linked, &names)?,
+        entries,
         has_places: true,
     })
 }

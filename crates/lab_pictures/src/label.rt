@@ -1,6 +1,6 @@
 //! The label of a row.
-use crate::assembly::push_instruction;
 use crate::subject::{Standing, Subject};
+use lab_words::push_instruction;
 use mx_code::decode;
 use mx_link::Origin;
 use std::alloc::{AllocError, Global};

@@ -1,7 +1,6 @@
 //! Drawings of a run as pictures: texts, SVG, HTML, JSON, and the formats Kanata and VCD.
 #![tactic(auto)]
 
-mod assembly;
 mod bands;
 mod document;
 mod ending;
@@ -11,7 +10,6 @@ mod konata;
 mod label;
 mod marks;
 mod members;
-mod names;
 mod page;
 mod picture;
 mod script;
@@ -20,12 +18,11 @@ mod subject;
 mod waves;
 mod ways;
 
-pub use assembly::push_instruction;
 pub use bands::text;
 pub use document::html;
 pub use json_document::json;
 pub use konata::kanata;
-pub use names::{NamedPlace, PlaceNames};
+pub use lab_words::{NamedPlace, PlaceNames};
 pub use picture::svg;
 pub use subject::Subject;
 pub use waves::vcd;

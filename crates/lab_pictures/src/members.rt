@@ -1,10 +1,10 @@
 //! The data of a drawing as JSON, which the page of HTML holds and `json` hands out.
 use crate::ending::push_ending;
 use crate::label::label_of;
-use crate::names::{NamedPlace, PlaceNames};
 use crate::subject::{Standing, Subject};
 use crate::ways::{Way, way_of};
 use lab_draw::{Cell, Frame, Row};
+use lab_words::{NamedPlace, PlaceNames};
 use mx_isa::{CODE_BASE, Inst};
 use mx_link::Origin;
 use mx_turn::{Latches, SHIPPED, Stage};

@@ -1,6 +1,6 @@
 //! What a picture shows.
-use crate::names::PlaceNames;
 use lab_draw::Drawing;
+use lab_words::PlaceNames;
 use mx_code::decode;
 use mx_isa::Inst;
 use mx_link::{Linked, Origin};

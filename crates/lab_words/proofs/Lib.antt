@@ -1,0 +1,6 @@
+mod Again
+mod Alike
+mod Firsts
+mod Keeping
+mod Named
+mod SourceLabels

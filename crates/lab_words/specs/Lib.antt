@@ -1,0 +1,4 @@
+pub mod Naming
+pub mod Tables
+pub mod Texts
+pub mod Assembling
