@@ -3,7 +3,7 @@ use crate::geometry::Geometry;
 use std::alloc::{AllocError, Global};
 
 /// A line that is held: its number, and a bit for each of its words that is valid.
-#[derive(Clone, Copy, Debug, PartialEq, Eq)]
+#[derive(Clone, Copy)]
 struct Held {
     line: u32,
     valid: u64,

@@ -57,59 +57,77 @@ fn share_of(rows: &[CacheRow], fetches: u64, size: u64, ways: u32) -> Option<u64
     Some(share(row.misses, fetches))
 }
 
-// Appends the lines across and what they stand for.
-fn push_lines(alloc: Global, svg: &mut String, most: u64) -> Result<(), AllocError> {
+// Appends the line across for a share, and what it stands for.
+fn push_line(svg: &mut String, part: u64, most: u64) -> Result<(), AllocError> {
+    let y = down(part, most);
+    let (ones, rest) = (part / 100, part % 100);
+    let right = LEFT.saturating_add(WIDTH);
+    write!(svg, "<path d=\"M{LEFT} {y}H{right}\" stroke=\"#ccc\"/>\n")?;
+    write!(
+        svg,
+        "<text x=\"62\" y=\"{y}\" text-anchor=\"end\">{ones}.{rest:02}%</text>\n"
+    )
+}
+
+// Appends the lines across.
+fn push_lines(svg: &mut String, most: u64) -> Result<(), AllocError> {
     for line in 0..=LINES {
-        let part = most.saturating_mul(line) / LINES;
-        let y = down(part, most);
-        let (ones, rest) = (part / 100, part % 100);
-        let right = LEFT.saturating_add(WIDTH);
-        let drawn = format!(in alloc;
-            "<path d=\"M{LEFT} {y}H{right}\" stroke=\"#ccc\"/>\n<text x=\"62\" y=\"{y}\" text-anchor=\"end\">{ones}.{rest:02}%</text>\n"
-        )?;
-        svg.push_str(drawn.as_str())?;
+        push_line(svg, most.saturating_mul(line) / LINES, most)?;
     }
     Ok(())
+}
+
+// Appends a size.
+fn push_size(svg: &mut String, index: u64, size: u64) -> Result<(), AllocError> {
+    let x = across(index);
+    write!(
+        svg,
+        "<text x=\"{x}\" y=\"342\" text-anchor=\"middle\">{size}</text>\n"
+    )
 }
 
 // Appends the sizes.
-fn push_sizes(alloc: Global, svg: &mut String) -> Result<(), AllocError> {
+fn push_sizes(svg: &mut String) -> Result<(), AllocError> {
     for (index, size) in SIZES.iter().enumerate() {
-        let x = across(index as u64);
-        let text = format!(in alloc;
-            "<text x=\"{x}\" y=\"342\" text-anchor=\"middle\">{size}</text>\n"
-        )?;
-        svg.push_str(text.as_str())?;
+        push_size(svg, index as u64, *size)?;
     }
     Ok(())
 }
 
-// Appends the curve of a number of ways.
+// Appends a point of a curve.
+fn push_point(svg: &mut String, x: u64, y: u64) -> Result<(), AllocError> {
+    write!(svg, "{x},{y} ")
+}
+
+// Appends the points of the curve of a number of ways.
+fn push_points(svg: &mut String, study: &Study, most: u64, ways: u32) -> Result<(), AllocError> {
+    let rows = study.rows.as_slice();
+    for (index, size) in SIZES.iter().enumerate() {
+        if let Some(part) = share_of(rows, study.counts.fetches, *size, ways) {
+            push_point(svg, across(index as u64), down(part, most))?;
+        }
+    }
+    Ok(())
+}
+
+// Appends the curve of a number of ways, and the key to it.
 fn push_curve(
-    alloc: Global,
     svg: &mut String,
     study: &Study,
     most: u64,
     curve: (u32, &str),
 ) -> Result<(), AllocError> {
     let (ways, colour) = curve;
-    svg.push_str("<polyline fill=\"none\" stroke-width=\"2\" stroke=\"")?;
-    svg.push_str(colour)?;
-    svg.push_str("\" points=\"")?;
-    for (index, size) in SIZES.iter().enumerate() {
-        let rows = study.rows.as_slice();
-        if let Some(part) = share_of(rows, study.counts.fetches, *size, ways) {
-            let (x, y) = (across(index as u64), down(part, most));
-            let point = format!(in alloc; "{x},{y} ")?;
-            svg.push_str(point.as_str())?;
-        }
-    }
-    svg.push_str("\"/>\n")?;
     let y = TOP.saturating_add(u64::from(ways).saturating_mul(18));
-    let key = format!(in alloc;
-        "<text x=\"560\" y=\"{y}\" fill=\"{colour}\">{ways} ways</text>\n"
+    write!(
+        svg,
+        "<polyline fill=\"none\" stroke-width=\"2\" stroke=\"{colour}\" points=\""
     )?;
-    svg.push_str(key.as_str())
+    push_points(svg, study, most, ways)?;
+    write!(
+        svg,
+        "\"/>\n<text x=\"560\" y=\"{y}\" fill=\"{colour}\">{ways} ways</text>\n"
+    )
 }
 
 // The greatest share of all rows, at least a hundredth of a per cent.
@@ -125,10 +143,10 @@ fn greatest(study: &Study) -> u64 {
 pub fn caches_svg(alloc: Global, study: &Study) -> Result<Vec<u8>, AllocError> {
     let most = greatest(study);
     let mut svg = String::from_str(alloc, HEAD)?;
-    push_lines(alloc, &mut svg, most)?;
-    push_sizes(alloc, &mut svg)?;
+    push_lines(&mut svg, most)?;
+    push_sizes(&mut svg)?;
     for curve in CURVES {
-        push_curve(alloc, &mut svg, study, most, curve)?;
+        push_curve(&mut svg, study, most, curve)?;
     }
     svg.push_str("</svg>\n")?;
     Ok(svg.into_bytes())

@@ -1,75 +1,70 @@
 //! Caches as JSON.
 use crate::geometry::SHIPPED;
+use crate::members::{write_flag, write_numbers, write_text};
 use crate::study::{CacheRow, Study};
 use mx_io::Memory;
-use serde::Serialize;
+use serde::{Described, Serialize, Serializer};
 use serde_json::to_vec_pretty;
-use std::alloc::{AllocError, Global};
+use std::alloc::Global;
 
-/// What a cache makes of a run.
-#[derive(Drop, Serialize)]
-struct RowRecord {
-    words: u64,
-    sets: u32,
-    ways: u32,
-    line: u32,
-    brings: u32,
-    penalty: u32,
-    shipped: bool,
-    misses: u64,
-    cycles: u64,
-}
-
-/// A study.
-#[derive(Drop, Serialize)]
+/// A study, as it is written.
+#[derive(Clone, Copy)]
 struct Document<'a> {
-    command: &'static str,
     source: &'a str,
-    halted: bool,
-    cycles: u64,
-    fetches: u64,
-    misses: u64,
-    caches: Vec<RowRecord>,
+    study: &'a Study,
 }
 
-fn row_record(row: &CacheRow) -> RowRecord {
+// Writes what a cache makes of a run.
+fn write_row<S: Serializer>(out: &mut S, row: &CacheRow) -> Result<(), S::Error> {
     let geometry = row.geometry;
-    RowRecord {
-        words: geometry.words(),
-        sets: geometry.sets,
-        ways: geometry.ways,
-        line: geometry.line,
-        brings: geometry.brings,
-        penalty: geometry.penalty,
-        shipped: geometry == SHIPPED,
-        misses: row.misses,
-        cycles: row.cycles,
-    }
+    let what = [
+        ("words", geometry.words()),
+        ("sets", u64::from(geometry.sets)),
+        ("ways", u64::from(geometry.ways)),
+        ("line", u64::from(geometry.line)),
+        ("brings", u64::from(geometry.brings)),
+        ("penalty", u64::from(geometry.penalty)),
+    ];
+    out.begin_map(Some(9))?;
+    write_numbers(out, &what)?;
+    write_flag(out, "shipped", geometry == SHIPPED)?;
+    write_numbers(out, &[("misses", row.misses), ("cycles", row.cycles)])?;
+    out.end_map()
 }
 
-fn row_records(alloc: Global, rows: &[CacheRow]) -> Result<Vec<RowRecord>, AllocError> {
-    let mut records = Vec::new(alloc);
+// Writes the caches.
+fn write_rows<S: Serializer>(out: &mut S, rows: &[CacheRow]) -> Result<(), S::Error> {
+    out.key("caches")?;
+    out.begin_seq(Some(rows.len()))?;
     for row in rows {
-        records.push(row_record(row))?;
+        write_row(out, row)?;
     }
-    Ok(records)
+    out.end_seq()
+}
+
+impl Described for Document<'_> {}
+
+impl Serialize for Document<'_> {
+    fn serialize<S: Serializer>(&self, out: &mut S) -> Result<(), S::Error> {
+        let counts = &self.study.counts;
+        let sums = [
+            ("cycles", counts.cycles),
+            ("fetches", counts.fetches),
+            ("misses", counts.misses),
+        ];
+        out.begin_map(Some(7))?;
+        write_text(out, "command", "caches")?;
+        write_text(out, "source", self.source)?;
+        write_flag(out, "halted", self.study.halted)?;
+        write_numbers(out, &sums)?;
+        write_rows(out, self.study.rows.as_slice())?;
+        out.end_map()
+    }
 }
 
 /// Caches as JSON, with the name of the source.
 pub fn caches_json(alloc: Global, source: &str, study: &Study) -> Result<Vec<u8>, Memory> {
-    let Ok(caches) = row_records(alloc, study.rows.as_slice()) else {
-        return Err(Memory);
-    };
-    let document = Document {
-        command: "caches",
-        source,
-        halted: study.halted,
-        cycles: study.counts.cycles,
-        fetches: study.counts.fetches,
-        misses: study.counts.misses,
-        caches,
-    };
-    let Ok(mut text) = to_vec_pretty(alloc, &document) else {
+    let Ok(mut text) = to_vec_pretty(alloc, &Document { source, study }) else {
         return Err(Memory);
     };
     if text.push(b'\n').is_err() {

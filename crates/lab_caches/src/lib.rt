@@ -5,6 +5,7 @@ mod cache;
 mod chart;
 mod document;
 mod geometry;
+mod members;
 mod study;
 mod table;
 

@@ -65,6 +65,20 @@ fn run<M: Machine>(
     false
 }
 
+// What each cache makes of a run with so many fetches.
+fn rows_of(alloc: Global, caches: &[Cache], fetches: u64) -> Result<Vec<CacheRow>, AllocError> {
+    let mut rows = Vec::new(alloc);
+    for cache in caches {
+        let (geometry, misses) = (cache.geometry(), cache.misses());
+        rows.push(CacheRow {
+            geometry,
+            misses,
+            cycles: geometry.cycles(fetches, misses),
+        })?;
+    }
+    Ok(rows)
+}
+
 /// Runs a machine from its start without requests, until it halts or the budget is spent, and has each of these caches fetch
 /// what it fetches: that is the same whatever its cache answers, since a stall only delays.
 pub fn study_of<M: Machine>(
@@ -80,18 +94,9 @@ pub fn study_of<M: Machine>(
     };
     let halted = run(machine, &Requests::none(alloc), budget, &mut caches);
     let counts = machine.counts();
-    let mut rows = Vec::new(alloc);
-    for cache in caches.iter() {
-        let (geometry, misses) = (cache.geometry(), cache.misses());
-        let row = CacheRow {
-            geometry,
-            misses,
-            cycles: geometry.cycles(counts.fetches, misses),
-        };
-        if rows.push(row).is_err() {
-            return Err(Memory);
-        }
-    }
+    let Ok(rows) = rows_of(alloc, caches.as_slice(), counts.fetches) else {
+        return Err(Memory);
+    };
     Ok(Study {
         counts,
         halted,

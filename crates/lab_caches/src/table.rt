@@ -1,5 +1,5 @@
 //! Caches as a table.
-use crate::geometry::SHIPPED;
+use crate::geometry::{Geometry, SHIPPED};
 use crate::study::{CacheRow, Study};
 use std::alloc::{AllocError, Global};
 
@@ -7,67 +7,92 @@ use std::alloc::{AllocError, Global};
 const HEAD: &str =
     "   words  sets  ways  line  brings  penalty     misses  of fetches      cycles     CPF\n";
 
-/// A part of a whole in per cent, rounded to a hundredth; `-` where there is no whole.
-fn share_text(alloc: Global, part: u64, whole: u64) -> Result<String, AllocError> {
+/// What stands in place of a share or a ratio where there is none.
+const NONE: &str = "-";
+
+// Appends a blank, and a number in a column of this width.
+fn push_number(table: &mut String, number: u64, width: usize) -> Result<(), AllocError> {
+    write!(table, " {number:>width$}")
+}
+
+// Appends numbers in columns of these widths.
+fn push_numbers(table: &mut String, numbers: &[(u64, usize)]) -> Result<(), AllocError> {
+    for (number, width) in numbers {
+        push_number(table, *number, *width)?;
+    }
+    Ok(())
+}
+
+// Appends a column with a part of a whole in per cent, rounded to a hundredth; `-` where there is no whole.
+fn push_share(table: &mut String, part: u64, whole: u64) -> Result<(), AllocError> {
     let parts = part.saturating_mul(10_000).saturating_add(whole / 2);
     match parts.checked_div(whole) {
         Some(hundredths) => {
             let (ones, rest) = (hundredths / 100, hundredths % 100);
-            format!(in alloc; "{ones}.{rest:02}%")
+            write!(table, " {ones:>7}.{rest:02}%")
         }
-        None => String::from_str(alloc, "-"),
+        None => write!(table, " {NONE:>11}"),
     }
 }
 
-/// Cycles a fetch, rounded to a hundredth; `-` where there is no fetch.
-fn ratio_text(alloc: Global, cycles: u64, fetches: u64) -> Result<String, AllocError> {
+// Appends a column with the cycles a fetch, rounded to a hundredth; `-` where there is no fetch.
+fn push_ratio(table: &mut String, cycles: u64, fetches: u64) -> Result<(), AllocError> {
     let parts = cycles.saturating_mul(100).saturating_add(fetches / 2);
     match parts.checked_div(fetches) {
         Some(hundredths) => {
             let (ones, rest) = (hundredths / 100, hundredths % 100);
-            format!(in alloc; "{ones}.{rest:02}")
+            write!(table, " {ones:>4}.{rest:02}")
         }
-        None => String::from_str(alloc, "-"),
+        None => write!(table, " {NONE:>7}"),
     }
 }
 
-// Appends a row. That of the machine's own cache has a mark.
-fn push_row(
-    alloc: Global,
-    table: &mut String,
-    row: &CacheRow,
-    fetches: u64,
-) -> Result<(), AllocError> {
-    let geometry = row.geometry;
-    let mark = if geometry == SHIPPED { "*" } else { " " };
-    let (words, sets, ways) = (geometry.words(), geometry.sets, geometry.ways);
-    let (line, brings, penalty) = (geometry.line, geometry.brings, geometry.penalty);
-    let (misses, cycles) = (row.misses, row.cycles);
-    let share = share_text(alloc, misses, fetches)?;
-    let ratio = ratio_text(alloc, cycles, fetches)?;
-    let front = format!(in alloc;
-        "{mark} {words:>6} {sets:>5} {ways:>5} {line:>5} {brings:>7} {penalty:>8}"
-    )?;
-    let back = format!(in alloc; " {misses:>10} {share:>11} {cycles:>11} {ratio:>7}\n")?;
-    table.push_str(front.as_str())?;
-    table.push_str(back.as_str())
+// Appends what a cache is. That of the machine has a mark.
+fn push_geometry(table: &mut String, geometry: Geometry) -> Result<(), AllocError> {
+    let numbers = [
+        (geometry.words(), 6),
+        (u64::from(geometry.sets), 5),
+        (u64::from(geometry.ways), 5),
+        (u64::from(geometry.line), 5),
+        (u64::from(geometry.brings), 7),
+        (u64::from(geometry.penalty), 8),
+    ];
+    table.push(if geometry == SHIPPED { '*' } else { ' ' })?;
+    push_numbers(table, &numbers)
 }
 
-/// Caches as a table: the misses of each, and the cycles that the fetches of the run take with it.
-pub fn caches_text(alloc: Global, study: &Study) -> Result<Vec<u8>, AllocError> {
-    let mut table = String::from_str(alloc, HEAD)?;
-    let fetches = study.counts.fetches;
-    for row in study.rows.iter() {
-        push_row(alloc, &mut table, row, fetches)?;
-    }
+// Appends a row.
+fn push_row(table: &mut String, row: &CacheRow, fetches: u64) -> Result<(), AllocError> {
+    push_geometry(table, row.geometry)?;
+    push_number(table, row.misses, 10)?;
+    push_share(table, row.misses, fetches)?;
+    push_number(table, row.cycles, 11)?;
+    push_ratio(table, row.cycles, fetches)?;
+    table.push('\n')
+}
+
+// Appends how the run ended, and what it cost.
+fn push_sums(table: &mut String, study: &Study) -> Result<(), AllocError> {
     let end = if study.halted {
         "halted"
     } else {
         "out of budget"
     };
-    let (cycles, misses) = (study.counts.cycles, study.counts.misses);
-    let sums = format!(in alloc; "{end}\ncycles {cycles}\nfetches {fetches}\nmisses {misses}\n")?;
+    let counts = &study.counts;
+    let (cycles, fetches, misses) = (counts.cycles, counts.fetches, counts.misses);
     table.push_str("* the machine's own cache\n")?;
-    table.push_str(sums.as_str())?;
+    write!(
+        table,
+        "{end}\ncycles {cycles}\nfetches {fetches}\nmisses {misses}\n"
+    )
+}
+
+/// Caches as a table: the misses of each, and the cycles that the fetches of the run take with it.
+pub fn caches_text(alloc: Global, study: &Study) -> Result<Vec<u8>, AllocError> {
+    let mut table = String::from_str(alloc, HEAD)?;
+    for row in study.rows.iter() {
+        push_row(&mut table, row, study.counts.fetches)?;
+    }
+    push_sums(&mut table, study)?;
     Ok(table.into_bytes())
 }

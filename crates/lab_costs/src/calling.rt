@@ -14,7 +14,7 @@ use std::alloc::{AllocError, Global};
 const SLOTS: u32 = 2;
 
 /// What the calls from one word to another cost together, from the first word of each until the one that it returns to.
-#[derive(Clone, Copy, Debug, PartialEq, Eq)]
+#[derive(Clone, Copy)]
 pub struct Called {
     pub count: u64,
     pub cycles: u64,
@@ -28,7 +28,7 @@ pub struct Calls {
 }
 
 /// What a word is for the calls of a run.
-#[derive(Clone, Copy, Debug, PartialEq, Eq)]
+#[derive(Clone, Copy, PartialEq, Eq)]
 enum Kind {
     /// It leaves the place behind its slots in a register, and goes somewhere.
     Call,
@@ -40,7 +40,7 @@ enum Kind {
 }
 
 /// A transfer whose target comes when so many words more are executed.
-#[derive(Clone, Copy, Debug, PartialEq, Eq)]
+#[derive(Clone, Copy)]
 struct Pending {
     kind: Kind,
     site: u32,
@@ -48,7 +48,7 @@ struct Pending {
 }
 
 /// A call that has not returned.
-#[derive(Clone, Copy, Debug, PartialEq, Eq)]
+#[derive(Clone, Copy)]
 struct Frame {
     site: u32,
     callee: u32,

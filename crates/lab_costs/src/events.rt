@@ -1,11 +1,12 @@
 //! What a run cost, in the format of callgrind.
 use crate::calling::{Called, Calls};
-use crate::grouping::{By, Group, Grouping, grouping_by};
-use crate::positions::{Position, positions_of};
+use crate::grouping::{By, Grouping, grouping_by};
+use crate::positions::{Positions, positions_of};
 use crate::subject::Subject;
 use lab_profile::LineCost;
 use mx_isa::CODE_BASE;
 use mx_link::Origin;
+use mx_text::{push_decimal, push_named};
 use std::alloc::{AllocError, Global};
 
 /// What stands before the costs.
@@ -15,7 +16,7 @@ const HEAD: &str = "# callgrind format\nversion: 1\ncreator: mx_lab\n";
 const EVENTS: &str = "positions: line\nevents: Cycles Executed Stalls Noops Squashed Killed\n";
 
 /// Where a statement stands in a file.
-#[derive(Clone, Copy, Debug, PartialEq, Eq)]
+#[derive(Clone, Copy)]
 struct Place<'a> {
     file: &'a [u8],
     line: u32,
@@ -25,77 +26,88 @@ struct Place<'a> {
 #[derive(Drop)]
 struct Names<'a> {
     subject: Subject<'a>,
-    functions: Grouping<'a>,
+    functions: Grouping,
     /// The lines of C, where these are asked for.
-    positions: Vec<Option<Position<'a>>>,
+    positions: Positions,
     /// For each function the file of its first statement whose line of C is known.
-    files: Vec<Option<&'a [u8]>>,
+    files: Vec<Option<u32>>,
 }
 
-// The line of C of a line of the source, where it is known.
-fn position_at<'a>(positions: &[Option<Position<'a>>], line: u32) -> Option<Position<'a>> {
-    let number = line.checked_sub(1)?;
-    positions.get(number as usize).copied().flatten()
+// Notes the file of a function, where none is noted.
+fn note(files: &mut Vec<Option<u32>>, function: u32, file: u32) {
+    if let Some(noted) = files.get_mut(function as usize) {
+        *noted = noted.or(Some(file));
+    }
 }
 
 // For each function the file of its first statement whose line of C is known.
-fn files_of<'a>(
+fn files_of(
     alloc: Global,
     lines: &[u32],
     functions: &Grouping,
-    positions: &[Option<Position<'a>>],
-) -> Result<Vec<Option<&'a [u8]>>, AllocError> {
-    let mut files = Vec::new(alloc);
-    for _ in 0..functions.groups.len() {
-        files.push(None)?;
-    }
+    positions: &Positions,
+) -> Result<Vec<Option<u32>>, AllocError> {
+    let mut files = vec![in alloc; None; functions.groups.len()]?;
     for (key, line) in functions.keys.iter().zip(lines.iter()) {
-        if let Some(position) = position_at(positions, *line) {
-            if let Some(file) = files.get_mut(*key as usize) {
-                if file.is_none() {
-                    *file = Some(position.file);
-                }
-            }
+        if let Some(position) = positions.at(*line) {
+            note(&mut files, *key, position.file);
         }
     }
     Ok(files)
 }
 
 impl<'a> Names<'a> {
+    // The name of a file of C, or that of the source.
+    fn file_name(&self, file: Option<u32>) -> &'a [u8] {
+        match file {
+            Some(file) => self.positions.file_name(self.subject.text, file),
+            None => self.subject.file.as_bytes(),
+        }
+    }
+
+    // The number of the function that a statement belongs to.
+    fn key(&self, statement: u32) -> Option<usize> {
+        let key = self.functions.keys.get(statement as usize)?;
+        Some(*key as usize)
+    }
+
     // The file of the function that a statement belongs to: that of C, where it is known, or the source.
     fn file(&self, statement: u32) -> &'a [u8] {
-        let own = self.subject.file.as_bytes();
-        match self.functions.keys.get(statement as usize) {
-            Some(key) => self
-                .files
-                .get(*key as usize)
-                .copied()
-                .flatten()
-                .unwrap_or(own),
-            None => own,
-        }
+        let file = match self.key(statement) {
+            Some(key) => self.files.get(key).copied().flatten(),
+            None => None,
+        };
+        self.file_name(file)
     }
 
     // The place of a statement: its line of C, where that is asked for and known; in a function of C of which it is not known,
     // line 0; else its line of the source.
     fn place(&self, statement: u32) -> Place<'a> {
         let line = self.subject.line_of(statement);
-        let own = self.subject.file.as_bytes();
-        let file = self.file(statement);
-        match position_at(self.positions.as_slice(), line) {
-            Some(position) => Place {
-                file: position.file,
+        if let Some(position) = self.positions.at(line) {
+            return Place {
+                file: self.file_name(Some(position.file)),
                 line: position.line,
-            },
-            None if file == own => Place { file, line },
-            None => Place { file, line: 0 },
+            };
+        }
+        let file = self.file(statement);
+        if file == self.subject.file.as_bytes() {
+            Place { file, line }
+        } else {
+            Place { file, line: 0 }
         }
     }
 
-    // The function that a statement belongs to.
-    fn function(&self, statement: u32) -> Option<Group<'a>> {
-        let key = self.functions.keys.get(statement as usize)?;
-        self.functions.groups.get(*key as usize).copied()
+    // The name of the function that a statement belongs to.
+    fn function(&self, statement: u32) -> &'a [u8] {
+        let group = match self.key(statement) {
+            Some(key) => self.functions.groups.get(key),
+            None => None,
+        };
+        match group {
+            Some(group) => group.name.bytes(&self.subject),
+            None => b"",
+        }
     }
 
     // The statement of the code word at an address.
@@ -109,11 +121,39 @@ impl<'a> Names<'a> {
 }
 
 // Appends a file or a function that what follows belongs to.
-fn push_name(text: &mut Vec<u8>, word: &str, name: &[u8]) -> Result<(), AllocError> {
-    text.extend_from_slice(word.as_bytes())?;
+fn push_name(text: &mut Vec<u8>, word: &[u8], name: &[u8]) -> Result<(), AllocError> {
+    text.extend_from_slice(word)?;
     text.extend_from_slice(name)?;
     text.push(b'\n')?;
     Ok(())
+}
+
+// Appends numbers, a blank before each, and the end of the line.
+fn push_numbers(alloc: Global, text: &mut Vec<u8>, numbers: &[u64]) -> Result<(), AllocError> {
+    for number in numbers {
+        text.push(b' ')?;
+        push_decimal(alloc, text, *number)?;
+    }
+    text.push(b'\n')?;
+    Ok(())
+}
+
+// Appends a line of numbers.
+fn push_row(alloc: Global, text: &mut Vec<u8>, first: u64, rest: &[u64]) -> Result<(), AllocError> {
+    push_decimal(alloc, text, first)?;
+    push_numbers(alloc, text, rest)
+}
+
+// The numbers of a cost, by columns.
+fn columns_of(cost: &LineCost) -> [u64; 6] {
+    [
+        cost.cycles,
+        cost.executed,
+        cost.stalls,
+        cost.noops,
+        cost.cancelled,
+        cost.killed,
+    ]
 }
 
 // Appends a cost.
@@ -123,26 +163,26 @@ fn push_cost(
     line: u32,
     cost: &LineCost,
 ) -> Result<(), AllocError> {
-    let (cycles, executed, stalls) = (cost.cycles, cost.executed, cost.stalls);
-    let (noops, squashed, killed) = (cost.noops, cost.cancelled, cost.killed);
-    let row = format!(in alloc;
-        "{line} {cycles} {executed} {stalls} {noops} {squashed} {killed}\n"
-    )?;
-    text.extend_from_slice(row.as_bytes())
+    push_row(alloc, text, u64::from(line), &columns_of(cost))
 }
 
-// Appends where a statement stands.
-fn push_place(
+// Appends the file and the function of what follows.
+fn push_place(text: &mut Vec<u8>, file: &[u8], function: &[u8]) -> Result<(), AllocError> {
+    push_name(text, b"fl=", file)?;
+    push_name(text, b"fn=", function)
+}
+
+// Appends what a statement cost by itself.
+fn push_own_cost(
+    alloc: Global,
     text: &mut Vec<u8>,
     names: &Names,
     statement: u32,
-    place: Place,
+    cost: &LineCost,
 ) -> Result<(), AllocError> {
-    let function = names
-        .function(statement)
-        .map_or(b"".as_slice(), |it| it.name);
-    push_name(text, "fl=", place.file)?;
-    push_name(text, "fn=", function)
+    let place = names.place(statement);
+    push_place(text, place.file, names.function(statement))?;
+    push_cost(alloc, text, place.line, cost)
 }
 
 // Appends what the statements cost by themselves.
@@ -155,35 +195,41 @@ fn push_own_costs(
     let mut statement = 0u32;
     for cost in costs {
         if cost.cycles > 0 {
-            let place = names.place(statement);
-            push_place(text, names, statement, place)?;
-            push_cost(alloc, text, place.line, cost)?;
+            push_own_cost(alloc, text, names, statement, cost)?;
         }
         statement = statement.saturating_add(1);
     }
     Ok(())
 }
 
-// Appends what calls from one word to another cost.
+// Appends how often a line calls another, and what that cost.
+fn push_called(
+    alloc: Global,
+    text: &mut Vec<u8>,
+    site: u32,
+    target: u32,
+    called: Called,
+) -> Result<(), AllocError> {
+    text.extend_from_slice(b"calls=")?;
+    push_row(alloc, text, called.count, &[u64::from(target)])?;
+    let costs = [called.cycles, called.executed];
+    push_row(alloc, text, u64::from(site), &costs)
+}
+
+// Appends what calls from one statement to another cost.
 fn push_call(
     alloc: Global,
     text: &mut Vec<u8>,
     names: &Names,
-    ends: (u32, u32),
+    from: u32,
+    to: u32,
     called: Called,
 ) -> Result<(), AllocError> {
-    let (Some(from), Some(to)) = (names.statement_at(ends.0), names.statement_at(ends.1)) else {
-        return Ok(());
-    };
-    let (site, target) = (names.place(from), names.place(to));
-    push_place(text, names, from, site)?;
-    let callee = names.function(to).map_or(b"".as_slice(), |it| it.name);
-    push_name(text, "cfl=", names.file(to))?;
-    push_name(text, "cfn=", callee)?;
-    let (count, cycles, executed) = (called.count, called.cycles, called.executed);
-    let (at, line) = (site.line, target.line);
-    let rows = format!(in alloc; "calls={count} {line}\n{at} {cycles} {executed}\n")?;
-    text.extend_from_slice(rows.as_bytes())
+    let site = names.place(from);
+    push_place(text, site.file, names.function(from))?;
+    push_name(text, b"cfl=", names.file(to))?;
+    push_name(text, b"cfn=", names.function(to))?;
+    push_called(alloc, text, site.line, names.place(to).line, called)
 }
 
 // Appends what the calls cost.
@@ -194,8 +240,13 @@ fn push_calls(
     calls: &Calls,
 ) -> Result<(), AllocError> {
     for index in 0..calls.costs.len() {
-        if let Some((ends, called)) = calls.costs.get_index(index) {
-            push_call(alloc, text, names, *ends, *called)?;
+        let Some((ends, called)) = calls.costs.get_index(index) else {
+            continue;
+        };
+        let from = names.statement_at(ends.0);
+        let to = names.statement_at(ends.1);
+        if let (Some(from), Some(to)) = (from, to) {
+            push_call(alloc, text, names, from, to, *called)?;
         }
     }
     Ok(())
@@ -205,14 +256,13 @@ fn push_calls(
 fn push_rest(
     alloc: Global,
     text: &mut Vec<u8>,
-    name: &str,
+    name: &[u8],
     cost: &LineCost,
 ) -> Result<(), AllocError> {
     if cost.cycles == 0 {
         return Ok(());
     }
-    push_name(text, "fl=", b"???")?;
-    push_name(text, "fn=", name.as_bytes())?;
+    push_place(text, b"???", name)?;
     push_cost(alloc, text, 0, cost)
 }
 
@@ -224,14 +274,42 @@ fn push_head(
     together: &LineCost,
 ) -> Result<(), AllocError> {
     text.extend_from_slice(HEAD.as_bytes())?;
-    push_name(text, "cmd: ", file.as_bytes())?;
+    push_named(text, b"cmd:", file.as_bytes())?;
     text.extend_from_slice(EVENTS.as_bytes())?;
-    let (cycles, executed, stalls) = (together.cycles, together.executed, together.stalls);
-    let (noops, squashed, killed) = (together.noops, together.cancelled, together.killed);
-    let sums = format!(in alloc;
-        "summary: {cycles} {executed} {stalls} {noops} {squashed} {killed}\n"
-    )?;
-    text.extend_from_slice(sums.as_bytes())
+    text.extend_from_slice(b"summary:")?;
+    push_numbers(alloc, text, &columns_of(together))
+}
+
+// What places and functions are found by, with the lines of C if it is by these that costs are told.
+fn names_of<'a>(alloc: Global, subject: &Subject<'a>, by: By) -> Result<Names<'a>, AllocError> {
+    let positions = match by {
+        By::C => positions_of(alloc, subject.text)?,
+        _ => Positions::new(alloc),
+    };
+    let functions = grouping_by(alloc, subject, By::Function)?;
+    let files = files_of(alloc, subject.source.lines(), &functions, &positions)?;
+    Ok(Names {
+        subject: *subject,
+        functions,
+        positions,
+        files,
+    })
+}
+
+// Appends all of it, where these are the costs of the statements.
+fn push_profile(
+    alloc: Global,
+    text: &mut Vec<u8>,
+    names: &Names,
+    calls: &Calls,
+    costs: &[LineCost],
+) -> Result<(), AllocError> {
+    let subject = &names.subject;
+    push_head(alloc, text, subject.file, &subject.together(costs))?;
+    push_own_costs(alloc, text, names, costs)?;
+    push_calls(alloc, text, names, calls)?;
+    push_rest(alloc, text, b"the handler", &subject.handler())?;
+    push_rest(alloc, text, b"behind the code", &subject.behind())
 }
 
 /// What a run cost and which calls it made, in the format of callgrind, by the lines of the source or by those of C. A function
@@ -243,30 +321,8 @@ pub fn callgrind(
     by: By,
 ) -> Result<Vec<u8>, AllocError> {
     let costs = subject.statement_costs(alloc)?;
-    let costs = costs.as_slice();
-    let positions = if by == By::C {
-        positions_of(alloc, subject.text)?
-    } else {
-        Vec::new(alloc)
-    };
-    let functions = grouping_by(alloc, subject, By::Function)?;
-    let files = files_of(
-        alloc,
-        subject.source.lines(),
-        &functions,
-        positions.as_slice(),
-    )?;
-    let names = Names {
-        subject: *subject,
-        functions,
-        positions,
-        files,
-    };
+    let names = names_of(alloc, subject, by)?;
     let mut text = Vec::new(alloc);
-    push_head(alloc, &mut text, subject.file, &subject.together(costs))?;
-    push_own_costs(alloc, &mut text, &names, costs)?;
-    push_calls(alloc, &mut text, &names, calls)?;
-    push_rest(alloc, &mut text, "the handler", &subject.handler())?;
-    push_rest(alloc, &mut text, "behind the code", &subject.behind())?;
+    push_profile(alloc, &mut text, &names, calls, costs.as_slice())?;
     Ok(text)
 }

@@ -1,6 +1,7 @@
 //! Parts of a source by which costs are told.
-use crate::positions::{Position, positions_of};
-use crate::subject::{Subject, lines_of};
+use crate::positions::{Position, Positions, positions_of};
+use crate::spans::{Span, line_spans};
+use crate::subject::Subject;
 use indexmap::IndexMap;
 use mx_isa::DATA_BASE;
 use mx_source::{Label, Source, Statement, Value};
@@ -19,39 +20,92 @@ pub enum By {
     C,
 }
 
+/// What a part of a source is named by.
+#[derive(Clone, Copy)]
+pub(crate) enum PartName {
+    /// It stands before the first label.
+    Start,
+    /// No line of C is known for it.
+    Unknown,
+    /// A part of the text.
+    Text(Span),
+    /// The label of this index.
+    Label(usize),
+}
+
+impl PartName {
+    /// The bytes of the name.
+    pub(crate) fn bytes<'a>(self, subject: &Subject<'a>) -> &'a [u8] {
+        let source = subject.source;
+        match self {
+            PartName::Start => b"(start)",
+            PartName::Unknown => b"(no line of C)",
+            PartName::Text(span) => span.bytes(subject.text),
+            PartName::Label(index) => match source.labels().get_index(index) {
+                Some((name, _)) => name.bytes(),
+                None => b"",
+            },
+        }
+    }
+}
+
 /// A part of a source.
-#[derive(Clone, Copy, Debug, PartialEq, Eq)]
-pub(crate) struct Group<'a> {
-    pub name: &'a [u8],
+#[derive(Clone, Copy)]
+pub(crate) struct Group {
+    pub name: PartName,
     /// The first line of it, in the source; 0 where it has none.
     pub line: u32,
 }
 
 /// The parts of a source, and for each statement the number of its part.
 #[derive(Drop)]
-pub(crate) struct Grouping<'a> {
-    pub groups: Vec<Group<'a>>,
+pub(crate) struct Grouping {
+    pub groups: Vec<Group>,
     pub keys: Vec<u32>,
 }
 
+/// What stands for line 0, which there is none.
+const NO_LINE: Group = Group {
+    name: PartName::Text(Span { start: 0, end: 0 }),
+    line: 0,
+};
+
 /// What a statement is told under that stands before the first label.
 const BEFORE: Group = Group {
-    name: b"(start)",
+    name: PartName::Start,
     line: 0,
 };
 
 /// What a statement is told under for which no line of C is known.
 const UNKNOWN: Group = Group {
-    name: b"(no line of C)",
+    name: PartName::Unknown,
     line: 0,
 };
 
-/// Each line of the source by itself. Line 0 there is none.
-fn by_lines<'a>(alloc: Global, subject: &Subject<'a>) -> Result<Grouping<'a>, AllocError> {
-    let mut groups = vec![in alloc; Group { name: b"", line: 0 }; 1]?;
+/// The number of the last part; 0 where there is none.
+fn last_number(groups: &[Group]) -> u32 {
+    u32::try_from(groups.len().saturating_sub(1)).unwrap_or(u32::MAX)
+}
+
+impl Grouping {
+    /// Puts the statements up to a number into the last part.
+    fn fill(&mut self, statements: usize) -> Result<(), AllocError> {
+        let number = last_number(self.groups.as_slice());
+        for _ in self.keys.len()..statements {
+            self.keys.push(number)?;
+        }
+        Ok(())
+    }
+}
+
+/// Each line of the source by itself.
+fn by_lines(alloc: Global, subject: &Subject) -> Result<Grouping, AllocError> {
+    let spans = line_spans(alloc, subject.text)?;
+    let mut groups = vec![in alloc; NO_LINE; 1]?;
     let mut line = 0u32;
-    for name in lines_of(subject.text).split(|byte| *byte == b'\n') {
+    for span in spans.iter() {
         line = line.saturating_add(1);
+        let name = PartName::Text(*span);
         groups.push(Group { name, line })?;
     }
     let keys = Vec::from_slice(alloc, subject.source.lines())?;
@@ -98,108 +152,120 @@ fn called_statements(alloc: Global, source: &Source) -> Result<Vec<bool>, AllocE
     Ok(called)
 }
 
-/// The statements before which a label stands, in order, each with the first of its labels.
-fn labelled<'a>(
+/// The statements before which a label stands, in order, each with the indices of its labels.
+fn labelled(
     alloc: Global,
-    source: &'a Source,
+    source: &Source,
     chosen: &[bool],
-) -> Result<Vec<(u32, &'a [u8])>, AllocError> {
+) -> Result<Vec<(u32, usize)>, AllocError> {
     let mut starts = Vec::new(alloc);
     let labels = source.labels();
     for index in 0..labels.len() {
-        let Some((name, Label::Code(statement))) = labels.get_index(index) else {
+        let Some((_, Label::Code(statement))) = labels.get_index(index) else {
             continue;
         };
         if chosen.get(*statement as usize) == Some(&true) {
-            starts.push((*statement, name.bytes()))?;
+            starts.push((*statement, index))?;
         }
     }
-    starts.sort_by_key(|start| start.0)?;
+    starts.sort()?;
     Ok(starts)
 }
 
-/// Each statement by the last of these starts that does not stand behind it.
-fn by_starts<'a>(
+/// Each statement by the last of these starts that does not stand behind it, with the first of its labels.
+fn by_starts(
     alloc: Global,
-    source: &Source,
-    starts: &[(u32, &'a [u8])],
-) -> Result<Grouping<'a>, AllocError> {
-    let lines = source.lines();
-    let mut groups = vec![in alloc; BEFORE; 1]?;
-    let mut keys = Vec::new(alloc);
-    let mut key = 0u32;
+    lines: &[u32],
+    starts: &[(u32, usize)],
+) -> Result<Grouping, AllocError> {
+    let mut grouping = Grouping {
+        groups: vec![in alloc; BEFORE; 1]?,
+        keys: Vec::new(alloc),
+    };
     let mut last = None;
-    for (statement, name) in starts {
+    for (statement, label) in starts {
         if last == Some(*statement) {
             continue;
         }
         last = Some(*statement);
-        for _ in keys.len()..(*statement as usize).min(lines.len()) {
-            keys.push(key)?;
-        }
-        key = key.saturating_add(1);
-        let line = lines.get(*statement as usize).copied().unwrap_or(0);
-        groups.push(Group { name: *name, line })?;
+        let first = *statement as usize;
+        grouping.fill(first.min(lines.len()))?;
+        let name = PartName::Label(*label);
+        let line = lines.get(first).copied().unwrap_or(0);
+        grouping.groups.push(Group { name, line })?;
     }
-    for _ in keys.len()..lines.len() {
-        keys.push(key)?;
-    }
-    Ok(Grouping { groups, keys })
+    grouping.fill(lines.len())?;
+    Ok(grouping)
 }
 
-/// The number of the group of a line of C; 0 where it is unknown.
-fn numbered<'a>(
-    numbers: &mut IndexMap<&'a [u8], u32>,
-    groups: &mut Vec<Group<'a>>,
-    position: Option<Position<'a>>,
+/// Each statement by the last label before it, of those that stand before the chosen statements.
+fn by_labels(alloc: Global, source: &Source, chosen: &[bool]) -> Result<Grouping, AllocError> {
+    let starts = labelled(alloc, source, chosen)?;
+    by_starts(alloc, source.lines(), starts.as_slice())
+}
+
+/// The number of the part of a line of C, which is added where it is new; 0 where the line is unknown.
+fn numbered(
+    numbers: &mut IndexMap<(u32, u32), u32>,
+    groups: &mut Vec<Group>,
+    position: Option<Position>,
 ) -> Result<u32, AllocError> {
     let Some(position) = position else {
         return Ok(0);
     };
-    if let Some(number) = numbers.get(position.name) {
+    let place = (position.file, position.line);
+    if let Some(number) = numbers.get(&place) {
         return Ok(*number);
     }
-    let number = numbers.len().saturating_add(1).min(20_000) as u32;
-    numbers.insert(position.name, number)?;
     groups.push(Group {
-        name: position.name,
+        name: PartName::Text(position.name),
         line: position.line,
     })?;
+    let number = last_number(groups.as_slice());
+    numbers.insert(place, number)?;
     Ok(number)
 }
 
-/// Each statement by the line of C that it was made from.
-fn by_positions<'a>(alloc: Global, subject: &Subject<'a>) -> Result<Grouping<'a>, AllocError> {
-    let positions = positions_of(alloc, subject.text)?;
-    let mut groups = vec![in alloc; UNKNOWN; 1]?;
+/// For each of these lines the number of the part of its line of C.
+fn keys_by(
+    alloc: Global,
+    lines: &[u32],
+    positions: &Positions,
+    groups: &mut Vec<Group>,
+) -> Result<Vec<u32>, AllocError> {
     let mut numbers = IndexMap::new(alloc);
     let mut keys = Vec::new(alloc);
-    for line in subject.source.lines() {
-        let place = line.saturating_sub(1) as usize;
-        let position = positions.get(place).copied().flatten();
-        keys.push(numbered(&mut numbers, &mut groups, position)?)?;
+    for line in lines {
+        let key = numbered(&mut numbers, groups, positions.at(*line))?;
+        keys.push(key)?;
     }
+    Ok(keys)
+}
+
+/// Each statement by the line of C that it was made from.
+fn by_positions(alloc: Global, subject: &Subject) -> Result<Grouping, AllocError> {
+    let positions = positions_of(alloc, subject.text)?;
+    let mut groups = vec![in alloc; UNKNOWN; 1]?;
+    let keys = keys_by(alloc, subject.source.lines(), &positions, &mut groups)?;
     Ok(Grouping { groups, keys })
 }
 
 /// The parts of a source.
-pub(crate) fn grouping_by<'a>(
+pub(crate) fn grouping_by(
     alloc: Global,
-    subject: &Subject<'a>,
+    subject: &Subject,
     by: By,
-) -> Result<Grouping<'a>, AllocError> {
+) -> Result<Grouping, AllocError> {
     let source = subject.source;
     match by {
         By::Line => by_lines(alloc, subject),
         By::Label => {
             let all = vec![in alloc; true; source.statements().len()]?;
-            let starts = labelled(alloc, source, all.as_slice())?;
-            by_starts(alloc, source, starts.as_slice())
+            by_labels(alloc, source, all.as_slice())
         }
         By::Function => {
             let called = called_statements(alloc, source)?;
-            let starts = labelled(alloc, source, called.as_slice())?;
-            by_starts(alloc, source, starts.as_slice())
+            by_labels(alloc, source, called.as_slice())
         }
         By::C => by_positions(alloc, subject),
     }

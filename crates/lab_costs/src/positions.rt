@@ -1,14 +1,59 @@
 //! The lines of C that a source was made from, by its comment lines `; FILE:LINE`.
-use crate::subject::lines_of;
+use crate::spans::{Span, line_spans};
 use std::alloc::{AllocError, Global};
 
+/// How many bytes stand before the name of a line of C in a comment line.
+const MARK: usize = 2;
+
 /// A line of C.
-#[derive(Clone, Copy, Debug, PartialEq, Eq)]
-pub(crate) struct Position<'a> {
-    pub file: &'a [u8],
+#[derive(Clone, Copy)]
+pub(crate) struct Position {
+    /// The number of its file.
+    pub file: u32,
     pub line: u32,
-    /// Both, as they stand in the source.
-    pub name: &'a [u8],
+    /// The name of the file and the line, as they stand in the source.
+    pub name: Span,
+}
+
+/// The lines of C that the lines of a source were made from.
+#[derive(Drop)]
+pub(crate) struct Positions {
+    /// The names of the files.
+    files: Vec<Span>,
+    /// For each line of the source, its number counted from 0, the line of C.
+    lines: Vec<Option<Position>>,
+}
+
+impl Positions {
+    /// None of any line.
+    pub(crate) fn new(alloc: Global) -> Positions {
+        Positions {
+            files: Vec::new(alloc),
+            lines: Vec::new(alloc),
+        }
+    }
+
+    /// The line of C of a line of the source, where it is known.
+    pub(crate) fn at(&self, line: u32) -> Option<Position> {
+        let number = line.checked_sub(1)?;
+        self.lines.get(number as usize).copied().flatten()
+    }
+
+    /// The name of a file in the text of the source.
+    pub(crate) fn file_name<'a>(&self, text: &'a [u8], file: u32) -> &'a [u8] {
+        match self.files.get(file as usize) {
+            Some(name) => name.bytes(text),
+            None => b"",
+        }
+    }
+}
+
+/// What a comment line tells: a file, a line of it, and both as they stand there.
+#[derive(Clone, Copy)]
+struct Told {
+    file: Span,
+    line: u32,
+    name: Span,
 }
 
 // The number that these digits spell; none where they are no digits or it is too large.
@@ -16,19 +61,54 @@ fn number_of(digits: &[u8]) -> Option<u32> {
     str::from_utf8(digits).ok()?.parse::<u32>().ok()
 }
 
-// The line of C that a comment line tells.
-fn position_of(line: &[u8]) -> Option<Position<'_>> {
-    let name = match line {
-        [b';', b' ', name @ .., b'\r'] | [b';', b' ', name @ ..] => name,
-        _ => return None,
-    };
+// What stands behind the mark of a comment line.
+fn name_in(line: &[u8]) -> Option<&[u8]> {
+    match line {
+        [b';', b' ', name @ .., b'\r'] | [b';', b' ', name @ ..] => Some(name),
+        _ => None,
+    }
+}
+
+// The line that a name tells, and how long the name of its file is.
+fn line_in(name: &[u8]) -> Option<(usize, u32)> {
     let colon = name.iter().rposition(|byte| *byte == b':')?;
     let line = number_of(name.get(colon.saturating_add(1)..)?)?;
-    let file = name.get(..colon)?;
-    if file.is_empty() {
-        return None;
+    if colon == 0 {
+        None
+    } else {
+        Some((colon, line))
     }
-    Some(Position { file, line, name })
+}
+
+// The line of C that a comment line tells, which stands there in the text.
+fn told_in(text: &[u8], comment: Span) -> Option<Told> {
+    let name = name_in(comment.bytes(text))?;
+    let (length, line) = line_in(name)?;
+    let start = comment.start.saturating_add(MARK);
+    Some(Told {
+        file: Span {
+            start,
+            end: start.saturating_add(length),
+        },
+        line,
+        name: Span {
+            start,
+            end: start.saturating_add(name.len()),
+        },
+    })
+}
+
+// The number of a file, which is added where it is new.
+fn file_number(files: &mut Vec<Span>, text: &[u8], file: Span) -> Result<u32, AllocError> {
+    let name = file.bytes(text);
+    let number = match files.iter().rposition(|known| known.bytes(text) == name) {
+        Some(number) => number,
+        None => {
+            files.push(file)?;
+            files.len().saturating_sub(1)
+        }
+    };
+    Ok(u32::try_from(number).unwrap_or(u32::MAX))
 }
 
 // Whether a line begins with the label of a function or a routine. The labels within a function begin with `L` or `_.`.
@@ -39,21 +119,33 @@ fn begins_function(line: &[u8]) -> bool {
     }
 }
 
-/// For each line of a source, its number counted from 0, the line of C that it was made from: that of the last comment line
-/// before it that tells one, within its function.
-pub(crate) fn positions_of(
-    alloc: Global,
+// The line of C from a line of the source on, where this is the one before it.
+fn position_from(
+    files: &mut Vec<Span>,
     text: &[u8],
-) -> Result<Vec<Option<Position<'_>>>, AllocError> {
-    let mut positions = Vec::new(alloc);
+    line: Span,
+    before: Option<Position>,
+) -> Result<Option<Position>, AllocError> {
+    match told_in(text, line) {
+        Some(told) => Ok(Some(Position {
+            file: file_number(files, text, told.file)?,
+            line: told.line,
+            name: told.name,
+        })),
+        None if begins_function(line.bytes(text)) => Ok(None),
+        None => Ok(before),
+    }
+}
+
+/// For each line of a source the line of C that it was made from: that of the last comment line before it that tells one, within
+/// its function.
+pub(crate) fn positions_of(alloc: Global, text: &[u8]) -> Result<Positions, AllocError> {
+    let spans = line_spans(alloc, text)?;
+    let mut positions = Positions::new(alloc);
     let mut position = None;
-    for line in lines_of(text).split(|byte| *byte == b'\n') {
-        if let Some(told) = position_of(line) {
-            position = Some(told);
-        } else if begins_function(line) {
-            position = None;
-        }
-        positions.push(position)?;
+    for line in spans.iter() {
+        position = position_from(&mut positions.files, text, *line, position)?;
+        positions.lines.push(position)?;
     }
     Ok(positions)
 }

@@ -2,7 +2,7 @@
 ghost use Rattle.std.specs.Prelude.{◌≡◌};
 ghost use Rattle.lab_costs.specs.Columns.{number_in};
 
-use crate::grouping::{By, Grouping, grouping_by};
+use crate::grouping::{By, Grouping, PartName, grouping_by};
 use crate::subject::Subject;
 use lab_profile::{LineCost, costs_by_line};
 use std::alloc::{AllocError, Global};
@@ -46,9 +46,9 @@ impl Column {
 }
 
 /// A part of a source, with what it cost.
-#[derive(Clone, Copy, Debug, PartialEq, Eq)]
-pub(crate) struct Row<'a> {
-    pub name: &'a [u8],
+#[derive(Clone, Copy)]
+pub(crate) struct Row {
+    pub name: PartName,
     /// A line, counted from 1; 0 where there is none.
     pub line: u32,
     pub cost: LineCost,
@@ -66,19 +66,16 @@ fn with_statements(alloc: Global, grouping: &Grouping) -> Result<Vec<bool>, Allo
     Ok(has)
 }
 
-/// The parts of a source that have statements, with what they cost, in the order of a column.
-pub(crate) fn rows_by<'a>(
-    alloc: Global,
-    subject: &Subject<'a>,
-    costs: &[LineCost],
-    by: By,
-    column: Column,
-) -> Result<Vec<Row<'a>>, AllocError> {
-    let grouping = grouping_by(alloc, subject, by)?;
-    let has = with_statements(alloc, &grouping)?;
-    let count = grouping.keys.len().min(costs.len());
-    let keys = &grouping.keys.as_slice()[..count];
-    let sums = costs_by_line(alloc, keys, &costs[..count])?;
+// What each part costs, where these are the costs of the statements.
+fn sums_by(alloc: Global, keys: &[u32], costs: &[LineCost]) -> Result<Vec<LineCost>, AllocError> {
+    let count = keys.len().min(costs.len());
+    costs_by_line(alloc, &keys[..count], &costs[..count])
+}
+
+// The parts that have statements, with what they cost, in the order of the source.
+fn rows_of(alloc: Global, grouping: &Grouping, costs: &[LineCost]) -> Result<Vec<Row>, AllocError> {
+    let has = with_statements(alloc, grouping)?;
+    let sums = sums_by(alloc, grouping.keys.as_slice(), costs)?;
     let mut rows = Vec::new(alloc);
     for ((group, cost), has) in grouping.groups.iter().zip(sums.iter()).zip(has.iter()) {
         if *has {
@@ -89,6 +86,19 @@ pub(crate) fn rows_by<'a>(
             })?;
         }
     }
+    Ok(rows)
+}
+
+/// The parts of a source that have statements, with what they cost, in the order of a column.
+pub(crate) fn rows_by(
+    alloc: Global,
+    subject: &Subject,
+    costs: &[LineCost],
+    by: By,
+    column: Column,
+) -> Result<Vec<Row>, AllocError> {
+    let grouping = grouping_by(alloc, subject, by)?;
+    let mut rows = rows_of(alloc, &grouping, costs)?;
     rows.sort_by_key(|row| u64::MAX - column.number(&row.cost))?;
     Ok(rows)
 }

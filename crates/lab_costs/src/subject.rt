@@ -56,11 +56,3 @@ impl<'a> Subject<'a> {
             .unwrap_or(0)
     }
 }
-
-/// The lines of a text, without the end of its last line.
-pub(crate) fn lines_of(text: &[u8]) -> &[u8] {
-    match text {
-        [lines @ .., b'\n'] => lines,
-        _ => text,
-    }
-}

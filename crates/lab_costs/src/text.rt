@@ -1,9 +1,10 @@
 //! What a run cost, as a text.
 use crate::grouping::By;
 use crate::rows::{Column, Row, rows_by};
-use crate::shown::{ratio_text, share_text};
+use crate::shown::{push_columns, push_ratio, push_share};
+use crate::spans::lines_of;
 use crate::spent::{Spent, spent_in};
-use crate::subject::{Subject, lines_of};
+use crate::subject::Subject;
 use lab_profile::{LineCost, Profile};
 use mx_isa::CODE_BASE;
 use mx_link::Origin;
@@ -14,48 +15,80 @@ use std::alloc::{AllocError, Global};
 /// The head of the table, but for what a row is named by.
 const HEAD: &str = "  line     count    cycles      %    CPI   stalls  no-ops squashed  killed  ";
 
+/// As wide as the column of a line.
+const NO_LINE: &str = "      ";
+
 /// As wide as the numbers of a row.
 const GAP: &[u8] = b"                                                                            ";
 
 /// The head of what cycles were spent on.
 const SPENT: &str = "cycles by what they were spent on\n";
 
-// Appends the numbers of a row.
-fn push_cost(
+/// What words are told under that came to no end.
+const KILLED: &str = "words that an interrupt killed, or that were under way at the end";
+
+// Appends the column of a line, empty where there is none.
+fn push_line_column(cells: &mut String, line: u32) -> Result<(), AllocError> {
+    if line == 0 {
+        return cells.push_str(NO_LINE);
+    }
+    write!(cells, "{line:>6}")
+}
+
+// Appends the columns of a row.
+fn push_cells(cells: &mut String, line: u32, cost: &LineCost, all: u64) -> Result<(), AllocError> {
+    push_line_column(cells, line)?;
+    push_columns(cells, &[(cost.executed, 9), (cost.cycles, 9)])?;
+    push_share(cells, cost.cycles, all)?;
+    push_ratio(cells, cost.cycles, cost.executed)?;
+    let rest = [
+        (cost.stalls, 8),
+        (cost.noops, 7),
+        (cost.cancelled, 8),
+        (cost.killed, 7),
+    ];
+    push_columns(cells, &rest)?;
+    cells.push_str("  ")
+}
+
+// Appends the last bytes of a line, and its end.
+fn push_last(text: &mut Vec<u8>, bytes: &[u8]) -> Result<(), AllocError> {
+    text.extend_from_slice(bytes)?;
+    text.push(b'\n')?;
+    Ok(())
+}
+
+// Appends the columns of a row, and what it is named by.
+fn push_row(
     alloc: Global,
     text: &mut Vec<u8>,
     line: u32,
-    cost: LineCost,
+    cost: &LineCost,
     all: u64,
+    name: &[u8],
 ) -> Result<(), AllocError> {
-    let line = if line == 0 {
-        String::new(alloc)
-    } else {
-        format!(in alloc; "{line}")?
-    };
-    let LineCost {
-        executed,
-        cycles,
-        stalls,
-        noops,
-        cancelled,
-        killed,
-        ..
-    } = cost;
-    let share = share_text(alloc, cycles, all)?;
-    let cpi = ratio_text(alloc, cycles, executed)?;
-    let front = format!(in alloc; "{line:>6} {executed:>9} {cycles:>9} {share:>6} {cpi:>6}")?;
-    let back = format!(in alloc; " {stalls:>8} {noops:>7} {cancelled:>8} {killed:>7}  ")?;
-    text.extend_from_slice(front.as_bytes())?;
-    text.extend_from_slice(back.as_bytes())
+    let mut cells = String::new(alloc);
+    push_cells(&mut cells, line, cost, all)?;
+    text.extend_from_slice(cells.as_bytes())?;
+    push_last(text, name)
 }
 
-// Appends a row.
-fn push_row(alloc: Global, text: &mut Vec<u8>, row: &Row, all: u64) -> Result<(), AllocError> {
-    push_cost(alloc, text, row.line, row.cost, all)?;
-    text.extend_from_slice(row.name)?;
-    text.push(b'\n')?;
-    Ok(())
+// Appends the row of a part of the source.
+fn push_part_row(
+    alloc: Global,
+    text: &mut Vec<u8>,
+    subject: &Subject,
+    row: &Row,
+    all: u64,
+) -> Result<(), AllocError> {
+    push_row(
+        alloc,
+        text,
+        row.line,
+        &row.cost,
+        all,
+        row.name.bytes(subject),
+    )
 }
 
 // The copies of the code, by their statements: a statement and the address of a copy of it.
@@ -120,21 +153,18 @@ fn push_bare_line(text: &mut Vec<u8>, line: &[u8]) -> Result<(), AllocError> {
     if !line.is_empty() {
         text.extend_from_slice(GAP)?;
     }
-    text.extend_from_slice(line)?;
-    text.push(b'\n')?;
-    Ok(())
+    push_last(text, line)
 }
 
 // Appends all lines of the source, with the rows of those that have statements, and the addresses of the copies of them.
-fn push_source(
+fn push_lines(
     alloc: Global,
     text: &mut Vec<u8>,
     subject: &Subject,
     rows: &[Row],
+    copies: &[(u32, u32)],
     all: u64,
 ) -> Result<(), AllocError> {
-    let copies = copies_in(alloc, subject.origin())?;
-    let copies = copies.as_slice();
     let lines = subject.source.lines();
     let (mut statement, mut copy, mut number) = (0, 0, 0u32);
     let mut rows = rows.iter();
@@ -143,7 +173,7 @@ fn push_source(
         let next = statements_to(lines, statement, number);
         let row = if statement < next { rows.next() } else { None };
         match row {
-            Some(row) => push_row(alloc, text, row, all)?,
+            Some(row) => push_part_row(alloc, text, subject, row, all)?,
             None => push_bare_line(text, line)?,
         }
         let next_copy = copies_to(copies, copy, next);
@@ -152,6 +182,18 @@ fn push_source(
         copy = next_copy;
     }
     Ok(())
+}
+
+// Appends the source, with the rows and the copies of its statements.
+fn push_source(
+    alloc: Global,
+    text: &mut Vec<u8>,
+    subject: &Subject,
+    rows: &[Row],
+    all: u64,
+) -> Result<(), AllocError> {
+    let copies = copies_in(alloc, subject.origin())?;
+    push_lines(alloc, text, subject, rows, copies.as_slice(), all)
 }
 
 // What stands at the head of the last column.
@@ -165,35 +207,29 @@ fn named_by(by: By) -> &'static str {
 }
 
 // Appends one line of what cycles were spent on.
-fn push_part(
-    alloc: Global,
-    text: &mut Vec<u8>,
-    part: u64,
-    all: u64,
-    on: &str,
-) -> Result<(), AllocError> {
-    let share = share_text(alloc, part, all)?;
-    let line = format!(in alloc; "{part:>16} {share:>6}  {on}\n")?;
-    text.extend_from_slice(line.as_bytes())
+fn push_part(parts: &mut String, part: u64, all: u64, on: &str) -> Result<(), AllocError> {
+    write!(parts, "{part:>16}")?;
+    push_share(parts, part, all)?;
+    write!(parts, "  {on}\n")
 }
 
 // Appends what the cycles were spent on.
 fn push_spent(alloc: Global, text: &mut Vec<u8>, on: Spent) -> Result<(), AllocError> {
     let all = on.together();
-    text.extend_from_slice(SPENT.as_bytes())?;
-    push_part(alloc, text, on.instructions, all, "instructions")?;
-    push_part(alloc, text, on.noops, all, "no-ops that were put in")?;
-    push_part(alloc, text, on.squashed, all, "squashed words")?;
-    push_part(
-        alloc,
-        text,
-        on.killed,
-        all,
-        "words that an interrupt killed, or that were under way at the end",
-    )?;
-    push_part(alloc, text, on.handler, all, "the handler")?;
-    push_part(alloc, text, on.misses, all, "waiting for a miss")?;
-    push_part(alloc, text, all, all, "together")
+    let told = [
+        (on.instructions, "instructions"),
+        (on.noops, "no-ops that were put in"),
+        (on.squashed, "squashed words"),
+        (on.killed, KILLED),
+        (on.handler, "the handler"),
+        (on.misses, "waiting for a miss"),
+        (all, "together"),
+    ];
+    let mut parts = String::from_str(alloc, SPENT)?;
+    for (part, words) in told {
+        push_part(&mut parts, part, all, words)?;
+    }
+    text.extend_from_slice(parts.as_bytes())
 }
 
 // Appends the counts of the run.
@@ -222,15 +258,53 @@ fn push_rest(
     together: LineCost,
 ) -> Result<(), AllocError> {
     let rest = [
-        (subject.handler(), "the handler\n"),
-        (subject.behind(), "behind the code\n"),
-        (together, "together\n"),
+        (subject.handler(), "the handler"),
+        (subject.behind(), "behind the code"),
+        (together, "together"),
     ];
     for (cost, name) in rest {
-        push_cost(alloc, text, 0, cost, together.cycles)?;
-        text.extend_from_slice(name.as_bytes())?;
+        push_row(alloc, text, 0, &cost, together.cycles, name.as_bytes())?;
     }
     Ok(())
+}
+
+// Appends the head of the table.
+fn push_head(text: &mut Vec<u8>, by: By) -> Result<(), AllocError> {
+    text.extend_from_slice(HEAD.as_bytes())?;
+    text.extend_from_slice(named_by(by).as_bytes())
+}
+
+// Appends the rows of the parts of the source, where these are the costs of the statements.
+fn push_table(
+    alloc: Global,
+    text: &mut Vec<u8>,
+    subject: &Subject,
+    costs: &[LineCost],
+    by: By,
+    column: Column,
+) -> Result<(), AllocError> {
+    let all = subject.together(costs).cycles;
+    let rows = rows_by(alloc, subject, costs, by, column)?;
+    if by == By::Line && column == Column::Line {
+        return push_source(alloc, text, subject, rows.as_slice(), all);
+    }
+    for row in rows.iter() {
+        push_part_row(alloc, text, subject, row, all)?;
+    }
+    Ok(())
+}
+
+// Appends what stands behind the table.
+fn push_end(
+    alloc: Global,
+    text: &mut Vec<u8>,
+    subject: &Subject,
+    costs: &[LineCost],
+) -> Result<(), AllocError> {
+    let together = subject.together(costs);
+    push_rest(alloc, text, subject, together)?;
+    push_spent(alloc, text, spent_in(subject, costs))?;
+    push_sums(alloc, text, subject.profile, together.noops)
 }
 
 /// What a run cost, by parts of its source in the order of a column, and the sums.
@@ -242,20 +316,9 @@ pub fn profile_text(
 ) -> Result<Vec<u8>, AllocError> {
     let costs = subject.statement_costs(alloc)?;
     let costs = costs.as_slice();
-    let rows = rows_by(alloc, subject, costs, by, column)?;
-    let together = subject.together(costs);
     let mut text = Vec::new(alloc);
-    text.extend_from_slice(HEAD.as_bytes())?;
-    text.extend_from_slice(named_by(by).as_bytes())?;
-    if by == By::Line && column == Column::Line {
-        push_source(alloc, &mut text, subject, rows.as_slice(), together.cycles)?;
-    } else {
-        for row in rows.iter() {
-            push_row(alloc, &mut text, row, together.cycles)?;
-        }
-    }
-    push_rest(alloc, &mut text, subject, together)?;
-    push_spent(alloc, &mut text, spent_in(subject, costs))?;
-    push_sums(alloc, &mut text, subject.profile, together.noops)?;
+    push_head(&mut text, by)?;
+    push_table(alloc, &mut text, subject, costs, by, column)?;
+    push_end(alloc, &mut text, subject, costs)?;
     Ok(text)
 }

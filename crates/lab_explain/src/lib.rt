@@ -2,6 +2,7 @@
 #![tactic(auto)]
 
 mod advice;
+mod members;
 mod run;
 mod standing;
 mod told;

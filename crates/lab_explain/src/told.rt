@@ -1,13 +1,25 @@
 //! A run and a meaning, in words.
 
 use crate::advice::{advice_of, name_of, reason_of};
+use crate::members::{write_flag, write_number, write_numbers, write_text, write_words};
 use crate::run::Ran;
 use crate::standing::Standing;
 use crate::verdict::{Verdict, enough, verdict_of};
 use mx_source::Why;
-use serde::Serialize;
+use serde::{Described, Serialize, Serializer};
 use serde_json::to_string;
 use std::alloc::{AllocError, Global};
+
+/// What is promised of a run that halts.
+const AS_MEANT: &str =
+    "console, registers, MD, data and input are those of the meaning, whatever the caches and the interrupts do";
+
+/// What is promised of a run that is cut off.
+const BEGINNING: &str = "what the run has sent is the beginning of what the meaning sends";
+
+/// The premises, and those that hold of each source that is run.
+const PREMISES: &str =
+    "premises of what is promised of `run`:\n  holds: the text has no fault\n  holds: each branch reaches its target\n";
 
 /// How a source stands: its file, its meaning after so many steps at most, the run of its linked program within a budget,
 /// how many interrupts are requested, and, where the meaning is stuck, the number of the line and the line; 0 behind the
@@ -41,138 +53,159 @@ impl Explained<'_> {
     }
 }
 
-// So many of something: `1 statement`.
-fn counted(alloc: Global, count: u64, name: &str) -> Result<String, AllocError> {
+// Appends so many of something: `1 statement`.
+fn push_counted(text: &mut String, count: u64, name: &str) -> Result<(), AllocError> {
     if count == 1 {
-        return Ok(format!(in alloc; "1 {name}")?);
+        write!(text, "1 {name}")
+    } else {
+        write!(text, "{count} {name}s")
     }
-    Ok(format!(in alloc; "{count} {name}s")?)
 }
 
-// How the run of the machine ended.
-fn run_words(alloc: Global, explained: &Explained) -> Result<String, AllocError> {
-    let cycles = counted(alloc, explained.ran.cycles, "cycle")?;
-    if explained.ran.halted {
-        return Ok(format!(in alloc; "the machine's run halts after {cycles}")?);
+// Appends so many statements.
+fn push_statements(text: &mut String, count: u32) -> Result<(), AllocError> {
+    push_counted(text, u64::from(count), "statement")
+}
+
+// Appends how the run of the machine ended.
+fn push_run(text: &mut String, ran: Ran) -> Result<(), AllocError> {
+    if ran.halted {
+        text.push_str("the machine's run halts after ")?;
+        return push_counted(text, ran.cycles, "cycle");
     }
-    Ok(format!(in alloc; "the machine's run has not halted after {cycles}, its budget")?)
+    text.push_str("the machine's run has not halted after ")?;
+    push_counted(text, ran.cycles, "cycle")?;
+    text.push_str(", its budget")
 }
 
-// What is said of a source whose meaning is stuck.
-fn stuck_words(alloc: Global, explained: &Explained, why: Why) -> Result<String, AllocError> {
-    let (file, line) = (explained.file, explained.line);
-    let text = String::from_utf8_lossy(alloc, explained.text)?;
-    let (name, reason, advice) = (name_of(why), reason_of(why), advice_of(why));
-    let statements = counted(
-        alloc,
-        u64::from(explained.standing.progress.steps),
-        "statement",
-    )?;
-    let run = run_words(alloc, explained)?;
-    let place = match line {
-        0 => format!(in alloc; "{file}: stuck behind the last statement")?,
-        _ => format!(in alloc; "{file}:{line}: stuck")?,
-    };
-    let shown = match line {
-        0 => String::new(alloc),
-        _ => format!(in alloc; "    {text}\n")?,
-    };
-    Ok(format!(in alloc;
-        "{place} after {statements}: {name}: {reason}\n{shown}what to do: {advice}\n{run}; \
-         nothing is promised of it, since the meaning is stuck\n"
-    )?)
-}
-
-// What is said of a source whose meaning halts.
-fn halted_words(alloc: Global, explained: &Explained) -> Result<String, AllocError> {
-    let file = explained.file;
-    let steps = explained.standing.progress.steps;
-    let statements = counted(alloc, u64::from(steps), "statement")?;
-    let requests = counted(alloc, u64::from(explained.requests), "interrupt request")?;
-    let bound = enough(steps, explained.requests);
-    let run = run_words(alloc, explained)?;
-    if explained.ran.halted {
-        return Ok(format!(in alloc;
-            "{file}: halts as meant, after {statements}\n{run}; a budget of {bound} is enough with {requests}\n\
-             console, registers, MD, data and input are those of the meaning, whatever the caches and the interrupts do\n"
-        )?);
+// Appends where a meaning is stuck.
+fn push_place(text: &mut String, file: &str, line: u32) -> Result<(), AllocError> {
+    match line {
+        0 => write!(text, "{file}: stuck behind the last statement after "),
+        _ => write!(text, "{file}:{line}: stuck after "),
     }
-    Ok(format!(in alloc;
-        "{file}: out of budget; the meaning halts after {statements}\n{run}; a budget of {bound} is enough with {requests}\n\
-         what the run has sent is the beginning of what the meaning sends\n"
-    )?)
 }
 
-// What is said of a source whose meaning has not ended.
-fn unended_words(alloc: Global, explained: &Explained) -> Result<String, AllocError> {
-    let file = explained.file;
-    let statements = counted(alloc, u64::from(explained.steps), "statement")?;
-    let run = run_words(alloc, explained)?;
-    Ok(format!(in alloc;
-        "{file}: out of budget; the meaning has not ended after {statements}\n{run}\n\
-         what the run has sent is the beginning of what the meaning sends; --budget N lets both go on\n"
-    )?)
+// Appends the line at which a meaning is stuck.
+fn push_line(alloc: Global, text: &mut String, line: &[u8]) -> Result<(), AllocError> {
+    let line = String::from_utf8_lossy(alloc, line)?;
+    write!(text, "    {line}\n")
 }
 
-// One of the premises, and whether it holds.
-fn premise(alloc: Global, text: &mut String, words: &str, holds: bool) -> Result<(), AllocError> {
-    let mark = if holds { "holds" } else { "does not hold" };
-    let line = format!(in alloc; "  {mark}: {words}\n")?;
-    text.push_str(line.as_str())?;
-    Ok(())
+// Appends why a meaning is stuck.
+fn push_reason(text: &mut String, why: Why) -> Result<(), AllocError> {
+    let (name, reason) = (name_of(why), reason_of(why));
+    write!(text, ": {name}: {reason}\n")
 }
 
-// The premises of what is promised of `run`.
-fn push_premises(
+// Appends what helps.
+fn push_advice(text: &mut String, why: Why) -> Result<(), AllocError> {
+    let advice = advice_of(why);
+    write!(text, "what to do: {advice}\n")
+}
+
+// Appends what is said of a source whose meaning is stuck.
+fn push_stuck(
     alloc: Global,
     text: &mut String,
     explained: &Explained,
+    why: Why,
 ) -> Result<(), AllocError> {
-    let is_stuck = matches!(explained.verdict(), Verdict::Stuck(_));
-    let steps = explained.steps;
-    text.push_str("premises of what is promised of `run`:\n")?;
-    premise(alloc, text, "the text has no fault", true)?;
-    premise(alloc, text, "each branch reaches its target", true)?;
-    let words = format!(in alloc;
-        "the meaning is not stuck within {steps} statements, 64 more than the budget has cycles"
-    )?;
-    premise(alloc, text, words.as_str(), !is_stuck)?;
-    if let Some(bound) = explained.enough() {
-        let budget = explained.budget;
-        let words = format!(in alloc;
-            "the budget, {budget}, is at least {bound}, so that the run has to halt"
-        )?;
-        premise(alloc, text, words.as_str(), u64::from(budget) >= bound)?;
+    push_place(text, explained.file, explained.line)?;
+    push_statements(text, explained.standing.progress.steps)?;
+    push_reason(text, why)?;
+    if explained.line > 0 {
+        push_line(alloc, text, explained.text)?;
     }
-    Ok(())
+    push_advice(text, why)?;
+    push_run(text, explained.ran)?;
+    text.push_str("; nothing is promised of it, since the meaning is stuck\n")
+}
+
+// Appends the budget that is enough under so many interrupt requests.
+fn push_enough(text: &mut String, steps: u32, requests: u32) -> Result<(), AllocError> {
+    let bound = enough(steps, requests);
+    write!(text, "; a budget of {bound} is enough with ")?;
+    push_counted(text, u64::from(requests), "interrupt request")
+}
+
+// Appends what is said of a source whose meaning halts.
+fn push_halted(text: &mut String, explained: &Explained) -> Result<(), AllocError> {
+    let (file, steps) = (explained.file, explained.standing.progress.steps);
+    let (end, promise) = if explained.ran.halted {
+        ("halts as meant,", AS_MEANT)
+    } else {
+        ("out of budget; the meaning halts", BEGINNING)
+    };
+    write!(text, "{file}: {end} after ")?;
+    push_statements(text, steps)?;
+    text.push('\n')?;
+    push_run(text, explained.ran)?;
+    push_enough(text, steps, explained.requests)?;
+    write!(text, "\n{promise}\n")
+}
+
+// Appends what is said of a source whose meaning has not ended.
+fn push_unended(text: &mut String, explained: &Explained) -> Result<(), AllocError> {
+    let file = explained.file;
+    write!(
+        text,
+        "{file}: out of budget; the meaning has not ended after "
+    )?;
+    push_statements(text, explained.steps)?;
+    text.push('\n')?;
+    push_run(text, explained.ran)?;
+    write!(text, "\n{BEGINNING}; --budget N lets both go on\n")
+}
+
+// Appends whether the premise holds that is told behind it.
+fn push_mark(text: &mut String, holds: bool) -> Result<(), AllocError> {
+    text.push_str(if holds {
+        "  holds: "
+    } else {
+        "  does not hold: "
+    })
+}
+
+// Appends the premise that the meaning is not stuck.
+fn push_stuck_premise(text: &mut String, steps: u32, holds: bool) -> Result<(), AllocError> {
+    push_mark(text, holds)?;
+    write!(
+        text,
+        "the meaning is not stuck within {steps} statements, 64 more than the budget has cycles\n"
+    )
+}
+
+// Appends the premise that the budget is enough.
+fn push_budget_premise(text: &mut String, budget: u32, bound: u64) -> Result<(), AllocError> {
+    push_mark(text, u64::from(budget) >= bound)?;
+    write!(
+        text,
+        "the budget, {budget}, is at least {bound}, so that the run has to halt\n"
+    )
+}
+
+// Appends the premises of what is promised of `run`. The first two hold of each source that is run.
+fn push_premises(text: &mut String, explained: &Explained) -> Result<(), AllocError> {
+    let is_stuck = matches!(explained.verdict(), Verdict::Stuck(_));
+    text.push_str(PREMISES)?;
+    push_stuck_premise(text, explained.steps, !is_stuck)?;
+    match explained.enough() {
+        Some(bound) => push_budget_premise(text, explained.budget, bound),
+        None => Ok(()),
+    }
 }
 
 /// How a source stands, in words.
 pub fn explained_text(alloc: Global, explained: &Explained) -> Result<Vec<u8>, AllocError> {
-    let mut text = match explained.verdict() {
-        Verdict::Stuck(why) => stuck_words(alloc, explained, why)?,
-        Verdict::Unended => unended_words(alloc, explained)?,
-        Verdict::AsMeant | Verdict::BudgetShort => halted_words(alloc, explained)?,
-    };
-    push_premises(alloc, &mut text, explained)?;
+    let mut text = String::new(alloc);
+    match explained.verdict() {
+        Verdict::Stuck(why) => push_stuck(alloc, &mut text, explained, why)?,
+        Verdict::Unended => push_unended(&mut text, explained)?,
+        Verdict::AsMeant | Verdict::BudgetShort => push_halted(&mut text, explained)?,
+    }
+    push_premises(&mut text, explained)?;
     Ok(text.into_bytes())
-}
-
-// What an object tells.
-#[derive(Drop, Serialize)]
-struct Told<'a> {
-    file: &'a str,
-    verdict: &'static str,
-    statements: u32,
-    cycles: u64,
-    halted: bool,
-    budget: u32,
-    requests: u32,
-    enough: Option<u64>,
-    line: Option<u32>,
-    why: Option<&'static str>,
-    message: Option<&'static str>,
-    hint: Option<&'static str>,
 }
 
 // The word of a verdict.
@@ -184,27 +217,52 @@ fn verdict_word(verdict: Verdict) -> &'static str {
     }
 }
 
+// Writes the steps of the meaning, and the run.
+fn write_run<S: Serializer>(out: &mut S, explained: &Explained) -> Result<(), S::Error> {
+    let run = [
+        ("statements", u64::from(explained.standing.progress.steps)),
+        ("cycles", explained.ran.cycles),
+    ];
+    let given = [
+        ("budget", u64::from(explained.budget)),
+        ("requests", u64::from(explained.requests)),
+    ];
+    write_numbers(out, &run)?;
+    write_flag(out, "halted", explained.ran.halted)?;
+    write_numbers(out, &given)?;
+    write_number(out, "enough", explained.enough())
+}
+
+// Writes where and why a meaning is stuck, if it is.
+fn write_why<S: Serializer>(out: &mut S, line: u32, why: Option<Why>) -> Result<(), S::Error> {
+    let line = (why.is_some() && line > 0).then_some(u64::from(line));
+    write_number(out, "line", line)?;
+    write_words(out, "why", why.map(name_of))?;
+    write_words(out, "message", why.map(reason_of))?;
+    write_words(out, "hint", why.map(advice_of))
+}
+
+impl Described for Explained<'_> {}
+
+impl Serialize for Explained<'_> {
+    fn serialize<S: Serializer>(&self, out: &mut S) -> Result<(), S::Error> {
+        let verdict = self.verdict();
+        let why = match verdict {
+            Verdict::Stuck(why) => Some(why),
+            _ => None,
+        };
+        out.begin_map(Some(12))?;
+        write_text(out, "file", self.file)?;
+        write_text(out, "verdict", verdict_word(verdict))?;
+        write_run(out, self)?;
+        write_why(out, self.line, why)?;
+        out.end_map()
+    }
+}
+
 /// The same as an object of JSON, on a line.
 pub fn explained_json(alloc: Global, explained: &Explained) -> Result<Vec<u8>, AllocError> {
-    let why = match explained.verdict() {
-        Verdict::Stuck(why) => Some(why),
-        _ => None,
-    };
-    let told = Told {
-        file: explained.file,
-        verdict: verdict_word(explained.verdict()),
-        statements: explained.standing.progress.steps,
-        cycles: explained.ran.cycles,
-        halted: explained.ran.halted,
-        budget: explained.budget,
-        requests: explained.requests,
-        enough: explained.enough(),
-        line: (why.is_some() && explained.line > 0).then_some(explained.line),
-        why: why.map(name_of),
-        message: why.map(reason_of),
-        hint: why.map(advice_of),
-    };
-    let Ok(mut text) = to_string(alloc, &told) else {
+    let Ok(mut text) = to_string(alloc, explained) else {
         return Err(AllocError);
     };
     text.push('\n')?;

@@ -2,6 +2,7 @@
 #![tactic(auto)]
 
 mod committed;
+mod members;
 mod running;
 mod turn;
 

@@ -2,7 +2,7 @@
 ghost use Rattle.std.specs.Prelude.{◌≡◌};
 
 use crate::committed::committed_by;
-use crate::turn::{BeginRecord, end_record, turn_record};
+use crate::turn::{BeginRecord, EndRecord, turn_record};
 use mx_board::Requests;
 use mx_code::Image;
 use mx_io::Memory;
@@ -86,7 +86,11 @@ pub fn trace_of<M: Machine>(
     };
     push_line(alloc, &mut text, &begin)?;
     let halted = push_turns(alloc, &mut text, machine, code, requests, budget)?;
-    let end = end_record(&machine.counts(), machine.md(), halted);
+    let end = EndRecord {
+        halted,
+        counts: machine.counts(),
+        md: machine.md(),
+    };
     push_line(alloc, &mut text, &end)?;
     Ok(Traced { text, halted })
 }

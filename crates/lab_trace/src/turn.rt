@@ -1,38 +1,27 @@
 //! The lines of a trace.
 use crate::committed::Committed;
+use crate::members::{write_flag, write_number, write_numbers};
 use mx_turn::{Counts, Cycled, Latches, Machine, Stage};
-use serde::Serialize;
-
-/// A fetch in a stage: its address, and whether it is squashed.
-#[derive(Drop, Serialize)]
-pub(crate) struct StageRecord {
-    address: u32,
-    squashed: bool,
-}
+use serde::{Described, Serialize, Serializer};
 
 /// A number that is written to a place.
-#[derive(Drop, Serialize)]
-pub(crate) struct WriteRecord {
+#[derive(Clone, Copy)]
+struct Write {
     to: u32,
     value: u32,
 }
 
 /// A turn.
-#[derive(Drop, Serialize)]
+#[derive(Clone, Copy)]
 pub(crate) struct TurnRecord {
     /// The cycle in which it acts, the first being 0, and the stalled ones before it.
     cycle: u32,
     stalls: u32,
     fetch: u32,
-    #[serde(skip_serializing_if = "Option::is_none")]
-    commit: Option<StageRecord>,
-    #[serde(skip_serializing_if = "Option::is_none")]
-    register: Option<WriteRecord>,
-    #[serde(skip_serializing_if = "Option::is_none")]
+    commit: Stage,
+    register: Option<Write>,
     md: Option<u32>,
-    #[serde(skip_serializing_if = "Option::is_none")]
-    store: Option<WriteRecord>,
-    #[serde(skip_serializing_if = "Option::is_none")]
+    store: Option<Write>,
     byte: Option<u8>,
     interrupt: bool,
 }
@@ -50,29 +39,83 @@ pub(crate) struct BeginRecord<'a> {
 }
 
 /// The last line: how the run ends.
-#[derive(Drop, Serialize)]
+#[derive(Drop)]
 pub(crate) struct EndRecord {
-    halted: bool,
-    cycles: u64,
-    fetches: u64,
-    misses: u64,
-    squashes: u64,
-    interrupts: u64,
-    md: u32,
+    pub(crate) halted: bool,
+    pub(crate) counts: Counts,
+    pub(crate) md: u32,
 }
 
-// The fetch in a stage, if there is one.
-fn stage_record(stage: Stage) -> Option<StageRecord> {
-    match stage {
-        Stage::Empty => None,
-        Stage::Live(address) => Some(StageRecord {
-            address,
-            squashed: false,
-        }),
-        Stage::Squashed(address) => Some(StageRecord {
-            address,
-            squashed: true,
-        }),
+// Writes the fetch in a stage, if there is one: its address, and whether it is squashed.
+fn write_stage<S: Serializer>(out: &mut S, name: &str, stage: Stage) -> Result<(), S::Error> {
+    let (address, squashed) = match stage {
+        Stage::Empty => return Ok(()),
+        Stage::Live(address) => (address, false),
+        Stage::Squashed(address) => (address, true),
+    };
+    out.key(name)?;
+    out.begin_map(Some(2))?;
+    write_numbers(out, &[("address", u64::from(address))])?;
+    write_flag(out, "squashed", squashed)?;
+    out.end_map()
+}
+
+// Writes what is written to a place, if it is.
+fn write_write<S: Serializer>(
+    out: &mut S,
+    name: &str,
+    write: Option<Write>,
+) -> Result<(), S::Error> {
+    let Some(write) = write else {
+        return Ok(());
+    };
+    let numbers = [
+        ("to", u64::from(write.to)),
+        ("value", u64::from(write.value)),
+    ];
+    out.key(name)?;
+    out.begin_map(Some(2))?;
+    write_numbers(out, &numbers)?;
+    out.end_map()
+}
+
+impl Described for TurnRecord {}
+
+impl Serialize for TurnRecord {
+    fn serialize<S: Serializer>(&self, out: &mut S) -> Result<(), S::Error> {
+        let numbers = [
+            ("cycle", u64::from(self.cycle)),
+            ("stalls", u64::from(self.stalls)),
+            ("fetch", u64::from(self.fetch)),
+        ];
+        out.begin_map(None)?;
+        write_numbers(out, &numbers)?;
+        write_stage(out, "commit", self.commit)?;
+        write_write(out, "register", self.register)?;
+        write_number(out, "md", self.md.map(u64::from))?;
+        write_write(out, "store", self.store)?;
+        write_number(out, "byte", self.byte.map(u64::from))?;
+        write_flag(out, "interrupt", self.interrupt)?;
+        out.end_map()
+    }
+}
+
+impl Described for EndRecord {}
+
+impl Serialize for EndRecord {
+    fn serialize<S: Serializer>(&self, out: &mut S) -> Result<(), S::Error> {
+        let numbers = [
+            ("cycles", self.counts.cycles),
+            ("fetches", self.counts.fetches),
+            ("misses", self.counts.misses),
+            ("squashes", self.counts.squashes),
+            ("interrupts", self.counts.interrupts),
+            ("md", u64::from(self.md)),
+        ];
+        out.begin_map(Some(7))?;
+        write_flag(out, "halted", self.halted)?;
+        write_numbers(out, &numbers)?;
+        out.end_map()
     }
 }
 
@@ -99,8 +142,8 @@ pub(crate) fn turn_record<M: Machine>(
         cycle,
         stalls,
         fetch: address_of(shown.fetch),
-        commit: stage_record(shown.mem),
-        register: committed.register.map(|register| WriteRecord {
+        commit: shown.mem,
+        register: committed.register.map(|register| Write {
             to: u32::from(register.number()),
             value: machine.register(register),
         }),
@@ -110,7 +153,7 @@ pub(crate) fn turn_record<M: Machine>(
             None
         },
         store: if committed.store {
-            Some(WriteRecord {
+            Some(Write {
                 to: before.result,
                 value: before.b,
             })
@@ -119,18 +162,5 @@ pub(crate) fn turn_record<M: Machine>(
         },
         byte: cycled.byte,
         interrupt: cycled.taken,
-    }
-}
-
-/// The last line of the run of a machine.
-pub(crate) fn end_record(counts: &Counts, md: u32, halted: bool) -> EndRecord {
-    EndRecord {
-        halted,
-        cycles: counts.cycles,
-        fetches: counts.fetches,
-        misses: counts.misses,
-        squashes: counts.squashes,
-        interrupts: counts.interrupts,
-        md,
     }
 }

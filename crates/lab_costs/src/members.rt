@@ -1,0 +1,46 @@
+//! Members of objects, as they are written.
+use serde::Serializer;
+
+/// Writes a member that is a text.
+pub(crate) fn write_text<S: Serializer>(
+    out: &mut S,
+    name: &str,
+    text: &str,
+) -> Result<(), S::Error> {
+    out.key(name)?;
+    out.str(text)
+}
+
+/// Writes a member that is a truth value.
+pub(crate) fn write_flag<S: Serializer>(
+    out: &mut S,
+    name: &str,
+    flag: bool,
+) -> Result<(), S::Error> {
+    out.key(name)?;
+    out.bool(flag)
+}
+
+/// Writes members that are numbers.
+pub(crate) fn write_numbers<S: Serializer>(
+    out: &mut S,
+    numbers: &[(&str, u64)],
+) -> Result<(), S::Error> {
+    for (name, number) in numbers {
+        out.key(*name)?;
+        out.u64(*number)?;
+    }
+    Ok(())
+}
+
+/// Writes a member that is an object of numbers.
+pub(crate) fn write_object<S: Serializer>(
+    out: &mut S,
+    name: &str,
+    numbers: &[(&str, u64)],
+) -> Result<(), S::Error> {
+    out.key(name)?;
+    out.begin_map(Some(numbers.len()))?;
+    write_numbers(out, numbers)?;
+    out.end_map()
+}

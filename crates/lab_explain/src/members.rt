@@ -1,0 +1,60 @@
+//! Members of objects, as they are written.
+use serde::Serializer;
+
+/// Writes a member that is a text.
+pub(crate) fn write_text<S: Serializer>(
+    out: &mut S,
+    name: &str,
+    text: &str,
+) -> Result<(), S::Error> {
+    out.key(name)?;
+    out.str(text)
+}
+
+/// Writes a member that is a truth value.
+pub(crate) fn write_flag<S: Serializer>(
+    out: &mut S,
+    name: &str,
+    flag: bool,
+) -> Result<(), S::Error> {
+    out.key(name)?;
+    out.bool(flag)
+}
+
+/// Writes members that are numbers.
+pub(crate) fn write_numbers<S: Serializer>(
+    out: &mut S,
+    numbers: &[(&str, u64)],
+) -> Result<(), S::Error> {
+    for (name, number) in numbers {
+        out.key(*name)?;
+        out.u64(*number)?;
+    }
+    Ok(())
+}
+
+/// Writes a member that is a number, or null.
+pub(crate) fn write_number<S: Serializer>(
+    out: &mut S,
+    name: &str,
+    number: Option<u64>,
+) -> Result<(), S::Error> {
+    out.key(name)?;
+    match number {
+        Some(number) => out.u64(number),
+        None => out.unit(),
+    }
+}
+
+/// Writes a member that is a text, or null.
+pub(crate) fn write_words<S: Serializer>(
+    out: &mut S,
+    name: &str,
+    words: Option<&str>,
+) -> Result<(), S::Error> {
+    out.key(name)?;
+    match words {
+        Some(words) => out.str(words),
+        None => out.unit(),
+    }
+}
