@@ -64,11 +64,27 @@ fn files_of<R: Files + AllocGlobal>(rt: &R, line: &str) -> Result<MemoryShelf> {
     Ok(shelf)
 }
 
-/// Runs the command that the words of a line ask for.
+/// Runs the command that the words of a line ask for, over the stored files that they name.
 pub fn run<R: Files + AllocGlobal>(rt: &R, line: &str) -> Result<Ended> {
-    let alloc = rt.alloc();
-    let words = words_of(alloc, line)?;
+    let shelf = files_of(rt, line)?;
+    run_over(rt.alloc(), line, shelf)
+}
+
+/// The same, where a file of this name holds these bytes.
+pub fn run_with<R: Files + AllocGlobal>(
+    rt: &R,
+    line: &str,
+    name: &str,
+    bytes: &[u8],
+) -> Result<Ended> {
     let mut shelf = files_of(rt, line)?;
+    shelf.add(name, bytes)?;
+    run_over(rt.alloc(), line, shelf)
+}
+
+// Runs the command over a shelf.
+fn run_over(alloc: Global, line: &str, mut shelf: MemoryShelf) -> Result<Ended> {
+    let words = words_of(alloc, line)?;
     let mut output = MemorySink::new(alloc, PIECE, ROOM)?;
     let ended = lab(
         alloc,

@@ -4,6 +4,7 @@
 
 mod case;
 mod kind;
+mod sources;
 mod texts;
 mod traced;
 

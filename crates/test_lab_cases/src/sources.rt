@@ -1,0 +1,53 @@
+//! Cases of sources that are told by their lines, and how often each stands.
+use crate::case::run_with;
+use anyhow::{Context, Result};
+use std::alloc::Global;
+use std::rt::Files;
+
+/// The file that holds the source.
+const SOURCE: &str = "source";
+
+/// What stands between two lines.
+const BETWEEN: &str = " / ";
+
+// The text that is told as `LINE / COUNT * LINE / ..`.
+fn text_of(alloc: Global, told: &str) -> Result<Vec<u8>> {
+    let mut text = Vec::new(alloc);
+    for part in told.split(BETWEEN) {
+        let (count, line) = match part.split_once(" * ") {
+            Some((count, line)) => (count.parse::<u32>()?, line),
+            None => (1, part),
+        };
+        for _ in 0..count {
+            text.extend_from_slice(line.as_bytes())?;
+            text.push(b'\n')?;
+        }
+    }
+    Ok(text)
+}
+
+// The lines of a text on one line.
+fn on_one_line(alloc: Global, text: &str) -> Result<String> {
+    let mut line = String::new(alloc);
+    let mut begun = false;
+    for part in text.lines() {
+        if begun {
+            line.push_str(BETWEEN)?;
+        }
+        line.push_str(part)?;
+        begun = true;
+    }
+    Ok(line)
+}
+
+/// How a command ends and all that is said, for the case `WORDS: LINE / COUNT * LINE / .. -> STATUS SAID`. The words name the
+/// file `source`, which has these lines. What is said stands on one line, too.
+pub fn told<R: Files + AllocGlobal>(rt: &R, case: &str) -> Result<String> {
+    let alloc = rt.alloc();
+    let (words, lines) = case.split_once(": ").context("no lines")?;
+    let text = text_of(alloc, lines)?;
+    let ended = run_with(rt, words, SOURCE, text.as_slice())?;
+    let status = ended.told(alloc)?;
+    let said = on_one_line(alloc, str::from_utf8(ended.said())?)?;
+    Ok(format!(in alloc; "{case} -> {status} {said}")?)
+}
