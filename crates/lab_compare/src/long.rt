@@ -74,7 +74,12 @@ fn push_scheduler(
     let (words, slots) = (figures.words as u64, figures.transfers);
     push_cell(alloc, table, words, padded.words as u64)?;
     push_cell(alloc, table, u64::from(figures.noops), words)?;
-    push_cell(alloc, table, u64::from(slots.filled()), u64::from(slots.all()))?;
+    push_cell(
+        alloc,
+        table,
+        u64::from(slots.filled()),
+        u64::from(slots.all()),
+    )?;
     let loads = figures.loads;
     push_cell(alloc, table, u64::from(loads.filled), u64::from(loads.all))?;
     if runs {

@@ -35,7 +35,9 @@ fn halted_in(rows: &[Row]) -> usize
 fn others_in(rows: &[Row]) -> usize
     ensures { result ≡ others_in rows.now }
 {
-    rows.iter().filter(|row| row.halted && !row.same_console).count()
+    rows.iter()
+        .filter(|row| row.halted && !row.same_console)
+        .count()
 }
 
 // The waits of the runs that came to the handler.

@@ -63,9 +63,7 @@ fn push_spread(
     let line = match spread {
         Some(spread) => {
             let (least, median, greatest) = (spread.least, spread.median, spread.greatest);
-            format!(in alloc;
-                "{name:<14}{least:>7} {median:>7} {greatest:>8}\n"
-            )?
+            format!(in alloc; "{name:<14}{least:>7} {median:>7} {greatest:>8}\n")?
         }
         None => format!(in alloc; "{name:<14}      -       -        -\n")?,
     };
@@ -94,7 +92,9 @@ fn push_longest(
 ) -> Result<(), AllocError> {
     let cycle = row.last();
     let wait = row.wait().unwrap_or(0);
-    let told = format!(in alloc; "longest wait  {wait:>7} cycles, of the request in cycle {cycle}")?;
+    let told = format!(in alloc;
+        "longest wait  {wait:>7} cycles, of the request in cycle {cycle}"
+    )?;
     push(text, told.as_str())?;
     let Some((address, _)) = row.killed() else {
         text.push(b'\n')?;
@@ -151,7 +151,9 @@ fn together(alloc: Global, spread: &Spread, width: i64) -> Result<Vec<Bin>, Allo
     let mut lines: Vec<Bin> = Vec::new(alloc);
     for bin in spread.bins.iter() {
         let behind = bin.number.saturating_sub(spread.least);
-        let number = bin.number.saturating_sub(behind.checked_rem(width).unwrap_or(0));
+        let number = bin
+            .number
+            .saturating_sub(behind.checked_rem(width).unwrap_or(0));
         match lines.last_mut() {
             Some(line) if line.number == number => line.runs = line.runs.saturating_add(bin.runs),
             _ => lines.push(Bin {

@@ -10,6 +10,6 @@ pub returns : goal.returns
 returns c = λ labels count words data_words link address word e i are near low entry spelled line.
     let names = names_of labels link words data_words in
     let text : string_bytes e.text ≡ instruction_text names address i =
-        subst (λ o. IfSome o (λ i. string_bytes e.text ≡ instruction_text names address i)) spelled entry.text in
+    subst (λ o. IfSome o (λ i. string_bytes e.text ≡ instruction_text names address i)) spelled entry.text in
     subst (λ t. AssemblesTo labels link address t word) (sym text)
     (assembles_again labels count words data_words link address word i are near low spelled line)
