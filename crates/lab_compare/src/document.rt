@@ -1,6 +1,6 @@
 //! Comparisons as JSON and as CSV.
 use crate::schedulers::schedulers;
-use crate::several::{Compared, together};
+use crate::several::{Compared, sums_of};
 use crate::{Comparison, Figures};
 use csv::WriterBuilder;
 use mx_io::Memory;
@@ -174,14 +174,14 @@ fn long_document<'a>(
     alloc: Global,
     compared: &[Compared<'a>],
 ) -> Result<LongDocument<'a>, AllocError> {
-    let all = together(compared);
+    let all = sums_of(compared);
     Ok(LongDocument {
         command: "compare",
         sources: source_records(alloc, compared)?,
         sums: SumsRecord {
             sources: all.sources as u64,
             halted: all.halted as u64,
-            schedulers: figures_records(alloc, &all.sums)?,
+            schedulers: figures_records(alloc, &all.figures)?,
         },
     })
 }

@@ -16,6 +16,6 @@ pub use document::{comparison_json, comparisons_csv, comparisons_json};
 pub use figures::Figures;
 pub use long::long_table;
 pub use rows::figures_of;
-pub use several::{Compared, Together, together};
+pub use several::{Compared, Sums, sums_of};
 pub use slots::{Filling, Slots, TransferSlots};
 pub use table::table_of;

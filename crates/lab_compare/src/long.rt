@@ -2,7 +2,7 @@
 use crate::comparison::Comparison;
 use crate::figures::Figures;
 use crate::schedulers::schedulers;
-use crate::several::{Compared, Together, together};
+use crate::several::{Compared, Sums, sums_of};
 use crate::table::push_cell;
 use std::alloc::{AllocError, Global};
 
@@ -111,12 +111,12 @@ fn push_sums(
     alloc: Global,
     table: &mut String,
     width: usize,
-    all: &Together,
+    all: &Sums,
 ) -> Result<(), AllocError> {
     let told = all.halted > 0;
-    let mut padded = all.sums.padded;
+    let mut padded = all.figures.padded;
     padded.halted = told;
-    for (plans, figures) in schedulers(&all.sums) {
+    for (plans, figures) in schedulers(&all.figures) {
         push_name(table, ALL, width)?;
         push_scheduler(alloc, table, plans, figures, &padded, told)?;
     }
@@ -141,6 +141,6 @@ pub fn long_table(alloc: Global, compared: &[Compared]) -> Result<Vec<u8>, Alloc
     for one in compared {
         push_source(alloc, &mut table, one.source, width, &one.comparison)?;
     }
-    push_sums(alloc, &mut table, width, &together(compared))?;
+    push_sums(alloc, &mut table, width, &sums_of(compared))?;
     Ok(table.into_bytes())
 }

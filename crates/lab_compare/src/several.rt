@@ -12,12 +12,12 @@ pub struct Compared<'a> {
 
 /// What several sources come to together.
 #[derive(Clone, Copy, Debug, PartialEq, Eq)]
-pub struct Together {
+pub struct Sums {
     /// How many sources there are, and of how many all four runs halted.
     pub sources: usize,
     pub halted: usize,
     /// The sums of their figures. Those of runs are of the sources alone of which all four runs halted.
-    pub sums: Comparison,
+    pub figures: Comparison,
 }
 
 /// No figures.
@@ -90,8 +90,8 @@ fn comparison_with(sum: &Comparison, other: &Comparison, runs: bool) -> Comparis
 }
 
 /// What several sources come to together.
-pub fn together(compared: &[Compared]) -> Together {
-    let mut sums = Comparison {
+pub fn sums_of(compared: &[Compared]) -> Sums {
+    let mut figures = Comparison {
         padded: NOTHING,
         list: NOTHING,
         copies: NOTHING,
@@ -100,12 +100,12 @@ pub fn together(compared: &[Compared]) -> Together {
     let mut halted = 0usize;
     for one in compared {
         let runs = has_halted(&one.comparison);
-        sums = comparison_with(&sums, &one.comparison, runs);
+        figures = comparison_with(&figures, &one.comparison, runs);
         halted = halted.saturating_add(usize::from(runs));
     }
-    Together {
+    Sums {
         sources: compared.len(),
         halted,
-        sums,
+        figures,
     }
 }
