@@ -1,8 +1,4 @@
 //! What is told of a word.
-ghost use Rattle.std.specs.Prelude.{IfOk};
-ghost use Rattle.lab_words.specs.Naming.{Naming, NameAlike, naming};
-ghost use Rattle.lab_disassemble.specs.Listed.{IsEntry};
-
 use crate::places::Place;
 use lab_words::{PlaceNames, word_text};
 use std::alloc::{AllocError, Global};
@@ -41,9 +37,7 @@ impl Entry {
         names: &PlaceNames,
         address: u32,
         word: u32,
-    ) -> Result<Entry, AllocError>
-        ensures { (n : Naming) → NameAlike (naming names.now) n → IfOk result (IsEntry n address word) }
-    {
+    ) -> Result<Entry, AllocError> {
         let text = word_text(alloc, names, address, word)?;
         Ok(Entry {
             address,

@@ -4,7 +4,6 @@
 mod document;
 mod entry;
 mod images;
-mod laws;
 mod places;
 mod sources;
 mod text;
@@ -12,7 +11,6 @@ mod text;
 pub use document::listing_json;
 pub use entry::{Entry, Listing};
 pub use images::image_listing;
-pub use laws::listed_words_assemble_again;
 pub use places::{Place, Slot};
 pub use sources::source_listing;
 pub use text::listing_text;

