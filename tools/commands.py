@@ -26,6 +26,8 @@ class Command(NamedTuple):
 PAGES = {"mx_run": "COMMANDS", "mx_lab": "LAB", "mx_cc": "C", "serve": "SERVE"}
 
 BUDGET = Option("--budget", "N", "0 to 100,000,000 cycles (1,000,000)")
+# The laboratory runs for a cycle at least.
+LAB_BUDGET = Option("--budget", "N", "1 to 100,000,000 cycles (1,000,000)")
 INTERRUPTS = Option("--interrupts", "FILE", "the cycles of requests, one a line, each above the one before (none)")
 INPUT = Option("--input", "FILE", "the bytes that a source with .input reads (none)")
 OUTPUT = Option("--output", "FILE", "the file that what is printed goes to (standard output)")
@@ -63,36 +65,36 @@ COMMANDS = {
         Option("--as", "FORM", "text, svg, html, json, kanata or vcd (text)"),
         Option("--from", "N", "0 to 100,000,000: the first cycle that is drawn (0)"),
         Option("--cycles", "N", "1 to 100,000 cycles (64)"),
-        BUDGET, INTERRUPTS, INPUT, OUTPUT)),
+        LAB_BUDGET, INTERRUPTS, INPUT, OUTPUT)),
     "check": Command("mx_lab", "SOURCE", "tells every faulty line of a source, and what is wrong with it", (
         Option("--all", "", "shows more than the first twenty"),
         Option("--as", "FORM", "text or json (text)"),
         Option("--colour", "WHEN", "always or never: the text in the colours of a terminal (never; ./mx says always on a terminal)"), OUTPUT)),
     "explain": Command("mx_lab", "SOURCE", "tells how a run stands beside what the source means", (
-        Option("--as", "FORM", "text or json (text)"), BUDGET, INTERRUPTS, INPUT, OUTPUT)),
+        Option("--as", "FORM", "text or json (text)"), LAB_BUDGET, INTERRUPTS, INPUT, OUTPUT)),
     "profile": Command("mx_lab", "SOURCE", "tells what each part of a source costs in a run", (
         Option("--by", "PART", "line, label, function, or c for lines of C (line)"),
         Option("--sort", "COLUMN", "line, count, cycles, cpi, stalls, noops, squashed or killed (line)"),
-        Option("--as", "FORM", "text, json or callgrind (text)"), BUDGET, INTERRUPTS, INPUT, OUTPUT)),
+        Option("--as", "FORM", "text, json or callgrind (text)"), LAB_BUDGET, INTERRUPTS, INPUT, OUTPUT)),
     "compare": Command("mx_lab", "SOURCE ..", "compares what four schedulers make of sources", (
-        Option("--as", "FORM", "text, json or csv (text)"), BUDGET, INTERRUPTS, INPUT, OUTPUT)),
+        Option("--as", "FORM", "text, json or csv (text)"), LAB_BUDGET, INTERRUPTS, INPUT, OUTPUT)),
     "disassemble": Command("mx_lab", "FILE", "lists the words of a source or an image in assembly language", (
         Option("--as", "FORM", "text or json (text)"), OUTPUT)),
     "caches": Command("mx_lab", "SOURCE", "tells what other caches would make of a run", (
         Option("--line", "N", "1 to 64 words of a line (16)"),
         Option("--brings", "N", "1 to 64 words, at most those of a line, that a miss makes valid (2)"),
         Option("--penalty", "N", "0 to 1,000 cycles of a miss (2)"),
-        Option("--as", "FORM", "text, json or svg (text)"), BUDGET, INPUT, OUTPUT)),
+        Option("--as", "FORM", "text, json or svg (text)"), LAB_BUDGET, INPUT, OUTPUT)),
     "interrupts": Command("mx_lab", "SOURCE", "tells what an interrupt costs, in each cycle of a run in turn", (
         Option("--from", "N", "0 to 100,000,000: the first cycle in which a request comes (0)"),
         Option("--to", "N", "0 to 100,000,000: the last one (that of the undisturbed run)"),
         Option("--step", "N", "1 to 100,000,000 cycles between the requests of two runs (1)"),
         Option("--pairs", "", "runs with a request in each two of the cycles"),
         Option("--rows", "", "prints a row for each run as well"),
-        Option("--as", "FORM", "text, json or csv (text)"), BUDGET, INPUT, OUTPUT)),
+        Option("--as", "FORM", "text, json or csv (text)"), LAB_BUDGET, INPUT, OUTPUT)),
     "trace": Command("mx_lab", "SOURCE", "tells each turn of a run, for programs that replay it", (
-        Option("--as", "FORM", "jsonl (jsonl)"), BUDGET, INTERRUPTS, INPUT, OUTPUT)),
-    "plans": Command("mx_lab", "SOURCE FILE", "runs a source by the plans of a scheduler of one's own", (BUDGET, INTERRUPTS, INPUT, OUTPUT)),
+        Option("--as", "FORM", "jsonl (jsonl)"), LAB_BUDGET, INTERRUPTS, INPUT, OUTPUT)),
+    "plans": Command("mx_lab", "SOURCE FILE", "runs a source by the plans of a scheduler of one's own", (LAB_BUDGET, INTERRUPTS, INPUT, OUTPUT)),
     "serve": Command("serve", "[FILE]", "starts a workbench in the browser", (
         Option("--port", "N", "0 to 65,535 (a free one)"),
         Option("--host", "H", "the address to listen at (127.0.0.1)")),
