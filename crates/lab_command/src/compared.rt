@@ -1,7 +1,7 @@
 //! The reply of `compare`.
 ghost use Rattle.std.specs.Prelude.{◌≤◌, vec_len};
 
-use crate::given::{file_by, file_if_given, number_given, word_given, words_given};
+use crate::given::{file_by, file_if_given, number_given, word_given};
 use crate::linked::{LinkedSource, overlong_reply, read_linked};
 use clap::ArgMatches;
 use cmd_answer::{Reply, Status};
@@ -58,8 +58,10 @@ fn read_sources<'a, S: Shelf>(
     shelf: &mut S,
     matches: &ArgMatches<'a>,
 ) -> Result<Result<Vec<NamedSource<'a>>, Reply>, Memory> {
-    let names = words_given(matches, "SOURCE");
     let mut sources = Vec::new(alloc);
+    let Some(names) = matches.get_strs("SOURCE") else {
+        return Ok(Ok(sources));
+    };
     for name in names {
         match read_linked(alloc, shelf, file_by(*name))? {
             Ok(program) => {

@@ -2,7 +2,7 @@
 ghost use Rattle.std.specs.Prelude.{◌≡◌};
 ghost use Rattle.lab_command.specs.Sides;
 
-use crate::given::{file_by, word_given, words_given};
+use crate::given::{file_by, word_given};
 use clap::ArgMatches;
 use cmd_answer::Status;
 use std::alloc::{AllocError, Global};
@@ -68,6 +68,21 @@ pub fn is_error(is_check: bool, status: Status) -> bool
     }
 }
 
+// The first of some files that cannot be read, and why.
+fn unread_among<'a, C: Causes>(
+    alloc: Global,
+    words: &[&'a str],
+    causes: C,
+) -> Option<(&'a str, Cause)> {
+    for word in words {
+        let name = file_by(*word);
+        if let Some(cause) = causes.cause(alloc, name) {
+            return Some((name, cause));
+        }
+    }
+    None
+}
+
 // The first of the files that cannot be read, and why.
 fn unread<'a, C: Causes>(
     alloc: Global,
@@ -75,10 +90,10 @@ fn unread<'a, C: Causes>(
     causes: C,
 ) -> Option<(&'a str, Cause)> {
     for option in READ {
-        for word in words_given(matches, option) {
-            let name = file_by(*word);
-            if let Some(cause) = causes.cause(alloc, name) {
-                return Some((name, cause));
+        if let Some(words) = matches.get_strs(option) {
+            let found = unread_among(alloc, words, causes);
+            if found.is_some() {
+                return found;
             }
         }
     }
@@ -88,10 +103,10 @@ fn unread<'a, C: Causes>(
 // The name of the source, or of the file that may be one; empty where the words name none, or several: what is said then
 // names the one that it is about.
 fn source_named<'a>(matches: &ArgMatches<'a>) -> &'a str {
-    match words_given(matches, "SOURCE") {
-        [] => word_given(matches, "FILE"),
-        [name] => *name,
-        _ => "",
+    match matches.get_strs("SOURCE") {
+        None => word_given(matches, "FILE"),
+        Some([name]) => *name,
+        Some(_) => "",
     }
 }
 

@@ -16,11 +16,6 @@ pub fn word_given<'a>(matches: &ArgMatches<'a>, name: &str) -> &'a str {
     matches.get_str(name).unwrap_or("")
 }
 
-/// The words of an option or a name, in order.
-pub fn words_given<'m, 'a>(matches: &'m ArgMatches<'a>, name: &str) -> &'m [&'a str] {
-    matches.get_strs(name).unwrap_or(&[])
-}
-
 /// The file of a word: `-` is standard input.
 pub fn file_by<'a>(word: &'a str) -> &'a str {
     match word {
