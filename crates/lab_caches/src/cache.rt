@@ -2,7 +2,7 @@
 use crate::geometry::Geometry;
 use std::alloc::{AllocError, Global};
 
-/// A line that is held: its number, and a bit for each of its words that is valid.
+/// A line that is held: its number, and a bit for each of its groups of words that is valid.
 #[derive(Clone, Copy)]
 struct Held {
     line: u32,
@@ -12,20 +12,9 @@ struct Held {
 /// A place without a line.
 const EMPTY: Held = Held { line: 0, valid: 0 };
 
-/// The words of a line that a miss of one of them brings, as bits.
-fn brought(brings: u32, line: u32, word: u32) -> u64 {
-    let first = word - word.checked_rem(brings).unwrap_or(0).min(word);
-    let end = first.saturating_add(brings).min(line);
-    let mut bits = 0u64;
-    for at in first..end {
-        bits |= 1u64.checked_shl(at).unwrap_or(0);
-    }
-    bits
-}
-
 /// A cache that holds lines: in each set as many places as there are ways, which are taken in turn.
 #[derive(Drop)]
-pub struct Cache {
+pub(crate) struct Cache {
     geometry: Geometry,
     places: Vec<Held>,
     /// For each set the way that the next line goes to.
@@ -35,7 +24,7 @@ pub struct Cache {
 
 impl Cache {
     /// An empty cache.
-    pub fn new(alloc: Global, geometry: Geometry) -> Result<Cache, AllocError> {
+    pub(crate) fn new(alloc: Global, geometry: Geometry) -> Result<Cache, AllocError> {
         let count = geometry.sets.saturating_mul(geometry.ways) as usize;
         Ok(Cache {
             geometry,
@@ -46,12 +35,12 @@ impl Cache {
     }
 
     /// How many fetches have missed.
-    pub fn misses(&self) -> u64 {
+    pub(crate) fn misses(&self) -> u64 {
         self.misses
     }
 
     /// Its geometry.
-    pub fn geometry(&self) -> Geometry {
+    pub(crate) fn geometry(&self) -> Geometry {
         self.geometry
     }
 
@@ -78,32 +67,33 @@ impl Cache {
         first.saturating_add(way as usize)
     }
 
-    // Fetches a word of a line.
-    fn look(&mut self, line: u32, word: u32) {
-        let set = line.checked_rem(self.geometry.sets).unwrap_or(0) as usize;
-        let first = set.saturating_mul(self.geometry.ways as usize);
-        let bit = 1u64.checked_shl(word).unwrap_or(0);
-        let bits = brought(self.geometry.brings, self.geometry.line, word);
-        let (at, before) = match self.found(first, line) {
-            Some(at) => (at, self.places.get(at).copied().unwrap_or(EMPTY).valid),
-            None => (self.allocated(set, first), 0),
+    // Makes groups of a line valid at a place, and counts those that were not; answers what stood there.
+    fn fill(&mut self, at: usize, line: u32, groups: u64) -> Option<Held> {
+        let place = self.places.get_mut(at)?;
+        let before = *place;
+        let valid = if before.line == line { before.valid } else { 0 };
+        *place = Held {
+            line,
+            valid: valid | groups,
         };
-        if before & bit != 0 {
-            return;
-        }
-        self.misses = self.misses.saturating_add(1);
-        if let Some(place) = self.places.get_mut(at) {
-            *place = Held {
-                line,
-                valid: before | bits,
-            };
-        }
+        let missed = (groups & !valid).count_ones();
+        self.misses = self.misses.saturating_add(u64::from(missed));
+        Some(before)
     }
 
-    /// Fetches the word at an address.
-    pub fn fetch(&mut self, address: u32) {
-        let line = address.checked_div(self.geometry.line).unwrap_or(0);
-        let word = address.checked_rem(self.geometry.line).unwrap_or(0);
-        self.look(line, word);
+    /// Fetches a word of each of these groups of a line. Each group that is not valid is a miss and makes it so, as of a line
+    /// that is fetched from without a break none is replaced. Answers the line that had to go, if one had.
+    pub(crate) fn fetch(&mut self, line: u32, groups: u64) -> Option<u32> {
+        let set = line.checked_rem(self.geometry.sets).unwrap_or(0) as usize;
+        let first = set.saturating_mul(self.geometry.ways as usize);
+        let at = match self.found(first, line) {
+            Some(at) => at,
+            None => self.allocated(set, first),
+        };
+        let before = self.fill(at, line, groups)?;
+        if before.valid == 0 || before.line == line {
+            return None;
+        }
+        Some(before.line)
     }
 }

@@ -2,6 +2,7 @@
 #![tactic(auto)]
 
 mod cache;
+mod caches;
 mod chart;
 mod document;
 mod geometry;
@@ -9,7 +10,6 @@ mod members;
 mod study;
 mod table;
 
-pub use cache::Cache;
 pub use chart::caches_svg;
 pub use document::caches_json;
 pub use geometry::{Geometry, SHIPPED, geometries};

@@ -2,6 +2,7 @@
 ghost use Rattle.std.specs.Prelude.{◌≡◌};
 
 use crate::cache::Cache;
+use crate::caches::Caches;
 use crate::geometry::Geometry;
 use mx_board::Requests;
 use mx_io::Memory;
@@ -25,38 +26,37 @@ pub struct Study {
     pub rows: Vec<CacheRow>,
 }
 
-// The empty caches.
-fn caches_of(alloc: Global, geometries: &[Geometry]) -> Result<Vec<Cache>, AllocError> {
-    let mut caches = Vec::new(alloc);
-    for geometry in geometries {
-        caches.push(Cache::new(alloc, *geometry)?)?;
+// Empty caches, those that have the same lines side by side.
+fn caches_of(alloc: Global, geometries: &[Geometry]) -> Result<Vec<Caches>, AllocError> {
+    let mut all = Vec::new(alloc);
+    for alike in geometries.chunk_by(|one, other| one.line == other.line
+        && one.brings == other.brings)
+    {
+        if let Some(geometry) = alike.first() {
+            all.push(Caches::new(alloc, geometry.line, geometry.brings, alike)?)?;
+        }
     }
-    Ok(caches)
+    Ok(all)
 }
 
 // Has each cache fetch what the last turn of a machine fetched.
-fn fetch_in(caches: &mut Vec<Cache>, fetch: Stage) {
+fn fetch_in(all: &mut Vec<Caches>, fetch: Stage) {
     let (Stage::Live(address) | Stage::Squashed(address)) = fetch else {
         return;
     };
-    for cache in caches.iter_mut() {
-        cache.fetch(address);
+    for caches in all.iter_mut() {
+        caches.fetch(address);
     }
 }
 
 // Runs a machine until it halts or the budget is spent; answers whether it halted.
-fn run<M: Machine>(
-    machine: &mut M,
-    requests: &Requests,
-    budget: u32,
-    caches: &mut Vec<Cache>,
-) -> bool
+fn run<M: Machine>(machine: &mut M, requests: &Requests, budget: u32, all: &mut Vec<Caches>) -> bool
     requires { M.cycles machine.old ≡ 0 }
 {
     for cycle in 0..budget {
         let cycled = machine.cycle(requests.wants(cycle));
         if !cycled.stalled {
-            fetch_in(caches, machine.latches().fetch);
+            fetch_in(all, machine.latches().fetch);
         }
         if cycled.halted {
             return true;
@@ -65,16 +65,27 @@ fn run<M: Machine>(
     false
 }
 
-// What each cache makes of a run with so many fetches.
-fn rows_of(alloc: Global, caches: &[Cache], fetches: u64) -> Result<Vec<CacheRow>, AllocError> {
+// What a cache makes of a run with so many fetches.
+fn row_of(cache: &Cache, fetches: u64) -> CacheRow {
+    let (geometry, misses) = (cache.geometry(), cache.misses());
+    CacheRow {
+        geometry,
+        misses,
+        cycles: geometry.cycles(fetches, misses),
+    }
+}
+
+// What each cache makes of a run with so many fetches, which has ended.
+fn rows_of(
+    alloc: Global,
+    all: &mut Vec<Caches>,
+    fetches: u64,
+) -> Result<Vec<CacheRow>, AllocError> {
     let mut rows = Vec::new(alloc);
-    for cache in caches {
-        let (geometry, misses) = (cache.geometry(), cache.misses());
-        rows.push(CacheRow {
-            geometry,
-            misses,
-            cycles: geometry.cycles(fetches, misses),
-        })?;
+    for caches in all.iter_mut() {
+        for cache in caches.ended() {
+            rows.push(row_of(cache, fetches))?;
+        }
     }
     Ok(rows)
 }
@@ -89,12 +100,12 @@ pub fn study_of<M: Machine>(
 ) -> Result<Study, Memory>
     requires { M.cycles machine.old ≡ 0 }
 {
-    let Ok(mut caches) = caches_of(alloc, geometries) else {
+    let Ok(mut all) = caches_of(alloc, geometries) else {
         return Err(Memory);
     };
-    let halted = run(machine, &Requests::none(alloc), budget, &mut caches);
+    let halted = run(machine, &Requests::none(alloc), budget, &mut all);
     let counts = machine.counts();
-    let Ok(rows) = rows_of(alloc, caches.as_slice(), counts.fetches) else {
+    let Ok(rows) = rows_of(alloc, &mut all, counts.fetches) else {
         return Err(Memory);
     };
     Ok(Study {

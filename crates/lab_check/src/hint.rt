@@ -5,7 +5,7 @@ use crate::found::Shown;
 use crate::labels::{Definition, first_definition, names_of, other_case};
 use crate::nearest::nearest;
 use crate::operand::operand_hint;
-use crate::sentence::{BYTE_ORDER_MARK, MNEMONICS, char_of, name_of, text_of, token_of};
+use crate::sentence::{BYTE_ORDER_MARK, MNEMONICS, char_of, is_among, name_of, text_of, token_of};
 use mx_asm::{line_words, statement_words};
 use mx_lines::{Fault, Word, spells};
 use std::alloc::{AllocError, Global};
@@ -77,19 +77,9 @@ fn token_hint(alloc: Global, token: &[u8]) -> Result<Option<String>, AllocError>
 // The second word is the name of an instruction, so that the first one may be a label.
 fn is_before_mnemonic(words: &[Word]) -> bool {
     match statement_words(words) {
-        [Word::Name(_), Word::Name(second), ..] => is_mnemonic(second),
+        [Word::Name(_), Word::Name(second), ..] => is_among(&MNEMONICS, second),
         _ => false,
     }
-}
-
-// The name is a mnemonic.
-fn is_mnemonic(name: &[u8]) -> bool {
-    for mnemonic in &MNEMONICS {
-        if spells(name, mnemonic) {
-            return true;
-        }
-    }
-    false
 }
 
 // F3: a word of another machine, a label without its colon, or a slip.
@@ -172,11 +162,13 @@ fn label_hint(
     meant(alloc, text_of(token), &names)
 }
 
-// F11: a directive of another assembler, or a slip.
+// F11: a directive of another assembler, or a slip; of a directive that stands in another place its sentence says enough.
 fn directive_hint(alloc: Global, token: &[u8]) -> Result<Option<String>, AllocError> {
-    match (directive_instead(token), token) {
-        (Some(instead), _) => said(alloc, instead),
-        (None, [b'.', ..]) => meant(alloc, text_of(token), &DIRECTIVES),
+    if let Some(instead) = directive_instead(token) {
+        return said(alloc, instead);
+    }
+    match token {
+        [b'.', ..] if !is_among(&DIRECTIVES, token) => meant(alloc, text_of(token), &DIRECTIVES),
         _ => Ok(None),
     }
 }

@@ -86,8 +86,8 @@ pub const MNEMONICS: [&str; 37] = [
     "bge", "blo", "bhs", "bgt", "ble", "bhi", "blos", "b", "call", "callr", "jr", "halt",
 ];
 
-// One of the names is this one, in either case.
-fn is_among(names: &[&str], name: &[u8]) -> bool {
+/// One of the names is this one, in either case.
+pub fn is_among(names: &[&str], name: &[u8]) -> bool {
     for one in names {
         if spells(name, one) {
             return true;

@@ -9,9 +9,10 @@ use clap::ArgMatches;
 use cmd_answer::{Reply, Status, line_reply};
 use cmd_simulate::read_input;
 use lab_caches::{Study, caches_json, caches_svg, caches_text, geometries, study_of};
-use lab_watch::{Watcher, watched_pipe};
+use lab_watch::{Watched, Watcher};
 use mx_icache::LineCache;
 use mx_io::{Memory, Shelf};
+use mx_turn::Turns;
 use std::alloc::Global;
 
 // The input, where the source asks for one.
@@ -25,7 +26,8 @@ fn asked_input<'a>(program: &LinkedSource, bytes: &'a [u8]) -> Option<&'a [u8]>
     }
 }
 
-// What the caches make of the run of a linked source.
+// What the caches make of the run of a linked source. The turn machine runs it, which does the same cycles as the pipeline, and
+// sooner one by one.
 fn study_in<W: Watcher>(
     alloc: Global,
     program: &LinkedSource,
@@ -42,7 +44,8 @@ fn study_in<W: Watcher>(
     };
     let input = asked_input(program, bytes);
     let image = &program.linked.image;
-    let mut machine = watched_pipe(alloc, image, input, LineCache::new(), watcher)?;
+    let turns = Turns::new(alloc, image, input, LineCache::new())?;
+    let mut machine = Watched::new(turns, watcher);
     let budget = number_given(matches, "budget");
     study_of(alloc, &mut machine, budget, all.as_slice())
 }
