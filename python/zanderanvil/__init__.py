@@ -6,10 +6,15 @@
     run = it.run(b"addi r0,#72,r1\\nst 255[r0],r1\\nhalt\\n", interrupts=[5])
     print(run.console, run.cycles)
 
-`sweep` runs many of these side by side, by any executor of concurrent.futures.
+`Laboratory` has the laboratory's commands, by its program. `sweep` runs many runs side by side, and `survey` many studies of
+the laboratory, by any executor of concurrent.futures.
 """
+from .laboratory import Block, Drawing, Laboratory, Planned
 from .library import Explained, Meaning, Refusal, Run, Zanderanvil
-from .sweep import Case, Row, sweep
+from .sweep import Case, Row, Study, survey, sweep
 
-__all__ = ["Case", "Explained", "Meaning", "Refusal", "Row", "Run", "Zanderanvil", "sweep"]
+__all__ = [
+    "Block", "Case", "Drawing", "Explained", "Laboratory", "Meaning", "Planned", "Refusal", "Row", "Run", "Study", "Zanderanvil",
+    "survey", "sweep",
+]
 __version__ = "1.0"

@@ -109,6 +109,22 @@ class _Reader:
         return [0] + read[:31], read[31]
 
 
+def read_run(status: int, output: bytes, trace: int = 0) -> Run:
+    """Reads the report of a run that ended with a status, with so many lines of its trace before it, or fewer where it halted."""
+    told = _Reader(output)
+    lines, line = [], told.line()
+    while len(lines) < trace and line not in ("halted", "out of budget"):
+        lines.append(line.split(" "))
+        line = told.line()
+    names = ("cycles", "fetches", "misses", "squashes", "interrupts", "words", "noops")
+    counts = {name: told.count(name) for name in names}
+    console = told.console()
+    registers, md = told.registers()
+    words = [line.split(" ") for line in told.text.decode("ascii").splitlines()[1:]]
+    data = {int(address, 16): int(word, 16) for address, word in words}
+    return Run(status == DONE, counts, console, registers, md, data, lines)
+
+
 # A block has at most 64 statements: a run is told by its meaning where that is not stuck within so many more than its budget.
 BLOCK = 64
 
@@ -211,18 +227,4 @@ class Zanderanvil:
         status, output, _ = self.command(*words, **files)
         if status not in (DONE, OUT_OF_BUDGET):
             raise Refusal(status, output)
-        return self._report(status, _Reader(output), min(trace, budget))
-
-    @staticmethod
-    def _report(status, told, trace):
-        lines, line = [], told.line()
-        while len(lines) < trace and line not in ("halted", "out of budget"):
-            lines.append(line.split(" "))
-            line = told.line()
-        names = ("cycles", "fetches", "misses", "squashes", "interrupts", "words", "noops")
-        counts = {name: told.count(name) for name in names}
-        console = told.console()
-        registers, md = told.registers()
-        words = [line.split(" ") for line in told.text.decode("ascii").splitlines()[1:]]
-        data = {int(address, 16): int(word, 16) for address, word in words}
-        return Run(status == DONE, counts, console, registers, md, data, lines)
+        return read_run(status, output, min(trace, budget))

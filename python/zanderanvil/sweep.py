@@ -1,11 +1,12 @@
-"""Many runs side by side: over sources, budgets, inputs and interrupts."""
+"""Many runs side by side: over sources, budgets, inputs and interrupts; and over schedulers and caches, by the laboratory."""
 from __future__ import annotations
 
 import itertools
 from concurrent.futures import Executor
 from dataclasses import dataclass, field
-from typing import Iterable, Iterator, Optional, Sequence
+from typing import Any, Callable, Iterable, Iterator, Mapping, Optional, Sequence
 
+from .laboratory import Laboratory
 from .library import Refusal, Run, Zanderanvil
 
 
@@ -50,12 +51,43 @@ def cases(sources: dict[str, bytes], interrupts: Iterable[Sequence[int]] = ((),)
         yield Case(name, source, tuple(requests), input, budget)
 
 
+def _by(executor: Optional[Executor], call: Callable, subject: str, listed: list) -> list:
+    """What a call gives for each of these, in their order, by an executor, or one after the other without one."""
+    if executor is None:
+        return [call(subject, one) for one in listed]
+    return [future.result() for future in [executor.submit(call, subject, one) for one in listed]]
+
+
 def sweep(library: str, wanted: Iterable[Case], executor: Optional[Executor] = None) -> list[Row]:
     """Runs all cases, in their order, by an executor of threads, processes or a cluster; without one, one after the other.
 
     A call of the library takes no lock and keeps nothing, so threads serve; it holds Python's lock while it starts alone.
     """
-    listed = list(wanted)
-    if executor is None:
-        return [run_case(library, case) for case in listed]
-    return [future.result() for future in [executor.submit(run_case, library, case) for case in listed]]
+    return _by(executor, run_case, library, list(wanted))
+
+
+@dataclass(frozen=True)
+class Study:
+    """One command of the laboratory on a source: `compare` for its schedulers, `caches`, or `profile`; with the arguments of the
+    method of that name, as `{"line": 8}` of `caches`."""
+
+    name: str
+    source: bytes
+    command: str
+    given: Mapping[str, Any] = field(default_factory=dict)
+
+
+def run_study(program: str, study: Study) -> list[dict]:
+    """The records of one study, each with the name of its source and what it was given."""
+    told = {name: value for name, value in study.given.items() if isinstance(value, (int, str))}
+    try:
+        records = getattr(Laboratory(program), study.command)(study.source, **study.given)
+    except Refusal as refusal:
+        records = [{"refused": str(refusal)}]
+    return [{"source": study.name, "command": study.command, **told, **record} for record in records]
+
+
+def survey(program: str, wanted: Iterable[Study], executor: Optional[Executor] = None) -> list[dict]:
+    """The records of all studies, in their order, by an executor of threads, processes or a cluster: each is a run of the
+    laboratory's program."""
+    return [record for records in _by(executor, run_study, program, list(wanted)) for record in records]

@@ -1,0 +1,208 @@
+"""The laboratory's commands, by its program: profiles, comparisons, pictures and plans as Python values (docs/LAB.md)."""
+from __future__ import annotations
+
+import json
+import os
+import re
+import shutil
+import subprocess
+import tempfile
+from dataclasses import dataclass
+from typing import Callable, Iterable, Mapping, Optional, Sequence, Union
+
+from .library import DONE, OUT_OF_BUDGET, Refusal, Run, read_run
+
+FAULTY = 1
+SOURCE = "source.s"
+# What a line has that is no instruction.
+COMMENT = re.compile(r";.*")
+LABEL = re.compile(r"[\w.]+\s*:")
+
+
+@dataclass(frozen=True)
+class Block:
+    """A basic block of a source: its number from 1 on, the text of its instructions, and whether the last one is a transfer or a halt."""
+
+    number: int
+    instructions: Sequence[str]
+    ends: bool
+
+
+# The items of a plan in their order: the number of an instruction of the block, None for a no-op, "/" for the transfer or halt.
+Plan = Sequence[Union[int, str, None]]
+# A scheduler gives a plan for a block, or None, which leaves the block to the list scheduler.
+Scheduler = Callable[[Block], Optional[Plan]]
+
+
+@dataclass
+class Planned:
+    """A run by a scheduler's plans, and a line for each plan that was rejected."""
+
+    run: Run
+    rejected: list[str]
+
+
+@dataclass
+class Drawing:
+    """A picture of a run, which shows itself as SVG in a notebook; the other forms are made as they are asked for."""
+
+    laboratory: "Laboratory"
+    words: list[str]
+    files: dict[str, bytes]
+
+    def form(self, name: str) -> str:
+        """The picture as `svg`, `html`, `text`, `json`, `kanata` or `vcd`."""
+        return self.laboratory.printed(*self.words, "--as", name, files=self.files).decode("utf-8")
+
+    def _repr_svg_(self) -> str:
+        return self.form("svg")
+
+    def __str__(self) -> str:
+        return self.form("text")
+
+    def save(self, path: str) -> None:
+        """Writes the form that the end of the file's name says, text where it says none."""
+        name = os.path.splitext(path)[1].lstrip(".")
+        known = {"svg", "html", "json", "kanata", "vcd"}
+        with open(path, "w", encoding="utf-8", newline="") as file:
+            file.write(self.form(name if name in known else "text"))
+
+
+def _flat(record: Mapping, before: str = "") -> dict:
+    """A record without records in it: their members' names follow their own."""
+    flat: dict = {}
+    for name, value in record.items():
+        flat.update(_flat(value, f"{before}{name}_") if isinstance(value, Mapping) else {before + name: value})
+    return flat
+
+
+class Laboratory:
+    """The laboratory's program: a path or words to start it, or what the variable ZANDERANVIL_LAB names, or `zanderanvil` of the
+    PATH, as `./mx install` leaves it. `mx` of a checkout serves as well.
+
+    Every method runs the program once, on files of its own. A source that is refused raises `Refusal`.
+    """
+
+    def __init__(self, program: Union[str, Sequence[str], None] = None) -> None:
+        given = program or os.environ.get("ZANDERANVIL_LAB") or shutil.which("zanderanvil")
+        if not given:
+            raise FileNotFoundError("give the path of mx or mx_lab, set ZANDERANVIL_LAB to it, or install it (./mx install PREFIX)")
+        words = [given] if isinstance(given, str) else list(given)
+        self.program = [os.path.abspath(words[0]) if os.path.exists(words[0]) else words[0], *words[1:]]
+
+    def answer(self, *words: str, files: Mapping[str, bytes] = {}) -> tuple[int, bytes, bytes]:
+        """Answers a command as (status, output, errors), in a folder that holds just these files."""
+        with tempfile.TemporaryDirectory(prefix="zanderanvil-") as folder:
+            for name, content in files.items():
+                with open(os.path.join(folder, name), "wb") as file:
+                    file.write(content)
+            done = subprocess.run([*self.program, *words], cwd=folder, stdin=subprocess.DEVNULL, capture_output=True, check=False)
+        return done.returncode, done.stdout, done.stderr
+
+    def printed(self, *words: str, files: Mapping[str, bytes] = {}) -> bytes:
+        """What a command prints that ends well, out of budget among that."""
+        status, output, errors = self.answer(*words, files=files)
+        if status not in (DONE, OUT_OF_BUDGET):
+            raise Refusal(status, errors or output)
+        return output
+
+    def document(self, command: str, source: bytes, *options: str, **given) -> dict:
+        """The JSON document of a command on a source (docs/JSON.md)."""
+        words, files = self._lent(command, source, options, **given)
+        return json.loads(self.printed(*words, "--as", "json", files=files))
+
+    def check(self, source: bytes) -> list[dict]:
+        """The faults and warnings of a source, each with its place, its sentence and what may have been meant."""
+        status, output, errors = self.answer("check", SOURCE, "--all", "--as", "json", files={SOURCE: source})
+        if status not in (DONE, FAULTY):
+            raise Refusal(status, errors)
+        return [json.loads(line) for line in output.splitlines()]
+
+    def explain(self, source: bytes, **given) -> dict:
+        """How a run stands to the meaning of its source; of a source that is stuck, the line and what helps."""
+        return self.document("explain", source, **given)
+
+    def profile(self, source: bytes, by: str = "line", **given) -> list[dict]:
+        """A record for each `line`, `label`, `function`, or line of C (`c`), with what its cycles were spent on."""
+        return self.document("profile", source, "--by", by, **given)["rows"]
+
+    def compare(self, sources: Union[bytes, Mapping[str, bytes]], **given) -> list[dict]:
+        """A record for each source, by its name where there are several, and each scheduler."""
+        named = sources if isinstance(sources, Mapping) else {"": sources}
+        records = []
+        for name, source in named.items():
+            for row in self.document("compare", source, **given)["schedulers"]:
+                records.append({"source": name, **_flat(row)} if name else _flat(row))
+        return records
+
+    def caches(self, source: bytes, line: int = 16, brings: int = 2, penalty: int = 2, **given) -> list[dict]:
+        """A record for each cache, with the misses and cycles that a run would have with it."""
+        options = ("--line", str(line), "--brings", str(brings), "--penalty", str(penalty))
+        return self.document("caches", source, *options, **given)["caches"]
+
+    def interrupts(self, source: bytes, first: int = 0, last: Optional[int] = None, step: int = 1, pairs: bool = False, **given) -> dict:
+        """What a request costs in each cycle from the first to the last in turn, or in each two: sums, histograms, and each run."""
+        options = ["--rows", "--from", str(first), "--step", str(step), *(["--pairs"] if pairs else [])]
+        options += [] if last is None else ["--to", str(last)]
+        return self.document("interrupts", source, *options, **given)
+
+    def disassemble(self, source: bytes) -> list[dict]:
+        """A record for each word of a source's image, or of an image file: address, word, text, labels, and what its place is."""
+        return self.document("disassemble", source)["words"]
+
+    def trace(self, source: bytes, **given) -> list[dict]:
+        """A record for the program, and one for each turn of a run."""
+        words, files = self._lent("trace", source, (), **given)
+        return [json.loads(line) for line in self.printed(*words, files=files).splitlines()]
+
+    def draw(self, source: bytes, first: int = 0, cycles: int = 64, **given) -> Drawing:
+        """The pipeline in so many cycles from the first one on."""
+        words, files = self._lent("draw", source, ("--from", str(first), "--cycles", str(cycles)), **given)
+        drawing = Drawing(self, words, files)
+        drawing.form("text")
+        return drawing
+
+    def blocks(self, source: bytes) -> list[Block]:
+        """The blocks of a source, as a scheduler gets them."""
+        texts = [LABEL.sub("", COMMENT.sub("", line)).strip() for line in source.decode("utf-8").splitlines()]
+        code = [text for text in texts if text and not text.startswith(".")]
+        blocks = []
+        for number, line in enumerate(self.printed("plans", SOURCE, "--print", files={SOURCE: source}).splitlines(), 1):
+            items = line.split()
+            size = len(items) - items.count(b"-")
+            blocks.append(Block(number, tuple(code[:size]), b"/" in items))
+            code = code[size:]
+        return blocks
+
+    def plans(self, source: bytes, scheduler: Scheduler, **given) -> Planned:
+        """Runs a source by a scheduler's plans. A plan that is not valid is rejected, and its block is padded: so every run does
+        what the source means, whatever the scheduler gives."""
+        lines = []
+        for block in self.blocks(source):
+            plan = scheduler(block)
+            lines.append("" if plan is None else " ".join("-" if item is None else str(item) for item in plan))
+        words, files = self._lent("plans", source, (), **given)
+        words.insert(2, "plans")
+        files["plans"] = "".join(f"{line}\n" for line in lines).encode("ascii", "replace")
+        status, output, errors = self.answer(*words, files=files)
+        rejected = []
+        while output.startswith(b"plan "):
+            line, _, output = output.partition(b"\n")
+            rejected.append(line.decode("ascii"))
+        if status not in (DONE, OUT_OF_BUDGET):
+            raise Refusal(status, errors or output)
+        return Planned(read_run(status, output), rejected)
+
+    @staticmethod
+    def _lent(command: str, source: bytes, options: Iterable[str], budget: Optional[int] = None,
+              interrupts: Iterable[int] = (), input: Optional[bytes] = None) -> tuple[list[str], dict[str, bytes]]:
+        """The words of a command on a source, and the files that they name."""
+        words, files = [command, SOURCE, *options], {SOURCE: source}
+        requests = "".join(f"{cycle}\n" for cycle in interrupts).encode("ascii")
+        if budget is not None:
+            words += ["--budget", str(budget)]
+        if requests:
+            words, files["interrupts"] = [*words, "--interrupts", "interrupts"], requests
+        if input is not None:
+            words, files["input"] = [*words, "--input", "input"], input
+        return words, files
