@@ -1,30 +1,66 @@
 //! Files read, printed and written.
 use cmd_answer::{FileKind, Reply, Status, finish, read_file};
-use mx_io::{MemoryShelf, MemorySink};
+use mx_io::{MemoryShelf, MemorySink, Shelf};
+use std::alloc::Global;
 use std::test::Fail;
 
-#[test]
-fn reads_prints_and_writes(rt: HostRuntime) -> Result<(), Fail> {
-    let alloc = rt.alloc();
+/// Reads a file and writes it to another name, or prints why it is not read.
+fn copied(
+    alloc: Global,
+    shelf: &mut MemoryShelf,
+    out: &mut MemorySink,
+    kind: FileKind,
+    from: &str,
+    to: &str,
+) -> Result<Status, Fail> {
+    let name = String::from_str(alloc, to)?;
+    let reply = match read_file(alloc, shelf, kind, from)? {
+        Ok(bytes) => Reply::Writes { name, bytes },
+        Err(reply) => reply,
+    };
+    Ok(finish(reply, shelf, out))
+}
+
+/// The kind of a file, its name, the name of the copy, and how it ends: with a file that is there, with its copy, and with one
+/// that is not there.
+static COPIES: [(FileKind, &str, &str, Status); 3] = [
+    (FileKind::Source, "a", "b", Status::Done),
+    (FileKind::Image, "b", "d", Status::Done),
+    (FileKind::Input, "c", "e", Status::ReadFault),
+];
+
+/// The number of the first copy that does not end as it should.
+fn first_wrong(
+    alloc: Global,
+    shelf: &mut MemoryShelf,
+    out: &mut MemorySink,
+) -> Result<Option<usize>, Fail> {
+    for (number, (kind, from, to, wanted)) in COPIES.iter().enumerate() {
+        if copied(alloc, shelf, out, *kind, from, to)? != *wanted {
+            return Ok(Some(number));
+        }
+    }
+    Ok(None)
+}
+
+/// The first wrong copy; and whether the copy of the copy holds the same, and what is printed is right.
+fn copies(alloc: Global) -> Result<(Option<usize>, bool, bool), Fail> {
     let mut shelf = MemoryShelf::new(alloc);
     let mut out = MemorySink::new(alloc, 16, 100)?;
     shelf.add("a", b"halt")?;
-    let Ok(bytes) = read_file(alloc, &mut shelf, FileKind::Source, "a")? else {
-        return Err("a is there".into());
-    };
-    let name = String::from_str(alloc, "b")?;
-    let status = finish(Reply::Writes { name, bytes }, &mut shelf, &mut out);
-    assert_eq!(rt; status, Status::Done);
-    let Ok(bytes) = read_file(alloc, &mut shelf, FileKind::Image, "b")? else {
-        return Err("b is there".into());
-    };
-    assert_eq!(rt; bytes.as_slice(), b"halt".as_slice());
-    let Err(reply) = read_file(alloc, &mut shelf, FileKind::Input, "c")? else {
-        return Err("c is not there".into());
-    };
-    let status = finish(reply, &mut shelf, &mut out);
-    assert_eq!(rt; status, Status::ReadFault);
-    assert_eq!(rt; out.written(), b"read fault: input failed\n".as_slice());
-    assert_eq!(rt; Status::BadEvents.number(), 8);
+    let wrong = first_wrong(alloc, &mut shelf, &mut out)?;
+    let held = shelf.read(alloc, "d", 4)?.as_slice() == b"halt".as_slice();
+    let printed = out.written() == b"read fault: input failed\n".as_slice();
+    Ok((wrong, held, printed))
+}
+
+#[test]
+fn reads_prints_and_writes(rt: HostRuntime) -> Result<(), Fail> {
+    assert_eq!(rt; copies(rt.alloc())?, (None, true, true));
     Ok(())
+}
+
+#[test]
+fn a_status_has_its_number(rt: HostRuntime) {
+    assert_eq!(rt; Status::BadEvents.number(), 8);
 }

@@ -3,14 +3,23 @@ use mx_isa::{Cond, Op, compute, holds};
 
 #[test]
 fn computes(rt: HostRuntime) {
-    assert_eq!(rt; compute(Op::Sh(8), 0x1234_5678, 0xab, 9), (0xab12_3456, 9));
-    assert_eq!(rt; compute(Op::Rotlb, 0x1234_5678, 1, 9), (0x3456_7812, 9));
-    let mut dest = 0;
-    let mut md = 7;
+    let shifted = compute(Op::Sh(8), 0x1234_5678, 0xab, 9);
+    let turned = compute(Op::Rotlb, 0x1234_5678, 1, 9);
+    assert_eq!(rt; [shifted, turned], [(0xab12_3456, 9), (0x3456_7812, 9)]);
+}
+
+#[test]
+fn divides_in_steps(rt: HostRuntime) {
+    let (mut dest, mut md) = (0, 7);
     for _ in 0..32 {
         (dest, md) = compute(Op::Dstep, dest, 2, md);
     }
     assert_eq!(rt; (dest, md), (1, 3), "7 divided by 2");
-    assert!(rt; holds(Cond::Lt, 0xffff_ffff, 0));
-    assert!(rt; !holds(Cond::Lo, 0xffff_ffff, 0));
+}
+
+#[test]
+fn compares(rt: HostRuntime) {
+    for (cond, wanted) in [(Cond::Lt, true), (Cond::Lo, false)] {
+        assert_eq!(rt; holds(cond, 0xffff_ffff, 0), wanted);
+    }
 }

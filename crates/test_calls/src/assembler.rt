@@ -2,6 +2,7 @@
 use mx_asm::{assemble, assemble_at};
 use mx_lines::{AsmError, Fault};
 use mx_source::{Source, Value};
+use std::alloc::{AllocError, Global};
 use std::test::Fail;
 
 const TEXT: &[u8] =
@@ -10,85 +11,117 @@ const TEXT: &[u8] =
 const CANONICAL: &[u8] =
     b".input\nnext:\nld 254[r0],r1\nla next,r2\nbeq r0,r0,next\n.data\nw:\n.word next\n.word 4294967295\n";
 
+/// No text of the cases has more bytes.
+const MOST: usize = 100_000;
+
+/// How many statements and labels the source of a text has, and the line of its `.input`.
+fn counts(alloc: Global, text: &[u8]) -> Result<(usize, usize, Option<u32>), Fail> {
+    if text.len() > MOST {
+        return Err("too long".into());
+    }
+    let source = assemble(alloc, text)?;
+    Ok((
+        source.statements().len(),
+        source.labels().len(),
+        source.input(),
+    ))
+}
+
 #[test]
 fn assembles_a_text(rt: HostRuntime) -> Result<(), Fail> {
+    assert_eq!(rt; counts(rt.alloc(), TEXT)?, (3, 2, Some(2)));
+    assert_eq!(rt; counts(rt.alloc(), CANONICAL)?, (3, 2, Some(1)));
+    Ok(())
+}
+
+/// Whether the statements stand on their lines, and the words are these.
+fn lines_and_words(source: &Source) -> (bool, bool) {
+    let words = [Value::Code(0), Value::Int(0xffff_ffff)];
+    (
+        source.lines() == [1, 3, 4].as_slice(),
+        source.user_data() == words.as_slice(),
+    )
+}
+
+#[test]
+fn keeps_lines_and_words(rt: HostRuntime) -> Result<(), Fail> {
     let source = assemble(rt.alloc(), TEXT)?;
-    assert_eq!(rt; source.statements().len(), 3);
-    assert_eq!(rt; source.lines(), [1, 3, 4].as_slice());
-    assert!(rt; source.user_data() == [Value::Code(0), Value::Int(0xffff_ffff)].as_slice());
-    assert_eq!(rt; source.labels().len(), 2);
-    assert_eq!(rt; source.input(), Some(2));
+    assert_eq!(rt; lines_and_words(&source), (true, true));
     Ok(())
 }
 
 #[test]
 fn assembles_at_an_address(rt: HostRuntime) -> Result<(), Fail> {
-    let source = assemble_at(
-        rt.alloc(),
-        b".data\n.space 2\nhere: .word here\n",
-        1000,
-        1003,
-    )?;
+    let text = b".data\n.space 2\nhere: .word here\n";
+    let source = assemble_at(rt.alloc(), text, 1000, 1003)?;
     assert_eq!(rt; source.user_data().len(), 3);
     Ok(())
 }
 
-fn refusal(read: Result<Source, AsmError>) -> Option<(u32, Fault)> {
-    match read {
-        Err(AsmError::Refused { line, fault }) => Some((line, fault)),
-        _ => None,
+/// The first faulty line of a text and its fault, or how many statements it has.
+fn assembled(alloc: Global, text: &[u8]) -> Result<usize, (u32, Fault)> {
+    if text.len() > MOST {
+        return Ok(MOST);
+    }
+    match assemble(alloc, text) {
+        Ok(source) => Ok(source.statements().len()),
+        Err(AsmError::Refused { line, fault }) => Err((line, fault)),
+        Err(AsmError::Memory) => Ok(MOST),
     }
 }
+
+static FAULTY: [(&[u8], u32, Fault); 13] = [
+    (b"nop\n\x80nop", 2, Fault::BadByte),
+    (b"add r1,r2,5x", 1, Fault::BadToken),
+    (b"frob", 1, Fault::UnknownMnemonic),
+    (b"add r1,r2", 1, Fault::BadOperands),
+    (b"add r1,r2,r32", 1, Fault::BadRegister),
+    (b"addi r0,#65536,r1", 1, Fault::NumberOutOfRange),
+    (b"x: nop\nx: halt", 2, Fault::DuplicateLabel),
+    (b"nop\nb away\nadd r1,r2,r32", 2, Fault::UndefinedLabel),
+    (b"x: ld x[r0],r1", 1, Fault::WrongLabelKind),
+    (b"nop\njpc\nfrob", 2, Fault::SystemInstruction),
+    (b".word 1", 1, Fault::BadDirective),
+    (b".data\n.space 65280\n.word 1", 3, Fault::DataFull),
+    (b".data\n.space 65280\nx:", 3, Fault::DataFull),
+];
 
 #[test]
 fn names_the_first_fault(rt: HostRuntime) {
-    let cases: [(&[u8], u32, Fault); 13] = [
-        (b"nop\n\x80nop", 2, Fault::BadByte),
-        (b"add r1,r2,5x", 1, Fault::BadToken),
-        (b"frob", 1, Fault::UnknownMnemonic),
-        (b"add r1,r2", 1, Fault::BadOperands),
-        (b"add r1,r2,r32", 1, Fault::BadRegister),
-        (b"addi r0,#65536,r1", 1, Fault::NumberOutOfRange),
-        (b"x: nop\nx: halt", 2, Fault::DuplicateLabel),
-        (b"nop\nb away\nadd r1,r2,r32", 2, Fault::UndefinedLabel),
-        (b"x: ld x[r0],r1", 1, Fault::WrongLabelKind),
-        (b"nop\njpc\nfrob", 2, Fault::SystemInstruction),
-        (b".word 1", 1, Fault::BadDirective),
-        (b".data\n.space 65280\n.word 1", 3, Fault::DataFull),
-        (b".data\n.space 65280\nx:", 3, Fault::DataFull),
-    ];
-    for (text, line, fault) in cases {
-        assert!(rt; text.len() < 100);
-        let refused = refusal(assemble(rt.alloc(), text));
-        assert_eq!(rt; refused, Some((line, fault)));
+    for (text, line, fault) in FAULTY.iter() {
+        assert_eq!(rt; assembled(rt.alloc(), text), Err((*line, *fault)));
     }
 }
 
-#[test]
-fn counts_instructions(rt: HostRuntime) -> Result<(), Fail> {
-    let mut text = Vec::new(rt.alloc());
-    for _ in 0..20_000 {
-        text.extend_from_slice(b"nop\n")?;
+/// A piece so many times, and an end.
+fn repeated(alloc: Global, piece: &[u8], count: u32, end: &[u8]) -> Result<Vec<u8>, AllocError> {
+    let mut text = Vec::new(alloc);
+    for _ in 0..count {
+        text.extend_from_slice(piece)?;
     }
-    assert!(rt; text.len() < 100_000);
-    assert_eq!(rt;
-        assemble(rt.alloc(), text.as_slice())?.statements().len(),
-        20_000
-    );
-    text.extend_from_slice(b"nop")?;
-    assert!(rt; text.len() < 100_000);
-    let refused = refusal(assemble(rt.alloc(), text.as_slice()));
-    assert_eq!(rt; refused, Some((20_001, Fault::TooManyInstructions)));
-    Ok(())
+    text.extend_from_slice(end)?;
+    Ok(text)
 }
 
+// As many instructions and as long a line as there may be, and one more.
+static LONG: [(&[u8], u32, &[u8], Result<usize, (u32, Fault)>); 4] = [
+    (b"nop\n", 20_000, b"", Ok(20_000)),
+    (
+        b"nop\n",
+        20_000,
+        b"nop",
+        Err((20_001, Fault::TooManyInstructions)),
+    ),
+    (b";", 255, b"", Ok(0)),
+    (b";", 256, b"", Err((1, Fault::LineTooLong))),
+];
+
 #[test]
-fn counts_the_bytes_of_a_line(rt: HostRuntime) -> Result<(), Fail> {
-    let line = vec![in rt.alloc(); b';'; 256]?;
-    assert_eq!(rt; line.len(), 256);
-    assert!(rt; assemble(rt.alloc(), &line[..255])?.statements().is_empty());
-    let refused = refusal(assemble(rt.alloc(), line.as_slice()));
-    assert_eq!(rt; refused, Some((1, Fault::LineTooLong)));
+fn counts_instructions_and_the_bytes_of_a_line(rt: HostRuntime) -> Result<(), Fail> {
+    for (piece, count, end, wanted) in LONG.iter() {
+        let text = repeated(rt.alloc(), piece, *count, end)?;
+        assert_eq!(rt; assembled(rt.alloc(), &text), *wanted);
+    }
     Ok(())
 }
 
@@ -120,26 +153,38 @@ msg:
 end:
 ";
 
+static TEXTS: [(&[u8], &[u8]); 3] = [(MESSAGE, PRINTED), (PRINTED, PRINTED), (TEXT, CANONICAL)];
+
+/// The canonical text of a text.
+fn printed(alloc: Global, text: &[u8]) -> Result<Vec<u8>, Fail> {
+    if text.len() > MOST {
+        return Err("too long".into());
+    }
+    Ok(assemble(alloc, text)?.print(alloc)?)
+}
+
 #[test]
 fn prints_and_reads_back(rt: HostRuntime) -> Result<(), Fail> {
-    for text in [MESSAGE, PRINTED] {
-        assert!(rt; text.len() < 1000);
-        let printed = assemble(rt.alloc(), text)?.print(rt.alloc())?;
-        assert_eq!(rt; printed.as_slice(), PRINTED);
+    for (text, wanted) in TEXTS.iter() {
+        assert_eq!(rt; printed(rt.alloc(), text)?.as_slice(), *wanted);
     }
     Ok(())
 }
 
+/// Whether two sources have the same statements and words.
+fn are_same(one: &Source, other: &Source) -> bool {
+    one.statements() == other.statements() && one.user_data() == other.user_data()
+}
+
+/// Whether both texts have the same statements and words.
+fn reads_back(alloc: Global) -> Result<bool, Fail> {
+    let source = assemble(alloc, TEXT)?;
+    let again = assemble(alloc, CANONICAL)?;
+    Ok(are_same(&again, &source))
+}
+
 #[test]
 fn reads_back_the_canonical_text(rt: HostRuntime) -> Result<(), Fail> {
-    let source = assemble(rt.alloc(), TEXT)?;
-    let text = source.print(rt.alloc())?;
-    assert!(rt; text.as_slice() == CANONICAL);
-    assert!(rt; text.len() <= 100);
-    let again = assemble(rt.alloc(), text.as_slice())?;
-    assert!(rt; again.statements() == source.statements());
-    assert!(rt; again.user_data() == source.user_data());
-    assert_eq!(rt; again.labels().len(), 2);
-    assert_eq!(rt; again.input(), Some(1));
+    assert!(rt; reads_back(rt.alloc())?);
     Ok(())
 }

@@ -1,18 +1,31 @@
 //! Words of instructions, and images.
 use mx_code::{Image, decode, encode};
 use mx_isa::{Cond, Inst, Op, Reg};
+use std::alloc::Global;
 use std::test::Fail;
 
-#[test]
-fn spells_both_ways(rt: HostRuntime) -> Result<(), Fail> {
-    for word in WORDS {
-        let inst = decode(word).ok_or("a word of the table")?;
-        assert!(rt; inst.fits(), "{word:08x}");
-        assert_eq!(rt; encode(&inst), word);
+/// The word of the instruction that a word spells, where it fits.
+fn respelled(word: u32) -> Option<u32> {
+    let inst = decode(word)?;
+    if inst.fits() {
+        Some(encode(&inst))
+    } else {
+        None
     }
-    assert_eq!(rt; decode(0x4000_0800), None);
-    assert_eq!(rt; decode(0xe000_0001), None);
-    Ok(())
+}
+
+#[test]
+fn spells_both_ways(rt: HostRuntime) {
+    for word in WORDS {
+        assert_eq!(rt; respelled(word), Some(word));
+    }
+}
+
+#[test]
+fn other_words_spell_nothing(rt: HostRuntime) {
+    for word in [0x4000_0800, 0xe000_0001] {
+        assert_eq!(rt; decode(word), None);
+    }
 }
 
 // The examples of the table, and the words of the interrupt handler.
@@ -54,10 +67,8 @@ const WORDS: [u32; 35] = [
     0xd800_0000,
 ];
 
-#[test]
-fn knows_the_table(rt: HostRuntime) -> Result<(), Fail> {
-    let r1 = Reg::new(1).ok_or("r1")?;
-    let r2 = Reg::new(2).ok_or("r2")?;
+/// The words of `bne r1,r2` with a squash, and of `add r1,r0,r2`.
+fn table_words(r1: Reg, r2: Reg) -> [u32; 2] {
     let branch = Inst::Branch {
         a: r1,
         b: r2,
@@ -65,23 +76,37 @@ fn knows_the_table(rt: HostRuntime) -> Result<(), Fail> {
         squash: true,
         by: 0,
     };
-    assert_eq!(rt; encode(&branch), 0x0845_0000);
     let add = Inst::Compute {
         a: r1,
         dest: r2,
         b: Reg::ZERO,
         op: Op::Add,
     };
-    assert_eq!(rt; encode(&add), 0x4040_2000);
+    [encode(&branch), encode(&add)]
+}
+
+#[test]
+fn knows_the_table(rt: HostRuntime) -> Result<(), Fail> {
+    let (Some(r1), Some(r2)) = (Reg::new(1), Reg::new(2)) else {
+        return Err("r1 and r2".into());
+    };
+    assert_eq!(rt; table_words(r1, r2), [0x0845_0000, 0x4040_2000]);
     Ok(())
+}
+
+/// How many code words an image has that gets this many, and whether its one data word is 7, as it was given.
+fn image_of(alloc: Global, count: usize) -> Result<(usize, bool), Fail> {
+    let code = vec![in alloc; 0; count]?;
+    let user_data = vec![in alloc; 7]?;
+    let image = Image::new(code, user_data).ok_or("an image")?;
+    Ok((
+        image.code.len(),
+        image.user_data.as_slice() == [7].as_slice(),
+    ))
 }
 
 #[test]
 fn bounds_an_image(rt: HostRuntime) -> Result<(), Fail> {
-    let code = vec![in rt.alloc(); 0; 60_000]?;
-    let user_data = vec![in rt.alloc(); 7]?;
-    let image = Image::new(code, user_data).ok_or("an image")?;
-    assert_eq!(rt; image.code.len(), 60_000);
-    assert_eq!(rt; image.user_data.as_slice(), [7].as_slice());
+    assert_eq!(rt; image_of(rt.alloc(), 60_000)?, (60_000, true));
     Ok(())
 }

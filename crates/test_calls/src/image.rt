@@ -1,5 +1,6 @@
 //! Image files of both versions.
 use mx_image::{ImageError, read_file, read_image, write_file, write_image};
+use std::alloc::{AllocError, Global};
 use std::test::Fail;
 
 // An image of three words and no data, in version 1.
@@ -8,46 +9,77 @@ const HELLO: [u8; 28] = [
     0x00, 0xff, 0xe0, 0x00, 0x00, 0x00,
 ];
 
+/// These bytes and a 0.
+fn longer(alloc: Global, bytes: &[u8]) -> Result<Vec<u8>, AllocError> {
+    let mut longer = Vec::from_slice(alloc, bytes)?;
+    longer.push(0)?;
+    Ok(longer)
+}
+
+/// Whether the image is read with its words.
+fn reads_words(alloc: Global) -> Result<[bool; 2], Fail> {
+    let image = read_image(alloc, &HELLO)?;
+    let code = [0xc002_0048, 0x8802_00ff, 0xe000_0000];
+    Ok([
+        image.code.as_slice() == code.as_slice(),
+        image.user_data.is_empty(),
+    ])
+}
+
+/// The image as it is read and written.
+fn rewritten(alloc: Global) -> Result<Vec<u8>, Fail> {
+    let image = read_image(alloc, &HELLO)?;
+    Ok(write_image(alloc, &image)?)
+}
+
 #[test]
 fn reads_and_writes_version_1(rt: HostRuntime) -> Result<(), Fail> {
-    let image = read_image(rt.alloc(), &HELLO)?;
-    let code = [0xc002_0048, 0x8802_00ff, 0xe000_0000];
-    assert_eq!(rt; image.code.as_slice(), code.as_slice());
-    assert!(rt; image.user_data.is_empty());
-    let bytes = write_image(rt.alloc(), &image)?;
-    assert_eq!(rt; bytes.as_slice(), HELLO.as_slice());
-    for n in 0..28 {
-        let cut = read_image(rt.alloc(), &HELLO[..n]);
-        assert!(rt;
-            cut == Err(ImageError::Truncated { at: n as u64 }),
-            "{n} bytes"
-        );
-    }
-    let mut longer = bytes.clone()?;
-    longer.push(0)?;
-    let more = read_image(rt.alloc(), &longer);
-    assert!(rt;
-        more == Err(ImageError::Trailing { at: 28 }),
-        "one byte more"
-    );
+    assert_eq!(rt; reads_words(rt.alloc())?, [true; 2]);
+    assert_eq!(rt; rewritten(rt.alloc())?.as_slice(), HELLO.as_slice());
     Ok(())
 }
 
 #[test]
-fn reads_and_writes_version_2(rt: HostRuntime) -> Result<(), Fail> {
-    let alloc = rt.alloc();
+fn a_cut_image_is_refused(rt: HostRuntime) {
+    for n in 0..28 {
+        let fault = read_image(rt.alloc(), &HELLO[..n]).err();
+        assert_eq!(rt; fault, Some(ImageError::Truncated { at: n as u64 }));
+    }
+}
+
+#[test]
+fn one_byte_more_is_refused_in_version_1(rt: HostRuntime) -> Result<(), Fail> {
+    let longer = longer(rt.alloc(), &HELLO)?;
+    let fault = read_image(rt.alloc(), &longer).err();
+    assert_eq!(rt; fault, Some(ImageError::Trailing { at: 28 }));
+    Ok(())
+}
+
+/// The file of the image in version 2.
+fn version_2(alloc: Global) -> Result<Vec<u8>, Fail> {
     let plain = read_file(alloc, &HELLO)?;
-    assert!(rt; !plain.input && plain.links.is_empty());
-    let bytes = write_file(alloc, &plain)?;
-    assert_eq!(rt; bytes.len(), 36);
-    let again = read_file(alloc, &bytes)?;
-    assert!(rt; again == plain);
-    let mut longer = bytes.clone()?;
-    longer.push(0)?;
-    let more = read_file(alloc, &longer);
-    assert!(rt;
-        more == Err(ImageError::Trailing { at: 36 }),
-        "one byte more"
-    );
+    Ok(write_file(alloc, &plain)?)
+}
+
+/// Whether a file has the image, without input and links.
+fn has_image(alloc: Global, bytes: &[u8]) -> Result<[bool; 2], Fail> {
+    let plain = read_file(alloc, &HELLO)?;
+    let again = read_file(alloc, bytes)?;
+    Ok([again == plain, !plain.input && plain.links.is_empty()])
+}
+
+#[test]
+fn reads_and_writes_version_2(rt: HostRuntime) -> Result<(), Fail> {
+    let bytes = version_2(rt.alloc())?;
+    let right = has_image(rt.alloc(), &bytes)?;
+    assert_eq!(rt; (bytes.len(), right), (36, [true; 2]));
+    Ok(())
+}
+
+#[test]
+fn one_byte_more_is_refused_in_version_2(rt: HostRuntime) -> Result<(), Fail> {
+    let longer = longer(rt.alloc(), &version_2(rt.alloc())?)?;
+    let fault = read_file(rt.alloc(), &longer).err();
+    assert_eq!(rt; fault, Some(ImageError::Trailing { at: 36 }));
     Ok(())
 }

@@ -1,12 +1,9 @@
-//! Tests of the layout.
-ghost use Rattle.std.specs.Prelude.{◌≡◌, IfOk, length};
-
+//! The layout, by plans that are kept and by plans that are longer than they may be.
 use arrayvec::ArrayVec;
-use indexmap::IndexMap;
+use mx_asm::assemble;
 use mx_blocks::{Block, Item, Plan};
-use mx_isa::{Cond, Inst, Place, Reg};
-use mx_layout::lay_out;
-use mx_source::{Label, Name, Source, Statement};
+use mx_isa::Place;
+use mx_layout::{Layout, lay_out};
 use mx_validate::Proposer;
 use std::alloc::Global;
 use std::test::Fail;
@@ -26,58 +23,55 @@ impl Proposer for Swaps {
     }
 }
 
-/// `addi r0,#51,r1`, `addi r0,#48,r2`, `L: st 255[r0],r1`, `addi r1,#-1,r1`, `bne r1,r2,L`, `halt`.
-fn counts_down(alloc: Global) -> Result<Source, Fail>
-    ensures { IfOk result (λ source. length source.statements ≡ 6) }
-{
-    let zero = Reg::ZERO;
-    let one = Reg::new(1).ok_or("r1")?;
-    let two = Reg::new(2).ok_or("r2")?;
-    let statements = vec![in alloc;
-        Statement::Plain(Inst::Addi {
-            a: zero,
-            dest: one,
-            imm: 51
-        }),
-        Statement::Plain(Inst::Addi {
-            a: zero,
-            dest: two,
-            imm: 48
-        }),
-        Statement::Plain(Inst::Store {
-            base: zero,
-            value: one,
-            offset: 255
-        }),
-        Statement::Plain(Inst::Addi {
-            a: one,
-            dest: one,
-            imm: -1
-        }),
-        Statement::Branch {
-            a: one,
-            b: two,
-            cond: Cond::Ne,
-            target: 2
-        },
-        Statement::Halt,
-    ]?;
-    let lines = vec![in alloc; 1, 2, 3, 4, 5, 6]?;
-    let mut labels = IndexMap::new(alloc);
-    labels.insert(Name::new(alloc, b"L")?, Label::Code(2))?;
-    Ok(Source::make(statements, lines, Vec::new(alloc), labels))
+/// Proposes a no-op, and behind it the first two instructions, whatever the block is.
+#[derive(Drop)]
+struct WaitsFirst;
+
+impl Proposer for WaitsFirst {
+    ghost proposes = { λ _ _. Unit {0} };
+
+    fn propose(&mut self, _block: &Block) -> Plan {
+        let mut items = ArrayVec::new();
+        items.push(Item::Nop);
+        items.push(Item::Op(0));
+        items.push(Item::Op(1));
+        Plan { items, place: 2 }
+    }
+}
+
+/// The layout of a text at the board's place.
+fn laid_out<P: Proposer>(alloc: Global, text: &[u8], proposer: &mut P) -> Result<Layout, Fail> {
+    if text.len() > 1000 {
+        return Err("too long".into());
+    }
+    let source = assemble(alloc, text)?;
+    let _few = source.statements();
+    let layout = lay_out(alloc, &source, Place::board(), proposer);
+    drop(source);
+    Ok(layout?)
+}
+
+const COUNTS_DOWN: &[u8] =
+    b"addi r0,#51,r1\naddi r0,#48,r2\nL: st 255[r0],r1\naddi r1,#-1,r1\nbne r1,r2,L\nhalt\n";
+
+/// Whether blocks and statements have these addresses, and how many proposals were rejected and made.
+fn told(layout: Layout, starts: &[u32], links: &[u32]) -> (bool, u32, usize) {
+    let right = layout.starts.as_slice() == starts && layout.links.as_slice() == links;
+    (right, layout.rejected, layout.proposals.len())
 }
 
 #[test]
 fn a_valid_proposal_is_kept(rt: HostRuntime) -> Result<(), Fail> {
-    let source = counts_down(rt.alloc())?;
-    let layout = lay_out(rt.alloc(), &source, Place::board(), &mut Swaps)?;
-    assert_eq!(rt; layout.starts.as_slice(), [4096, 4098, 4103].as_slice());
-    assert_eq!(rt;
-        layout.links.as_slice(),
-        [4096, 4096, 4098, 4098, 4098, 4103, 4104].as_slice()
-    );
-    assert_eq!(rt; layout.rejected, 2);
-    assert_eq!(rt; layout.proposals.len(), 3);
+    let layout = laid_out(rt.alloc(), COUNTS_DOWN, &mut Swaps)?;
+    let starts = [4096, 4098, 4103];
+    let links = [4096, 4096, 4098, 4098, 4098, 4103, 4104];
+    assert_eq!(rt; told(layout, &starts, &links), (true, 2, 3));
+    Ok(())
+}
+
+#[test]
+fn a_plan_longer_than_the_padded_one_is_rejected(rt: HostRuntime) -> Result<(), Fail> {
+    let layout = laid_out(rt.alloc(), b"addi r0,#1,r1\nhalt\n", &mut WaitsFirst)?;
+    assert_eq!(rt; told(layout, &[4096], &[4096, 4096, 4098]), (true, 1, 1));
     Ok(())
 }

@@ -32,13 +32,7 @@ mod link;
 #[cfg(test)]
 mod listing;
 #[cfg(test)]
-mod long_plans;
-#[cfg(test)]
-mod many_requests;
-#[cfg(test)]
-mod meaning_steps;
-#[cfg(test)]
-mod meaning_text;
+mod meaning;
 #[cfg(test)]
 mod modules;
 #[cfg(test)]

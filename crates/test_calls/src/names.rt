@@ -3,41 +3,59 @@ use mx_depend::independent;
 use mx_isa::{Inst, Op, Place, Reg};
 use std::test::Fail;
 
+fn load(base: Reg, dest: Reg, offset: i32) -> Inst {
+    Inst::Load { base, dest, offset }
+}
+
+/// Whether it fits, loads, stores and transfers.
+fn kinds(inst: &Inst) -> [bool; 4] {
+    [
+        inst.fits(),
+        inst.is_load(),
+        inst.is_store(),
+        inst.is_transfer(),
+    ]
+}
+
+/// Whether the one writes what the other reads.
+fn feeds(one: &Inst, other: &Inst) -> bool {
+    one.writes().meets(other.reads())
+}
+
 #[test]
 fn tells_names(rt: HostRuntime) -> Result<(), Fail> {
     let one = Reg::new(1).ok_or("r1")?;
-    let load = Inst::Load {
-        base: Reg::ZERO,
-        dest: one,
-        offset: 256,
-    };
+    let load = load(Reg::ZERO, one, 256);
     let step = Inst::Compute {
         a: one,
         dest: Reg::ZERO,
         b: Reg::ZERO,
         op: Op::Mstep,
     };
-    assert!(rt; load.fits() && load.is_load() && !load.is_store() && !load.is_transfer());
-    assert!(rt; load.writes().meets(step.reads()), "r1");
-    assert!(rt; !load.reads().meets(step.writes()), "r0 is no name");
-    assert!(rt; step.writes().meets(step.reads()), "MD");
-    assert_eq!(rt; Place::board().user_data, 256);
+    assert_eq!(rt; kinds(&load), [true, true, false, false]);
+    // r1; r0 is no name; MD
+    let names = [
+        feeds(&load, &step),
+        load.reads().meets(step.writes()),
+        feeds(&step, &step),
+    ];
+    assert_eq!(rt; names, [true, false, true]);
     Ok(())
 }
 
 #[test]
+fn data_words_begin_at_256(rt: HostRuntime) {
+    assert_eq!(rt; Place::board().user_data, 256);
+}
+
+#[test]
 fn loads_of_a_source_with_input_keep_their_order(rt: HostRuntime) -> Result<(), Fail> {
-    let one = Inst::Load {
-        base: Reg::ZERO,
-        dest: Reg::new(1).ok_or("r1")?,
-        offset: 256,
+    let (Some(one), Some(two), Some(three)) = (Reg::new(1), Reg::new(2), Reg::new(3)) else {
+        return Err("three registers".into());
     };
-    let other = Inst::Load {
-        base: Reg::new(3).ok_or("r3")?,
-        dest: Reg::new(2).ok_or("r2")?,
-        offset: 0,
-    };
-    assert!(rt; independent(&one, &other, false));
-    assert!(rt; !independent(&one, &other, true));
+    let (first, second) = (load(Reg::ZERO, one, 256), load(three, two, 0));
+    for (input, wanted) in [(false, true), (true, false)] {
+        assert_eq!(rt; independent(&first, &second, input), wanted);
+    }
     Ok(())
 }

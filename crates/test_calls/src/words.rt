@@ -1,5 +1,6 @@
 //! Words of a command with two options and one name, and numbers.
-use cmd_line::{Shape, number_within, read_words};
+use cmd_line::{Read, Shape, number_within, read_words};
+use std::alloc::{AllocError, Global};
 use std::test::Fail;
 
 const RUN: Shape<'static> = Shape {
@@ -14,66 +15,100 @@ const BARE: Shape<'static> = Shape {
     most: 1,
 };
 
-fn words(rt: &HostRuntime, texts: &[&str]) -> Result<Vec<String>, Fail> {
-    let mut all = Vec::new(rt.alloc());
+fn words(alloc: Global, texts: &[&str]) -> Result<Vec<String>, AllocError> {
+    let mut all = Vec::new(alloc);
     for text in texts {
-        all.push(String::from_str(rt.alloc(), text)?)?;
+        all.push(String::from_str(alloc, text)?)?;
     }
     Ok(all)
 }
 
+/// The value of each option behind a `=`, or a `-`, and then each name behind a `/`.
+fn read_text(alloc: Global, read: &Read) -> Result<String, AllocError> {
+    let mut text = String::new(alloc);
+    for value in read.values.iter() {
+        match value {
+            Some(value) => {
+                text.push('=')?;
+                text.push_str(value)?;
+            }
+            None => text.push('-')?,
+        }
+    }
+    for name in read.names.iter() {
+        text.push('/')?;
+        text.push_str(name)?;
+    }
+    Ok(text)
+}
+
+/// What words say that were read.
+fn told(alloc: Global, read: Option<Read>) -> Result<String, AllocError> {
+    match read {
+        Some(read) => read_text(alloc, &read),
+        None => String::from_str(alloc, "refused"),
+    }
+}
+
+/// What these words say of the first shape, and of the second one.
+fn of_run(alloc: Global, texts: &[&str]) -> Result<String, Fail> {
+    let given = words(alloc, texts)?;
+    Ok(told(alloc, read_words(alloc, &RUN, &given)?)?)
+}
+
+fn of_bare(alloc: Global, texts: &[&str]) -> Result<String, Fail> {
+    let given = words(alloc, texts)?;
+    Ok(told(alloc, read_words(alloc, &BARE, &given)?)?)
+}
+
+// Options before and after the name, and what is refused.
+static OF_RUN: [(&[&str], &str); 11] = [
+    (&["--budget=12", "row1"], "=12-/row1"),
+    (&["row1", "--budget", "+12"], "=+12-/row1"),
+    (&["--", "row1"], "--/row1"),
+    (&["--budget=", "--", "row1"], "=-/row1"),
+    (&[], "refused"),
+    (&["--budget"], "refused"),
+    (&["row1", "--budget", "--"], "refused"),
+    (&["row1", "--budget=1", "--budget", "2"], "refused"),
+    (&["row1", "--steps=1"], "refused"),
+    (&["row1", "-x"], "refused"),
+    (&["row1", "row2"], "refused"),
+];
+
 #[test]
 fn options_stand_before_or_after_names(rt: HostRuntime) -> Result<(), Fail> {
-    for (texts, budget) in [
-        (["--budget=12", "row1"].as_slice(), Some("12")),
-        (["row1", "--budget", "+12"].as_slice(), Some("+12")),
-        (["--", "row1"].as_slice(), None),
-        (["--budget=", "--", "row1"].as_slice(), Some("")),
-    ] {
-        let given = words(&rt, texts)?;
-        let read = read_words(rt.alloc(), &RUN, &given)?.ok_or("refused")?;
-        assert_eq!(rt; read.names.as_slice(), ["row1"].as_slice());
-        assert_eq!(rt; read.values.as_slice(), [budget, None].as_slice());
+    for (texts, wanted) in OF_RUN.iter() {
+        assert_eq!(rt; of_run(rt.alloc(), texts)?.as_str(), *wanted, "{texts:?}");
     }
     Ok(())
 }
 
-fn is_refused(rt: &HostRuntime, texts: &[&str]) -> Result<bool, Fail> {
-    let given = words(rt, texts)?;
-    Ok(read_words(rt.alloc(), &RUN, &given)?.is_none())
-}
-
-#[test]
-fn other_words_are_refused(rt: HostRuntime) -> Result<(), Fail> {
-    assert!(rt; is_refused(&rt, &[])?);
-    assert!(rt; is_refused(&rt, &["--budget"])?);
-    assert!(rt; is_refused(&rt, &["row1", "--budget", "--"])?);
-    assert!(rt; is_refused(&rt, &["row1", "--budget=1", "--budget", "2"])?);
-    assert!(rt; is_refused(&rt, &["row1", "--steps=1"])?);
-    assert!(rt; is_refused(&rt, &["row1", "-x"])?);
-    assert!(rt; is_refused(&rt, &["row1", "row2"])?);
-    Ok(())
-}
+static NAMES: [(&[&str], &str); 3] = [(&["-"], "/-"), (&[""], "/"), (&["--", "-x"], "/-x")];
 
 #[test]
 fn one_dash_the_empty_word_and_all_after_two_dashes_are_names(rt: HostRuntime) -> Result<(), Fail> {
-    for (texts, name) in [
-        (["-"].as_slice(), "-"),
-        ([""].as_slice(), ""),
-        (["--", "-x"].as_slice(), "-x"),
-    ] {
-        let given = words(&rt, texts)?;
-        let read = read_words(rt.alloc(), &BARE, &given)?.ok_or("refused")?;
-        assert_eq!(rt; read.names.as_slice(), [name].as_slice());
+    for (texts, wanted) in NAMES.iter() {
+        assert_eq!(rt; of_bare(rt.alloc(), texts)?.as_str(), *wanted);
     }
     Ok(())
 }
 
+static NUMBERS: [(&str, Option<u32>); 9] = [
+    ("12", Some(12)),
+    ("+0012", Some(12)),
+    ("13", None),
+    ("", None),
+    ("+", None),
+    ("++1", None),
+    ("-1", None),
+    ("1 ", None),
+    ("4294967296", None),
+];
+
 #[test]
 fn numbers_are_digits_with_at_most_one_plus(rt: HostRuntime) {
-    assert_eq!(rt; number_within("12", 0, 12), Some(12));
-    assert_eq!(rt; number_within("+0012", 0, 12), Some(12));
-    for text in ["13", "", "+", "++1", "-1", "1 ", "4294967296"] {
-        assert_eq!(rt; number_within(text, 0, 12), None);
+    for (text, number) in NUMBERS.iter() {
+        assert_eq!(rt; number_within(text, 0, 12), *number, "{text}");
     }
 }
