@@ -5,7 +5,7 @@ use std::rt::Files;
 use test_case_files::{Cases, behind};
 
 /// A kind of cases, each a line of one file.
-#[derive(Clone, Copy)]
+#[derive(Clone, Copy, Debug, PartialEq, Eq)]
 pub enum Kind {
     Runs,
     Refusals,

@@ -2,7 +2,6 @@
 use crate::case::stored;
 use anyhow::{Context, Result};
 use mx_command::can_be_run;
-use std::alloc::Global;
 use std::rt::Files;
 
 /// The most bytes of a text, and of an interrupt file.
@@ -10,23 +9,19 @@ const MOST_TEXT: usize = 4_194_304;
 
 const MOST_REQUESTS: usize = 1_048_576;
 
-/// Whether the headline speaks of the run of a text under these interrupts.
-fn answer(alloc: Global, text: &[u8], interrupts: &[u8]) -> Result<&'static str> {
-    if text.len() > MOST_TEXT || interrupts.len() > MOST_REQUESTS {
-        return Ok("too long");
-    }
-    if can_be_run(alloc, text, interrupts)? {
-        Ok("yes")
-    } else {
-        Ok("no")
-    }
-}
-
 /// Whether the headline speaks of the run of a text under the interrupts of a file, for the case `TEXT INTERRUPTS -> yes`.
 pub fn accepted<R: Files + AllocGlobal>(rt: &R, words: &str) -> Result<String> {
+    let alloc = rt.alloc();
     let (text_name, interrupts_name) = words.split_once(" ").context("no separator")?;
     let text = stored(rt, text_name)?.context("no such text")?;
     let interrupts = stored(rt, interrupts_name)?.context("no such interrupt file")?;
-    let answer = answer(rt.alloc(), text.as_slice(), interrupts.as_slice())?;
-    Ok(format!(in rt.alloc(); "{words} -> {answer}")?)
+    if text.len() > MOST_TEXT || interrupts.len() > MOST_REQUESTS {
+        return Ok(format!(in alloc; "{words} -> too long")?);
+    }
+    let answer = if can_be_run(alloc, text.as_slice(), interrupts.as_slice())? {
+        "yes"
+    } else {
+        "no"
+    };
+    Ok(format!(in alloc; "{words} -> {answer}")?)
 }

@@ -5,7 +5,7 @@ use std::rt::Files;
 use test_case_files::{Cases, before, behind};
 
 /// A kind of cases, each a line of one file.
-#[derive(Clone, Copy)]
+#[derive(Clone, Copy, Debug, PartialEq, Eq)]
 pub enum Kind {
     Runs,
     Failing,
@@ -40,21 +40,6 @@ impl Kind {
         Kind::AtEach,
         Kind::Accepted,
     ];
-
-    /// The part of a line that a kind is given.
-    fn case<'a>(&self, line: &'a str) -> Result<&'a str> {
-        match *self {
-            Kind::Runs | Kind::Failing => behind(line, " "),
-            Kind::Fronts => before(line, " "),
-            Kind::Joined
-            | Kind::Images
-            | Kind::Long
-            | Kind::Repeated
-            | Kind::Shared
-            | Kind::Accepted => before(line, " -> "),
-            Kind::Built | Kind::Stops | Kind::Puts | Kind::Listed | Kind::AtEach => Ok(line),
-        }
-    }
 }
 
 impl Cases for Kind {
@@ -78,22 +63,22 @@ impl Cases for Kind {
     }
 
     fn answered<R: Files + AllocGlobal>(&self, rt: &R, line: &str) -> Result<String> {
-        let case = self.case(line)?;
+        let alloc = rt.alloc();
         match *self {
-            Kind::Runs => runs::run(rt, case),
-            Kind::Failing => runs::failing(rt, case),
-            Kind::Built => runs::built(rt, case),
-            Kind::Joined => runs::joined(rt, case),
-            Kind::Images => images::image(rt.alloc(), case),
-            Kind::Fronts => images::fronts(rt, case),
-            Kind::Long => images::long(rt.alloc(), case),
-            Kind::Stops => runs::stops(rt, case),
-            Kind::Puts => puts::puts(rt, case),
-            Kind::Repeated => repeated::repeated(rt.alloc(), case),
-            Kind::Listed => repeated::listed(rt.alloc(), case),
-            Kind::Shared => shared::shared(rt, case),
-            Kind::AtEach => shared::at_each(rt, case),
-            Kind::Accepted => accepted::accepted(rt, case),
+            Kind::Runs => runs::run(rt, behind(line, " ")?),
+            Kind::Failing => runs::failing(rt, behind(line, " ")?),
+            Kind::Built => runs::built(rt, line),
+            Kind::Joined => runs::joined(rt, before(line, " -> ")?),
+            Kind::Images => images::image(alloc, before(line, " -> ")?),
+            Kind::Fronts => images::fronts(rt, before(line, " ")?),
+            Kind::Long => images::long(alloc, before(line, " -> ")?),
+            Kind::Stops => runs::stops(rt, line),
+            Kind::Puts => puts::puts(rt, line),
+            Kind::Repeated => repeated::repeated(alloc, before(line, " -> ")?),
+            Kind::Listed => repeated::listed(alloc, line),
+            Kind::Shared => shared::shared(rt, before(line, " -> ")?),
+            Kind::AtEach => shared::at_each(rt, line),
+            Kind::Accepted => accepted::accepted(rt, before(line, " -> ")?),
         }
     }
 }

@@ -22,14 +22,15 @@ pub struct Ended {
 }
 
 impl Ended {
-    /// The status, and a `!` where all that was said went to standard error, and `?` where some of it did.
-    pub fn told(&self) -> (u8, &'static str) {
+    /// The status, with a `!` behind it where all that was said went to standard error, and `?` where some of it did.
+    pub fn told(&self, alloc: Global) -> Result<String> {
+        let status = self.status;
         let mark = match (self.errors.is_empty(), self.output.written().is_empty()) {
             (true, _) => "",
             (false, true) => "!",
             (false, false) => "?",
         };
-        (self.status, mark)
+        Ok(format!(in alloc; "{status}{mark}")?)
     }
 
     /// What was said: what was printed, or what went to standard error.

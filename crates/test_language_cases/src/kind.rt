@@ -5,7 +5,7 @@ use std::rt::Files;
 use test_case_files::{Cases, before, behind};
 
 /// A kind of cases, each a line of one file.
-#[derive(Clone, Copy)]
+#[derive(Clone, Copy, Debug, PartialEq, Eq)]
 pub enum Kind {
     Words,
     Compute,
@@ -30,17 +30,6 @@ impl Kind {
         Kind::Encoded,
         Kind::Handler,
     ];
-
-    /// The part of a line that a kind is given.
-    fn case<'a>(&self, line: &'a str) -> Result<&'a str> {
-        match *self {
-            Kind::Words | Kind::Compute | Kind::Conditions => Ok(line),
-            Kind::Faults | Kind::Handler => before(line, " "),
-            Kind::Meanings => behind(line, " "),
-            Kind::Statements | Kind::Encoded => before(line, " -> "),
-            Kind::Generated => before(line, ":"),
-        }
-    }
 }
 
 impl Cases for Kind {
@@ -60,17 +49,16 @@ impl Cases for Kind {
 
     fn answered<R: Files + AllocGlobal>(&self, rt: &R, line: &str) -> Result<String> {
         let alloc = rt.alloc();
-        let case = self.case(line)?;
         match *self {
-            Kind::Words => numbers::word(alloc, case),
-            Kind::Compute => numbers::computed(alloc, case),
-            Kind::Conditions => numbers::held(alloc, case),
-            Kind::Faults => texts::fault(rt, case),
-            Kind::Meanings => texts::meaning(rt, case),
-            Kind::Statements => texts::statement(alloc, case),
-            Kind::Generated => texts::generated(alloc, case),
-            Kind::Encoded => encoded::text(alloc, case),
-            Kind::Handler => encoded::handler(alloc, case),
+            Kind::Words => numbers::word(alloc, line),
+            Kind::Compute => numbers::computed(alloc, line),
+            Kind::Conditions => numbers::held(alloc, line),
+            Kind::Faults => texts::fault(rt, before(line, " ")?),
+            Kind::Meanings => texts::meaning(rt, behind(line, " ")?),
+            Kind::Statements => texts::statement(alloc, before(line, " -> ")?),
+            Kind::Generated => texts::generated(alloc, before(line, ":")?),
+            Kind::Encoded => encoded::text(alloc, before(line, " -> ")?),
+            Kind::Handler => encoded::handler(alloc, before(line, " ")?),
         }
     }
 }

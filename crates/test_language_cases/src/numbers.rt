@@ -64,22 +64,6 @@ fn condition(text: &str) -> Result<Cond> {
     })
 }
 
-/// Appends a number in hexadecimal, behind a space.
-fn push_number(alloc: Global, text: &mut String, number: u32) -> Result<()> {
-    let digits = format!(in alloc; " {number:08x}")?;
-    text.push_str(digits.as_str())?;
-    Ok(())
-}
-
-/// A name and numbers in hexadecimal.
-fn with_numbers(alloc: Global, name: &str, numbers: &[u32]) -> Result<String> {
-    let mut text = String::from_str(alloc, name)?;
-    for number in numbers {
-        push_number(alloc, &mut text, *number)?;
-    }
-    Ok(text)
-}
-
 /// The instruction of a word.
 pub fn word(alloc: Global, line: &str) -> Result<String> {
     let word = number(line.split(" ").next())?;
@@ -96,7 +80,7 @@ pub fn computed(alloc: Global, line: &str) -> Result<String> {
     let b = number(words.next())?;
     let md = number(words.next())?;
     let (result, new_md) = compute(op, a, b, md);
-    with_numbers(alloc, name, &[a, b, md, result, new_md])
+    Ok(format!(in alloc; "{name} {a:08x} {b:08x} {md:08x} {result:08x} {new_md:08x}")?)
 }
 
 /// A condition holds of two operands.
@@ -106,7 +90,6 @@ pub fn held(alloc: Global, line: &str) -> Result<String> {
     let cond = condition(name)?;
     let a = number(words.next())?;
     let b = number(words.next())?;
-    let mut text = with_numbers(alloc, name, &[a, b])?;
-    text.push_str(if holds(cond, a, b) { " 1" } else { " 0" })?;
-    Ok(text)
+    let held = u8::from(holds(cond, a, b));
+    Ok(format!(in alloc; "{name} {a:08x} {b:08x} {held}")?)
 }

@@ -1,63 +1,7 @@
 //! Instructions as the cases spell them.
-use mx_isa::{Cond, Inst, Op, Reg, Special};
+use mx_isa::{Inst, Reg};
 use mx_source::Statement;
 use std::alloc::{AllocError, Global};
-use std::fmt::Debug;
-
-/// What a field of an instruction holds. A register is spelled by its number.
-#[derive(Clone, Copy)]
-enum Field {
-    Register(Reg),
-    Number(i32),
-    Index(u32),
-    Flag(bool),
-    Condition(Cond),
-    Operation(Op),
-    Place(Special),
-}
-
-fn debug_text<T: Debug>(alloc: Global, value: &T) -> Result<String, AllocError> {
-    format!(in alloc; "{value:?}")
-}
-
-/// A field as it is spelled.
-fn field_text(alloc: Global, field: Field) -> Result<String, AllocError> {
-    match field {
-        Field::Register(r) => debug_text(alloc, &r.number()),
-        Field::Number(n) => debug_text(alloc, &n),
-        Field::Index(n) => debug_text(alloc, &n),
-        Field::Flag(flag) => debug_text(alloc, &flag),
-        Field::Condition(cond) => debug_text(alloc, &cond),
-        Field::Operation(op) => debug_text(alloc, &op),
-        Field::Place(special) => debug_text(alloc, &special),
-    }
-}
-
-/// Appends a field, behind its label.
-fn push_field(
-    alloc: Global,
-    text: &mut String,
-    label: &str,
-    field: Field,
-) -> Result<(), AllocError> {
-    text.push_str(label)?;
-    text.push_str(": ")?;
-    let value = field_text(alloc, field)?;
-    text.push_str(value.as_str())
-}
-
-/// A name and its fields, each behind one of the labels, as in `Name { label: value, label: value }`.
-fn fields(alloc: Global, name: &str, labels: &str, fields: &[Field]) -> Result<String, AllocError> {
-    let mut text = String::from_str(alloc, name)?;
-    let mut before = " { ";
-    for (label, field) in labels.split(' ').zip(fields) {
-        text.push_str(before)?;
-        push_field(alloc, &mut text, label, *field)?;
-        before = ", ";
-    }
-    text.push_str(" }")?;
-    Ok(text)
-}
 
 /// A word's instruction, or `none`.
 pub fn spelled(alloc: Global, inst: Option<Inst>) -> Result<String, AllocError> {
@@ -69,45 +13,57 @@ pub fn spelled(alloc: Global, inst: Option<Inst>) -> Result<String, AllocError> 
 
 /// A statement, with its registers as numbers.
 pub fn statement(alloc: Global, statement: &Statement) -> Result<String, AllocError> {
-    use Field::{Condition, Index, Register};
-    match *statement {
-        Statement::Plain(inst) => instruction(alloc, &inst),
+    match statement {
+        Statement::Plain(inst) => instruction(alloc, inst),
         Statement::LaCode { dest, target } => {
-            let values = [Index(target), Register(dest)];
-            fields(alloc, "LaCode", "target dest", &values)
+            let dest = dest.number();
+            format!(in alloc; "LaCode {{ target: {target}, dest: {dest} }}")
         }
         Statement::Branch { a, b, cond, target } => {
-            let values = [Condition(cond), Register(a), Register(b), Index(target)];
-            fields(alloc, "Branch", "cond a b target", &values)
+            let (a, b) = (a.number(), b.number());
+            format!(in alloc; "Branch {{ cond: {cond:?}, a: {a}, b: {b}, target: {target} }}")
         }
         Statement::Call { dest, target } => {
-            let values = [Index(target), Register(dest)];
-            fields(alloc, "Call", "target dest", &values)
+            let dest = dest.number();
+            format!(in alloc; "Call {{ target: {target}, dest: {dest} }}")
         }
         Statement::CallReg { a, dest } => {
-            fields(alloc, "CallReg", "a dest", &[Register(a), Register(dest)])
+            let (a, dest) = (a.number(), dest.number());
+            format!(in alloc; "CallReg {{ a: {a}, dest: {dest} }}")
         }
-        Statement::JumpReg { a } => fields(alloc, "JumpReg", "a", &[Register(a)]),
+        Statement::JumpReg { a } => {
+            let a = a.number();
+            format!(in alloc; "JumpReg {{ a: {a} }}")
+        }
         Statement::Halt => String::from_str(alloc, "Halt"),
     }
 }
 
 /// An instruction, with its registers as numbers.
 fn instruction(alloc: Global, inst: &Inst) -> Result<String, AllocError> {
-    use Field::{Condition, Flag, Number, Operation, Place, Register};
-    match *inst {
+    match inst {
         Inst::Load { base, dest, offset } => {
-            let values = [Register(base), Number(offset), Register(dest)];
-            fields(alloc, "Load", "base offset dest", &values)
+            fields(
+                alloc,
+                "Load",
+                ["base", "offset", "dest"],
+                *base,
+                *offset,
+                *dest,
+            )
         }
         Inst::Store {
             base,
             value,
             offset,
-        } => {
-            let values = [Register(base), Number(offset), Register(value)];
-            fields(alloc, "Store", "base offset value", &values)
-        }
+        } => fields(
+            alloc,
+            "Store",
+            ["base", "offset", "value"],
+            *base,
+            *offset,
+            *value,
+        ),
         Inst::Branch {
             a,
             b,
@@ -115,36 +71,45 @@ fn instruction(alloc: Global, inst: &Inst) -> Result<String, AllocError> {
             squash,
             by,
         } => {
-            let values = [
-                Condition(cond),
-                Register(a),
-                Register(b),
-                Flag(squash),
-                Number(by),
-            ];
-            fields(alloc, "Branch", "cond a b squash by", &values)
+            let (a, b) = (a.number(), b.number());
+            format!(in alloc;
+                "Branch {{ cond: {cond:?}, a: {a}, b: {b}, squash: {squash}, by: {by} }}"
+            )
         }
         Inst::Compute { a, dest, b, op } => {
-            let values = [Operation(op), Register(a), Register(b), Register(dest)];
-            fields(alloc, "Compute", "op a b dest", &values)
+            let (a, b, dest) = (a.number(), b.number(), dest.number());
+            format!(in alloc; "Compute {{ op: {op:?}, a: {a}, b: {b}, dest: {dest} }}")
         }
         Inst::Addi { a, dest, imm } => {
-            let values = [Register(a), Number(imm), Register(dest)];
-            fields(alloc, "Addi", "a imm dest", &values)
+            fields(alloc, "Addi", ["a", "imm", "dest"], *a, *imm, *dest)
         }
         Inst::MoveFrom { dest, special } => {
-            let values = [Place(special), Register(dest)];
-            fields(alloc, "MoveFrom", "special dest", &values)
+            let dest = dest.number();
+            format!(in alloc; "MoveFrom {{ special: {special:?}, dest: {dest} }}")
         }
         Inst::MoveTo { a, special } => {
-            fields(alloc, "MoveTo", "a special", &[Register(a), Place(special)])
+            let a = a.number();
+            format!(in alloc; "MoveTo {{ a: {a}, special: {special:?} }}")
         }
         Inst::Jspci { a, dest, imm } => {
-            let values = [Register(a), Number(imm), Register(dest)];
-            fields(alloc, "Jspci", "a imm dest", &values)
+            fields(alloc, "Jspci", ["a", "imm", "dest"], *a, *imm, *dest)
         }
         Inst::Jpc => String::from_str(alloc, "Jpc"),
         Inst::Jpcrs => String::from_str(alloc, "Jpcrs"),
         Inst::Halt => String::from_str(alloc, "Halt"),
     }
+}
+
+/// An instruction of a register, a number and another register.
+fn fields(
+    alloc: Global,
+    name: &str,
+    labels: [&str; 3],
+    first: Reg,
+    number: i32,
+    second: Reg,
+) -> Result<String, AllocError> {
+    let [one, two, three] = labels;
+    let (first, second) = (first.number(), second.number());
+    format!(in alloc; "{name} {{ {one}: {first}, {two}: {number}, {three}: {second} }}")
 }

@@ -24,8 +24,16 @@ fn word_of(latch: &Latch) -> Option<Fetched> {
     word
 }
 
-// Register 1 in the file, and the fetches of the five latches. The fields of a pipeline are these and no other.
-fn file_and_fetches<C>(pipe: &Pipe<C>) -> (u32, [Option<Fetched>; 5]) {
+// The address of a latch's fetch.
+fn address_of(alloc: Global, latch: &Latch) -> Result<String> {
+    match word_of(latch) {
+        Some(fetched) => Ok(format!(in alloc; "{:x}", fetched.address)?),
+        None => Ok(String::from_str(alloc, "-")?),
+    }
+}
+
+// Register 1 in the file, and the addresses of the five latches. The fields of a pipeline are these and no other.
+fn told<C>(alloc: Global, pipe: &Pipe<C>) -> Result<String> {
     let Pipe {
         fetch,
         rf,
@@ -49,62 +57,30 @@ fn file_and_fetches<C>(pipe: &Pipe<C>) -> (u32, [Option<Fetched>; 5]) {
         decoded: _,
     } = pipe;
     let [_, first, ..] = *file;
-    let words = [
-        word_of(fetch),
-        word_of(rf),
-        word_of(alu),
-        word_of(mem),
-        word_of(wb),
-    ];
-    (first, words)
-}
-
-// Appends a space and the address of a fetch.
-fn push_address(alloc: Global, text: &mut String, word: Option<Fetched>) -> Result<()> {
-    match word {
-        Some(fetched) => {
-            let address = format!(in alloc; " {:x}", fetched.address)?;
-            text.push_str(address.as_str())?;
-        }
-        None => text.push_str(" -")?,
+    let mut text = format!(in alloc; "{first:x}")?;
+    for latch in [fetch, rf, alu, mem, wb] {
+        text.push(' ')?;
+        text.push_str(&address_of(alloc, latch)?)?;
     }
-    Ok(())
-}
-
-// The pipeline at the start of the first worked run.
-fn start(alloc: Global) -> Result<Pipe<LineCache>> {
-    let code = Vec::from_slice(alloc, &HELLO)?;
-    let image = Image::new(code, Vec::new(alloc)).context("too many words")?;
-    match Pipe::new(alloc, &image, None, LineCache::new()) {
-        Ok(pipe) => Ok(pipe),
-        Err(_) => bail!("out of memory"),
-    }
-}
-
-// The file, the fetches and register 1 behind so many cycles.
-fn behind_cycles(alloc: Global, cycles: u32) -> Result<(u32, [Option<Fetched>; 5], u32)> {
-    let mut pipe = start(alloc)?;
-    for _ in 0..cycles {
-        if pipe.counts().cycles < 1_000 {
-            pipe.cycle(false);
-        }
-    }
-    let (first, words) = file_and_fetches(&pipe);
-    let one = Reg::new(1).context("no register")?;
-    Ok((first, words, pipe.register(one)))
+    Ok(text)
 }
 
 /// The first worked run after a cycle: register 1 of the file, the addresses in the five latches, and register 1 as the
 /// machine tells it, all in hexadecimal, for the case `CYCLE: FILE FETCH RF ALU MEM WB, REGISTER`.
 pub fn fields(alloc: Global, line: &str) -> Result<String> {
     let (cycle, _) = line.split_once(": ").context("no answer")?;
-    let cycles = cycle.parse::<u32>()?.saturating_add(1);
-    let (first, words, register) = behind_cycles(alloc, cycles)?;
-    let mut text = format!(in alloc; "{cycle}: {first:x}")?;
-    for word in words {
-        push_address(alloc, &mut text, word)?;
+    let code = Vec::from_slice(alloc, &HELLO)?;
+    let image = Image::new(code, Vec::new(alloc)).context("too many words")?;
+    let Ok(mut pipe) = Pipe::new(alloc, &image, None, LineCache::new()) else {
+        bail!("out of memory")
+    };
+    for _ in 0..=cycle.parse::<u32>()? {
+        if pipe.counts().cycles > 1_000 {
+            bail!("too many cycles")
+        }
+        pipe.cycle(false);
     }
-    let last = format!(in alloc; ", {register:x}")?;
-    text.push_str(last.as_str())?;
-    Ok(text)
+    let told = told(alloc, &pipe)?;
+    let register = pipe.register(Reg::new(1).context("no register")?);
+    Ok(format!(in alloc; "{cycle}: {told}, {register:x}")?)
 }

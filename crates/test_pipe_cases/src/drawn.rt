@@ -1,7 +1,7 @@
 //! Images of drawn words.
 ghost use Rattle.std.specs.Prelude.{◌<◌};
 
-use crate::sides::{Program, differ};
+use crate::sides::{Program, differ, told};
 use anyhow::{Context, Result, bail};
 use mx_code::Image;
 use mx_turn::SHIPPED;
@@ -71,49 +71,22 @@ impl Draw {
         front | 250 + self.below(12)
     }
 
-    // A branch, to near.
-    fn branch(&mut self) -> u32 {
-        let op = self.below(6);
-        let front = self.front(0, op);
-        front | self.below(2) << 16 | (65_532 + self.below(12)) % 65_536
-    }
-
-    fn computed(&mut self) -> u32 {
-        self.front(1, 0) | self.below(4) << 12 | self.below(12)
-    }
-
-    fn shifted(&mut self) -> u32 {
-        self.front(1, 1) | self.below(4) << 12 | self.below(32) + 256 * self.below(2)
-    }
-
-    fn moved_from(&mut self) -> u32 {
-        1 << 30 | 2 << 27 | self.below(4) << 12 | self.below(4)
-    }
-
-    fn moved_to(&mut self) -> u32 {
-        1 << 30 | 3 << 27 | self.below(4) << 22 | self.below(4)
-    }
-
-    fn added(&mut self) -> u32 {
-        self.front(3, 0) | (131_068 + self.below(16)) % 131_072
-    }
-
-    fn jump(&mut self) -> u32 {
-        self.front(3, 1) | 4_096 + self.below(48)
-    }
-
     // An instruction, or near one.
     fn instruction(&mut self) -> u32 {
         match self.below(24) {
             0..=3 => self.access(0),
             4..=6 => self.access(1),
-            7..=10 => self.branch(),
-            11..=13 => self.computed(),
-            14 => self.shifted(),
-            15..=16 => self.moved_from(),
-            17 => self.moved_to(),
-            18..=21 => self.added(),
-            22 => self.jump(),
+            7..=10 => {
+                let op = self.below(6);
+                let front = self.front(0, op);
+                front | self.below(2) << 16 | (65_532 + self.below(12)) % 65_536
+            }
+            11..=13 => self.front(1, 0) | self.below(4) << 12 | self.below(12),
+            14 => self.front(1, 1) | self.below(4) << 12 | self.below(32) + 256 * self.below(2),
+            15..=16 => 1 << 30 | 2 << 27 | self.below(4) << 12 | self.below(4),
+            17 => 1 << 30 | 3 << 27 | self.below(4) << 22 | self.below(4),
+            18..=21 => self.front(3, 0) | (131_068 + self.below(16)) % 131_072,
+            22 => self.front(3, 1) | 4_096 + self.below(48),
             _ => self.seldom(),
         }
     }
@@ -168,13 +141,6 @@ fn handler(alloc: Global, draw: &mut Draw, sort: Sort) -> Result<Vec<u32>> {
     }
 }
 
-// Drawn code and data.
-fn image(alloc: Global, draw: &mut Draw, sort: Sort) -> Result<Image> {
-    let code = draw.words(alloc, sort, 40)?;
-    let user_data = draw.words(alloc, Sort::Noise, 8)?;
-    Image::new(code, user_data).context("too many words")
-}
-
 /// The next image.
 pub fn drawn_program(
     alloc: Global,
@@ -182,11 +148,12 @@ pub fn drawn_program(
     sort: Sort,
     cycles: u32,
 ) -> Result<DrawnProgram> {
-    let image = image(alloc, draw, sort)?;
+    let code = draw.words(alloc, sort, 40)?;
+    let user_data = draw.words(alloc, Sort::Noise, 8)?;
     let handler = handler(alloc, draw, sort)?;
     let requests = draw.requests(alloc, cycles)?;
     Ok(DrawnProgram {
-        image,
+        image: Image::new(code, user_data).context("too many words")?,
         handler,
         requests,
     })
@@ -203,8 +170,8 @@ fn compared(alloc: Global, draw: &mut Draw, sort: Sort, cycles: u32) -> Result<O
     differ(alloc, &program, Some(b"input".as_slice()), cycles)
 }
 
-// The sort of this name.
-fn sort_of(name: &str) -> Result<Sort> {
+/// The sort of this name.
+pub fn sort_of(name: &str) -> Result<Sort> {
     match name {
         "noise" => Ok(Sort::Noise),
         "hazards" => Ok(Sort::Hazards),
@@ -213,56 +180,21 @@ fn sort_of(name: &str) -> Result<Sort> {
     }
 }
 
-/// So many images of a sort, from a seed on, each for so many cycles.
-#[derive(Clone, Copy)]
-pub struct Images {
-    pub sort: Sort,
-    pub seed: u32,
-    pub count: u32,
-    pub cycles: u32,
-}
-
-impl Images {
-    /// Those of the case `SORT SEED COUNT CYCLES`.
-    pub fn of(case: &str) -> Result<Images> {
-        let mut words = case.split(' ');
-        let sort = sort_of(words.next().context("no sort")?)?;
-        let seed = words.next().context("no seed")?.parse::<u32>()?;
-        let count = words.next().context("no count")?.parse::<u32>()?;
-        let cycles = words.next().context("no cycles")?.parse::<u32>()?;
-        Ok(Images {
-            sort,
-            seed,
-            count,
-            cycles,
-        })
-    }
-}
-
-/// The line of a case, with the image in which there is a difference, and its cycle.
-pub fn told_of_images(alloc: Global, case: &str, difference: Option<(u32, u32)>) -> Result<String> {
-    match difference {
-        Some((number, cycle)) => {
-            Ok(format!(in alloc; "{case}: image {number}, differ in cycle {cycle}")?)
-        }
-        None => Ok(format!(in alloc; "{case}: alike")?),
-    }
-}
-
-// The first image on which the machines differ, and the cycle.
-fn first_difference(alloc: Global, images: Images) -> Result<Option<(u32, u32)>> {
-    let mut draw = Draw::new(images.seed);
-    for number in 0..images.count {
-        if let Some(cycle) = compared(alloc, &mut draw, images.sort, images.cycles)? {
-            return Ok(Some((number, cycle)));
-        }
-    }
-    Ok(None)
-}
-
 /// How the machines compare on so many drawn images, for the case `SORT SEED COUNT CYCLES: ANSWER`.
 pub fn alike(alloc: Global, line: &str) -> Result<String> {
     let (case, _) = line.split_once(": ").context("no answer")?;
-    let difference = first_difference(alloc, Images::of(case)?)?;
-    told_of_images(alloc, case, difference)
+    let mut words = case.split(' ');
+    let sort = sort_of(words.next().context("no sort")?)?;
+    let state = words.next().context("no seed")?.parse::<u32>()?;
+    let count = words.next().context("no count")?.parse::<u32>()?;
+    let cycles = words.next().context("no cycles")?.parse::<u32>()?;
+    let mut draw = Draw::new(state);
+    for number in 0..count {
+        let difference = compared(alloc, &mut draw, sort, cycles)?;
+        if difference.is_some() {
+            let answer = told(alloc, difference)?;
+            return Ok(format!(in alloc; "{case}: image {number}, {answer}")?);
+        }
+    }
+    Ok(format!(in alloc; "{case}: alike")?)
 }

@@ -1,6 +1,6 @@
 //! Cycles of the pipeline many at once, against the same cycles one by one.
-use crate::drawn::{Draw, DrawnProgram, Images, drawn_program, told_of_images};
-use crate::sides::tell_alike;
+use crate::drawn::{Draw, DrawnProgram, drawn_program, sort_of};
+use crate::sides::{tell_alike, told};
 use anyhow::{Context, Result, bail};
 use mx_icache::{LineCache, Set};
 use mx_pipe::Pipe;
@@ -115,21 +115,16 @@ fn cached_alike(one: &LineCache, other: &LineCache) -> bool {
     true
 }
 
-// Whether two pipelines are in the same state.
-fn stand_alike(pipe: &Pipe<LineCache>, twin: &Pipe<LineCache>) -> bool {
-    pipe.file == twin.file
-        && (pipe.next, pipe.wait, pipe.asked, pipe.halted)
-            == (twin.next, twin.wait, twin.asked, twin.halted)
-        && (pipe.psw, pipe.chain) == (twin.psw, twin.chain)
-}
-
-// Whether two pipelines show and hold the same, and have sent the same.
+// Whether two pipelines are in the same state, and have sent the same.
 fn alike_now(one: &Sender, other: &Sender) -> bool {
     let (pipe, twin) = (&one.pipe, &other.pipe);
     tell_alike(pipe, twin)
         && latched_alike(pipe, twin)
         && cached_alike(&pipe.cache, &twin.cache)
-        && stand_alike(pipe, twin)
+        && pipe.file == twin.file
+        && (pipe.next, pipe.wait, pipe.asked, pipe.halted)
+            == (twin.next, twin.wait, twin.asked, twin.halted)
+        && (pipe.psw, pipe.chain) == (twin.psw, twin.chain)
         && one.console == other.console
 }
 
@@ -139,21 +134,6 @@ fn next_request(requests: &[u32], cycle: u32, cycles: u32) -> u32 {
         Some(request) => *request,
         None => cycles,
     }
-}
-
-// At most so many cycles, at once in one pipeline and one by one in the other; where it is none, a single one with this
-// request. Answers how many.
-fn advance(leaps: &mut Sender, steps: &mut Sender, most: u32, request: bool) -> Result<u32> {
-    if most == 0 {
-        leaps.step(request)?;
-        steps.step(request)?;
-        return Ok(1);
-    }
-    let done = leaps.leap(most)?;
-    for _ in 0..done {
-        steps.step(false)?;
-    }
-    Ok(done)
 }
 
 // The first cycle after which a run that is cut differs from the same run by single cycles.
@@ -173,7 +153,15 @@ fn cut_difference(
         let request = next_request(program.requests.as_slice(), cycle, cycles);
         let end = cut.end(cycle).min(request).min(cycles);
         let most = end.saturating_sub(cycle);
-        let done = advance(&mut leaps, &mut steps, most, request == cycle)?;
+        let done = if most == 0 {
+            leaps.step(request == cycle)?;
+            1
+        } else {
+            leaps.leap(most)?
+        };
+        for _ in 0..done {
+            steps.step(most == 0 && request == cycle)?;
+        }
         if !alike_now(&leaps, &steps) {
             return Ok(Some(cycle));
         }
@@ -197,26 +185,27 @@ fn piece_difference(alloc: Global, program: &DrawnProgram, cycles: u32) -> Resul
     Ok(None)
 }
 
-// The first image on which they differ, and the cycle. Each second one has no requests.
-fn first_difference(alloc: Global, images: Images) -> Result<Option<(u32, u32)>> {
-    let mut draw = Draw::new(images.seed);
-    for number in 0..images.count {
-        let mut program = drawn_program(alloc, &mut draw, images.sort, images.cycles)?;
-        if number % 2 == 1 {
-            program.requests = Vec::new(alloc);
-        }
-        if let Some(cycle) = piece_difference(alloc, &program, images.cycles)? {
-            return Ok(Some((number, cycle)));
-        }
-    }
-    Ok(None)
-}
-
 /// How cycles many at once compare with single ones, on so many drawn images, of which each second one has no requests, for
 /// the case `SORT SEED COUNT CYCLES: ANSWER`. Each run is cut into pieces of each length up to its cycles, those of at most
 /// 16 from each place where they may begin.
 pub fn alike(alloc: Global, line: &str) -> Result<String> {
     let (case, _) = line.split_once(": ").context("no answer")?;
-    let difference = first_difference(alloc, Images::of(case)?)?;
-    told_of_images(alloc, case, difference)
+    let mut words = case.split(' ');
+    let sort = sort_of(words.next().context("no sort")?)?;
+    let state = words.next().context("no seed")?.parse::<u32>()?;
+    let count = words.next().context("no count")?.parse::<u32>()?;
+    let cycles = words.next().context("no cycles")?.parse::<u32>()?;
+    let mut draw = Draw::new(state);
+    for number in 0..count {
+        let mut program = drawn_program(alloc, &mut draw, sort, cycles)?;
+        if number % 2 == 1 {
+            program.requests = Vec::new(alloc);
+        }
+        let difference = piece_difference(alloc, &program, cycles)?;
+        if difference.is_some() {
+            let answer = told(alloc, difference)?;
+            return Ok(format!(in alloc; "{case}: image {number}, {answer}")?);
+        }
+    }
+    Ok(format!(in alloc; "{case}: alike")?)
 }

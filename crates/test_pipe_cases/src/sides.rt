@@ -109,11 +109,11 @@ pub fn differ(
     Ok(first_difference(&mut turns, &mut pipe, program.requests, cycles))
 }
 
-// How a comparison ends.
-fn told(alloc: Global, case: &str, difference: Option<u32>) -> Result<String> {
+/// How a comparison ends.
+pub fn told(alloc: Global, difference: Option<u32>) -> Result<String> {
     match difference {
-        Some(cycle) => Ok(format!(in alloc; "{case}: differ in cycle {cycle}")?),
-        None => Ok(format!(in alloc; "{case}: alike")?),
+        Some(cycle) => Ok(format!(in alloc; "differ in cycle {cycle}")?),
+        None => Ok(String::from_str(alloc, "alike")?),
     }
 }
 
@@ -133,13 +133,6 @@ fn part<'a>(line: &'a str) -> Result<(&'a str, &'a str)> {
     line.split_once(" / ").context("no separator")
 }
 
-// The image of these words, in hexadecimal.
-fn image_of(alloc: Global, code: &str, user_data: &str) -> Result<Image> {
-    let code = numbers(alloc, code, 16)?;
-    let user_data = numbers(alloc, user_data, 16)?;
-    Image::new(code, user_data).context("too many words")
-}
-
 /// How the machines compare on words of code and data, in hexadecimal, for the case
 /// `CODE / DATA / CYCLES OF REQUESTS / CYCLES: ANSWER`.
 pub fn worked(alloc: Global, line: &str) -> Result<String> {
@@ -147,13 +140,18 @@ pub fn worked(alloc: Global, line: &str) -> Result<String> {
     let (code, rest) = part(case)?;
     let (user_data, rest) = part(rest)?;
     let (requests, cycles) = part(rest)?;
-    let cycles = cycles.parse::<u32>()?;
-    let image = image_of(alloc, code, user_data)?;
+    let code = numbers(alloc, code, 16)?;
+    let user_data = numbers(alloc, user_data, 16)?;
     let requests = numbers(alloc, requests, 10)?;
+    let image = Image::new(code, user_data).context("too many words")?;
     let program = Program {
         image: &image,
         handler: SHIPPED.as_slice(),
         requests: requests.as_slice(),
     };
-    told(alloc, case, differ(alloc, &program, None, cycles)?)
+    let answer = told(
+        alloc,
+        differ(alloc, &program, None, cycles.parse::<u32>()?)?,
+    )?;
+    Ok(format!(in alloc; "{case}: {answer}")?)
 }

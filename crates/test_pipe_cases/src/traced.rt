@@ -75,44 +75,31 @@ fn by_pipe(alloc: Global, image: &Image, requests: &Requests, asked: Asked) -> R
     printed(alloc, &mut machine, image, requests, asked)
 }
 
-// The bytes of `traces/NAME.END`.
-fn file<R: Files + AllocGlobal>(rt: &R, name: &str, end: &str) -> Result<Vec<u8>> {
-    let path = format!(in rt.alloc(); "traces/{name}.{end}")?;
-    Ok(fs::read(rt, path)?)
-}
-
-fn image_of<R: Files + AllocGlobal>(rt: &R, name: &str) -> Result<Image> {
-    let bytes = file(rt, name, "image")?;
-    Ok(read_image(rt.alloc(), bytes.as_slice())?)
-}
-
-fn requests_of<R: Files + AllocGlobal>(rt: &R, name: &str) -> Result<Requests> {
-    let bytes = file(rt, name, "interrupts")?;
+// The requests of a file.
+fn requests_of(alloc: Global, bytes: &[u8]) -> Result<Requests> {
     if bytes.len() > 1_048_576 {
         bail!("too many bytes")
     }
-    Ok(Requests::parse(rt.alloc(), bytes.as_slice())?)
-}
-
-// Whether the turn machine and the pipeline print what is wanted.
-fn print_wanted<R: Files + AllocGlobal>(rt: &R, name: &str, asked: Asked) -> Result<[bool; 2]> {
-    let wanted = file(rt, name, "wanted")?;
-    let image = image_of(rt, name)?;
-    let requests = requests_of(rt, name)?;
-    let turns = by_turns(rt.alloc(), &image, &requests, asked)?.as_slice() == wanted.as_slice();
-    let pipe = by_pipe(rt.alloc(), &image, &requests, asked)?.as_slice() == wanted.as_slice();
-    Ok([turns, pipe])
+    Ok(Requests::parse(alloc, bytes)?)
 }
 
 /// Whether both machines print what stands in `traces/NAME.wanted`, on the image and the interrupts beside it, for the case
 /// `NAME: BUDGET TRACE` or `NAME: BUDGET TRACE AT COUNT`.
 pub fn traced<R: Files + AllocGlobal>(rt: &R, line: &str) -> Result<String> {
+    let alloc = rt.alloc();
     let (name, numbers) = line.split_once(": ").context("no numbers")?;
-    let note = match print_wanted(rt, name, asked_of(numbers)?)? {
-        [true, true] => "",
-        [false, true] => ", not by turns",
-        [true, false] => ", not by the pipe",
-        [false, false] => ", not by turns, not by the pipe",
-    };
-    Ok(format!(in rt.alloc(); "{line}{note}")?)
+    let asked = asked_of(numbers)?;
+    let bytes = fs::read(rt, format!(in alloc; "traces/{name}.image")?)?;
+    let image = read_image(alloc, bytes.as_slice())?;
+    let bytes = fs::read(rt, format!(in alloc; "traces/{name}.interrupts")?)?;
+    let requests = requests_of(alloc, bytes.as_slice())?;
+    let wanted = fs::read(rt, format!(in alloc; "traces/{name}.wanted")?)?;
+    let mut text = String::from_str(alloc, line)?;
+    if by_turns(alloc, &image, &requests, asked)?.as_slice() != wanted.as_slice() {
+        text.push_str(", not by turns")?;
+    }
+    if by_pipe(alloc, &image, &requests, asked)?.as_slice() != wanted.as_slice() {
+        text.push_str(", not by the pipe")?;
+    }
+    Ok(text)
 }

@@ -16,36 +16,38 @@ use std::alloc::{AllocError, Global};
 /// The address of the first block.
 const CODE: u32 = 4096;
 
-/// Appends a number.
-fn push_number(alloc: Global, text: &mut String, number: usize) -> Result<(), AllocError> {
-    let digits = format!(in alloc; "{number}")?;
-    text.push_str(&digits)
-}
-
 /// Appends an item: the number of an instruction, or `-`.
 fn push_item(alloc: Global, text: &mut String, item: Item) -> Result<(), AllocError> {
     match item {
-        Item::Op(k) => push_number(alloc, text, usize::from(k))?,
+        Item::Op(k) => {
+            let digits = format!(in alloc; "{k}")?;
+            text.push_str(&digits)?;
+        }
         Item::Nop => text.push('-')?,
     }
-    text.push(' ')
+    text.push(' ')?;
+    Ok(())
 }
 
-/// Appends a plan: its items and the terminator's place.
-fn push_plan(alloc: Global, text: &mut String, plan: &Plan) -> Result<(), AllocError> {
+/// A plan: its items and the terminator's place.
+fn plan_text(alloc: Global, plan: &Plan) -> Result<String, AllocError> {
+    let mut text = String::new(alloc);
     for item in plan.items.as_slice() {
-        push_item(alloc, text, *item)?;
+        push_item(alloc, &mut text, *item)?;
     }
-    text.push_str("at ")?;
-    push_number(alloc, text, usize::from(plan.place))
+    let place = format!(in alloc; "at {}", plan.place)?;
+    text.push_str(&place)?;
+    Ok(text)
 }
 
-/// Appends how many items the shortest plan of a small block has, or `-`.
-fn push_best(alloc: Global, text: &mut String, block: &Block) -> Result<(), AllocError> {
+/// How many items the shortest plan of a small block has, or `-`.
+fn best_text(alloc: Global, block: &Block) -> Result<String, AllocError> {
     if block.insts.len() <= MOST_SEARCHED {
-        push_number(alloc, text, best(block).items.len())
+        format!(in alloc; "{}", best(block).items.len())
     } else {
-        text.push('-')
+        let mut text = String::new(alloc);
+        text.push('-')?;
+        Ok(text)
     }
 }
 
@@ -78,28 +80,29 @@ fn starts_of(alloc: Global, plans: &[Plan]) -> Result<Vec<u32>, AllocError> {
     Ok(starts)
 }
 
-/// Appends the copies of a block.
-fn push_copies(
+/// The copies of a block.
+fn copies_text(
     alloc: Global,
-    text: &mut String,
     blocks: &[Block],
     plans: &[Plan],
     starts: &[u32],
     branch: u32,
-) -> Result<(), AllocError>
+) -> Result<String, AllocError>
     requires blocks { AreOfOneSource blocks.now }
     requires plans { length plans.now ≡ length blocks.now }
     requires starts { length starts.now ≡ length blocks.now }
     requires within { branch < length blocks.now }
 {
     let copied = copies(blocks, plans, starts, branch);
-    push_item(alloc, text, copied.from[0])?;
-    push_item(alloc, text, copied.from[1])?;
-    push_number(alloc, text, copied.count as usize)?;
+    let mut text = String::new(alloc);
+    push_item(alloc, &mut text, copied.from[0])?;
+    push_item(alloc, &mut text, copied.from[1])?;
+    let count = format!(in alloc; "{}", copied.count)?;
+    text.push_str(&count)?;
     if copied.squash {
         text.push_str(" squash")?;
     }
-    Ok(())
+    Ok(text)
 }
 
 /// The source that a case spells, its lines between slashes.
@@ -116,42 +119,30 @@ fn source_of(alloc: Global, spelled: &str) -> Result<Source> {
     }
 }
 
-/// Appends the plans of a block: the padded one, a greedy one, and how long the best is.
-fn push_plans(
+/// What becomes of one block of several.
+fn block_text(
     alloc: Global,
-    text: &mut String,
-    block: &Block,
-    greedy: &Plan,
-) -> Result<(), AllocError> {
-    push_number(alloc, text, block.first as usize)?;
-    text.push_str(": padded ")?;
-    push_plan(alloc, text, &padded(block))?;
-    text.push_str(", greedy ")?;
-    push_plan(alloc, text, greedy)?;
-    text.push_str(", best ")?;
-    push_best(alloc, text, block)
-}
-
-/// Appends what becomes of one block of several.
-fn push_block(
-    alloc: Global,
-    text: &mut String,
     blocks: &[Block],
     plans: &[Plan],
     starts: &[u32],
     branch: usize,
-) -> Result<(), AllocError>
+) -> Result<String, AllocError>
     requires blocks { AreOfOneSource blocks.now }
     requires plans { length plans.now ≡ length blocks.now }
     requires starts { length starts.now ≡ length blocks.now }
     requires within { branch < length blocks.now }
     requires few { length blocks.now < 2 ^ 32 }
 {
-    push_plans(alloc, text, &blocks[branch], &plans[branch])?;
-    text.push_str(", backwards ")?;
-    text.push_str(verdict(&blocks[branch], &mut Backwards))?;
-    text.push_str(", copies ")?;
-    push_copies(alloc, text, blocks, plans, starts, branch as u32)
+    let block = &blocks[branch];
+    let first = block.first;
+    let padded = plan_text(alloc, &padded(block))?;
+    let greedy = plan_text(alloc, &plans[branch])?;
+    let best = best_text(alloc, block)?;
+    let backwards = verdict(block, &mut Backwards);
+    let copies = copies_text(alloc, blocks, plans, starts, branch as u32)?;
+    format!(in alloc;
+        "{first}: padded {padded}, greedy {greedy}, best {best}, backwards {backwards}, copies {copies}"
+    )
 }
 
 /// What becomes of each block.
@@ -171,7 +162,8 @@ fn all_text(
         if branch > 0 {
             text.push_str(" | ")?;
         }
-        push_block(alloc, &mut text, blocks, plans, starts, branch)?;
+        let one = block_text(alloc, blocks, plans, starts, branch)?;
+        text.push_str(&one)?;
     }
     Ok(text)
 }
