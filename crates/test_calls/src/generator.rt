@@ -1,10 +1,14 @@
 //! Generated sources.
+ghost use Rattle.std.specs.Prelude.{◌≤◌};
+
 use mx_gen::generate;
 use std::alloc::Global;
 use std::test::Fail;
 
 /// The text of so many items from a seed.
-fn printed(alloc: Global, seed: u32, count: u32) -> Result<Vec<u8>, Fail> {
+fn printed(alloc: Global, seed: u32, count: u32) -> Result<Vec<u8>, Fail>
+    requires { count ≤ 4000 }
+{
     Ok(generate(alloc, seed, count)?.print(alloc)?)
 }
 
