@@ -151,7 +151,7 @@ class Laboratory:
         return self.document("disassemble", source)["words"]
 
     def trace(self, source: bytes, **given) -> list[dict]:
-        """A record for the program, and one for each turn of a run."""
+        """A record for the program, one for each turn of a run, and one for its end."""
         words, files = self._lent("trace", source, (), **given)
         return [json.loads(line) for line in self.printed(*words, files=files).splitlines()]
 
