@@ -1,6 +1,4 @@
 //! Which registers instructions read and write, as sets: a bit each, with LO as 32 and HI as 33.
-ghost use Rattle.std.specs.Prelude.{◌≡◌};
-ghost use Rattle.cc_translate.specs.Views;
 
 use cc_lines::{Instruction, LinkFrom, Operation, Register, Source, Special, Width};
 
@@ -107,11 +105,4 @@ pub(crate) fn kills(instruction: &Instruction) -> u64 {
         Instruction::Call(_) => of(Register::LINK),
         _ => writes(instruction),
     }
-}
-
-/// Whether an operation compares.
-pub(crate) fn is_comparison(op: Operation) -> bool
-    ensures { result ≡ Views.is_comparison op }
-{
-    op == Operation::Less || op == Operation::Lower
 }

@@ -6,8 +6,9 @@ use crate::liveness::live_after;
 use crate::output::Output;
 use crate::places::find_places;
 use crate::plan::{Plan, Step};
-use crate::program::{Program, file_key};
+use crate::program::Program;
 use crate::statements::translate_statement;
+use cc_rules::file_key;
 use std::alloc::{AllocError, Global};
 
 /// The longest name of a source file that is told.

@@ -1,10 +1,11 @@
 //! Comparisons that are made by the branch that reads them.
 
-use crate::effects::{is_comparison, of, reads, writes};
+use crate::effects::{of, reads, writes};
 use crate::item::Item;
 use crate::plan::{Plan, Step};
 use crate::symbols::Symbols;
 use cc_lines::{Condition, Instruction, Operation, Register, Source};
+use cc_rules::is_comparison;
 
 /// How many items before a branch its comparison stands at most.
 const MOST_BETWEEN: usize = 32;

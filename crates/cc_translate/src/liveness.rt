@@ -4,6 +4,7 @@ use crate::effects::{ALL, ARGUMENTS, RETURNED, kills, reads};
 use crate::item::Item;
 use crate::symbols::{Meaning, Symbols};
 use cc_lines::{Instruction, LinkFrom, Register};
+use cc_rules::index_within;
 use std::alloc::{AllocError, Global};
 
 /// What is read from each item of a function on, and behind each.
@@ -19,11 +20,10 @@ fn at_target(live: &Live, symbols: &Symbols, first: usize, symbol: Option<u32>) 
         return ALL;
     };
     match symbols.meaning(symbol) {
-        Meaning::Place { item, .. } if item >= first => live
-            .before
-            .get(item - first)
-            .copied()
-            .unwrap_or(ALL),
+        Meaning::Place { item, .. } => match index_within(first, item) {
+            Some(index) => live.before.get(index).copied().unwrap_or(ALL),
+            None => ALL,
+        },
         Meaning::Function(_) => ARGUMENTS | RETURNED,
         _ => ALL,
     }

@@ -1,12 +1,11 @@
 //! Loads and stores.
-ghost use Rattle.std.specs.Prelude.{◌≡◌};
-ghost use Rattle.std.specs.Int.{w32, cast_signed};
 
 use crate::item::Function;
 use crate::output::{Mask, Output};
 use crate::places::STACK_WORDS;
 use crate::plan::Place;
 use cc_lines::{Register, Width};
+use cc_rules::signed;
 use std::alloc::AllocError;
 
 /// Registers for what a statement needs between its words.
@@ -36,13 +35,6 @@ enum Part {
     Byte(u8),
     /// The low bits of a register tell it.
     By(u8),
-}
-
-/// A word as a signed number.
-pub(crate) fn signed(word: u32) -> i64
-    ensures { result ≡ cast_signed w32 word }
-{
-    i64::from(word.cast_signed())
 }
 
 /// Puts a number into a register.

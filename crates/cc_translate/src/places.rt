@@ -1,5 +1,4 @@
 //! Where data are, with each pointer divided by 4 once as long as it is known.
-ghost use Rattle.std.specs.Prelude.{◌≡◌, ◌+◌, ◌*◌, ◌/◌, ◌%◌, ◌-◌, ◌^◌, ◌<◌, ◌≤◌, ◌⊎◌, ◌↔◌, IsTrue};
 
 use crate::effects::{HI, bit, writes};
 use crate::item::{Function, Item};
@@ -7,6 +6,7 @@ use crate::plan::{Place, Plan, Step};
 use crate::program::Program;
 use crate::symbols::Meaning;
 use cc_lines::{Instruction, LinkFrom, Long, Operation, Register, Source, Width};
+use cc_rules::{byte_of, in_reach, quarter};
 
 /// The register with the stack pointer / 4.
 pub(crate) const STACK_WORDS: u8 = 28;
@@ -16,9 +16,6 @@ pub(crate) const FRAME_WORDS: u8 = 23;
 
 /// The registers that take quotients of pointers: the last one only in functions without a frame pointer.
 const QUOTIENTS: [u8; 3] = [22, 27, FRAME_WORDS];
-
-/// The farthest that a load or a store reaches, in words.
-const REACH: u32 = 65535;
 
 /// What is known of a register.
 #[derive(Clone, Copy)]
@@ -38,32 +35,6 @@ struct Knowledge {
     turn: u8,
     /// Whether register 30 is the frame pointer.
     points: bool,
-}
-
-/// Whether a number of words, signed, is in reach.
-fn in_reach(words: u32) -> bool
-    ensures { IsTrue result ↔ (words ≤ 65535) ⊎ (2 ^ 32 - 65535 ≤ words) }
-{
-    words <= REACH || words >= 0u32.wrapping_sub(REACH)
-}
-
-/// A quarter of a signed number, rounded down.
-fn quarter(bytes: u32) -> u32
-    ensures positive { bytes < 2 ^ 31 → result ≡ bytes / 4 }
-    ensures negative { 2 ^ 31 ≤ bytes → result ≡ bytes / 4 + 3 * 2 ^ 30 }
-{
-    if bytes >= 0x8000_0000 {
-        (bytes >> 2) + 0xc000_0000
-    } else {
-        bytes >> 2
-    }
-}
-
-/// The number of a byte in its word.
-fn byte_of(bytes: u32) -> u8
-    ensures { result ≡ bytes % 4 }
-{
-    (bytes & 3) as u8
 }
 
 impl Knowledge {

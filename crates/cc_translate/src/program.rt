@@ -1,5 +1,4 @@
 //! A program as it was read.
-ghost use Rattle.std.specs.Prelude.{◌≡◌, ◌+◌, ◌*◌, ◌^◌};
 
 use crate::item::{Function, Item, Object};
 use crate::symbols::{Meaning, Symbols};
@@ -67,11 +66,4 @@ impl<'a> Program<'a> {
             None => None,
         }
     }
-}
-
-/// The key of the source file with a number in a text.
-pub(crate) fn file_key(unit: u32, file: u32) -> u64
-    ensures { result ≡ unit * 2 ^ 32 + file }
-{
-    u64::from(unit) * 4_294_967_296 + u64::from(file)
 }

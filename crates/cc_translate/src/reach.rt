@@ -1,12 +1,11 @@
 //! What `main` reaches.
-ghost use Rattle.std.specs.Prelude.{◌≡◌};
-ghost use Rattle.cc_translate.specs.Views;
 
 use crate::error::{Fault, TranslateError};
 use crate::item::{Item, Object, Reference};
 use crate::program::Program;
 use crate::symbols::Meaning;
 use cc_lines::{Instruction, Refusal, Register};
+use cc_rules::is_last;
 use std::alloc::{AllocError, Global};
 
 /// How something is named.
@@ -42,13 +41,6 @@ fn use_of(instruction: &Instruction) -> Use {
         }
         _ => Use::Jump,
     }
-}
-
-/// Whether nothing behind an instruction follows on it.
-fn is_last(instruction: &Instruction) -> bool
-    ensures { result ≡ Views.is_last instruction.now }
-{
-    matches!(instruction, Instruction::Jump(_) | Instruction::Break)
 }
 
 /// What the items of a function name. Answers whether control may go on behind them.

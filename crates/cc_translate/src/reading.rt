@@ -1,15 +1,14 @@
 //! Reading the texts.
-ghost use Rattle.std.specs.Prelude.{◌≡◌};
-ghost use Rattle.cc_translate.specs.Views;
 
 use crate::error::{TranslateError, error_at};
 use crate::item::{Function, Item};
-use crate::program::{Program, file_key};
+use crate::program::Program;
 use crate::symbols::Meaning;
 use cc_lines::{
     Directive, Instruction, Line, LineError, Lines, Refusal, Section, Statement, label_before,
     line_read, without_comment,
 };
+use cc_rules::{file_key, has_slot};
 use indexmap::IndexMap;
 use std::alloc::{AllocError, Global};
 
@@ -196,16 +195,6 @@ fn label<'a>(
     }
 }
 
-/// Whether an instruction has a delay slot.
-fn jumps(instruction: &Instruction) -> bool
-    ensures { result ≡ Views.has_slot instruction.now }
-{
-    matches!(
-        instruction,
-        Instruction::Branch { .. } | Instruction::Jump(_) | Instruction::Call(_)
-    )
-}
-
 /// An instruction.
 fn statement<'a>(
     program: &mut Program<'a>,
@@ -215,7 +204,7 @@ fn statement<'a>(
     if position.section != Section::Code || position.function.is_none() {
         return Err(LineError::Refused(Refusal::OutsideFunction));
     }
-    if !position.reorder && jumps(&read.instruction) {
+    if !position.reorder && has_slot(&read.instruction) {
         return Err(LineError::Refused(Refusal::DelaySlots));
     }
     let symbol = match read.symbol {

@@ -1,6 +1,4 @@
 //! The translation of one statement, by itself and its plan.
-ghost use Rattle.std.specs.Prelude.{◌≡◌};
-ghost use Rattle.cc_translate.specs.Views;
 
 use crate::effects::{HI, bit};
 use crate::fusing::{Comparison, tested_by};
@@ -16,22 +14,8 @@ use crate::symbols::Meaning;
 use cc_lines::{
     Condition, Instruction, LinkFrom, Long, Operation, Register, Shift, Source, Special,
 };
+use cc_rules::special_register;
 use std::alloc::AllocError;
-
-/// The registers that stand for LO and HI.
-const LO_REGISTER: u8 = 24;
-
-const HI_REGISTER: u8 = 25;
-
-/// The register of a special one.
-fn special_register(special: Special) -> u8
-    ensures { result ≡ Views.register_of special }
-{
-    match special {
-        Special::Lo => LO_REGISTER,
-        Special::Hi => HI_REGISTER,
-    }
-}
 
 /// The register of a second operand; a number is put into the first register for the time being.
 fn operand(out: &mut Output, second: Source) -> Result<u8, AllocError> {

@@ -2,13 +2,14 @@
 
 use crate::error::TranslateError;
 use crate::functions::translate_function;
-use crate::layout::{FIRST_BYTE, lay_out};
+use crate::layout::lay_out;
 use crate::output::Output;
 use crate::program::Program;
 use crate::reach::reach;
 use crate::reading::read_unit;
 use crate::routines::put_routines;
 use crate::words::{end_of, put_data};
+use cc_rules::FIRST_BYTE;
 use std::alloc::{AllocError, Global};
 
 /// How many statements a source has at most.

@@ -1,15 +1,11 @@
 //! The data of the translation.
-ghost use Rattle.std.specs.Prelude.{◌≡◌, ◌-◌};
 
 use crate::item::Object;
-use crate::layout::FIRST_BYTE;
 use crate::output::{Mask, Output, Routine};
 use crate::program::Program;
 use crate::symbols::Meaning;
+use cc_rules::{kept_number, place_in, words_with};
 use std::alloc::{AllocError, Global};
-
-/// How many words stand in a line at most.
-const LINE_WORDS: u32 = 8;
 
 /// The words of all data, and for each word the symbol that it is the place of, by 1 more than its number, or 0.
 #[derive(Drop)]
@@ -22,13 +18,6 @@ struct Image {
 
 /// The first byte behind the memory.
 const LIMIT: u32 = 4 * 65536;
-
-/// Where an address is in the image.
-fn place_in(address: u32) -> usize
-    ensures { result ≡ address - 1024 }
-{
-    u64::from(address).saturating_sub(FIRST_BYTE) as usize
-}
 
 /// Writes a byte of the image.
 fn write_byte(image: &mut Image, at: usize, byte: u8) {
@@ -160,12 +149,16 @@ fn put_zero(out: &mut Output, writing: Writing) -> Result<Writing, AllocError> {
 
 /// Goes on with a word that is not 0: before it stands its line's front or a comma.
 fn before_word(out: &mut Output, writing: Writing) -> Result<Writing, AllocError> {
-    match writing {
-        Writing::Words(count) if count < LINE_WORDS => {
+    let more = match writing {
+        Writing::Words(count) => words_with(count),
+        _ => None,
+    };
+    match more {
+        Some(count) => {
             out.put(",")?;
-            Ok(Writing::Words(count + 1))
+            Ok(Writing::Words(count))
         }
-        _ => {
+        None => {
             end_line(out, writing)?;
             out.put("        .word ")?;
             Ok(Writing::Words(1))
@@ -190,13 +183,13 @@ fn put_label(out: &mut Output, program: &Program, number: u32) -> Result<(), All
 fn put_image(out: &mut Output, program: &Program, image: &Image) -> Result<(), AllocError> {
     let mut writing = Writing::Nothing;
     for (i, (place, begins)) in image.places.iter().zip(image.begins.iter()).enumerate() {
-        if *begins != 0 {
+        if let Some(number) = kept_number(*begins) {
             writing = end_line(out, writing)?;
-            put_label(out, program, *begins - 1)?;
+            put_label(out, program, number)?;
         }
-        if *place != 0 {
+        if let Some(symbol) = kept_number(*place) {
             writing = before_word(out, writing)?;
-            out.name(&program.symbols, *place - 1)?;
+            out.name(&program.symbols, symbol)?;
             continue;
         }
         let word = word_at(&image.bytes, i.saturating_mul(4));

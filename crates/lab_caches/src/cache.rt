@@ -1,5 +1,5 @@
 //! A cache of any geometry.
-use crate::geometry::Geometry;
+use lab_measures::Geometry;
 use std::alloc::{AllocError, Global};
 
 /// A line that is held: its number, and a bit for each of its groups of words that is valid.

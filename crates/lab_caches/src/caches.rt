@@ -1,6 +1,6 @@
 //! Caches side by side whose lines have as many words, of which a miss brings as many.
 use crate::cache::Cache;
-use crate::geometry::Geometry;
+use lab_measures::Geometry;
 use std::alloc::{AllocError, Global};
 
 /// How many lines, from address 0 on, have a row that tells what each cache holds of them; of the others each cache is asked.

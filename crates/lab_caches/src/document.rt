@@ -1,7 +1,7 @@
 //! Caches as JSON.
-use crate::geometry::SHIPPED;
 use crate::members::{write_flag, write_numbers, write_text};
 use crate::study::{CacheRow, Study};
+use lab_measures::SHIPPED_CACHE;
 use mx_io::Memory;
 use serde::{Described, Serialize, Serializer};
 use serde_json::to_vec_pretty;
@@ -27,7 +27,7 @@ fn write_row<S: Serializer>(out: &mut S, row: &CacheRow) -> Result<(), S::Error>
     ];
     out.begin_map(Some(9))?;
     write_numbers(out, &what)?;
-    write_flag(out, "shipped", geometry == SHIPPED)?;
+    write_flag(out, "shipped", geometry == SHIPPED_CACHE)?;
     write_numbers(out, &[("misses", row.misses), ("cycles", row.cycles)])?;
     out.end_map()
 }

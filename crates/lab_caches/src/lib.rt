@@ -5,13 +5,11 @@ mod cache;
 mod caches;
 mod chart;
 mod document;
-mod geometry;
 mod members;
 mod study;
 mod table;
 
 pub use chart::caches_svg;
 pub use document::caches_json;
-pub use geometry::{Geometry, SHIPPED, geometries};
 pub use study::{CacheRow, Study, study_of};
 pub use table::caches_text;

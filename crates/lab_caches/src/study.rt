@@ -3,7 +3,7 @@ ghost use Rattle.std.specs.Prelude.{◌≡◌};
 
 use crate::cache::Cache;
 use crate::caches::Caches;
-use crate::geometry::Geometry;
+use lab_measures::Geometry;
 use mx_board::Requests;
 use mx_io::Memory;
 use mx_turn::{Counts, Machine, Stage};

@@ -1,6 +1,6 @@
 //! Caches as a table.
-use crate::geometry::{Geometry, SHIPPED};
 use crate::study::{CacheRow, Study};
+use lab_measures::{Geometry, SHIPPED_CACHE};
 use std::alloc::{AllocError, Global};
 
 /// The head of the table.
@@ -57,7 +57,7 @@ fn push_geometry(table: &mut String, geometry: Geometry) -> Result<(), AllocErro
         (u64::from(geometry.brings), 7),
         (u64::from(geometry.penalty), 8),
     ];
-    table.push(if geometry == SHIPPED { '*' } else { ' ' })?;
+    table.push(if geometry == SHIPPED_CACHE { '*' } else { ' ' })?;
     push_numbers(table, &numbers)
 }
 

@@ -3,9 +3,9 @@ ghost use Rattle.std.specs.Prelude.{◌≤◌, length};
 
 use crate::error::{fault_finding, overlong_finding};
 use crate::finding::Finding;
-use crate::found::{Findings, check_text};
 use crate::labels::definitions_of;
 use crate::warning::warnings;
+use lab_faults::{Findings, check_text};
 use mx_asm::assemble;
 use mx_io::Memory;
 use mx_isa::BOARD;

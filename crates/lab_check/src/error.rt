@@ -1,9 +1,9 @@
 //! What a source is refused for, as it is told.
 use crate::finding::{Finding, Severity};
-use crate::found::{Shown, line_at};
 use crate::hint::{hint, said};
 use crate::labels::Definition;
 use crate::sentence::sentence;
+use lab_faults::{Shown, line_at};
 use mx_lines::Fault;
 use std::alloc::{AllocError, Global};
 

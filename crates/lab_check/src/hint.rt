@@ -1,11 +1,10 @@
 //! What may have been meant by a faulty line.
 
 use crate::foreign::{directive_instead, mnemonic_instead, register_instead};
-use crate::found::Shown;
 use crate::labels::{Definition, first_definition, names_of, other_case};
-use crate::nearest::nearest;
 use crate::operand::operand_hint;
 use crate::sentence::{BYTE_ORDER_MARK, MNEMONICS, char_of, is_among, name_of, text_of, token_of};
+use lab_faults::{Shown, nearest};
 use mx_asm::{line_words, statement_words};
 use mx_lines::{Fault, Word, spells};
 use std::alloc::{AllocError, Global};

@@ -1,8 +1,8 @@
 //! What may have been meant by an operand that does not stand in its place.
 
-use crate::found::Shown;
 use crate::hint::said;
 use crate::sentence::{name_of, text_of, token_of};
+use lab_faults::Shown;
 use mx_asm::{line_words, statement_words};
 use mx_faults::{Role, places};
 use mx_lines::{Word, spells};

@@ -1,5 +1,5 @@
 //! What is wrong with a faulty line, in a sentence.
-use crate::found::Shown;
+use lab_faults::Shown;
 use mx_asm::{line_words, statement_words};
 use mx_lines::{Fault, Word, spells};
 use std::alloc::{AllocError, Global};

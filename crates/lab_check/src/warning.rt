@@ -1,11 +1,10 @@
 //! What is not wrong with a source, and is seldom meant.
 use crate::finding::{Finding, Severity};
-use crate::found::line_at;
 use crate::hint::said;
 use crate::labels::{Definition, definitions_of};
-use crate::marked::marks_under;
-use crate::reach::{reached, ways_of};
 use crate::sentence::text_of;
+use lab_faults::{line_at, marks_under};
+use lab_measures::{reached, ways_of};
 use mx_asm::{line_words, statement_words};
 use mx_faults::token_span;
 use mx_isa::{INPUT, Inst, Reg};

@@ -5,10 +5,12 @@ ghost use Rattle.mx_board.specs.Contents.{bytes_in};
 
 use crate::given::{file_given, file_if_given, number_given, word_given};
 use crate::linked::{LinkedSource, read_linked};
+use crate::printed::printed;
 use clap::ArgMatches;
 use cmd_answer::{Reply, Status, line_reply};
 use cmd_simulate::read_input;
-use lab_caches::{Study, caches_json, caches_svg, caches_text, geometries, study_of};
+use lab_caches::{Study, caches_json, caches_svg, caches_text, study_of};
+use lab_measures::geometries;
 use lab_watch::{Watched, Watcher};
 use mx_icache::LineCache;
 use mx_io::{Memory, Shelf};
@@ -59,6 +61,43 @@ fn text_of(alloc: Global, matches: &ArgMatches, study: &Study) -> Result<Vec<u8>
     }
 }
 
+// How a study's run ended.
+fn status_of(study: &Study) -> Status {
+    if study.halted {
+        Status::Done
+    } else {
+        Status::OutOfBudget
+    }
+}
+
+// The reply that tells what the caches make of a linked source.
+fn study_reply<W: Watcher>(
+    alloc: Global,
+    matches: &ArgMatches,
+    program: &LinkedSource,
+    bytes: &[u8],
+    watcher: W,
+) -> Result<Reply, Memory>
+    requires { length bytes.now ≤ 1048576 }
+{
+    let study = study_in(alloc, program, bytes, matches, watcher)?;
+    printed(status_of(&study), text_of(alloc, matches, &study))
+}
+
+// The same with the input that the words name, or the reply to what is wrong with its file.
+fn program_reply<S: Shelf, W: Watcher>(
+    alloc: Global,
+    shelf: &mut S,
+    matches: &ArgMatches,
+    program: &LinkedSource,
+    watcher: W,
+) -> Result<Reply, Memory> {
+    match read_input(alloc, shelf, file_if_given(matches, "input"))? {
+        Ok(input) => study_reply(alloc, matches, program, input.as_slice(), watcher),
+        Err(reply) => Ok(reply),
+    }
+}
+
 /// The reply to `caches SOURCE`.
 pub fn caches_reply<S: Shelf, W: Watcher>(
     alloc: Global,
@@ -69,22 +108,8 @@ pub fn caches_reply<S: Shelf, W: Watcher>(
     if number_given(matches, "brings") > number_given(matches, "line") {
         return line_reply(alloc, Status::Usage, "--brings is more than --line");
     }
-    let program = match read_linked(alloc, shelf, file_given(matches, "SOURCE"))? {
-        Ok(program) => program,
-        Err(reply) => return Ok(reply),
-    };
-    let input = match read_input(alloc, shelf, file_if_given(matches, "input"))? {
-        Ok(input) => input,
-        Err(reply) => return Ok(reply),
-    };
-    let study = study_in(alloc, &program, input.as_slice(), matches, watcher)?;
-    let status = if study.halted {
-        Status::Done
-    } else {
-        Status::OutOfBudget
-    };
-    Ok(Reply::Prints {
-        status,
-        output: text_of(alloc, matches, &study)?,
-    })
+    match read_linked(alloc, shelf, file_given(matches, "SOURCE"))? {
+        Ok(program) => program_reply(alloc, shelf, matches, &program, watcher),
+        Err(reply) => Ok(reply),
+    }
 }

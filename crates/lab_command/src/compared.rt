@@ -1,17 +1,15 @@
 //! The reply of `compare`.
-ghost use Rattle.std.specs.Prelude.{◌≤◌, vec_len};
-
-use crate::given::{file_by, file_if_given, number_given, word_given};
+use crate::given::{file_by, number_given, word_given};
 use crate::linked::{LinkedSource, overlong_reply, read_linked};
+use crate::printed::printed;
+use crate::ran::{Stimulus, read_stimulus};
 use clap::ArgMatches;
 use cmd_answer::{Reply, Status};
-use cmd_simulate::{read_input, read_requests};
 use lab_compare::{
-    Compared, Comparison, Conditions, compare, comparison_json, comparisons_csv, comparisons_json,
-    long_table, table_of,
+    Compared, comparison_json, comparisons_csv, comparisons_json, long_table, table_of,
 };
+use lab_measures::{Comparison, Conditions, compare};
 use lab_watch::Watcher;
-use mx_board::Requests;
 use mx_io::{Memory, Shelf};
 use mx_link::LinkError;
 use std::alloc::Global;
@@ -27,9 +25,7 @@ struct NamedSource<'a> {
 #[derive(Drop)]
 struct GivenSources<'a> {
     sources: Vec<NamedSource<'a>>,
-    requests: Requests,
-    input: Vec<u8>,
-    ghost within: { vec_len input ≤ 1048576 },
+    stimulus: Stimulus,
 }
 
 // The reply to what is wrong with a source. Where there are several, it names the source.
@@ -78,29 +74,29 @@ fn read_sources<'a, S: Shelf>(
     Ok(Ok(sources))
 }
 
+// Sources with what the words give their runs, or the reply to the first of these that is wrong.
+fn given_with<'a, S: Shelf>(
+    alloc: Global,
+    shelf: &mut S,
+    matches: &ArgMatches<'a>,
+    sources: Vec<NamedSource<'a>>,
+) -> Result<Result<GivenSources<'a>, Reply>, Memory> {
+    match read_stimulus(alloc, shelf, matches)? {
+        Ok(stimulus) => Ok(Ok(GivenSources { sources, stimulus })),
+        Err(reply) => Ok(Err(reply)),
+    }
+}
+
 // The sources with what their runs are given, or the reply to the first of these that is wrong.
 fn read_given<'a, S: Shelf>(
     alloc: Global,
     shelf: &mut S,
     matches: &ArgMatches<'a>,
 ) -> Result<Result<GivenSources<'a>, Reply>, Memory> {
-    let sources = match read_sources(alloc, shelf, matches)? {
-        Ok(sources) => sources,
-        Err(reply) => return Ok(Err(reply)),
-    };
-    let requests = match read_requests(alloc, shelf, file_if_given(matches, "interrupts"))? {
-        Ok(requests) => requests,
-        Err(reply) => return Ok(Err(reply)),
-    };
-    let input = match read_input(alloc, shelf, file_if_given(matches, "input"))? {
-        Ok(input) => input,
-        Err(reply) => return Ok(Err(reply)),
-    };
-    Ok(Ok(GivenSources {
-        sources,
-        requests,
-        input,
-    }))
+    match read_sources(alloc, shelf, matches)? {
+        Ok(sources) => given_with(alloc, shelf, matches, sources),
+        Err(reply) => Ok(Err(reply)),
+    }
 }
 
 // The comparison of each source, or the reply to the first that a scheduler cannot link.
@@ -111,8 +107,8 @@ fn compare_each<'a, W: Watcher>(
     watcher: W,
 ) -> Result<Result<Vec<Compared<'a>>, Reply>, Memory> {
     let conditions = Conditions {
-        requests: &given.requests,
-        input: given.input.as_slice(),
+        requests: &given.stimulus.requests,
+        input: given.stimulus.input.as_slice(),
         budget,
     };
     let mut compared = Vec::new(alloc);
@@ -150,6 +146,19 @@ fn text_of(alloc: Global, matches: &ArgMatches, compared: &[Compared]) -> Result
     }
 }
 
+// The reply that compares the sources, or the one to the first that a scheduler cannot link.
+fn given_reply<'a, W: Watcher>(
+    alloc: Global,
+    matches: &ArgMatches<'a>,
+    given: &GivenSources<'a>,
+    watcher: W,
+) -> Result<Reply, Memory> {
+    match compare_each(alloc, given, number_given(matches, "budget"), watcher)? {
+        Ok(compared) => printed(Status::Done, text_of(alloc, matches, compared.as_slice())),
+        Err(reply) => Ok(reply),
+    }
+}
+
 /// The reply to `compare SOURCE ..`.
 pub fn compare_reply<S: Shelf, W: Watcher>(
     alloc: Global,
@@ -157,16 +166,8 @@ pub fn compare_reply<S: Shelf, W: Watcher>(
     matches: &ArgMatches,
     watcher: W,
 ) -> Result<Reply, Memory> {
-    let given = match read_given(alloc, shelf, matches)? {
-        Ok(given) => given,
-        Err(reply) => return Ok(reply),
-    };
-    let budget = number_given(matches, "budget");
-    match compare_each(alloc, &given, budget, watcher)? {
-        Ok(compared) => Ok(Reply::Prints {
-            status: Status::Done,
-            output: text_of(alloc, matches, compared.as_slice())?,
-        }),
+    match read_given(alloc, shelf, matches)? {
+        Ok(given) => given_reply(alloc, matches, &given, watcher),
         Err(reply) => Ok(reply),
     }
 }

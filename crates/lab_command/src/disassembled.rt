@@ -1,4 +1,6 @@
 //! The reply of `disassemble`.
+ghost use Rattle.std.specs.Prelude.{◌≤◌, vec_len};
+
 use crate::given::{file_given, word_given};
 use crate::linked::linked_text;
 use crate::printed::printed;
@@ -7,7 +9,7 @@ use cmd_answer::{FileKind, Reply, Status, line_reply, read_file};
 use lab_disassemble::{Listing, image_listing, listing_json, listing_text, source_listing};
 use mx_image::{ImageError, read_file as read_image_file};
 use mx_io::{Memory, Shelf};
-use std::alloc::Global;
+use std::alloc::{AllocError, Global};
 
 /// What an image file begins with.
 const MAGIC: &[u8] = b"MXIM";
@@ -24,30 +26,55 @@ fn image_reply(alloc: Global, error: &ImageError) -> Result<Reply, Memory> {
     }
 }
 
+// What was listed, where there was memory for it.
+fn listed(listing: Result<Listing, AllocError>) -> Result<Result<Listing, Reply>, Memory> {
+    match listing {
+        Ok(listing) => Ok(Ok(listing)),
+        Err(_) => Err(Memory),
+    }
+}
+
+// The listing of an image file, or the reply to what is wrong with it.
+fn list_image(alloc: Global, bytes: &[u8]) -> Result<Result<Listing, Reply>, Memory> {
+    match read_image_file(alloc, bytes) {
+        Ok(file) => listed(image_listing(alloc, &file)),
+        Err(error) => Ok(Err(image_reply(alloc, &error)?)),
+    }
+}
+
+// The listing of a source, or the reply to what is wrong with it.
+fn list_source(alloc: Global, text: Vec<u8>) -> Result<Result<Listing, Reply>, Memory>
+    requires { vec_len text ≤ 4194304 }
+{
+    match linked_text(alloc, text)? {
+        Ok(program) => listed(source_listing(alloc, &program.source, &program.linked)),
+        Err(reply) => Ok(Err(reply)),
+    }
+}
+
 // The listing of a file, or the reply to what is wrong with it.
 fn read_listing<S: Shelf>(
     alloc: Global,
     shelf: &mut S,
     name: &str,
 ) -> Result<Result<Listing, Reply>, Memory> {
-    let bytes = match read_file(alloc, shelf, FileKind::Source, name)? {
-        Ok(bytes) => bytes,
-        Err(reply) => return Ok(Err(reply)),
-    };
-    let listing = if bytes.as_slice().starts_with(MAGIC) {
-        match read_image_file(alloc, bytes.as_slice()) {
-            Ok(file) => image_listing(alloc, &file),
-            Err(error) => return Ok(Err(image_reply(alloc, &error)?)),
+    match read_file(alloc, shelf, FileKind::Source, name)? {
+        Ok(bytes) => {
+            if bytes.as_slice().starts_with(MAGIC) {
+                list_image(alloc, bytes.as_slice())
+            } else {
+                list_source(alloc, bytes)
+            }
         }
-    } else {
-        match linked_text(alloc, bytes)? {
-            Ok(program) => source_listing(alloc, &program.source, &program.linked),
-            Err(reply) => return Ok(Err(reply)),
-        }
-    };
-    match listing {
-        Ok(listing) => Ok(Ok(listing)),
-        Err(_) => Err(Memory),
+        Err(reply) => Ok(Err(reply)),
+    }
+}
+
+// A listing in the form that the words ask for.
+fn text_of(alloc: Global, matches: &ArgMatches, listing: &Listing) -> Result<Vec<u8>, Memory> {
+    match word_given(matches, "as") {
+        "json" => listing_json(alloc, word_given(matches, "FILE"), listing),
+        _ => listing_text(alloc, listing).map_err(|_| Memory),
     }
 }
 
@@ -57,16 +84,8 @@ pub fn disassemble_reply<S: Shelf>(
     shelf: &mut S,
     matches: &ArgMatches,
 ) -> Result<Reply, Memory> {
-    let name = word_given(matches, "FILE");
-    let listing = match read_listing(alloc, shelf, file_given(matches, "FILE"))? {
-        Ok(listing) => listing,
-        Err(reply) => return Ok(reply),
-    };
-    match word_given(matches, "as") {
-        "json" => Ok(Reply::Prints {
-            status: Status::Done,
-            output: listing_json(alloc, name, &listing)?,
-        }),
-        _ => printed(Status::Done, listing_text(alloc, &listing)),
+    match read_listing(alloc, shelf, file_given(matches, "FILE"))? {
+        Ok(listing) => printed(Status::Done, text_of(alloc, matches, &listing)),
+        Err(reply) => Ok(reply),
     }
 }

@@ -7,7 +7,9 @@ ghost use Rattle.mx_turn.specs.Program.{program_of};
 ghost use Rattle.lab_draw.specs.Frames.{IsDrawing};
 
 use crate::given::{number_given, word_given};
-use crate::ran::read_run;
+use crate::linked::LinkedSource;
+use crate::printed::printed;
+use crate::ran::GivenRun;
 use clap::ArgMatches;
 use cmd_answer::{Reply, Status};
 use lab_draw::{Drawing, draw, rows_of};
@@ -16,7 +18,7 @@ use lab_watch::{Watcher, watched_pipe};
 use mx_board::Requests;
 use mx_code::Image;
 use mx_icache::LineCache;
-use mx_io::{Memory, Shelf};
+use mx_io::Memory;
 use std::alloc::Global;
 
 // Which cycles are drawn: the first one, and how many.
@@ -69,7 +71,7 @@ fn drawing_of<W: Watcher>(
 }
 
 // The picture of a drawing, in a form.
-fn picture(alloc: Global, form: &str, subject: &Subject) -> Result<Vec<u8>, Memory> {
+fn form_of(alloc: Global, form: &str, subject: &Subject) -> Result<Vec<u8>, Memory> {
     let rows = rows_of(alloc, subject.drawing.frames.as_slice())?;
     let rows = rows.as_slice();
     match form {
@@ -82,27 +84,14 @@ fn picture(alloc: Global, form: &str, subject: &Subject) -> Result<Vec<u8>, Memo
     }
 }
 
-/// The reply to `draw SOURCE`.
-pub fn draw_reply<S: Shelf, W: Watcher>(
+// The picture of a drawing of a run, in the form that the words ask for.
+fn picture_with(
     alloc: Global,
-    shelf: &mut S,
     matches: &ArgMatches,
-    watcher: W,
-) -> Result<Reply, Memory> {
-    let run = match read_run(alloc, shelf, matches)? {
-        Ok(run) => run,
-        Err(reply) => return Ok(reply),
-    };
-    let program = &run.program;
-    let span = span_given(matches);
-    let drawing = drawing_of(
-        alloc,
-        &program.linked.image,
-        run.asked_input(),
-        &run.requests,
-        span,
-        watcher,
-    )?;
+    program: &LinkedSource,
+    drawing: &Drawing,
+    span: Span,
+) -> Result<Vec<u8>, Memory> {
     let names = PlaceNames::new(
         alloc,
         &program.source,
@@ -120,11 +109,32 @@ pub fn draw_reply<S: Shelf, W: Watcher>(
         names: &names,
         from: span.from,
         budget: span.budget,
-        drawing: &drawing,
+        drawing,
     };
-    let output = picture(alloc, word_given(matches, "as"), &subject)?;
-    Ok(Reply::Prints {
-        status: Status::Done,
-        output,
-    })
+    form_of(alloc, word_given(matches, "as"), &subject)
+}
+
+// The picture of the cycles of a run that the words ask for.
+fn picture_of<W: Watcher>(
+    alloc: Global,
+    matches: &ArgMatches,
+    run: &GivenRun,
+    watcher: W,
+) -> Result<Vec<u8>, Memory> {
+    let program = &run.program;
+    let image = &program.linked.image;
+    let span = span_given(matches);
+    let requests = &run.stimulus.requests;
+    let drawing = drawing_of(alloc, image, run.asked_input(), requests, span, watcher)?;
+    picture_with(alloc, matches, program, &drawing, span)
+}
+
+/// The reply to `draw SOURCE`.
+pub fn draw_reply<W: Watcher>(
+    alloc: Global,
+    matches: &ArgMatches,
+    run: &GivenRun,
+    watcher: W,
+) -> Result<Reply, Memory> {
+    printed(Status::Done, picture_of(alloc, matches, run, watcher))
 }

@@ -7,13 +7,14 @@ ghost use Rattle.mx_turn.specs.Run.{run_of};
 
 use crate::given::word_given;
 use crate::printed::printed;
-use crate::ran::{GivenRun, read_run};
+use crate::ran::GivenRun;
 use clap::ArgMatches;
 use cmd_answer::{Reply, Status};
-use lab_explain::{Explained, Ran, Standing, explained_json, explained_text, run_machine, stand};
+use lab_explain::{Explained, explained_json, explained_text};
+use lab_measures::{Ran, Standing, run_machine, stand};
 use lab_watch::{Watcher, watched_pipe};
 use mx_icache::LineCache;
-use mx_io::{Memory, Shelf};
+use mx_io::Memory;
 use mx_lines::lines_of;
 use std::alloc::{AllocError, Global};
 
@@ -38,7 +39,7 @@ fn told(
         steps: run.budget.saturating_add(STATEMENTS_AHEAD),
         ran,
         budget: run.budget,
-        requests: run.requests.list().len() as u32,
+        requests: run.stimulus.requests.list().len() as u32,
         line,
         text: lines.get(place).copied().unwrap_or(&[]),
     };
@@ -61,32 +62,28 @@ fn status_of(ran: &Ran) -> Status {
 fn source_run<W: Watcher>(alloc: Global, run: &GivenRun, watcher: W) -> Result<Ran, Memory>
     ensures halted { IfOk result (λ r. r.halted ≡ (run_of
         (program_of shipped run.now.program.linked.image.code.items run.now.program.linked.image.user_data.items
-        (given run.now.program.source.input run.now.input.items)) run.now.requests run.now.budget).halted) }
+        (given run.now.program.source.input run.now.stimulus.input.items)) run.now.stimulus.requests run.now.budget).halted) }
     ensures cycles { IfOk result (λ r. r.cycles ≡ (run_of
         (program_of shipped run.now.program.linked.image.code.items run.now.program.linked.image.user_data.items
-        (given run.now.program.source.input run.now.input.items)) run.now.requests run.now.budget).counts.cycles) }
+        (given run.now.program.source.input run.now.stimulus.input.items)) run.now.stimulus.requests run.now.budget).counts.cycles) }
 {
     let image = &run.program.linked.image;
     let input = run.asked_input();
     let mut machine = watched_pipe(alloc, image, input, LineCache::new(), watcher)?;
-    let ran = run_machine(alloc, &mut machine, &run.requests, run.budget)?;
+    let ran = run_machine(alloc, &mut machine, &run.stimulus.requests, run.budget)?;
     Ok(ran)
 }
 
 /// The reply to `explain SOURCE`.
-pub fn explain_reply<S: Shelf, W: Watcher>(
+pub fn explain_reply<W: Watcher>(
     alloc: Global,
-    shelf: &mut S,
     matches: &ArgMatches,
+    run: &GivenRun,
     watcher: W,
 ) -> Result<Reply, Memory> {
-    let run = match read_run(alloc, shelf, matches)? {
-        Ok(run) => run,
-        Err(reply) => return Ok(reply),
-    };
-    let program = &run.program;
     let steps = run.budget.saturating_add(STATEMENTS_AHEAD);
-    let standing = stand(alloc, &program.source, &run.input, steps)?;
-    let ran = source_run(alloc, &run, watcher)?;
-    printed(status_of(&ran), told(alloc, &run, standing, ran, matches))
+    let input = run.stimulus.input.as_slice();
+    let standing = stand(alloc, &run.program.source, input, steps)?;
+    let ran = source_run(alloc, run, watcher)?;
+    printed(status_of(&ran), told(alloc, run, standing, ran, matches))
 }

@@ -1,7 +1,4 @@
 //! What goes to standard error.
-ghost use Rattle.std.specs.Prelude.{◌≡◌};
-ghost use Rattle.lab_command.specs.Sides;
-
 use crate::given::{file_by, word_given};
 use clap::ArgMatches;
 use cmd_answer::Status;
@@ -50,23 +47,6 @@ impl Causes for Unknown {
 
 /// The options that name files which are read.
 const READ: [&str; 5] = ["SOURCE", "IMAGE", "FILE", "interrupts", "input"];
-
-/// What ends with this status is an error, and no output: the words, a file or a source cannot be used. What `check` tells
-/// of a refused source is its output.
-pub fn is_error(is_check: bool, status: Status) -> bool
-    ensures { result ≡ Sides.is_error is_check status }
-{
-    match status {
-        Status::Usage
-        | Status::ReadFault
-        | Status::WriteFault
-        | Status::Memory
-        | Status::BadImage
-        | Status::BadEvents => true,
-        Status::Refused => !is_check,
-        Status::Halted | Status::Done | Status::OutOfBudget | Status::Stuck => false,
-    }
-}
 
 // The first of some files that cannot be read, and why.
 fn unread_among<'a, C: Causes>(

@@ -2,16 +2,15 @@
 ghost use Rattle.std.specs.Prelude.{◌≤◌, ◌<◌, IfOk};
 
 use crate::given::{number_given, word_given};
-use crate::ran::{GivenRun, read_run};
+use crate::printed::printed;
+use crate::ran::GivenRun;
 use clap::ArgMatches;
 use cmd_answer::{Reply, Status, line_reply};
-use lab_interrupts::{
-    Places, Run, Span, Sweep, cycles_in, pairs, places_of, run_with, singles, sweep_csv,
-    sweep_json, sweep_text,
-};
+use lab_interrupts::{places_of, sweep_csv, sweep_json, sweep_text};
+use lab_measures::{Run, Span, Sweep, cycles_in, pairs, run_with, singles};
 use lab_watch::Watcher;
 use mx_board::Requests;
-use mx_io::{Memory, Shelf};
+use mx_io::Memory;
 use std::alloc::{AllocError, Global};
 
 /// The most runs.
@@ -135,35 +134,55 @@ fn status_of(sweep: &Sweep) -> Status {
     }
 }
 
-/// The reply to `interrupts SOURCE`.
-pub fn interrupts_reply<S: Shelf, W: Watcher>(
+// The reply that tells of the runs with requests in the cycles of a span.
+fn sweep_reply<W: Watcher>(
     alloc: Global,
-    shelf: &mut S,
     matches: &ArgMatches,
+    run: &GivenRun,
+    undisturbed: &Run,
+    span: Span,
     watcher: W,
-) -> Result<Reply, Memory> {
-    let run = match read_run(alloc, shelf, matches)? {
-        Ok(run) => run,
-        Err(reply) => return Ok(reply),
-    };
-    let image = &run.program.linked.image;
-    let none = Requests::none(alloc);
-    let undisturbed = run_with(alloc, image, run.asked_input(), &none, run.budget)?;
-    let last = undisturbed
-        .cycles
-        .saturating_sub(1)
-        .min(u64::from(run.budget)) as u32;
-    let span = match span_given(alloc, matches, last)? {
-        Ok(span) => span,
-        Err(reply) => return Ok(reply),
-    };
+) -> Result<Reply, Memory>
+    requires { 0 < span.step }
+{
     let is_pairs = matches.get_flag("pairs");
     if let Some(reply) = excess_reply(alloc, span, is_pairs)? {
         return Ok(reply);
     }
-    let sweep = sweep_of(alloc, &run, &undisturbed, span, is_pairs, watcher)?;
-    Ok(Reply::Prints {
-        status: status_of(&sweep),
-        output: text_of(alloc, matches, &run, &sweep)?,
-    })
+    let sweep = sweep_of(alloc, run, undisturbed, span, is_pairs, watcher)?;
+    printed(status_of(&sweep), text_of(alloc, matches, run, &sweep))
+}
+
+// The same for the span that the words ask for, or the reply where there are no such cycles.
+fn span_reply<W: Watcher>(
+    alloc: Global,
+    matches: &ArgMatches,
+    run: &GivenRun,
+    undisturbed: &Run,
+    watcher: W,
+) -> Result<Reply, Memory> {
+    let cycles = undisturbed.cycles.saturating_sub(1);
+    let last = cycles.min(u64::from(run.budget)) as u32;
+    match span_given(alloc, matches, last)? {
+        Ok(span) => sweep_reply(alloc, matches, run, undisturbed, span, watcher),
+        Err(reply) => Ok(reply),
+    }
+}
+
+// A run without requests.
+fn undisturbed_run(alloc: Global, run: &GivenRun) -> Result<Run, Memory> {
+    let none = Requests::none(alloc);
+    let image = &run.program.linked.image;
+    run_with(alloc, image, run.asked_input(), &none, run.budget)
+}
+
+/// The reply to `interrupts SOURCE`.
+pub fn interrupts_reply<W: Watcher>(
+    alloc: Global,
+    matches: &ArgMatches,
+    run: &GivenRun,
+    watcher: W,
+) -> Result<Reply, Memory> {
+    let undisturbed = undisturbed_run(alloc, run)?;
+    span_reply(alloc, matches, run, &undisturbed, watcher)
 }

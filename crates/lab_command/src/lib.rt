@@ -22,4 +22,5 @@ mod words;
 
 pub use cmd_answer::Status;
 pub use failure::{Cause, Causes, Unknown};
-pub use top::{Ended, lab};
+pub use lab_output::Ended;
+pub use top::lab;

@@ -79,21 +79,31 @@ fn linked_source(alloc: Global, source: &Source) -> Result<Result<Linked, Reply>
     }
 }
 
-/// A text, linked as `mx_run` links it, or the reply to what is wrong with it.
-pub fn linked_text(alloc: Global, text: Vec<u8>) -> Result<Result<LinkedSource, Reply>, Memory>
-    requires { vec_len text ≤ 4194304 }
+// A source with its text, linked as `mx_run` links it, or the reply to its first branch that does not reach its target.
+fn program_of(
+    alloc: Global,
+    text: Vec<u8>,
+    source: Source,
+) -> Result<Result<LinkedSource, Reply>, Memory>
     ensures { IfOk result (λ r. IfOk r (λ p. IsLinked IsGreedy from_target p.source board p.linked)) }
 {
-    let source = match assembled(alloc, text.as_slice())? {
-        Ok(source) => source,
-        Err(reply) => return Ok(Err(reply)),
-    };
     match linked_source(alloc, &source)? {
         Ok(linked) => Ok(Ok(LinkedSource {
             text,
             source,
             linked,
         })),
+        Err(reply) => Ok(Err(reply)),
+    }
+}
+
+/// A text, linked as `mx_run` links it, or the reply to what is wrong with it.
+pub fn linked_text(alloc: Global, text: Vec<u8>) -> Result<Result<LinkedSource, Reply>, Memory>
+    requires { vec_len text ≤ 4194304 }
+    ensures { IfOk result (λ r. IfOk r (λ p. IsLinked IsGreedy from_target p.source board p.linked)) }
+{
+    match assembled(alloc, text.as_slice())? {
+        Ok(source) => program_of(alloc, text, source),
         Err(reply) => Ok(Err(reply)),
     }
 }
@@ -106,12 +116,8 @@ pub fn read_linked<S: Shelf>(
 ) -> Result<Result<LinkedSource, Reply>, Memory>
     ensures { IfOk result (λ r. IfOk r (λ p. IsLinked IsGreedy from_target p.source board p.linked)) }
 {
-    let text = match read_file(alloc, shelf, FileKind::Source, name)? {
-        Ok(text) => text,
-        Err(reply) => return Ok(Err(reply)),
-    };
-    match linked_text(alloc, text)? {
-        Ok(program) => Ok(Ok(program)),
+    match read_file(alloc, shelf, FileKind::Source, name)? {
+        Ok(text) => linked_text(alloc, text),
         Err(reply) => Ok(Err(reply)),
     }
 }

@@ -1,11 +1,12 @@
 //! The reply of `plans`.
 ghost use Rattle.std.specs.Prelude.{◌≤◌, length, IfOk};
 
-use crate::given::{file_given, file_if_given, number_given};
+use crate::given::{file_given, number_given};
 use crate::linked::{overlong_reply, read_source};
+use crate::printed::printed;
+use crate::ran::{Stimulus, read_stimulus};
 use clap::ArgMatches;
 use cmd_answer::{Reply, Status, line_reply};
-use cmd_simulate::{read_input, read_requests};
 use lab_plans::planned_reply;
 use lab_watch::Watcher;
 use mx_blocks::blocks;
@@ -67,39 +68,56 @@ fn plans_of<S: Shelf>(
     }
 }
 
-// The reply that runs a source by the plans of a file.
-fn run_reply<S: Shelf, W: Watcher>(
+// The reply that runs a source by plans.
+fn run_by_plans<W: Watcher>(
     alloc: Global,
-    shelf: &mut S,
     source: &Source,
-    matches: &ArgMatches,
+    plans: &[PlanLine],
+    stimulus: &Stimulus,
+    budget: u32,
     watcher: W,
 ) -> Result<Reply, Memory> {
-    let plans = match plans_of(alloc, shelf, source, file_given(matches, "FILE"))? {
-        Ok(plans) => plans,
-        Err(reply) => return Ok(reply),
-    };
-    let requests = match read_requests(alloc, shelf, file_if_given(matches, "interrupts"))? {
-        Ok(requests) => requests,
-        Err(reply) => return Ok(reply),
-    };
-    let input = match read_input(alloc, shelf, file_if_given(matches, "input"))? {
-        Ok(input) => input,
-        Err(reply) => return Ok(reply),
-    };
-    let budget = number_given(matches, "budget");
-    match planned_reply(
-        alloc,
-        source,
-        plans.as_slice(),
-        &requests,
-        input.as_slice(),
-        budget,
-        watcher,
-    ) {
+    let requests = &stimulus.requests;
+    let input = stimulus.input.as_slice();
+    match planned_reply(alloc, source, plans, requests, input, budget, watcher) {
         Ok(reply) => Ok(reply),
         Err(LinkError::Displacement { line, from, to }) => overlong_reply(alloc, line, from, to),
         Err(LinkError::Memory) => Err(Memory),
+    }
+}
+
+// The same with what the words give its run, or the reply to the first of these that is wrong.
+fn run_given<S: Shelf, W: Watcher>(
+    alloc: Global,
+    shelf: &mut S,
+    matches: &ArgMatches,
+    source: &Source,
+    plans: &[PlanLine],
+    watcher: W,
+) -> Result<Reply, Memory> {
+    match read_stimulus(alloc, shelf, matches)? {
+        Ok(stimulus) => {
+            let budget = number_given(matches, "budget");
+            run_by_plans(alloc, source, plans, &stimulus, budget, watcher)
+        }
+        Err(reply) => Ok(reply),
+    }
+}
+
+// The reply that runs a source by the plans of a file, or prints them.
+fn source_reply<S: Shelf, W: Watcher>(
+    alloc: Global,
+    shelf: &mut S,
+    matches: &ArgMatches,
+    source: &Source,
+    watcher: W,
+) -> Result<Reply, Memory> {
+    if matches.get_flag("print") {
+        return printed(Status::Done, print_plans(alloc, source));
+    }
+    match plans_of(alloc, shelf, source, file_given(matches, "FILE"))? {
+        Ok(plans) => run_given(alloc, shelf, matches, source, plans.as_slice(), watcher),
+        Err(reply) => Ok(reply),
     }
 }
 
@@ -110,15 +128,8 @@ pub fn plans_reply<S: Shelf, W: Watcher>(
     matches: &ArgMatches,
     watcher: W,
 ) -> Result<Reply, Memory> {
-    let source = match read_source(alloc, shelf, file_given(matches, "SOURCE"))? {
-        Ok(source) => source,
-        Err(reply) => return Ok(reply),
-    };
-    if !matches.get_flag("print") {
-        return run_reply(alloc, shelf, &source, matches, watcher);
+    match read_source(alloc, shelf, file_given(matches, "SOURCE"))? {
+        Ok(source) => source_reply(alloc, shelf, matches, &source, watcher),
+        Err(reply) => Ok(reply),
     }
-    Ok(Reply::Prints {
-        status: Status::Done,
-        output: print_plans(alloc, &source)?,
-    })
 }

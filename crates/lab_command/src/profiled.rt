@@ -1,13 +1,14 @@
 //! The reply of `profile`.
 use crate::given::word_given;
-use crate::ran::{GivenRun, read_run};
+use crate::printed::printed;
+use crate::ran::GivenRun;
 use clap::ArgMatches;
 use cmd_answer::{Reply, Status};
-use lab_costs::{By, Calls, Column, Subject, callgrind, calls_of, profile_json, profile_text};
-use lab_profile::{Profile, profile_of};
+use lab_costs::{By, Subject, callgrind, profile_json, profile_text};
+use lab_profile::{Calls, Column, Profile, calls_of, profile_of};
 use lab_watch::{Watcher, watched_pipe};
 use mx_icache::LineCache;
-use mx_io::{Memory, Shelf};
+use mx_io::Memory;
 use std::alloc::Global;
 
 // The parts that the words ask for.
@@ -54,7 +55,7 @@ fn calls_in<W: Watcher>(alloc: Global, run: &GivenRun, watcher: W) -> Result<Cal
         &mut machine,
         &program.source,
         &program.linked,
-        &run.requests,
+        &run.stimulus.requests,
         run.budget,
     )
 }
@@ -77,22 +78,18 @@ fn text_of<W: Watcher>(
 }
 
 /// The reply to `profile SOURCE`.
-pub fn profile_reply<S: Shelf, W: Watcher>(
+pub fn profile_reply<W: Watcher>(
     alloc: Global,
-    shelf: &mut S,
     matches: &ArgMatches,
+    run: &GivenRun,
     watcher: W,
 ) -> Result<Reply, Memory> {
-    let run = match read_run(alloc, shelf, matches)? {
-        Ok(run) => run,
-        Err(reply) => return Ok(reply),
-    };
     let program = &run.program;
     let profile = profile_of(
         alloc,
         &program.linked.image,
         run.asked_input(),
-        &run.requests,
+        &run.stimulus.requests,
         run.budget,
         watcher,
     )?;
@@ -103,9 +100,6 @@ pub fn profile_reply<S: Shelf, W: Watcher>(
         linked: &program.linked,
         profile: &profile,
     };
-    let output = text_of(alloc, matches, &run, &subject, watcher)?;
-    Ok(Reply::Prints {
-        status: status_of(&profile),
-        output,
-    })
+    let text = text_of(alloc, matches, run, &subject, watcher);
+    printed(status_of(&profile), text)
 }

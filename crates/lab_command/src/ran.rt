@@ -17,26 +17,77 @@ use mx_board::Requests;
 use mx_io::{Memory, Shelf};
 use std::alloc::Global;
 
-/// A linked source with what its run is given: its interrupt requests, the bytes of its input, and a budget of cycles.
+/// What comes to a run from outside: its interrupt requests and the bytes of its input.
+#[derive(Drop)]
+pub struct Stimulus {
+    pub requests: Requests,
+    pub input: Vec<u8>,
+    ghost within: { vec_len input ≤ 1048576 },
+}
+
+/// A linked source with what its run is given, and a budget of cycles.
 #[derive(Drop)]
 pub struct GivenRun {
     pub program: LinkedSource,
-    pub requests: Requests,
-    pub input: Vec<u8>,
+    pub stimulus: Stimulus,
     pub budget: u32,
-    ghost within: { vec_len input ≤ 1048576 },
 }
 
 impl GivenRun {
     /// The input, where the source asks for one.
     pub fn asked_input(&self) -> Option<&[u8]>
         ensures bytes { bytes_in (option_copied result) ≤ 1048576 }
-        ensures given { option_copied result ≡ given self.now.program.source.input self.now.input.items }
+        ensures given { option_copied result ≡ given self.now.program.source.input self.now.stimulus.input.items }
     {
         match self.program.source.input() {
-            Some(_) => Some(self.input.as_slice()),
+            Some(_) => Some(self.stimulus.input.as_slice()),
             None => None,
         }
+    }
+}
+
+// The stimulus of these requests, with the input that the words name; or the reply to what is wrong with its file.
+fn stimulus_with<S: Shelf>(
+    alloc: Global,
+    shelf: &mut S,
+    matches: &ArgMatches,
+    requests: Requests,
+) -> Result<Result<Stimulus, Reply>, Memory> {
+    match read_input(alloc, shelf, file_if_given(matches, "input"))? {
+        Ok(input) => Ok(Ok(Stimulus { requests, input })),
+        Err(reply) => Ok(Err(reply)),
+    }
+}
+
+/// The requests and the input that the words name, or the reply to the first of these files that is wrong.
+pub fn read_stimulus<S: Shelf>(
+    alloc: Global,
+    shelf: &mut S,
+    matches: &ArgMatches,
+) -> Result<Result<Stimulus, Reply>, Memory> {
+    match read_requests(alloc, shelf, file_if_given(matches, "interrupts"))? {
+        Ok(requests) => stimulus_with(alloc, shelf, matches, requests),
+        Err(reply) => Ok(Err(reply)),
+    }
+}
+
+// A linked source with what the words give its run, or the reply to the first of these that is wrong.
+fn run_with<S: Shelf>(
+    alloc: Global,
+    shelf: &mut S,
+    matches: &ArgMatches,
+    program: LinkedSource,
+) -> Result<Result<GivenRun, Reply>, Memory>
+    requires { IsLinked IsGreedy from_target program.source board program.linked }
+    ensures { IfOk result (λ r. IfOk r (λ run. IsLinked IsGreedy from_target run.program.source board run.program.linked)) }
+{
+    match read_stimulus(alloc, shelf, matches)? {
+        Ok(stimulus) => Ok(Ok(GivenRun {
+            program,
+            stimulus,
+            budget: number_given(matches, "budget"),
+        })),
+        Err(reply) => Ok(Err(reply)),
     }
 }
 
@@ -48,22 +99,8 @@ pub fn read_run<S: Shelf>(
 ) -> Result<Result<GivenRun, Reply>, Memory>
     ensures { IfOk result (λ r. IfOk r (λ run. IsLinked IsGreedy from_target run.program.source board run.program.linked)) }
 {
-    let program = match read_linked(alloc, shelf, file_given(matches, "SOURCE"))? {
-        Ok(program) => program,
-        Err(reply) => return Ok(Err(reply)),
-    };
-    let requests = match read_requests(alloc, shelf, file_if_given(matches, "interrupts"))? {
-        Ok(requests) => requests,
-        Err(reply) => return Ok(Err(reply)),
-    };
-    let input = match read_input(alloc, shelf, file_if_given(matches, "input"))? {
-        Ok(input) => input,
-        Err(reply) => return Ok(Err(reply)),
-    };
-    Ok(Ok(GivenRun {
-        program,
-        requests,
-        input,
-        budget: number_given(matches, "budget"),
-    }))
+    match read_linked(alloc, shelf, file_given(matches, "SOURCE"))? {
+        Ok(program) => run_with(alloc, shelf, matches, program),
+        Err(reply) => Ok(Err(reply)),
+    }
 }

@@ -332,7 +332,7 @@ const TRACE: [OptionRow; 4] = [
 
 const PLANS: [OptionRow; 3] = [BUDGET, INTERRUPTS, INPUT];
 
-/// The commands, in the order in which help tells them. Another one is added here and in `answered_by`.
+/// The commands, in the order in which help tells them. Another one is added here and in `top.rt`.
 pub const COMMANDS: &[CommandRow] = &[
     CommandRow {
         name: "draw",

@@ -1,23 +1,23 @@
 //! The top call.
-ghost use Rattle.std.specs.Prelude.{◌≡◌, true};
-
 use crate::cached::caches_reply;
 use crate::checked::check_reply;
 use crate::compared::compare_reply;
 use crate::disassembled::disassemble_reply;
 use crate::drawn::draw_reply;
 use crate::explained::explain_reply;
-use crate::failure::{Causes, error_text, is_error};
+use crate::failure::{Causes, error_text};
 use crate::interrupted::interrupts_reply;
 use crate::planned::plans_reply;
 use crate::profiled::profile_reply;
+use crate::ran::{GivenRun, read_run};
 use crate::traced::trace_reply;
 use crate::words::read_words;
 use clap::error::ErrorKind;
 use clap::{ArgMatches, Error};
 use cmd_answer::{Reply, Status};
+use lab_output::{Answer, Destination, Ended, failed, is_error, put_out};
 use lab_watch::Watcher;
-use mx_io::{Memory, Shelf, ShelfFault, Sink, put_all};
+use mx_io::{Memory, Shelf, Sink};
 use std::alloc::Global;
 
 // The status of words that ask for no command: those that ask for help or the version are answered by it.
@@ -28,37 +28,43 @@ fn status_of(kind: ErrorKind) -> Status {
     }
 }
 
-// The reply of a command. Another one is added here and in the table of commands.
-fn answered_by<S: Shelf, T: Watcher>(
+// The reply of a command that tells of the run of a source.
+fn run_reply<W: Watcher>(
     alloc: Global,
     name: &str,
     matches: &ArgMatches,
-    shelf: &mut S,
-    watcher: T,
+    run: &GivenRun,
+    watcher: W,
 ) -> Result<Reply, Memory> {
     match name {
-        "draw" => draw_reply(alloc, shelf, matches, watcher),
-        "check" => check_reply(alloc, shelf, matches),
-        "explain" => explain_reply(alloc, shelf, matches, watcher),
-        "profile" => profile_reply(alloc, shelf, matches, watcher),
-        "compare" => compare_reply(alloc, shelf, matches, watcher),
-        "disassemble" => disassemble_reply(alloc, shelf, matches),
-        "caches" => caches_reply(alloc, shelf, matches, watcher),
-        "interrupts" => interrupts_reply(alloc, shelf, matches, watcher),
-        "trace" => trace_reply(alloc, shelf, matches, watcher),
-        "plans" => plans_reply(alloc, shelf, matches, watcher),
+        "draw" => draw_reply(alloc, matches, run, watcher),
+        "explain" => explain_reply(alloc, matches, run, watcher),
+        "profile" => profile_reply(alloc, matches, run, watcher),
+        "interrupts" => interrupts_reply(alloc, matches, run, watcher),
+        "trace" => trace_reply(alloc, matches, run, watcher),
         _ => Err(Memory),
     }
 }
 
-// What a command answers, before anything is put out: how it ends, what it says, whether that is an error, and the file that
-// it goes to, if one is named.
-#[derive(Drop)]
-struct Answer<'a> {
-    status: Status,
-    said: Vec<u8>,
-    is_error: bool,
-    file: Option<&'a str>,
+// The reply of a command. Another one is added here, or above, and in the table of commands.
+fn answered_by<S: Shelf, W: Watcher>(
+    alloc: Global,
+    name: &str,
+    matches: &ArgMatches,
+    shelf: &mut S,
+    watcher: W,
+) -> Result<Reply, Memory> {
+    match name {
+        "check" => check_reply(alloc, shelf, matches),
+        "compare" => compare_reply(alloc, shelf, matches, watcher),
+        "disassemble" => disassemble_reply(alloc, shelf, matches),
+        "caches" => caches_reply(alloc, shelf, matches, watcher),
+        "plans" => plans_reply(alloc, shelf, matches, watcher),
+        _ => match read_run(alloc, shelf, matches)? {
+            Ok(run) => run_reply(alloc, name, matches, &run, watcher),
+            Err(reply) => Ok(reply),
+        },
+    }
 }
 
 // The answer that a reply is, with what goes to standard error in the place of what it says.
@@ -72,31 +78,37 @@ fn answer_of<'a, C: Causes>(
     let Reply::Prints { status, output } = reply else {
         return Err(Memory);
     };
-    let is_error = is_error(name == "check", status);
-    if !is_error {
+    if !is_error(name == "check", status) {
         return Ok(Answer {
             status,
             said: output,
-            is_error,
-            file: file_named(matches),
+            to: destination(matches),
         });
     }
     match error_text(alloc, matches, status, &output, causes) {
         Ok(said) => Ok(Answer {
             status,
             said,
-            is_error,
-            file: None,
+            to: Destination::Errors,
         }),
         Err(_) => Err(Memory),
     }
 }
 
-// The file that the output goes to, if one is named: `-` is standard output.
-fn file_named<'a>(matches: &ArgMatches<'a>) -> Option<&'a str> {
+// Where output goes: to the file that is named, if one is; `-` is standard output.
+fn destination<'a>(matches: &ArgMatches<'a>) -> Destination<'a> {
     match matches.get_str("output") {
-        Some("-") => None,
-        named => named,
+        None | Some("-") => Destination::Output,
+        Some(name) => Destination::File(name),
+    }
+}
+
+// Where it goes what words that ask for no command are told.
+fn side_of<'a>(status: Status) -> Destination<'a> {
+    if is_error(false, status) {
+        Destination::Errors
+    } else {
+        Destination::Output
     }
 }
 
@@ -110,8 +122,7 @@ fn words_answer<'a>(alloc: Global, error: &Error) -> Result<Answer<'a>, Memory> 
         Ok(text) => Ok(Answer {
             status,
             said: text.into_bytes(),
-            is_error: is_error(false, status),
-            file: None,
+            to: side_of(status),
         }),
         Err(_) => Err(Memory),
     }
@@ -134,67 +145,6 @@ fn answer_to<'a, S: Shelf, T: Watcher, C: Causes>(
             None => Err(Memory),
         },
         Err(error) => words_answer(alloc, &error),
-    }
-}
-
-/// How a command ended, and what goes to standard error.
-#[derive(Drop)]
-pub struct Ended {
-    pub status: Status,
-    pub errors: Vec<u8>,
-}
-
-// A command that ended so, with nothing for standard error.
-fn quietly(alloc: Global, status: Status) -> Ended {
-    Ended {
-        status,
-        errors: Vec::new(alloc),
-    }
-}
-
-// A command that ended so, with a line for standard error.
-fn failed(alloc: Global, status: Status, words: &str, name: &str) -> Ended {
-    match format!(in alloc; "{words}{name}\n") {
-        Ok(line) => Ended {
-            status,
-            errors: line.into_bytes(),
-        },
-        Err(_) => quietly(alloc, status),
-    }
-}
-
-// Puts out what a command answers, or writes it to the file that is named. An error does neither.
-fn put_out<S: Shelf, W: Sink>(alloc: Global, answer: Answer, shelf: &mut S, out: &mut W) -> Ended
-    ensures unprinted { answer.entry.is_error ≡ true → W.written out.new ≡ W.written out.old }
-    ensures unwritten { answer.entry.is_error ≡ true → S.told shelf.new ≡ S.told shelf.old }
-{
-    let Answer {
-        status,
-        said,
-        is_error,
-        file,
-    } = answer;
-    if is_error {
-        return Ended {
-            status,
-            errors: said,
-        };
-    }
-    match file {
-        None => match put_all(out, said.as_slice()) {
-            Ok(()) => quietly(alloc, status),
-            Err(_) => failed(
-                alloc,
-                Status::WriteFault,
-                "write fault: ",
-                "standard output",
-            ),
-        },
-        Some(name) => match shelf.write(name, said.as_slice()) {
-            Ok(()) => quietly(alloc, status),
-            Err(ShelfFault::Memory) => failed(alloc, Status::Memory, "no memory", ""),
-            Err(_) => failed(alloc, Status::WriteFault, "cannot be written: ", name),
-        },
     }
 }
 

@@ -1,45 +1,56 @@
 //! The reply of `trace`.
 use crate::given::word_given;
-use crate::ran::read_run;
+use crate::ran::GivenRun;
 use clap::ArgMatches;
 use cmd_answer::{Reply, Status};
-use lab_trace::trace_of;
+use lab_trace::{Traced, trace_of};
 use lab_watch::{Watcher, watched_pipe};
 use mx_icache::LineCache;
-use mx_io::{Memory, Shelf};
+use mx_io::Memory;
 use std::alloc::Global;
 
-/// The reply to `trace SOURCE`.
-pub fn trace_reply<S: Shelf, W: Watcher>(
+// The trace of a run.
+fn traced_run<W: Watcher>(
     alloc: Global,
-    shelf: &mut S,
-    matches: &ArgMatches,
+    source: &str,
+    run: &GivenRun,
     watcher: W,
-) -> Result<Reply, Memory> {
-    let run = match read_run(alloc, shelf, matches)? {
-        Ok(run) => run,
-        Err(reply) => return Ok(reply),
-    };
+) -> Result<Traced, Memory> {
     let image = &run.program.linked.image;
     let input = run.asked_input();
     let mut machine = watched_pipe(alloc, image, input, LineCache::new(), watcher)?;
-    let source = word_given(matches, "SOURCE");
-    let traced = trace_of(
+    let requests = &run.stimulus.requests;
+    trace_of(
         alloc,
         &mut machine,
         source,
         image,
         input,
-        &run.requests,
+        requests,
         run.budget,
-    )?;
+    )
+}
+
+// The reply that prints a trace.
+fn traced_reply(traced: Traced) -> Reply {
     let status = if traced.halted {
         Status::Done
     } else {
         Status::OutOfBudget
     };
-    Ok(Reply::Prints {
+    Reply::Prints {
         status,
         output: traced.text,
-    })
+    }
+}
+
+/// The reply to `trace SOURCE`.
+pub fn trace_reply<W: Watcher>(
+    alloc: Global,
+    matches: &ArgMatches,
+    run: &GivenRun,
+    watcher: W,
+) -> Result<Reply, Memory> {
+    let source = word_given(matches, "SOURCE");
+    traced_run(alloc, source, run, watcher).map(traced_reply)
 }

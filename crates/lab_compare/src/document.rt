@@ -1,8 +1,8 @@
 //! Comparisons as JSON and as CSV.
 use crate::schedulers::schedulers;
 use crate::several::{Compared, sums_of};
-use crate::{Comparison, Figures};
 use csv::WriterBuilder;
+use lab_measures::{Comparison, Figures};
 use mx_io::Memory;
 use serde::Serialize;
 use serde_json::to_vec_pretty;

@@ -1,9 +1,8 @@
 //! Several comparisons as a table.
-use crate::comparison::Comparison;
-use crate::figures::Figures;
 use crate::schedulers::schedulers;
 use crate::several::{Compared, Sums, sums_of};
 use crate::table::push_cell;
+use lab_measures::{Comparison, Figures};
 use std::alloc::{AllocError, Global};
 
 /// The columns whose numbers have a part in per cent, and those behind them.

@@ -1,6 +1,5 @@
 //! The names of the four schedulers.
-use crate::comparison::Comparison;
-use crate::figures::Figures;
+use lab_measures::{Comparison, Figures};
 
 /// The schedulers, with their figures.
 pub(crate) fn schedulers(comparison: &Comparison) -> [(&'static str, &Figures); 4] {

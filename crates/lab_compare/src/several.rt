@@ -1,7 +1,5 @@
 //! Several sources, and what they come to together.
-use crate::comparison::Comparison;
-use crate::figures::Figures;
-use crate::slots::{Slots, TransferSlots};
+use lab_measures::{Comparison, Figures, Slots, TransferSlots};
 
 /// A source by its name, and what it and its run come to.
 #[derive(Clone, Copy)]

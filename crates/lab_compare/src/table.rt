@@ -1,6 +1,5 @@
 //! A comparison as a table.
-
-use crate::{Comparison, Figures};
+use lab_measures::{Comparison, Figures};
 use std::alloc::{AllocError, Global};
 
 /// The head of the table. A column has a number, and its part in per cent.

@@ -1,11 +1,11 @@
 //! What a run cost, as JSON.
 use crate::grouping::By;
 use crate::members::{write_flag, write_numbers, write_object, write_text};
-use crate::rows::{Column, Row, rows_by};
+use crate::rows::{Row, rows_by};
 use crate::shown::text_of;
-use crate::spent::{Spent, spent_in};
+use crate::spent::spent_in;
 use crate::subject::Subject;
-use lab_profile::LineCost;
+use lab_profile::{Column, LineCost, Spent};
 use mx_io::Memory;
 use mx_isa::CODE_BASE;
 use mx_link::Origin;

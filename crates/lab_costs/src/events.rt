@@ -1,9 +1,8 @@
 //! What a run cost, in the format of callgrind.
-use crate::calling::{Called, Calls};
 use crate::grouping::{By, Grouping, grouping_by};
 use crate::positions::{Positions, positions_of};
 use crate::subject::Subject;
-use lab_profile::LineCost;
+use lab_profile::{Called, Calls, LineCost};
 use mx_isa::CODE_BASE;
 use mx_link::Origin;
 use mx_text::{push_decimal, push_named};

@@ -2,7 +2,6 @@
 //! in the format of callgrind.
 #![tactic(auto)]
 
-mod calling;
 mod document;
 mod events;
 mod grouping;
@@ -15,11 +14,9 @@ mod spent;
 mod subject;
 mod text;
 
-pub use calling::{Calls, calls_of};
 pub use document::profile_json;
 pub use events::callgrind;
 pub use grouping::By;
-pub use rows::Column;
-pub use spent::{Spent, spent_in};
+pub use spent::spent_in;
 pub use subject::Subject;
 pub use text::profile_text;

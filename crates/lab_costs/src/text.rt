@@ -1,11 +1,11 @@
 //! What a run cost, as a text.
 use crate::grouping::By;
-use crate::rows::{Column, Row, rows_by};
+use crate::rows::{Row, rows_by};
 use crate::shown::{push_columns, push_ratio, push_share};
 use crate::spans::lines_of;
-use crate::spent::{Spent, spent_in};
+use crate::spent::spent_in;
 use crate::subject::Subject;
-use lab_profile::{LineCost, Profile};
+use lab_profile::{Column, LineCost, Profile, Spent};
 use mx_isa::CODE_BASE;
 use mx_link::Origin;
 use mx_report::push_counts;

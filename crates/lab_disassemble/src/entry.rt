@@ -1,5 +1,5 @@
 //! What is told of a word.
-use crate::places::Place;
+use lab_measures::Place;
 use lab_words::{PlaceNames, word_text};
 use std::alloc::{AllocError, Global};
 

@@ -4,13 +4,11 @@
 mod document;
 mod entry;
 mod images;
-mod places;
 mod sources;
 mod text;
 
 pub use document::listing_json;
 pub use entry::{Entry, Listing};
 pub use images::image_listing;
-pub use places::{Place, Slot};
 pub use sources::source_listing;
 pub use text::listing_text;

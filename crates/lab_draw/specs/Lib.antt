@@ -3,3 +3,4 @@ pub mod Frames
 pub mod Stages
 pub mod Rows
 pub mod Coming
+pub mod Ways

@@ -6,9 +6,11 @@ mod drawing;
 mod frame;
 mod rows;
 mod stage;
+mod ways;
 
 pub use cell::Cell;
 pub use drawing::{Drawing, draw};
 pub use frame::Frame;
 pub use rows::{Row, SPAN, rows_of};
 pub use stage::{cell_in, stage_in};
+pub use ways::{Way, way_of};

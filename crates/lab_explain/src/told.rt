@@ -2,9 +2,7 @@
 
 use crate::advice::{advice_of, name_of, reason_of};
 use crate::members::{write_flag, write_number, write_numbers, write_text, write_words};
-use crate::run::Ran;
-use crate::standing::Standing;
-use crate::verdict::{Verdict, enough, verdict_of};
+use lab_measures::{Ran, Standing, Verdict, enough, verdict_of};
 use mx_source::Why;
 use serde::{Described, Serialize, Serializer};
 use serde_json::to_string;

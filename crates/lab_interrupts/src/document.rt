@@ -1,9 +1,6 @@
 //! A sweep as JSON.
 use crate::places::Places;
-use crate::row::Row;
-use crate::spread::{Bin, Spread};
-use crate::sums::{Sums, sums_of};
-use crate::sweep::Sweep;
+use lab_measures::{Bin, Row, Spread, Sums, Sweep, sums_of};
 use mx_io::Memory;
 use serde::Serialize;
 use serde_json::to_vec_pretty;

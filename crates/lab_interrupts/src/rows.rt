@@ -1,8 +1,7 @@
 //! The runs of a sweep as CSV.
 use crate::places::Places;
-use crate::row::Row;
-use crate::sweep::Sweep;
 use csv::WriterBuilder;
+use lab_measures::{Row, Sweep};
 use mx_io::Memory;
 use std::alloc::{AllocError, Global};
 

@@ -1,7 +1,6 @@
 //! The runs of a sweep as a table.
 use crate::places::Places;
-use crate::row::Row;
-use crate::sweep::Sweep;
+use lab_measures::{Row, Sweep};
 use std::alloc::{AllocError, Global};
 
 /// The head of the table, behind the columns of the requests.

@@ -1,10 +1,7 @@
 //! A sweep as text.
 use crate::places::Places;
-use crate::row::Row;
-use crate::spread::{Bin, Spread};
-use crate::sums::{Sums, sums_of};
-use crate::sweep::Sweep;
 use crate::table::push_rows;
+use lab_measures::{Bin, Row, Spread, Sums, Sweep, sums_of};
 use std::alloc::{AllocError, Global};
 
 /// The most lines of a histogram, and the longest bar of one.

@@ -16,7 +16,6 @@ mod script;
 mod style;
 mod subject;
 mod waves;
-mod ways;
 
 pub use bands::text;
 pub use document::html;
@@ -26,4 +25,3 @@ pub use lab_words::{NamedPlace, PlaceNames};
 pub use picture::svg;
 pub use subject::Subject;
 pub use waves::vcd;
-pub use ways::{Way, way_of};

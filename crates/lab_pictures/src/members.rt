@@ -2,8 +2,7 @@
 use crate::ending::push_ending;
 use crate::label::label_of;
 use crate::subject::{Standing, Subject};
-use crate::ways::{Way, way_of};
-use lab_draw::{Cell, Frame, Row};
+use lab_draw::{Cell, Frame, Row, Way, way_of};
 use lab_words::{NamedPlace, PlaceNames};
 use mx_isa::{CODE_BASE, Inst};
 use mx_link::Origin;

@@ -1,3 +1,5 @@
 pub mod Charges
 pub mod Tallies
 pub mod Lines
+pub mod Columns
+pub mod Parts

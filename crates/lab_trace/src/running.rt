@@ -1,8 +1,8 @@
 //! A run as a trace.
 ghost use Rattle.std.specs.Prelude.{◌≡◌};
 
-use crate::committed::committed_by;
 use crate::turn::{BeginRecord, EndRecord, turn_record};
+use lab_measures::committed_by;
 use mx_board::Requests;
 use mx_code::Image;
 use mx_io::Memory;

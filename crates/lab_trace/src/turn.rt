@@ -1,6 +1,6 @@
 //! The lines of a trace.
-use crate::committed::Committed;
 use crate::members::{write_flag, write_number, write_numbers};
+use lab_measures::Committed;
 use mx_turn::{Counts, Cycled, Latches, Machine, Stage};
 use serde::{Described, Serialize, Serializer};
 

@@ -162,6 +162,58 @@ fn joined_image(
     }
 }
 
+// The reply of two programs that share the machine, or the one to the first branch that does not reach its target.
+fn pair_reply<S: Shelf>(
+    alloc: Global,
+    shelf: &mut S,
+    first: &Source,
+    second: &Source,
+    interrupts: Option<&str>,
+    budget: u32,
+) -> Result<Reply, Memory>
+    requires first { (text : List ℕ) × IsFitting lower text first.now }
+    requires second { (text : List ℕ) × IsFitting upper text second.now }
+    ensures performed { (layout_of : Layouts) → IsScheduler layout_of → IfOk result (λ r. Performed (S.told shelf.old)
+        (pair_protocol layout_of (option_map (λ s. s.now) interrupts.entry) budget first.now second.now)
+        (S.counts shelf.old) (S.counts shelf.new) (reply_answer r)) }
+    ensures replied { IfOk result (λ r. IsReplied (reply_answer r)) }
+    ensures told_stays { S.told shelf.new ≡ S.told shelf.old }
+    ensures writes_stay { S.write_faults shelf.new ≡ S.write_faults shelf.old }
+{
+    let image = match joined_image(alloc, first, second)? {
+        Ok(image) => image,
+        Err(reply) => return Ok(reply),
+    };
+    let reply = run_shared(alloc, shelf, &image, interrupts, budget)?;
+    Ok(reply)
+}
+
+// The same of a first program and a second one that is in a file, or the reply to what is wrong with that.
+fn second_reply<S: Shelf>(
+    alloc: Global,
+    shelf: &mut S,
+    first: &Source,
+    second: &str,
+    interrupts: Option<&str>,
+    budget: u32,
+) -> Result<Reply, Memory>
+    requires first { (text : List ℕ) × IsFitting lower text first.now }
+    ensures performed { (layout_of : Layouts) → IsScheduler layout_of → IfOk result (λ r. Performed (S.told shelf.old)
+        (Reads FileKind.Second second.now (assembled_protocol 2 upper
+        (pair_protocol layout_of (option_map (λ s. s.now) interrupts.entry) budget first.now)))
+        (S.counts shelf.old) (S.counts shelf.new) (reply_answer r)) }
+    ensures replied { IfOk result (λ r. IsReplied (reply_answer r)) }
+    ensures told_stays { S.told shelf.new ≡ S.told shelf.old }
+    ensures writes_stay { S.write_faults shelf.new ≡ S.write_faults shelf.old }
+{
+    let source = match read_assembled(alloc, shelf, FileKind::Second, 2, UPPER, second)? {
+        Ok(source) => source,
+        Err(reply) => return Ok(reply),
+    };
+    let reply = pair_reply(alloc, shelf, first, &source, interrupts, budget)?;
+    Ok(reply)
+}
+
 /// The reply to `share FIRST SECOND`. The second file is read where nothing is wrong with the first program.
 pub fn share_reply<S: Shelf>(
     alloc: Global,
@@ -178,18 +230,10 @@ pub fn share_reply<S: Shelf>(
     ensures told_stays { S.told shelf.new ≡ S.told shelf.old }
     ensures writes_stay { S.write_faults shelf.new ≡ S.write_faults shelf.old }
 {
-    let first = match read_assembled(alloc, shelf, FileKind::First, 1, LOWER, first)? {
+    let source = match read_assembled(alloc, shelf, FileKind::First, 1, LOWER, first)? {
         Ok(source) => source,
         Err(reply) => return Ok(reply),
     };
-    let second = match read_assembled(alloc, shelf, FileKind::Second, 2, UPPER, second)? {
-        Ok(source) => source,
-        Err(reply) => return Ok(reply),
-    };
-    let image = match joined_image(alloc, &first, &second)? {
-        Ok(image) => image,
-        Err(reply) => return Ok(reply),
-    };
-    let reply = run_shared(alloc, shelf, &image, interrupts, budget)?;
+    let reply = second_reply(alloc, shelf, &source, second, interrupts, budget)?;
     Ok(reply)
 }

@@ -11,7 +11,7 @@ returns-clause-cycles g c =
     let image = run.program.linked.image in
     let p : Program = program_of shipped image.code.items image.user_data.items (option_copied c.asked_input-input.result) in
     c.in_ok-ran.ensures.cycles p c.in_ok-machine.ensures
-    ∙ ap (λ o. (run_of (program_of shipped image.code.items image.user_data.items o) run.requests run.budget).counts.cycles) c.asked_input-input.ensures.given
+    ∙ ap (λ o. (run_of (program_of shipped image.code.items image.user_data.items o) run.stimulus.requests run.budget).counts.cycles) c.asked_input-input.ensures.given
 
 pub returns-clause-halted : goal.returns-clause-halted
 returns-clause-halted g c =
@@ -19,4 +19,4 @@ returns-clause-halted g c =
     let image = run.program.linked.image in
     let p : Program = program_of shipped image.code.items image.user_data.items (option_copied c.asked_input-input.result) in
     c.in_ok-ran.ensures.halted p c.in_ok-machine.ensures
-    ∙ ap (λ o. (run_of (program_of shipped image.code.items image.user_data.items o) run.requests run.budget).halted) c.asked_input-input.ensures.given
+    ∙ ap (λ o. (run_of (program_of shipped image.code.items image.user_data.items o) run.stimulus.requests run.budget).halted) c.asked_input-input.ensures.given

@@ -1,0 +1,12 @@
+//! What the translation of assembly goes by, a rule a function: what is asked of an instruction, and how addresses and other numbers
+//! are reckoned.
+#![tactic(auto)]
+
+mod instructions;
+mod numbers;
+
+pub use instructions::{has_slot, is_comparison, is_last, special_register};
+pub use numbers::{
+    FIRST_BYTE, aligned, byte_of, file_key, in_reach, index_within, kept_number, place_in, quarter,
+    signed, words_with,
+};

@@ -1,6 +1,0 @@
-use Rattle.std.proofs.Common.{◌≤◌}
-use Rattle.lab_costs.proofs.calling.run_cycles.Given as goal
-
--- no more cycles are counted than there were
-abbrev pub invariant-loop-cycle : goal.invariant-loop-cycle
-invariant-loop-cycle g l = g.M.Machine.cycles l.machine ≤ l.cycle

@@ -1,4 +1,0 @@
-pub mod Within
-pub mod Spans
-pub mod Sweeps
-pub mod Sums

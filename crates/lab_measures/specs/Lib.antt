@@ -1,0 +1,13 @@
+pub mod Places
+pub mod Slots
+pub mod Figures
+pub mod Comparisons
+pub mod Within
+pub mod Spans
+pub mod Sweeps
+pub mod Sums
+pub mod Standings
+pub mod Verdicts
+pub mod Geometries
+pub mod Commits
+pub mod Flow

@@ -1,0 +1,89 @@
+//! The four schedulers.
+ghost use Rattle.std.specs.Prelude.{◌≤◌, IfOk, IfErr, length};
+ghost use Rattle.mx_blocks.specs.declared.block.Block.{Block};
+ghost use Rattle.mx_blocks.specs.declared.block.Plan.{Plan};
+ghost use Rattle.mx_validate.specs.Padded.{IsPadded};
+ghost use Rattle.mx_layout.specs.Overlong.{IsRefusal};
+ghost use Rattle.mx_isa.specs.Board.{board};
+ghost use Rattle.lab_measures.specs.Comparisons.{IsComparison, IsRefused};
+
+use crate::{Figures, figures_of};
+use lab_watch::Watcher;
+use mx_best::BestProposer;
+use mx_blocks::{Block, Plan};
+use mx_board::Requests;
+use mx_link::LinkError;
+use mx_reorg::ListProposer;
+use mx_source::Source;
+use mx_validate::{Proposer, padded};
+use std::alloc::Global;
+
+/// Proposes the padded plan.
+#[derive(Clone, Copy)]
+struct PaddedProposer;
+
+impl Proposer for PaddedProposer {
+    ghost use Rattle.mx_validate.specs.Padded.{IsPadded};
+
+    ghost proposes = { λ block plan. IsPadded block plan };
+
+    fn propose(&mut self, block: &Block) -> Plan
+        ensures { IsPadded block.now result }
+    {
+        padded(block)
+    }
+}
+
+/// What a source and its run come to by four schedulers.
+#[derive(Clone, Copy, Debug, PartialEq, Eq)]
+pub struct Comparison {
+    /// Padded plans.
+    pub padded: Figures,
+    /// Greedy plans, without copies in the slots.
+    pub list: Figures,
+    /// Greedy plans, with copies.
+    pub copies: Figures,
+    /// Shortest plans of small blocks and greedy plans of others, with copies.
+    pub best: Figures,
+}
+
+/// What the runs of a source are given: their requests, their input and their budget of cycles.
+#[derive(Clone, Copy)]
+pub struct Conditions<'a> {
+    pub requests: &'a Requests,
+    pub input: &'a [u8],
+    pub budget: u32,
+}
+
+/// What a source and its run come to by padded plans, by greedy plans without and with copies, and by shortest plans
+/// with copies. A watcher is told how far each run has come.
+///
+/// # Errors
+///
+/// Those of `link`.
+pub fn compare<W: Watcher>(
+    alloc: Global,
+    source: &Source,
+    conditions: &Conditions,
+    watcher: W,
+) -> Result<Comparison, LinkError>
+    requires { length conditions.now.input.now ≤ 1048576 }
+    ensures figures { IfOk result
+        (IsComparison source.now conditions.now.requests.now conditions.now.input.now conditions.now.budget) }
+    ensures refused { IfErr result (IsRefused source.now) }
+{
+    let by = &mut PaddedProposer;
+    let padded = figures_of(alloc, source, by, false, conditions, watcher)?;
+    let by = &mut ListProposer;
+    let list = figures_of(alloc, source, by, false, conditions, watcher)?;
+    let by = &mut ListProposer;
+    let copies = figures_of(alloc, source, by, true, conditions, watcher)?;
+    let by = &mut BestProposer;
+    let best = figures_of(alloc, source, by, true, conditions, watcher)?;
+    Ok(Comparison {
+        padded,
+        list,
+        copies,
+        best,
+    })
+}

@@ -1,0 +1,50 @@
+//! The cycles in which requests come.
+ghost use Rattle.std.specs.Prelude.{◌≡◌, ◌<◌, ◌+◌, ◌-◌, IfOk};
+ghost use Rattle.lab_measures.specs.Spans.{cycles_in, apart_in};
+
+use std::alloc::{AllocError, Global};
+
+/// Cycles from one on to another, each so many behind the one before.
+#[derive(Clone, Copy, Debug, PartialEq, Eq)]
+pub struct Span {
+    pub from: u32,
+    /// No cycle of the span is behind this one.
+    pub to: u32,
+    pub step: u32,
+}
+
+impl Span {
+    // How many cycles there are from its first to its last, both included.
+    fn apart(self) -> u64
+        ensures { result ≡ apart_in self }
+    {
+        (u64::from(self.to) + 1).saturating_sub(u64::from(self.from))
+    }
+
+    /// How many cycles it has.
+    pub fn count(self) -> u64 {
+        let before = self.apart().saturating_sub(1);
+        let behind = before.checked_div(u64::from(self.step)).unwrap_or(0);
+        behind.saturating_add(u64::from(self.from <= self.to))
+    }
+
+    /// How many pairs of its cycles there are.
+    pub fn pairs(self) -> u64 {
+        let count = self.count();
+        count.saturating_mul(count.saturating_sub(1)) / 2
+    }
+}
+
+/// The cycles of a span, whose step is not 0, in order.
+pub fn cycles_in(alloc: Global, span: Span) -> Result<Vec<u32>, AllocError>
+    requires { 0 < span.step }
+    ensures { IfOk result (λ cycles. cycles.items ≡ cycles_in span) }
+{
+    let mut cycles = Vec::new(alloc);
+    for behind in 0..span.apart() {
+        if behind % u64::from(span.step) == 0 {
+            cycles.push((u64::from(span.from) + behind) as u32)?;
+        }
+    }
+    Ok(cycles)
+}

@@ -1,0 +1,134 @@
+//! The figures of one scheduler.
+ghost use Rattle.std.specs.Prelude.{◌≡◌, ◌≤◌, ◌+◌, ◌*◌, IfOk, IfErr, cond, length};
+ghost use Rattle.std.specs.Option.{option_copied};
+ghost use Rattle.mx_source.specs.Meaning.{given};
+ghost use Rattle.mx_layout.specs.Overlong.{IsRefusal};
+ghost use Rattle.mx_link.specs.Origins.{from_target, from_nowhere};
+ghost use Rattle.mx_link.specs.Linked.{IsLinked};
+ghost use Rattle.mx_turn.specs.Handler.{shipped};
+ghost use Rattle.mx_turn.specs.Program.{program_of};
+ghost use Rattle.mx_turn.specs.Run.{run_of};
+ghost use Rattle.mx_isa.specs.Board.{board};
+ghost use Rattle.lab_measures.specs.Figures.{AreFigures};
+
+use crate::slots::slots_of;
+use crate::{Conditions, Figures};
+use lab_watch::{Watcher, watched_pipe};
+use mx_icache::LineCache;
+use mx_io::Memory;
+use mx_isa::BOARD;
+use mx_link::{LinkError, Linked, link, link_plain};
+use mx_report::{Driven, drive};
+use mx_source::Source;
+use mx_validate::Proposer;
+use std::alloc::Global;
+
+/// The input that a source is given, if it has one.
+fn given_to<'a>(source: &Source, bytes: &'a [u8]) -> Option<&'a [u8]>
+    ensures { option_copied result ≡ given source.now.input bytes.entry.now }
+{
+    match source.input() {
+        Some(_) => Some(bytes),
+        None => None,
+    }
+}
+
+/// Links a source at the board's place by what a scheduler proposes, its slots filled from their targets or not.
+fn linked_by<P: Proposer>(
+    alloc: Global,
+    source: &Source,
+    proposer: &mut P,
+    copies: bool,
+) -> Result<Linked, LinkError>
+    ensures linked { IfOk result (IsLinked P.proposes (cond copies from_target from_nowhere) source.now board) }
+    ensures refused { IfErr result (IsRefusal P.proposes source.now board) }
+{
+    let _statements = source.statements();
+    if copies {
+        link(alloc, source, BOARD, proposer)
+    } else {
+        link_plain(alloc, source, BOARD, proposer)
+    }
+}
+
+/// The cycles of a run.
+fn cycles_in(driven: &Driven) -> u64
+    ensures { result ≡ driven.now.counts.cycles }
+{
+    driven.counts.cycles
+}
+
+/// Whether a run halted.
+fn has_halted(driven: &Driven) -> bool
+    ensures { result ≡ driven.now.halted }
+{
+    driven.halted
+}
+
+/// The figures of a linked source.
+fn measured<W: Watcher>(
+    alloc: Global,
+    source: &Source,
+    linked: &Linked,
+    conditions: &Conditions,
+    watcher: W,
+) -> Result<Figures, Memory>
+    requires { length conditions.now.input.now ≤ 1048576 }
+    ensures words { IfOk result (λ f. f.words ≡ length linked.now.image.code.items) }
+    ensures noops { IfOk result (λ f. f.noops ≡ linked.now.noops) }
+    ensures cycles { IfOk result (λ f. f.cycles ≡ (run_of
+        (program_of shipped linked.now.image.code.items linked.now.image.user_data.items (given source.now.input conditions.now.input.now))
+        conditions.now.requests.now conditions.now.budget).counts.cycles) }
+    ensures halted { IfOk result (λ f. f.halted ≡ (run_of
+        (program_of shipped linked.now.image.code.items linked.now.image.user_data.items (given source.now.input conditions.now.input.now))
+        conditions.now.requests.now conditions.now.budget).halted) }
+{
+    let (transfers, loads) = slots_of(
+        source.statements(),
+        linked.image.code.as_slice(),
+        linked.origin.as_slice(),
+    );
+    let input = given_to(source, conditions.input);
+    let mut machine = watched_pipe(alloc, &linked.image, input, LineCache::new(), watcher)?;
+    let driven = drive(
+        alloc,
+        &mut machine,
+        conditions.requests,
+        conditions.budget,
+        0,
+    )?;
+    Ok(Figures {
+        words: linked.image.code.len(),
+        noops: linked.noops,
+        copies: linked.copies,
+        transfers,
+        loads,
+        cycles: cycles_in(&driven),
+        misses: driven.counts.misses,
+        squashes: driven.counts.squashes,
+        halted: has_halted(&driven),
+    })
+}
+
+/// The figures of a source that is linked by what a scheduler proposes, its slots filled from their targets or not, and
+/// run under the shipped handler with these conditions. A watcher is told how far the run has come.
+///
+/// # Errors
+///
+/// Those of `link`.
+pub fn figures_of<P: Proposer, W: Watcher>(
+    alloc: Global,
+    source: &Source,
+    proposer: &mut P,
+    copies: bool,
+    conditions: &Conditions,
+    watcher: W,
+) -> Result<Figures, LinkError>
+    requires { length conditions.now.input.now ≤ 1048576 }
+    ensures figures { IfOk result (AreFigures P.proposes (cond copies from_target from_nowhere) source.now
+        conditions.now.requests.now conditions.now.input.now conditions.now.budget) }
+    ensures refused { IfErr result (IsRefusal P.proposes source.now board) }
+{
+    let linked = linked_by(alloc, source, proposer, copies)?;
+    Ok(measured(alloc, source, &linked, conditions, watcher)?)
+}

@@ -1,0 +1,121 @@
+//! The end of a command.
+ghost use Rattle.std.specs.Prelude.{◌≡◌, ◌≢◌, ◌++◌, ◌∷◌, [], List, ℕ, Some};
+ghost use Rattle.mx_io.specs.Writes.{written_of};
+ghost use Rattle.lab_output.specs.Files.{file_named};
+
+use cmd_answer::Status;
+use mx_io::{Shelf, ShelfFault, Sink, put_all};
+use std::alloc::Global;
+
+/// Where what a command says goes.
+#[derive(Clone, Copy)]
+pub enum Destination<'a> {
+    /// It is an error.
+    Errors,
+    /// Standard output.
+    Output,
+    /// The file of this name.
+    File(&'a str),
+}
+
+/// What a command answers, before anything is put out.
+#[derive(Drop)]
+pub struct Answer<'a> {
+    pub status: Status,
+    pub said: Vec<u8>,
+    pub to: Destination<'a>,
+}
+
+/// How a command ended, and what goes to standard error.
+#[derive(Drop)]
+pub struct Ended {
+    pub status: Status,
+    pub errors: Vec<u8>,
+}
+
+// A command that ended so, with nothing for standard error.
+fn quietly(alloc: Global, status: Status) -> Ended
+    ensures { result.status ≡ status }
+{
+    Ended {
+        status,
+        errors: Vec::new(alloc),
+    }
+}
+
+/// A command that ended so, with a line for standard error, where there is memory for it.
+pub fn failed(alloc: Global, status: Status, words: &str, name: &str) -> Ended
+    ensures { result.status ≡ status }
+{
+    match format!(in alloc; "{words}{name}\n") {
+        Ok(line) => Ended {
+            status,
+            errors: line.into_bytes(),
+        },
+        Err(_) => quietly(alloc, status),
+    }
+}
+
+// A command that ended so, with this for standard error.
+fn kept(status: Status, errors: Vec<u8>) -> Ended
+    ensures { (result.status ≡ status) × (result.errors ≡ errors) }
+{
+    Ended { status, errors }
+}
+
+// Puts out a text.
+fn print<W: Sink>(alloc: Global, status: Status, said: &[u8], out: &mut W) -> Ended
+    ensures { result.status ≢ Status.WriteFault
+        → (result.status ≡ status) × (W.written out.new ≡ W.written out.old ++ said.now) }
+{
+    match put_all(out, said) {
+        Ok(()) => quietly(alloc, status),
+        Err(_) => failed(
+            alloc,
+            Status::WriteFault,
+            "write fault: ",
+            "standard output",
+        ),
+    }
+}
+
+// Writes a text to a file.
+fn write<S: Shelf>(alloc: Global, status: Status, said: &[u8], name: &str, shelf: &mut S) -> Ended
+    ensures { result.status ≢ Status.WriteFault → result.status ≢ Status.Memory
+        → (result.status ≡ status) × ((S.told shelf.new).wrote ≡ (S.told shelf.old).wrote ++ written_of name.now said.now ∷ []) }
+{
+    match shelf.write(name, said) {
+        Ok(()) => quietly(alloc, status),
+        Err(ShelfFault::Memory) => failed(alloc, Status::Memory, "no memory", ""),
+        Err(_) => failed(alloc, Status::WriteFault, "cannot be written: ", name),
+    }
+}
+
+/// Puts out what a command answers: all of it, unless the status is one of a fault then. An error is left to who asked.
+pub fn put_out<S: Shelf, W: Sink>(
+    alloc: Global,
+    answer: Answer,
+    shelf: &mut S,
+    out: &mut W,
+) -> Ended
+    // An error is as it is answered, and nothing is put out.
+    ensures kept { answer.entry.to ≡ Destination.Errors
+        → (result.status ≡ answer.entry.status) × (result.errors ≡ answer.entry.said) }
+    ensures unprinted { answer.entry.to ≢ Destination.Output → W.written out.new ≡ W.written out.old }
+    ensures unwritten { answer.entry.to ≡ Destination.Errors → S.told shelf.new ≡ S.told shelf.old }
+
+    // Else it goes out whole, and the status is that of the answer, or the status is that of a fault.
+    ensures printed { answer.entry.to ≡ Destination.Output → result.status ≢ Status.WriteFault
+        → (result.status ≡ answer.entry.status) × (W.written out.new ≡ W.written out.old ++ answer.entry.said.items) }
+    ensures filed { (name : List ℕ) → file_named answer.entry.to ≡ Some name → result.status ≢ Status.WriteFault → result.status ≢ Status.Memory
+        → (result.status ≡ answer.entry.status)
+        × ((S.told shelf.new).wrote ≡ (S.told shelf.old).wrote ++ written_of name answer.entry.said.items ∷ []) }
+    ensures alone { answer.entry.to ≡ Destination.Output → S.told shelf.new ≡ S.told shelf.old }
+{
+    let Answer { status, said, to } = answer;
+    match to {
+        Destination::Errors => kept(status, said),
+        Destination::Output => print(alloc, status, said.as_slice(), out),
+        Destination::File(name) => write(alloc, status, said.as_slice(), name, shelf),
+    }
+}

@@ -1,0 +1,43 @@
+//! Columns of costs.
+ghost use Rattle.std.specs.Prelude.{◌≡◌};
+ghost use Rattle.lab_profile.specs.Columns.{number_in};
+
+use crate::LineCost;
+
+/// A column by which rows are put in order: those of the greatest number first.
+#[derive(Clone, Copy, Debug, PartialEq, Eq)]
+pub enum Column {
+    /// The order of the source.
+    Line,
+    Count,
+    Cycles,
+    Cpi,
+    Stalls,
+    Noops,
+    Squashed,
+    Killed,
+}
+
+/// How many parts of a cycle for each statement are told apart.
+const PARTS: u64 = 1000;
+
+impl Column {
+    /// What a cost has in the column.
+    pub fn number(self, cost: &LineCost) -> u64
+        ensures { result ≡ number_in self cost.now }
+    {
+        match self {
+            Column::Line => 0,
+            Column::Count => cost.executed,
+            Column::Cycles => cost.cycles,
+            Column::Cpi => {
+                let parts = cost.cycles.saturating_mul(PARTS);
+                parts.checked_div(cost.executed).unwrap_or(0)
+            }
+            Column::Stalls => cost.stalls,
+            Column::Noops => cost.noops,
+            Column::Squashed => cost.cancelled,
+            Column::Killed => cost.killed,
+        }
+    }
+}
