@@ -114,10 +114,14 @@ abbrev pub unless : Bool → Fault → Option Fault
 unless true fault = None
 unless false fault = Some fault
 
+-- what is wrong with a list of bytes
+abbrev pub list_fault : List Data → Option Fault
+list_fault ds = if list_all (is_within 0 255) ds then unless (nat_le (length ds) 1048576) TooLong else Some NoBytes
+
 -- what is wrong with an input, which is a string or a list of bytes
 abbrev pub input_fault : Data → Option Fault
 input_fault (string s) = unless (nat_le (length s) 1048576) TooLong
-input_fault (array items) = if list_all (is_within 0 255) (listed items) then unless (nat_le (length (listed items)) 1048576) TooLong else Some NoBytes
+input_fault (array items) = list_fault (listed items)
 input_fault _ = Some NoBytes
 
 abbrev pub number_fault : ℕ → ℕ → Data → Option Fault

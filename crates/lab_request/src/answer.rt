@@ -1,5 +1,6 @@
 //! The answer to a request.
 ghost use Rattle.std.specs.Prelude.{◌≡◌, IfOk};
+ghost use Rattle.std.specs.Result.{result_ok};
 ghost use Rattle.serde_json.specs.Data.{Data};
 ghost use Rattle.serde_json.specs.View.{view};
 ghost use Rattle.lab_request.specs.Answers.{Reads, Refuses, Comes, Ran, not_json, refusal_of};
@@ -12,7 +13,7 @@ use crate::words::words_of;
 use crate::{Command, Commands};
 use mx_io::Memory;
 use serde_json::Value;
-use std::alloc::Global;
+use std::alloc::{AllocError, Global};
 
 /// The bytes of an answer.
 #[derive(Drop)]
@@ -45,6 +46,16 @@ fn answer_request<C: Commands>(
     }
 }
 
+// An answer, or that memory ran out.
+fn or_memory(answer: Result<Answer, AllocError>) -> Result<Answer, Memory>
+    ensures { result_ok result ≡ result_ok answer }
+{
+    match answer {
+        Ok(answer) => Ok(answer),
+        Err(_) => Err(Memory),
+    }
+}
+
 // The answer to a value.
 fn answer_value<C: Commands>(
     alloc: Global,
@@ -55,13 +66,13 @@ fn answer_value<C: Commands>(
     ensures { IfOk result (Comes C.ends command (view value.now) (refusal_of command (view value.now))) }
 {
     let Some(members) = value.as_object() else {
-        return refuse_body(alloc, "no JSON object").map_err(|_| Memory);
+        return or_memory(refuse_body(alloc, "no JSON object"));
     };
     if let Some(key) = first_unknown(command.fields(), members) {
-        return refuse_key(alloc, command, key).map_err(|_| Memory);
+        return or_memory(refuse_key(alloc, command, key));
     }
     match first_wrong(command.fields(), value) {
-        Some(wrong) => refuse_wrong(alloc, wrong).map_err(|_| Memory),
+        Some(wrong) => or_memory(refuse_wrong(alloc, wrong)),
         None => answer_request(alloc, commands, command, value),
     }
 }
@@ -80,6 +91,6 @@ pub fn answer_body<C: Commands>(
     match Value::from_slice(alloc, body) {
         Ok(value) => answer_value(alloc, commands, command, &value),
         Err(error) if error.is_memory() => Err(Memory),
-        Err(_) => refuse_body(alloc, "no JSON").map_err(|_| Memory),
+        Err(_) => or_memory(refuse_body(alloc, "no JSON")),
     }
 }

@@ -1,8 +1,8 @@
 //! What is wrong with the value of a field. Nothing here takes memory.
-ghost use Rattle.std.specs.Prelude.{◌≡◌, option_map, nat_le};
+ghost use Rattle.std.specs.Prelude.{◌≡◌, option_map, map, nat_le};
 ghost use Rattle.serde_json.specs.View.{view};
 ghost use Rattle.serde_json.specs.Find.{as_array};
-ghost use Rattle.lab_request.specs.Fields.{listed, unless, number_fault, is_requests, input_fault, fault_in, fault_without, fault_of};
+ghost use Rattle.lab_request.specs.Fields.{listed, unless, number_fault, is_requests, list_fault, input_fault, fault_in, fault_without, fault_of};
 
 use crate::values::{are_bytes, are_cycles, is_form, is_name, is_within};
 use crate::{Fault, Field};
@@ -56,12 +56,23 @@ fn length_fault(length: usize) -> Option<Fault>
     unless(length <= MOST_INPUT, Fault::TooLong)
 }
 
+// What is wrong with an input that is a list.
+fn list_fault(items: &[Value]) -> Option<Fault>
+    ensures { result ≡ list_fault (map view items.now) }
+{
+    if are_bytes(items) {
+        length_fault(items.len())
+    } else {
+        Some(Fault::NoBytes)
+    }
+}
+
 fn input_fault(value: &Value) -> Option<Fault>
     ensures { result ≡ input_fault (view value.now) }
 {
     match value {
         Value::String(text) => length_fault(text.len()),
-        Value::Array(items) if are_bytes(items.as_slice()) => length_fault(items.len()),
+        Value::Array(items) => list_fault(items.as_slice()),
         _ => Some(Fault::NoBytes),
     }
 }

@@ -1,8 +1,9 @@
 //! The files of a request.
-ghost use Rattle.std.specs.Prelude.{◌≡◌, ℕ, List, false, IfOk, OnOk, map};
+ghost use Rattle.std.specs.Prelude.{◌≡◌, ℕ, List, codes, false, IfOk, OnOk, map, option_map, option_and_then};
 ghost use Rattle.std.specs.List.{flat_map};
 ghost use Rattle.mx_io.specs.MemoryShelf.{held_in, fails_at, SameFailing};
-ghost use Rattle.serde_json.specs.View.{view};
+ghost use Rattle.serde_json.specs.View.{view, items_view};
+ghost use Rattle.serde_json.specs.Find.{get, as_array};
 ghost use Rattle.lab_request.specs.Requests.{cycle_line, source_in, byte_in, bytes_in, interrupts_file, interrupts_in, input_file, input_in, with_file, held_of};
 
 use crate::values::number_in;
@@ -56,13 +57,23 @@ fn bytes_in(alloc: Global, value: &Value) -> Result<Vec<u8>, AllocError>
     }
 }
 
+// The list of interrupts, if they are given.
+fn interrupts_list(value: &Value) -> Option<&Vec<Value>>
+    ensures { option_map (λ v. items_view v.now.items) result ≡ option_and_then as_array (get (codes "interrupts") (view value.entry.now)) }
+{
+    match value.get("interrupts") {
+        Some(interrupts) => interrupts.as_array(),
+        None => None,
+    }
+}
+
 // Adds the file of the interrupts, if they are given.
 fn add_interrupts(alloc: Global, files: &mut MemoryShelf, value: &Value) -> Result<(), Memory>
     ensures held { OnOk result ((n : List ℕ) → held_in files.new n
         ≡ with_file interrupts_file (interrupts_in (view value.now)) (held_in files.old) n) }
     ensures failing { SameFailing files.old files.new }
 {
-    let Some(items) = value.get("interrupts").and_then(Value::as_array) else {
+    let Some(items) = interrupts_list(value) else {
         return Ok(());
     };
     let Ok(lines) = cycle_lines(alloc, items.as_slice()) else {

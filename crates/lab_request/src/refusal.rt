@@ -1,7 +1,7 @@
 //! The documents of refusals.
-ghost use Rattle.std.specs.Prelude.{◌≡◌, ◌++◌, take, Some, IfOk, OnOk, option_map};
+ghost use Rattle.std.specs.Prelude.{◌≡◌, ◌++◌, take, IfOk, OnOk, option_map};
 ghost use Rattle.lab_request.specs.Documents.{field_part, refusal_document};
-ghost use Rattle.lab_request.specs.Answers.{range_words, Refuses, of_body, unknown_refusal, wrong_refusal};
+ghost use Rattle.lab_request.specs.Answers.{range_words, Refuses, of_body, of_field, unknown_refusal, wrong_refusal};
 
 use crate::bytes::push_string;
 use crate::{Answer, Command, Fault, Wrong};
@@ -58,27 +58,18 @@ pub fn refuse_body(alloc: Global, why: &str) -> Result<Answer, AllocError>
     })
 }
 
-// The refusal of a field, of which so much is said.
-fn refuse_field(alloc: Global, field: &[u8], error: &[u8]) -> Result<Answer, AllocError>
-    ensures { IfOk result (Refuses (record { error = error.now; field = Some field.now })) }
+// The refusal of a field.
+fn refuse_field(alloc: Global, field: &[u8], why: &[u8]) -> Result<Answer, AllocError>
+    ensures { IfOk result (Refuses (of_field field.now why.now)) }
 {
-    let document = refusal_document(alloc, error, Some(field))?;
+    let mut error = Vec::from_slice(alloc, field)?;
+    error.extend_from_slice(b": ")?;
+    error.extend_from_slice(why)?;
+    let document = refusal_document(alloc, error.as_slice(), Some(field))?;
     Ok(Answer {
         is_refused: true,
         document,
     })
-}
-
-/// The refusal of a key that is no field of the command.
-pub fn refuse_key(alloc: Global, command: Command, key: &str) -> Result<Answer, AllocError>
-    ensures { IfOk result (Refuses (unknown_refusal command key.now)) }
-{
-    let shown = first_bytes(key.as_bytes(), MOST_KEY);
-    let mut error = Vec::from_slice(alloc, shown)?;
-    error.extend_from_slice(b": ")?;
-    error.extend_from_slice(b"no field of ")?;
-    error.extend_from_slice(command.name().as_bytes())?;
-    refuse_field(alloc, shown, error.as_slice())
 }
 
 // The first bytes, as many as there are up to a number.
@@ -92,14 +83,20 @@ fn first_bytes(bytes: &[u8], most: usize) -> &[u8]
     }
 }
 
+/// The refusal of a key that is no field of the command.
+pub fn refuse_key(alloc: Global, command: Command, key: &str) -> Result<Answer, AllocError>
+    ensures { IfOk result (Refuses (unknown_refusal command key.now)) }
+{
+    let mut why = Vec::from_slice(alloc, b"no field of ")?;
+    why.extend_from_slice(command.name().as_bytes())?;
+    refuse_field(alloc, first_bytes(key.as_bytes(), MOST_KEY), why.as_slice())
+}
+
 /// The refusal of a field that is wrong.
 pub fn refuse_wrong(alloc: Global, wrong: Wrong) -> Result<Answer, AllocError>
     ensures { IfOk result (Refuses (wrong_refusal wrong)) }
 {
-    let field = wrong.field.name().as_bytes();
-    let mut error = Vec::from_slice(alloc, field)?;
-    error.extend_from_slice(b": ")?;
-    error.extend_from_slice(wrong.fault.words().as_bytes())?;
-    push_range(alloc, &mut error, wrong.fault)?;
-    refuse_field(alloc, field, error.as_slice())
+    let mut why = Vec::from_slice(alloc, wrong.fault.words().as_bytes())?;
+    push_range(alloc, &mut why, wrong.fault)?;
+    refuse_field(alloc, wrong.field.name().as_bytes(), why.as_slice())
 }
