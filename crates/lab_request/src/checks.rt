@@ -36,7 +36,10 @@ fn unless(holds: bool, fault: Fault) -> Option<Fault>
 fn number_fault(value: &Value, least: u64, most: u64) -> Option<Fault>
     ensures { result ≡ number_fault least most (view value.now) }
 {
-    unless(is_within(value, least, most), Fault::NoNumber { least, most })
+    unless(
+        is_within(value, least, most),
+        Fault::NoNumber { least, most },
+    )
 }
 
 // Whether a value is a list of cycles.

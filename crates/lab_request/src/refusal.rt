@@ -36,7 +36,11 @@ fn push_field(text: &mut Vec<u8>, field: Option<&[u8]>) -> Result<(), AllocError
 }
 
 // The document of a refusal.
-fn refusal_document(alloc: Global, error: &[u8], field: Option<&[u8]>) -> Result<Vec<u8>, AllocError>
+fn refusal_document(
+    alloc: Global,
+    error: &[u8],
+    field: Option<&[u8]>,
+) -> Result<Vec<u8>, AllocError>
     ensures { IfOk result (λ v. v.items ≡ refusal_document error.now (option_map (λ f. f.now) field.entry)) }
 {
     let mut text = Vec::new(alloc);

@@ -71,12 +71,8 @@ fn option_value(
         Field::Source | Field::Name => Ok(None),
         Field::Interrupts => file_word(alloc, INTERRUPTS_FILE, value),
         Field::Input => file_word(alloc, INPUT_FILE, value),
-        Field::Budget
-        | Field::From
-        | Field::Cycles
-        | Field::Trace
-        | Field::Dump
-        | Field::Count => number_word(alloc, value),
+        Field::Budget | Field::From | Field::Cycles | Field::Trace | Field::Dump | Field::Count =>
+            number_word(alloc, value),
         Field::Form => Ok(Some(String::from_str(alloc, form_in(value))?)),
     }
 }
