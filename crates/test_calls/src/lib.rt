@@ -8,8 +8,6 @@ mod answer;
 #[cfg(test)]
 mod arithmetic;
 #[cfg(test)]
-mod asked;
-#[cfg(test)]
 mod assembler;
 #[cfg(test)]
 mod board;
