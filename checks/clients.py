@@ -235,15 +235,44 @@ def children_of(process):
         return it.read().split()
 
 
-def try_schema():
-    """The schema has the fields and the ranges that the server has."""
-    sys.path.insert(0, f"{TOP}/tools/serve")
-    import fields
+def answer_to(client, command, field, value):
+    """Returns the status of a request in which a field has this value, and the field that its refusal names, if it is one."""
+    status, answer = client.send(client.post({"source": SOURCE} | {field: value}, f"/api/{command}"))
+    return status, json.loads(answer).get("field")
+
+
+def values_of(told):
+    """Returns for each field values that the schema allows, and values that it does not, at the ends of its range."""
+    numbers = {name: it for name, it in told.items() if it.get("type") == "integer"}
+    most, count = told["interrupts"]["items"]["maximum"], told["interrupts"]["maxItems"]
+    longest = told["input"]["oneOf"][0]["maxLength"]
+    return {
+        "source": (["", "halt\n", "; \u00e4"], [1, None, [SOURCE]]),
+        "name": (["a", "_" * 64, "a.-s"], ["", "a" * 65, ".a", "-a", "a/b", "\u00e4", 1]),
+        "interrupts": ([[], [0, most], list(range(count))], [[5, 5], [6, 5], [-1], [most + 1], [1.0], "1", list(range(count + 1))]),
+        "input": (["", "\u00e4", [], [0, 255], "a" * longest], [[256], [-1], [""], 1, "a" * (longest + 1)]),
+        "as": (told["as"]["enum"], ["png", "", 1, ["svg"]]),
+        **{name: ([it["minimum"], it["maximum"]], [it["minimum"] - 1, it["maximum"] + 1, 1.5, "1", True, None]) for name, it in numbers.items()},
+    }
+
+
+def wrong_answers(client, command, fields, values):
+    """Yields the fields of a command whose answers are not those that its fields of the schema ask for, each with the value."""
+    for field, (inside, outside) in values.items():
+        good = (200, None) if field in fields else (400, field)
+        for value, wanted in [*((it, good) for it in inside), *((it, (400, field)) for it in outside)]:
+            if answer_to(client, command, field, value) != wanted:
+                yield command, field, str(value)[:40]
+
+
+def try_schema(client):
+    """Each command has the fields of the schema, with just their ranges."""
     with open(f"{TOP}/docs/serve.schema.json", encoding="utf-8") as it:
         told = json.load(it)["$defs"]
-    tell("the schema has the fields of each command", {name: tuple(told[name]["properties"]) for name in fields.FIELDS} == fields.FIELDS)
-    ranges = {name: (told["fields"][name]["minimum"], told["fields"][name]["maximum"]) for name in fields.NUMBERS}
-    tell("and their ranges", ranges == fields.NUMBERS and tuple(told["fields"]["as"]["enum"]) == fields.CHOICES["as"], ranges)
+    values = values_of(told["fields"])
+    commands = ("check", "run", "explain", "draw", "profile", "compare", "disassemble")
+    wrong = [it for command in commands for it in wrong_answers(client, command, told[command]["properties"], values)]
+    tell("each command has the fields of the schema, with their ranges", not wrong, wrong[:10])
     tell("each answer is one that it has", all(set(it) <= set(told["answer"]["properties"]) for it in ANSWERS), ANSWERS)
 
 
@@ -276,7 +305,7 @@ def main():
     with serving(f"{TOP}/examples/countdown.s") as (process, address):
         client, tally = Client(address), Tally()
         good(client)
-        try_schema()
+        try_schema(client)
         began = time.monotonic()
         run_clients(client, count, tally)
         took = time.monotonic() - began

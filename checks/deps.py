@@ -31,8 +31,8 @@ EXCEPT = {
     ("mx_tasks", "law_interrupts"),
     ("law_profile", "lab_profile"),
 }
-# The top call and the three programs stand on all that they call.
-TOPS = {"mx_command": {"law", "cmd"}, "mx_run": {"cmd"}, "mx_lab": {"cmd", "lab"}, "mx_cc": {"cmd", "cc"}}
+# The top call and the four programs stand on all that they call.
+TOPS = {"mx_command": {"law", "cmd"}, "mx_run": {"cmd"}, "mx_lab": {"cmd", "lab"}, "mx_cc": {"cmd", "cc"}, "mx_serve": {"cmd", "lab", "embed"}}
 
 
 def listed():

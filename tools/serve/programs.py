@@ -1,27 +1,23 @@
-"""Runs a command of the built programs on files in memory, and answers what it printed."""
+"""Starts programs on files in memory, within limits: the one that answers requests, and those of the translation."""
 import contextlib
-import json
 import os
 import resource
 import select
 import signal
 import subprocess
-import tempfile
 import threading
 from typing import NamedTuple
 
 from fields import Refused
 
+# What the program answers, from the bytes of a body to those of an answer (crates/lab_request).
+COMMANDS = ("check", "run", "explain", "draw", "profile", "compare", "disassemble")
+# Its exit status where it answers, where it refuses, and where it gets no more memory.
+ANSWERED, REFUSED, NO_MEMORY = 0, 1, 6
 SECONDS = 60
 MOST_OUTPUT = 67_108_864
 MOST_MEMORY = 2_147_483_648
 CHUNK = 262_144
-# The commands that are asked for JSON, where the program has that form of them; and those that print an object a line.
-AS_JSON = ("check", "explain", "profile", "compare", "disassemble")
-LINES = ("check",)
-# What a command is given as its source: a link to its standard input, which is a memory file.
-STANDARD_INPUT = "/dev/stdin"
-MOST_NAMES = 1000
 
 
 def memory_file(name, content=b""):
@@ -32,27 +28,6 @@ def memory_file(name, content=b""):
     return number
 
 
-class Opened(NamedTuple):
-    """A command that is to be run: its words, and the memory files that it reads, of which the first is its standard input."""
-    words: list
-    files: list
-
-    def close(self):
-        for number in self.files:
-            os.close(number)
-
-
-class Printed(NamedTuple):
-    """How a command ended, and the memory files with what it printed."""
-    status: int
-    output: int
-    errors: int
-
-    def close(self):
-        os.close(self.output)
-        os.close(self.errors)
-
-
 class Ran(NamedTuple):
     """How a program of the translation ended, and the texts that it printed."""
     status: int
@@ -61,63 +36,22 @@ class Ran(NamedTuple):
 
 
 class Programs:
-    """The two programs, the runs that are going on, and the names that sources are called by."""
+    """The program that answers requests, and the runs that are going on."""
 
-    def __init__(self, lab, run):
-        self.lab, self.run = lab, run
+    def __init__(self, program):
+        self.program = program
         self.running = set()
         self.lock = threading.Lock()
-        self.folder = tempfile.TemporaryDirectory(prefix="mx-serve-")
-        self.names = set()
-        self.helps = {command: self.help_of(command) for command in AS_JSON}
 
-    def link_of(self, name):
-        """Returns a name in the folder of links that is the standard input of whoever opens it."""
-        with self.lock:
-            if name not in self.names and len(self.names) >= MOST_NAMES:
-                return STANDARD_INPUT
-            if name not in self.names:
-                os.symlink(STANDARD_INPUT, f"{self.folder.name}/{name}")
-                self.names.add(name)
-        return name
-
-    def help_of(self, command):
-        """Returns what the laboratory tells of a command's words."""
-        said = subprocess.run([self.lab, command, "--help"], stdin=subprocess.DEVNULL, capture_output=True, check=False)
-        return said.stdout
-
-    def words_of(self, command, asked):
-        """Returns the words that ask for a command, without its files."""
-        words = [self.run if command == "run" else self.lab, command, self.link_of(asked.name)]
-        for name, value in asked.options:
-            words += [f"--{name}", value]
-        if command == "draw" and not any(name == "as" for name, _ in asked.options):
-            words += ["--as", "json"]
-        if b"json" in self.helps.get(command, b""):
-            words += ["--as", "json"]
-        if b"--all" in self.helps.get(command, b""):
-            words += ["--all"]
-        return words
-
-    def open(self, command, asked):
-        """Puts what a request asks of a command into files in memory."""
-        opened = Opened(self.words_of(command, asked), [memory_file("source", asked.source)])
-        for name, content in (("interrupts", asked.interrupts), ("input", asked.input)):
-            if content is not None:
-                opened.files.append(memory_file(name, content))
-                opened.words.extend((f"--{name}", f"/dev/fd/{opened.files[-1]}"))
-        return opened
-
-    def answer(self, opened, client):
-        """Runs a command, and returns what it printed; the run ends where the client has gone."""
-        output, errors = memory_file("output"), memory_file("errors")
+    def answer(self, command, body, client):
+        """Has a request of a command answered whose body is in a memory file. Returns the status of the answer, and the memory file
+        with its bytes; the run ends where the client has gone."""
+        output = memory_file("answer")
         try:
-            process = subprocess.Popen(opened.words, stdin=opened.files[0], stdout=output, stderr=errors, pass_fds=opened.files[1:],
-                                       cwd=self.folder.name, start_new_session=True)
-            return Printed(self.wait(process, client), output, errors)
+            process = subprocess.Popen([self.program, command], stdin=body, stdout=output, stderr=subprocess.DEVNULL, start_new_session=True)
+            return status_of(self.wait(process, client)), output
         except BaseException as error:
             os.close(output)
-            os.close(errors)
             if isinstance(error, FileNotFoundError):
                 raise Refused(500, "the program is not there: start ./mx serve again") from None
             raise
@@ -174,6 +108,15 @@ class Programs:
                 end(process)
 
 
+def status_of(ended):
+    """Returns the status of the answer that the program printed before it ended so."""
+    if ended == NO_MEMORY:
+        raise Refused(507, f"the run was ended: it takes more than {MOST_MEMORY} bytes of memory")
+    if ended not in (ANSWERED, REFUSED):
+        raise Refused(500, f"the program has ended with {ended}")
+    return 200 if ended == ANSWERED else 400
+
+
 def end(process):
     """Ends a process that was not waited for, and those that it started."""
     with contextlib.suppress(ProcessLookupError):
@@ -203,35 +146,3 @@ def pieces_of(number):
 def text_of(number):
     """Returns what a memory file holds, as a text."""
     return b"".join(pieces_of(number)).decode("utf-8", "replace")
-
-
-def as_string(pieces):
-    """Yields pieces of bytes as a string of JSON, a byte a sign."""
-    yield b'"'
-    for piece in pieces:
-        yield json.dumps(piece.decode("latin-1"))[1:-1].encode()
-    yield b'"'
-
-
-def as_list(number):
-    """Returns lines of JSON as one list."""
-    return b"[" + b",".join(b"".join(pieces_of(number)).splitlines()) + b"]"
-
-
-def document(command, printed):
-    """Yields the answer to a request, in pieces: what a command printed as JSON is handed on as it stands."""
-    yield f'{{"command":"{command}","status":{printed.status},'.encode()
-    if size_of(printed.errors):
-        yield b'"errors":'
-        yield from as_string(pieces_of(printed.errors))
-        yield b","
-    front = os.pread(printed.output, 1, 0)
-    if command in LINES and printed.status < 2 and front in (b"{", b""):
-        yield b'"output":' + as_list(printed.output)
-    elif front in (b"{", b"["):
-        yield b'"output":'
-        yield from pieces_of(printed.output)
-    else:
-        yield b'"text":'
-        yield from as_string(pieces_of(printed.output))
-    yield b"}\n"

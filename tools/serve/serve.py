@@ -1,11 +1,11 @@
 #!/usr/bin/env python3
-"""The workbench: a server on this machine alone, whose answers are those of the built programs.
+"""The workbench: a server on this machine alone, whose answers are those of the built program mx_serve.
 
 usage: ./mx serve [--port N] [--host H] [FILE]
 
 It prints the address of its page, with a token that every request must have, and goes on until it is interrupted. Of the disk it
-reads FILE, and at its start its own page and the examples. What it writes are links to a command's standard input, by the names that
-sources have, and texts in C for gcc: both in folders for temporary files, which it takes away.
+reads FILE, and at its start its own page and the examples. What it writes are texts in C for gcc, in folders for temporary files, which
+it takes away.
 """
 import argparse
 import base64
@@ -41,7 +41,7 @@ MOST_TOLD = 16
 HEAD_SECONDS, BODY_SECONDS, ANSWER_SECONDS, LINGER_SECONDS = 5, 10, 30, 1
 MOST_SOURCE = 4_194_304
 READ_FAULT, NOT_STARTED = 4, 10
-COMMANDS = tuple(fields.FIELDS)
+COMMANDS = (*programs.COMMANDS, "translate")
 # No page of another server may hold the page, learn its address, or get what it is answered.
 HEADERS = {
     "Cache-Control": "no-store",
@@ -113,7 +113,7 @@ class Workbench(socketserver.ThreadingTCPServer):
         self.host, self.port = words.host, self.server_address[1]
         self.file, self.is_proved = words.file, words.proved
         self.token = secrets.token_urlsafe(24)
-        self.programs = programs.Programs(words.lab, words.run)
+        self.programs = programs.Programs(words.program)
         self.translator = translate.Translator(words.cc, self.programs, is_loopback(words.host))
         self.page = read_text(f"{FOLDER}/page.html")
         self.policy = policy(self.page)
@@ -121,7 +121,7 @@ class Workbench(socketserver.ThreadingTCPServer):
         # The connections that are served, and those that are told that there are too many.
         self.served, self.told = set(), set()
         self.lock = threading.Lock()
-        # One body is read at a time: its object takes some times its size, and hundredths of a second.
+        # One body with a text in C is read at a time: its object takes some times its size, and hundredths of a second.
         self.reading = threading.Lock()
 
     def address(self):
@@ -250,30 +250,27 @@ class Handler(http.server.BaseHTTPRequestHandler):
         command = path.removeprefix("/api/")
         if command == "translate":
             return self.answer_translation()
-        opened = self.open(command)
+        return self.answer_command(command)
+
+    def answer_command(self, command):
+        """Answers a request of a command, by the program: its body goes there and the answer comes back as they are."""
+        body = programs.memory_file("body", self.read_body())
         try:
-            printed = self.server.programs.answer(opened, self.connection)
+            status, answer = self.server.programs.answer(command, body, self.connection)
         finally:
-            opened.close()
+            os.close(body)
         try:
-            self.send_pieces(200, "application/json", programs.document(command, printed))
+            self.send_pieces(status, "application/json", programs.pieces_of(answer))
         finally:
-            printed.close()
-        return None
+            os.close(answer)
 
     def answer_translation(self):
         """Answers what a text in C is translated to."""
         body = self.read_body()
         with self.server.reading:
-            text = fields.read_fields("translate", body).source
+            text = fields.read_text(body)
         answer = self.server.translator.answer(text, self.client_address[0], self.connection)
         self.send_pieces(200, "application/json", [answer])
-
-    def open(self, command):
-        """Reads a body, and puts what it asks of a command into files in memory, which are all that is kept of it."""
-        body = self.read_body()
-        with self.server.reading:
-            return self.server.programs.open(command, fields.read_fields(command, body))
 
     def check(self):
         """Returns the path of a request that is to be answered: it is meant for this server, has the token, and names something."""
@@ -369,8 +366,7 @@ def read_words():
     parser.add_argument("--port", type=int, default=0, metavar="N", help="0 to 65535: the port; a free one where it is 0 or left out")
     parser.add_argument("--host", default="127.0.0.1", metavar="H", help="the address to listen at (127.0.0.1, which only this machine reaches)")
     parser.add_argument("file", nargs="?", metavar="FILE", help="the source that the page begins with; it is read only")
-    parser.add_argument("--lab", required=True, help=argparse.SUPPRESS)
-    parser.add_argument("--run", required=True, help=argparse.SUPPRESS)
+    parser.add_argument("--program", required=True, help=argparse.SUPPRESS)
     parser.add_argument("--cc", default="", help=argparse.SUPPRESS)
     parser.add_argument("--proved", action="store_true", help=argparse.SUPPRESS)
     words = parser.parse_args()

@@ -2,7 +2,9 @@
 ghost use Rattle.std.specs.Prelude.{◌≡◌, ◌≢◌, false, Err, IfOk, map, string_bytes};
 ghost use Rattle.std.specs.Str.{IsUtf8};
 ghost use Rattle.std.specs.Str.Lines.{lines};
+ghost use Rattle.cmd_table.specs.Asked.{command_of};
 ghost use Rattle.embed_call.specs.Held.{held_by};
+ghost use Rattle.embed_call.specs.QuietShelf.{held_in};
 ghost use Rattle.embed_call.specs.Answered.{Answered, asked_by};
 
 use crate::target::{read_target, target_of};
@@ -38,13 +40,11 @@ fn is_memory(status: Status) -> bool
     matches!(status, Status::Memory)
 }
 
-// How the command of a call's words ends over its files.
-fn run_words(alloc: Global, words: &[String], call: &Call) -> Result<Ended, Memory>
-    requires { map string_bytes words.now ≡ lines call.now.words.now }
-    ensures { IfOk result (λ e. Answered (asked_by call.now) (held_by call.now) e.status e.output.items e.file.items) }
+/// How the command that words ask for ends over the files of a shelf.
+pub fn ended_on(alloc: Global, words: &[String], mut shelf: QuietShelf) -> Result<Ended, Memory>
+    ensures { IfOk result (λ e. Answered (command_of (map string_bytes words.now)) (held_in shelf) e.status e.output.items e.file.items) }
 {
     let target = target_of(alloc, words)?;
-    let mut shelf = QuietShelf::new(alloc, call)?;
     let mut out = TextSink::new(alloc);
     let status = command(alloc, words, &mut shelf, &mut out);
     if is_memory(status) {
@@ -59,6 +59,15 @@ fn run_words(alloc: Global, words: &[String], call: &Call) -> Result<Ended, Memo
         output,
         file,
     })
+}
+
+// How the command of a call's words ends over its files.
+fn run_words(alloc: Global, words: &[String], call: &Call) -> Result<Ended, Memory>
+    requires { map string_bytes words.now ≡ lines call.now.words.now }
+    ensures { IfOk result (λ e. Answered (asked_by call.now) (held_by call.now) e.status e.output.items e.file.items) }
+{
+    let shelf = QuietShelf::new(alloc, call)?;
+    ended_on(alloc, words, shelf)
 }
 
 /// How a call ends: as `command` does on a shelf that holds just the files of the call.

@@ -1,6 +1,7 @@
 //! The files of a call as a shelf.
 ghost use Rattle.std.specs.Prelude.{◌≡◌, List, ℕ, false, IfOk};
 ghost use Rattle.mx_io.specs.MemoryShelf.{fails_at};
+ghost use Rattle.mx_io.specs.MemoryShelf as memory;
 ghost use Rattle.embed_call.specs.Held.{held_by};
 
 use crate::Call;
@@ -16,6 +17,14 @@ pub struct QuietShelf {
 
 impl QuietShelf {
     ghost use Rattle.embed_call.specs.QuietShelf.{held_in};
+
+    /// Files that never fail, as such a shelf.
+    pub fn of(files: MemoryShelf) -> QuietShelf
+        requires { (n : ℕ) → fails_at files n ≡ false }
+        ensures { (n : List ℕ) → held_in result n ≡ memory.held_in files n }
+    {
+        QuietShelf { files }
+    }
 
     /// A shelf that holds just the files of a call.
     pub fn new(alloc: Global, call: &Call) -> Result<QuietShelf, Memory>

@@ -1,0 +1,96 @@
+//! The answer to a request.
+ghost use Rattle.std.specs.Prelude.{◌≡◌, IfOk};
+ghost use Rattle.std.specs.Result.{result_ok};
+ghost use Rattle.serde_json.specs.Data.{Data};
+ghost use Rattle.serde_json.specs.View.{view};
+ghost use Rattle.lab_request.specs.Answers.{Reads, Refuses, Comes, Ran, not_json, refusal_of};
+
+use crate::document::document;
+use crate::files::files_of;
+use crate::first::{first_unknown, first_wrong};
+use crate::refusal::{refuse_body, refuse_key, refuse_wrong};
+use crate::words::words_of;
+use crate::{Command, Commands};
+use mx_io::Memory;
+use serde_json::Value;
+use std::alloc::{AllocError, Global};
+
+/// The bytes of an answer.
+#[derive(Drop)]
+pub struct Answer {
+    /// Whether they tell what is wrong with the request, and no command ran.
+    pub is_refused: bool,
+    pub document: Vec<u8>,
+}
+
+// The answer to a body with which nothing is wrong.
+fn answer_request<C: Commands>(
+    alloc: Global,
+    commands: &C,
+    command: Command,
+    value: &Value,
+) -> Result<Answer, Memory>
+    ensures { IfOk result (Ran C.ends command (view value.now)) }
+{
+    let Ok(words) = words_of(alloc, command, value) else {
+        return Err(Memory);
+    };
+    let files = files_of(alloc, value)?;
+    let ended = commands.run(alloc, command, words.as_slice(), files)?;
+    match document(alloc, command, &ended) {
+        Ok(document) => Ok(Answer {
+            is_refused: false,
+            document,
+        }),
+        Err(_) => Err(Memory),
+    }
+}
+
+// An answer, or that memory ran out.
+fn or_memory(answer: Result<Answer, AllocError>) -> Result<Answer, Memory>
+    ensures { result_ok result ≡ result_ok answer }
+{
+    match answer {
+        Ok(answer) => Ok(answer),
+        Err(_) => Err(Memory),
+    }
+}
+
+// The answer to a value.
+fn answer_value<C: Commands>(
+    alloc: Global,
+    commands: &C,
+    command: Command,
+    value: &Value,
+) -> Result<Answer, Memory>
+    ensures { IfOk result (Comes C.ends command (view value.now) (refusal_of command (view value.now))) }
+{
+    let Some(members) = value.as_object() else {
+        return or_memory(refuse_body(alloc, "no JSON object"));
+    };
+    if let Some(key) = first_unknown(command.fields(), members) {
+        return or_memory(refuse_key(alloc, command, key));
+    }
+    match first_wrong(command.fields(), value) {
+        Some(wrong) => or_memory(refuse_wrong(alloc, wrong)),
+        None => answer_request(alloc, commands, command, value),
+    }
+}
+
+/// The answer to the request that a body is: a refusal, or how its command ended over its files. It fails only where memory
+/// runs out.
+pub fn answer_body<C: Commands>(
+    alloc: Global,
+    commands: &C,
+    command: Command,
+    body: &[u8],
+) -> Result<Answer, Memory>
+    ensures not_json { IfOk result (λ a. ((d : Data) → ¬ Reads body.now d) → Refuses not_json a) }
+    ensures comes { IfOk result (λ a. (d : Data) → Reads body.now d → Comes C.ends command d (refusal_of command d) a) }
+{
+    match Value::from_slice(alloc, body) {
+        Ok(value) => answer_value(alloc, commands, command, &value),
+        Err(error) if error.is_memory() => Err(Memory),
+        Err(_) => or_memory(refuse_body(alloc, "no JSON")),
+    }
+}

@@ -1,0 +1,60 @@
+//! One request, from standard input to standard output.
+ghost use Rattle.std.specs.Prelude.{◌≡◌};
+ghost use Rattle.mx_serve.specs.Serving.{IsPrinted, IsServed};
+
+use crate::programs::Programs;
+use lab_request::{Answer, Command, answer_body};
+use mx_io::{Shelf, ShelfFault, Sink, put_all};
+use std::alloc::Global;
+
+/// The name of standard input, as a file.
+const STANDARD_INPUT: &str = "/dev/stdin";
+
+/// How many bytes a body has at most.
+const MOST_BODY: usize = 4_194_304;
+
+/// How a request was served.
+#[derive(Clone, Copy)]
+pub enum Served {
+    /// Its command was run, and its document was printed.
+    Answered,
+    /// Something was wrong with it, and that was printed.
+    Refused,
+    /// Its body cannot be read, or is too long.
+    Unread,
+    /// Its answer cannot be printed.
+    Unprinted,
+    /// Memory ran out.
+    NoMemory,
+}
+
+// Prints an answer.
+fn print<W: Sink>(answer: &Answer, out: &mut W) -> Served
+    ensures { IsPrinted answer.now (W.written out.old) (W.written out.new) result }
+{
+    match put_all(out, answer.document.as_slice()) {
+        Ok(()) if answer.is_refused => Served::Refused,
+        Ok(()) => Served::Answered,
+        Err(_) => Served::Unprinted,
+    }
+}
+
+/// Serves a request of this command: its body is standard input, of the shelf, and its answer goes to the sink.
+pub fn serve<S: Shelf, W: Sink>(
+    alloc: Global,
+    command: Command,
+    shelf: &mut S,
+    out: &mut W,
+) -> Served
+    ensures { IsServed command (S.counts shelf.old).log (S.counts shelf.new).log (W.written out.old) (W.written out.new) result }
+{
+    let body = match shelf.read(alloc, STANDARD_INPUT, MOST_BODY) {
+        Ok(body) => body,
+        Err(ShelfFault::Memory) => return Served::NoMemory,
+        Err(_) => return Served::Unread,
+    };
+    match answer_body(alloc, &Programs, command, body.as_slice()) {
+        Ok(answer) => print(&answer, out),
+        Err(_) => Served::NoMemory,
+    }
+}
