@@ -1,13 +1,12 @@
 -- What was read: lists, objects, numbers.
-use Rattle.std.proofs.Common.{◌≡◌, ◌+◌, ◌<◌, ◌≤◌, ◌∙◌, ℕ, Bool, true, false, List, [], ◌∷◌, ◌++◌, map, length, refl, sym, ap, Option, Some, None, arith}
-use Rattle.std.specs.Prelude.{◌&&◌, option_map, unwrap_or, nat_le, String, string_bytes, decimal}
+use Rattle.std.proofs.Common.{◌≡◌, ◌<◌, ◌≤◌, ◌∙◌, ℕ, true, false, List, [], ◌∷◌, map, length, refl, sym, ap, Option, Some, None, arith}
+use Rattle.std.specs.Prelude.{◌&&◌, option_map, unwrap_or, nat_le, String, string_bytes}
 use Rattle.std.specs.List.{flat_map}
 use Rattle.std.specs.Map.{keys_of as map_keys}
 use Rattle.std.specs.declared.alloc.Global.{Global}
 use Rattle.std.proofs.lemmas.List.{length-map}
 use Rattle.std.proofs.lemmas.Bool.{le-leb, lt-leb}
 use Rattle.serde_json.specs.Data.{Data, Items}
-use Rattle.serde_json.specs.Find.{as_array}
 use Rattle.serde_json.specs.View.{items_of, items_view, members_view, view}
 use Rattle.serde_json.specs.declared.value.Value.{Value}
 use Rattle.lab_request.specs.Fields.{listed, keys_of, whole, number_in, is_from, is_within, are_cycles, is_requests}

@@ -1,5 +1,5 @@
 -- What comes of a body.
-use Rattle.std.specs.Prelude.{◌≡◌, ℕ, List, [], ◌∷◌, ◌++◌, take, codes, decimal, Bool, true, false, Option, Some, None, option_map}
+use Rattle.std.specs.Prelude.{◌≡◌, ℕ, List, [], ◌++◌, take, codes, decimal, true, false, Option, Some, None, option_map}
 use Rattle.std.specs.Option.{option_or}
 use Rattle.std.specs.Str.{IsUtf8}
 use Rattle.serde_json.specs.Data.{Data, Members}
@@ -51,7 +51,8 @@ unknown_refusal command key = of_field (take 80 key) (codes "no field of " ++ co
 abbrev pub members_refusal : Command → Data → Option Members → Option Refusal
 members_refusal command d None = Some (of_body (codes "no JSON object"))
 members_refusal command d (Some ms) =
-    option_or (option_map (unknown_refusal command) (first_unknown (fields_of command) (keys_of ms))) (option_map wrong_refusal (first_wrong (fields_of command) d))
+    option_or (option_map (unknown_refusal command) (first_unknown (fields_of command) (keys_of ms)))
+    (option_map wrong_refusal (first_wrong (fields_of command) d))
 
 -- why a value is refused, if it is: it is no object, a key of it is no field, or the first field that is wrong
 abbrev pub refusal_of : Command → Data → Option Refusal

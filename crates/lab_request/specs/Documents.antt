@@ -1,5 +1,5 @@
 -- The documents of answers and refusals.
-use Rattle.std.specs.Prelude.{ℕ, ◌+◌, ◌-◌, ◌/◌, ◌%◌, ◌==◌, ◌&&◌, ◌||◌, List, [], ◌∷◌, ◌++◌, length, take, map, slice_index, codes, decimal, Bool, true, false, if◌then◌else◌, nat_lt, Option, Some, None}
+use Rattle.std.specs.Prelude.{ℕ, ◌-◌, ◌/◌, ◌%◌, ◌==◌, ◌&&◌, ◌||◌, List, [], ◌∷◌, ◌++◌, length, take, map, slice_index, codes, decimal, Bool, true, false, if◌then◌else◌, nat_lt, Option, Some, None}
 use Rattle.std.specs.List.{flat_map}
 use Rattle.mx_text.specs.Text.{hex_digit}
 use Rattle.lab_request.specs.declared.command.Command.{Command}

@@ -2,7 +2,7 @@
 use Rattle.std.specs.Prelude.{ℕ, ◌%◌, List, [], ◌∷◌, ◌++◌, map, codes, decimal, Option, Some, None, option_map, option_and_then, unwrap_or, if◌then◌else◌}
 use Rattle.std.specs.List.{flat_map}
 use Rattle.std.specs.Str.{bytes_eq}
-use Rattle.serde_json.specs.Data.{Data, null, boolean, number, string, array, object}
+use Rattle.serde_json.specs.Data.{Data, string, array}
 use Rattle.serde_json.specs.Find.{get, as_str, as_array}
 use Rattle.lab_request.specs.declared.command.Command.{Command}
 use Rattle.lab_request.specs.declared.command.Command.TheVariants.{Check, Run, Explain, Draw, Profile, Compare, Disassemble}

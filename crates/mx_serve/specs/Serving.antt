@@ -1,5 +1,5 @@
 -- What becomes of a request.
-use Rattle.std.specs.Prelude.{◌≡◌, ℕ, List, [], ◌∷◌, ◌++◌, codes, Bool, true, false, Ok}
+use Rattle.std.specs.Prelude.{◌≡◌, ℕ, List, [], ◌∷◌, ◌++◌, codes, true, false, Ok}
 use Rattle.mx_io.specs.Reads.{Read, read_of}
 use Rattle.serde_json.specs.Data.{Data}
 use Rattle.lab_request.specs.declared.Command.{Command}

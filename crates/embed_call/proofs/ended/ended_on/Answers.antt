@@ -12,7 +12,6 @@ use Rattle.mx_command.specs.Stops.{StopsHeadline}
 use Rattle.mx_command.specs.Joins.{JoinHeadline}
 use Rattle.mx_command.specs.Measures.{BestHeadline}
 use Rattle.mx_command.specs.Layouts.{command_protocol}
-use Rattle.embed_call.specs.Answered.{Answered}
 use Rattle.embed_call.specs.Targets.{target_bytes}
 use Rattle.embed_call.specs.QuietShelf.{held_in, told_of, counts_of}
 use Rattle.embed_call.specs.TextSink.{written_in, faults_of}

@@ -1,4 +1,4 @@
-use Rattle.std.proofs.Common.{◌≡◌, List, ℕ, Option, IfOk, map, string_bytes, ap, subst}
+use Rattle.std.proofs.Common.{◌≡◌, Option, IfOk, map, string_bytes, ap, subst}
 use Rattle.cmd_table.specs.Asked.{command_of}
 use Rattle.cmd_table.specs.Commands.{Command}
 use Rattle.mx_command.specs.Accepted.{Held}

@@ -1,4 +1,4 @@
-use Rattle.std.proofs.Common.{◌≡◌, List, ℕ, map, string_bytes, subst}
+use Rattle.std.proofs.Common.{map, string_bytes, subst}
 use Rattle.cmd_table.specs.Asked.{command_of}
 use Rattle.embed_call.specs.Answered.{Answered}
 use Rattle.lab_request.specs.Requests.{Held}

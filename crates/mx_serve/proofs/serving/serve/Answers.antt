@@ -1,4 +1,4 @@
-use Rattle.std.proofs.Common.{◌≡◌, ◌∙◌, List, ℕ, [], ◌∷◌, ◌++◌, Ok, ap, sym}
+use Rattle.std.proofs.Common.{◌∙◌, [], ◌∷◌, ◌++◌, Ok, ap, sym}
 use Rattle.mx_io.specs.Reads.{read_of}
 use Rattle.mx_serve.specs.Serving.{standard_input, most_body}
 use Rattle.mx_serve.proofs.Outcome.{served_so}
