@@ -70,31 +70,44 @@ fn prints(alloc: Global, source: &Source, text: &[u8]) -> Result<bool> {
     Ok(printed.as_slice() == text)
 }
 
+fn fault_told(alloc: Global, name: &str, assembled: &Assembled) -> Result<String> {
+    match assembled {
+        Assembled::Source(_) => Ok(format!(in alloc; "{name} no fault")?),
+        Assembled::Refused { line, fault } => Ok(format!(in alloc; "{name} line {line}: {fault}")?),
+    }
+}
+
 /// The first fault of the text `faults/NAME.s`, for the case `NAME line N: FAULT`.
 pub fn fault(rt: &HostRuntime, line: &str) -> Result<String> {
     let alloc = rt.alloc();
     let name = before(line, " ")?;
-    match assemble_file(rt, format!(in alloc; "faults/{name}.s")?)? {
-        Assembled::Source(_) => Ok(format!(in alloc; "{name} no fault")?),
-        Assembled::Refused { line, fault } => Ok(format!(in alloc; "{name} line {line}: {fault}")?),
+    let assembled = assemble_file(rt, format!(in alloc; "faults/{name}.s")?)?;
+    fault_told(alloc, name, &assembled)
+}
+
+/// How the meaning of a source ends that is named `NAME` or `NAME INPUT`.
+fn source_told(rt: &HostRuntime, case: &str, source: &Source) -> Result<String> {
+    let (name, input) = case.split_once(" ").unwrap_or((case, ""));
+    let (status, note) = meant(rt, name, source, input.as_bytes())?;
+    Ok(format!(in rt.alloc(); "{status} {case}{note}")?)
+}
+
+fn meaning_told(rt: &HostRuntime, case: &str, assembled: &Assembled) -> Result<String> {
+    match assembled {
+        Assembled::Source(source) => source_told(rt, case, source),
+        Assembled::Refused { line, fault } => {
+            Ok(format!(in rt.alloc(); "1 {case}, line {line}: {fault}")?)
+        }
     }
 }
 
 /// How the meaning of `meanings/NAME.s` ends, for the case `STATUS NAME` or `STATUS NAME INPUT`. What it prints
 /// stands in `meanings/NAME.out`, and the canonical text of the source in `meanings/NAME.txt`.
 pub fn meaning(rt: &HostRuntime, line: &str) -> Result<String> {
-    let alloc = rt.alloc();
     let case = behind(line, " ")?;
-    let (name, input) = case.split_once(" ").unwrap_or((case, ""));
-    match assemble_file(rt, format!(in alloc; "meanings/{name}.s")?)? {
-        Assembled::Source(source) => {
-            let (status, note) = meant(rt, name, &source, input.as_bytes())?;
-            Ok(format!(in alloc; "{status} {case}{note}")?)
-        }
-        Assembled::Refused { line, fault } => {
-            Ok(format!(in alloc; "1 {case}, line {line}: {fault}")?)
-        }
-    }
+    let (name, _) = case.split_once(" ").unwrap_or((case, ""));
+    let assembled = assemble_file(rt, format!(in rt.alloc(); "meanings/{name}.s")?)?;
+    meaning_told(rt, case, &assembled)
 }
 
 /// The exit status of a source's meaning, and what differs from what is stored of it.
