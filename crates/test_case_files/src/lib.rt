@@ -2,8 +2,8 @@
 #![tactic(auto)]
 
 use anyhow::{Context, Result};
+use std::alloc::Global;
 use std::fs;
-use std::rt::Files;
 
 /// A kind of cases, those of one file.
 pub trait Cases {
@@ -11,11 +11,11 @@ pub trait Cases {
     fn file(&self) -> &'static str;
 
     /// The line of a case, with the answer that is found here in place of its own.
-    fn answered<R: Files + AllocGlobal>(&self, rt: &R, line: &str) -> Result<String>;
+    fn answered(&self, rt: &HostRuntime, line: &str) -> Result<String>;
 }
 
 /// Compares each case of a kind with what is found here. Prints a line for each case that differs, and how many agree.
-pub fn compare<R: Files + Print + AllocGlobal, C: Cases>(rt: &R, kind: &C) -> Result<()> {
+pub fn compare<C: Cases>(rt: &HostRuntime, kind: &C) -> Result<()> {
     let file = kind.file();
     let text = fs::read_to_string(rt, file).context(format_args!("reading {file}"))?;
     let mut cases = 0u64;
@@ -35,14 +35,30 @@ pub fn compare<R: Files + Print + AllocGlobal, C: Cases>(rt: &R, kind: &C) -> Re
     Ok(())
 }
 
+/// What stands before and behind the first separator of a line.
+pub fn halves<'a>(line: &'a str, separator: &str) -> Result<(&'a str, &'a str)> {
+    line.split_once(separator).context("no separator")
+}
+
 /// What stands before the first separator of a line.
 pub fn before<'a>(line: &'a str, separator: &str) -> Result<&'a str> {
-    let (front, _) = line.split_once(separator).context("no separator")?;
+    let (front, _) = halves(line, separator)?;
     Ok(front)
 }
 
 /// What stands behind the first separator of a line.
 pub fn behind<'a>(line: &'a str, separator: &str) -> Result<&'a str> {
-    let (_, back) = line.split_once(separator).context("no separator")?;
+    let (_, back) = halves(line, separator)?;
     Ok(back)
+}
+
+/// The number that a text is.
+pub fn number(text: &str) -> Result<u32> {
+    let number = text.parse::<u32>()?;
+    Ok(number)
+}
+
+/// A case, with the answer that is found here behind an arrow.
+pub fn answered(alloc: Global, case: &str, answer: &str) -> Result<String> {
+    Ok(format!(in alloc; "{case} -> {answer}")?)
 }

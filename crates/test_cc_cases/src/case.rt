@@ -1,5 +1,5 @@
 //! Stored assembly, translated.
-use anyhow::{Context, Result, bail, ensure};
+use anyhow::{Result, bail, ensure};
 use cc_command::cc;
 use cmd_answer::{Reply, Status};
 use cmd_meaning::meaning_reply;
@@ -7,7 +7,7 @@ use mx_asm::assemble;
 use mx_io::{MemoryShelf, MemorySink};
 use std::alloc::Global;
 use std::fs;
-use std::rt::Files;
+use test_case_files::{before, behind, halves};
 
 /// The most bytes of a translation.
 const ROOM: usize = 1_048_576;
@@ -18,19 +18,46 @@ const PIECE: usize = 4096;
 /// How many statements of a program are executed at most.
 const STEPS: u32 = 3_000_000;
 
-/// How the command ended on the files that a line names, between single spaces, and what it printed.
-fn translated<R: Files + AllocGlobal>(rt: &R, line: &str) -> Result<(Status, MemorySink)> {
-    let alloc = rt.alloc();
+/// The words of a line, between single spaces.
+fn words_of(alloc: Global, line: &str) -> Result<Vec<String>> {
     let mut words = Vec::new(alloc);
-    let mut shelf = MemoryShelf::new(alloc);
     for word in line.split(" ") {
-        if let Ok(bytes) = fs::read(rt, format!(in alloc; "files/{word}")?) {
-            shelf.add(word, bytes.as_slice())?;
-        }
         words.push(String::from_str(alloc, word)?)?;
     }
+    Ok(words)
+}
+
+/// Puts the file that a word names on the shelf, where it is stored.
+fn add_stored(rt: &HostRuntime, shelf: &mut MemoryShelf, word: &str) -> Result<()> {
+    if let Ok(bytes) = fs::read(rt, format!(in rt.alloc(); "files/{word}")?) {
+        shelf.add(word, bytes.as_slice())?;
+    }
+    Ok(())
+}
+
+/// The files that a line names.
+fn files_of(rt: &HostRuntime, line: &str) -> Result<MemoryShelf> {
+    let mut shelf = MemoryShelf::new(rt.alloc());
+    for word in line.split(" ") {
+        add_stored(rt, &mut shelf, word)?;
+    }
+    Ok(shelf)
+}
+
+/// How the command ended on the files that a line names, and what it printed.
+fn translated(rt: &HostRuntime, line: &str) -> Result<(Status, MemorySink)> {
+    let mut shelf = files_of(rt, line)?;
+    translated_from(rt.alloc(), line, &mut shelf)
+}
+
+fn translated_from(
+    alloc: Global,
+    line: &str,
+    shelf: &mut MemoryShelf,
+) -> Result<(Status, MemorySink)> {
+    let words = words_of(alloc, line)?;
     let mut out = MemorySink::new(alloc, PIECE, ROOM)?;
-    let status = cc(alloc, words.as_slice(), &mut shelf, &mut out);
+    let status = cc(alloc, words.as_slice(), shelf, &mut out);
     Ok((status, out))
 }
 
@@ -50,47 +77,73 @@ fn meaning_of(alloc: Global, text: &[u8], input: &[u8]) -> Result<String> {
     }
 }
 
-/// The bytes of a file, if it is there.
-fn bytes_of<R: Files + AllocGlobal>(rt: &R, name: &str) -> Result<Vec<u8>> {
-    match fs::read(rt, name) {
+/// The input of a program, of which there may be none.
+fn input_of(rt: &HostRuntime, name: &str) -> Result<Vec<u8>> {
+    match fs::read(rt, format!(in rt.alloc(); "files/{name}.in")?) {
         Ok(bytes) => Ok(bytes),
         Err(_) => Ok(Vec::new(rt.alloc())),
     }
 }
 
-/// The case `NAME: FILES`. What the program prints is `wanted/NAME`, and its input `files/NAME.in`, if it has one.
-pub fn run<R: Files + AllocGlobal>(rt: &R, case: &str) -> Result<String> {
+/// What the meaning of a translated program tells on its input.
+fn told_of(rt: &HostRuntime, name: &str, program: &[u8]) -> Result<String> {
+    let input = input_of(rt, name)?;
+    meaning_of(rt.alloc(), program, input.as_slice())
+}
+
+/// What is told of a console that is `wanted/NAME`.
+fn console_of(rt: &HostRuntime, name: &str) -> Result<String> {
     let alloc = rt.alloc();
-    let (name, files) = case.split_once(": ").context("no files")?;
     let wanted = fs::read_to_string(rt, format!(in alloc; "wanted/{name}")?)?;
-    let input_name = format!(in alloc; "files/{name}.in")?;
-    let input = bytes_of(rt, input_name.as_str())?;
+    let count = wanted.len();
+    Ok(format!(in alloc; "console {count}\n{wanted}")?)
+}
+
+/// Whether a translated program halts, and prints what is wanted.
+fn prints_wanted(rt: &HostRuntime, name: &str, program: &[u8]) -> Result<bool> {
+    let console = console_of(rt, name)?;
+    let told = told_of(rt, name, program)?;
+    Ok(told.as_str().starts_with("halted") && told.as_str().contains(console.as_str()))
+}
+
+/// What differs from what is wanted of the program in these files.
+fn note_on(rt: &HostRuntime, name: &str, files: &str) -> Result<&'static str> {
     let (status, out) = translated(rt, files)?;
     if status != Status::Done {
-        return Ok(format!(in alloc; "{case}, refused")?);
-    }
-    let told = meaning_of(alloc, out.written(), input.as_slice())?;
-    let count = wanted.len();
-    let console = format!(in alloc; "console {count}\n{wanted}")?;
-    let halts = told.as_str().starts_with("halted");
-    let note = if halts && told.as_str().contains(console.as_str()) {
-        ""
+        Ok(", refused")
+    } else if prints_wanted(rt, name, out.written())? {
+        Ok("")
     } else {
-        ", another console"
-    };
-    Ok(format!(in alloc; "{case}{note}")?)
+        Ok(", another console")
+    }
+}
+
+/// The case `NAME: FILES`. What the program prints is `wanted/NAME`, and its input `files/NAME.in`, if it has one.
+pub fn run(rt: &HostRuntime, case: &str) -> Result<String> {
+    let (name, files) = halves(case, ": ")?;
+    let note = note_on(rt, name, files)?;
+    Ok(format!(in rt.alloc(); "{case}{note}")?)
+}
+
+/// A text without its last byte, which ends its line.
+fn without_end(alloc: Global, text: &[u8]) -> Result<String> {
+    let mut line = Vec::from_slice(alloc, text)?;
+    line.truncate(line.len().saturating_sub(1));
+    match String::from_utf8(line) {
+        Ok(line) => Ok(line),
+        Err(_) => bail!("the line is no text"),
+    }
+}
+
+/// The exit status of the command on a file, and the line that it prints.
+fn refused(rt: &HostRuntime, file: &str) -> Result<(u8, String)> {
+    let (status, out) = translated(rt, file)?;
+    Ok((status.number(), without_end(rt.alloc(), out.written())?))
 }
 
 /// How the command ends on a file, for the case `STATUS FILE => LINE`, where that is the line that it prints.
-pub fn refusal<R: Files + AllocGlobal>(rt: &R, case: &str) -> Result<String> {
-    let alloc = rt.alloc();
-    let (file, _) = case.split_once(" => ").context("no line")?;
-    let (status, out) = translated(rt, file)?;
-    let number = status.number();
-    let mut line = Vec::from_slice(alloc, out.written())?;
-    line.truncate(line.len().saturating_sub(1));
-    match String::from_utf8(line) {
-        Ok(line) => Ok(format!(in alloc; "{number} {file} => {line}")?),
-        Err(_) => bail!("the line is no text"),
-    }
+pub fn refusal(rt: &HostRuntime, line: &str) -> Result<String> {
+    let file = before(behind(line, " ")?, " => ")?;
+    let (status, said) = refused(rt, file)?;
+    Ok(format!(in rt.alloc(); "{status} {file} => {said}")?)
 }

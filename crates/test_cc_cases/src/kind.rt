@@ -1,11 +1,10 @@
 //! Kinds of cases.
 use crate::case;
 use anyhow::Result;
-use std::rt::Files;
-use test_case_files::{Cases, behind};
+use test_case_files::Cases;
 
 /// A kind of cases, each a line of one file.
-#[derive(Clone, Copy, Debug, PartialEq, Eq)]
+#[derive(Clone, Copy)]
 pub enum Kind {
     Runs,
     Refusals,
@@ -23,10 +22,10 @@ impl Cases for Kind {
         }
     }
 
-    fn answered<R: Files + AllocGlobal>(&self, rt: &R, line: &str) -> Result<String> {
+    fn answered(&self, rt: &HostRuntime, line: &str) -> Result<String> {
         match *self {
             Kind::Runs => case::run(rt, line),
-            Kind::Refusals => case::refusal(rt, behind(line, " ")?),
+            Kind::Refusals => case::refusal(rt, line),
         }
     }
 }

@@ -2,7 +2,8 @@
 use crate::case::stored;
 use anyhow::{Context, Result};
 use mx_command::can_be_run;
-use std::rt::Files;
+use std::alloc::Global;
+use test_case_files::{answered, before, halves};
 
 /// The most bytes of a text, and of an interrupt file.
 const MOST_TEXT: usize = 4_194_304;
@@ -10,18 +11,30 @@ const MOST_TEXT: usize = 4_194_304;
 const MOST_REQUESTS: usize = 1_048_576;
 
 /// Whether the headline speaks of the run of a text under the interrupts of a file, for the case `TEXT INTERRUPTS -> yes`.
-pub fn accepted<R: Files + AllocGlobal>(rt: &R, words: &str) -> Result<String> {
-    let alloc = rt.alloc();
-    let (text_name, interrupts_name) = words.split_once(" ").context("no separator")?;
-    let text = stored(rt, text_name)?.context("no such text")?;
-    let interrupts = stored(rt, interrupts_name)?.context("no such interrupt file")?;
+pub fn accepted(rt: &HostRuntime, line: &str) -> Result<String> {
+    let words = before(line, " -> ")?;
+    let (text, interrupts) = halves(words, " ")?;
+    answered(rt.alloc(), words, speaks_of_stored(rt, text, interrupts)?)
+}
+
+fn speaks_of_stored(rt: &HostRuntime, text: &str, interrupts: &str) -> Result<&'static str> {
+    let text = stored(rt, text)?.context("no such text")?;
+    speaks_under(rt, text.as_slice(), interrupts)
+}
+
+fn speaks_under(rt: &HostRuntime, text: &[u8], interrupts: &str) -> Result<&'static str> {
+    let interrupts = stored(rt, interrupts)?.context("no such interrupt file")?;
+    speaks_of(rt.alloc(), text, interrupts.as_slice())
+}
+
+/// Whether the headline speaks of the run of a text under these interrupts.
+fn speaks_of(alloc: Global, text: &[u8], interrupts: &[u8]) -> Result<&'static str> {
     if text.len() > MOST_TEXT || interrupts.len() > MOST_REQUESTS {
-        return Ok(format!(in alloc; "{words} -> too long")?);
+        return Ok("too long");
     }
-    let answer = if can_be_run(alloc, text.as_slice(), interrupts.as_slice())? {
-        "yes"
+    if can_be_run(alloc, text, interrupts)? {
+        Ok("yes")
     } else {
-        "no"
-    };
-    Ok(format!(in alloc; "{words} -> {answer}")?)
+        Ok("no")
+    }
 }

@@ -4,7 +4,9 @@ use mx_command::{Status, command};
 use mx_io::{MemoryShelf, MemorySink, Shelf};
 use std::alloc::Global;
 use std::fs;
-use std::rt::Files;
+
+/// How many bytes the sink takes at most in one put.
+const PIECE: usize = 64;
 
 /// The most bytes that a case prints.
 const ROOM: usize = 1_048_576;
@@ -19,45 +21,58 @@ struct File {
     bytes: Vec<u8>,
 }
 
-/// A command, and the files that are there when it begins.
+/// A command, the files that are there when it begins, and what it prints.
 #[derive(Drop)]
 pub struct Case {
     words: Vec<String>,
     files: Vec<File>,
     shelf: MemoryShelf,
+    output: MemorySink,
 }
 
-/// How a command ended, and what it printed.
-#[derive(Drop)]
-pub struct Ended {
-    pub status: Status,
-    pub output: MemorySink,
+/// The words of a command, between single spaces. Of an empty line there are none.
+fn words_of(alloc: Global, line: &str) -> Result<Vec<String>> {
+    let mut words = Vec::new(alloc);
+    for word in line.split(" ") {
+        if !word.is_empty() {
+            words.push(String::from_str(alloc, word)?)?;
+        }
+    }
+    Ok(words)
 }
 
 impl Case {
-    /// The words of a command, between single spaces, and no file. Of an empty line there are none.
+    /// The words of a command, and no file.
     pub fn new(alloc: Global, line: &str) -> Result<Case> {
-        let mut words = Vec::new(alloc);
-        for word in line.split(" ").filter(|it| !it.is_empty()) {
-            words.push(String::from_str(alloc, word)?)?;
-        }
+        let words = words_of(alloc, line)?;
         Ok(Case {
             words,
             files: Vec::new(alloc),
             shelf: MemoryShelf::new(alloc),
+            output: MemorySink::new(alloc, PIECE, ROOM)?,
         })
     }
 
     /// The words of a command, and the stored files that they name.
-    pub fn stored<R: Files + AllocGlobal>(rt: &R, line: &str) -> Result<Case> {
-        let alloc = rt.alloc();
-        let mut case = Case::new(alloc, line)?;
+    pub fn stored(rt: &HostRuntime, line: &str) -> Result<Case> {
+        let mut case = Case::new(rt.alloc(), line)?;
         for word in line.split(" ") {
-            if let Some(bytes) = stored(rt, word)? {
-                case.add(alloc, word, bytes.as_slice())?;
-            }
+            case.add_stored(rt, word)?;
         }
         Ok(case)
+    }
+
+    /// The same of words between a front and a back.
+    pub fn stored_between(rt: &HostRuntime, front: &str, words: &str, back: &str) -> Result<Case> {
+        let line = format!(in rt.alloc(); "{front} {words} {back}")?;
+        Case::stored(rt, line.as_str())
+    }
+
+    fn add_stored(&mut self, rt: &HostRuntime, name: &str) -> Result<()> {
+        match stored(rt, name)? {
+            Some(bytes) => self.add(rt.alloc(), name, bytes.as_slice()),
+            None => Ok(()),
+        }
     }
 
     /// Makes a name hold the bytes when the command begins.
@@ -75,16 +90,43 @@ impl Case {
         Ok(())
     }
 
-    /// Runs the command over this sink.
-    pub fn put_into(&mut self, alloc: Global, mut output: MemorySink) -> Ended {
-        let status = command(alloc, self.words.as_slice(), &mut self.shelf, &mut output);
-        Ended { status, output }
+    /// Lets the command print into this sink.
+    pub fn print_into(&mut self, output: MemorySink) {
+        self.output = output;
     }
 
     /// Runs the command.
-    pub fn run(&mut self, alloc: Global) -> Result<Ended> {
-        let output = MemorySink::new(alloc, 64, ROOM)?;
-        Ok(self.put_into(alloc, output))
+    pub fn run(&mut self, alloc: Global) -> Status {
+        command(
+            alloc,
+            self.words.as_slice(),
+            &mut self.shelf,
+            &mut self.output,
+        )
+    }
+
+    /// What was printed.
+    pub fn printed(&self) -> &[u8] {
+        self.output.written()
+    }
+
+    /// The same as a text.
+    pub fn text(&self) -> Result<&str> {
+        let text = str::from_utf8(self.output.written())?;
+        Ok(text)
+    }
+
+    /// Runs the command, for the text that it prints.
+    pub fn run_for_text(&mut self, alloc: Global) -> Result<&str> {
+        self.run(alloc);
+        self.text()
+    }
+
+    /// Runs the command, for its exit status and the first line that it prints.
+    pub fn beginning(&mut self, alloc: Global) -> Result<String> {
+        let status = self.run(alloc).number();
+        let first = self.text()?.lines().next().context("no line")?;
+        Ok(format!(in alloc; "{status} {first}")?)
     }
 
     /// Each file holds what it held when the command began.
@@ -125,15 +167,26 @@ pub fn bytes_of(alloc: Global, text: &str) -> Result<Vec<u8>> {
     Ok(bytes)
 }
 
+/// The bytes that a file spells in hexadecimal, where it is there.
+pub fn spelled(rt: &HostRuntime, path: String) -> Result<Option<Vec<u8>>> {
+    let Ok(text) = fs::read_to_string(rt, path) else {
+        return Ok(None);
+    };
+    let bytes = bytes_of(rt.alloc(), text.as_str())?;
+    Ok(Some(bytes))
+}
+
 /// The bytes of `files/NAME`, or those that `files/NAME.hex` spells, where one of these is there.
-pub fn stored<R: Files + AllocGlobal>(rt: &R, name: &str) -> Result<Option<Vec<u8>>> {
+pub fn stored(rt: &HostRuntime, name: &str) -> Result<Option<Vec<u8>>> {
     let alloc = rt.alloc();
     if let Ok(bytes) = fs::read(rt, format!(in alloc; "files/{name}")?) {
         return Ok(Some(bytes));
     }
-    let Ok(text) = fs::read_to_string(rt, format!(in alloc; "files/{name}.hex")?) else {
-        return Ok(None);
-    };
-    let bytes = bytes_of(alloc, text.as_str())?;
-    Ok(Some(bytes))
+    spelled(rt, format!(in alloc; "files/{name}.hex")?)
+}
+
+/// The bytes of `wanted/NAME`.
+pub fn wanted(rt: &HostRuntime, name: &str) -> Result<Vec<u8>> {
+    let bytes = fs::read(rt, format!(in rt.alloc(); "wanted/{name}")?)?;
+    Ok(bytes)
 }

@@ -1,66 +1,74 @@
 //! Cases of image files.
-use crate::case::{Case, Ended, bytes_of, stored};
+use crate::case::{Case, bytes_of, stored};
 use anyhow::{Context, Result};
 use mx_command::Status;
 use std::alloc::Global;
-use std::rt::Files;
+use test_case_files::{answered, before, number};
 
-/// The run of an image file, within few cycles.
-fn exec(alloc: Global, bytes: &[u8]) -> Result<Ended> {
+/// How the run of an image file within few cycles ends, and the first line that it prints.
+fn exec(alloc: Global, bytes: &[u8]) -> Result<String> {
     let mut case = Case::new(alloc, "exec image --budget 100")?;
     case.add(alloc, "image", bytes)?;
-    case.run(alloc)
+    case.beginning(alloc)
 }
 
-/// The exit status of a command, and its first line.
-fn beginning(alloc: Global, ended: &Ended) -> Result<String> {
-    let text = str::from_utf8(ended.output.written())?;
-    let first = text.lines().next().context("no line")?;
-    let status = ended.status.number();
-    Ok(format!(in alloc; "{status} {first}")?)
+fn exec_spelled(alloc: Global, text: &str) -> Result<String> {
+    let bytes = bytes_of(alloc, text)?;
+    exec(alloc, bytes.as_slice())
 }
 
 /// How `exec` ends on the bytes that a text spells in hexadecimal, for the case `HEX -> STATUS LINE`.
-pub fn image(alloc: Global, text: &str) -> Result<String> {
-    let bytes = bytes_of(alloc, text)?;
-    let ended = exec(alloc, bytes.as_slice())?;
-    let answer = beginning(alloc, &ended)?;
-    Ok(format!(in alloc; "{text} -> {answer}")?)
+pub fn image(alloc: Global, line: &str) -> Result<String> {
+    let text = before(line, " -> ")?;
+    let answer = exec_spelled(alloc, text)?;
+    answered(alloc, text, answer.as_str())
 }
 
-/// `exec` and `migrate` onto itself refuse the front of an image file as one that is cut there, and it stays.
-fn is_refused(alloc: Global, front: &[u8]) -> Result<bool> {
-    let length = front.len();
+/// A command refuses the front of an image file as one that is cut there, and it stays.
+fn refuses(alloc: Global, words: &str, front: &[u8]) -> Result<bool> {
+    let mut case = Case::new(alloc, words)?;
+    case.add(alloc, "front", front)?;
+    let status = case.run(alloc);
+    let is_refused = status == Status::BadImage && is_truncated(alloc, &case, front.len())?;
+    Ok(is_refused && case.keeps_files(alloc)?)
+}
+
+/// A command printed that the image file is cut behind so many bytes.
+fn is_truncated(alloc: Global, case: &Case, length: usize) -> Result<bool> {
     let wanted = format!(in alloc; "image: Truncated at {length}\n")?;
-    for words in ["exec front", "migrate front front"] {
-        let mut case = Case::new(alloc, words)?;
-        case.add(alloc, "front", front)?;
-        let ended = case.run(alloc)?;
-        let refused = ended.status == Status::BadImage
-            && ended.output.written() == wanted.as_bytes();
-        if !refused || !case.keeps_files(alloc)? {
-            return Ok(false);
-        }
-    }
-    Ok(true)
+    Ok(case.printed() == wanted.as_bytes())
 }
 
-/// How many fronts of a stored image file are refused, for the case `NAME COUNT`.
-pub fn fronts<R: Files + AllocGlobal>(rt: &R, name: &str) -> Result<String> {
-    let alloc = rt.alloc();
-    let bytes = stored(rt, name)?.context("no such file")?;
+/// `exec` and `migrate` onto itself refuse the front of an image file.
+fn is_refused(alloc: Global, front: &[u8]) -> Result<bool> {
+    Ok(refuses(alloc, "exec front", front)? && refuses(alloc, "migrate front front", front)?)
+}
+
+fn refused_fronts(alloc: Global, bytes: &[u8]) -> Result<u64> {
     let mut count = 0u64;
     for length in 0..bytes.len() {
         if is_refused(alloc, &bytes[..length])? {
             count = count.saturating_add(1);
         }
     }
-    Ok(format!(in alloc; "{name} {count}")?)
+    Ok(count)
+}
+
+fn refused_fronts_of_stored(rt: &HostRuntime, name: &str) -> Result<u64> {
+    let bytes = stored(rt, name)?.context("no such file")?;
+    refused_fronts(rt.alloc(), bytes.as_slice())
+}
+
+/// How many fronts of a stored image file are refused, for the case `NAME COUNT`.
+pub fn fronts(rt: &HostRuntime, line: &str) -> Result<String> {
+    let name = before(line, " ")?;
+    let count = refused_fronts_of_stored(rt, name)?;
+    Ok(format!(in rt.alloc(); "{name} {count}")?)
 }
 
 /// So many bytes that look like any.
-fn noise(alloc: Global, count: usize) -> Result<Vec<u8>> {
-    let mut bytes = Vec::with_capacity(alloc, count)?;
+fn noise(alloc: Global, count: u32) -> Result<Vec<u8>> {
+    let mut bytes = Vec::with_capacity(alloc, count as usize)?;
     let mut seed = 1u32;
     for _ in 0..count {
         seed = seed.wrapping_mul(1_664_525).wrapping_add(1_013_904_223);
@@ -70,10 +78,14 @@ fn noise(alloc: Global, count: usize) -> Result<Vec<u8>> {
     Ok(bytes)
 }
 
+fn exec_noise(alloc: Global, count: u32) -> Result<String> {
+    let bytes = noise(alloc, count)?;
+    exec(alloc, bytes.as_slice())
+}
+
 /// How `exec` ends on so many bytes of no image, for the case `COUNT -> STATUS LINE`.
-pub fn long(alloc: Global, count: &str) -> Result<String> {
-    let bytes = noise(alloc, count.parse::<usize>()?)?;
-    let ended = exec(alloc, bytes.as_slice())?;
-    let answer = beginning(alloc, &ended)?;
-    Ok(format!(in alloc; "{count} -> {answer}")?)
+pub fn long(alloc: Global, line: &str) -> Result<String> {
+    let count = before(line, " -> ")?;
+    let answer = exec_noise(alloc, number(count)?)?;
+    answered(alloc, count, answer.as_str())
 }

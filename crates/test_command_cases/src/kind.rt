@@ -1,11 +1,10 @@
 //! Kinds of cases.
 use crate::{accepted, images, puts, repeated, runs, shared};
 use anyhow::Result;
-use std::rt::Files;
-use test_case_files::{Cases, before, behind};
+use test_case_files::Cases;
 
 /// A kind of cases, each a line of one file.
-#[derive(Clone, Copy, Debug, PartialEq, Eq)]
+#[derive(Clone, Copy)]
 pub enum Kind {
     Runs,
     Failing,
@@ -62,23 +61,23 @@ impl Cases for Kind {
         }
     }
 
-    fn answered<R: Files + AllocGlobal>(&self, rt: &R, line: &str) -> Result<String> {
+    fn answered(&self, rt: &HostRuntime, line: &str) -> Result<String> {
         let alloc = rt.alloc();
         match *self {
-            Kind::Runs => runs::run(rt, behind(line, " ")?),
-            Kind::Failing => runs::failing(rt, behind(line, " ")?),
+            Kind::Runs => runs::run(rt, line),
+            Kind::Failing => runs::failing(rt, line),
             Kind::Built => runs::built(rt, line),
-            Kind::Joined => runs::joined(rt, before(line, " -> ")?),
-            Kind::Images => images::image(alloc, before(line, " -> ")?),
-            Kind::Fronts => images::fronts(rt, before(line, " ")?),
-            Kind::Long => images::long(alloc, before(line, " -> ")?),
+            Kind::Joined => runs::joined(rt, line),
+            Kind::Images => images::image(alloc, line),
+            Kind::Fronts => images::fronts(rt, line),
+            Kind::Long => images::long(alloc, line),
             Kind::Stops => runs::stops(rt, line),
             Kind::Puts => puts::puts(rt, line),
-            Kind::Repeated => repeated::repeated(alloc, before(line, " -> ")?),
+            Kind::Repeated => repeated::repeated(alloc, line),
             Kind::Listed => repeated::listed(alloc, line),
-            Kind::Shared => shared::shared(rt, before(line, " -> ")?),
+            Kind::Shared => shared::shared(rt, line),
             Kind::AtEach => shared::at_each(rt, line),
-            Kind::Accepted => accepted::accepted(rt, before(line, " -> ")?),
+            Kind::Accepted => accepted::accepted(rt, line),
         }
     }
 }

@@ -1,14 +1,15 @@
 //! Cases of long sources, which are told by lines and how often each stands.
-use crate::case::{Case, Ended};
-use anyhow::{Context, Result};
+use crate::case::Case;
+use anyhow::Result;
 use std::alloc::Global;
+use test_case_files::{answered, before, halves, number};
 
 /// The text of a source that is told as `LINE / COUNT * LINE / ..`.
 fn text_of(alloc: Global, told: &str) -> Result<Vec<u8>> {
     let mut text = Vec::new(alloc);
     for part in told.split(" / ") {
         let (count, line) = match part.split_once(" * ") {
-            Some((count, line)) => (count.parse::<u32>()?, line),
+            Some((count, line)) => (number(count)?, line),
             None => (1, part),
         };
         for _ in 0..count {
@@ -19,43 +20,62 @@ fn text_of(alloc: Global, told: &str) -> Result<Vec<u8>> {
     Ok(text)
 }
 
-/// How a command on a source ends that is told as `COMMAND: LINE / COUNT * LINE / ..`. The name `source` comes last, where the
-/// command does not have it.
-fn ended(alloc: Global, told: &str) -> Result<Ended> {
-    let (command, lines) = told.split_once(": ").context("no lines")?;
-    let words = if command.contains(" source") {
-        String::from_str(alloc, command)?
-    } else {
-        format!(in alloc; "{command} source")?
-    };
-    let mut case = Case::new(alloc, words.as_str())?;
-    case.add(alloc, "source", text_of(alloc, lines)?.as_slice())?;
-    case.run(alloc)
+/// A command on the name `source`, which comes last, where the command does not have it.
+fn naming_source(alloc: Global, command: &str) -> Result<Case> {
+    if command.contains(" source") {
+        return Case::new(alloc, command);
+    }
+    let words = format!(in alloc; "{command} source")?;
+    Case::new(alloc, words.as_str())
+}
+
+fn on_text(alloc: Global, command: &str, text: &[u8]) -> Result<Case> {
+    let mut case = naming_source(alloc, command)?;
+    case.add(alloc, "source", text)?;
+    Ok(case)
+}
+
+/// A command on a source that is told by lines.
+fn on_lines(alloc: Global, command: &str, lines: &str) -> Result<Case> {
+    let text = text_of(alloc, lines)?;
+    on_text(alloc, command, text.as_slice())
+}
+
+fn beginning(alloc: Global, command: &str, lines: &str) -> Result<String> {
+    let mut case = on_lines(alloc, command, lines)?;
+    case.beginning(alloc)
 }
 
 /// How a command ends and the first line that it prints, for the case `COMMAND: LINE / COUNT * LINE / .. -> STATUS LINE`.
-pub fn repeated(alloc: Global, told: &str) -> Result<String> {
-    let ended = ended(alloc, told)?;
-    let text = str::from_utf8(ended.output.written())?;
-    let first = text.lines().next().context("no line")?;
-    let status = ended.status.number();
-    Ok(format!(in alloc; "{told} -> {status} {first}")?)
+pub fn repeated(alloc: Global, line: &str) -> Result<String> {
+    let told = before(line, " -> ")?;
+    let (command, lines) = halves(told, ": ")?;
+    let answer = beginning(alloc, command, lines)?;
+    answered(alloc, told, answer.as_str())
+}
+
+/// How many of the wanted lines `LINE / LINE ..` a text does not have.
+fn missing(text: &str, wanted: &str) -> u64 {
+    let mut count = 0u64;
+    for want in wanted.split(" / ") {
+        if !text.lines().any(|line| line == want) {
+            count = count.saturating_add(1);
+        }
+    }
+    count
+}
+
+fn missing_in_listing(alloc: Global, lines: &str, wanted: &str) -> Result<u64> {
+    let mut case = on_lines(alloc, "list", lines)?;
+    Ok(missing(case.run_for_text(alloc)?, wanted))
 }
 
 /// Whether the listing of a source has these lines, for the case `LINE / COUNT * LINE / .. -> LINE / LINE ..`. Where it has
 /// not, their number stands behind.
 pub fn listed(alloc: Global, line: &str) -> Result<String> {
-    let (told, wanted) = line.split_once(" -> ").context("no lines")?;
-    let words = format!(in alloc; "list: {told}")?;
-    let ended = ended(alloc, words.as_str())?;
-    let text = str::from_utf8(ended.output.written())?;
-    let missing = wanted
-        .split(" / ")
-        .filter(|want| !text.lines().any(|it| it == *want))
-        .count();
-    if missing == 0 {
-        Ok(format!(in alloc; "{line}")?)
-    } else {
-        Ok(format!(in alloc; "{line}, without {missing}")?)
+    let (told, wanted) = halves(line, " -> ")?;
+    match missing_in_listing(alloc, told, wanted)? {
+        0 => Ok(String::from_str(alloc, line)?),
+        count => Ok(format!(in alloc; "{line}, without {count}")?),
     }
 }

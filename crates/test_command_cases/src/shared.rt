@@ -2,8 +2,7 @@
 use crate::case::{Case, stored};
 use anyhow::{Context, Result};
 use std::alloc::Global;
-use std::rt::Files;
-use test_case_files::{before, behind};
+use test_case_files::{answered, before, behind, halves, number};
 
 /// What two programs print.
 #[derive(Drop)]
@@ -30,13 +29,6 @@ impl Consoles {
     }
 }
 
-/// What a command prints.
-fn printed(alloc: Global, mut case: Case) -> Result<String> {
-    let ended = case.run(alloc)?;
-    let text = String::from_str(alloc, str::from_utf8(ended.output.written())?)?;
-    Ok(text)
-}
-
 /// The line behind the one that begins so.
 fn console(alloc: Global, text: &str, name: &str) -> Result<String> {
     let line = before(behind(behind(text, name)?, "\n")?, "\n")?;
@@ -45,61 +37,82 @@ fn console(alloc: Global, text: &str, name: &str) -> Result<String> {
 }
 
 /// What the meaning of a source prints in more steps than a run has cycles.
-fn meaning<R: Files + AllocGlobal>(rt: &R, source: &str) -> Result<String> {
+fn meaning(rt: &HostRuntime, source: &str) -> Result<String> {
     let alloc = rt.alloc();
-    let words = format!(in alloc; "meaning {source} --steps 20064")?;
-    let text = printed(alloc, Case::stored(rt, words.as_str())?)?;
-    console(alloc, text.as_str(), "\nconsole ")
+    let mut case = Case::stored_between(rt, "meaning", source, "--steps 20064")?;
+    console(alloc, case.run_for_text(alloc)?, "\nconsole ")
 }
 
 /// What the meanings of the sources `FIRST SECOND` print.
-fn meanings<R: Files + AllocGlobal>(rt: &R, sources: &str) -> Result<Consoles> {
+fn meanings(rt: &HostRuntime, sources: &str) -> Result<Consoles> {
+    let (first, second) = halves(sources, " ")?;
     Ok(Consoles {
-        first: meaning(rt, before(sources, " ")?)?,
-        second: meaning(rt, behind(sources, " ")?)?,
+        first: meaning(rt, first)?,
+        second: meaning(rt, second)?,
     })
 }
 
 /// What they print when they share the machine, with these requests.
-fn shared_run<R: Files + AllocGlobal>(rt: &R, sources: &str, requests: &[u8]) -> Result<Consoles> {
+fn shared_run(rt: &HostRuntime, sources: &str, requests: &[u8]) -> Result<Consoles> {
     let alloc = rt.alloc();
-    let words = format!(in alloc; "share {sources} --budget 20000 --interrupts requests")?;
-    let mut case = Case::stored(rt, words.as_str())?;
+    let options = "--budget 20000 --interrupts requests";
+    let mut case = Case::stored_between(rt, "share", sources, options)?;
     case.add(alloc, "requests", requests)?;
-    let text = printed(alloc, case)?;
+    both_consoles(alloc, case.run_for_text(alloc)?)
+}
+
+fn both_consoles(alloc: Global, text: &str) -> Result<Consoles> {
     Ok(Consoles {
-        first: console(alloc, text.as_str(), "\nfirst ")?,
-        second: console(alloc, text.as_str(), "\nsecond ")?,
+        first: console(alloc, text, "\nfirst ")?,
+        second: console(alloc, text, "\nsecond ")?,
     })
 }
 
 /// Which of two programs prints anything when they share the machine, where each prints only what its meaning prints
 /// first, for the case `REQUESTS: FIRST SECOND -> WHO`.
-pub fn shared<R: Files + AllocGlobal>(rt: &R, case: &str) -> Result<String> {
-    let alloc = rt.alloc();
-    let requests = stored(rt, before(case, ": ")?)?.context("no such file")?;
-    let sources = behind(case, ": ")?;
-    let run = shared_run(rt, sources, requests.as_slice())?;
-    let who = if run.begin(&meanings(rt, sources)?) {
-        run.who_prints()
+pub fn shared(rt: &HostRuntime, line: &str) -> Result<String> {
+    let case = before(line, " -> ")?;
+    let (requests, sources) = halves(case, ": ")?;
+    answered(rt.alloc(), case, who_under_stored(rt, requests, sources)?)
+}
+
+fn who_under_stored(rt: &HostRuntime, requests: &str, sources: &str) -> Result<&'static str> {
+    let requests = stored(rt, requests)?.context("no such file")?;
+    who_under(rt, requests.as_slice(), sources)
+}
+
+fn who_under(rt: &HostRuntime, requests: &[u8], sources: &str) -> Result<&'static str> {
+    let run = shared_run(rt, sources, requests)?;
+    let meant = meanings(rt, sources)?;
+    if run.begin(&meant) {
+        Ok(run.who_prints())
     } else {
-        "otherwise"
-    };
-    Ok(format!(in alloc; "{case} -> {who}")?)
+        Ok("otherwise")
+    }
 }
 
 /// How many requests, one alone in each of the cycles from 0 on, leave each console the front of that of its meaning, for
 /// the case `COUNT: FIRST SECOND`.
-pub fn at_each<R: Files + AllocGlobal>(rt: &R, line: &str) -> Result<String> {
-    let alloc = rt.alloc();
-    let sources = behind(line, ": ")?;
+pub fn at_each(rt: &HostRuntime, line: &str) -> Result<String> {
+    let (cycles, sources) = halves(line, ": ")?;
+    let count = begin_at_each(rt, sources, number(cycles)?)?;
+    Ok(format!(in rt.alloc(); "{count}: {sources}")?)
+}
+
+fn begin_at_each(rt: &HostRuntime, sources: &str, cycles: u32) -> Result<u64> {
     let meant = meanings(rt, sources)?;
     let mut count = 0u64;
-    for cycle in 0..before(line, ": ")?.parse::<u32>()? {
-        let request = format!(in alloc; "{cycle}")?;
-        if shared_run(rt, sources, request.as_bytes())?.begin(&meant) {
+    for cycle in 0..cycles {
+        if begin_at(rt, sources, cycle, &meant)? {
             count = count.saturating_add(1);
         }
     }
-    Ok(format!(in alloc; "{count}: {sources}")?)
+    Ok(count)
+}
+
+/// Whether the consoles are fronts of those that are meant, with a request in this cycle alone.
+fn begin_at(rt: &HostRuntime, sources: &str, cycle: u32, meant: &Consoles) -> Result<bool> {
+    let request = format!(in rt.alloc(); "{cycle}")?;
+    let run = shared_run(rt, sources, request.as_bytes())?;
+    Ok(run.begin(meant))
 }

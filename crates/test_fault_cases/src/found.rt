@@ -3,8 +3,8 @@ ghost use Rattle.std.specs.Prelude.{◌≤◌, length};
 
 use anyhow::{Result, ensure};
 use mx_faults::{LineFault, Span, assemble_all};
-use std::alloc::Global;
-use test_case_files::before;
+use std::alloc::{AllocError, Global};
+use test_case_files::{answered, before};
 
 /// How many faulty lines a case tells at most.
 const MOST_FOUND: u32 = 100;
@@ -19,34 +19,28 @@ fn text_of(alloc: Global, lines: &str) -> Result<String> {
     Ok(text)
 }
 
-/// The bytes that show a fault, as `START-END`, or `-` where none do.
-fn span_text(alloc: Global, span: Option<Span>) -> Result<String> {
+/// Appends the bytes that show a fault, as `START-END`, or `-` where none do.
+fn push_span(text: &mut String, span: Option<Span>) -> Result<(), AllocError> {
     match span {
-        Some(span) => {
-            let start = span.start;
-            let end = span.end;
-            Ok(format!(in alloc; "{start}-{end}")?)
-        }
-        None => Ok(String::from_str(alloc, "-")?),
+        Some(span) => write!(text, "{}-{}", span.start, span.end),
+        None => text.push('-'),
     }
 }
 
-/// A faulty line, as `LINE FAULT START-END`.
-fn fault_text(alloc: Global, found: &LineFault) -> Result<String> {
-    let line = found.line;
-    let fault = found.fault;
-    let span = span_text(alloc, found.span)?;
-    Ok(format!(in alloc; "{line} {fault} {span}")?)
+/// Appends a faulty line, as `LINE FAULT START-END`.
+fn push_fault(text: &mut String, found: &LineFault) -> Result<(), AllocError> {
+    write!(text, "{} {} ", found.line, found.fault)?;
+    push_span(text, found.span)
 }
 
 /// Faulty lines, separated by `, `.
-fn faults_text(alloc: Global, found: &[LineFault]) -> Result<String> {
+fn faults_text(alloc: Global, found: &[LineFault]) -> Result<String, AllocError> {
     let mut text = String::new(alloc);
     for fault in found {
         if !text.is_empty() {
             text.push_str(", ")?;
         }
-        text.push_str(fault_text(alloc, fault)?.as_str())?;
+        push_fault(&mut text, fault)?;
     }
     Ok(text)
 }
@@ -57,11 +51,19 @@ fn found_in(alloc: Global, text: &[u8]) -> Result<Vec<LineFault>> {
     Ok(assemble_all(alloc, 256, 65536, text, MOST_FOUND)?)
 }
 
-/// All faulty lines of the text of a case `TEXT -> LINE FAULT START-END, LINE FAULT START-END` and so on.
-pub fn answered(alloc: Global, case: &str) -> Result<String> {
-    let lines = before(case, " -> ")?;
+fn faults_of(alloc: Global, text: &[u8]) -> Result<String> {
+    let found = found_in(alloc, text)?;
+    Ok(faults_text(alloc, &found)?)
+}
+
+fn faults_of_lines(alloc: Global, lines: &str) -> Result<String> {
     let text = text_of(alloc, lines)?;
-    let found = found_in(alloc, text.as_bytes())?;
-    let answer = faults_text(alloc, &found)?;
-    Ok(format!(in alloc; "{lines} -> {answer}")?)
+    faults_of(alloc, text.as_bytes())
+}
+
+/// All faulty lines of the text of a case `TEXT -> LINE FAULT START-END, LINE FAULT START-END` and so on.
+pub fn found(alloc: Global, case: &str) -> Result<String> {
+    let lines = before(case, " -> ")?;
+    let answer = faults_of_lines(alloc, lines)?;
+    answered(alloc, lines, answer.as_str())
 }

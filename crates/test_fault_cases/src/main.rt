@@ -5,8 +5,7 @@
 mod found;
 
 use anyhow::Result;
-use found::answered;
-use std::rt::Files;
+use found::found;
 use test_case_files::{Cases, compare};
 
 /// The cases of faulty lines.
@@ -17,8 +16,8 @@ impl Cases for Faults {
         "faults.txt"
     }
 
-    fn answered<R: Files + AllocGlobal>(&self, rt: &R, line: &str) -> Result<String> {
-        answered(rt.alloc(), line)
+    fn answered(&self, rt: &HostRuntime, line: &str) -> Result<String> {
+        found(rt.alloc(), line)
     }
 }
 

@@ -5,7 +5,6 @@ use lab_watch::Unwatched;
 use mx_io::{MemoryShelf, MemorySink};
 use std::alloc::Global;
 use std::fs;
-use std::rt::Files;
 
 /// The most bytes that a case prints.
 const ROOM: usize = 1_048_576;
@@ -16,9 +15,9 @@ const PIECE: usize = 4096;
 /// How a command ended, what it printed, and what went to standard error.
 #[derive(Drop)]
 pub struct Ended {
-    pub status: u8,
-    pub output: MemorySink,
-    pub errors: Vec<u8>,
+    status: u8,
+    output: MemorySink,
+    errors: Vec<u8>,
 }
 
 impl Ended {
@@ -31,6 +30,12 @@ impl Ended {
             (false, false) => "?",
         };
         Ok(format!(in alloc; "{status}{mark}")?)
+    }
+
+    /// What was printed, as a text.
+    pub fn text(&self) -> Result<&str> {
+        let text = str::from_utf8(self.output.written())?;
+        Ok(text)
     }
 
     /// What was said: what was printed, or what went to standard error.
@@ -52,44 +57,44 @@ fn words_of(alloc: Global, line: &str) -> Result<Vec<String>> {
     Ok(words)
 }
 
+// Puts the file that a word names on the shelf, where it is stored.
+fn add_stored(rt: &HostRuntime, shelf: &mut MemoryShelf, word: &str) -> Result<()> {
+    if let Ok(bytes) = fs::read(rt, format!(in rt.alloc(); "files/{word}")?) {
+        shelf.add(word, bytes.as_slice())?;
+    }
+    Ok(())
+}
+
 // The stored files that the words of a line name.
-fn files_of<R: Files + AllocGlobal>(rt: &R, line: &str) -> Result<MemoryShelf> {
-    let alloc = rt.alloc();
-    let mut shelf = MemoryShelf::new(alloc);
+fn files_of(rt: &HostRuntime, line: &str) -> Result<MemoryShelf> {
+    let mut shelf = MemoryShelf::new(rt.alloc());
     for word in line.split(" ") {
-        if let Ok(bytes) = fs::read(rt, format!(in alloc; "files/{word}")?) {
-            shelf.add(word, bytes.as_slice())?;
-        }
+        add_stored(rt, &mut shelf, word)?;
     }
     Ok(shelf)
 }
 
 /// Runs the command that the words of a line ask for, over the stored files that they name.
-pub fn run<R: Files + AllocGlobal>(rt: &R, line: &str) -> Result<Ended> {
-    let shelf = files_of(rt, line)?;
-    run_over(rt.alloc(), line, shelf)
+pub fn run(rt: &HostRuntime, line: &str) -> Result<Ended> {
+    let mut shelf = files_of(rt, line)?;
+    run_over(rt.alloc(), line, &mut shelf)
 }
 
 /// The same, where a file of this name holds these bytes.
-pub fn run_with<R: Files + AllocGlobal>(
-    rt: &R,
-    line: &str,
-    name: &str,
-    bytes: &[u8],
-) -> Result<Ended> {
+pub fn run_with(rt: &HostRuntime, line: &str, name: &str, bytes: &[u8]) -> Result<Ended> {
     let mut shelf = files_of(rt, line)?;
     shelf.add(name, bytes)?;
-    run_over(rt.alloc(), line, shelf)
+    run_over(rt.alloc(), line, &mut shelf)
 }
 
 // Runs the command over a shelf.
-fn run_over(alloc: Global, line: &str, mut shelf: MemoryShelf) -> Result<Ended> {
+fn run_over(alloc: Global, line: &str, shelf: &mut MemoryShelf) -> Result<Ended> {
     let words = words_of(alloc, line)?;
     let mut output = MemorySink::new(alloc, PIECE, ROOM)?;
     let ended = lab(
         alloc,
         words.as_slice(),
-        &mut shelf,
+        shelf,
         &mut output,
         Unwatched,
         Unknown,
@@ -102,8 +107,7 @@ fn run_over(alloc: Global, line: &str, mut shelf: MemoryShelf) -> Result<Ended> 
 }
 
 /// What a case has to print, as far as it is stored.
-pub fn wanted<R: Files + AllocGlobal>(rt: &R, name: &str) -> Result<String> {
-    let alloc = rt.alloc();
-    let text = fs::read_to_string(rt, format!(in alloc; "wanted/{name}")?)?;
+pub fn wanted(rt: &HostRuntime, name: &str) -> Result<String> {
+    let text = fs::read_to_string(rt, format!(in rt.alloc(); "wanted/{name}")?)?;
     Ok(text)
 }

@@ -1,11 +1,10 @@
 //! Kinds of cases.
 use crate::{sources, texts, traced};
 use anyhow::Result;
-use std::rt::Files;
-use test_case_files::{Cases, before, behind};
+use test_case_files::Cases;
 
 /// A kind of cases, each a line of one file.
-#[derive(Clone, Copy, Debug, PartialEq, Eq)]
+#[derive(Clone, Copy)]
 pub enum Kind {
     Runs,
     Parts,
@@ -27,12 +26,12 @@ impl Cases for Kind {
         }
     }
 
-    fn answered<R: Files + AllocGlobal>(&self, rt: &R, line: &str) -> Result<String> {
+    fn answered(&self, rt: &HostRuntime, line: &str) -> Result<String> {
         match *self {
-            Kind::Runs => texts::whole(rt, behind(line, " ")?),
-            Kind::Parts => texts::parts(rt, behind(line, " ")?),
-            Kind::Traced => traced::traced(rt, behind(line, " ")?),
-            Kind::Sources => sources::told(rt, before(line, " -> ")?),
+            Kind::Runs => texts::whole(rt, line),
+            Kind::Parts => texts::parts(rt, line),
+            Kind::Traced => traced::traced(rt, line),
+            Kind::Sources => sources::told(rt, line),
         }
     }
 }

@@ -1,8 +1,8 @@
 //! Cases of sources that are told by their lines, and how often each stands.
-use crate::case::run_with;
-use anyhow::{Context, Result};
+use crate::case::{Ended, run_with};
+use anyhow::Result;
 use std::alloc::Global;
-use std::rt::Files;
+use test_case_files::{answered, before, halves, number};
 
 /// The file that holds the source.
 const SOURCE: &str = "source";
@@ -15,7 +15,7 @@ fn text_of(alloc: Global, told: &str) -> Result<Vec<u8>> {
     let mut text = Vec::new(alloc);
     for part in told.split(BETWEEN) {
         let (count, line) = match part.split_once(" * ") {
-            Some((count, line)) => (count.parse::<u32>()?, line),
+            Some((count, line)) => (number(count)?, line),
             None => (1, part),
         };
         for _ in 0..count {
@@ -40,14 +40,26 @@ fn on_one_line(alloc: Global, text: &str) -> Result<String> {
     Ok(line)
 }
 
-/// How a command ends and all that is said, for the case `WORDS: LINE / COUNT * LINE / .. -> STATUS SAID`. The words name the
-/// file `source`, which has these lines. What is said stands on one line, too.
-pub fn told<R: Files + AllocGlobal>(rt: &R, case: &str) -> Result<String> {
-    let alloc = rt.alloc();
-    let (words, lines) = case.split_once(": ").context("no lines")?;
-    let text = text_of(alloc, lines)?;
-    let ended = run_with(rt, words, SOURCE, text.as_slice())?;
+// How a command ended and all that was said, on one line.
+fn told_on_one_line(alloc: Global, ended: &Ended) -> Result<String> {
     let status = ended.told(alloc)?;
     let said = on_one_line(alloc, str::from_utf8(ended.said())?)?;
-    Ok(format!(in alloc; "{case} -> {status} {said}")?)
+    Ok(format!(in alloc; "{status} {said}")?)
+}
+
+// The same of a command on a source with these lines.
+fn told_on_lines(rt: &HostRuntime, words: &str, lines: &str) -> Result<String> {
+    let alloc = rt.alloc();
+    let text = text_of(alloc, lines)?;
+    let ended = run_with(rt, words, SOURCE, text.as_slice())?;
+    told_on_one_line(alloc, &ended)
+}
+
+/// How a command ends and all that is said, for the case `WORDS: LINE / COUNT * LINE / .. -> STATUS SAID`. The words name the
+/// file `source`, which has these lines. What is said stands on one line, too.
+pub fn told(rt: &HostRuntime, line: &str) -> Result<String> {
+    let case = before(line, " -> ")?;
+    let (words, lines) = halves(case, ": ")?;
+    let told = told_on_lines(rt, words, lines)?;
+    answered(rt.alloc(), case, told.as_str())
 }

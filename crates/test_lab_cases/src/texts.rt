@@ -1,43 +1,64 @@
 //! Cases by the text that a command prints.
 use crate::case::{run, wanted};
-use anyhow::{Context, Result};
-use std::rt::Files;
+use anyhow::Result;
+use test_case_files::{behind, halves};
 
 /// How a command ends, for the case `STATUS NAME: WORDS`. What it prints, or what goes to standard error, is `wanted/NAME`.
-pub fn whole<R: Files + AllocGlobal>(rt: &R, case: &str) -> Result<String> {
-    let alloc = rt.alloc();
-    let (name, words) = case.split_once(": ").context("no words")?;
-    let wanted = wanted(rt, name)?;
+pub fn whole(rt: &HostRuntime, line: &str) -> Result<String> {
+    let case = behind(line, " ")?;
+    let (name, words) = halves(case, ": ")?;
+    let (status, note) = outcome(rt, name, words)?;
+    Ok(format!(in rt.alloc(); "{status} {case}{note}")?)
+}
+
+// How a command ends, and what differs.
+fn outcome(rt: &HostRuntime, name: &str, words: &str) -> Result<(String, &'static str)> {
     let ended = run(rt, words)?;
-    let status = ended.told(alloc)?;
-    let note = if ended.said() == wanted.as_bytes() {
-        ""
+    let note = note_on(rt, name, ended.said())?;
+    Ok((ended.told(rt.alloc())?, note))
+}
+
+fn note_on(rt: &HostRuntime, name: &str, said: &[u8]) -> Result<&'static str> {
+    let wanted = wanted(rt, name)?;
+    if said == wanted.as_bytes() {
+        Ok("")
     } else {
-        ", of another output"
-    };
-    Ok(format!(in alloc; "{status} {case}{note}")?)
+        Ok(", of another output")
+    }
 }
 
 // How many of these lines do not stand in the text, in this order.
-fn missing(text: &str, wanted: &str) -> usize {
+fn missing(text: &str, wanted: &str) -> u64 {
     let mut left = text.lines();
-    wanted
-        .lines()
-        .filter(|want| !left.any(|line| line == *want))
-        .count()
+    let mut count = 0u64;
+    for want in wanted.lines() {
+        if !left.any(|line| line == want) {
+            count = count.saturating_add(1);
+        }
+    }
+    count
+}
+
+fn missing_of_wanted(rt: &HostRuntime, name: &str, text: &str) -> Result<u64> {
+    let wanted = wanted(rt, name)?;
+    Ok(missing(text, wanted.as_str()))
+}
+
+// How many bytes a command prints, and how many of the wanted lines are missing.
+fn printed_and_missing(rt: &HostRuntime, name: &str, words: &str) -> Result<(usize, u64)> {
+    let ended = run(rt, words)?;
+    let text = ended.text()?;
+    Ok((text.len(), missing_of_wanted(rt, name, text)?))
 }
 
 /// How many bytes a command prints, for the case `BYTES NAME: WORDS`. Each line of `wanted/NAME` is one of its lines, in that
 /// order; where some are not, their number stands behind.
-pub fn parts<R: Files + AllocGlobal>(rt: &R, case: &str) -> Result<String> {
+pub fn parts(rt: &HostRuntime, line: &str) -> Result<String> {
     let alloc = rt.alloc();
-    let (name, words) = case.split_once(": ").context("no words")?;
-    let wanted = wanted(rt, name)?;
-    let ended = run(rt, words)?;
-    let text = str::from_utf8(ended.output.written())?;
-    let bytes = text.len();
-    match missing(text, wanted.as_str()) {
-        0 => Ok(format!(in alloc; "{bytes} {case}")?),
-        count => Ok(format!(in alloc; "{bytes} {case}, without {count}")?),
+    let case = behind(line, " ")?;
+    let (name, words) = halves(case, ": ")?;
+    match printed_and_missing(rt, name, words)? {
+        (bytes, 0) => Ok(format!(in alloc; "{bytes} {case}")?),
+        (bytes, count) => Ok(format!(in alloc; "{bytes} {case}, without {count}")?),
     }
 }

@@ -1,7 +1,7 @@
 //! Cases by traces, which come from outside: each cell of a drawing against the stages of that cycle.
 use crate::case::{run, wanted};
-use anyhow::{Context, Result};
-use std::rt::Files;
+use anyhow::Result;
+use test_case_files::{behind, halves};
 
 /// Where the cells of a row begin, how wide one is, and how many a band has.
 const LABEL: usize = 36;
@@ -9,6 +9,9 @@ const LABEL: usize = 36;
 const WIDTH: usize = 4;
 
 const BAND: usize = 16;
+
+/// A stage of a trace that holds nothing.
+const EMPTY: &str = "--------";
 
 /// The stages, from the first on.
 const STAGES: [&str; 5] = ["IF", "RF", "ALU", "MEM", "WB"];
@@ -22,8 +25,12 @@ fn cell(line: &str, column: usize) -> &str {
 
 // The lines of the band that begins at a cycle, if there is one.
 fn band(text: &str, cycle: usize) -> Option<&str> {
-    text.split("\n\n")
-        .find(|band| first_of(band) == Some(cycle))
+    for band in text.split("\n\n") {
+        if first_of(band) == Some(cycle) {
+            return Some(band);
+        }
+    }
+    None
 }
 
 // The first cycle of a band.
@@ -46,31 +53,40 @@ fn is_row(row: &str, column: usize, stage: &str) -> bool {
         && (shown.ends_with("!") || shown.ends_with("*") == squashed)
 }
 
-// Whether a column shows in one of the stages what a trace has there.
+// Whether a column shows in one of the stages what a trace has there, and no more.
 fn is_shown(band: &str, column: usize, name: &str, stage: &str) -> bool {
-    let mut rows = band
-        .lines()
-        .filter(|line| stage_of(cell(line, column)) == name);
-    match rows.next() {
-        Some(row) => rows.next().is_none() && is_row(row, column, stage),
-        None => stage == "--------",
+    let mut shown = None;
+    for row in band.lines() {
+        if stage_of(cell(row, column)) == name {
+            if shown.is_some() {
+                return false;
+            }
+            shown = Some(row);
+        }
+    }
+    match shown {
+        Some(row) => is_row(row, column, stage),
+        None => stage == EMPTY,
     }
 }
 
 // Whether a column shows the five stages of a trace, or none of them where the cycle is stalled.
 fn are_shown(band: &str, column: usize, traced: &str) -> bool {
     let mut stages = traced.split(" ");
-    STAGES.iter().all(|name| {
+    for name in STAGES {
         let stage = if traced == "stall" {
-            Some("--------")
+            Some(EMPTY)
         } else {
             stages.next()
         };
-        match stage {
-            Some(stage) => is_shown(band, column, *name, stage),
-            None => false,
+        let Some(stage) = stage else {
+            return false;
+        };
+        if !is_shown(band, column, name, stage) {
+            return false;
         }
-    })
+    }
+    true
 }
 
 // Whether a drawing from cycle 0 on shows what a line of a trace has.
@@ -81,16 +97,31 @@ fn agrees(text: &str, line: &str) -> Option<bool> {
     Some(are_shown(band(text, cycle - column)?, column, traced))
 }
 
-/// In how many cycles the drawing shows what the trace `wanted/NAME` has, for the case `CYCLES NAME: WORDS`.
-pub fn traced<R: Files + AllocGlobal>(rt: &R, case: &str) -> Result<String> {
-    let alloc = rt.alloc();
-    let (name, words) = case.split_once(": ").context("no words")?;
-    let wanted = wanted(rt, name)?;
+// In how many cycles a drawing shows what a trace has.
+fn agreeing(text: &str, trace: &str) -> u64 {
+    let mut count = 0u64;
+    for line in trace.lines() {
+        if agrees(text, line) == Some(true) {
+            count = count.saturating_add(1);
+        }
+    }
+    count
+}
+
+fn agreeing_with_wanted(rt: &HostRuntime, name: &str, text: &str) -> Result<u64> {
+    let trace = wanted(rt, name)?;
+    Ok(agreeing(text, trace.as_str()))
+}
+
+fn agreeing_of_command(rt: &HostRuntime, name: &str, words: &str) -> Result<u64> {
     let ended = run(rt, words)?;
-    let text = str::from_utf8(ended.output.written())?;
-    let count = wanted
-        .lines()
-        .filter(|line| agrees(text, line) == Some(true))
-        .count();
-    Ok(format!(in alloc; "{count} {case}")?)
+    agreeing_with_wanted(rt, name, ended.text()?)
+}
+
+/// In how many cycles the drawing shows what the trace `wanted/NAME` has, for the case `CYCLES NAME: WORDS`.
+pub fn traced(rt: &HostRuntime, line: &str) -> Result<String> {
+    let case = behind(line, " ")?;
+    let (name, words) = halves(case, ": ")?;
+    let count = agreeing_of_command(rt, name, words)?;
+    Ok(format!(in rt.alloc(); "{count} {case}")?)
 }

@@ -1,11 +1,10 @@
 //! Kinds of cases.
 use crate::{encoded, numbers, texts};
 use anyhow::Result;
-use std::rt::Files;
-use test_case_files::{Cases, before, behind};
+use test_case_files::Cases;
 
 /// A kind of cases, each a line of one file.
-#[derive(Clone, Copy, Debug, PartialEq, Eq)]
+#[derive(Clone, Copy)]
 pub enum Kind {
     Words,
     Compute,
@@ -47,18 +46,18 @@ impl Cases for Kind {
         }
     }
 
-    fn answered<R: Files + AllocGlobal>(&self, rt: &R, line: &str) -> Result<String> {
+    fn answered(&self, rt: &HostRuntime, line: &str) -> Result<String> {
         let alloc = rt.alloc();
         match *self {
             Kind::Words => numbers::word(alloc, line),
             Kind::Compute => numbers::computed(alloc, line),
             Kind::Conditions => numbers::held(alloc, line),
-            Kind::Faults => texts::fault(rt, before(line, " ")?),
-            Kind::Meanings => texts::meaning(rt, behind(line, " ")?),
-            Kind::Statements => texts::statement(alloc, before(line, " -> ")?),
-            Kind::Generated => texts::generated(alloc, before(line, ":")?),
-            Kind::Encoded => encoded::text(alloc, before(line, " -> ")?),
-            Kind::Handler => encoded::handler(alloc, before(line, " ")?),
+            Kind::Faults => texts::fault(rt, line),
+            Kind::Meanings => texts::meaning(rt, line),
+            Kind::Statements => texts::statement(alloc, line),
+            Kind::Generated => texts::generated(alloc, line),
+            Kind::Encoded => encoded::text(alloc, line),
+            Kind::Handler => encoded::handler(alloc, line),
         }
     }
 }

@@ -1,7 +1,19 @@
 //! Instructions as the cases spell them.
-use mx_isa::{Inst, Reg};
+use mx_isa::{Cond, Inst, Op, Reg, Special};
 use mx_source::Statement;
 use std::alloc::{AllocError, Global};
+
+/// The value of a field.
+#[derive(Clone, Copy)]
+enum Field {
+    Register(Reg),
+    Number(i32),
+    Target(u32),
+    Flag(bool),
+    Cond(Cond),
+    Op(Op),
+    Special(Special),
+}
 
 /// A word's instruction, or `none`.
 pub fn spelled(alloc: Global, inst: Option<Inst>) -> Result<String, AllocError> {
@@ -13,45 +25,56 @@ pub fn spelled(alloc: Global, inst: Option<Inst>) -> Result<String, AllocError> 
 
 /// A statement, with its registers as numbers.
 pub fn statement(alloc: Global, statement: &Statement) -> Result<String, AllocError> {
-    match statement {
-        Statement::Plain(inst) => instruction(alloc, inst),
-        Statement::LaCode { dest, target } => {
-            let dest = dest.number();
-            format!(in alloc; "LaCode {{ target: {target}, dest: {dest} }}")
-        }
-        Statement::Branch { a, b, cond, target } => {
-            let (a, b) = (a.number(), b.number());
-            format!(in alloc; "Branch {{ cond: {cond:?}, a: {a}, b: {b}, target: {target} }}")
-        }
-        Statement::Call { dest, target } => {
-            let dest = dest.number();
-            format!(in alloc; "Call {{ target: {target}, dest: {dest} }}")
-        }
-        Statement::CallReg { a, dest } => {
-            let (a, dest) = (a.number(), dest.number());
-            format!(in alloc; "CallReg {{ a: {a}, dest: {dest} }}")
-        }
-        Statement::JumpReg { a } => {
-            let a = a.number();
-            format!(in alloc; "JumpReg {{ a: {a} }}")
-        }
+    match *statement {
+        Statement::Plain(inst) => instruction(alloc, &inst),
+        Statement::LaCode { dest, target } => fields(
+            alloc,
+            "LaCode",
+            &[
+                ("target", Field::Target(target)),
+                ("dest", Field::Register(dest)),
+            ],
+        ),
+        Statement::Branch { a, b, cond, target } => fields(
+            alloc,
+            "Branch",
+            &[
+                ("cond", Field::Cond(cond)),
+                ("a", Field::Register(a)),
+                ("b", Field::Register(b)),
+                ("target", Field::Target(target)),
+            ],
+        ),
+        Statement::Call { dest, target } => fields(
+            alloc,
+            "Call",
+            &[
+                ("target", Field::Target(target)),
+                ("dest", Field::Register(dest)),
+            ],
+        ),
+        Statement::CallReg { a, dest } => fields(
+            alloc,
+            "CallReg",
+            &[("a", Field::Register(a)), ("dest", Field::Register(dest))],
+        ),
+        Statement::JumpReg { a } => fields(alloc, "JumpReg", &[("a", Field::Register(a))]),
         Statement::Halt => String::from_str(alloc, "Halt"),
     }
 }
 
 /// An instruction, with its registers as numbers.
 fn instruction(alloc: Global, inst: &Inst) -> Result<String, AllocError> {
-    match inst {
-        Inst::Load { base, dest, offset } => {
-            fields(
-                alloc,
-                "Load",
-                ["base", "offset", "dest"],
-                *base,
-                *offset,
-                *dest,
-            )
-        }
+    match *inst {
+        Inst::Load { base, dest, offset } => fields(
+            alloc,
+            "Load",
+            &[
+                ("base", Field::Register(base)),
+                ("offset", Field::Number(offset)),
+                ("dest", Field::Register(dest)),
+            ],
+        ),
         Inst::Store {
             base,
             value,
@@ -59,10 +82,11 @@ fn instruction(alloc: Global, inst: &Inst) -> Result<String, AllocError> {
         } => fields(
             alloc,
             "Store",
-            ["base", "offset", "value"],
-            *base,
-            *offset,
-            *value,
+            &[
+                ("base", Field::Register(base)),
+                ("offset", Field::Number(offset)),
+                ("value", Field::Register(value)),
+            ],
         ),
         Inst::Branch {
             a,
@@ -70,46 +94,94 @@ fn instruction(alloc: Global, inst: &Inst) -> Result<String, AllocError> {
             cond,
             squash,
             by,
-        } => {
-            let (a, b) = (a.number(), b.number());
-            format!(in alloc;
-                "Branch {{ cond: {cond:?}, a: {a}, b: {b}, squash: {squash}, by: {by} }}"
-            )
-        }
-        Inst::Compute { a, dest, b, op } => {
-            let (a, b, dest) = (a.number(), b.number(), dest.number());
-            format!(in alloc; "Compute {{ op: {op:?}, a: {a}, b: {b}, dest: {dest} }}")
-        }
-        Inst::Addi { a, dest, imm } => {
-            fields(alloc, "Addi", ["a", "imm", "dest"], *a, *imm, *dest)
-        }
-        Inst::MoveFrom { dest, special } => {
-            let dest = dest.number();
-            format!(in alloc; "MoveFrom {{ special: {special:?}, dest: {dest} }}")
-        }
-        Inst::MoveTo { a, special } => {
-            let a = a.number();
-            format!(in alloc; "MoveTo {{ a: {a}, special: {special:?} }}")
-        }
-        Inst::Jspci { a, dest, imm } => {
-            fields(alloc, "Jspci", ["a", "imm", "dest"], *a, *imm, *dest)
-        }
+        } => fields(
+            alloc,
+            "Branch",
+            &[
+                ("cond", Field::Cond(cond)),
+                ("a", Field::Register(a)),
+                ("b", Field::Register(b)),
+                ("squash", Field::Flag(squash)),
+                ("by", Field::Number(by)),
+            ],
+        ),
+        Inst::Compute { a, dest, b, op } => fields(
+            alloc,
+            "Compute",
+            &[
+                ("op", Field::Op(op)),
+                ("a", Field::Register(a)),
+                ("b", Field::Register(b)),
+                ("dest", Field::Register(dest)),
+            ],
+        ),
+        Inst::Addi { a, dest, imm } => fields(
+            alloc,
+            "Addi",
+            &[
+                ("a", Field::Register(a)),
+                ("imm", Field::Number(imm)),
+                ("dest", Field::Register(dest)),
+            ],
+        ),
+        Inst::MoveFrom { dest, special } => fields(
+            alloc,
+            "MoveFrom",
+            &[
+                ("special", Field::Special(special)),
+                ("dest", Field::Register(dest)),
+            ],
+        ),
+        Inst::MoveTo { a, special } => fields(
+            alloc,
+            "MoveTo",
+            &[
+                ("a", Field::Register(a)),
+                ("special", Field::Special(special)),
+            ],
+        ),
+        Inst::Jspci { a, dest, imm } => fields(
+            alloc,
+            "Jspci",
+            &[
+                ("a", Field::Register(a)),
+                ("imm", Field::Number(imm)),
+                ("dest", Field::Register(dest)),
+            ],
+        ),
         Inst::Jpc => String::from_str(alloc, "Jpc"),
         Inst::Jpcrs => String::from_str(alloc, "Jpcrs"),
         Inst::Halt => String::from_str(alloc, "Halt"),
     }
 }
 
-/// An instruction of a register, a number and another register.
+/// A name, and its fields between braces.
 fn fields(
     alloc: Global,
     name: &str,
-    labels: [&str; 3],
-    first: Reg,
-    number: i32,
-    second: Reg,
+    fields: &[(&'static str, Field)],
 ) -> Result<String, AllocError> {
-    let [one, two, three] = labels;
-    let (first, second) = (first.number(), second.number());
-    format!(in alloc; "{name} {{ {one}: {first}, {two}: {number}, {three}: {second} }}")
+    let mut text = String::from_str(alloc, name)?;
+    let mut before = " { ";
+    for (label, field) in fields {
+        text.push_str(before)?;
+        text.push_str(label)?;
+        push_value(&mut text, *field)?;
+        before = ", ";
+    }
+    text.push_str(" }")?;
+    Ok(text)
+}
+
+/// Appends a colon and the value of a field.
+fn push_value(text: &mut String, field: Field) -> Result<(), AllocError> {
+    match field {
+        Field::Register(register) => write!(text, ": {}", register.number()),
+        Field::Number(number) => write!(text, ": {number}"),
+        Field::Target(index) => write!(text, ": {index}"),
+        Field::Flag(flag) => write!(text, ": {flag}"),
+        Field::Cond(cond) => write!(text, ": {cond:?}"),
+        Field::Op(op) => write!(text, ": {op:?}"),
+        Field::Special(special) => write!(text, ": {special:?}"),
+    }
 }

@@ -6,7 +6,8 @@ use mx_isa::Reg;
 use mx_pcchain::Fetched;
 use mx_pipe::{Latch, Pipe};
 use mx_turn::Machine;
-use std::alloc::Global;
+use std::alloc::{AllocError, Global};
+use test_case_files::{before, number};
 
 /// `addi r0,#72,r1 / st 255[r0],r1 / halt`
 const HELLO: [u32; 3] = [0xc002_0048, 0x8802_00ff, 0xe000_0000];
@@ -24,16 +25,16 @@ fn word_of(latch: &Latch) -> Option<Fetched> {
     word
 }
 
-// The address of a latch's fetch.
-fn address_of(alloc: Global, latch: &Latch) -> Result<String> {
+// Appends a blank and the address of a latch's fetch.
+fn push_address(text: &mut String, latch: &Latch) -> Result<(), AllocError> {
     match word_of(latch) {
-        Some(fetched) => Ok(format!(in alloc; "{:x}", fetched.address)?),
-        None => Ok(String::from_str(alloc, "-")?),
+        Some(fetched) => write!(text, " {:x}", fetched.address),
+        None => text.push_str(" -"),
     }
 }
 
 // Register 1 in the file, and the addresses of the five latches. The fields of a pipeline are these and no other.
-fn told<C>(alloc: Global, pipe: &Pipe<C>) -> Result<String> {
+fn told<C>(alloc: Global, pipe: &Pipe<C>) -> Result<String, AllocError> {
     let Pipe {
         fetch,
         rf,
@@ -59,28 +60,49 @@ fn told<C>(alloc: Global, pipe: &Pipe<C>) -> Result<String> {
     let [_, first, ..] = *file;
     let mut text = format!(in alloc; "{first:x}")?;
     for latch in [fetch, rf, alu, mem, wb] {
-        text.push(' ')?;
-        text.push_str(&address_of(alloc, latch)?)?;
+        push_address(&mut text, latch)?;
     }
     Ok(text)
 }
 
-/// The first worked run after a cycle: register 1 of the file, the addresses in the five latches, and register 1 as the
-/// machine tells it, all in hexadecimal, for the case `CYCLE: FILE FETCH RF ALU MEM WB, REGISTER`.
-pub fn fields(alloc: Global, line: &str) -> Result<String> {
-    let (cycle, _) = line.split_once(": ").context("no answer")?;
+// The image of the first worked run.
+fn hello(alloc: Global) -> Result<Image> {
     let code = Vec::from_slice(alloc, &HELLO)?;
-    let image = Image::new(code, Vec::new(alloc)).context("too many words")?;
-    let Ok(mut pipe) = Pipe::new(alloc, &image, None, LineCache::new()) else {
-        bail!("out of memory")
-    };
-    for _ in 0..=cycle.parse::<u32>()? {
+    Image::new(code, Vec::new(alloc)).context("too many words")
+}
+
+// Runs the cycles up to this one.
+fn run_to(pipe: &mut Pipe<LineCache>, last: u32) -> Result<()> {
+    for _ in 0..=last {
         if pipe.counts().cycles > 1_000 {
             bail!("too many cycles")
         }
         pipe.cycle(false);
     }
-    let told = told(alloc, &pipe)?;
+    Ok(())
+}
+
+// What a pipeline tells, and register 1 as the machine tells it.
+fn told_with_register(alloc: Global, pipe: &Pipe<LineCache>) -> Result<String> {
     let register = pipe.register(Reg::new(1).context("no register")?);
-    Ok(format!(in alloc; "{cycle}: {told}, {register:x}")?)
+    let told = told(alloc, pipe)?;
+    Ok(format!(in alloc; "{told}, {register:x}")?)
+}
+
+// The first worked run after a cycle.
+fn told_after(alloc: Global, cycle: u32) -> Result<String> {
+    let image = hello(alloc)?;
+    let Ok(mut pipe) = Pipe::new(alloc, &image, None, LineCache::new()) else {
+        bail!("out of memory")
+    };
+    run_to(&mut pipe, cycle)?;
+    told_with_register(alloc, &pipe)
+}
+
+/// The first worked run after a cycle: register 1 of the file, the addresses in the five latches, and register 1 as the
+/// machine tells it, all in hexadecimal, for the case `CYCLE: FILE FETCH RF ALU MEM WB, REGISTER`.
+pub fn fields(alloc: Global, line: &str) -> Result<String> {
+    let cycle = before(line, ": ")?;
+    let told = told_after(alloc, number(cycle)?)?;
+    Ok(format!(in alloc; "{cycle}: {told}")?)
 }

@@ -1,11 +1,12 @@
 //! Images of drawn words.
 ghost use Rattle.std.specs.Prelude.{◌<◌};
 
-use crate::sides::{Program, differ, told};
+use crate::sides::{Program, differ};
 use anyhow::{Context, Result, bail};
 use mx_code::Image;
 use mx_turn::SHIPPED;
-use std::alloc::Global;
+use std::alloc::{AllocError, Global};
+use test_case_files::{before, halves, number};
 
 /// Numbers that look like any, the same for the same seed.
 #[derive(Drop)]
@@ -22,6 +23,17 @@ pub enum Sort {
     Hazards,
     /// The same, in the handler too, which returns at its end.
     Handlers,
+}
+
+/// How images are drawn and run.
+#[derive(Clone, Copy)]
+pub struct Asked {
+    pub sort: Sort,
+    /// The seed.
+    pub state: u32,
+    /// How many images there are.
+    pub count: u32,
+    pub cycles: u32,
 }
 
 /// A drawn image with its handler, and the cycles in which a request comes.
@@ -141,6 +153,13 @@ fn handler(alloc: Global, draw: &mut Draw, sort: Sort) -> Result<Vec<u32>> {
     }
 }
 
+// An image of the next words.
+fn drawn_image(alloc: Global, draw: &mut Draw, sort: Sort) -> Result<Image> {
+    let code = draw.words(alloc, sort, 40)?;
+    let user_data = draw.words(alloc, Sort::Noise, 8)?;
+    Image::new(code, user_data).context("too many words")
+}
+
 /// The next image.
 pub fn drawn_program(
     alloc: Global,
@@ -148,14 +167,10 @@ pub fn drawn_program(
     sort: Sort,
     cycles: u32,
 ) -> Result<DrawnProgram> {
-    let code = draw.words(alloc, sort, 40)?;
-    let user_data = draw.words(alloc, Sort::Noise, 8)?;
-    let handler = handler(alloc, draw, sort)?;
-    let requests = draw.requests(alloc, cycles)?;
     Ok(DrawnProgram {
-        image: Image::new(code, user_data).context("too many words")?,
-        handler,
-        requests,
+        image: drawn_image(alloc, draw, sort)?,
+        handler: handler(alloc, draw, sort)?,
+        requests: draw.requests(alloc, cycles)?,
     })
 }
 
@@ -170,8 +185,8 @@ fn compared(alloc: Global, draw: &mut Draw, sort: Sort, cycles: u32) -> Result<O
     differ(alloc, &program, Some(b"input".as_slice()), cycles)
 }
 
-/// The sort of this name.
-pub fn sort_of(name: &str) -> Result<Sort> {
+// The sort of this name.
+fn sort_of(name: &str) -> Result<Sort> {
     match name {
         "noise" => Ok(Sort::Noise),
         "hazards" => Ok(Sort::Hazards),
@@ -180,21 +195,47 @@ pub fn sort_of(name: &str) -> Result<Sort> {
     }
 }
 
-/// How the machines compare on so many drawn images, for the case `SORT SEED COUNT CYCLES: ANSWER`.
-pub fn alike(alloc: Global, line: &str) -> Result<String> {
-    let (case, _) = line.split_once(": ").context("no answer")?;
-    let mut words = case.split(' ');
-    let sort = sort_of(words.next().context("no sort")?)?;
-    let state = words.next().context("no seed")?.parse::<u32>()?;
-    let count = words.next().context("no count")?.parse::<u32>()?;
-    let cycles = words.next().context("no cycles")?.parse::<u32>()?;
-    let mut draw = Draw::new(state);
-    for number in 0..count {
-        let difference = compared(alloc, &mut draw, sort, cycles)?;
-        if difference.is_some() {
-            let answer = told(alloc, difference)?;
-            return Ok(format!(in alloc; "{case}: image {number}, {answer}")?);
+/// What is asked for by `SORT SEED COUNT CYCLES`.
+pub fn asked_of(case: &str) -> Result<Asked> {
+    let (sort, rest) = halves(case, " ")?;
+    let (state, rest) = halves(rest, " ")?;
+    let (count, cycles) = halves(rest, " ")?;
+    Ok(Asked {
+        sort: sort_of(sort)?,
+        state: number(state)?,
+        count: number(count)?,
+        cycles: number(cycles)?,
+    })
+}
+
+// The number of the first image on which the machines differ, and the cycle.
+fn first_difference(alloc: Global, asked: Asked) -> Result<Option<(u32, u32)>> {
+    let mut draw = Draw::new(asked.state);
+    for number in 0..asked.count {
+        if let Some(cycle) = compared(alloc, &mut draw, asked.sort, asked.cycles)? {
+            return Ok(Some((number, cycle)));
         }
     }
-    Ok(format!(in alloc; "{case}: alike")?)
+    Ok(None)
+}
+
+/// How a comparison on drawn images ends.
+pub fn told_of_images(
+    alloc: Global,
+    case: &str,
+    difference: Option<(u32, u32)>,
+) -> Result<String, AllocError> {
+    match difference {
+        Some((number, cycle)) => {
+            format!(in alloc; "{case}: image {number}, differ in cycle {cycle}")
+        }
+        None => format!(in alloc; "{case}: alike"),
+    }
+}
+
+/// How the machines compare on so many drawn images, for the case `SORT SEED COUNT CYCLES: ANSWER`.
+pub fn alike(alloc: Global, line: &str) -> Result<String> {
+    let case = before(line, ": ")?;
+    let difference = first_difference(alloc, asked_of(case)?)?;
+    Ok(told_of_images(alloc, case, difference)?)
 }

@@ -1,7 +1,6 @@
 //! The kinds of cases.
 use crate::{apart, drawn, pieces, sides, traced};
 use anyhow::Result;
-use std::rt::Files;
 use test_case_files::Cases;
 
 /// A kind of cases.
@@ -36,7 +35,7 @@ impl Cases for Kind {
         }
     }
 
-    fn answered<R: Files + AllocGlobal>(&self, rt: &R, line: &str) -> Result<String> {
+    fn answered(&self, rt: &HostRuntime, line: &str) -> Result<String> {
         match self {
             Kind::Worked => sides::worked(rt.alloc(), line),
             Kind::Drawn => drawn::alike(rt.alloc(), line),

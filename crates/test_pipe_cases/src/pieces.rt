@@ -1,11 +1,12 @@
 //! Cycles of the pipeline many at once, against the same cycles one by one.
-use crate::drawn::{Draw, DrawnProgram, drawn_program, sort_of};
-use crate::sides::{tell_alike, told};
-use anyhow::{Context, Result, bail};
+use crate::drawn::{Asked, Draw, DrawnProgram, asked_of, drawn_program, told_of_images};
+use crate::sides::tell_alike;
+use anyhow::{Result, bail};
 use mx_icache::{LineCache, Set};
 use mx_pipe::Pipe;
 use mx_turn::Machine;
 use std::alloc::Global;
+use test_case_files::before;
 
 /// No run has more cycles.
 const MOST_CYCLES: u64 = 1_000_000;
@@ -79,6 +80,15 @@ impl Sender {
         }
         Ok(u32::try_from(done)?)
     }
+
+    // Cycles at once, at most so many, or the one of a request; answers how many.
+    fn go(&mut self, most: u32, request: bool) -> Result<u32> {
+        if most > 0 {
+            return self.leap(most);
+        }
+        self.step(request)?;
+        Ok(1)
+    }
 }
 
 // Whether two sets of a cache hold the same: the tag of a way without valid words is no line's.
@@ -136,6 +146,34 @@ fn next_request(requests: &[u32], cycle: u32, cycles: u32) -> u32 {
     }
 }
 
+// The first cycle after which a pipeline that leaps differs from one that goes by single cycles.
+fn first_difference(
+    leaps: &mut Sender,
+    steps: &mut Sender,
+    requests: &[u32],
+    cut: Cut,
+    cycles: u32,
+) -> Result<Option<u32>> {
+    let mut cycle = 0u32;
+    for _ in 0..cycles {
+        if cycle >= cycles {
+            break;
+        }
+        let request = next_request(requests, cycle, cycles);
+        let end = cut.end(cycle).min(request).min(cycles);
+        let most = end.saturating_sub(cycle);
+        let done = leaps.go(most, request == cycle)?;
+        for _ in 0..done {
+            steps.step(most == 0 && request == cycle)?;
+        }
+        if !alike_now(leaps, steps) {
+            return Ok(Some(cycle));
+        }
+        cycle = cycle.saturating_add(done);
+    }
+    Ok(None)
+}
+
 // The first cycle after which a run that is cut differs from the same run by single cycles.
 fn cut_difference(
     alloc: Global,
@@ -145,29 +183,8 @@ fn cut_difference(
 ) -> Result<Option<u32>> {
     let mut leaps = Sender::new(alloc, program)?;
     let mut steps = Sender::new(alloc, program)?;
-    let mut cycle = 0u32;
-    for _ in 0..cycles {
-        if cycle >= cycles {
-            break;
-        }
-        let request = next_request(program.requests.as_slice(), cycle, cycles);
-        let end = cut.end(cycle).min(request).min(cycles);
-        let most = end.saturating_sub(cycle);
-        let done = if most == 0 {
-            leaps.step(request == cycle)?;
-            1
-        } else {
-            leaps.leap(most)?
-        };
-        for _ in 0..done {
-            steps.step(most == 0 && request == cycle)?;
-        }
-        if !alike_now(&leaps, &steps) {
-            return Ok(Some(cycle));
-        }
-        cycle = cycle.saturating_add(done);
-    }
-    Ok(None)
+    let requests = program.requests.as_slice();
+    first_difference(&mut leaps, &mut steps, requests, cut, cycles)
 }
 
 // How the runs of a program in pieces of each length compare with those by single cycles.
@@ -185,27 +202,36 @@ fn piece_difference(alloc: Global, program: &DrawnProgram, cycles: u32) -> Resul
     Ok(None)
 }
 
+// How cycles many at once compare with single ones on the next image, which has no requests where its number is odd.
+fn next_difference(
+    alloc: Global,
+    draw: &mut Draw,
+    asked: Asked,
+    number: u32,
+) -> Result<Option<u32>> {
+    let mut program = drawn_program(alloc, draw, asked.sort, asked.cycles)?;
+    if number % 2 == 1 {
+        program.requests = Vec::new(alloc);
+    }
+    piece_difference(alloc, &program, asked.cycles)
+}
+
+// The number of the first image on which they differ, and the cycle.
+fn difference_of_images(alloc: Global, asked: Asked) -> Result<Option<(u32, u32)>> {
+    let mut draw = Draw::new(asked.state);
+    for number in 0..asked.count {
+        if let Some(cycle) = next_difference(alloc, &mut draw, asked, number)? {
+            return Ok(Some((number, cycle)));
+        }
+    }
+    Ok(None)
+}
+
 /// How cycles many at once compare with single ones, on so many drawn images, of which each second one has no requests, for
 /// the case `SORT SEED COUNT CYCLES: ANSWER`. Each run is cut into pieces of each length up to its cycles, those of at most
 /// 16 from each place where they may begin.
 pub fn alike(alloc: Global, line: &str) -> Result<String> {
-    let (case, _) = line.split_once(": ").context("no answer")?;
-    let mut words = case.split(' ');
-    let sort = sort_of(words.next().context("no sort")?)?;
-    let state = words.next().context("no seed")?.parse::<u32>()?;
-    let count = words.next().context("no count")?.parse::<u32>()?;
-    let cycles = words.next().context("no cycles")?.parse::<u32>()?;
-    let mut draw = Draw::new(state);
-    for number in 0..count {
-        let mut program = drawn_program(alloc, &mut draw, sort, cycles)?;
-        if number % 2 == 1 {
-            program.requests = Vec::new(alloc);
-        }
-        let difference = piece_difference(alloc, &program, cycles)?;
-        if difference.is_some() {
-            let answer = told(alloc, difference)?;
-            return Ok(format!(in alloc; "{case}: image {number}, {answer}")?);
-        }
-    }
-    Ok(format!(in alloc; "{case}: alike")?)
+    let case = before(line, ": ")?;
+    let difference = difference_of_images(alloc, asked_of(case)?)?;
+    Ok(told_of_images(alloc, case, difference)?)
 }

@@ -8,6 +8,7 @@ use mx_isa::Reg;
 use mx_pipe::Pipe;
 use mx_turn::{Machine, SHIPPED, Turns};
 use std::alloc::Global;
+use test_case_files::{before, halves, number};
 
 /// No case has more cycles.
 const MOST_CYCLES: u64 = 1_000_000;
@@ -109,14 +110,6 @@ pub fn differ(
     Ok(first_difference(&mut turns, &mut pipe, program.requests, cycles))
 }
 
-/// How a comparison ends.
-pub fn told(alloc: Global, difference: Option<u32>) -> Result<String> {
-    match difference {
-        Some(cycle) => Ok(format!(in alloc; "differ in cycle {cycle}")?),
-        None => Ok(String::from_str(alloc, "alike")?),
-    }
-}
-
 // The numbers of a text.
 fn numbers(alloc: Global, text: &str, radix: u32) -> Result<Vec<u32>>
     requires within { 2 ≤ radix × (radix ≤ 36) }
@@ -128,30 +121,45 @@ fn numbers(alloc: Global, text: &str, radix: u32) -> Result<Vec<u32>>
     Ok(list)
 }
 
-// The next part of a line.
-fn part<'a>(line: &'a str) -> Result<(&'a str, &'a str)> {
-    line.split_once(" / ").context("no separator")
+// The image of words of code and data, in hexadecimal.
+fn image_of(alloc: Global, code: &str, user_data: &str) -> Result<Image> {
+    let code = numbers(alloc, code, 16)?;
+    let user_data = numbers(alloc, user_data, 16)?;
+    Image::new(code, user_data).context("too many words")
+}
+
+// The first cycle in which the machines differ on an image under the shipped handler.
+fn image_difference(
+    alloc: Global,
+    image: &Image,
+    requests: &str,
+    cycles: u32,
+) -> Result<Option<u32>> {
+    let requests = numbers(alloc, requests, 10)?;
+    let program = Program {
+        image,
+        handler: SHIPPED.as_slice(),
+        requests: requests.as_slice(),
+    };
+    differ(alloc, &program, None, cycles)
+}
+
+// The first cycle in which they differ on `CODE / DATA / CYCLES OF REQUESTS / CYCLES`.
+fn worked_difference(alloc: Global, case: &str) -> Result<Option<u32>> {
+    let (code, rest) = halves(case, " / ")?;
+    let (user_data, rest) = halves(rest, " / ")?;
+    let (requests, cycles) = halves(rest, " / ")?;
+    let cycles = number(cycles)?;
+    let image = image_of(alloc, code, user_data)?;
+    image_difference(alloc, &image, requests, cycles)
 }
 
 /// How the machines compare on words of code and data, in hexadecimal, for the case
 /// `CODE / DATA / CYCLES OF REQUESTS / CYCLES: ANSWER`.
 pub fn worked(alloc: Global, line: &str) -> Result<String> {
-    let (case, _) = line.split_once(": ").context("no answer")?;
-    let (code, rest) = part(case)?;
-    let (user_data, rest) = part(rest)?;
-    let (requests, cycles) = part(rest)?;
-    let code = numbers(alloc, code, 16)?;
-    let user_data = numbers(alloc, user_data, 16)?;
-    let requests = numbers(alloc, requests, 10)?;
-    let image = Image::new(code, user_data).context("too many words")?;
-    let program = Program {
-        image: &image,
-        handler: SHIPPED.as_slice(),
-        requests: requests.as_slice(),
-    };
-    let answer = told(
-        alloc,
-        differ(alloc, &program, None, cycles.parse::<u32>()?)?,
-    )?;
-    Ok(format!(in alloc; "{case}: {answer}")?)
+    let case = before(line, ": ")?;
+    match worked_difference(alloc, case)? {
+        Some(cycle) => Ok(format!(in alloc; "{case}: differ in cycle {cycle}")?),
+        None => Ok(format!(in alloc; "{case}: alike")?),
+    }
 }

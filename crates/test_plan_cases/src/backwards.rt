@@ -6,7 +6,7 @@ use mx_blocks::{Block, End, Item, Plan};
 use mx_validate::Proposer;
 
 /// Proposes the body backwards, then the terminator, then no-ops in its slots.
-#[derive(Clone, Copy, Debug, PartialEq, Eq)]
+#[derive(Clone, Copy)]
 pub struct Backwards;
 
 impl Proposer for Backwards {

@@ -7,7 +7,6 @@ mod shown;
 
 use anyhow::Result;
 use shown::answered;
-use std::rt::Files;
 use test_case_files::{Cases, compare};
 
 /// The cases of plans.
@@ -18,7 +17,7 @@ impl Cases for Plans {
         "plans.txt"
     }
 
-    fn answered<R: Files + AllocGlobal>(&self, rt: &R, line: &str) -> Result<String> {
+    fn answered(&self, rt: &HostRuntime, line: &str) -> Result<String> {
         answered(rt.alloc(), line)
     }
 }

@@ -3,7 +3,7 @@ ghost use Rattle.std.specs.Prelude.{◌≡◌, ◌<◌, ◌^◌, length};
 ghost use Rattle.mx_squash.specs.Ordered.{AreOfOneSource};
 
 use crate::backwards::Backwards;
-use anyhow::{Context, Result, bail, ensure};
+use anyhow::{Result, bail, ensure};
 use mx_asm::assemble;
 use mx_best::{MOST_SEARCHED, best};
 use mx_blocks::{Block, Item, Plan, blocks};
@@ -12,42 +12,33 @@ use mx_source::Source;
 use mx_squash::copies;
 use mx_validate::{Proposer, choose, padded};
 use std::alloc::{AllocError, Global};
+use test_case_files::before;
 
 /// The address of the first block.
 const CODE: u32 = 4096;
 
-/// Appends an item: the number of an instruction, or `-`.
-fn push_item(alloc: Global, text: &mut String, item: Item) -> Result<(), AllocError> {
+/// Appends an item, the number of an instruction or `-`, and a blank.
+fn push_item(text: &mut String, item: Item) -> Result<(), AllocError> {
     match item {
-        Item::Op(k) => {
-            let digits = format!(in alloc; "{k}")?;
-            text.push_str(&digits)?;
-        }
-        Item::Nop => text.push('-')?,
+        Item::Op(k) => write!(text, "{k} "),
+        Item::Nop => text.push_str("- "),
     }
-    text.push(' ')?;
-    Ok(())
 }
 
-/// A plan: its items and the terminator's place.
-fn plan_text(alloc: Global, plan: &Plan) -> Result<String, AllocError> {
-    let mut text = String::new(alloc);
+/// Appends a plan: its items and the terminator's place.
+fn push_plan(text: &mut String, plan: &Plan) -> Result<(), AllocError> {
     for item in plan.items.as_slice() {
-        push_item(alloc, &mut text, *item)?;
+        push_item(text, *item)?;
     }
-    let place = format!(in alloc; "at {}", plan.place)?;
-    text.push_str(&place)?;
-    Ok(text)
+    write!(text, "at {}", plan.place)
 }
 
-/// How many items the shortest plan of a small block has, or `-`.
-fn best_text(alloc: Global, block: &Block) -> Result<String, AllocError> {
+/// Appends how many items the shortest plan of a small block has, or `-`.
+fn push_best(text: &mut String, block: &Block) -> Result<(), AllocError> {
     if block.insts.len() <= MOST_SEARCHED {
-        format!(in alloc; "{}", best(block).items.len())
+        write!(text, "{}", best(block).items.len())
     } else {
-        let mut text = String::new(alloc);
-        text.push('-')?;
-        Ok(text)
+        text.push('-')
     }
 }
 
@@ -80,38 +71,42 @@ fn starts_of(alloc: Global, plans: &[Plan]) -> Result<Vec<u32>, AllocError> {
     Ok(starts)
 }
 
-/// The copies of a block.
-fn copies_text(
-    alloc: Global,
+/// Appends the copies of a block.
+fn push_copies(
+    text: &mut String,
     blocks: &[Block],
     plans: &[Plan],
     starts: &[u32],
     branch: u32,
-) -> Result<String, AllocError>
+) -> Result<(), AllocError>
     requires blocks { AreOfOneSource blocks.now }
     requires plans { length plans.now ≡ length blocks.now }
     requires starts { length starts.now ≡ length blocks.now }
     requires within { branch < length blocks.now }
 {
     let copied = copies(blocks, plans, starts, branch);
-    let mut text = String::new(alloc);
-    push_item(alloc, &mut text, copied.from[0])?;
-    push_item(alloc, &mut text, copied.from[1])?;
-    let count = format!(in alloc; "{}", copied.count)?;
-    text.push_str(&count)?;
+    push_item(text, copied.from[0])?;
+    push_item(text, copied.from[1])?;
+    write!(text, "{}", copied.count)?;
     if copied.squash {
         text.push_str(" squash")?;
     }
-    Ok(text)
+    Ok(())
 }
 
-/// The source that a case spells, its lines between slashes.
-fn source_of(alloc: Global, spelled: &str) -> Result<Source> {
+/// The text that a case spells, its lines between slashes.
+fn text_of(alloc: Global, spelled: &str) -> Result<String, AllocError> {
     let mut text = String::new(alloc);
     for line in spelled.split(" / ") {
         text.push_str(line)?;
         text.push('\n')?;
     }
+    Ok(text)
+}
+
+/// The source that a case spells.
+fn source_of(alloc: Global, spelled: &str) -> Result<Source> {
+    let text = text_of(alloc, spelled)?;
     ensure!(text.len() <= 4_194_304, "the source is too long");
     match assemble(alloc, text.as_bytes()) {
         Ok(source) => Ok(source),
@@ -119,30 +114,34 @@ fn source_of(alloc: Global, spelled: &str) -> Result<Source> {
     }
 }
 
-/// What becomes of one block of several.
-fn block_text(
-    alloc: Global,
+/// Appends the plans of a block, the greedy one as it is given.
+fn push_plans(text: &mut String, block: &Block, greedy: &Plan) -> Result<(), AllocError> {
+    write!(text, "{}: padded ", block.first)?;
+    push_plan(text, &padded(block))?;
+    text.push_str(", greedy ")?;
+    push_plan(text, greedy)?;
+    text.push_str(", best ")?;
+    push_best(text, block)?;
+    write!(text, ", backwards {}", verdict(block, &mut Backwards))
+}
+
+/// Appends what becomes of one block of several.
+fn push_block(
+    text: &mut String,
     blocks: &[Block],
     plans: &[Plan],
     starts: &[u32],
     branch: usize,
-) -> Result<String, AllocError>
+) -> Result<(), AllocError>
     requires blocks { AreOfOneSource blocks.now }
     requires plans { length plans.now ≡ length blocks.now }
     requires starts { length starts.now ≡ length blocks.now }
     requires within { branch < length blocks.now }
     requires few { length blocks.now < 2 ^ 32 }
 {
-    let block = &blocks[branch];
-    let first = block.first;
-    let padded = plan_text(alloc, &padded(block))?;
-    let greedy = plan_text(alloc, &plans[branch])?;
-    let best = best_text(alloc, block)?;
-    let backwards = verdict(block, &mut Backwards);
-    let copies = copies_text(alloc, blocks, plans, starts, branch as u32)?;
-    format!(in alloc;
-        "{first}: padded {padded}, greedy {greedy}, best {best}, backwards {backwards}, copies {copies}"
-    )
+    push_plans(text, &blocks[branch], &plans[branch])?;
+    text.push_str(", copies ")?;
+    push_copies(text, blocks, plans, starts, branch as u32)
 }
 
 /// What becomes of each block.
@@ -162,10 +161,28 @@ fn all_text(
         if branch > 0 {
             text.push_str(" | ")?;
         }
-        let one = block_text(alloc, blocks, plans, starts, branch)?;
-        text.push_str(&one)?;
+        push_block(&mut text, blocks, plans, starts, branch)?;
     }
     Ok(text)
+}
+
+/// What becomes of each block, where they stand as these plans.
+fn placed_text(alloc: Global, blocks: &[Block], plans: &[Plan]) -> Result<String>
+    requires { AreOfOneSource blocks.now }
+{
+    let starts = starts_of(alloc, plans)?;
+    ensure!(blocks.len() <= 20_000, "there are too many blocks");
+    ensure!(plans.len() == blocks.len(), "a plan is missing");
+    ensure!(starts.len() == blocks.len(), "a start is missing");
+    Ok(all_text(alloc, blocks, plans, &starts)?)
+}
+
+/// What becomes of each block, where they stand as the greedy plans.
+fn planned_text(alloc: Global, blocks: &[Block]) -> Result<String>
+    requires { AreOfOneSource blocks.now }
+{
+    let plans = greedy_plans(alloc, blocks)?;
+    placed_text(alloc, blocks, &plans)
 }
 
 /// What becomes of each block of a source.
@@ -173,19 +190,17 @@ fn blocks_text(alloc: Global, source: &Source) -> Result<String> {
     let Ok(found) = blocks(alloc, source) else {
         bail!("out of memory")
     };
-    let plans = greedy_plans(alloc, &found)?;
-    let starts = starts_of(alloc, &plans)?;
-    ensure!(found.len() <= 20_000, "there are too many blocks");
-    ensure!(plans.len() == found.len(), "a plan is missing");
-    ensure!(starts.len() == found.len(), "a start is missing");
-    let text = all_text(alloc, &found, &plans, &starts)?;
-    Ok(text)
+    planned_text(alloc, &found)
+}
+
+fn text_of_blocks(alloc: Global, spelled: &str) -> Result<String> {
+    let source = source_of(alloc, spelled)?;
+    blocks_text(alloc, &source)
 }
 
 /// The line of a case, with the answer that the crates give in place of its own.
 pub fn answered(alloc: Global, line: &str) -> Result<String> {
-    let (spelled, _) = line.split_once(" => ").context("the line has no answer")?;
-    let source = source_of(alloc, spelled)?;
-    let answer = blocks_text(alloc, &source)?;
+    let spelled = before(line, " => ")?;
+    let answer = text_of_blocks(alloc, spelled)?;
     Ok(format!(in alloc; "{spelled} => {answer}")?)
 }
