@@ -150,7 +150,7 @@ def listed(library):
     tally = Tally("listed.txt")
     for line in lines("listed.txt"):
         text, wanted = line.split(" -> ", 1)
-        listing = {" ".join(words) for words in library.list(repeated(text))}
+        listing = {" ".join(words) for words in library.listing(repeated(text))}
         tally.add(listing.issuperset(wanted.split(" / ")), line)
     return tally.tell()
 
