@@ -4,7 +4,7 @@
 usage: checks/lab_json.py [SOURCE..]
 
 It needs mx_lab as ./mx leaves it, or the program that MX_LAB names, and Debian's python3-jsonschema. Without sources it takes those
-of examples/. Of each: every text fits the schema; a profile's columns are the sums of its words', and those of each row make its
+of examples/ that halt. Of each: every text fits the schema; a profile's columns are the sums of its words', and those of each row make its
 cycles; of `caches` the machine's own has the run's figures; of `interrupts` some rows are those of single runs and their traces, and
 the sums those of the rows; of all sources together, `compare` has the rows of each by itself, and their sums; what `disassemble` prints assembles to its words by the table of
 docs/MACHINE.md; a trace is replayed by checks/replay.py, also with interrupts; callgrind_annotate, where it is installed, reads the
@@ -276,9 +276,13 @@ def check(source, schema, folder):
     print(f"{os.path.basename(source)}: {turns} turns; {interrupts} interrupts")
 
 
+def ends_well(*words):
+    return subprocess.run([LAB, *words], capture_output=True, check=False).returncode == 0
+
+
 def is_source(path):
-    """Whether a file is a source by itself, and no module."""
-    return subprocess.run([LAB, "check", path], capture_output=True, check=False).returncode == 0
+    """Whether a file is a source by itself, and no module, whose run halts soon: two of the examples wait for each other for ever."""
+    return ends_well("check", path) and ends_well("explain", path, "--budget", "10000")
 
 
 def main():
