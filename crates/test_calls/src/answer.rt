@@ -43,13 +43,19 @@ fn first_wrong(
     Ok(None)
 }
 
+/// The first wrong copy of a file, and whether the copy of its copy holds the same.
+fn copies_of(alloc: Global, out: &mut MemorySink) -> Result<(Option<usize>, bool), Fail> {
+    let mut shelf = MemoryShelf::new(alloc);
+    shelf.add("a", b"halt")?;
+    let wrong = first_wrong(alloc, &mut shelf, out)?;
+    let held = shelf.read(alloc, "d", 4)?.as_slice() == b"halt".as_slice();
+    Ok((wrong, held))
+}
+
 /// The first wrong copy; and whether the copy of the copy holds the same, and what is printed is right.
 fn copies(alloc: Global) -> Result<(Option<usize>, bool, bool), Fail> {
-    let mut shelf = MemoryShelf::new(alloc);
     let mut out = MemorySink::new(alloc, 16, 100)?;
-    shelf.add("a", b"halt")?;
-    let wrong = first_wrong(alloc, &mut shelf, &mut out)?;
-    let held = shelf.read(alloc, "d", 4)?.as_slice() == b"halt".as_slice();
+    let (wrong, held) = copies_of(alloc, &mut out)?;
     let printed = out.written() == b"read fault: input failed\n".as_slice();
     Ok((wrong, held, printed))
 }

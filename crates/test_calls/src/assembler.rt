@@ -35,18 +35,18 @@ fn assembles_a_text(rt: HostRuntime) -> Result<(), Fail> {
 }
 
 /// Whether the statements stand on their lines, and the words are these.
-fn lines_and_words(source: &Source) -> (bool, bool) {
+fn lines_and_words(alloc: Global) -> Result<(bool, bool), Fail> {
+    let source = assemble(alloc, TEXT)?;
     let words = [Value::Code(0), Value::Int(0xffff_ffff)];
-    (
+    Ok((
         source.lines() == [1, 3, 4].as_slice(),
         source.user_data() == words.as_slice(),
-    )
+    ))
 }
 
 #[test]
 fn keeps_lines_and_words(rt: HostRuntime) -> Result<(), Fail> {
-    let source = assemble(rt.alloc(), TEXT)?;
-    assert_eq!(rt; lines_and_words(&source), (true, true));
+    assert_eq!(rt; lines_and_words(rt.alloc())?, (true, true));
     Ok(())
 }
 
@@ -103,6 +103,17 @@ fn repeated(alloc: Global, piece: &[u8], count: u32, end: &[u8]) -> Result<Vec<u
     Ok(text)
 }
 
+/// The first faulty line of such a text and its fault, or how many statements it has.
+fn assembled_of(
+    alloc: Global,
+    piece: &[u8],
+    count: u32,
+    end: &[u8],
+) -> Result<Result<usize, (u32, Fault)>, AllocError> {
+    let text = repeated(alloc, piece, count, end)?;
+    Ok(assembled(alloc, &text))
+}
+
 // As many instructions and as long a line as there may be, and one more.
 static LONG: [(&[u8], u32, &[u8], Result<usize, (u32, Fault)>); 4] = [
     (b"nop\n", 20_000, b"", Ok(20_000)),
@@ -119,8 +130,7 @@ static LONG: [(&[u8], u32, &[u8], Result<usize, (u32, Fault)>); 4] = [
 #[test]
 fn counts_instructions_and_the_bytes_of_a_line(rt: HostRuntime) -> Result<(), Fail> {
     for (piece, count, end, wanted) in LONG.iter() {
-        let text = repeated(rt.alloc(), piece, *count, end)?;
-        assert_eq!(rt; assembled(rt.alloc(), &text), *wanted);
+        assert_eq!(rt; assembled_of(rt.alloc(), piece, *count, end)?, *wanted);
     }
     Ok(())
 }

@@ -68,18 +68,33 @@ fn has_image(alloc: Global, bytes: &[u8]) -> Result<[bool; 2], Fail> {
     Ok([again == plain, !plain.input && plain.links.is_empty()])
 }
 
+/// How long the file is in version 2, and whether it has the image.
+fn rewritten_2(alloc: Global) -> Result<(usize, [bool; 2]), Fail> {
+    let bytes = version_2(alloc)?;
+    Ok((bytes.len(), has_image(alloc, &bytes)?))
+}
+
 #[test]
 fn reads_and_writes_version_2(rt: HostRuntime) -> Result<(), Fail> {
-    let bytes = version_2(rt.alloc())?;
-    let right = has_image(rt.alloc(), &bytes)?;
-    assert_eq!(rt; (bytes.len(), right), (36, [true; 2]));
+    assert_eq!(rt; rewritten_2(rt.alloc())?, (36, [true; 2]));
     Ok(())
+}
+
+/// The file of the image in version 2, and a 0.
+fn longer_2(alloc: Global) -> Result<Vec<u8>, Fail> {
+    let bytes = version_2(alloc)?;
+    Ok(longer(alloc, &bytes)?)
+}
+
+/// The fault of that, if it has one.
+fn fault_of_longer_2(alloc: Global) -> Result<Option<ImageError>, Fail> {
+    let longer = longer_2(alloc)?;
+    Ok(read_file(alloc, &longer).err())
 }
 
 #[test]
 fn one_byte_more_is_refused_in_version_2(rt: HostRuntime) -> Result<(), Fail> {
-    let longer = longer(rt.alloc(), &version_2(rt.alloc())?)?;
-    let fault = read_file(rt.alloc(), &longer).err();
+    let fault = fault_of_longer_2(rt.alloc())?;
     assert_eq!(rt; fault, Some(ImageError::Trailing { at: 36 }));
     Ok(())
 }

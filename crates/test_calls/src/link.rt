@@ -271,11 +271,16 @@ fn words_tell_where_they_come_from(rt: HostRuntime) -> Result<(), Fail> {
     Ok(())
 }
 
+/// What a text so linked sends.
+fn sent(alloc: Global, text: &[u8], way: Way) -> Result<String, Fail> {
+    let program = linked(alloc, text, way)?;
+    console_of(alloc, &program.image.code, 1000)
+}
+
 #[test]
 fn reversed_blocks_send_the_same(rt: HostRuntime) -> Result<(), Fail> {
     for way in [Way::ReversedPlain, Way::ReversedCopies] {
-        let program = linked(rt.alloc(), COUNTS_DOWN, way)?;
-        let console = console_of(rt.alloc(), &program.image.code, 1000)?;
+        let console = sent(rt.alloc(), COUNTS_DOWN, way)?;
         assert_eq!(rt; console.as_str(), "321");
     }
     Ok(())

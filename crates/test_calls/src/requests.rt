@@ -77,11 +77,16 @@ static ENDS: [(&[u8], Option<EventError>); 3] = [
     (b"0\n", Some(EventError::TooMany { line: 65_537 })),
 ];
 
+/// The fault of a file that has as many numbers as there may be and an end, if it has one.
+fn fault_behind_most(alloc: Global, end: &[u8]) -> Result<Option<EventError>, Fail> {
+    let most = numbers(alloc, 65_536)?;
+    fault(alloc, &most, end)
+}
+
 #[test]
 fn there_are_at_most_65_536_numbers(rt: HostRuntime) -> Result<(), Fail> {
-    let most = numbers(rt.alloc(), 65_536)?;
     for (end, wanted) in ENDS.iter() {
-        assert_eq!(rt; fault(rt.alloc(), &most, end)?, *wanted, "{end:?}");
+        assert_eq!(rt; fault_behind_most(rt.alloc(), end)?, *wanted, "{end:?}");
     }
     Ok(())
 }

@@ -75,10 +75,14 @@ struct Ran {
     taken: Vec<u32>,
 }
 
-fn machine(alloc: Global, code: &[u32], user_data: &[u32]) -> Result<Turns<LineCache>, Fail> {
+fn image(alloc: Global, code: &[u32], user_data: &[u32]) -> Result<Image, Fail> {
     let code = Vec::from_slice(alloc, code)?;
     let user_data = Vec::from_slice(alloc, user_data)?;
-    let image = Image::new(code, user_data).ok_or("image")?;
+    Ok(Image::new(code, user_data).ok_or("image")?)
+}
+
+fn machine(alloc: Global, code: &[u32], user_data: &[u32]) -> Result<Turns<LineCache>, Fail> {
+    let image = image(alloc, code, user_data)?;
     match Turns::new(alloc, &image, None, LineCache::new()) {
         Ok(machine) => Ok(machine),
         Err(_) => Err("memory".into()),
