@@ -259,6 +259,10 @@ def check(source, schema, folder):
         jsonschema.validate(found[command], schema)
         if command == "profile":
             check_profile(found[command])
+    for command in ("explain", "draw"):
+        jsonschema.validate(json.loads(printed(command, source, "--as", "json")), schema)
+    for line in printed("check", source, "--as", "json", "--all").splitlines():
+        jsonschema.validate(json.loads(line), schema)
     check_words(found["disassemble"], data_labels(source))
     check_caches(found["caches"])
     for words in (["--step", str(1 + found["caches"]["cycles"] // 2000)], ["--pairs", "--step", str(1 + found["caches"]["cycles"] // 20)]):
