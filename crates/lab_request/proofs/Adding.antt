@@ -4,7 +4,8 @@ use Rattle.std.specs.Prelude.{if◌then◌else◌}
 use Rattle.std.specs.Str.{bytes_eq}
 use Rattle.lab_request.specs.Requests.{Held, with_file}
 
-pub over : (at : List ℕ) (given : Option (List ℕ)) (held held' : Held) (n : List ℕ) → held n ≡ held' n → with_file at given held n ≡ with_file at given held' n
+pub over : (at : List ℕ) (given : Option (List ℕ)) (held held' : Held) (n : List ℕ)
+    → held n ≡ held' n → with_file at given held n ≡ with_file at given held' n
 over at None held held' n same = same
 over at (Some bytes) held held' n same = ap (λ h. if bytes_eq at n then Some bytes else h) same
 

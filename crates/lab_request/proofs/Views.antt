@@ -49,4 +49,5 @@ many_requests vs o e many =
 -- the lines of a list that was read
 pub lines_in : (vs : List Value) (o : Option Items) → Some (items_view vs) ≡ o
     → option_map (λ items. flat_map cycle_line (listed items)) o ≡ Some (flat_map cycle_line (map view vs))
-lines_in vs o e = ap (option_map (λ items. flat_map cycle_line (listed items))) (sym e) ∙ ap (λ x. Some (flat_map cycle_line x)) (listed_items (map view vs))
+lines_in vs o e = ap (option_map (λ items. flat_map cycle_line (listed items))) (sym e)
+    ∙ ap (λ x. Some (flat_map cycle_line x)) (listed_items (map view vs))

@@ -72,7 +72,8 @@ abbrev pub Refuses : Refusal → Answer → Type 0
 Refuses refusal answer = (answer.is_refused ≡ true) × (answer.document.items ≡ refusal_document refusal.error refusal.field)
 
 -- how a command ended whose words and files are those of the request, as its document
-pub record Ran (ends : Command → List (List ℕ) → Held → ℕ → List ℕ → List ℕ → Type 0) (command : Command) (d : Data) (answer : Answer) : Type 0 where
+pub record Ran (ends : Command → List (List ℕ) → Held → ℕ → List ℕ → List ℕ → Type 0)
+    (command : Command) (d : Data) (answer : Answer) : Type 0 where
   pub answered : answer.is_refused ≡ false
   pub status : ℕ
   pub output : List ℕ
@@ -81,6 +82,7 @@ pub record Ran (ends : Command → List (List ℕ) → Held → ℕ → List ℕ
   pub printed : answer.document.items ≡ document command status output errors
 
 -- it is refused, if there is a refusal, and else the command ran
-abbrev pub Comes : (Command → List (List ℕ) → Held → ℕ → List ℕ → List ℕ → Type 0) → Command → Data → Option Refusal → Answer → Type 0
+abbrev pub Comes : (Command → List (List ℕ) → Held → ℕ → List ℕ → List ℕ → Type 0)
+    → Command → Data → Option Refusal → Answer → Type 0
 Comes ends command d (Some refusal) answer = Refuses refusal answer
 Comes ends command d None answer = Ran ends command d answer

@@ -7,5 +7,6 @@ use Rattle.lab_request.proofs.checks.input_fault.Goals as goal
 
 pub returns-in-Array : goal.returns-in-Array
 returns-in-Array c =
-    c.list_fault.ensures ∙ ap (λ vs. list_fault (map view vs)) c.as_slice.ensures.value ∙ ap list_fault (sym (listed_items (map view c.in-Array.items.items)))
+    c.list_fault.ensures ∙ ap (λ vs. list_fault (map view vs)) c.as_slice.ensures.value
+    ∙ ap list_fault (sym (listed_items (map view c.in-Array.items.items)))
     ∙ ap input_fault (sym (view-Array c.in-Array.items)) ∙ ap (λ v. input_fault (view v)) (sym c.in-Array.is)

@@ -5,4 +5,5 @@ use Rattle.lab_request.specs.Fields.{command_name}
 use Rattle.lab_request.proofs.command.first_named.Given as goal
 
 abbrev pub invariant-loop-command : goal.invariant-loop-command
-invariant-loop-command l = find (λ c. bytes_eq (command_name c) l.word) l.commands ≡ find (λ c. bytes_eq (command_name c) l.word) (drop l.command-index l.commands)
+invariant-loop-command l = find (λ c. bytes_eq (command_name c) l.word) l.commands
+    ≡ find (λ c. bytes_eq (command_name c) l.word) (drop l.command-index l.commands)

@@ -12,5 +12,6 @@ returns-clause-held c =
     let same : Some c.as_slice-2.result.now ≡ interrupts_in (view c.args.value.now) =
     ap (λ (x : List ℕ). Some x) (c.as_slice-2.ensures.value ∙ c.in-Ok.ensures ∙ ap (λ vs. flat_map cycle_line (map view vs)) c.as_slice.ensures.value)
     ∙ sym (lines_in c.in-Some.items.now.items _ c.in-Some.ensures) in
-    subst (λ (o : Option (List ℕ)). OnOk c.add.result ((n : List ℕ) → held_in c.add.new.self n ≡ with_file interrupts_file o (held_in c.args.files.now) n))
+    subst (λ (o : Option (List ℕ)). OnOk c.add.result
+    ((n : List ℕ) → held_in c.add.new.self n ≡ with_file interrupts_file o (held_in c.args.files.now) n))
     same c.add.ensures.ok
