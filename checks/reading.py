@@ -21,10 +21,10 @@ ASIDE = {"mx_lex": "the assembler", "mx_lines": "the assembler", "mx_asm": "the 
 # The parts, by crates or by single files: how reports and interrupt files are spelled, what is claimed, the machine, and which words run.
 PARTS = {
     "D": ("mx_text", "mx_report", ("mx_board", "RequestFile"), ("cmd_simulate", "Simulated")),
-    "A": ("mx_command", "law_end_to_end", "law_link", "mx_source", "mx_isa", "mx_io", "cmd_answer", "cmd_simulate", "law_order",
-          "cmd_meaning"),
+    "A": ("mx_command", "law_end_to_end", "law_link", "mx_source", "mx_isa", "mx_io", "cmd_answer", "cmd_options", "cmd_simulate",
+          "cmd_meaning", ("mx_delay", "Prefixes")),
     "B": ("mx_turn", "mx_pcchain", "mx_icache", "mx_board"),
-    "C": ("mx_blocks", "mx_depend", "mx_validate", "mx_reorg", "mx_squash", "mx_layout", "mx_link", "law_schedule", "mx_code"),
+    "C": ("mx_blocks", "mx_depend", "mx_validate", "mx_reorg", "mx_squash", "mx_layout", "mx_link", "law_schedule", "mx_delay", "mx_code"),
 }
 SHOWN = "ABCD"
 IMPORT = re.compile(r"(?:ghost )?use Rattle\.(\w+)\.specs\.([\w.]+?)\.\{(.*)\};?$")

@@ -1,21 +1,29 @@
 //! Pieces of a text.
-ghost use Rattle.std.specs.Prelude.{◌≡◌, ◌<◌, [], None, IfSome};
+ghost use Rattle.std.specs.Prelude.{◌≡◌, ◌≢◌, ◌<◌, ◌==◌, [], None, All, IfSome, MatchOption, not, reverse};
+ghost use Rattle.std.specs.List.{position, before_first, after_first};
 ghost use Rattle.cc_lines.specs.Bytes;
 
 /// The lines of a text, with what their ends leave of a CR.
 #[derive(Drop)]
 pub struct Lines<'a> {
-    rest: &'a [u8],
+    /// What is left of the text.
+    pub rest: &'a [u8],
 }
 
 impl<'a> Lines<'a> {
     /// All lines of a text.
-    pub fn new(text: &'a [u8]) -> Lines<'a> {
+    pub fn new(text: &'a [u8]) -> Lines<'a>
+        ensures { result.rest.now ≡ text.now }
+    {
         Lines { rest: text }
     }
 
     /// The next line, if the text is not at its end.
-    pub fn next_line(&mut self) -> Option<&'a [u8]> {
+    pub fn next_line(&mut self) -> Option<&'a [u8]>
+        ensures line { MatchOption result (self.old.rest.now ≡ [])
+            (λ line. line.now ≡ Bytes.trimmed (before_first (λ b. b == 10) self.old.rest.now)) }
+        ensures rest { self.new.rest.now ≡ after_first (λ b. b == 10) self.old.rest.now }
+    {
         if self.rest.is_empty() {
             return None;
         }
@@ -39,55 +47,81 @@ pub(crate) fn is_named(byte: u8) -> bool
     byte.is_ascii_alphanumeric() || byte == b'_' || byte == b'.' || byte == b'$'
 }
 
+/// The place of the first byte of a kind.
+fn place_of(text: &[u8], byte: u8) -> Option<usize>
+    ensures { result ≡ position (λ b. b == byte) text.now }
+{
+    text.iter().position(|b| *b == byte)
+}
+
 /// A text up to the first byte of this kind, and what stands behind it.
-pub(crate) fn split_at_byte(text: &[u8], byte: u8) -> (&[u8], &[u8]) {
-    let count = text.len();
-    let at = text
-        .iter()
-        .position(|b| *b == byte)
-        .unwrap_or(count)
-        .min(count);
-    let (front, back) = text.split_at(at);
-    (front, back.get(1..).unwrap_or(&[]))
+pub(crate) fn split_at_byte(text: &[u8], byte: u8) -> (&[u8], &[u8])
+    ensures front { result.0.now ≡ before_first (λ b. b == byte) text.now }
+    ensures back { result.1.now ≡ after_first (λ b. b == byte) text.now }
+{
+    match place_of(text, byte) {
+        Some(at) => (&text[..at], &text[at + 1..]),
+        None => (text, &[]),
+    }
+}
+
+/// The place of the first byte that may not stand in a name.
+fn name_end(text: &[u8]) -> Option<usize>
+    ensures { result ≡ position (λ b. not (Bytes.is_named b)) text.now }
+{
+    text.iter().position(|b| !is_named(*b))
 }
 
 /// The bytes at the front that may stand in a name, and what stands behind them.
-pub(crate) fn split_name(text: &[u8]) -> (&[u8], &[u8]) {
-    let count = text.len();
-    let at = text
-        .iter()
-        .position(|b| !is_named(*b))
-        .unwrap_or(count)
-        .min(count);
-    text.split_at(at)
+pub(crate) fn split_name(text: &[u8]) -> (&[u8], &[u8])
+    ensures name { result.0.now ≡ Bytes.name_of text.now }
+    ensures rest { result.1.now ≡ Bytes.behind_name text.now }
+{
+    match name_end(text) {
+        Some(at) => (&text[..at], &text[at..]),
+        None => (text, &[]),
+    }
+}
+
+/// The place of the first byte that is no blank.
+fn first_seen(text: &[u8]) -> Option<usize>
+    ensures { result ≡ position (λ b. not (Bytes.is_blank b)) text.now }
+{
+    text.iter().position(|b| !is_blank(*b))
+}
+
+/// How many blanks stand behind the last byte that is none.
+fn blanks_behind(text: &[u8]) -> Option<usize>
+    ensures { result ≡ position (λ b. not (Bytes.is_blank b)) (reverse text.now) }
+{
+    text.iter().rev().position(|b| !is_blank(*b))
 }
 
 /// A text without the blanks at its front.
-pub(crate) fn trimmed_front(text: &[u8]) -> &[u8] {
-    let count = text.len();
-    let at = text
-        .iter()
-        .position(|b| !is_blank(*b))
-        .unwrap_or(count)
-        .min(count);
-    text.get(at..).unwrap_or(&[])
+pub(crate) fn trimmed_front(text: &[u8]) -> &[u8]
+    ensures { result.now ≡ Bytes.front_trimmed text.now }
+{
+    match first_seen(text) {
+        Some(at) => &text[at..],
+        None => &[],
+    }
 }
 
 /// A text without the blanks at its front and its end.
-pub(crate) fn trimmed(text: &[u8]) -> &[u8] {
+pub(crate) fn trimmed(text: &[u8]) -> &[u8]
+    ensures { result.now ≡ Bytes.trimmed text.now }
+{
     let front = trimmed_front(text);
-    let count = front.len();
-    let blanks = front
-        .iter()
-        .rev()
-        .position(|b| !is_blank(*b))
-        .unwrap_or(count)
-        .min(count);
-    front.get(..count - blanks).unwrap_or(&[])
+    match blanks_behind(front) {
+        Some(blanks) => &front[..front.len() - blanks],
+        None => &[],
+    }
 }
 
 /// A line without what stands behind the first `#` outside quotes, and without blanks around it.
-pub fn without_comment(line: &[u8]) -> &[u8] {
+pub fn without_comment(line: &[u8]) -> &[u8]
+    ensures { All (λ b. b ≢ 35) line.now → result.now ≡ Bytes.trimmed line.now }
+{
     let mut quoted = false;
     let mut escaped = false;
     for (at, byte) in line.iter().enumerate() {

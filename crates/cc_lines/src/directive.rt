@@ -321,7 +321,7 @@ fn is_ignored(word: &[u8]) -> bool {
 }
 
 /// The directive that a text spells, or the assignment `name = other`.
-pub fn directive_read(text: &[u8]) -> Result<Directive<'_>, Refusal> {
+pub(crate) fn directive_read(text: &[u8]) -> Result<Directive<'_>, Refusal> {
     let (name, behind) = split_at_byte(text, b'=');
     if !behind.is_empty() && name_read(trimmed(name)).is_ok() {
         return alias_read(trimmed(name), trimmed(behind));

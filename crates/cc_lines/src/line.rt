@@ -1,4 +1,7 @@
 //! Lines.
+ghost use Rattle.std.specs.Prelude.{◌≡◌, ◌==◌, ◌||◌, ◌↔◌, [], drop, IfSome, IfOk};
+ghost use Rattle.std.specs.List.{position, before_first};
+ghost use Rattle.cc_lines.specs.Bytes;
 
 use crate::cursor::{is_named, split_name, trimmed, trimmed_front};
 use crate::directive::{Directive, directive_read};
@@ -15,7 +18,10 @@ pub enum Line<'a> {
 }
 
 /// The label at the front of a line, and what stands behind it.
-pub fn label_before(text: &[u8]) -> Option<(&[u8], &[u8])> {
+pub fn label_before(text: &[u8]) -> Option<(&[u8], &[u8])>
+    ensures name { IfSome result (λ found. found.0.now ≡ Bytes.name_of text.now) }
+    ensures rest { IfSome result (λ found. found.1.now ≡ Bytes.front_trimmed (drop 1 (Bytes.behind_name text.now))) }
+{
     let (name, rest) = split_name(text);
     match rest {
         [b':', behind @ ..] if !name.is_empty() => Some((name, trimmed_front(behind))),
@@ -23,19 +29,27 @@ pub fn label_before(text: &[u8]) -> Option<(&[u8], &[u8])> {
     }
 }
 
+/// The place of the first space or tab.
+fn word_end(text: &[u8]) -> Option<usize>
+    ensures { result ≡ position (λ b. b == 32 || b == 9) text.now }
+{
+    text.iter().position(|b| *b == b' ' || *b == b'\t')
+}
+
 /// The word that a text without labels begins with: its mnemonic or directive.
-pub fn first_word(text: &[u8]) -> &[u8] {
-    let count = text.len();
-    let at = text
-        .iter()
-        .position(|b| *b == b' ' || *b == b'\t')
-        .unwrap_or(count)
-        .min(count);
-    text.get(..at).unwrap_or(&[])
+pub fn first_word(text: &[u8]) -> &[u8]
+    ensures { result.now ≡ before_first (λ b. b == 32 || b == 9) text.now }
+{
+    match word_end(text) {
+        Some(at) => &text[..at],
+        None => text,
+    }
 }
 
 /// What a text without comment and labels spells.
-pub fn line_read(text: &[u8]) -> Result<Line<'_>, Refusal> {
+pub fn line_read(text: &[u8]) -> Result<Line<'_>, Refusal>
+    ensures { IfOk result (λ line. line ≡ Line.Nothing ↔ text.now ≡ []) }
+{
     match text {
         [] => Ok(Line::Nothing),
         [b'.', ..] | [b'$', ..] => Ok(Line::Directive(directive_read(text)?)),

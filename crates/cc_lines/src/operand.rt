@@ -1,5 +1,6 @@
 //! Operands of instructions, and the values of data directives.
-ghost use Rattle.std.specs.Prelude.{◌<◌, IfSome, IfOk};
+ghost use Rattle.std.specs.Prelude.{◌≡◌, ◌<◌, ◌==◌, [], length, IfSome, IfNone, IfOk};
+ghost use Rattle.std.specs.List.{after_first};
 ghost use Rattle.cc_lines.specs.Registers.{IsTaken};
 
 use crate::cursor::{is_named, number, split_at_byte, split_name, trimmed, trimmed_front};
@@ -27,7 +28,8 @@ pub enum Word<'a> {
 /// The values of a data directive, one after the other.
 #[derive(Clone, Copy)]
 pub struct Values<'a> {
-    rest: &'a [u8],
+    /// What is left of their text.
+    pub rest: &'a [u8],
 }
 
 /// The names of registers that have one besides their number.
@@ -153,17 +155,24 @@ pub(crate) fn operand_read(text: &[u8]) -> Result<Operand<'_>, Refusal> {
 
 impl<'a> Values<'a> {
     /// The values that a text holds.
-    pub fn new(text: &'a [u8]) -> Values<'a> {
+    pub fn new(text: &'a [u8]) -> Values<'a>
+        ensures { result.rest.now ≡ text.now }
+    {
         Values { rest: text }
     }
 
     /// How many values there are at most.
-    pub fn most(&self) -> usize {
+    pub fn most(&self) -> usize
+        ensures { result ≡ length self.now.rest.now }
+    {
         self.rest.len()
     }
 
     /// The next value, if there is one.
-    pub fn next_value(&mut self) -> Result<Option<Word<'a>>, Refusal> {
+    pub fn next_value(&mut self) -> Result<Option<Word<'a>>, Refusal>
+        ensures ended { IfOk result (λ value. IfNone value (self.old.rest.now ≡ [])) }
+        ensures rest { self.new.rest.now ≡ after_first (λ b. b == 44) self.old.rest.now }
+    {
         if self.rest.is_empty() {
             return Ok(None);
         }

@@ -1,4 +1,5 @@
 //! Texts in quotes.
+ghost use Rattle.cc_lines.specs.Bytes.{Extends};
 
 use crate::refusal::{LineError, Refusal};
 
@@ -32,7 +33,9 @@ fn octal(value: u8, digit: u8) -> u8 {
 }
 
 /// Where the reading is behind a byte inside quotes.
-fn inside(bytes: &mut Vec<u8>, byte: u8, ended: bool) -> Result<Reading, LineError> {
+fn inside(bytes: &mut Vec<u8>, byte: u8, ended: bool) -> Result<Reading, LineError>
+    ensures { Extends bytes.old.items bytes.new.items }
+{
     match byte {
         b'\\' => Ok(Reading::Escaped),
         b'"' => {
@@ -49,7 +52,9 @@ fn inside(bytes: &mut Vec<u8>, byte: u8, ended: bool) -> Result<Reading, LineErr
 }
 
 /// Where the reading is behind a byte that follows `\`.
-fn escaped(bytes: &mut Vec<u8>, byte: u8) -> Result<Reading, LineError> {
+fn escaped(bytes: &mut Vec<u8>, byte: u8) -> Result<Reading, LineError>
+    ensures { Extends bytes.old.items bytes.new.items }
+{
     if let b'0'..=b'7' = byte {
         return Ok(Reading::Octal(octal(0, byte), 2));
     }
@@ -63,12 +68,15 @@ fn escaped(bytes: &mut Vec<u8>, byte: u8) -> Result<Reading, LineError> {
 }
 
 /// Where the reading is behind one byte more.
+#[tactic(auto, using(crate::proofs::Extends::extends_more))]
 fn next_reading(
     bytes: &mut Vec<u8>,
     reading: Reading,
     byte: u8,
     ended: bool,
-) -> Result<Reading, LineError> {
+) -> Result<Reading, LineError>
+    ensures { Extends bytes.old.items bytes.new.items }
+{
     match reading {
         Reading::Outside => match byte {
             b'"' => Ok(Reading::Inside),
@@ -88,7 +96,10 @@ fn next_reading(
 }
 
 /// Adds the bytes of quoted texts between commas, each with a byte 0 behind it where they are `ended`.
-pub fn push_quoted(bytes: &mut Vec<u8>, text: &[u8], ended: bool) -> Result<(), LineError> {
+#[tactic(auto, using(crate::proofs::Extends::extends_more, crate::proofs::Extends::extends_same))]
+pub fn push_quoted(bytes: &mut Vec<u8>, text: &[u8], ended: bool) -> Result<(), LineError>
+    ensures { Extends bytes.old.items bytes.new.items }
+{
     let mut reading = Reading::Outside;
     for byte in text {
         reading = next_reading(bytes, reading, *byte, ended)?;

@@ -57,16 +57,9 @@ fn add_object<'a>(
     {
         return Err(LineError::Refused(Refusal::DefinedTwice));
     }
-    program.objects.push(Object {
-        symbol,
-        unit,
-        align,
-        size,
-        bytes: Vec::new(alloc),
-        references: Vec::new(alloc),
-        address: 0,
-        kept: false,
-    })?;
+    program
+        .objects
+        .push(Object::new(alloc, symbol, unit, size, align))?;
     Ok(())
 }
 
@@ -170,6 +163,36 @@ fn push_values<'a>(
     Ok(())
 }
 
+/// Adds bytes of 0 to the datum with this number.
+fn add_space(program: &mut Program, number: usize, size: u32) {
+    if let Some(object) = program.objects.as_mut_slice().get_mut(number) {
+        object.size = object.size.saturating_add(size);
+    }
+}
+
+/// Adds quoted texts to the datum with this number.
+fn push_text(
+    program: &mut Program,
+    number: usize,
+    quoted: &[u8],
+    ended: bool,
+) -> Result<(), LineError> {
+    let Some(object) = program.objects.as_mut_slice().get_mut(number) else {
+        return Ok(());
+    };
+    fill(object)?;
+    push_quoted(&mut object.bytes, quoted, ended)?;
+    measure(object)
+}
+
+/// The number of the datum that a line of data adds to.
+fn object_at(position: &Position) -> Result<usize, LineError> {
+    match position.object {
+        Some(number) if position.section == Section::Data => Ok(number),
+        _ => Err(LineError::Refused(Refusal::OutsideObject)),
+    }
+}
+
 /// A directive that lays down data, or says nothing that matters here.
 pub(crate) fn data_directive<'a>(
     program: &mut Program<'a>,
@@ -184,31 +207,16 @@ pub(crate) fn data_directive<'a>(
             if position.section == Section::Data {
                 position.align = position.align.max(align);
             }
-            return Ok(());
         }
-        Directive::Data { .. } | Directive::Text { .. } | Directive::Space(_) => {}
-        _ => return Ok(()),
-    }
-    let number = match position.object {
-        Some(number) if position.section == Section::Data => number,
-        _ => return Err(LineError::Refused(Refusal::OutsideObject)),
-    };
-    if let Directive::Data { bytes, values } = read {
-        return push_values(program, number, bytes, values, position.line);
-    }
-    let Some(object) = program.objects.as_mut_slice().get_mut(number) else {
-        return Ok(());
-    };
-    match read {
-        Directive::Space(size) => {
-            object.size = object.size.saturating_add(size);
-            Ok(())
+        Directive::Data { bytes, values } => {
+            let number = object_at(position)?;
+            return push_values(program, number, bytes, values, position.line);
         }
         Directive::Text { ended, quoted } => {
-            fill(object)?;
-            push_quoted(&mut object.bytes, quoted, ended)?;
-            measure(object)
+            return push_text(program, object_at(position)?, quoted, ended);
         }
-        _ => Ok(()),
+        Directive::Space(size) => add_space(program, object_at(position)?, size),
+        _ => {}
     }
+    Ok(())
 }

@@ -1,4 +1,7 @@
 //! Why texts are not translated.
+ghost use Rattle.std.specs.Prelude.{◌≡◌};
+ghost use Rattle.cc_translate.specs.declared.error.TranslateError.TheVariants.{Memory};
+ghost use Rattle.cc_translate.specs.Errors.{IsTooMany};
 
 use cc_lines::{LineError, Refusal};
 use std::alloc::{AllocError, AllocFailed};
@@ -29,13 +32,17 @@ pub enum TranslateError<'a> {
 }
 
 impl<'a> From<AllocError> for TranslateError<'a> {
+    ghost from_gives = { λ _ e. e ≡ Memory };
+
     fn from(_: AllocError) -> TranslateError<'a> {
         TranslateError::Memory
     }
 }
 
 /// The error of a line.
-pub(crate) fn error_at<'a>(unit: u32, line: u32, error: LineError) -> TranslateError<'a> {
+pub(crate) fn error_at<'a>(unit: u32, line: u32, error: LineError) -> TranslateError<'a>
+    ensures { IsTooMany result }
+{
     match error {
         LineError::Refused(refusal) => TranslateError::Fault(Fault {
             unit,
@@ -48,6 +55,8 @@ pub(crate) fn error_at<'a>(unit: u32, line: u32, error: LineError) -> TranslateE
 }
 
 impl<'a, T: Drop> From<AllocFailed<T>> for TranslateError<'a> {
+    ghost from_gives = { λ _ e. e ≡ Memory };
+
     fn from(_: AllocFailed<T>) -> TranslateError<'a> {
         TranslateError::Memory
     }

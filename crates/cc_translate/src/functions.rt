@@ -14,6 +14,20 @@ use std::alloc::{AllocError, Global};
 /// The longest name of a source file that is told.
 const LONGEST_NAME: usize = 160;
 
+/// A plan for each item of a function, of what is read behind it alone.
+fn first_plans(alloc: Global, live: &[u64]) -> Result<Vec<Plan>, AllocError> {
+    let mut plans = Vec::new(alloc);
+    for one in live {
+        plans.push(Plan {
+            step: Step::Kept,
+            live: *one,
+            place: None,
+            divided: None,
+        })?;
+    }
+    Ok(plans)
+}
+
 /// A plan for each item of a function.
 fn plans_of(
     alloc: Global,
@@ -22,15 +36,7 @@ fn plans_of(
     items: &[Item],
 ) -> Result<Vec<Plan>, AllocError> {
     let live = live_after(alloc, &program.symbols, function.first, items)?;
-    let mut plans = Vec::new(alloc);
-    for one in &live {
-        plans.push(Plan {
-            step: Step::Kept,
-            live: *one,
-            place: None,
-            divided: None,
-        })?;
-    }
+    let mut plans = first_plans(alloc, &live)?;
     fuse(items, &program.symbols, plans.as_mut_slice());
     find_places(program, function, items, plans.as_mut_slice());
     Ok(plans)
@@ -56,22 +62,18 @@ fn tell_line(
             out.text.push(*byte)?;
         }
     }
-    out.put(":")?;
-    out.number(i64::from(line))?;
-    out.put("\n")
+    out.filled(":%\n", &[i64::from(line)])
 }
 
-/// Translates a function.
-pub(crate) fn translate_function(
-    alloc: Global,
+/// Translates the items of a function by their plans.
+fn put_items(
     out: &mut Output,
     program: &Program,
     function: &Function,
+    items: &[Item],
+    plans: &[Plan],
 ) -> Result<(), AllocError> {
-    let items = program.items_of(function);
-    let plans = plans_of(alloc, program, function, items)?;
     let mut told = (0u32, 0u32);
-    out.label(&program.symbols, function.symbol)?;
     for (item, plan) in items.iter().zip(plans.iter()) {
         match item {
             Item::Label(label) => {
@@ -95,4 +97,17 @@ pub(crate) fn translate_function(
         }
     }
     Ok(())
+}
+
+/// Translates a function.
+pub(crate) fn translate_function(
+    alloc: Global,
+    out: &mut Output,
+    program: &Program,
+    function: &Function,
+) -> Result<(), AllocError> {
+    let items = program.items_of(function);
+    let plans = plans_of(alloc, program, function, items)?;
+    out.label(&program.symbols, function.symbol)?;
+    put_items(out, program, function, items, &plans)
 }

@@ -1,6 +1,7 @@
 //! What functions and data are made of.
 
 use cc_lines::Instruction;
+use std::alloc::Global;
 
 /// A line of a function that matters: a label, a statement, or where the next statements come from.
 #[derive(Clone, Copy)]
@@ -54,4 +55,20 @@ pub(crate) struct Object {
     pub references: Vec<Reference>,
     pub address: u32,
     pub kept: bool,
+}
+
+impl Object {
+    /// A datum of zeros that nothing was found to need.
+    pub(crate) fn new(alloc: Global, symbol: u32, unit: u32, size: u32, align: u32) -> Object {
+        Object {
+            symbol,
+            unit,
+            align,
+            size,
+            bytes: Vec::new(alloc),
+            references: Vec::new(alloc),
+            address: 0,
+            kept: false,
+        }
+    }
 }

@@ -43,9 +43,7 @@ pub(crate) fn constant(out: &mut Output, value: u32, rd: u8) -> Result<(), Alloc
     if number >= -65536 && number <= 65535 {
         return out.statement("addi r0,#%,r%", &[number, i64::from(rd)]);
     }
-    if out.numbers.get(&value).is_none() {
-        out.numbers.insert(value, value)?;
-    }
+    out.numbers.insert(value)?;
     out.statement("ld k.%[r0],r%", &[i64::from(value), i64::from(rd)])
 }
 
@@ -143,6 +141,15 @@ fn load_word(
     Ok(())
 }
 
+/// The register that takes a word of which a part is loaded: the part's own, if that is free.
+fn part_register(spot: &Spot, rd: u8) -> u8 {
+    match spot.part {
+        Part::By(FIRST) if rd == FIRST || rd == 0 => SECOND,
+        Part::By(by) if rd == by || rd == 0 => FIRST,
+        _ => rd,
+    }
+}
+
 /// Loads so many bits, from the top of the turned word.
 fn load_part(
     out: &mut Output,
@@ -151,32 +158,23 @@ fn load_part(
     bits: u8,
     extended: bool,
 ) -> Result<(), AllocError> {
-    let mut t = rd;
+    let t = part_register(spot, rd);
+    let word = i64::from(t);
+    load(out, spot, t)?;
     match spot.part {
-        Part::Byte(byte) => {
-            load(out, spot, t)?;
-            if byte != 0 {
-                let left = 32 - 8 * i64::from(byte);
-                out.statement("sh r0,r%,#%,r%", &[i64::from(t), left, i64::from(t)])?;
-            }
-        }
-        Part::By(by) => {
-            if t == by || t == 0 {
-                t = if by == FIRST { SECOND } else { FIRST };
-            }
-            load(out, spot, t)?;
-            out.statement(
-                "rotlb r%,r%,r%",
-                &[i64::from(t), i64::from(by), i64::from(t)],
-            )?;
-        }
+        Part::Byte(0) => {}
+        Part::Byte(byte) => out.statement(
+            "sh r0,r%,#%,r%",
+            &[word, 32 - 8 * i64::from(byte), word],
+        )?,
+        Part::By(by) => out.statement("rotlb r%,r%,r%", &[word, i64::from(by), word])?,
     }
-    let right = 32 - i64::from(bits);
-    if extended {
-        out.statement("asr r%,#%,r%", &[i64::from(t), right, i64::from(rd)])
+    let text = if extended {
+        "asr r%,#%,r%"
     } else {
-        out.statement("sh r%,r0,#%,r%", &[i64::from(t), right, i64::from(rd)])
-    }
+        "sh r%,r0,#%,r%"
+    };
+    out.statement(text, &[word, 32 - i64::from(bits), i64::from(rd)])
 }
 
 /// Turns a register to the right by so many bits.
@@ -188,46 +186,72 @@ fn turn(out: &mut Output, register: u8, bits: i64) -> Result<(), AllocError> {
     out.statement("sh r%,r%,#%,r%", &[r, r, bits, r])
 }
 
+/// Puts so many low bits of a register into a word, from the byte with this number on.
+fn insert_at(out: &mut Output, t: u8, rs: i64, byte: u8, bits: u8) -> Result<(), AllocError> {
+    let (word, count) = (i64::from(t), i64::from(bits));
+    let before = 8 * i64::from(byte);
+    turn(out, t, 32 - count - before)?;
+    out.statement("sh r%,r%,#%,r%", &[word, rs, count, word])?;
+    turn(out, t, before)
+}
+
+/// Puts so many low bits of a register into a word, from the byte on that the low bits of another register tell.
+fn insert_by(out: &mut Output, word: i64, rs: i64, by: i64, bits: u8) -> Result<(), AllocError> {
+    let count = i64::from(bits);
+    out.lines(
+        "        rotlb r%,r%,r%
+        sh r0,r%,#%,r%
+        sh r%,r%,#%,r%
+",
+        &[
+            word,
+            by,
+            word,
+            word,
+            32 - count,
+            word,
+            word,
+            rs,
+            count,
+            word,
+        ],
+    )?;
+    if bits != 8 {
+        return out.statement("rotlb r%,r%,r%", &[word, by, word]);
+    }
+    let back = i64::from(FIRST);
+    out.lines(
+        "        sub r0,r%,r%
+        rotlb r%,r%,r%
+",
+        &[by, back, word, back, word],
+    )
+}
+
 /// Stores so many low bits of a register.
 fn store_part(out: &mut Output, rs: u8, spot: &Spot, bits: u8) -> Result<(), AllocError> {
     let t = if spot.base == SECOND { THIRD } else { SECOND };
-    let word = i64::from(t);
-    let count = i64::from(bits);
+    let from = i64::from(rs);
     load(out, spot, t)?;
     match spot.part {
-        Part::Byte(byte) => {
-            let before = 8 * i64::from(byte);
-            turn(out, t, 32 - count - before)?;
-            out.statement("sh r%,r%,#%,r%", &[word, i64::from(rs), count, word])?;
-            turn(out, t, before)?;
-        }
-        Part::By(by) => {
-            out.statement("rotlb r%,r%,r%", &[word, i64::from(by), word])?;
-            out.statement("sh r0,r%,#%,r%", &[word, 32 - count, word])?;
-            out.statement("sh r%,r%,#%,r%", &[word, i64::from(rs), count, word])?;
-            let mut back = by;
-            if bits == 8 {
-                out.statement("sub r0,r%,r%", &[i64::from(by), i64::from(FIRST)])?;
-                back = FIRST;
-            }
-            out.statement("rotlb r%,r%,r%", &[word, i64::from(back), word])?;
-        }
+        Part::Byte(byte) => insert_at(out, t, from, byte, bits)?,
+        Part::By(by) => insert_by(out, i64::from(t), from, i64::from(by), bits)?,
     }
     store(out, spot, t)
 }
 
 /// The number of a byte in its word, to the third register, and the table's word for it.
 fn mask_for(out: &mut Output, mask: Mask) -> Result<(), AllocError> {
+    let (a, m) = (i64::from(FIRST), i64::from(THIRD));
     out.need_mask(mask)?;
-    out.statement("sh r0,r%,#2,r%", &[i64::from(FIRST), i64::from(THIRD)])?;
-    out.statement("sh r%,r0,#30,r%", &[i64::from(THIRD), i64::from(THIRD)])?;
-    let text = match mask {
-        Mask::LoadLeft => "ld t.lwl[r%],r%",
-        Mask::LoadRight => "ld t.lwr[r%],r%",
-        Mask::StoreLeft => "ld t.swl[r%],r%",
-        Mask::StoreRight => "ld t.swr[r%],r%",
-    };
-    out.statement(text, &[i64::from(THIRD), i64::from(THIRD)])
+    out.lines(
+        "        sh r0,r%,#2,r%
+        sh r%,r0,#30,r%
+        ld ",
+        &[a, m, m, m],
+    )?;
+    out.put(mask.name())?;
+    out.lines("[r%],r%\n", &[m, m])
 }
 
 /// The address of an unaligned datum, to the first register.
@@ -247,18 +271,30 @@ fn load_unaligned(out: &mut Output, rd: u8, place: Place, mask: Mask) -> Result<
         i64::from(rd),
     );
     far_address(out, place)?;
-    out.statement("asr r%,#2,r%", &[a, x])?;
-    out.statement("ld 0[r%],r%", &[x, x])?;
+    out.lines(
+        "        asr r%,#2,r%
+        ld 0[r%],r%
+",
+        &[a, x, x, x],
+    )?;
     if mask == Mask::LoadRight {
-        out.statement("addi r%,#1,r%", &[a, m])?;
-        out.statement("rotlb r%,r%,r%", &[x, m, x])?;
+        out.lines(
+            "        addi r%,#1,r%
+        rotlb r%,r%,r%
+",
+            &[a, m, x, m, x],
+        )?;
     } else {
         out.statement("rotlb r%,r%,r%", &[x, a, x])?;
     }
     mask_for(out, mask)?;
-    out.statement("and r%,r%,r%", &[d, m, d])?;
-    out.statement("bic r%,r%,r%", &[x, m, x])?;
-    out.statement("or r%,r%,r%", &[d, x, d])
+    out.lines(
+        "        and r%,r%,r%
+        bic r%,r%,r%
+        or r%,r%,r%
+",
+        &[d, m, d, x, m, x, d, x, d],
+    )
 }
 
 /// `swl` and `swr`.
@@ -278,12 +314,16 @@ fn store_unaligned(out: &mut Output, rs: u8, place: Place, mask: Mask) -> Result
     out.statement(turned, &[a, t])?;
     out.statement("rotlb r%,r%,r%", &[i64::from(rs), t, t])?;
     mask_for(out, mask)?;
-    out.statement("asr r%,#2,r%", &[a, a])?;
-    out.statement("ld 0[r%],r%", &[a, w])?;
-    out.statement("and r%,r%,r%", &[t, m, t])?;
-    out.statement("bic r%,r%,r%", &[w, m, w])?;
-    out.statement("or r%,r%,r%", &[t, w, t])?;
-    out.statement("st 0[r%],r%", &[a, t])
+    out.lines(
+        "        asr r%,#2,r%
+        ld 0[r%],r%
+        and r%,r%,r%
+        bic r%,r%,r%
+        or r%,r%,r%
+        st 0[r%],r%
+",
+        &[a, a, a, w, t, m, t, w, m, w, t, w, t, a, t],
+    )
 }
 
 /// A load from a place, which the base and the offset without the symbol's address were told of.

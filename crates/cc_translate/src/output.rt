@@ -1,7 +1,7 @@
 //! The text of the translation.
 
 use crate::symbols::Symbols;
-use indexmap::IndexMap;
+use indexmap::IndexSet;
 use itoa::Buffer;
 use std::alloc::{AllocError, Global};
 
@@ -20,7 +20,7 @@ pub(crate) enum Routine {
 }
 
 impl Routine {
-    pub const ALL: [Routine; 8] = [
+    pub(crate) const ALL: [Routine; 8] = [
         Routine::Low,
         Routine::SignedProduct,
         Routine::Product,
@@ -32,7 +32,7 @@ impl Routine {
     ];
 
     /// Its label.
-    pub fn name(self) -> &'static str {
+    pub(crate) fn name(self) -> &'static str {
         match self {
             Routine::Low => "m.mul",
             Routine::Product => "m.multu",
@@ -56,7 +56,7 @@ pub(crate) enum Mask {
 }
 
 impl Mask {
-    pub const ALL: [Mask; 4] = [
+    pub(crate) const ALL: [Mask; 4] = [
         Mask::LoadLeft,
         Mask::LoadRight,
         Mask::StoreLeft,
@@ -64,7 +64,7 @@ impl Mask {
     ];
 
     /// Its label.
-    pub fn name(self) -> &'static str {
+    pub(crate) fn name(self) -> &'static str {
         match self {
             Mask::LoadLeft => "t.lwl",
             Mask::LoadRight => "t.lwr",
@@ -74,7 +74,7 @@ impl Mask {
     }
 
     /// Its words.
-    pub fn words(self) -> [u32; 4] {
+    pub(crate) fn words(self) -> [i64; 4] {
         match self {
             Mask::LoadLeft => [0, 0xff, 0xffff, 0xff_ffff],
             Mask::LoadRight => [0xffff_ff00, 0xffff_0000, 0xff00_0000, 0],
@@ -90,9 +90,9 @@ pub(crate) struct Output {
     pub text: Vec<u8>,
     pub statements: u32,
     /// The numbers that statements load from data, in order.
-    pub numbers: IndexMap<u32, u32>,
+    pub numbers: IndexSet<u32>,
     /// The addends to the first byte behind all data that statements load from data.
-    pub ends: IndexMap<u32, u32>,
+    pub ends: IndexSet<u32>,
     pub routines: Vec<Routine>,
     pub masks: Vec<Mask>,
     /// How many labels of its own it has.
@@ -101,14 +101,28 @@ pub(crate) struct Output {
     pub input: bool,
 }
 
+/// How many statements lines are: those that are no labels.
+fn statements_in(text: &str) -> u32 {
+    let mut lines = 0u32;
+    let mut labels = 0u32;
+    for byte in text.as_bytes() {
+        if *byte == b'\n' {
+            lines = lines.saturating_add(1);
+        } else if *byte == b':' {
+            labels = labels.saturating_add(1);
+        }
+    }
+    lines.saturating_sub(labels)
+}
+
 impl Output {
     /// The empty text.
-    pub fn new(alloc: Global) -> Output {
+    pub(crate) fn new(alloc: Global) -> Output {
         Output {
             text: Vec::new(alloc),
             statements: 0,
-            numbers: IndexMap::new(alloc),
-            ends: IndexMap::new(alloc),
+            numbers: IndexSet::new(alloc),
+            ends: IndexSet::new(alloc),
             routines: Vec::new(alloc),
             masks: Vec::new(alloc),
             labels: 0,
@@ -117,18 +131,18 @@ impl Output {
     }
 
     /// Adds text.
-    pub fn put(&mut self, text: &str) -> Result<(), AllocError> {
+    pub(crate) fn put(&mut self, text: &str) -> Result<(), AllocError> {
         self.text.extend_from_slice(text.as_bytes())
     }
 
     /// Adds a number.
-    pub fn number(&mut self, value: i64) -> Result<(), AllocError> {
+    pub(crate) fn number(&mut self, value: i64) -> Result<(), AllocError> {
         self.text
             .extend_from_slice(Buffer::new().format(value).as_bytes())
     }
 
     /// Adds text in which each `%` stands for the next of these numbers.
-    fn filled(&mut self, text: &str, numbers: &[i64]) -> Result<(), AllocError> {
+    pub(crate) fn filled(&mut self, text: &str, numbers: &[i64]) -> Result<(), AllocError> {
         let mut left = numbers.iter();
         for byte in text.as_bytes() {
             if *byte == b'%' {
@@ -142,22 +156,22 @@ impl Output {
         Ok(())
     }
 
-    /// Adds the end of a statement, in which each `%` stands for the next of these numbers.
-    pub fn filled_line(&mut self, text: &str, numbers: &[i64]) -> Result<(), AllocError> {
+    /// Adds lines, in which each `%` stands for the next of these numbers: statements, and labels.
+    pub(crate) fn lines(&mut self, text: &str, numbers: &[i64]) -> Result<(), AllocError> {
         self.filled(text, numbers)?;
-        self.put("\n")?;
-        self.statements = self.statements.saturating_add(1);
+        self.statements = self.statements.saturating_add(statements_in(text));
         Ok(())
     }
 
     /// Adds a statement, in which each `%` stands for the next of these numbers.
-    pub fn statement(&mut self, text: &str, numbers: &[i64]) -> Result<(), AllocError> {
+    pub(crate) fn statement(&mut self, text: &str, numbers: &[i64]) -> Result<(), AllocError> {
         self.put("        ")?;
-        self.filled_line(text, numbers)
+        self.filled(text, numbers)?;
+        self.lines("\n", &[])
     }
 
-    /// Adds a statement that ends with the name of a symbol and what follows it.
-    pub fn statement_to(
+    /// Adds a statement that ends with the name of a symbol and what follows it up to the end of the line.
+    pub(crate) fn statement_to(
         &mut self,
         text: &str,
         numbers: &[i64],
@@ -168,15 +182,12 @@ impl Output {
         self.put("        ")?;
         self.filled(text, numbers)?;
         self.name(symbols, symbol)?;
-        self.put(behind)?;
-        self.put("\n")?;
-        self.statements = self.statements.saturating_add(1);
-        Ok(())
+        self.lines(behind, &[])
     }
 
     /// Adds the name that a symbol has in the source: with a `_` before a name of C, and the number of its text behind it
     /// where it is that text's own.
-    pub fn name(&mut self, symbols: &Symbols, number: u32) -> Result<(), AllocError> {
+    pub(crate) fn name(&mut self, symbols: &Symbols, number: u32) -> Result<(), AllocError> {
         let Some(symbol) = symbols.at(symbols.resolved(number)) else {
             return Ok(());
         };
@@ -202,19 +213,19 @@ impl Output {
     }
 
     /// Adds a line with the label of a symbol.
-    pub fn label(&mut self, symbols: &Symbols, symbol: u32) -> Result<(), AllocError> {
+    pub(crate) fn label(&mut self, symbols: &Symbols, symbol: u32) -> Result<(), AllocError> {
         self.name(symbols, symbol)?;
         self.put(":\n")
     }
 
     /// A new label of its own: its number.
-    pub fn fresh(&mut self) -> u32 {
+    pub(crate) fn fresh(&mut self) -> u32 {
         self.labels = self.labels.saturating_add(1);
         self.labels
     }
 
     /// Notes that a routine is called.
-    pub fn need(&mut self, routine: Routine) -> Result<(), AllocError> {
+    pub(crate) fn need(&mut self, routine: Routine) -> Result<(), AllocError> {
         if !self.routines.contains(&routine) {
             self.routines.push(routine)?;
         }
@@ -222,7 +233,7 @@ impl Output {
     }
 
     /// Notes that a table is read.
-    pub fn need_mask(&mut self, mask: Mask) -> Result<(), AllocError> {
+    pub(crate) fn need_mask(&mut self, mask: Mask) -> Result<(), AllocError> {
         if !self.masks.contains(&mask) {
             self.masks.push(mask)?;
         }

@@ -17,7 +17,7 @@ pub(crate) struct Program<'a> {
 
 impl<'a> Program<'a> {
     /// A program with nothing in it.
-    pub fn new(alloc: Global) -> Result<Program<'a>, AllocError> {
+    pub(crate) fn new(alloc: Global) -> Result<Program<'a>, AllocError> {
         Ok(Program {
             symbols: Symbols::new(alloc)?,
             items: Vec::new(alloc),
@@ -28,12 +28,12 @@ impl<'a> Program<'a> {
     }
 
     /// The function with a number.
-    pub fn function(&self, number: u32) -> Option<Function> {
+    pub(crate) fn function(&self, number: u32) -> Option<Function> {
         self.functions.get(number as usize).copied()
     }
 
     /// The items of a function.
-    pub fn items_of(&self, function: &Function) -> &[Item] {
+    pub(crate) fn items_of(&self, function: &Function) -> &[Item] {
         self.items
             .as_slice()
             .get(function.first..function.end)
@@ -41,7 +41,7 @@ impl<'a> Program<'a> {
     }
 
     /// The address of a symbol: of a function that of the word that holds its place. 0 where it has none.
-    pub fn address(&self, symbol: u32) -> u32 {
+    pub(crate) fn address(&self, symbol: u32) -> u32 {
         let object = match self.symbols.meaning(symbol) {
             Meaning::Object(object) => Some(object),
             Meaning::Function(function) => match self.function(function) {

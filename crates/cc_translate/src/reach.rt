@@ -1,4 +1,6 @@
 //! What `main` reaches.
+ghost use Rattle.std.specs.Prelude.{IfErr};
+ghost use Rattle.cc_translate.specs.Errors.{IsTooMany};
 
 use crate::error::{Fault, TranslateError};
 use crate::item::{Item, Object, Reference};
@@ -139,65 +141,58 @@ fn describe(alloc: Global, program: &mut Program, function: u32) -> Result<(), A
     let Ok(number) = u32::try_from(program.objects.len()) else {
         return Err(AllocError);
     };
-    program.objects.push(Object {
-        symbol: function.symbol,
-        unit: function.unit,
-        align: 4,
-        size: 4,
-        bytes: Vec::new(alloc),
-        references: Vec::new(alloc),
-        address: 0,
-        kept: true,
-    })?;
+    let mut object = Object::new(alloc, function.symbol, function.unit, 4, 4);
+    object.kept = true;
+    program.objects.push(object)?;
     program.symbols.describe(function.symbol, number);
     Ok(())
 }
 
-/// Keeps what a symbol stands for. Answers why it is refused, if it is.
+/// Why a symbol may not be named so, if it may not.
+fn refusal_of(program: &Program, one: Named) -> Option<Refusal> {
+    let jumps = one.how == Use::Jump;
+    match program.symbols.meaning(one.symbol) {
+        Meaning::Function(_) => None,
+        Meaning::Place { .. } => match one.how {
+            Use::Jump | Use::Address(0) => None,
+            _ => Some(Refusal::LabelArithmetic),
+        },
+        Meaning::Object(_) | Meaning::Limit => { if jumps { Some(Refusal::NoPlace) } else { None } }
+        Meaning::End => match one.how {
+            Use::Address(_) => None,
+            _ => Some(Refusal::NoPlace),
+        },
+        _ => match program.symbols.at(one.symbol) {
+            Some(symbol) if symbol.weak && !jumps => None,
+            _ => Some(Refusal::Undefined),
+        },
+    }
+}
+
+/// Keeps what a symbol stands for.
 fn keep(
     alloc: Global,
     program: &mut Program,
     named: &mut Vec<Named>,
     one: Named,
-) -> Result<Option<Refusal>, AllocError> {
-    program.symbols.use_it(one.symbol);
-    let jumps = one.how == Use::Jump;
+) -> Result<(), AllocError> {
     match program.symbols.meaning(one.symbol) {
         Meaning::Function(number) => {
-            if !jumps {
+            if one.how != Use::Jump {
                 describe(alloc, program, number)?;
             }
-            keep_function(program, named, number)?;
+            keep_function(program, named, number)
         }
-        Meaning::Place { function, .. } => match one.how {
-            Use::Jump | Use::Address(0) => keep_function(program, named, function)?,
-            _ => return Ok(Some(Refusal::LabelArithmetic)),
-        },
-        Meaning::Object(number) => {
-            if jumps {
-                return Ok(Some(Refusal::NoPlace));
-            }
-            keep_object(program, named, number)?;
-        }
-        Meaning::End => match one.how {
-            Use::Address(_) => {}
-            _ => return Ok(Some(Refusal::NoPlace)),
-        },
-        Meaning::Limit => {
-            if jumps {
-                return Ok(Some(Refusal::NoPlace));
-            }
-        }
-        _ => match program.symbols.at(one.symbol) {
-            Some(symbol) if symbol.weak && !jumps => {}
-            _ => return Ok(Some(Refusal::Undefined)),
-        },
+        Meaning::Place { function, .. } => keep_function(program, named, function),
+        Meaning::Object(number) => keep_object(program, named, number),
+        _ => Ok(()),
     }
-    Ok(None)
 }
 
 /// The fault of a symbol that is refused.
-fn refused<'a>(program: &Program<'a>, one: Named, refusal: Refusal) -> TranslateError<'a> {
+fn refused<'a>(program: &Program<'a>, one: Named, refusal: Refusal) -> TranslateError<'a>
+    ensures { IsTooMany result }
+{
     let symbol = match program.symbols.at(one.symbol) {
         Some(symbol) => Some(symbol.name),
         None => None,
@@ -210,11 +205,31 @@ fn refused<'a>(program: &Program<'a>, one: Named, refusal: Refusal) -> Translate
     })
 }
 
-/// Keeps what `main` reaches.
-pub(crate) fn reach<'a>(
+/// Keeps what is named, and what that names in turn.
+fn keep_named<'a>(
     alloc: Global,
     program: &mut Program<'a>,
-) -> Result<u32, TranslateError<'a>> {
+    named: &mut Vec<Named>,
+) -> Result<(), TranslateError<'a>>
+    ensures { IfErr result (λ e. IsTooMany e) }
+{
+    for _ in 0..u64::MAX {
+        let Some(one) = named.pop() else {
+            break;
+        };
+        program.symbols.use_it(one.symbol);
+        if let Some(refusal) = refusal_of(program, one) {
+            return Err(refused(program, one, refusal));
+        }
+        keep(alloc, program, named, one)?;
+    }
+    Ok(())
+}
+
+/// Keeps what `main` reaches.
+pub(crate) fn reach<'a>(alloc: Global, program: &mut Program<'a>) -> Result<u32, TranslateError<'a>>
+    ensures { IfErr result (λ e. IsTooMany e) }
+{
     let main = program.symbols.number(b"main")?;
     let Meaning::Function(number) = program.symbols.meaning(main) else {
         return Err(TranslateError::NoMain);
@@ -222,13 +237,6 @@ pub(crate) fn reach<'a>(
     program.symbols.use_it(main);
     let mut named = Vec::new(alloc);
     keep_function(program, &mut named, number)?;
-    for _ in 0..u64::MAX {
-        let Some(one) = named.pop() else {
-            break;
-        };
-        if let Some(refusal) = keep(alloc, program, &mut named, one)? {
-            return Err(refused(program, one, refusal));
-        }
-    }
+    keep_named(alloc, program, &mut named)?;
     Ok(main)
 }

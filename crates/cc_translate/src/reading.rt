@@ -1,4 +1,6 @@
 //! Reading the texts.
+ghost use Rattle.std.specs.Prelude.{IfErr};
+ghost use Rattle.cc_translate.specs.Errors.{IsTooMany};
 
 use crate::error::{TranslateError, error_at};
 use crate::item::{Function, Item};
@@ -26,15 +28,44 @@ pub(crate) struct Position {
     pub reorder: bool,
 }
 
+impl Position {
+    /// Goes to a section.
+    fn go_to(&mut self, section: Section) {
+        self.before = self.section;
+        self.section = section;
+    }
+}
+
 /// How many labels may stand in one line.
 const MOST_LABELS: u32 = 256;
 
-/// The names that a text shares with others, each with whether it is weak, from a line of it.
-fn note_shared<'a>(
-    shared: &mut IndexMap<&'a [u8], bool>,
-    labels: &mut Vec<&'a [u8]>,
-    line: &'a [u8],
-) -> Result<(), AllocError> {
+/// A name that a directive tells of: whether it is its text's own, and if not, whether it is weak.
+#[derive(Clone, Copy)]
+enum Told<'a> {
+    Own(&'a [u8]),
+    Shared(&'a [u8]),
+    Weak(&'a [u8]),
+    Nothing,
+}
+
+/// The name that a directive tells of.
+fn told_by<'a>(read: &Directive<'a>) -> Told<'a> {
+    match *read {
+        Directive::Global(name) => Told::Shared(name),
+        Directive::Weak(name) => Told::Weak(name),
+        Directive::Local(name)
+        | Directive::Alias { name, .. }
+        | Directive::Common {
+            name,
+            local: true,
+            ..
+        } => Told::Own(name),
+        _ => Told::Nothing,
+    }
+}
+
+/// Notes the labels at the front of a line. Answers what stands behind them.
+fn note_labels<'a>(labels: &mut Vec<&'a [u8]>, line: &'a [u8]) -> Result<&'a [u8], AllocError> {
     let mut rest = line;
     for _ in 0..MOST_LABELS {
         let Some((name, behind)) = label_before(rest) else {
@@ -43,30 +74,65 @@ fn note_shared<'a>(
         labels.push(name)?;
         rest = behind;
     }
+    Ok(rest)
+}
+
+/// The names that a text shares with others, each with whether it is weak, from a line of it.
+fn note_shared<'a>(
+    shared: &mut IndexMap<&'a [u8], bool>,
+    labels: &mut Vec<&'a [u8]>,
+    line: &'a [u8],
+) -> Result<(), AllocError> {
+    let rest = note_labels(labels, line)?;
     if !rest.starts_with(b".") && !rest.contains(&b'=') {
         return Ok(());
     }
-    match line_read(rest) {
-        Ok(Line::Directive(Directive::Global(name))) => {
+    let Ok(Line::Directive(read)) = line_read(rest) else {
+        return Ok(());
+    };
+    match told_by(&read) {
+        Told::Own(name) => labels.push(name)?,
+        Told::Shared(name) => {
             if shared.get(name).is_none() {
                 shared.insert(name, false)?;
             }
         }
-        Ok(Line::Directive(Directive::Weak(name))) => {
+        Told::Weak(name) => {
             shared.insert(name, true)?;
         }
-        Ok(Line::Directive(Directive::Local(name))) => labels.push(name)?,
-        Ok(
-            Line::Directive(
-                Directive::Common {
-                    name,
-                    local: true,
-                    ..
-                },
-            ),
-        ) => labels.push(name)?,
-        Ok(Line::Directive(Directive::Alias { name, .. })) => labels.push(name)?,
-        _ => {}
+        Told::Nothing => {}
+    }
+    Ok(())
+}
+
+/// Notes the names of all lines of a text.
+fn note_all<'a>(
+    shared: &mut IndexMap<&'a [u8], bool>,
+    labels: &mut Vec<&'a [u8]>,
+    text: &'a [u8],
+) -> Result<(), AllocError> {
+    let mut lines = Lines::new(text);
+    for _ in 0..u64::MAX {
+        let Some(line) = lines.next_line() else {
+            break;
+        };
+        note_shared(shared, labels, without_comment(line))?;
+    }
+    Ok(())
+}
+
+/// Makes those names a text's own that it does not share with others.
+fn make_own<'a>(
+    program: &mut Program<'a>,
+    unit: u32,
+    shared: &IndexMap<&'a [u8], bool>,
+    labels: &[&'a [u8]],
+) -> Result<(), AllocError> {
+    program.symbols.begin_unit();
+    for name in labels {
+        if shared.get(*name).is_none() {
+            program.symbols.make_own(*name, unit.saturating_add(1))?;
+        }
     }
     Ok(())
 }
@@ -80,19 +146,8 @@ fn names_of<'a>(
 ) -> Result<IndexMap<&'a [u8], bool>, AllocError> {
     let mut shared = IndexMap::new(alloc);
     let mut labels = Vec::new(alloc);
-    let mut lines = Lines::new(text);
-    for _ in 0..u64::MAX {
-        let Some(line) = lines.next_line() else {
-            break;
-        };
-        note_shared(&mut shared, &mut labels, without_comment(line))?;
-    }
-    program.symbols.begin_unit();
-    for name in &labels {
-        if shared.get(*name).is_none() {
-            program.symbols.make_own(*name, unit.saturating_add(1))?;
-        }
-    }
+    note_all(&mut shared, &mut labels, text)?;
+    make_own(program, unit, &shared, &labels)?;
     Ok(shared)
 }
 
@@ -258,6 +313,37 @@ fn alias<'a>(
     }
 }
 
+/// `.weak`.
+fn weaken<'a>(program: &mut Program<'a>, name: &'a [u8]) -> Result<(), LineError> {
+    let number = program.symbols.number(name)?;
+    program.symbols.weaken(number);
+    Ok(())
+}
+
+/// `.loc`.
+fn note_location(
+    program: &mut Program,
+    position: &Position,
+    file: u32,
+    line: u32,
+) -> Result<(), LineError> {
+    if position.section == Section::Code && position.function.is_some() {
+        program.items.push(Item::Location { file, line })?;
+    }
+    Ok(())
+}
+
+/// `.file`.
+fn note_file<'a>(
+    program: &mut Program<'a>,
+    unit: u32,
+    number: u32,
+    quoted: &'a [u8],
+) -> Result<(), LineError> {
+    program.files.insert(file_key(unit, number), quoted)?;
+    Ok(())
+}
+
 /// A directive.
 fn directive<'a>(
     alloc: Global,
@@ -267,41 +353,23 @@ fn directive<'a>(
     read: Directive<'a>,
 ) -> Result<(), LineError> {
     match read {
-        Directive::Section(section) => {
-            position.before = position.section;
-            position.section = section;
-        }
-        Directive::Previous => {
-            let section = position.before;
-            position.before = position.section;
-            position.section = section;
-        }
+        Directive::Section(section) => position.go_to(section),
+        Directive::Previous => position.go_to(position.before),
         Directive::Reorder(reorder) => position.reorder = reorder,
         Directive::Frame { .. } | Directive::Mask { .. } => note_frame(program, position, read),
-        Directive::Weak(name) => {
-            let number = program.symbols.number(name)?;
-            program.symbols.weaken(number);
-        }
-        Directive::Alias { name, target } => alias(program, shared, name, target)?,
-        Directive::Location { file, line } => {
-            if position.section == Section::Code && position.function.is_some() {
-                program.items.push(Item::Location { file, line })?;
-            }
-        }
+        Directive::Weak(name) => return weaken(program, name),
+        Directive::Alias { name, target } => return alias(program, shared, name, target),
+        Directive::Location { file, line } => return note_location(program, position, file, line),
         Directive::File { number, quoted } => {
-            program
-                .files
-                .insert(file_key(position.unit, number), quoted)?;
+            return note_file(program, position.unit, number, quoted);
         }
         Directive::Common {
             name,
             size,
             align,
             ..
-        } => {
-            crate::data::common(alloc, program, position, name, size, align)?;
-        }
-        _ => crate::data::data_directive(program, position, read)?,
+        } => return crate::data::common(alloc, program, position, name, size, align),
+        _ => return crate::data::data_directive(program, position, read),
     }
     Ok(())
 }
@@ -340,13 +408,35 @@ fn line<'a>(
     }
 }
 
+/// Reads the lines of a text.
+fn read_lines<'a>(
+    alloc: Global,
+    program: &mut Program<'a>,
+    position: &mut Position,
+    shared: &IndexMap<&[u8], bool>,
+    text: &'a [u8],
+) -> Result<(), LineError> {
+    let mut lines = Lines::new(text);
+    for _ in 0..u64::MAX {
+        let Some(next) = lines.next_line() else {
+            break;
+        };
+        position.line = position.line.saturating_add(1);
+        line(alloc, program, position, shared, without_comment(next))?;
+    }
+    end_function(program, position);
+    Ok(())
+}
+
 /// Reads one text into a program.
 pub(crate) fn read_unit<'a>(
     alloc: Global,
     program: &mut Program<'a>,
     unit: u32,
     text: &'a [u8],
-) -> Result<(), TranslateError<'a>> {
+) -> Result<(), TranslateError<'a>>
+    ensures { IfErr result (λ e. IsTooMany e) }
+{
     let shared = names_of(alloc, program, unit, text)?;
     let mut position = Position {
         unit,
@@ -358,23 +448,8 @@ pub(crate) fn read_unit<'a>(
         align: 1,
         reorder: true,
     };
-    let mut lines = Lines::new(text);
-    for _ in 0..u64::MAX {
-        let Some(next) = lines.next_line() else {
-            break;
-        };
-        position.line = position.line.saturating_add(1);
-        match line(
-            alloc,
-            program,
-            &mut position,
-            &shared,
-            without_comment(next),
-        ) {
-            Ok(()) => {}
-            Err(error) => return Err(error_at(unit, position.line, error)),
-        }
+    match read_lines(alloc, program, &mut position, &shared, text) {
+        Ok(()) => Ok(()),
+        Err(error) => Err(error_at(unit, position.line, error)),
     }
-    end_function(program, &mut position);
-    Ok(())
 }

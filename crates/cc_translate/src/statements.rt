@@ -45,22 +45,6 @@ fn branch_text(condition: Condition) -> &'static str {
     }
 }
 
-/// A branch that goes over the next statement, to a label of the translation's own.
-fn skip_text(condition: Condition) -> &'static str {
-    match condition {
-        Condition::Equal => "beq r%,r%,_.s%",
-        Condition::NotEqual => "bne r%,r%,_.s%",
-        Condition::Less => "blt r%,r%,_.s%",
-        Condition::NotLess => "bge r%,r%,_.s%",
-        Condition::Greater => "bgt r%,r%,_.s%",
-        Condition::NotGreater => "ble r%,r%,_.s%",
-        Condition::Lower => "blo r%,r%,_.s%",
-        Condition::NotLower => "bhs r%,r%,_.s%",
-        Condition::Higher => "bhi r%,r%,_.s%",
-        Condition::NotHigher => "blos r%,r%,_.s%",
-    }
-}
-
 /// A branch to the symbol of its statement.
 fn branch(
     out: &mut Output,
@@ -77,8 +61,28 @@ fn branch(
         &numbers,
         &program.symbols,
         symbol,
-        "",
+        "\n",
     )
+}
+
+/// What makes a comparison with 0 that needs no branch: its first numbers are those of the register that is compared and of
+/// one for the time being, its last ones those of the latter and of the register that takes the answer.
+fn bits_text(condition: Condition) -> Option<&'static str> {
+    match condition {
+        Condition::Equal => Some(
+            "        addi r%,#-1,r%
+        bic r%,r%,r%
+        sh r%,r0,#31,r%
+",
+        ),
+        Condition::NotEqual => Some(
+            "        sub r0,r%,r%
+        or r%,r%,r%
+        sh r%,r0,#31,r%
+",
+        ),
+        _ => None,
+    }
 }
 
 /// A comparison with 0 that needs no branch: whether it is made.
@@ -90,20 +94,14 @@ fn set_from_bits(out: &mut Output, rd: Register, found: &Comparison) -> Result<b
         return Ok(false);
     }
     let (a, d, t) = (i64::from(found.rs.0), i64::from(rd.0), i64::from(SECOND));
-    match found.condition {
-        Condition::Less => out.statement("sh r%,r0,#31,r%", &[a, d])?,
-        Condition::Equal => {
-            out.statement("addi r%,#-1,r%", &[a, t])?;
-            out.statement("bic r%,r%,r%", &[t, a, t])?;
-            out.statement("sh r%,r0,#31,r%", &[t, d])?;
-        }
-        Condition::NotEqual => {
-            out.statement("sub r0,r%,r%", &[a, t])?;
-            out.statement("or r%,r%,r%", &[t, a, t])?;
-            out.statement("sh r%,r0,#31,r%", &[t, d])?;
-        }
-        _ => return Ok(false),
+    if found.condition == Condition::Less {
+        out.statement("sh r%,r0,#31,r%", &[a, d])?;
+        return Ok(true);
     }
+    let Some(text) = bits_text(found.condition) else {
+        return Ok(false);
+    };
+    out.lines(text, &[a, t, t, a, t, t, d])?;
     Ok(true)
 }
 
@@ -115,16 +113,16 @@ fn set(out: &mut Output, rd: Register, found: &Comparison) -> Result<(), AllocEr
     let b = operand(out, found.second)?;
     let a = found.rs.0;
     let t = if rd.0 == a || rd.0 == b { SECOND } else { rd.0 };
-    let label = i64::from(out.fresh());
-    out.statement("addi r0,#1,r%", &[i64::from(t)])?;
-    out.statement(
-        skip_text(found.condition),
-        &[i64::from(a), i64::from(b), label],
+    let (into, label) = (i64::from(t), i64::from(out.fresh()));
+    out.lines("        addi r0,#1,r%\n        ", &[into])?;
+    out.filled(branch_text(found.condition), &[i64::from(a), i64::from(b)])?;
+    out.lines(
+        "_.s%
+        mov r0,r%
+_.s%:
+",
+        &[label, into, label],
     )?;
-    out.statement("mov r0,r%", &[i64::from(t)])?;
-    out.put("_.s")?;
-    out.number(label)?;
-    out.put(":\n")?;
     copy(out, t, rd.0)
 }
 
@@ -250,7 +248,7 @@ fn routine(out: &mut Output, which: Routine) -> Result<(), AllocError> {
     out.need(which)?;
     out.put("        call ")?;
     out.put(which.name())?;
-    out.filled_line(",r%", &[i64::from(THIRD)])
+    out.lines(",r%\n", &[i64::from(THIRD)])
 }
 
 /// A shift by a number.
@@ -279,14 +277,22 @@ fn shift_by_register(
         Shift::Right => (Routine::ShiftRight, "ld t.srl[r%],r%"),
         Shift::Arithmetic => (Routine::ShiftArithmetic, "ld t.sra[r%],r%"),
     };
-    let t = i64::from(SECOND);
+    let (x, t, link) = (i64::from(FIRST), i64::from(SECOND), i64::from(THIRD));
     out.need(which)?;
-    out.statement("sh r0,r%,#5,r%", &[i64::from(count), t])?;
-    out.statement("sh r%,r0,#27,r%", &[t, t])?;
+    out.lines(
+        "        sh r0,r%,#5,r%
+        sh r%,r0,#27,r%
+",
+        &[i64::from(count), t, t, t],
+    )?;
     out.statement(table, &[t, t])?;
-    out.statement("add r%,r0,r%", &[i64::from(rs), i64::from(FIRST)])?;
-    out.statement("callr r%,r%", &[t, i64::from(THIRD)])?;
-    out.statement("add r%,r0,r%", &[i64::from(FIRST), i64::from(rd)])
+    out.lines(
+        "        add r%,r0,r%
+        callr r%,r%
+        add r%,r0,r%
+",
+        &[i64::from(rs), x, t, link, x, i64::from(rd)],
+    )
 }
 
 /// A product or a quotient.
@@ -304,8 +310,17 @@ fn long(
         Long::Quotient { signed: true } => Routine::SignedQuotient,
         Long::Quotient { signed: false } => Routine::Quotient,
     };
-    out.statement("mov r%,r%", &[i64::from(rs.0), i64::from(FIRST)])?;
-    out.statement("mov r%,r%", &[i64::from(rt.0), i64::from(SECOND)])?;
+    out.lines(
+        "        mov r%,r%
+        mov r%,r%
+",
+        &[
+            i64::from(rs.0),
+            i64::from(FIRST),
+            i64::from(rt.0),
+            i64::from(SECOND),
+        ],
+    )?;
     routine(out, which)
 }
 
@@ -325,12 +340,10 @@ fn address(
         Meaning::Place { .. } => {
             out.put("        la ")?;
             out.name(&program.symbols, symbol)?;
-            out.filled_line(",r%", &[i64::from(rd.0)])
+            out.lines(",r%\n", &[i64::from(rd.0)])
         }
         Meaning::End => {
-            if out.ends.get(&offset).is_none() {
-                out.ends.insert(offset, offset)?;
-            }
+            out.ends.insert(offset)?;
             out.statement("ld k.end.%[r0],r%", &[i64::from(offset), i64::from(rd.0)])?;
             if base == Register::ZERO {
                 return Ok(());
@@ -358,7 +371,7 @@ fn call(
     symbol: Option<u32>,
 ) -> Result<(), AllocError> {
     match (symbol, plan.place) {
-        (Some(symbol), _) => out.statement_to("call ", &[], &program.symbols, symbol, ",r31")?,
+        (Some(symbol), _) => out.statement_to("call ", &[], &program.symbols, symbol, ",r31\n")?,
         (None, Some(place)) => call_at(out, place)?,
         (None, None) => {}
     }
@@ -382,7 +395,7 @@ fn jump(
             &[],
             &program.symbols,
             symbol,
-            "",
+            "\n",
         ),
         (LinkFrom::Symbol, None) => Ok(()),
     }

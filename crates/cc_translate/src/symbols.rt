@@ -49,7 +49,7 @@ const MOST_ALIASES: u32 = 16;
 
 impl<'a> Symbols<'a> {
     /// The names that the translation defines, alone.
-    pub fn new(alloc: Global) -> Result<Symbols<'a>, AllocError> {
+    pub(crate) fn new(alloc: Global) -> Result<Symbols<'a>, AllocError> {
         let mut symbols = Symbols {
             list: Vec::new(alloc),
             shared: IndexMap::new(alloc),
@@ -63,7 +63,7 @@ impl<'a> Symbols<'a> {
     }
 
     /// Begins a text, which has no names of its own yet.
-    pub fn begin_unit(&mut self) {
+    pub(crate) fn begin_unit(&mut self) {
         self.own.clear();
     }
 
@@ -83,7 +83,7 @@ impl<'a> Symbols<'a> {
     }
 
     /// Makes a name one of the text with this number, counted from 1.
-    pub fn make_own(&mut self, name: &'a [u8], owner: u32) -> Result<(), AllocError> {
+    pub(crate) fn make_own(&mut self, name: &'a [u8], owner: u32) -> Result<(), AllocError> {
         if self.own.get(name).is_none() {
             let number = self.push(name, owner)?;
             self.own.insert(name, number)?;
@@ -92,7 +92,7 @@ impl<'a> Symbols<'a> {
     }
 
     /// The number of a name in the current text.
-    pub fn number(&mut self, name: &'a [u8]) -> Result<u32, AllocError> {
+    pub(crate) fn number(&mut self, name: &'a [u8]) -> Result<u32, AllocError> {
         if let Some(number) = self.own.get(name) {
             return Ok(*number);
         }
@@ -105,12 +105,12 @@ impl<'a> Symbols<'a> {
     }
 
     /// The symbol with a number.
-    pub fn at(&self, number: u32) -> Option<Symbol<'a>> {
+    pub(crate) fn at(&self, number: u32) -> Option<Symbol<'a>> {
         self.list.get(number as usize).copied()
     }
 
     /// The number of the symbol that a symbol is an alias of, or its own.
-    pub fn resolved(&self, number: u32) -> u32 {
+    pub(crate) fn resolved(&self, number: u32) -> u32 {
         let mut at = number;
         for _ in 0..MOST_ALIASES {
             match self.list.get(at as usize) {
@@ -125,7 +125,7 @@ impl<'a> Symbols<'a> {
     }
 
     /// What a symbol stands for, aliases followed.
-    pub fn meaning(&self, number: u32) -> Meaning {
+    pub(crate) fn meaning(&self, number: u32) -> Meaning {
         match self.list.get(self.resolved(number) as usize) {
             Some(symbol) => symbol.meaning,
             None => Meaning::Unknown,
@@ -133,7 +133,7 @@ impl<'a> Symbols<'a> {
     }
 
     /// Defines a symbol. Answers false where it is defined already, and neither is weak.
-    pub fn define(&mut self, number: u32, meaning: Meaning, weak: bool) -> bool {
+    pub(crate) fn define(&mut self, number: u32, meaning: Meaning, weak: bool) -> bool {
         match self.list.get_mut(number as usize) {
             Some(symbol) => {
                 if symbol.meaning == Meaning::Unknown || (symbol.weak && !weak) {
@@ -149,7 +149,7 @@ impl<'a> Symbols<'a> {
     }
 
     /// Lets a symbol that is defined nowhere be one that need not be.
-    pub fn weaken(&mut self, number: u32) {
+    pub(crate) fn weaken(&mut self, number: u32) {
         if let Some(symbol) = self.list.get_mut(number as usize) {
             if symbol.meaning == Meaning::Unknown {
                 symbol.weak = true;
@@ -158,7 +158,7 @@ impl<'a> Symbols<'a> {
     }
 
     /// Marks a symbol as named.
-    pub fn use_it(&mut self, number: u32) {
+    pub(crate) fn use_it(&mut self, number: u32) {
         let resolved = self.resolved(number) as usize;
         if let Some(symbol) = self.list.get_mut(resolved) {
             symbol.used = true;
@@ -166,7 +166,7 @@ impl<'a> Symbols<'a> {
     }
 
     /// Whether something names a symbol.
-    pub fn is_used(&self, number: u32) -> bool {
+    pub(crate) fn is_used(&self, number: u32) -> bool {
         match self.list.get(number as usize) {
             Some(symbol) => symbol.used,
             None => false,
@@ -174,7 +174,7 @@ impl<'a> Symbols<'a> {
     }
 
     /// Lets a datum hold the place of a symbol.
-    pub fn describe(&mut self, number: u32, object: u32) {
+    pub(crate) fn describe(&mut self, number: u32, object: u32) {
         if let Some(symbol) = self.list.get_mut(number as usize) {
             symbol.descriptor = Some(object);
         }

@@ -1,4 +1,6 @@
 //! The translation of texts.
+ghost use Rattle.std.specs.Prelude.{IfErr};
+ghost use Rattle.cc_translate.specs.Errors.{IsTooMany};
 
 use crate::error::TranslateError;
 use crate::functions::translate_function;
@@ -15,19 +17,19 @@ use std::alloc::{AllocError, Global};
 /// How many statements a source has at most.
 const MOST_STATEMENTS: u32 = 20_000;
 
-/// The first byte behind the memory.
-const LIMIT_BYTE: u64 = 4 * 65536;
-
-/// How many words are left for heap and stack at least.
-const STACK_WORDS: u64 = 2048;
+/// How many words of data a source has at most, without those that are left for heap and stack.
+const MOST_WORDS: u64 = 63_232;
 
 /// Adds the beginning, which calls `main` with a stack.
 fn put_start(out: &mut Output, program: &Program, main: u32) -> Result<(), AllocError> {
     out.put("; translated from assembly for MIPS-I\n")?;
-    out.statement("ld k.stack[r0],r29", &[])?;
-    out.statement("asr r29,#2,r28", &[])?;
-    out.statement_to("call ", &[], &program.symbols, main, ",r31")?;
-    out.statement("halt", &[])
+    out.lines(
+        "        ld k.stack[r0],r29
+        asr r29,#2,r28
+",
+        &[],
+    )?;
+    out.statement_to("call ", &[], &program.symbols, main, ",r31\n        halt\n")
 }
 
 /// Adds the functions that are kept, and the routines that they call.
@@ -52,35 +54,74 @@ fn put_rest<'a>(
     out: &mut Output,
     program: &Program<'a>,
     behind: u64,
-) -> Result<(), TranslateError<'a>> {
+) -> Result<(), TranslateError<'a>>
+    ensures { IfErr result (λ e. IsTooMany e) }
+{
     let end = end_of(out, behind);
-    if end.saturating_add(4 * STACK_WORDS) > LIMIT_BYTE {
-        return Err(TranslateError::Words(end.saturating_sub(FIRST_BYTE) / 4));
+    let words = end.saturating_sub(FIRST_BYTE) / 4;
+    if words > MOST_WORDS {
+        return Err(TranslateError::Words(words));
     }
-    match (u32::try_from(behind), u32::try_from(end)) {
-        (Ok(behind), Ok(end)) => put_data(alloc, out, program, behind, end)?,
-        _ => return Err(TranslateError::Words(end.saturating_sub(FIRST_BYTE) / 4)),
-    }
+    put_data(alloc, out, program, behind as u32, end as u32)?;
     Ok(())
 }
 
-/// The source that texts in a compiler's assembly for MIPS-I become together.
-pub fn translate<'a>(alloc: Global, texts: &[&'a [u8]]) -> Result<Vec<u8>, TranslateError<'a>> {
-    let mut program = Program::new(alloc)?;
+/// Reads texts into a program, keeps what `main` reaches of it, and gives each datum its address. Answers the symbol of `main`
+/// and the first byte behind all data.
+fn read_all<'a>(
+    alloc: Global,
+    program: &mut Program<'a>,
+    texts: &[&'a [u8]],
+) -> Result<(u32, u64), TranslateError<'a>>
+    ensures { IfErr result (λ e. IsTooMany e) }
+{
     let mut unit = 0u32;
     for text in texts {
-        read_unit(alloc, &mut program, unit, *text)?;
+        read_unit(alloc, program, unit, *text)?;
         unit = unit.saturating_add(1);
     }
     program.symbols.begin_unit();
-    let main = reach(alloc, &mut program)?;
-    let behind = lay_out(&mut program);
-    let mut out = Output::new(alloc);
-    put_code(alloc, &mut out, &program, main)?;
+    let main = reach(alloc, program)?;
+    Ok((main, lay_out(program)))
+}
+
+/// Adds code and data.
+fn put_all<'a>(
+    alloc: Global,
+    out: &mut Output,
+    program: &Program<'a>,
+    main: u32,
+    behind: u64,
+) -> Result<(), TranslateError<'a>>
+    ensures { IfErr result (λ e. IsTooMany e) }
+{
+    put_code(alloc, out, program, main)?;
     if out.statements > MOST_STATEMENTS {
         return Err(TranslateError::Statements(out.statements));
     }
-    put_rest(alloc, &mut out, &program, behind)?;
+    put_rest(alloc, out, program, behind)
+}
+
+/// The source of a program.
+fn source_of<'a>(
+    alloc: Global,
+    program: &Program<'a>,
+    main: u32,
+    behind: u64,
+) -> Result<Vec<u8>, TranslateError<'a>>
+    ensures { IfErr result (λ e. IsTooMany e) }
+{
+    let mut out = Output::new(alloc);
+    put_all(alloc, &mut out, program, main, behind)?;
     let Output { text, .. } = out;
     Ok(text)
+}
+
+/// The source that texts in a compiler's assembly for MIPS-I become together.
+pub fn translate<'a>(alloc: Global, texts: &[&'a [u8]]) -> Result<Vec<u8>, TranslateError<'a>>
+    ensures { IfErr result (λ e. IsTooMany e) }
+{
+    let mut program = Program::new(alloc)?;
+    let (main, behind) = read_all(alloc, &mut program, texts)?;
+    source_of(alloc, &program, main, behind)
 }

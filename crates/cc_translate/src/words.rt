@@ -1,4 +1,5 @@
 //! The data of the translation.
+ghost use Rattle.std.specs.Prelude.{◌≤◌};
 
 use crate::item::Object;
 use crate::output::{Mask, Output, Routine};
@@ -126,11 +127,7 @@ enum Writing {
 fn end_line(out: &mut Output, writing: Writing) -> Result<Writing, AllocError> {
     match writing {
         Writing::Nothing => {}
-        Writing::Zeros(count) => {
-            out.put("        .space ")?;
-            out.number(i64::from(count))?;
-            out.put("\n")?;
-        }
+        Writing::Zeros(count) => out.filled("        .space %\n", &[i64::from(count)])?,
         Writing::Words(_) => out.put("\n")?,
     }
     Ok(Writing::Nothing)
@@ -179,6 +176,26 @@ fn put_label(out: &mut Output, program: &Program, number: u32) -> Result<(), All
     }
 }
 
+/// Goes on with a word, which is the place of a symbol, or a number.
+fn put_word(
+    out: &mut Output,
+    program: &Program,
+    writing: Writing,
+    place: u32,
+    word: u32,
+) -> Result<Writing, AllocError> {
+    let symbol = kept_number(place);
+    if symbol.is_none() && word == 0 {
+        return put_zero(out, writing);
+    }
+    let writing = before_word(out, writing)?;
+    match symbol {
+        Some(symbol) => out.name(&program.symbols, symbol)?,
+        None => out.number(i64::from(word))?,
+    }
+    Ok(writing)
+}
+
 /// The words of an image, with the labels of the data.
 fn put_image(out: &mut Output, program: &Program, image: &Image) -> Result<(), AllocError> {
     let mut writing = Writing::Nothing;
@@ -187,30 +204,29 @@ fn put_image(out: &mut Output, program: &Program, image: &Image) -> Result<(), A
             writing = end_line(out, writing)?;
             put_label(out, program, number)?;
         }
-        if let Some(symbol) = kept_number(*place) {
-            writing = before_word(out, writing)?;
-            out.name(&program.symbols, symbol)?;
-            continue;
-        }
         let word = word_at(&image.bytes, i.saturating_mul(4));
-        if word == 0 {
-            writing = put_zero(out, writing)?;
-        } else {
-            writing = before_word(out, writing)?;
-            out.number(i64::from(word))?;
-        }
+        writing = put_word(out, program, writing, *place, word)?;
     }
     end_line(out, writing)?;
     Ok(())
 }
 
-/// A label and a word. Answers that there is one word more.
+/// The data of the program.
+fn put_program(
+    alloc: Global,
+    out: &mut Output,
+    program: &Program,
+    behind: u32,
+    end: u32,
+) -> Result<(), AllocError> {
+    let image = image_of(alloc, program, behind, end)?;
+    put_image(out, program, &image)
+}
+
+/// A label of a number, and a word.
 fn put_named(out: &mut Output, label: &str, number: u32, value: u32) -> Result<(), AllocError> {
     out.put(label)?;
-    out.number(i64::from(number))?;
-    out.put(": .word ")?;
-    out.number(i64::from(value))?;
-    out.put("\n")
+    out.filled("%: .word %\n", &[i64::from(number), i64::from(value)])
 }
 
 /// Whether a routine keeps words of its own.
@@ -255,15 +271,13 @@ fn put_shift_table(out: &mut Output, which: Routine, label: &str) -> Result<(), 
     for count in 0..32i64 {
         out.put("        .word ")?;
         out.put(which.name())?;
-        out.put(".n")?;
-        out.number(count)?;
-        out.put("\n")?;
+        out.filled(".n%\n", &[count])?;
     }
     Ok(())
 }
 
-/// The tables and words that routines and statements need.
-fn put_tables(out: &mut Output) -> Result<(), AllocError> {
+/// The tables of the shifts that are called.
+fn put_shift_tables(out: &mut Output) -> Result<(), AllocError> {
     for which in Routine::ALL {
         if let Some(label) = shift_name(which) {
             if out.routines.contains(&which) {
@@ -271,49 +285,60 @@ fn put_tables(out: &mut Output) -> Result<(), AllocError> {
             }
         }
     }
+    Ok(())
+}
+
+/// The tables that statements read.
+fn put_masks(out: &mut Output) -> Result<(), AllocError> {
     for mask in Mask::ALL {
         if out.masks.contains(&mask) {
             out.put(mask.name())?;
-            out.put(":\n")?;
-            for word in mask.words() {
-                out.put("        .word ")?;
-                out.number(i64::from(word))?;
-                out.put("\n")?;
-            }
+            out.filled(
+                ":
+        .word %
+        .word %
+        .word %
+        .word %
+",
+                &mask.words(),
+            )?;
         }
     }
+    Ok(())
+}
+
+/// The tables and words that routines and statements need.
+fn put_tables(out: &mut Output) -> Result<(), AllocError> {
+    put_shift_tables(out)?;
+    put_masks(out)?;
     if keeps_words(out) {
         out.put("m.link: .word 0\nm.x: .word 0\nm.y: .word 0\n")?;
     }
     Ok(())
 }
 
-/// The numbers that statements load.
-fn put_numbers(alloc: Global, out: &mut Output, end: u32) -> Result<(), AllocError> {
-    let mut numbers = Vec::new(alloc);
-    for (number, _) in &out.numbers {
-        numbers.push(*number)?;
+/// The numbers that statements load, and the addresses behind all data, which end here.
+fn put_numbers(out: &mut Output, end: u32) -> Result<(), AllocError> {
+    for i in 0..out.numbers.len() {
+        if let Some(number) = out.numbers.get_index(i).copied() {
+            put_named(out, "k.", number, number)?;
+        }
     }
-    for number in &numbers {
-        put_named(out, "k.", *number, *number)?;
+    for i in 0..out.ends.len() {
+        if let Some(number) = out.ends.get_index(i).copied() {
+            put_named(out, "k.end.", number, end.wrapping_add(number))?;
+        }
     }
-    numbers.clear();
-    for (number, _) in &out.ends {
-        numbers.push(*number)?;
-    }
-    for number in &numbers {
-        put_named(out, "k.end.", *number, end.wrapping_add(*number))?;
-    }
-    out.put("k.stack: .word ")?;
-    out.number(i64::from(LIMIT - STACK_GAP))?;
-    out.put("\n")
+    out.filled("k.stack: .word %\n", &[i64::from(LIMIT - STACK_GAP)])
 }
 
 /// How far below the end of the memory the stack begins.
 const STACK_GAP: u32 = 64;
 
 /// The first byte behind all data words, where those of the program end here.
-pub(crate) fn end_of(out: &Output, behind: u64) -> u64 {
+pub(crate) fn end_of(out: &Output, behind: u64) -> u64
+    ensures { behind ≤ result }
+{
     behind.saturating_add(more_words(out).saturating_mul(4))
 }
 
@@ -329,8 +354,7 @@ pub(crate) fn put_data(
         out.put(".input\n")?;
     }
     out.put(".data\n")?;
-    let image = image_of(alloc, program, behind, end)?;
-    put_image(out, program, &image)?;
+    put_program(alloc, out, program, behind, end)?;
     put_tables(out)?;
-    put_numbers(alloc, out, end)
+    put_numbers(out, end)
 }

@@ -1,3 +1,4 @@
+-- The number with which a program ends, by its status.
 use Rattle.std.specs.Prelude.{ℕ}
 use Rattle.cmd_answer.specs.declared.status.Status.{Status}
 use Rattle.cmd_answer.specs.declared.status.Status.TheVariants.{Halted, Done, Refused, Usage, OutOfBudget, ReadFault, WriteFault, Memory, BadImage, BadEvents, Stuck}

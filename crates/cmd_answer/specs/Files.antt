@@ -1,3 +1,4 @@
+-- The kinds of files that a command reads: how long each may be, and its word in the line of a fault.
 use Rattle.std.specs.Prelude.{ℕ, ◌++◌, List, codes}
 use Rattle.std.specs.Fmt.{decimal}
 use Rattle.mx_io.specs.declared.limits.TheConstants.{MAX_FILE_BYTES, MAX_SOURCE_BYTES}

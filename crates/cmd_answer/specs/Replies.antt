@@ -1,3 +1,4 @@
+-- What contracts see of a reply.
 use Rattle.std.specs.Prelude.{string_bytes}
 use Rattle.cmd_answer.specs.declared.reply.Reply.{Reply}
 use Rattle.cmd_answer.specs.declared.reply.Reply.TheVariants.{Prints, Writes}

@@ -1,6 +1,5 @@
 -- The answer of a session with an image, and the files that it reads.
-use Rattle.std.specs.Prelude.{ℕ, ◌≤◌, Bool, List, Option}
-use Rattle.std.specs.Int.{IsInRange}
+use Rattle.std.specs.Prelude.{ℕ, Bool, List, Option}
 use Rattle.cmd_answer.specs.declared.Status.{Status}
 use Rattle.cmd_answer.specs.declared.Status.TheVariants as status
 use Rattle.cmd_answer.specs.Answer.{Answer, prints}
@@ -10,15 +9,10 @@ use Rattle.mx_turn.specs.Program.{program_of}
 use Rattle.mx_debug.specs.declared.Ending.{Ending}
 use Rattle.mx_debug.specs.declared.Ending.TheVariants.{Stopped, Halted, OutOfBudget}
 use Rattle.mx_debug.specs.Sessions.{Session, session, stops_of, ending_of, console_of}
-use Rattle.cmd_simulate.specs.Machines.{Files, if_asked, requests_protocol, input_protocol}
-use Rattle.cmd_debug.specs.declared.runs.SessionLimits.{SessionLimits}
+use Rattle.cmd_options.specs.declared.SessionLimits.{SessionLimits}
+use Rattle.cmd_options.specs.Options.{Files}
+use Rattle.cmd_simulate.specs.Machines.{if_asked, requests_protocol, input_protocol}
 use Rattle.cmd_debug.specs.Texts.{session_text}
-
--- what may be asked: 1 to 1,000 stops, a word of user data, and at most 100,000,000 cycles
-pub record IsAsked (limits : SessionLimits) : Type 0 where
-  pub stops : IsInRange 1 1000 limits.stops
-  pub watch : IsInRange 256 65535 limits.watch
-  pub budget : limits.budget ≤ 100000000
 
 abbrev pub status_of : Ending → Status
 status_of Stopped = status.Done

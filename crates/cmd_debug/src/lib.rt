@@ -4,4 +4,4 @@
 mod runs;
 mod texts;
 
-pub use runs::{SessionLimits, debug_image};
+pub use runs::debug_image;

@@ -1,15 +1,18 @@
 //! A session with an image, with the files that its options name.
-ghost use Rattle.std.specs.Prelude.{◌≡◌, ◌≤◌, ◌<◌, ◌^◌, IfOk, option_map, List, ℕ};
+ghost use Rattle.std.specs.Prelude.{◌≡◌, ◌≤◌, ◌<◌, ◌^◌, IfOk, List, ℕ};
 ghost use Rattle.std.specs.Option.{option_copied};
+ghost use Rattle.mx_io.specs.declared.limits.TheConstants.{MAX_FILE_BYTES};
 ghost use Rattle.mx_board.specs.Contents.{bytes_in};
 ghost use Rattle.cmd_answer.specs.Protocol.{Performed};
 ghost use Rattle.cmd_answer.specs.Replies.{reply_answer};
+ghost use Rattle.cmd_options.specs.Options.{seen_files, IsAsked};
 ghost use Rattle.cmd_simulate.specs.Machines.{if_asked};
-ghost use Rattle.cmd_debug.specs.Sessions.{IsAsked, status_of, image_answer, session_protocol};
+ghost use Rattle.cmd_debug.specs.Sessions.{status_of, image_answer, session_protocol};
 
 use crate::texts::session_text;
 use cmd_answer::{Reply, Status};
-use cmd_simulate::{RunFiles, read_input, read_requests};
+use cmd_options::{RunFiles, SessionLimits};
+use cmd_simulate::{read_input, read_requests};
 use mx_board::Requests;
 use mx_code::Image;
 use mx_debug::{Ending, stops};
@@ -17,14 +20,6 @@ use mx_icache::LineCache;
 use mx_io::{Memory, Shelf};
 use mx_pipe::Pipe;
 use std::alloc::Global;
-
-/// What is asked of a session: after how many stops it ends, which data word is watched, and how many cycles it may take.
-#[derive(Clone, Copy, Debug, PartialEq, Eq)]
-pub struct SessionLimits {
-    pub stops: u32,
-    pub watch: u32,
-    pub budget: u32,
-}
 
 // How a session ended.
 fn status_of(ending: Ending) -> Status
@@ -53,7 +48,7 @@ fn debug(
     address: u32,
     limits: &SessionLimits,
 ) -> Result<Reply, Memory>
-    requires input { bytes_in (option_copied input) ≤ 1048576 }
+    requires input { bytes_in (option_copied input) ≤ MAX_FILE_BYTES }
     requires address { address < 2 ^ 31 }
     requires asked { IsAsked limits.now }
     ensures { IfOk result
@@ -90,8 +85,7 @@ pub fn debug_image<S: Shelf>(
     requires address { address < 2 ^ 31 }
     requires asked { IsAsked limits.now }
     ensures performed { IfOk result (λ r. Performed (S.told shelf.old)
-        (session_protocol (record { interrupts = option_map (λ s. s.now) files.now.interrupts; input = option_map (λ s. s.now) files.now.input })
-        limits.now image.now.code.items image.now.user_data.items asks address)
+        (session_protocol (seen_files files.now) limits.now image.now.code.items image.now.user_data.items asks address)
         (S.counts shelf.old) (S.counts shelf.new) (reply_answer r)) }
     ensures told_stays { S.told shelf.new ≡ S.told shelf.old }
     ensures writes_stay { S.write_faults shelf.new ≡ S.write_faults shelf.old }

@@ -1,3 +1,4 @@
+-- The rules that `clap` is given, and the names under which it keeps what it read.
 use Rattle.std.specs.Prelude.{◌≡◌, ◌≢◌, codes, Option, Some, None, true, List, [], ◌∷◌, map}
 use Rattle.std.specs.Borrow.{Bor}
 use Rattle.clap.specs.Words.{App, Rule, Text, new_app, new_rule, fault_of, matches_of, rows_of, found_of}

@@ -1,3 +1,4 @@
+-- What contracts see of words that were read.
 use Rattle.std.specs.Prelude.{List, Option, option_map, map}
 use Rattle.cmd_line.specs.Command.{texts}
 use Rattle.cmd_line.specs.Reading.{Text}

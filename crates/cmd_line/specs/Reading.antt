@@ -1,3 +1,4 @@
+-- How the words of a command line are read: options, their values, and names.
 use Rattle.std.specs.Prelude.{ℕ, List, [], ◌∷◌, ◌++◌, Bool, false, not, ◌==◌, ◌&&◌, leb, Option, Some, None, option_map, option_and_then, map, fold, find, length, if◌then◌else◌}
 use Rattle.std.specs.List.{list_any, before_first, after_first}
 use Rattle.std.specs.Str.{bytes_eq}

@@ -1,3 +1,4 @@
+-- How a run of the meaning ends, beside the marks of its states.
 use Rattle.std.specs.Prelude.{ℕ, List, ◌++◌, codes, Option, Some, None}
 use Rattle.mx_source.specs.Meaning.{Mark, Going, Halted, Stuck, State}
 use Rattle.mx_text.specs.Text.{count_line, console_lines}

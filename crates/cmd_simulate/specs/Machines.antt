@@ -8,13 +8,9 @@ use Rattle.cmd_answer.specs.declared.FileKind.TheVariants.{Interrupts, Input}
 use Rattle.cmd_answer.specs.declared.Status.TheVariants.{BadEvents}
 use Rattle.cmd_answer.specs.Answer.{Answer, prints, text_line}
 use Rattle.cmd_answer.specs.Protocol.{Protocol, Answers, Reads}
-use Rattle.cmd_simulate.specs.declared.simulated.Limits.{Limits}
+use Rattle.cmd_options.specs.declared.Limits.{Limits}
+use Rattle.cmd_options.specs.Options.{Files}
 use Rattle.cmd_simulate.specs.Simulated.{image_answer}
-
--- the files that the options name
-pub record Files : Type 0 where
-  pub interrupts : Option (List ℕ)
-  pub input : Option (List ℕ)
 
 abbrev pub event_text : ℕ → List ℕ → List ℕ
 event_text line cause = text_line (codes "interrupts line " ++ decimal line ++ codes ": " ++ cause)

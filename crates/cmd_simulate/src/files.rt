@@ -1,6 +1,7 @@
 //! The files that a run reads besides its program.
 ghost use Rattle.std.specs.Prelude.{◌≡◌, ◌≢◌, ◌≤◌, ◌++◌, codes, length, IfOk, IfErr, List, ℕ, Ok, Err, None, Some, option_map};
 ghost use Rattle.std.specs.Fmt.{decimal};
+ghost use Rattle.mx_io.specs.declared.limits.TheConstants.{MAX_FILE_BYTES};
 ghost use Rattle.mx_board.specs.declared.EventError.{EventError};
 ghost use Rattle.mx_board.specs.RequestFile.{requests_of};
 ghost use Rattle.cmd_answer.specs.declared.Status.TheVariants.{BadEvents};
@@ -40,7 +41,7 @@ fn fault_reply(alloc: Global, fault: &EventError) -> Result<Reply, Memory>
 
 // The requests of a file's bytes, or the reply to its first faulty line.
 fn parse_requests(alloc: Global, bytes: &[u8]) -> Result<Result<Requests, Reply>, Memory>
-    requires { length bytes.now ≤ 1048576 }
+    requires { length bytes.now ≤ MAX_FILE_BYTES }
     ensures given { IfOk result (λ r. IfOk r (λ requests. requests_of bytes.now ≡ Ok requests)) }
     ensures refused { IfOk result
         (λ r. IfErr r (λ reply. (fault : EventError) × (requests_of bytes.now ≡ Err fault) × (reply_answer reply ≡ prints BadEvents (event_line fault)))) }
@@ -86,7 +87,7 @@ pub fn read_input<S: Shelf>(
     shelf: &mut S,
     name: Option<&str>,
 ) -> Result<Result<Vec<u8>, Reply>, Memory>
-    ensures within { IfOk result (λ r. IfOk r (λ bytes. length bytes.items ≤ 1048576)) }
+    ensures within { IfOk result (λ r. IfOk r (λ bytes. length bytes.items ≤ MAX_FILE_BYTES)) }
     ensures given { IfOk result (λ r. IfOk r (λ bytes. (next : List ℕ → Protocol) (after : Counts) (answer : Answer)
         → Performed (S.told shelf.old) (next bytes.items)
         (S.counts shelf.new) after answer

@@ -6,5 +6,5 @@ mod runs;
 mod simulated;
 
 pub use files::{read_input, read_requests};
-pub use runs::{RunFiles, run_image};
-pub use simulated::{Limits, simulate, simulate_on};
+pub use runs::run_image;
+pub use simulated::{simulate, simulate_on};

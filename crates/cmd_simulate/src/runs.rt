@@ -1,25 +1,18 @@
 //! A run of an image, with the files that its options name.
-ghost use Rattle.std.specs.Prelude.{◌≡◌, IfOk, option_map, List, ℕ};
+ghost use Rattle.std.specs.Prelude.{◌≡◌, IfOk, List, ℕ};
 ghost use Rattle.std.specs.Option.{option_copied};
 ghost use Rattle.cmd_answer.specs.Protocol.{Performed};
 ghost use Rattle.cmd_answer.specs.Replies.{reply_answer};
+ghost use Rattle.cmd_options.specs.Options.{seen_files};
 ghost use Rattle.cmd_simulate.specs.Machines.{machine_protocol, if_asked};
 
 use crate::files::{read_input, read_requests};
-use crate::{Limits, simulate};
+use crate::simulate;
 use cmd_answer::Reply;
+use cmd_options::{Limits, RunFiles};
 use mx_code::Image;
 use mx_io::{Memory, Shelf};
 use std::alloc::Global;
-
-/// The names of the files that a run reads besides its program.
-#[derive(Clone, Copy, Debug)]
-pub struct RunFiles<'a> {
-    /// The cycles in which interrupts are requested; none where no file is named.
-    pub interrupts: Option<&'a str>,
-    /// The bytes of the input; none where no file is named.
-    pub input: Option<&'a str>,
-}
 
 // The input that a program is given, if it asks for one.
 fn if_asked(asks: bool, bytes: &[u8]) -> Option<&[u8]>
@@ -39,8 +32,7 @@ pub fn run_image<S: Shelf>(
     limits: &Limits,
 ) -> Result<Reply, Memory>
     ensures performed { IfOk result (λ r. Performed (S.told shelf.old)
-        (machine_protocol (record { interrupts = option_map (λ s. s.now) files.now.interrupts; input = option_map (λ s. s.now) files.now.input })
-        limits.now image.now.code.items image.now.user_data.items asks)
+        (machine_protocol (seen_files files.now) limits.now image.now.code.items image.now.user_data.items asks)
         (S.counts shelf.old) (S.counts shelf.new) (reply_answer r)) }
     ensures told_stays { S.told shelf.new ≡ S.told shelf.old }
     ensures writes_stay { S.write_faults shelf.new ≡ S.write_faults shelf.old }

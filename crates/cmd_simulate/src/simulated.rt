@@ -1,12 +1,14 @@
 //! One run of an image, and its report.
 ghost use Rattle.std.specs.Prelude.{◌≡◌, ◌≤◌, ◌++◌, [], IfOk, cond, min};
 ghost use Rattle.std.specs.Option.{option_copied};
+ghost use Rattle.mx_io.specs.declared.limits.TheConstants.{MAX_FILE_BYTES};
 ghost use Rattle.mx_board.specs.Contents.{bytes_in};
 ghost use Rattle.mx_turn.specs.Program.{Program};
 ghost use Rattle.cmd_answer.specs.Replies.{reply_answer};
-ghost use Rattle.cmd_simulate.specs.Simulated.{image_answer, program_answer};
+ghost use Rattle.cmd_simulate.specs.Simulated.{dump_of, image_answer, program_answer};
 
 use cmd_answer::{Reply, Status};
+use cmd_options::Limits;
 use mx_board::Requests;
 use mx_code::Image;
 use mx_icache::LineCache;
@@ -16,12 +18,17 @@ use mx_report::{Dump, drive, report};
 use mx_turn::Machine;
 use std::alloc::Global;
 
-/// What is asked of a run: how many cycles it may take, how many of them are traced, and which data words are printed.
-#[derive(Clone, Copy, Debug, PartialEq, Eq)]
-pub struct Limits {
-    pub budget: u32,
-    pub trace: u32,
-    pub dump: Option<Dump>,
+// The data words that a report shows, if any are asked for.
+fn dump_of(limits: &Limits) -> Option<Dump>
+    ensures { result ≡ dump_of limits.now }
+{
+    match limits.dump {
+        Some(at) => Some(Dump {
+            at,
+            count: limits.count,
+        }),
+        None => None,
+    }
 }
 
 // How a run ended.
@@ -48,7 +55,8 @@ pub fn simulate_on<M: Machine>(
         → reply_answer r ≡ program_answer p image.now.code.items requests.now limits.now) }
 {
     let driven = drive(alloc, machine, requests, limits.budget, limits.trace)?;
-    let output = report(alloc, &driven, machine, image, limits.dump)?;
+    let dump = dump_of(limits);
+    let output = report(alloc, &driven, machine, image, dump)?;
     let status = status_of(driven.halted);
     Ok(Reply::Prints { status, output })
 }
@@ -61,7 +69,7 @@ pub fn simulate(
     requests: &Requests,
     limits: &Limits,
 ) -> Result<Reply, Memory>
-    requires { bytes_in (option_copied input) ≤ 1048576 }
+    requires { bytes_in (option_copied input) ≤ MAX_FILE_BYTES }
     ensures { IfOk result
         (λ r. reply_answer r ≡ image_answer image.now.code.items image.now.user_data.items (option_copied input.entry) requests.now limits.now) }
 {

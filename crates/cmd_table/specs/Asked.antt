@@ -2,9 +2,8 @@
 use Rattle.std.specs.Prelude.{ℕ, List, [], ◌∷◌, codes, Option, Some, None, option_map, option_and_then, find, length, if◌then◌else◌}
 use Rattle.std.specs.Str.{bytes_eq}
 use Rattle.cmd_line.specs.Reading.{asked, is_between}
-use Rattle.mx_report.specs.declared.Dump.{Dump}
-use Rattle.cmd_simulate.specs.declared.Limits.{Limits}
-use Rattle.cmd_debug.specs.declared.SessionLimits.{SessionLimits}
+use Rattle.cmd_options.specs.declared.Limits.{Limits}
+use Rattle.cmd_options.specs.declared.SessionLimits.{SessionLimits}
 use Rattle.cmd_table.specs.Numbers.{number, number_or, optional}
 use Rattle.cmd_table.specs.Commands.{Command, Run, Meaning, Build, Exec, Listing, Gen, Soak, Migrate, Share, Debug, Best, Join}
 
@@ -12,16 +11,13 @@ use Rattle.cmd_table.specs.Commands.{Command, Run, Meaning, Build, Exec, Listing
 abbrev pub run_options : List (List ℕ)
 run_options = codes "budget" ∷ codes "trace" ∷ codes "dump" ∷ codes "count" ∷ codes "interrupts" ∷ codes "input" ∷ []
 
-abbrev pub dump_of : Option ℕ → ℕ → Option Dump
-dump_of at count = option_map (λ a. record { at = a; count = count }) at
-
 -- the limits of a run, by the values of `--budget`, `--trace`, `--dump` and `--count`; none where a number is faulty
 abbrev pub limits_of : Option (List ℕ) → Option (List ℕ) → Option (List ℕ) → Option (List ℕ) → Option Limits
 limits_of budget trace dump count =
     option_and_then (λ b.
     option_and_then (λ t.
     option_and_then (λ d.
-    option_map (λ c. record { budget = b; trace = t; dump = dump_of d c })
+    option_map (λ c. record { budget = b; trace = t; dump = d; count = c })
     (number_or 1 1 65536 count))
     (optional 0 65535 dump))
     (number_or 0 0 10000 trace))

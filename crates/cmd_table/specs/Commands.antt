@@ -1,8 +1,8 @@
 -- What a command line may ask for.
 use Rattle.std.specs.Prelude.{ℕ, List, Option}
-use Rattle.cmd_simulate.specs.declared.Limits.{Limits}
-use Rattle.cmd_simulate.specs.Machines.{Files}
-use Rattle.cmd_debug.specs.declared.SessionLimits.{SessionLimits}
+use Rattle.cmd_options.specs.declared.Limits.{Limits}
+use Rattle.cmd_options.specs.declared.SessionLimits.{SessionLimits}
+use Rattle.cmd_options.specs.Options.{Files}
 
 pub data Command : Type 0 where
   -- runs a source

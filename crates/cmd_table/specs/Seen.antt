@@ -1,15 +1,10 @@
+-- What contracts see of a command.
 use Rattle.std.specs.Prelude.{◌≤◌, option_map, vec_len}
 use Rattle.cmd_line.specs.Command.{texts}
-use Rattle.cmd_simulate.specs.declared.RunFiles.{RunFiles}
-use Rattle.cmd_simulate.specs.Machines.{Files}
-use Rattle.cmd_debug.specs.Sessions.{IsAsked}
+use Rattle.cmd_options.specs.Options.{seen_files, IsAsked}
 use Rattle.cmd_table.specs.declared.command.Command.{Command}
 use Rattle.cmd_table.specs.declared.command.Command.TheVariants as given
 use Rattle.cmd_table.specs.Commands as asked
-
--- what contracts see of the files of a run
-abbrev pub seen_files : RunFiles → Files
-seen_files files = record { interrupts = option_map (λ s. s.now) files.interrupts; input = option_map (λ s. s.now) files.input }
 
 -- what contracts see of a command
 abbrev pub seen_command : Command → asked.Command

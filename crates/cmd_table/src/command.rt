@@ -12,9 +12,8 @@ use crate::readers::{
     best_read, build_read, debug_read, exec_read, gen_read, join_read, list_read, meaning_read,
     migrate_read, run_read, share_read, soak_read,
 };
-use cmd_debug::SessionLimits;
 use cmd_line::{Read, Shape, read_words};
-use cmd_simulate::{Limits, RunFiles};
+use cmd_options::{Limits, RunFiles, SessionLimits};
 use mx_io::Memory;
 use std::alloc::Global;
 

@@ -1,26 +1,14 @@
 //! What is made of the words of each command, once they are read.
 ghost use Rattle.std.specs.Prelude.{◌≡◌, IfSome, option_map};
 ghost use Rattle.cmd_line.specs.Read.{seen};
-ghost use Rattle.cmd_table.specs.Asked.{dump_of, limits_of, run_of, meaning_of, build_of, exec_of, list_of, gen_of, soak_of, migrate_of, share_of, session_limits_of, debug_of, best_of, join_of};
-ghost use Rattle.cmd_debug.specs.Sessions.{IsAsked};
+ghost use Rattle.cmd_table.specs.Asked.{limits_of, run_of, meaning_of, build_of, exec_of, list_of, gen_of, soak_of, migrate_of, share_of, session_limits_of, debug_of, best_of, join_of};
+ghost use Rattle.cmd_options.specs.Options.{IsAsked};
 ghost use Rattle.cmd_table.specs.Seen.{seen_command, IsAllowed};
 
 use crate::command::{Command, FEWEST_MODULES, MOST_MODULES};
 use crate::numbers::{number, number_or, optional};
-use cmd_debug::SessionLimits;
 use cmd_line::Read;
-use cmd_simulate::{Limits, RunFiles};
-use mx_report::Dump;
-
-// The words of a dump, if one is asked for.
-fn dump_of(at: Option<u32>, count: u32) -> Option<Dump>
-    ensures { result ≡ dump_of at count }
-{
-    match at {
-        Some(at) => Some(Dump { at, count }),
-        None => None,
-    }
-}
+use cmd_options::{Limits, RunFiles, SessionLimits};
 
 // The limits that four options give; None where a number is faulty.
 fn limits_of(
@@ -34,12 +22,13 @@ fn limits_of(
 {
     let budget = number_or(budget, 1_000_000, 0, 100_000_000)?;
     let trace = number_or(trace, 0, 0, 10_000)?;
-    let at = optional(dump, 0, 65_535)?;
+    let dump = optional(dump, 0, 65_535)?;
     let count = number_or(count, 1, 1, 65_536)?;
     Some(Limits {
         budget,
         trace,
-        dump: dump_of(at, count),
+        dump,
+        count,
     })
 }
 

@@ -3,6 +3,7 @@ use Rattle.std.proofs.Common.{◌≡◌, ◌≢◌, ℕ, ◌⊎◌, inl, inr, Li
 use Rattle.std.specs.Prelude.{nat_lt, if◌then◌else◌}
 use Rattle.std.specs.Option.{unwrap_or}
 use Rattle.std.proofs.lemmas.Slice.Eq.{bytes_eq-Decides}
+use Rattle.mx_isa.specs.declared.board.TheConstants.{DATA_BASE, DATA_END}
 use Rattle.cmd_answer.specs.declared.FileKind.{FileKind}
 use Rattle.cmd_answer.specs.declared.FileKind.TheVariants.{Source, Image}
 use Rattle.cmd_answer.specs.declared.Status.{Status}
@@ -20,7 +21,8 @@ use Rattle.mx_layout.specs.Layout.{blocks_in}
 use Rattle.mx_layout.specs.Overlong.{Overlong, overlong}
 use Rattle.mx_isa.specs.Board.{board}
 use Rattle.mx_command.specs.Accepted.{Held}
-use Rattle.mx_command.specs.Protocols.{Layouts, unless_faulty, unless_overlong, linked_protocol, build_protocol, linked_contents, migrated, migrate_answer}
+use Rattle.cmd_source.specs.Protocols.{Layouts, unless_faulty, unless_overlong, linked_protocol}
+use Rattle.mx_command.specs.Protocols.{build_protocol, linked_contents, migrated, migrate_answer}
 use Rattle.mx_command.specs.Layouts.{greedy_layout, command_protocol}
 use Rattle.mx_command.specs.Writing.{writes_a_file}
 use Rattle.embed_call.specs.Answered.{file_bytes}
@@ -57,11 +59,11 @@ migrated_writes target bytes None = inr (image.file_bytes (file_in bytes), refl)
 built_writes : (layout_of : Layouts) (target text : List ℕ) (held : Held)
     → WritesTo target (resolved (linked_protocol layout_of (build_protocol target) text) held)
 built_writes layout_of target text held =
-    let source = source_of 256 text in
+    let source = source_of DATA_BASE text in
     let sites = layout_of source in
     let far = overlong source board (blocks_in sites) in
     let next = build_protocol target source sites in
-    faulty_writes target (text_fault 256 65536 text) (unless_overlong far next) held
+    faulty_writes target (text_fault DATA_BASE DATA_END text) (unless_overlong far next) held
     (overlong_writes target far next held (inr (image.file_bytes (linked_contents source sites), refl)))
 
 -- the target of a command that writes a file, and how it writes it

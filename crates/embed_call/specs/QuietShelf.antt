@@ -1,3 +1,4 @@
+-- What contracts see of the shelf of a call: files in memory, of which no read or write fails.
 use Rattle.std.specs.Prelude.{ℕ, List, Option}
 use Rattle.mx_io.specs.Shelves.{Told, Counts}
 use Rattle.mx_io.specs.MemoryShelf as memory

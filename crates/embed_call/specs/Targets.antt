@@ -1,3 +1,4 @@
+-- The file that a command writes, and what it holds then.
 use Rattle.std.specs.Prelude.{ℕ, List, [], Option, Some, None}
 use Rattle.std.specs.Option.{unwrap_or}
 use Rattle.cmd_answer.specs.declared.Status.{Status}

@@ -1,3 +1,4 @@
+-- What contracts see of the sink of a call.
 use Rattle.std.specs.Prelude.{ℕ, List}
 use Rattle.embed_call.specs.declared.text_sink.TextSink.{TextSink}
 

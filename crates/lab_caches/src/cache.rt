@@ -1,5 +1,5 @@
 //! A cache of any geometry.
-use lab_measures::Geometry;
+use lab_terms::Geometry;
 use std::alloc::{AllocError, Global};
 
 /// A line that is held: its number, and a bit for each of its groups of words that is valid.

@@ -1,5 +1,5 @@
 //! Caches as a chart: misses by size.
-use crate::study::{CacheRow, Study};
+use super::study::{CacheRow, Study};
 use std::alloc::{AllocError, Global};
 
 /// The sizes on the chart, in words.

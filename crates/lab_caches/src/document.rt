@@ -1,10 +1,9 @@
 //! Caches as JSON.
-use crate::members::{write_flag, write_numbers, write_text};
-use crate::study::{CacheRow, Study};
-use lab_measures::SHIPPED_CACHE;
+use super::study::{CacheRow, Study};
+use lab_json::{document_text, write_flag, write_numbers, write_text};
+use lab_terms::SHIPPED_CACHE;
 use mx_io::Memory;
 use serde::{Described, Serialize, Serializer};
-use serde_json::to_vec_pretty;
 use std::alloc::Global;
 
 /// A study, as it is written.
@@ -64,11 +63,5 @@ impl Serialize for Document<'_> {
 
 /// Caches as JSON, with the name of the source.
 pub fn caches_json(alloc: Global, source: &str, study: &Study) -> Result<Vec<u8>, Memory> {
-    let Ok(mut text) = to_vec_pretty(alloc, &Document { source, study }) else {
-        return Err(Memory);
-    };
-    if text.push(b'\n').is_err() {
-        return Err(Memory);
-    }
-    Ok(text)
+    document_text(alloc, &Document { source, study })
 }

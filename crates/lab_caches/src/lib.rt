@@ -1,11 +1,10 @@
 //! What other caches of code words would make of a run.
 #![tactic(auto)]
 
+mod alike;
 mod cache;
-mod caches;
 mod chart;
 mod document;
-mod members;
 mod study;
 mod table;
 

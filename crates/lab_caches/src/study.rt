@@ -1,9 +1,9 @@
 //! A run with many caches.
 ghost use Rattle.std.specs.Prelude.{◌≡◌};
 
-use crate::cache::Cache;
-use crate::caches::Caches;
-use lab_measures::Geometry;
+use super::alike::Caches;
+use super::cache::Cache;
+use lab_terms::Geometry;
 use mx_board::Requests;
 use mx_io::Memory;
 use mx_turn::{Counts, Machine, Stage};

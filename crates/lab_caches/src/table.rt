@@ -1,6 +1,6 @@
 //! Caches as a table.
-use crate::study::{CacheRow, Study};
-use lab_measures::{Geometry, SHIPPED_CACHE};
+use super::study::{CacheRow, Study};
+use lab_terms::{Geometry, SHIPPED_CACHE};
 use std::alloc::{AllocError, Global};
 
 /// The head of the table.

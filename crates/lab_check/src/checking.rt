@@ -1,5 +1,6 @@
 //! What is found in a text.
 ghost use Rattle.std.specs.Prelude.{◌≤◌, length};
+ghost use Rattle.mx_io.specs.declared.limits.TheConstants.{MAX_SOURCE_BYTES};
 
 use crate::error::{fault_finding, overlong_finding};
 use crate::finding::Finding;
@@ -92,8 +93,8 @@ fn told_source<'a>(
 /// What is found in a text: its faulty lines, up to so many, or, where it has none, a branch that does not reach its target,
 /// and warnings, up to so many.
 pub fn check(alloc: Global, text: &[u8], at_most: usize) -> Result<Checked<'_>, Memory>
-    requires short { length text.now ≤ 4194304 }
-    requires most { at_most ≤ 4194304 }
+    requires short { length text.now ≤ MAX_SOURCE_BYTES }
+    requires most { at_most ≤ MAX_SOURCE_BYTES }
 {
     let found = check_text(alloc, text, at_most)?;
     let Ok(lines) = lines_of(alloc, text) else {

@@ -7,44 +7,20 @@ use lab_faults::{Shown, line_at};
 use mx_lines::Fault;
 use std::alloc::{AllocError, Global};
 
-/// The number of a fault.
-pub fn fault_code(fault: Fault) -> &'static str {
-    match fault {
-        Fault::BadByte => "F1",
-        Fault::BadToken => "F2",
-        Fault::UnknownMnemonic => "F3",
-        Fault::BadOperands => "F4",
-        Fault::BadRegister => "F5",
-        Fault::NumberOutOfRange => "F6",
-        Fault::DuplicateLabel => "F7",
-        Fault::UndefinedLabel => "F8",
-        Fault::WrongLabelKind => "F9",
-        Fault::SystemInstruction => "F10",
-        Fault::BadDirective => "F11",
-        Fault::TooManyInstructions => "F12",
-        Fault::DataFull => "F13",
-        Fault::LineTooLong => "F14",
-    }
+// The number of a fault and its name, between which a space stands in its text.
+fn number_and_name(fault: Fault) -> (&'static str, &'static str) {
+    let text = fault.text();
+    text.split_once(' ').unwrap_or((text, ""))
 }
 
-/// The name of a fault.
-pub fn fault_name(fault: Fault) -> &'static str {
-    match fault {
-        Fault::BadByte => "BadByte",
-        Fault::BadToken => "BadToken",
-        Fault::UnknownMnemonic => "UnknownMnemonic",
-        Fault::BadOperands => "BadOperands",
-        Fault::BadRegister => "BadRegister",
-        Fault::NumberOutOfRange => "NumberOutOfRange",
-        Fault::DuplicateLabel => "DuplicateLabel",
-        Fault::UndefinedLabel => "UndefinedLabel",
-        Fault::WrongLabelKind => "WrongLabelKind",
-        Fault::SystemInstruction => "SystemInstruction",
-        Fault::BadDirective => "BadDirective",
-        Fault::TooManyInstructions => "TooManyInstructions",
-        Fault::DataFull => "DataFull",
-        Fault::LineTooLong => "LineTooLong",
-    }
+// The number of a fault.
+fn fault_code(fault: Fault) -> &'static str {
+    number_and_name(fault).0
+}
+
+// The name of a fault.
+fn fault_name(fault: Fault) -> &'static str {
+    number_and_name(fault).1
 }
 
 /// A faulty line, as it is told.

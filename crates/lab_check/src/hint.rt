@@ -3,7 +3,9 @@
 use crate::foreign::{directive_instead, mnemonic_instead, register_instead};
 use crate::labels::{Definition, first_definition, names_of, other_case};
 use crate::operand::operand_hint;
-use crate::sentence::{BYTE_ORDER_MARK, MNEMONICS, char_of, is_among, name_of, text_of, token_of};
+use crate::sentence::{
+    BYTE_ORDER_MARK, char_of, is_among, is_mnemonic, mnemonics, name_of, text_of, token_of,
+};
 use lab_faults::{Shown, nearest};
 use mx_asm::{line_words, statement_words};
 use mx_lines::{Fault, Word, spells};
@@ -76,7 +78,7 @@ fn token_hint(alloc: Global, token: &[u8]) -> Result<Option<String>, AllocError>
 // The second word is the name of an instruction, so that the first one may be a label.
 fn is_before_mnemonic(words: &[Word]) -> bool {
     match statement_words(words) {
-        [Word::Name(_), Word::Name(second), ..] => is_among(&MNEMONICS, second),
+        [Word::Name(_), Word::Name(second), ..] => is_mnemonic(second),
         _ => false,
     }
 }
@@ -95,7 +97,7 @@ fn mnemonic_hint(
         return Ok(Some(format!(in alloc; "a label has a `:` behind it: `{word}:`")?));
     }
     let lower = word.to_ascii_lowercase(alloc)?;
-    meant(alloc, lower.as_str(), &MNEMONICS)
+    meant(alloc, lower.as_str(), &mnemonics(alloc)?)
 }
 
 // The number of a register, behind another letter or zeros.

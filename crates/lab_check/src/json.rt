@@ -1,7 +1,7 @@
 //! A finding as JSON.
 use crate::finding::Finding;
+use lab_json::push_record;
 use serde::Serialize;
-use serde_json::to_string;
 use std::alloc::{AllocError, Global};
 
 // What an object tells. Columns are counted in bytes, from 1.
@@ -18,8 +18,13 @@ struct Told<'a> {
     hint: Option<&'a str>,
 }
 
-/// A finding in a file as an object of JSON, on a line.
-pub fn json_line(alloc: Global, file: &str, finding: &Finding) -> Result<String, AllocError> {
+/// Appends a finding in a file as an object of JSON, on a line.
+pub(crate) fn push_json(
+    alloc: Global,
+    output: &mut Vec<u8>,
+    file: &str,
+    finding: &Finding,
+) -> Result<(), AllocError> {
     let told = Told {
         file,
         line: finding.line,
@@ -34,9 +39,5 @@ pub fn json_line(alloc: Global, file: &str, finding: &Finding) -> Result<String,
             None => None,
         },
     };
-    let Ok(mut text) = to_string(alloc, &told) else {
-        return Err(AllocError);
-    };
-    text.push('\n')?;
-    Ok(text)
+    push_record(alloc, output, &told)
 }

@@ -14,7 +14,6 @@ mod sentence;
 mod warning;
 
 pub use checking::{Checked, check};
-pub use error::{fault_code, fault_name};
 pub use finding::{Finding, Severity};
 pub use lab_faults::MOST_LINES;
 pub use report::{Form, push_findings};

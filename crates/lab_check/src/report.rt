@@ -1,6 +1,6 @@
 //! What is printed of a text.
 use crate::finding::{Finding, Severity};
-use crate::json::json_line;
+use crate::json::push_json;
 use std::alloc::{AllocError, Global};
 
 /// How findings are printed.
@@ -101,7 +101,7 @@ pub fn push_findings(
     for finding in findings {
         match form {
             Form::Text | Form::Coloured => push_finding(alloc, output, file, finding, form)?,
-            Form::Json => output.extend_from_slice(json_line(alloc, file, finding)?.as_bytes())?,
+            Form::Json => push_json(alloc, output, file, finding)?,
         }
     }
     Ok(())

@@ -1,90 +1,57 @@
 //! What is wrong with a faulty line, in a sentence.
 use lab_faults::Shown;
 use mx_asm::{line_words, statement_words};
-use mx_lines::{Fault, Word, spells};
+use mx_lines::{Fault, MNEMONICS, Mnemonic, Word, mnemonic_named, spells};
 use std::alloc::{AllocError, Global};
 use std::str;
 
 /// The byte order mark, which cannot be seen.
 pub const BYTE_ORDER_MARK: &str = "\u{feff}";
 
-// Mnemonics with operands of one form.
-struct Operands {
-    form: &'static str,
-    names: &'static [&'static str],
+// The operands that stand behind a mnemonic.
+fn operands_of(mnemonic: Mnemonic) -> &'static str {
+    match mnemonic {
+        Mnemonic::Compute(_) => "R,R,R",
+        Mnemonic::Not | Mnemonic::Mstart | Mnemonic::Mov | Mnemonic::CallReg => "R,R",
+        Mnemonic::Branch(_) | Mnemonic::SwappedBranch(_) => "R,R,LABEL",
+        Mnemonic::Asr | Mnemonic::Addi => "R,#NUMBER,R",
+        Mnemonic::Sh => "R,R,#NUMBER,R",
+        Mnemonic::MoveFrom => "md,R",
+        Mnemonic::MoveTo => "R,md",
+        Mnemonic::Load | Mnemonic::Store => "OFFSET[R],R",
+        Mnemonic::LoadAddress | Mnemonic::Call => "LABEL,R",
+        Mnemonic::Goto => "LABEL",
+        Mnemonic::JumpReg => "R",
+        Mnemonic::Nop | Mnemonic::Halt | Mnemonic::System => "nothing",
+    }
 }
 
-const THREE: [&str; 10] = [
-    "add", "sub", "subnc", "and", "or", "xor", "bic", "rotlb", "mstep", "dstep",
-];
-
-const TWO: [&str; 4] = ["not", "mstart", "mov", "callr"];
-
-const BRANCHES: [&str; 10] = [
-    "beq", "bne", "blt", "bge", "blo", "bhs", "bgt", "ble", "bhi", "blos",
-];
-
-const OPERANDS: &[Operands] = &[
-    Operands {
-        form: "R,R,R",
-        names: &THREE,
-    },
-    Operands {
-        form: "R,R",
-        names: &TWO,
-    },
-    Operands {
-        form: "R,R,LABEL",
-        names: &BRANCHES,
-    },
-    Operands {
-        form: "R,#NUMBER,R",
-        names: &["asr", "addi"],
-    },
-    Operands {
-        form: "R,R,#NUMBER,R",
-        names: &["sh"],
-    },
-    Operands {
-        form: "md,R",
-        names: &["movfrs"],
-    },
-    Operands {
-        form: "R,md",
-        names: &["movtos"],
-    },
-    Operands {
-        form: "OFFSET[R],R",
-        names: &["ld", "st"],
-    },
-    Operands {
-        form: "LABEL,R",
-        names: &["la", "call"],
-    },
-    Operands {
-        form: "LABEL",
-        names: &["b"],
-    },
-    Operands {
-        form: "R",
-        names: &["jr"],
-    },
-    Operands {
-        form: "NUMBER",
-        names: &[".space"],
-    },
-    Operands {
-        form: "VALUE,VALUE and so on",
-        names: &[".word"],
-    },
-];
-
 /// The mnemonics of the language but for those of the system.
-pub const MNEMONICS: [&str; 37] = [
-    "add", "sub", "subnc", "and", "or", "xor", "bic", "rotlb", "mstep", "dstep", "not", "mstart",
-    "asr", "sh", "addi", "mov", "nop", "movfrs", "movtos", "ld", "st", "la", "beq", "bne", "blt",
-    "bge", "blo", "bhs", "bgt", "ble", "bhi", "blos", "b", "call", "callr", "jr", "halt",
-];
+pub fn mnemonics(alloc: Global) -> Result<Vec<&'static str>, AllocError> {
+    let mut names = Vec::new(alloc);
+    for (name, mnemonic) in &MNEMONICS {
+        if !is_system(*mnemonic) {
+            names.push(*name)?;
+        }
+    }
+    Ok(names)
+}
+
+// The mnemonic is one that only the system may use.
+fn is_system(mnemonic: Mnemonic) -> bool {
+    match mnemonic {
+        Mnemonic::System => true,
+        _ => false,
+    }
+}
+
+/// The name is a mnemonic of the language, and none of those of the system.
+pub fn is_mnemonic(name: &[u8]) -> bool {
+    match mnemonic_named(name) {
+        Some(mnemonic) => !is_system(mnemonic),
+        None => false,
+    }
+}
 
 /// One of the names is this one, in either case.
 pub fn is_among(names: &[&str], name: &[u8]) -> bool {
@@ -98,12 +65,16 @@ pub fn is_among(names: &[&str], name: &[u8]) -> bool {
 
 /// The operands that stand behind a mnemonic or a directive.
 pub fn form_of(name: &[u8]) -> &'static str {
-    for operands in OPERANDS {
-        if is_among(operands.names, name) {
-            return operands.form;
-        }
+    if spells(name, ".space") {
+        return "NUMBER";
     }
-    "nothing"
+    if spells(name, ".word") {
+        return "VALUE,VALUE and so on";
+    }
+    match mnemonic_named(name) {
+        Some(mnemonic) => operands_of(mnemonic),
+        None => "nothing",
+    }
 }
 
 /// Bytes as a text; none where they are not UTF-8.

@@ -4,7 +4,7 @@ use crate::hint::said;
 use crate::labels::{Definition, definitions_of};
 use crate::sentence::text_of;
 use lab_faults::{line_at, marks_under};
-use lab_measures::{reached, ways_of};
+use lab_terms::{reached, ways_of};
 use mx_asm::{line_words, statement_words};
 use mx_faults::token_span;
 use mx_isa::{INPUT, Inst, Reg};

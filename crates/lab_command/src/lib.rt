@@ -1,23 +1,22 @@
 //! The commands for people who look: pictures of a run. What their words are, and how each is answered.
 #![tactic(auto)]
 
-mod cached;
-mod checked;
-mod compared;
-mod disassembled;
-mod drawn;
-mod explained;
+mod caches;
+mod check;
+mod compare;
+mod disassemble;
+mod draw;
+mod explain;
 mod failure;
 mod given;
-mod interrupted;
-mod linked;
-mod planned;
+mod interrupts;
+mod plans;
 mod printed;
-mod profiled;
-mod ran;
+mod profile;
+mod runs;
 mod table;
 mod top;
-mod traced;
+mod trace;
 mod words;
 
 pub use cmd_answer::Status;

@@ -1,17 +1,17 @@
 //! The top call.
-use crate::cached::caches_reply;
-use crate::checked::check_reply;
-use crate::compared::compare_reply;
-use crate::disassembled::disassemble_reply;
-use crate::drawn::draw_reply;
-use crate::explained::explain_reply;
+use crate::caches::caches_reply;
+use crate::check::check_reply;
+use crate::compare::compare_reply;
+use crate::disassemble::disassemble_reply;
+use crate::draw::draw_reply;
+use crate::explain::explain_reply;
 use crate::failure::{Causes, error_text};
-use crate::interrupted::interrupts_reply;
-use crate::planned::plans_reply;
-use crate::profiled::profile_reply;
-use crate::ran::{GivenRun, read_run};
-use crate::traced::trace_reply;
-use crate::words::read_words;
+use crate::interrupts::interrupts_reply;
+use crate::plans::plans_reply;
+use crate::profile::profile_reply;
+use crate::runs::{GivenRun, read_run};
+use crate::trace::trace_reply;
+use crate::words::parse_words;
 use clap::error::ErrorKind;
 use clap::{ArgMatches, Error};
 use cmd_answer::{Reply, Status};
@@ -136,7 +136,7 @@ fn answer_to<'a, S: Shelf, T: Watcher, C: Causes>(
     watcher: T,
     causes: C,
 ) -> Result<Answer<'a>, Memory> {
-    match read_words(alloc, words) {
+    match parse_words(alloc, words) {
         Ok(matches) => match matches.subcommand() {
             Some((name, found)) => {
                 let reply = answered_by(alloc, name, found, shelf, watcher)?;

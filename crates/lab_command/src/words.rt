@@ -141,7 +141,7 @@ fn command_line<'a>(alloc: Global, rows: &[CommandRow]) -> Result<Command<'a>, A
 }
 
 /// What the words say.
-pub fn read_words<'a>(alloc: Global, words: &'a [String]) -> Result<ArgMatches<'a>, clap::Error> {
+pub fn parse_words<'a>(alloc: Global, words: &'a [String]) -> Result<ArgMatches<'a>, clap::Error> {
     command_line(alloc, COMMANDS)?
         .no_binary_name(true)
         .try_get_matches_from(words)

@@ -1,17 +1,16 @@
 //! What a run cost, as JSON.
 use crate::grouping::By;
-use crate::members::{write_flag, write_numbers, write_object, write_text};
 use crate::rows::{Row, rows_by};
 use crate::shown::text_of;
 use crate::spent::spent_in;
 use crate::subject::Subject;
+use lab_json::{document_text, write_flag, write_numbers, write_object, write_text};
 use lab_profile::{Column, LineCost, Spent};
 use mx_io::Memory;
 use mx_isa::CODE_BASE;
 use mx_link::Origin;
 use mx_turn::Counts;
 use serde::{Described, Serialize, Serializer};
-use serde_json::to_vec_pretty;
 use std::alloc::Global;
 
 /// A profile, as it is written. A name that is no UTF-8 needs memory.
@@ -185,17 +184,6 @@ impl Serialize for Document<'_> {
     }
 }
 
-// A document as a text.
-fn text_in(document: &Document) -> Result<Vec<u8>, Memory> {
-    let Ok(mut text) = to_vec_pretty(document.alloc, document) else {
-        return Err(Memory);
-    };
-    if text.push(b'\n').is_err() {
-        return Err(Memory);
-    }
-    Ok(text)
-}
-
 /// What a run cost as JSON: by parts of its source in the order of a column, the sums, and each word of the code.
 pub fn profile_json(
     alloc: Global,
@@ -209,11 +197,12 @@ pub fn profile_json(
     let Ok(rows) = rows_by(alloc, subject, costs.as_slice(), by, column) else {
         return Err(Memory);
     };
-    text_in(&Document {
+    let document = Document {
         alloc,
         subject: *subject,
         by,
         spent: spent_in(subject, costs.as_slice()),
         rows: rows.as_slice(),
-    })
+    };
+    document_text(alloc, &document)
 }

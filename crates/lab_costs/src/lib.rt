@@ -5,7 +5,6 @@
 mod document;
 mod events;
 mod grouping;
-mod members;
 mod positions;
 mod rows;
 mod shown;

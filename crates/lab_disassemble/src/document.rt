@@ -1,8 +1,8 @@
 //! A listing as JSON.
 use crate::entry::{Entry, Listing};
+use lab_json::document_text;
 use mx_io::Memory;
 use serde::Serialize;
-use serde_json::to_vec_pretty;
 use std::alloc::{AllocError, Global};
 
 /// The statements whose block begins at a word.
@@ -87,11 +87,5 @@ pub fn listing_json(alloc: Global, file: &str, listing: &Listing) -> Result<Vec<
         file,
         words,
     };
-    let Ok(mut text) = to_vec_pretty(alloc, &document) else {
-        return Err(Memory);
-    };
-    if text.push(b'\n').is_err() {
-        return Err(Memory);
-    }
-    Ok(text)
+    document_text(alloc, &document)
 }

@@ -1,5 +1,5 @@
 //! What is told of a word.
-use lab_measures::Place;
+use lab_terms::Place;
 use lab_words::{PlaceNames, word_text};
 use std::alloc::{AllocError, Global};
 

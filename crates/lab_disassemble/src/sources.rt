@@ -1,6 +1,6 @@
 //! The words of a linked source.
 use crate::entry::{Entry, Listing};
-use lab_measures::place_at;
+use lab_terms::place_at;
 use lab_words::{NamedPlace, PlaceNames};
 use mx_isa::CODE_BASE;
 use mx_link::Linked;

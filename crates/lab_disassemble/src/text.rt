@@ -1,6 +1,6 @@
 //! A listing as a text.
 use crate::entry::{Entry, Listing};
-use lab_measures::Place;
+use lab_terms::Place;
 use std::alloc::{AllocError, Global};
 
 /// The head of a listing whose places are known.

@@ -1,7 +1,7 @@
 -- The list of all fetches, from cycle to cycle: how long it is, and what a cycle shows of it.
 use Rattle.std.proofs.Common.{◌≡◌, ℕ, zero, suc, ◌+◌, Bool, true, false, eqb, cond, ◌∷◌, List, [], ◌++◌, Option, length, refl, ap, ◌∙◌, true≢false, arith}
 use Rattle.std.proofs.lemmas.Bool.Decides.{nat_tests}
-use Rattle.mx_code.specs.Delay.{Code}
+use Rattle.mx_delay.specs.Delay.{Code}
 use Rattle.mx_turn.specs.declared.latches.Latches.{Latches}
 use Rattle.mx_turn.specs.Counted.{Counted, after_turn}
 use Rattle.mx_turn.specs.Stages.{stage_of}

@@ -1,5 +1,5 @@
 -- Frames one after the other, and the rows that are made of them.
-use Rattle.std.proofs.Common.{◌≡◌, ℕ, zero, suc, ◌+◌, ◌-◌, ◌<◌, ◌≤◌, Bool, true, false, Some, None, List, [], ◌∷◌, ◌++◌, length, sym, ap, ◌∙◌, subst, ⊎_elim, inl, inr, arith, refl}
+use Rattle.std.proofs.Common.{◌≡◌, ◌⊎◌, ℕ, zero, suc, ◌+◌, ◌-◌, ◌<◌, ◌≤◌, Bool, true, false, Some, None, List, [], ◌∷◌, ◌++◌, length, sym, ap, ◌∙◌, subst, ⊎_elim, inl, inr, arith, refl}
 use Rattle.std.specs.Prelude.{All, map, take, drop, min, slice_get, slice_index_or, leb, nat_lt, cond}
 use Rattle.std.specs.List.{position_or_len}
 use Rattle.std.proofs.lemmas.List.{map-append, length-append, take_min}
@@ -8,10 +8,8 @@ use Rattle.std.proofs.lemmas.List.Sums.{passes_at_first, fails_before_first}
 use Rattle.std.proofs.lemmas.Bool.{cases_lt}
 use Rattle.std.proofs.lemmas.Bool.Decides.{nat_tests}
 use Rattle.std.proofs.lemmas.Option.{slice_get_within, slice_get-get_or, slice_get_cases, get_or_from_slice_get}
-use Rattle.mx_turn.specs.declared.Cycled.{Cycled}
 use Rattle.mx_turn.specs.Program.{Program, state_after}
 use Rattle.mx_turn.specs.Run.{is_requested, bits}
-use Rattle.mx_report.proofs.Runs.{next_halted}
 use Rattle.lab_draw.specs.declared.frame.Frame.{Frame}
 use Rattle.lab_draw.specs.declared.cell.Cell.{Cell}
 use Rattle.lab_draw.specs.declared.rows.Row.{Row}
@@ -21,6 +19,13 @@ use Rattle.lab_draw.specs.Stages.{cell_in}
 use Rattle.lab_draw.specs.Coming.{HaveCome}
 use Rattle.lab_draw.specs.Rows.{span, first_come, IsRow, numbers_from, AreRows}
 use Rattle.lab_draw.proofs.Cells.{cell_is_defined}
+
+-- a cycle at which the test for the last one says so
+pub past : (to n : ℕ) (b : Bool) → b ≡ leb to n → b ≡ true → to ≤ n
+past to n b is on = let test = sym is ∙ on in grind (arith, nat_tests)
+
+pub within : (to n : ℕ) (b : Bool) → b ≡ leb to n → b ≡ false → n < to
+within to n b is off = let test = sym is ∙ off in grind (arith, nat_tests)
 
 module _ (p : Program) (requests : List ℕ) where
   -- one more frame
@@ -39,22 +44,24 @@ module _ (p : Program) (requests : List ℕ) where
       let e : i ≡ n + length fs = omega (arith, le, many) in
       more_frames n fs f are (subst (λ k. IsFrame p requests k f) e (record { going = going; frame = is }))
 
-  -- whether the machine has halted after it
-  pub frame_halted : (i : ℕ) (f : Frame) → IsFrameOf p (bits requests i) (is_requested requests i) f
-      → f.cycled.halted ≡ (state_after p (bits requests (suc i))).halted
-  frame_halted i f is = ap (λ (r : Cycled). r.halted) is.cycled ∙ next_halted p requests i
+  -- where a run ended within its budget
+  pub end_is : (n budget : ℕ) (halted : Bool) → halted ≡ (state_after p (bits requests n)).halted → n ≤ budget
+      → ((k : ℕ) → k < n → (state_after p (bits requests k)).halted ≡ false) → (halted ≡ false → n ≡ budget)
+      → IsEnd p requests budget (cond halted (Some n) None)
+  end_is n budget true is within going whole =
+      (within, record { before = λ k e. going k (let less : k < n = omega (arith, e) in less); halted = sym is })
+  end_is n budget false is within going whole = subst (λ k. (state_after p (bits requests k)).halted ≡ false) (whole refl) (sym is)
 
-  -- a machine that halts in cycle i
-  pub halts_with : (i n : ℕ) → suc i ≤ n → (state_after p (bits requests i)).halted ≡ false → (state_after p (bits requests (suc i))).halted ≡ true
-      → IsEnd p requests n (Some (i + 1))
-  halts_with i n within going halted =
-      let next : suc i ≡ i + 1 = omega arith in (
-        omega (arith, within),
-        record {
-          before = λ k e. let same : i ≡ k = omega (arith, e) in subst (λ (m : ℕ). (state_after p (bits requests m)).halted ≡ false) same going;
-          halted = subst (λ (m : ℕ). (state_after p (bits requests m)).halted ≡ true) next halted;
-        },
-      )
+  -- all frames that were asked for are there, or those up to the end
+  pub whole_is : (from count budget n len : ℕ) (halted : Bool) → from + count ≤ budget → from ≤ n → len ≡ min n (from + count) - from
+      → halted ≡ (state_after p (bits requests n)).halted → (halted ≡ false → n ≡ budget)
+      → (len ≡ count) ⊎ ((state_after p (bits requests (from + len))).halted ≡ true)
+  whole_is from count budget n len true room begun many is whole = ⊎_elim
+      (λ less. let end : n ≡ from + len = omega (arith, less, begun, many) in
+      inr (subst (λ k. (state_after p (bits requests k)).halted ≡ true) end (sym is)))
+      (λ all. inl (omega (arith, all, many)))
+      (cases_lt n (from + count))
+  whole_is from count budget n len false room begun many is whole = let spent = whole refl in inl (omega (arith, room, many, spent))
 
   later_frames : (b n : ℕ) (fs : List Frame) → AreFrames p requests n fs → AreFrames p requests (n + b) (drop b fs)
   later_frames zero n fs are = let e : n ≡ n + 0 = omega arith in subst (λ k. AreFrames p requests k fs) e are

@@ -1,17 +1,18 @@
 //! Recording a run.
-ghost use Rattle.std.specs.Prelude.{◌≡◌, ◌≤◌, ◌<◌, ◌+◌, ◌-◌, ◌++◌, ◌∷◌, ◌^◌, ◌⊎◌, [], List, ℕ, Bool, true, false, None, OnOk, IfOk, suc, length, slice_index};
+ghost use Rattle.std.specs.Prelude.{◌≡◌, ◌≤◌, ◌<◌, ◌+◌, ◌-◌, ◌++◌, ◌∷◌, ◌^◌, [], List, ℕ, Bool, false, Some, None, IfOk, cond, leb, length, min, slice_index};
 ghost use Rattle.mx_isa.specs.declared.board.TheConstants.{DATA_END};
 ghost use Rattle.mx_isa.specs.Words.{reg};
-ghost use Rattle.mx_turn.specs.Program.{Program, state_after, answer_after};
-ghost use Rattle.mx_turn.specs.Run.{is_requested, bits, console_after};
-ghost use Rattle.lab_draw.specs.Frames.{data_word, IsFrameOf, AreFrames, IsEnd, cycles_to, IsDrawing};
+ghost use Rattle.mx_turn.specs.Program.{Program, state_after};
+ghost use Rattle.mx_turn.specs.Run.{bits, console_after};
+ghost use Rattle.lab_draw.specs.Frames.{data_word, IsFrameOf, AreFrames, IsDrawing};
 
 use crate::Frame;
 use mx_board::Requests;
 use mx_io::Memory;
 use mx_isa::{DATA_END, Reg};
+use mx_report::{Observer, Reached, observe};
 use mx_text::push_byte;
-use mx_turn::Machine;
+use mx_turn::{Cycled, Machine};
 use std::alloc::{AllocError, Global};
 
 /// Cycles of a run, one after the other.
@@ -95,133 +96,106 @@ fn words_of<M: Machine>(alloc: Global, machine: &M) -> Result<Vec<u32>, AllocErr
     Ok(words)
 }
 
-// One cycle, the first being 0, of which the byte is kept; answers whether the machine has halted.
-fn pass_cycle<M: Machine>(
-    machine: &mut M,
-    requests: &Requests,
-    cycle: u32,
-    console: &mut Vec<u8>,
-) -> Result<bool, AllocError>
-    requires { M.cycles machine.old < 2 ^ 63 }
-    ensures halted { IfOk result (λ halted. (p : Program) → M.stands machine.old p (bits requests.now cycle)
-        → halted ≡ (state_after p (bits requests.now (suc cycle))).halted) }
-    ensures stands { OnOk result ((p : Program) → M.stands machine.old p (bits requests.now cycle) → M.stands machine.new p (bits requests.now (suc cycle))) }
-    ensures console { OnOk result ((p : Program) → M.stands machine.old p (bits requests.now cycle)
-        → console.old.items ≡ console_after p (bits requests.now cycle) → console.new.items ≡ console_after p (bits requests.now (suc cycle))) }
-    ensures cycles { M.cycles machine.new ≤ M.cycles machine.old + 1 }
-{
-    let cycled = machine.cycle(requests.wants(cycle));
-    push_byte(console, cycled.byte)?;
-    Ok(cycled.halted)
-}
+// Who keeps the bytes that a run sends.
+#[derive(Drop)]
+struct Listener;
 
-// Runs the first cycles, keeps the bytes that they send, and answers after how many of them the machine has halted, if it has.
-fn pass<M: Machine>(
-    machine: &mut M,
-    requests: &Requests,
-    from: u32,
-    console: &mut Vec<u8>,
-) -> Result<Option<u32>, AllocError>
-    requires start { M.cycles machine.old ≡ 0 }
-    requires console { console.old.items ≡ [] }
-    ensures end { IfOk result (λ end. (p : Program) → M.stands machine.old p [] → IsEnd p requests.now from end) }
-    ensures still { IfOk result (λ end. (p : Program) → M.stands machine.old p []
-        → state_after p (bits requests.now from) ≡ state_after p (bits requests.now (cycles_to end from))) }
-    ensures console { OnOk result ((p : Program) → M.stands machine.old p [] → console.new.items ≡ console_after p (bits requests.now from)) }
-    ensures stands { IfOk result (λ end. (p : Program) → M.stands machine.old p [] → M.stands machine.new p (bits requests.now (cycles_to end from))) }
-    ensures cycles { M.cycles machine.new ≤ from }
-{
-    for cycle in 0..from {
-        if pass_cycle(machine, requests, cycle, console)? {
-            return Ok(Some(cycle + 1));
-        }
+impl<M: Machine> Observer<M> for Listener {
+    type Notes = Vec<u8>;
+
+    ghost saw = { λ listener console p requests n. console.items ≡ console_after p (bits requests n) };
+
+    ghost fits = { λ listener console n. Unit {0} };
+
+    ghost enough = { λ listener console. false };
+
+    fn has_enough(&self, _notes: &Vec<u8>) -> bool {
+        false
     }
-    Ok(None)
+
+    fn cycle(
+        &self,
+        notes: &mut Vec<u8>,
+        machine: &mut M,
+        cycle: u32,
+        request: bool,
+    ) -> Result<Cycled, AllocError> {
+        let cycled = machine.cycle(request);
+        push_byte(notes, cycled.byte)?;
+        Ok(cycled)
+    }
 }
 
-// Records the cycles from one on, of a machine that has not halted, and answers after how many cycles of all it has, if it has.
-fn record<M: Machine>(
-    machine: &mut M,
-    requests: &Requests,
+// Who records the cycles from one on up to another, and lets those behind them pass.
+#[derive(Drop)]
+struct Recorder {
     from: u32,
     to: u32,
-    frames: &mut Vec<Frame>,
-) -> Result<Option<u32>, AllocError>
-    requires order { from ≤ to }
-    requires cycles { M.cycles machine.old ≤ from }
-    requires none { frames.old.items ≡ [] }
-    ensures frames { OnOk result ((p : Program) → M.stands machine.old p (bits requests.now from) → (state_after p (bits requests.now from)).halted ≡ false
-        → AreFrames p requests.now from frames.new.items) }
-    ensures within { length frames.new.items ≤ to - from }
-    ensures whole { OnOk result ((p : Program) → M.stands machine.old p (bits requests.now from) → (state_after p (bits requests.now from)).halted ≡ false
-        → (length frames.new.items ≡ to - from) ⊎ ((state_after p (bits requests.now (from + length frames.new.items))).halted ≡ true)) }
-    ensures end { IfOk result (λ end. (p : Program) → M.stands machine.old p (bits requests.now from) → (state_after p (bits requests.now from)).halted ≡ false
-        → IsEnd p requests.now to end) }
-    ensures stands { IfOk result (λ end. end ≡ None → (p : Program) → M.stands machine.old p (bits requests.now from)
-        → (state_after p (bits requests.now from)).halted ≡ false → M.stands machine.new p (bits requests.now to)) }
-    ensures cycles { M.cycles machine.new ≤ to }
-{
-    for cycle in from..to {
-        let frame = next_frame(machine, requests.wants(cycle));
-        let halted = frame.cycled.halted;
-        frames.push(frame)?;
-        if halted {
-            return Ok(Some(cycle + 1));
-        }
+}
+
+impl Recorder {
+    // Whether all were recorded before a cycle.
+    fn is_past(&self, cycle: u32) -> bool
+        ensures { result ≡ leb self.now.to cycle }
+    {
+        self.to <= cycle
     }
-    Ok(None)
 }
 
-// One cycle, the first being 0; answers whether the machine has halted.
-fn step<M: Machine>(machine: &mut M, requests: &Requests, cycle: u32) -> bool
-    requires { M.cycles machine.old < 2 ^ 63 }
-    ensures halted { (p : Program) → M.stands machine.old p (bits requests.now cycle) → result ≡ (state_after p (bits requests.now (suc cycle))).halted }
-    ensures stands { (p : Program) → M.stands machine.old p (bits requests.now cycle) → M.stands machine.new p (bits requests.now (suc cycle)) }
-    ensures cycles { M.cycles machine.new ≤ M.cycles machine.old + 1 }
-{
-    let cycled = machine.cycle(requests.wants(cycle));
-    cycled.halted
-}
+impl<M: Machine> Observer<M> for Recorder {
+    type Notes = Vec<Frame>;
 
-// Runs a machine that has not halted up to the end of a budget, and answers after how many cycles of all it has, if it has.
-fn finish<M: Machine>(machine: &mut M, requests: &Requests, from: u32, budget: u32) -> Option<u32>
-    requires order { from ≤ budget }
-    requires cycles { M.cycles machine.old ≤ from }
-    ensures { (p : Program) → M.stands machine.old p (bits requests.now from) → (state_after p (bits requests.now from)).halted ≡ false
-        → IsEnd p requests.now budget result }
-{
-    for cycle in from..budget {
-        if step(machine, requests, cycle) {
-            return Some(cycle + 1);
-        }
+    ghost saw = { λ recorder frames p requests n. AreFrames p requests recorder.from frames.items };
+
+    ghost fits = { λ recorder frames n.
+        (recorder.from ≤ recorder.to) × (recorder.from ≤ n) × (length frames.items ≡ min n recorder.to - recorder.from) };
+
+    ghost enough = { λ recorder frames. false };
+
+    fn has_enough(&self, _notes: &Vec<Frame>) -> bool {
+        false
     }
-    None
+
+    fn cycle(
+        &self,
+        notes: &mut Vec<Frame>,
+        machine: &mut M,
+        cycle: u32,
+        request: bool,
+    ) -> Result<Cycled, AllocError> {
+        if self.is_past(cycle) {
+            let passed = machine.cycle(request);
+            return Ok(passed);
+        }
+        let frame = next_frame(machine, request);
+        let cycled = frame.cycled;
+        notes.push(frame)?;
+        Ok(cycled)
+    }
 }
 
-// Records so many cycles from one on, and answers after how many cycles of its budget the machine has halted, if it has.
-fn record_on<M: Machine>(
-    machine: &mut M,
-    requests: &Requests,
-    from: u32,
-    to: u32,
-    budget: u32,
-    frames: &mut Vec<Frame>,
-) -> Result<Option<u32>, AllocError>
-    requires order { from ≤ to }
-    requires within { to ≤ budget }
-    requires cycles { M.cycles machine.old ≤ from }
-    requires none { frames.old.items ≡ [] }
-    ensures frames { OnOk result ((p : Program) → M.stands machine.old p (bits requests.now from) → (state_after p (bits requests.now from)).halted ≡ false
-        → AreFrames p requests.now from frames.new.items) }
-    ensures within { length frames.new.items ≤ to - from }
-    ensures whole { OnOk result ((p : Program) → M.stands machine.old p (bits requests.now from) → (state_after p (bits requests.now from)).halted ≡ false
-        → (length frames.new.items ≡ to - from) ⊎ ((state_after p (bits requests.now (from + length frames.new.items))).halted ≡ true)) }
-    ensures end { IfOk result (λ end. (p : Program) → M.stands machine.old p (bits requests.now from) → (state_after p (bits requests.now from)).halted ≡ false
-        → IsEnd p requests.now budget end) }
+// No bytes.
+fn no_bytes(alloc: Global) -> Vec<u8>
+    ensures { result.items ≡ [] }
 {
-    match record(machine, requests, from, to, frames)? {
-        Some(end) => Ok(Some(end)),
-        None => Ok(finish(machine, requests, to, budget)),
+    Vec::new(alloc)
+}
+
+// No frames.
+fn no_frames(alloc: Global) -> Vec<Frame>
+    ensures { result.items ≡ [] }
+{
+    Vec::new(alloc)
+}
+
+// After how many cycles a run has halted, if it has.
+fn end_of(reached: &Reached) -> Option<u32>
+    ensures { result ≡ cond reached.now.halted (Some reached.now.cycles) None }
+{
+    if reached.halted {
+        Some(reached.cycles)
+    } else {
+        None
     }
 }
 
@@ -262,18 +236,25 @@ fn drawing_of<M: Machine>(
     requires cycles { from + count ≤ budget }
     ensures { IfOk result (λ d. (p : Program) → M.stands machine.old p [] → IsDrawing p requests.now from count budget d) }
 {
-    let mut console = Vec::new(alloc);
-    let mut frames = Vec::new(alloc);
-    let passed = pass(machine, requests, from, &mut console)?;
+    let mut console = no_bytes(alloc);
+    let mut frames = no_frames(alloc);
+    let passed = observe(machine, requests, 0, from, &Listener, &mut console)?;
     let words = words_of(alloc, machine)?;
-    let end = match passed {
-        Some(cycles) => Some(cycles),
-        None => record_on(machine, requests, from, from + count, budget, &mut frames)?,
-    };
+    if passed.halted {
+        return Ok(Drawing {
+            console,
+            words,
+            frames,
+            end: Some(passed.cycles),
+        });
+    }
+    let to = from + count;
+    let recorder = Recorder { from, to };
+    let drawn = observe(machine, requests, from, budget, &recorder, &mut frames)?;
     Ok(Drawing {
         console,
         words,
         frames,
-        end,
+        end: end_of(&drawn),
     })
 }

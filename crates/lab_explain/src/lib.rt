@@ -2,7 +2,6 @@
 #![tactic(auto)]
 
 mod advice;
-mod members;
 mod told;
 
 pub use told::{Explained, explained_json, explained_text};

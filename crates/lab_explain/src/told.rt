@@ -1,11 +1,12 @@
 //! A run and a meaning, in words.
-
-use crate::advice::{advice_of, name_of, reason_of};
-use crate::members::{write_flag, write_number, write_numbers, write_text, write_words};
-use lab_measures::{Ran, Standing, Verdict, enough, verdict_of};
+use super::advice::{advice_of, name_of, reason_of};
+use lab_json::{
+    push_record, write_flag, write_number_or_null, write_numbers, write_text, write_text_or_null,
+};
+use lab_measures::{Ran, Standing};
+use lab_terms::{Verdict, enough, verdict_of};
 use mx_source::Why;
 use serde::{Described, Serialize, Serializer};
-use serde_json::to_string;
 use std::alloc::{AllocError, Global};
 
 /// What is promised of a run that halts.
@@ -228,16 +229,16 @@ fn write_run<S: Serializer>(out: &mut S, explained: &Explained) -> Result<(), S:
     write_numbers(out, &run)?;
     write_flag(out, "halted", explained.ran.halted)?;
     write_numbers(out, &given)?;
-    write_number(out, "enough", explained.enough())
+    write_number_or_null(out, "enough", explained.enough())
 }
 
 // Writes where and why a meaning is stuck, if it is.
 fn write_why<S: Serializer>(out: &mut S, line: u32, why: Option<Why>) -> Result<(), S::Error> {
     let line = (why.is_some() && line > 0).then_some(u64::from(line));
-    write_number(out, "line", line)?;
-    write_words(out, "why", why.map(name_of))?;
-    write_words(out, "message", why.map(reason_of))?;
-    write_words(out, "hint", why.map(advice_of))
+    write_number_or_null(out, "line", line)?;
+    write_text_or_null(out, "why", why.map(name_of))?;
+    write_text_or_null(out, "message", why.map(reason_of))?;
+    write_text_or_null(out, "hint", why.map(advice_of))
 }
 
 impl Described for Explained<'_> {}
@@ -260,9 +261,7 @@ impl Serialize for Explained<'_> {
 
 /// The same as an object of JSON, on a line.
 pub fn explained_json(alloc: Global, explained: &Explained) -> Result<Vec<u8>, AllocError> {
-    let Ok(mut text) = to_string(alloc, explained) else {
-        return Err(AllocError);
-    };
-    text.push('\n')?;
-    Ok(text.into_bytes())
+    let mut text = Vec::new(alloc);
+    push_record(alloc, &mut text, explained)?;
+    Ok(text)
 }

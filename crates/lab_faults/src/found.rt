@@ -1,5 +1,6 @@
 //! The faulty lines of a text that are shown.
 ghost use Rattle.std.specs.Prelude.{◌≡◌, ◌≤◌, ◌-◌, [], map, take, get_or, length, IfOk};
+ghost use Rattle.mx_io.specs.declared.limits.TheConstants.{MAX_SOURCE_BYTES};
 ghost use Rattle.mx_lines.specs.Words.{texts};
 ghost use Rattle.mx_faults.specs.Found.{faults_in};
 ghost use Rattle.lab_faults.specs.Checked;
@@ -89,8 +90,8 @@ fn first_of(found: &[LineFault], at_most: usize) -> &[LineFault]
 /// The faulty lines of a text that are shown: those of `assemble_all`, the first of them, up to so many.
 #[tactic(auto, using(crate::proofs::Marks::shown_are, crate::proofs::Marks::count_is))]
 pub fn check_text(alloc: Global, text: &[u8], at_most: usize) -> Result<Findings<'_>, Memory>
-    requires short { length text.now ≤ 4194304 }
-    requires most { at_most ≤ 4194304 }
+    requires short { length text.now ≤ MAX_SOURCE_BYTES }
+    requires most { at_most ≤ MAX_SOURCE_BYTES }
     ensures shown { IfOk result (λ c. map Checked.as_shown c.shown.items ≡ shown_lines at_most text.now) }
     ensures count { IfOk result (λ c. c.count ≡ length (take 4194304 (faults_in 256 65536 text.now))) }
 {

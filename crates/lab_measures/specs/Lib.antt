@@ -1,5 +1,3 @@
-pub mod Places
-pub mod Slots
 pub mod Figures
 pub mod Comparisons
 pub mod Within
@@ -7,7 +5,3 @@ pub mod Spans
 pub mod Sweeps
 pub mod Sums
 pub mod Standings
-pub mod Verdicts
-pub mod Geometries
-pub mod Commits
-pub mod Flow

@@ -1,5 +1,6 @@
 //! The four schedulers.
 ghost use Rattle.std.specs.Prelude.{◌≤◌, IfOk, IfErr, length};
+ghost use Rattle.mx_io.specs.declared.limits.TheConstants.{MAX_FILE_BYTES};
 ghost use Rattle.mx_blocks.specs.declared.block.Block.{Block};
 ghost use Rattle.mx_blocks.specs.declared.block.Plan.{Plan};
 ghost use Rattle.mx_validate.specs.Padded.{IsPadded};
@@ -67,7 +68,7 @@ pub fn compare<W: Watcher>(
     conditions: &Conditions,
     watcher: W,
 ) -> Result<Comparison, LinkError>
-    requires { length conditions.now.input.now ≤ 1048576 }
+    requires { length conditions.now.input.now ≤ MAX_FILE_BYTES }
     ensures figures { IfOk result
         (IsComparison source.now conditions.now.requests.now conditions.now.input.now conditions.now.budget) }
     ensures refused { IfErr result (IsRefused source.now) }

@@ -1,6 +1,6 @@
 //! What is told of a source that is linked and run.
 
-use crate::{Slots, TransferSlots};
+use lab_terms::{Slots, TransferSlots};
 
 /// The figures of a source that is linked by some plans and run.
 #[derive(Clone, Copy, Debug, PartialEq, Eq)]

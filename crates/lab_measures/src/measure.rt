@@ -1,6 +1,7 @@
 //! The figures of one scheduler.
 ghost use Rattle.std.specs.Prelude.{◌≡◌, ◌≤◌, ◌+◌, ◌*◌, IfOk, IfErr, cond, length};
 ghost use Rattle.std.specs.Option.{option_copied};
+ghost use Rattle.mx_io.specs.declared.limits.TheConstants.{MAX_FILE_BYTES};
 ghost use Rattle.mx_source.specs.Meaning.{given};
 ghost use Rattle.mx_layout.specs.Overlong.{IsRefusal};
 ghost use Rattle.mx_link.specs.Origins.{from_target, from_nowhere};
@@ -11,8 +12,8 @@ ghost use Rattle.mx_turn.specs.Run.{run_of};
 ghost use Rattle.mx_isa.specs.Board.{board};
 ghost use Rattle.lab_measures.specs.Figures.{AreFigures};
 
-use crate::slots::slots_of;
 use crate::{Conditions, Figures};
+use lab_terms::slots_of;
 use lab_watch::{Watcher, watched_pipe};
 use mx_icache::LineCache;
 use mx_io::Memory;
@@ -73,7 +74,7 @@ fn measured<W: Watcher>(
     conditions: &Conditions,
     watcher: W,
 ) -> Result<Figures, Memory>
-    requires { length conditions.now.input.now ≤ 1048576 }
+    requires { length conditions.now.input.now ≤ MAX_FILE_BYTES }
     ensures words { IfOk result (λ f. f.words ≡ length linked.now.image.code.items) }
     ensures noops { IfOk result (λ f. f.noops ≡ linked.now.noops) }
     ensures cycles { IfOk result (λ f. f.cycles ≡ (run_of
@@ -124,7 +125,7 @@ pub fn figures_of<P: Proposer, W: Watcher>(
     conditions: &Conditions,
     watcher: W,
 ) -> Result<Figures, LinkError>
-    requires { length conditions.now.input.now ≤ 1048576 }
+    requires { length conditions.now.input.now ≤ MAX_FILE_BYTES }
     ensures figures { IfOk result (AreFigures P.proposes (cond copies from_target from_nowhere) source.now
         conditions.now.requests.now conditions.now.input.now conditions.now.budget) }
     ensures refused { IfErr result (IsRefusal P.proposes source.now board) }

@@ -1,6 +1,7 @@
 //! A run of an image with given requests.
 ghost use Rattle.std.specs.Prelude.{◌≡◌, ◌≤◌, [], IfOk};
 ghost use Rattle.std.specs.Option.{option_copied};
+ghost use Rattle.mx_io.specs.declared.limits.TheConstants.{MAX_FILE_BYTES};
 ghost use Rattle.mx_board.specs.Contents.{bytes_in};
 ghost use Rattle.mx_turn.specs.Handler.{shipped};
 ghost use Rattle.mx_turn.specs.Program.{program_of};
@@ -48,7 +49,7 @@ fn observed_pipe<C: FetchCache>(
     input: Option<&[u8]>,
     cache: C,
 ) -> Result<Observed<Pipe<C>>, Memory>
-    requires bytes { bytes_in (option_copied input) ≤ 1048576 }
+    requires bytes { bytes_in (option_copied input) ≤ MAX_FILE_BYTES }
     requires empty { C.holds cache [] }
     ensures { IfOk result (λ t. StandsFor C.holds (within t)
         (program_of shipped image.now.code.items image.now.user_data.items (option_copied input.entry)) []) }
@@ -65,7 +66,7 @@ pub fn run_with(
     requests: &Requests,
     budget: u32,
 ) -> Result<Run, Memory>
-    requires bytes { bytes_in (option_copied input) ≤ 1048576 }
+    requires bytes { bytes_in (option_copied input) ≤ MAX_FILE_BYTES }
     ensures cycles { IfOk result (λ r. r.cycles ≡ (run_of
         (program_of shipped image.now.code.items image.now.user_data.items (option_copied input.entry)) requests.now budget).counts.cycles) }
     ensures halted { IfOk result (λ r. r.halted ≡ (run_of

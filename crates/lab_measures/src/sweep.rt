@@ -1,6 +1,7 @@
 //! Runs with a request in each of some cycles in turn.
 ghost use Rattle.std.specs.Prelude.{◌≡◌, ◌≤◌, ◌<◌, ◌∷◌, All, IfOk, IfSome};
 ghost use Rattle.std.specs.Option.{option_copied, option_to_list};
+ghost use Rattle.mx_io.specs.declared.limits.TheConstants.{MAX_FILE_BYTES};
 ghost use Rattle.mx_board.specs.Contents.{bytes_in};
 ghost use Rattle.mx_turn.specs.Handler.{shipped};
 ghost use Rattle.mx_turn.specs.Program.{program_of};
@@ -90,7 +91,7 @@ fn row_of(
     first: u32,
     second: Option<u32>,
 ) -> Result<Row, Memory>
-    requires bytes { bytes_in (option_copied input) ≤ 1048576 }
+    requires bytes { bytes_in (option_copied input) ≤ MAX_FILE_BYTES }
     requires rising { IfSome second (λ s. first < s) }
     ensures row { IfOk result (IsRow
         (program_of shipped image.now.code.items image.now.user_data.items (option_copied input.entry)) budget undisturbed.now) }
@@ -120,7 +121,7 @@ pub fn singles<W: Watcher>(
     cycles: &[u32],
     watcher: W,
 ) -> Result<Vec<Row>, Memory>
-    requires bytes { bytes_in (option_copied input) ≤ 1048576 }
+    requires bytes { bytes_in (option_copied input) ≤ MAX_FILE_BYTES }
     ensures rows { IfOk result (λ rows. All (IsRow
         (program_of shipped image.now.code.items image.now.user_data.items (option_copied input.entry)) budget undisturbed.now) rows.items) }
     ensures firsts { IfOk result (λ rows. firsts rows.items ≡ cycles.now) }
@@ -146,7 +147,7 @@ pub fn pairs<W: Watcher>(
     cycles: &[u32],
     watcher: W,
 ) -> Result<Vec<Row>, Memory>
-    requires bytes { bytes_in (option_copied input) ≤ 1048576 }
+    requires bytes { bytes_in (option_copied input) ≤ MAX_FILE_BYTES }
     ensures rows { IfOk result (λ rows. All (IsRow
         (program_of shipped image.now.code.items image.now.user_data.items (option_copied input.entry)) budget undisturbed.now) rows.items) }
 {

@@ -20,7 +20,7 @@ module _ (code user_data : List ℕ) (input : Option (List ℕ)) (requests : Lis
   abbrev r : MachineRun
   r = run_of p requests budget
 
-  pub report_is : image_answer code user_data input requests (record { budget = budget; trace = 0; dump = None })
+  pub report_is : image_answer code user_data input requests (record { budget = budget; trace = 0; dump = None; count = 1 })
       ≡ prints (cond r.halted Halted OutOfBudget) (run_report code r)
   unfolding program_answer
   report_is = ap (λ n. prints (cond r.halted Halted OutOfBudget) (run_text r (trace_text p requests n) code None)) (none_traced budget)

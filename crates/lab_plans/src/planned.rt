@@ -1,6 +1,7 @@
 //! The run of a source by plans.
 ghost use Rattle.std.specs.Prelude.{◌≡◌, ◌≤◌, ◌++◌, None, OnOk, IfOk, IfErr, List, ℕ, length};
 ghost use Rattle.std.specs.Option.{option_copied};
+ghost use Rattle.mx_io.specs.declared.limits.TheConstants.{MAX_FILE_BYTES};
 ghost use Rattle.mx_source.specs.SourceValue.{IsSource};
 ghost use Rattle.mx_source.specs.Meaning.{given};
 ghost use Rattle.mx_layout.specs.Overlong.{IsRefusal};
@@ -19,7 +20,8 @@ ghost use Rattle.lab_plans.specs.Planned.{IsRunByPlans};
 
 use crate::verdicts::told;
 use cmd_answer::Reply;
-use cmd_simulate::{Limits, simulate_on};
+use cmd_options::Limits;
+use cmd_simulate::simulate_on;
 use lab_watch::{Watcher, watched_pipe};
 use mx_blocks::blocks;
 use mx_board::Requests;
@@ -79,16 +81,17 @@ fn report_watched<W: Watcher>(
     budget: u32,
     watcher: W,
 ) -> Result<Reply, Memory>
-    requires { bytes_in (option_copied input) ≤ 1048576 }
+    requires { bytes_in (option_copied input) ≤ MAX_FILE_BYTES }
     ensures { IfOk result (λ r. reply_answer r
         ≡ image_answer image.now.code.items image.now.user_data.items (option_copied input.entry) requests.now
-        (record { budget = budget; trace = 0; dump = None })) }
+        (record { budget = budget; trace = 0; dump = None; count = 1 })) }
 {
     let mut machine = watched_pipe(alloc, image, input, LineCache::new(), watcher)?;
     let limits = Limits {
         budget,
         trace: 0,
         dump: None,
+        count: 1,
     };
     simulate_on(alloc, &mut machine, image, requests, &limits)
 }
@@ -109,7 +112,7 @@ pub fn planned_reply<W: Watcher>(
     budget: u32,
     watcher: W,
 ) -> Result<Reply, LinkError>
-    requires { length input.now ≤ 1048576 }
+    requires { length input.now ≤ MAX_FILE_BYTES }
     ensures planned { IfOk result (λ r. IsRunByPlans source.now (marks_of_lines plans.now) requests.now input.now budget (reply_answer r)) }
     ensures refused { IfErr result (IsRefusal (IsProposed source.now (marks_of_lines plans.now)) source.now board) }
 {

@@ -3,7 +3,7 @@ use Rattle.std.proofs.Common.{◌≡◌, ℕ, suc, ◌+◌, ◌<◌, ◌≤◌, 
 use Rattle.std.specs.Prelude.{slice_index_or}
 use Rattle.std.proofs.lemmas.List.{at_drop_more, drop_all}
 use Rattle.mx_link.specs.declared.linked.Origin.{Origin}
-use Rattle.law_executions.specs.Gathered.{is_of, gathered}
+use Rattle.mx_link.specs.Gathered.{is_of, gathered}
 use Rattle.lab_profile.specs.declared.lines.LineCost.{LineCost}
 use Rattle.lab_profile.specs.Lines.{saturated, executed_of}
 

@@ -1,15 +1,15 @@
 -- Nothing is charged once the machine has halted.
-use Rattle.std.proofs.Common.{◌≡◌, ℕ, zero, suc, ◌+◌, ◌<◌, ◌≤◌, Bool, true, false, cond, List, sym, ap, ◌∙◌, arith, ⊎_elim}
-use Rattle.std.specs.Prelude.{eqb, ltb, ◌&&◌}
+use Rattle.std.proofs.Common.{◌≡◌, ℕ, zero, suc, ◌+◌, ◌<◌, ◌≤◌, Bool, true, false, cond, List, refl, sym, ap, ◌∙◌, arith, ⊎_elim}
+use Rattle.std.specs.Prelude.{eqb, ltb, ◌&&◌, slice_index}
 use Rattle.std.proofs.lemmas.Bool.{cases_lt}
 use Rattle.std.proofs.lemmas.Bool.Decides.{nat_tests}
 use Rattle.mx_turn.specs.Counted.{Counted, one}
 use Rattle.mx_turn.specs.Cycle.{Machine}
 use Rattle.mx_turn.specs.Program.{Program}
-use Rattle.mx_report.proofs.Runs.{state_still}
+use Rattle.mx_report.proofs.Runs.{state_still, at_end}
 use Rattle.lab_profile.specs.declared.tally.Tally.{Tally}
 use Rattle.lab_profile.specs.Charges.{sum_below, place_in, is_live, is_squashed, before, counts_one, counts_cycle, counts_fetch, counts_squash, waiting}
-use Rattle.lab_profile.specs.Tallies.{IsTally}
+use Rattle.lab_profile.specs.Tallies.{IsBelow, IsTally}
 
 not_more : (a : ℕ) → ltb a a ≡ false
 not_more a = grind (arith, nat_tests)
@@ -74,3 +74,26 @@ module _ (p : Program) (requests : List ℕ) (words n : ℕ) (halted : (before p
         ∙ sym (still (counts_squash p requests words) (λ i. eqb (place_in words (before p requests words (suc i)).shown.alu) k) (λ i. 1)
         (none (λ c. c.squashes)) m l);
   }
+
+no_entry : (xs : List ℕ) (k : ℕ) → slice_index xs k ≤ 0 → slice_index xs k ≡ 0
+no_entry xs k h = omega arith
+
+-- before the first cycle
+pub no_tally : (p : Program) (requests : List ℕ) (words : ℕ) (t : Tally) → IsBelow 0 t → IsTally p requests words 0 t
+no_tally p requests words t none = record {
+  fetches = λ k. no_entry t.fetches.items k (none.fetches k);
+  cycles = λ k. no_entry t.cycles.items k (none.cycles k);
+  executed = λ k. no_entry t.executed.items k (none.executed k);
+  cancelled = λ k. no_entry t.cancelled.items k (none.cancelled k);
+  squashes = λ k. no_entry t.squashes.items k (none.squashes k);
+}
+
+-- the tally at the end of a budget is that of the cycles until the machine halts
+module _ (p : Program) (requests : List ℕ) (words n m : ℕ) (halted : Bool) (is : halted ≡ (before p requests words n).halted) (within : n ≤ m)
+    (whole : halted ≡ false → n ≡ m) where
+  pub tally_end : (t : Tally) → IsTally p requests words n t → IsTally p requests words m t
+  tally_end t now = at_end p requests (λ k. IsTally p requests words k t) n m halted is whole (λ h e. tally_still p requests words n h t m within e) now
+
+  pub waiting_end : waiting p requests words n ≡ waiting p requests words m
+  waiting_end = at_end p requests (λ k. waiting p requests words n ≡ waiting p requests words k) n m halted is whole
+      (λ h e. sym (waiting_still p requests words n h m within)) refl

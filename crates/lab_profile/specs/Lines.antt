@@ -1,7 +1,7 @@
 -- What the words of a code cost, by the statements that they come from.
 use Rattle.std.specs.Prelude.{◌≡◌, ℕ, ◌-◌, ◌^◌, ◌<◌, min, cond, eqb, List, length, slice_index, slice_index_or}
 use Rattle.mx_link.specs.declared.linked.Origin.{Origin}
-use Rattle.law_executions.specs.Gathered.{gathered}
+use Rattle.mx_link.specs.Gathered.{gathered}
 use Rattle.lab_profile.specs.declared.lines.LineCost.{LineCost}
 use Rattle.lab_profile.specs.declared.tally.Tally.{Tally}
 use Rattle.lab_profile.specs.Charges.{sum_below}

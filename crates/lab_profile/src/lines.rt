@@ -1,6 +1,6 @@
 //! The costs of the words of a code, gathered by the statements that they come from.
 ghost use Rattle.std.specs.Prelude.{◌≡◌, ◌<◌, ◌+◌, ℕ, cond, eqb, IfOk, length, slice_index};
-ghost use Rattle.law_executions.specs.Gathered.{is_of};
+ghost use Rattle.mx_link.specs.Gathered.{is_of};
 ghost use Rattle.lab_profile.specs.Lines.{saturated, executed_of, executed_together, CountsStatements};
 
 use crate::tally::Tally;

@@ -1,7 +1,7 @@
 //! A run as a trace that another program may replay: a JSON text a line.
 #![tactic(auto)]
 
-mod members;
+mod committing;
 mod running;
 mod turn;
 

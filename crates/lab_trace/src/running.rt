@@ -1,14 +1,14 @@
 //! A run as a trace.
 ghost use Rattle.std.specs.Prelude.{◌≡◌};
 
-use crate::turn::{BeginRecord, EndRecord, turn_record};
-use lab_measures::committed_by;
+use super::committing::committed_in;
+use super::turn::{BeginRecord, EndRecord, turn_record};
+use lab_json::push_record;
 use mx_board::Requests;
 use mx_code::Image;
 use mx_io::Memory;
 use mx_turn::{Machine, SHIPPED};
 use serde::Serialize;
-use serde_json::to_vec;
 use std::alloc::Global;
 
 /// A trace: its lines, and whether the run has halted.
@@ -20,13 +20,7 @@ pub struct Traced {
 
 // Appends a line.
 fn push_line<T: Serialize>(alloc: Global, text: &mut Vec<u8>, record: &T) -> Result<(), Memory> {
-    let Ok(line) = to_vec(alloc, record) else {
-        return Err(Memory);
-    };
-    if text.extend_from_slice(line.as_slice()).is_err() || text.push(b'\n').is_err() {
-        return Err(Memory);
-    }
-    Ok(())
+    push_record(alloc, text, record).map_err(|_| Memory)
 }
 
 // Appends the lines of the turns until the machine halts or the budget is spent; answers whether it halted.
@@ -49,7 +43,7 @@ fn push_turns<M: Machine>(
             continue;
         }
         let shown = machine.latches();
-        let does = committed_by(code, shown.mem);
+        let does = committed_in(code, shown.mem);
         let record = turn_record(machine, &cycled, does, &before, cycle, stalls);
         push_line(alloc, text, &record)?;
         before = shown;

@@ -1,6 +1,6 @@
 //! The lines of a trace.
-use crate::members::{write_flag, write_number, write_numbers};
-use lab_measures::Committed;
+use lab_json::{write_flag, write_number_if_any, write_numbers};
+use lab_terms::Committed;
 use mx_turn::{Counts, Cycled, Latches, Machine, Stage};
 use serde::{Described, Serialize, Serializer};
 
@@ -92,9 +92,9 @@ impl Serialize for TurnRecord {
         write_numbers(out, &numbers)?;
         write_stage(out, "commit", self.commit)?;
         write_write(out, "register", self.register)?;
-        write_number(out, "md", self.md.map(u64::from))?;
+        write_number_if_any(out, "md", self.md.map(u64::from))?;
         write_write(out, "store", self.store)?;
-        write_number(out, "byte", self.byte.map(u64::from))?;
+        write_number_if_any(out, "byte", self.byte.map(u64::from))?;
         write_flag(out, "interrupt", self.interrupt)?;
         out.end_map()
     }

@@ -1,6 +1,7 @@
 //! The pipeline, watched.
 ghost use Rattle.std.specs.Prelude.{◌≤◌, [], IfOk};
 ghost use Rattle.std.specs.Option.{option_copied};
+ghost use Rattle.mx_io.specs.declared.limits.TheConstants.{MAX_FILE_BYTES};
 ghost use Rattle.mx_board.specs.Contents.{bytes_in};
 ghost use Rattle.mx_turn.specs.Handler.{shipped};
 ghost use Rattle.mx_turn.specs.Program.{program_of};
@@ -22,7 +23,7 @@ pub fn watched_pipe<C: FetchCache, W: Watcher>(
     cache: C,
     watcher: W,
 ) -> Result<Watched<Pipe<C>, W>, Memory>
-    requires bytes { bytes_in (option_copied input) ≤ 1048576 }
+    requires bytes { bytes_in (option_copied input) ≤ MAX_FILE_BYTES }
     requires empty { C.holds cache [] }
     ensures { IfOk result (λ t. StandsFor C.holds (within t)
         (program_of shipped image.now.code.items image.now.user_data.items (option_copied input.entry)) []) }

@@ -7,21 +7,8 @@ ghost use Rattle.lab_words.specs.Texts.{special_text, name_text, or_number, plac
 
 use crate::names::PlaceNames;
 use mx_isa::{Cond, Inst, Op, Reg, Special};
+use mx_source::{branch_name, operation_name};
 use std::alloc::AllocError;
-
-/// The mnemonic of a branch.
-fn branch_word(cond: Cond) -> &'static str
-    ensures { result.now ≡ condition_text cond }
-{
-    match cond {
-        Cond::Eq => "beq",
-        Cond::Ne => "bne",
-        Cond::Lt => "blt",
-        Cond::Ge => "bge",
-        Cond::Lo => "blo",
-        Cond::Hs => "bhs",
-    }
-}
 
 /// A special word.
 fn special_word(special: Special) -> &'static str
@@ -59,40 +46,48 @@ fn push_three(text: &mut String, word: &str, a: Reg, b: Reg, dest: Reg) -> Resul
 }
 
 /// Appends a shift by a count.
-fn push_asr(text: &mut String, a: Reg, n: u8, dest: Reg) -> Result<(), AllocError>
-    ensures { OnOk result (string_bytes text.new ≡ string_bytes text.old ++ spelled (codes "asr") (register a ∷ count n ∷ register dest ∷ [])) }
+fn push_count(text: &mut String, word: &str, a: Reg, n: u8, dest: Reg) -> Result<(), AllocError>
+    ensures { OnOk result (string_bytes text.new ≡ string_bytes text.old ++ spelled word.now (register a ∷ count n ∷ register dest ∷ [])) }
 {
     let (a, dest) = (a.number(), dest.number());
-    write!(text, "asr r{a},#{n},r{dest}")
+    write!(text, "{word} r{a},#{n},r{dest}")
 }
 
 /// Appends a shift of two registers by a count.
-fn push_sh(text: &mut String, a: Reg, b: Reg, n: u8, dest: Reg) -> Result<(), AllocError>
-    ensures { OnOk result (string_bytes text.new ≡ string_bytes text.old ++ spelled (codes "sh") (register a ∷ register b ∷ count n ∷ register dest ∷ [])) }
+fn push_two_and_count(
+    text: &mut String,
+    word: &str,
+    registers: (Reg, Reg),
+    n: u8,
+    dest: Reg,
+) -> Result<(), AllocError>
+    ensures { OnOk result
+        (string_bytes text.new ≡ string_bytes text.old ++ spelled word.now (register registers.0 ∷ register registers.1 ∷ count n ∷ register dest ∷ [])) }
 {
-    let (a, b, dest) = (a.number(), b.number(), dest.number());
-    write!(text, "sh r{a},r{b},#{n},r{dest}")
+    let (a, b, dest) = (registers.0.number(), registers.1.number(), dest.number());
+    write!(text, "{word} r{a},r{b},#{n},r{dest}")
 }
 
 /// Appends a compute instruction.
 fn push_compute(text: &mut String, op: Op, a: Reg, b: Reg, dest: Reg) -> Result<(), AllocError>
     ensures { OnOk result (string_bytes text.new ≡ string_bytes text.old ++ compute_text op a b dest) }
 {
+    let word = operation_name(op);
     match op {
-        Op::Add => push_three(text, "add", a, b, dest),
-        Op::Sub => push_three(text, "sub", a, b, dest),
-        Op::Subnc => push_three(text, "subnc", a, b, dest),
-        Op::And => push_three(text, "and", a, b, dest),
-        Op::Or => push_three(text, "or", a, b, dest),
-        Op::Xor => push_three(text, "xor", a, b, dest),
-        Op::Bic => push_three(text, "bic", a, b, dest),
-        Op::Rotlb => push_three(text, "rotlb", a, b, dest),
-        Op::Mstep => push_three(text, "mstep", a, b, dest),
-        Op::Dstep => push_three(text, "dstep", a, b, dest),
-        Op::Not => push_two(text, "not", a, dest),
-        Op::Mstart => push_two(text, "mstart", b, dest),
-        Op::Asr(n) => push_asr(text, a, n, dest),
-        Op::Sh(n) => push_sh(text, a, b, n, dest),
+        Op::Not => push_two(text, word, a, dest),
+        Op::Mstart => push_two(text, word, b, dest),
+        Op::Asr(n) => push_count(text, word, a, n, dest),
+        Op::Sh(n) => push_two_and_count(text, word, (a, b), n, dest),
+        Op::Add
+        | Op::Sub
+        | Op::Subnc
+        | Op::And
+        | Op::Or
+        | Op::Xor
+        | Op::Bic
+        | Op::Rotlb
+        | Op::Mstep
+        | Op::Dstep => push_three(text, word, a, b, dest),
     }
 }
 
@@ -145,7 +140,7 @@ fn push_branch(
         ++ spelled (condition_text inst.0 ++ squash_text inst.1) (register inst.2 ∷ register inst.3 ∷ place_text (naming names.now) target ∷ [])) }
 {
     let (cond, squash, a, b) = inst;
-    let (word, mark) = (branch_word(cond), squash_word(squash));
+    let (word, mark) = (branch_name(cond), squash_word(squash));
     let (a, b) = (a.number(), b.number());
     write!(text, "{word}{mark} r{a},r{b},")?;
     push_place(text, names, target)

@@ -4,8 +4,8 @@ use Rattle.std.proofs.Common.{◌≡◌, ℕ, suc, ◌+◌, ◌-◌, ◌^◌, �
 use Rattle.std.proofs.lemmas.Bool.{cond-true}
 use Rattle.mx_isa.specs.declared.inst.Inst.{Inst}
 use Rattle.mx_isa.specs.Effect.{Decision, decides}
-use Rattle.mx_code.specs.Delay.{Delay, next_of}
-use Rattle.mx_code.specs.Clean.{Watched}
+use Rattle.mx_delay.specs.Delay.{Delay, next_of}
+use Rattle.mx_delay.specs.Clean.{Watched}
 use Rattle.mx_source.specs.Meaning.{Going, Run, run_for, is_stuck}
 use Rattle.mx_blocks.specs.declared.block.Item.{Item}
 use Rattle.mx_blocks.specs.declared.block.Item.TheVariants.{Op, Nop}
@@ -28,7 +28,7 @@ use Rattle.law_link.proofs.Placing.{lay}
 use Rattle.law_link.proofs.OneBlock.{Entered, GoesOn, StopsAt, MovesOn, Transfers, did_of, body_done, front_plain, standing as stand_there}
 use Rattle.law_link.proofs.Transfers.{Lay, inner_of, front_of, ender_of, at_of, StandBehind}
 use Rattle.law_link.proofs.Setting.{Machine, Setting, machine_of}
-use Rattle.law_executions.specs.Gathered.{is_of}
+use Rattle.mx_link.specs.Gathered.{is_of}
 use Rattle.law_counts.proofs.Tally.{one, span, span_last, tally, tally_same, first_there, stretch, stretch_more, ends_tally}
 use Rattle.law_counts.proofs.Marks.{Marked, marked_left, marked_right, marked_span, weigh}
 use Rattle.law_counts.proofs.Weights.{weight, weight_append}

@@ -18,7 +18,7 @@ use Rattle.law_link.proofs.Layouts.{Goal, goal_is, Standing, standing, setting}
 use Rattle.law_link.proofs.Setting.{Known}
 use Rattle.law_link.proofs.Sited.{not_copied}
 use Rattle.law_link.proofs.Slots.{nop_is, at_most_two, counted, RoomForBoth, RoomForOne, room_cases, from_zero, from_second, from_first, from_both, linked_site, Slotted, slot_f, slot_g}
-use Rattle.law_executions.specs.Gathered.{is_of}
+use Rattle.mx_link.specs.Gathered.{is_of}
 use Rattle.law_counts.proofs.Tally.{one, span}
 use Rattle.law_counts.proofs.Marks.{Marked, marked_at}
 use Rattle.law_counts.proofs.Weights.{weight}

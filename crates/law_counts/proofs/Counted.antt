@@ -1,7 +1,7 @@
 -- Linked code counts as its source means: the test of a statement marks the words of each site (`counting_of`), the steps that hit
 -- are those that execute a word of the statement (`executed_is`), and these are its visits, where the run has halted.
 use Rattle.std.proofs.Common.{◌≡◌, ℕ, zero, suc, ◌+◌, List, refl, sym, ap, ◌∙◌}
-use Rattle.mx_code.specs.Delay.{Delay}
+use Rattle.mx_delay.specs.Delay.{Delay}
 use Rattle.mx_validate.specs.Padded.{items_of}
 use Rattle.mx_link.proofs.Sizes.{length-origins_from}
 use Rattle.mx_link.specs.declared.linked.Origin.{Origin}

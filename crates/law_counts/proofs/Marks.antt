@@ -7,7 +7,7 @@ use Rattle.mx_layout.specs.Layout.{plan_size, StandFrom}
 use Rattle.mx_squash.specs.Copies.{Site}
 use Rattle.mx_link.specs.declared.linked.Origin.{Origin}
 use Rattle.mx_link.specs.declared.linked.Origin.TheVariants.{Pad}
-use Rattle.law_executions.specs.Gathered.{is_of}
+use Rattle.mx_link.specs.Gathered.{is_of}
 use Rattle.law_counts.proofs.Tally.{one, span}
 
 -- the address is that of a word of statement q, where words with these origins stand from a base on

@@ -2,12 +2,12 @@
 use Rattle.std.proofs.Common.{◌≡◌, ℕ, zero, suc, ◌+◌, ◌-◌, ◌<◌, ◌≤◌, Bool, true, false, cond, eqb, leb, not, ◌&&◌, List, [], ◌∷◌, slice_index_or, refl, ap, ◌∙◌, arith, ⊎_elim}
 use Rattle.std.proofs.lemmas.Bool.{cases_lt}
 use Rattle.std.proofs.lemmas.Bool.Decides.{nat_tests}
-use Rattle.mx_code.specs.Delay.{Delay}
+use Rattle.mx_delay.specs.Delay.{Delay}
 use Rattle.mx_link.specs.declared.linked.Origin.{Origin}
 use Rattle.mx_link.specs.declared.linked.Origin.TheVariants.{Pad}
 use Rattle.law_link.specs.Runs.{Linking, linked_run}
-use Rattle.law_executions.specs.Executions.{executes}
-use Rattle.law_executions.specs.Gathered.{is_of, gathered}
+use Rattle.mx_delay.specs.Executions.{executes}
+use Rattle.mx_link.specs.Gathered.{is_of, gathered}
 use Rattle.law_counts.specs.Counts.{executed}
 use Rattle.law_counts.proofs.Tally.{one, hits}
 use Rattle.law_counts.proofs.Marks.{is_word_of}

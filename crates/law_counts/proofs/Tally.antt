@@ -4,8 +4,8 @@ use Rattle.std.proofs.Common.{◌≡◌, ℕ, zero, suc, ◌+◌, ◌^◌, ◌<�
 use Rattle.std.proofs.lemmas.List.{length-take-le, take-append-drop}
 use Rattle.mx_isa.specs.declared.inst.Inst.{Inst}
 use Rattle.mx_isa.specs.Effect.{Decision, decides}
-use Rattle.mx_code.specs.Delay.{Delay, queued, squash, next_of}
-use Rattle.mx_code.specs.Clean.{Watched}
+use Rattle.mx_delay.specs.Delay.{Delay, queued, squash, next_of}
+use Rattle.mx_delay.specs.Clean.{Watched}
 use Rattle.law_link.proofs.Going.{Did, ArePlain, Stands, stands_left, stands_right, did, did_all, starts, for, for_same, for_add, once, cancelled, goes, Keeps, keeps_for, halted_for}
 use Rattle.law_link.proofs.Ends.{Ended, past_transfer, one_taken}
 use Rattle.law_link.proofs.Setting.{Machine}

@@ -4,7 +4,7 @@ use Rattle.mx_isa.specs.declared.inst.Inst.TheVariants.{Jspci}
 use Rattle.mx_isa.specs.declared.inst.Inst.TheVariants.{Branch as BranchInst}
 use Rattle.mx_isa.specs.Words.{reg}
 use Rattle.mx_isa.specs.Effect.{Decision, decides, offset_by}
-use Rattle.mx_code.specs.Delay.{next_of}
+use Rattle.mx_delay.specs.Delay.{next_of}
 use Rattle.mx_source.specs.declared.statement.Statement.TheVariants.{Call}
 use Rattle.mx_source.specs.declared.statement.Value.{Value}
 use Rattle.mx_source.specs.declared.statement.Value.TheVariants.{Int, Code as CodeValue}

@@ -7,7 +7,7 @@ use Rattle.mx_blocks.specs.declared.block.Item.TheVariants.{Op, Nop}
 use Rattle.mx_blocks.specs.Items.{ops, times}
 use Rattle.mx_validate.specs.Validity.{EachOnce}
 use Rattle.mx_link.specs.Origins.{own}
-use Rattle.law_executions.specs.Gathered.{is_of}
+use Rattle.mx_link.specs.Gathered.{is_of}
 use Rattle.law_counts.proofs.Tally.{one}
 
 -- how many items of a block that begins at a statement are statement q

@@ -4,8 +4,8 @@ use Rattle.mx_source.specs.Meaning.{Mark, Going, given}
 use Rattle.mx_link.specs.Origins.{origins_of}
 use Rattle.law_link.specs.Runs.{Linking, code_in, data_in}
 use Rattle.law_link.specs.Laws.{meant}
-use Rattle.law_executions.specs.Executions.{executions}
-use Rattle.law_executions.specs.Gathered.{gathered}
+use Rattle.mx_delay.specs.Executions.{executions}
+use Rattle.mx_link.specs.Gathered.{gathered}
 
 -- how many of the first j steps of linked code execute the word at an address
 abbrev pub executed : Linking → ℕ → ℕ → ℕ

@@ -5,8 +5,8 @@ use Rattle.std.proofs.lemmas.Bool.Decides.{nat_tests}
 use Rattle.mx_isa.specs.declared.place.Place.{Place}
 use Rattle.mx_isa.specs.Words.{Words}
 use Rattle.mx_code.specs.Decoding.{inst_of}
-use Rattle.mx_code.specs.Delay.{Code, code_from, data_from, Delay, delay}
-use Rattle.mx_code.specs.Clean.{is_inside, Watched, watch_start}
+use Rattle.mx_delay.specs.Delay.{Code, code_from, data_from, Delay, delay}
+use Rattle.mx_delay.specs.Clean.{is_inside, Watched, watch_start}
 use Rattle.mx_icache.specs.Residency.{resident}
 use Rattle.mx_pcchain.specs.Fetch.{Fetch}
 use Rattle.mx_turn.specs.declared.Stage.TheVariants.{Live, Squashed}
@@ -24,7 +24,7 @@ use Rattle.law_interrupts.specs.Laws.{IsCleanImage}
 use Rattle.law_interrupts.specs.Saves.{before_cycle}
 use Rattle.mx_handler.proofs.Pauses.{erased, goes_on as keeps_on}
 use Rattle.mx_handler.proofs.Phases.{State, going, pausing, over}
-use Rattle.law_interrupts.proofs.Watched.{watched_at}
+use Rattle.mx_delay.proofs.Watched.{watched_at}
 use Rattle.law_interrupts.proofs.Pauses.{done_after, with_handler}
 use Rattle.law_interrupts.proofs.Runs.{Ran, passed_few, length_bits}
 use Rattle.law_interrupts.proofs.Saves.{q, passed, done, ran_at, passed_more}

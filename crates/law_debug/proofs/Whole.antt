@@ -9,7 +9,7 @@ use Rattle.std.proofs.lemmas.List.{take_at}
 use Rattle.std.proofs.lemmas.List.FromFn.{get_or-map-range_with_len}
 use Rattle.mx_isa.specs.Words.{Words, reg}
 use Rattle.mx_isa.specs.UserBus.{is_user}
-use Rattle.mx_code.specs.Delay.{Delay}
+use Rattle.mx_delay.specs.Delay.{Delay}
 use Rattle.mx_source.specs.Meaning.{given}
 use Rattle.mx_layout.proofs.Links.{link_within}
 use Rattle.mx_link.specs.Origins.{from_nowhere}
@@ -26,7 +26,7 @@ use Rattle.law_link.specs.Runs.{code_in, data_in, linked_run}
 use Rattle.law_link.specs.Laws.{IsSafe, planned_words}
 use Rattle.law_link.proofs.Shown.{is_clean}
 use Rattle.law_end_to_end.specs.EndToEnd.{IsUnstuck}
-use Rattle.law_end_to_end.proofs.Delays.{delay_halted}
+use Rattle.mx_delay.proofs.Steps.{delay_halted}
 use Rattle.law_end_to_end.proofs.Meanings.{unstuck_before}
 use Rattle.mx_debug.specs.declared.Stop.{Stop}
 use Rattle.mx_debug.specs.Stops.{is_stop, stop_at}

@@ -1,6 +1,7 @@
 -- A text without faults, laid out by greedy plans, is linked as the laws ask.
 use Rattle.std.proofs.Common.{◌≡◌, ℕ, ◌+◌, ◌*◌, ◌≤◌, List, length, None, arith}
 use Rattle.std.specs.Prelude.{slice_index_or}
+use Rattle.mx_isa.specs.declared.board.TheConstants.{DATA_BASE, DATA_END}
 use Rattle.mx_isa.specs.declared.Place.{Place}
 use Rattle.mx_source.specs.SourceValue.{SourceValue}
 use Rattle.mx_squash.specs.Copies.{Site}
@@ -37,9 +38,9 @@ module _ (place : Place) (text : List ℕ) (sites : List Site) where
   }
 
 pub text_means :
-    (text : List ℕ) (sites : List Site) (requests bytes : List ℕ) (budget : ℕ) → text_fault 256 65536 text ≡ None
-    → IsLayout IsGreedy (source_of 256 text) board sites
-    → overlong (source_of 256 text) board (blocks_in sites) ≡ None → MeansItsSource (source_of 256 text) sites requests bytes budget
+    (text : List ℕ) (sites : List Site) (requests bytes : List ℕ) (budget : ℕ) → text_fault DATA_BASE DATA_END text ≡ None
+    → IsLayout IsGreedy (source_of DATA_BASE text) board sites
+    → overlong (source_of DATA_BASE text) board (blocks_in sites) ≡ None → MeansItsSource (source_of DATA_BASE text) sites requests bytes budget
 text_means text sites requests bytes budget faultless layout reach =
     let few = (faultless_source 256 65536 text (omega arith) (omega arith) (omega arith) faultless).few_statements in
-    run_means (source_of 256 text) sites requests bytes budget (text_laid board text sites (omega arith) faultless (omega (arith, few)) layout reach)
+    run_means (source_of DATA_BASE text) sites requests bytes budget (text_laid board text sites (omega arith) faultless (omega (arith, few)) layout reach)

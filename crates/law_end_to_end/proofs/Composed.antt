@@ -1,13 +1,13 @@
 -- The machine with interrupts does what the machine with delay slots does, and that does what the source means.
 use Rattle.std.proofs.Common.{◌≡◌, ℕ, ◌+◌, ◌*◌, ◌≤◌, ◌⊎◌, true, List, length, Option, refl, sym, ap, ◌∙◌, subst, arith, ⊎_elim, inl}
 use Rattle.mx_isa.specs.Words.{Words}
-use Rattle.mx_code.specs.Delay.{Delay}
+use Rattle.mx_delay.specs.Delay.{Delay}
 use Rattle.mx_source.specs.SourceValue.{SourceValue}
 use Rattle.mx_source.specs.Meaning.{Run, State, given, meaning, HaltsIn}
 use Rattle.mx_squash.specs.Copies.{Site}
 use Rattle.mx_link.specs.Origins.{from_target}
 use Rattle.mx_link.specs.Linked.{linked_code, linked_data}
-use Rattle.law_order.specs.Laws.{IsPrefix}
+use Rattle.mx_delay.specs.Prefixes.{IsPrefix}
 use Rattle.mx_turn.specs.Handler.{shipped}
 use Rattle.mx_turn.specs.Cycle.{start as machine_start}
 use Rattle.mx_turn.specs.Program.{program_of, memory_of}
@@ -23,7 +23,7 @@ use Rattle.law_link.proofs.Shown.{is_clean, halts_only, sends}
 use Rattle.law_link.proofs.Shown.{halts as halts_soon}
 use Rattle.law_end_to_end.specs.EndToEnd.{source_run, IsUnstuck, EndsAsMeant}
 use Rattle.law_end_to_end.specs.Laws.{MeansItsSource}
-use Rattle.law_end_to_end.proofs.Delays.{prefix_then, delay_sends, delay_halted}
+use Rattle.mx_delay.proofs.Steps.{prefix_then, delay_sends, delay_halted}
 use Rattle.law_end_to_end.proofs.Meanings.{meaning_sends, unstuck_before, halts_unstuck, sent_by_halt}
 
 module _ (source : SourceValue) (sites : List Site) (bytes : List ℕ) (laid : IsLaid source board sites) where

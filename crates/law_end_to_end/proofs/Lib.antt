@@ -1,4 +1,3 @@
-pub mod Delays
 pub mod Meanings
 pub mod Composed
 pub mod Registers

@@ -5,7 +5,7 @@ use Rattle.std.proofs.lemmas.Bool.{cases_lt}
 use Rattle.mx_isa.specs.declared.place.Place.{Place}
 use Rattle.mx_source.specs.SourceValue.{SourceValue}
 use Rattle.mx_source.specs.Meaning.{Program, Run, program, start, run_for, meaning, is_stuck, HaltsIn}
-use Rattle.law_order.specs.Laws.{IsPrefix}
+use Rattle.mx_delay.specs.Prefixes.{IsPrefix}
 use Rattle.law_link.proofs.Saying.{is_going, not_stuck_before, run_add, says_more, stays_for}
 
 module _ (source : SourceValue) (place : Place) (bytes : List ℕ) where

@@ -1,11 +1,12 @@
 -- The run of a source does what the source means.
 use Rattle.std.specs.Prelude.{◌≡◌, ℕ, ◌+◌, ◌≤◌, true, List, length, None}
+use Rattle.mx_isa.specs.declared.board.TheConstants.{DATA_BASE, DATA_END}
 use Rattle.mx_source.specs.SourceValue.{SourceValue}
 use Rattle.mx_source.specs.Meaning.{meaning, HaltsIn}
 use Rattle.mx_squash.specs.Copies.{Site}
 use Rattle.mx_layout.specs.Layout.{IsLayout, blocks_in}
 use Rattle.mx_layout.specs.Overlong.{overlong}
-use Rattle.law_order.specs.Laws.{IsPrefix}
+use Rattle.mx_delay.specs.Prefixes.{IsPrefix}
 use Rattle.mx_turn.specs.Run.{bound}
 use Rattle.law_link.specs.Runs.{IsLaid}
 use Rattle.law_link.specs.Matches.{block_ahead}
@@ -37,7 +38,7 @@ RunMeansItsSource =
 abbrev pub TextMeansItsSource : Type 0
 TextMeansItsSource =
     (text : List ℕ) (sites : List Site) (requests bytes : List ℕ) (budget : ℕ)
-    → text_fault 256 65536 text ≡ None
-    → IsLayout IsGreedy (source_of 256 text) board sites
-    → overlong (source_of 256 text) board (blocks_in sites) ≡ None
-    → MeansItsSource (source_of 256 text) sites requests bytes budget
+    → text_fault DATA_BASE DATA_END text ≡ None
+    → IsLayout IsGreedy (source_of DATA_BASE text) board sites
+    → overlong (source_of DATA_BASE text) board (blocks_in sites) ≡ None
+    → MeansItsSource (source_of DATA_BASE text) sites requests bytes budget

@@ -5,8 +5,8 @@ use Rattle.std.proofs.lemmas.Bool.{cond-true, cond-false, cases_Bool, false≢tr
 use Rattle.std.proofs.lemmas.Bool.Decides.{nat_tests}
 use Rattle.mx_isa.specs.declared.place.Place.{Place}
 use Rattle.mx_isa.specs.Words.{Words}
-use Rattle.mx_code.specs.Delay.{Code}
-use Rattle.mx_code.specs.Clean.{Watched, watch_start}
+use Rattle.mx_delay.specs.Delay.{Code}
+use Rattle.mx_delay.specs.Clean.{Watched, watch_start}
 use Rattle.mx_icache.specs.Residency.{resident}
 use Rattle.mx_turn.specs.declared.machine.Cycled.{Cycled as Answer}
 use Rattle.mx_turn.specs.Counted.{one, after_stall}
@@ -16,7 +16,7 @@ use Rattle.mx_turn.specs.OneTurn.{IsOnBoard}
 use Rattle.mx_turn.specs.Program.{code_with}
 use Rattle.mx_handler.proofs.Pauses.{erased, Handled}
 use Rattle.mx_handler.proofs.Phases.{State, Turned, turn, at_start}
-use Rattle.law_interrupts.proofs.Watched.{past}
+use Rattle.mx_delay.proofs.Watched.{past}
 use Rattle.law_interrupts.proofs.Pauses.{done_after, setting, lawful, begins}
 
 -- a latched request is taken once

@@ -4,8 +4,8 @@ use Rattle.std.proofs.lemmas.Bool.{cases_Bool}
 use Rattle.mx_isa.specs.declared.place.Place.{Place}
 use Rattle.mx_isa.specs.Words.{Words}
 use Rattle.mx_code.specs.Decoding.{inst_of}
-use Rattle.mx_code.specs.Delay.{Code, code_from, delay}
-use Rattle.mx_code.specs.Clean.{is_inside, Watched, watch_start}
+use Rattle.mx_delay.specs.Delay.{Code, code_from, delay}
+use Rattle.mx_delay.specs.Clean.{is_inside, Watched, watch_start}
 use Rattle.mx_turn.specs.Cycle.{start}
 use Rattle.mx_turn.specs.Handler.{shipped}
 use Rattle.mx_turn.specs.Program.{Program, program_of, memory_of}
@@ -14,7 +14,7 @@ use Rattle.mx_turn.specs.OneTurn.{IsOnBoard}
 use Rattle.law_interrupts.specs.Laws.{RunsAs, IsCleanImage, delay_of}
 use Rattle.mx_handler.proofs.Pauses.{erased, Setting, Handled, IsLawful}
 use Rattle.mx_handler.proofs.Phases.{halted_alike, ended_in_user}
-use Rattle.law_interrupts.proofs.Watched.{watched_at, clean_for_fewer}
+use Rattle.mx_delay.proofs.Watched.{watched_at, clean_for_fewer}
 use Rattle.law_interrupts.proofs.Pauses.{InUserAfter, Steps, done_after, setting, lawful, shipped_handled}
 use Rattle.law_interrupts.proofs.Cycles.{stands_start}
 use Rattle.law_interrupts.proofs.Runs.{program, steps, Ran, runs, passed_few, length_bits, asked_few}

@@ -10,8 +10,8 @@ use Rattle.mx_isa.specs.Arithmetic.{condition_holds}
 use Rattle.mx_isa.specs.Words.{Words, reg}
 use Rattle.mx_isa.specs.Effect.{Decision, decides}
 use Rattle.mx_isa.specs.Views.{reads, reads_md, is_load, dest, access}
-use Rattle.mx_code.specs.Delay.{Code, next_of, idle, does, Delay, stepped, delay_step, delay_byte}
-use Rattle.mx_code.specs.Clean.{is_lawful, loads_to, Watched}
+use Rattle.mx_delay.specs.Delay.{Code, next_of, idle, does, Delay, stepped, delay_step, delay_byte}
+use Rattle.mx_delay.specs.Clean.{is_lawful, loads_to, Watched}
 use Rattle.mx_pcchain.specs.Modes.{psw_restored}
 use Rattle.mx_turn.specs.Counted.{Counted}
 use Rattle.mx_turn.specs.Stages.{live}
@@ -20,7 +20,7 @@ use Rattle.mx_turn.specs.Cycle.{Machine, shifted, commit_byte, is_taken, decided
 use Rattle.mx_turn.specs.OneTurn.{Follows, IsOnBoard, before_turn}
 use Rattle.mx_turn.proofs.OneTurn.{one_turn, nor_restored}
 use Rattle.mx_handler.proofs.Pauses.{goes_on}
-use Rattle.law_interrupts.proofs.Watched.{next, CleanStep, clean_step, console_next}
+use Rattle.mx_delay.proofs.Watched.{next, CleanStep, clean_step, console_next}
 
 -- a code address from the user's on
 abbrev pub IsUsers : ℕ → Type 0

@@ -1,4 +1,3 @@
-pub mod Watched
 pub mod InUser
 pub mod Pauses
 pub mod Cycles

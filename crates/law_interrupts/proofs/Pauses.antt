@@ -9,8 +9,8 @@ use Rattle.mx_isa.specs.Effect.{Sent, stored}
 use Rattle.mx_isa.specs.UserBus.{is_user}
 use Rattle.mx_isa.proofs.Frame.{same_words}
 use Rattle.mx_code.specs.Decoding.{inst_of}
-use Rattle.mx_code.specs.Delay.{Code, code_from}
-use Rattle.mx_code.specs.Clean.{Watched, watch_start}
+use Rattle.mx_delay.specs.Delay.{Code, code_from}
+use Rattle.mx_delay.specs.Clean.{Watched, watch_start}
 use Rattle.mx_pcchain.specs.Fetch.{Fetch}
 use Rattle.mx_board.specs.Data.{board}
 use Rattle.mx_turn.specs.Counted.{Counted, one}
@@ -24,7 +24,7 @@ use Rattle.mx_handler.specs.Returns.{with_shipped, IsBack}
 use Rattle.mx_handler.proofs.Pauses.{off, Setting, later, Pause, Handled, Stepped, IsLawful, quiet_still, quiet_silent, first_pause}
 use Rattle.mx_handler.proofs.Quiet.{quiet}
 use Rattle.mx_handler.proofs.Returns.{returns}
-use Rattle.law_interrupts.proofs.Watched.{next, past}
+use Rattle.mx_delay.proofs.Watched.{next, past}
 use Rattle.law_interrupts.proofs.InUser.{InUser, in_user_alike, IsReady, ends, user_turn, user_byte}
 
 -- user code leaves system word 0 as it is

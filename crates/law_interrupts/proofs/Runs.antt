@@ -4,8 +4,8 @@ use Rattle.std.specs.Prelude.{option_to_list}
 use Rattle.std.proofs.lemmas.Bool.Decides.{nat_tests}
 use Rattle.mx_isa.specs.declared.place.Place.{Place}
 use Rattle.mx_code.specs.Decoding.{inst_of}
-use Rattle.mx_code.specs.Delay.{Code, code_from}
-use Rattle.mx_code.specs.Clean.{Watched, watch_for}
+use Rattle.mx_delay.specs.Delay.{Code, code_from}
+use Rattle.mx_delay.specs.Clean.{Watched, watch_for}
 use Rattle.mx_icache.specs.Residency.{resident}
 use Rattle.mx_turn.specs.Counted.{one}
 use Rattle.mx_turn.specs.Cycle.{Machine, cycled, answer, after_bits}
@@ -13,7 +13,7 @@ use Rattle.mx_turn.specs.Program.{Program, code_of, code_with, program_of}
 use Rattle.mx_turn.specs.Run.{is_requested, bits, bytes_on, passes, passed_on}
 use Rattle.mx_turn.specs.OneTurn.{IsOnBoard}
 use Rattle.mx_handler.proofs.Pauses.{Handled}
-use Rattle.law_interrupts.proofs.Watched.{past, clean_first}
+use Rattle.mx_delay.proofs.Watched.{past, clean_first}
 use Rattle.law_interrupts.proofs.Pauses.{setting}
 use Rattle.law_interrupts.proofs.Cycles.{Stands, Cycled, a_cycle}
 

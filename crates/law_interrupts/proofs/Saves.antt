@@ -3,8 +3,8 @@ use Rattle.std.proofs.Common.{◌≡◌, ℕ, zero, suc, ◌+◌, ◌-◌, ◌%�
 use Rattle.mx_isa.specs.declared.place.Place.{Place}
 use Rattle.mx_isa.specs.Words.{Words}
 use Rattle.mx_code.specs.Decoding.{inst_of}
-use Rattle.mx_code.specs.Delay.{Code, code_from, delay}
-use Rattle.mx_code.specs.Clean.{is_inside, Watched, watch_start}
+use Rattle.mx_delay.specs.Delay.{Code, code_from, delay}
+use Rattle.mx_delay.specs.Clean.{is_inside, Watched, watch_start}
 use Rattle.mx_icache.specs.Residency.{resident}
 use Rattle.mx_pcchain.specs.Chain.{chain_of}
 use Rattle.mx_turn.specs.Counted.{one}
@@ -20,7 +20,7 @@ use Rattle.law_interrupts.specs.Laws.{IsCleanImage, delay_of}
 use Rattle.law_interrupts.specs.Saves.{before_cycle, takes_in, in_cycle, Saved, IsTurn26}
 use Rattle.mx_handler.proofs.Pauses.{Setting, Pause, IsLawful}
 use Rattle.mx_handler.proofs.Interrupted.{after_append, Interrupted, interrupted, InPause, pause_goes, pause_ends}
-use Rattle.law_interrupts.proofs.Watched.{past, watched_at, watched_more, clean_for_fewer}
+use Rattle.mx_delay.proofs.Watched.{past, watched_at, watched_more, clean_for_fewer}
 use Rattle.law_interrupts.proofs.Pauses.{InUserAfter, Steps, done_after, with_handler, lawful, shipped_code, handler_pause, shipped_handled}
 use Rattle.law_interrupts.proofs.Cycles.{stands_start}
 use Rattle.law_interrupts.proofs.Runs.{program, steps, Ran, runs, passed_few, length_bits, asked_few}

@@ -2,8 +2,8 @@
 use Rattle.std.specs.Prelude.{◌≡◌, ℕ, ◌+◌, ◌*◌, ◌%◌, ◌^◌, ◌≤◌, true, ◌⊎◌, List, [], length, Option}
 use Rattle.mx_isa.specs.declared.place.Place.{Place}
 use Rattle.mx_code.specs.Decoding.{inst_of}
-use Rattle.mx_code.specs.Delay.{Code, Delay, code_from, delay}
-use Rattle.mx_code.specs.Clean.{is_inside, IsClean}
+use Rattle.mx_delay.specs.Delay.{Code, Delay, code_from, delay}
+use Rattle.mx_delay.specs.Clean.{is_inside, IsClean}
 use Rattle.mx_turn.specs.OneTurn.{UserSame, IsOnBoard}
 use Rattle.mx_turn.specs.Program.{Program, program_of, memory_of}
 use Rattle.mx_turn.specs.Run.{MachineRun, run_of}

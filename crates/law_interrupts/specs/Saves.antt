@@ -1,7 +1,7 @@
 -- What an interrupt saves of clean code, and what the shipped handler gives back.
 use Rattle.std.specs.Prelude.{◌≡◌, ℕ, suc, ◌+◌, ◌%◌, ◌^◌, ◌<◌, Bool, true, false, List, Option}
 use Rattle.mx_isa.specs.declared.place.Place.{Place}
-use Rattle.mx_code.specs.Delay.{Delay}
+use Rattle.mx_delay.specs.Delay.{Delay}
 use Rattle.mx_pcchain.specs.Chain.{chain_of}
 use Rattle.mx_turn.specs.Cycle.{Machine, reached, latched}
 use Rattle.mx_turn.specs.OneTurn.{as_fetch, UserSame, Follows, IsOnBoard}

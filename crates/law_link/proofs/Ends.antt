@@ -7,10 +7,10 @@ use Rattle.std.proofs.lemmas.Bool.Decides.{nat_tests}
 use Rattle.std.proofs.lemmas.List.{append-nil}
 use Rattle.mx_isa.specs.declared.inst.Inst.{Inst}
 use Rattle.mx_isa.specs.declared.inst.Inst.TheVariants.{Halt}
-use Rattle.mx_isa.specs.Effect.{Core, Decision, decides, goes_on}
+use Rattle.mx_isa.specs.Effect.{Core, Decision, decides, falls_through}
 use Rattle.mx_isa.specs.Views.{reads, access, is_halt}
-use Rattle.mx_code.specs.Delay.{idle, Queued, queued, squash, next_of, stepped}
-use Rattle.mx_code.specs.Clean.{is_lawful, loads_to, Watched}
+use Rattle.mx_delay.specs.Delay.{idle, Queued, queued, squash, next_of, stepped}
+use Rattle.mx_delay.specs.Clean.{is_lawful, loads_to, Watched}
 use Rattle.law_link.proofs.Going.{Did, IsPlain, ArePlain, Stands, stands_left, stands_right, still_inside, did, did_all, did_anywhere, queue, starts, for, for_add, word, plain_word, cancelled, goes, Keeps}
 use Rattle.law_link.proofs.Setting.{Machine}
 use Rattle.law_link.proofs.Going.{once}
@@ -147,7 +147,7 @@ module _ (machine : Machine) where
     at = record {
       first = queued (q + 1);
       second = queued (q + 2);
-      third = queued (next_of goes_on.target (q + 2));
+      third = queued (next_of falls_through.target (q + 2));
       core = d.core;
       console = d.console;
       halted = true;
@@ -168,14 +168,14 @@ module _ (machine : Machine) where
   halting q r at within low h =
       (λ k. record {
         at = (halted_at q r).at;
-        clean = still_inside r.clean (is_lawful p input (access Halt) r.core.regs) (inside q) (leb p.code (next_of goes_on.target (q + 2)))
+        clean = still_inside r.clean (is_lawful p input (access Halt) r.core.regs) (inside q) (leb p.code (next_of falls_through.target (q + 2)))
             (reads Halt r.loaded) within above k;
         loaded = 0;
       })
       ∙ ap (λ (j : Inst). stopped q r j (inside q)) (sym at)
     where
-      above : leb p.code (next_of goes_on.target (q + 2)) ≡ true
-      above = let e : next_of goes_on.target (q + 2) ≡ q + 3 = omega arith in grind (arith, nat_tests)
+      above : leb p.code (next_of falls_through.target (q + 2)) ≡ true
+      above = let e : next_of falls_through.target (q + 2) ≡ q + 3 = omega arith in grind (arith, nat_tests)
 
   pub record Halts (pre : List Inst) (b : ℕ) (s : Did) : Type 0 where
     pub core : (steps (length pre + 1) (begins b s)).at.core ≡ (doing (b + length pre) Halt (doing_all b pre s)).core

@@ -7,12 +7,12 @@ use Rattle.std.proofs.lemmas.Bool.{and_parts}
 use Rattle.std.proofs.lemmas.Bool.Decides.{nat_tests}
 use Rattle.std.proofs.lemmas.List.{append-nil}
 use Rattle.mx_isa.specs.declared.inst.Inst.{Inst}
-use Rattle.mx_isa.specs.Effect.{Core, Decision, Change, change, apply, decides, act, goes_on, sent}
+use Rattle.mx_isa.specs.Effect.{Core, Decision, Change, change, apply, decides, act, falls_through, sent}
 use Rattle.mx_isa.specs.Views.{reads, access, is_halt, is_transfer}
 use Rattle.mx_isa.specs.UserBus.{user_bus}
 use Rattle.mx_isa.proofs.Frame.{decides_anywhere, change_anywhere}
-use Rattle.mx_code.specs.Delay.{Code, idle, Queued, queued, squash, does, next_of, Delay, user_byte, stepped, delay_step}
-use Rattle.mx_code.specs.Clean.{is_lawful, is_clean_step, loads_to, Watched, watch, watch_for}
+use Rattle.mx_delay.specs.Delay.{Code, idle, Queued, queued, squash, does, next_of, Delay, user_byte, stepped, delay_step}
+use Rattle.mx_delay.specs.Clean.{is_lawful, is_clean_step, loads_to, Watched, watch, watch_for}
 use Rattle.law_link.proofs.Setting.{Machine}
 
 -- what the words so far did
@@ -140,7 +140,7 @@ module _ (machine : Machine) where
       → queue y (queued z) (z + 1) (did a i s) ≡ once (queue (queued a) y z s)
   plain_word a y z s i at within plain low h =
       ap (λ n. queue y (queued z) n (did a i s)) next
-      ∙ word a y z s i goes_on at within (sym (decides_anywhere i a s.core.regs plain.stays)) plain.runs_on (let e = next in omega arith)
+      ∙ word a y z s i falls_through at within (sym (decides_anywhere i a s.core.regs plain.stays)) plain.runs_on (let e = next in omega arith)
     where
       next : z + 1 ≡ next_of None z
       next = omega arith

@@ -13,8 +13,8 @@ use Rattle.mx_isa.specs.declared.place.Place.{Place}
 use Rattle.mx_isa.specs.Fields.{InstFits}
 use Rattle.mx_code.specs.Codes.{word_of_row, HasRegisters}
 use Rattle.mx_code.specs.Decoding.{inst_of}
-use Rattle.mx_code.specs.Delay.{Code, idle, code_from}
-use Rattle.mx_code.specs.Clean.{is_inside}
+use Rattle.mx_delay.specs.Delay.{Code, idle, code_from}
+use Rattle.mx_delay.specs.Clean.{is_inside}
 use Rattle.mx_code.proofs.Rows.{spelled}
 use Rattle.mx_source.specs.declared.statement.Statement.{Statement}
 use Rattle.mx_source.specs.declared.statement.Statement.TheVariants.{Plain, LaCode, Branch, Call, CallReg, JumpReg, Halt}

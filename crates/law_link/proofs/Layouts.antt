@@ -6,8 +6,8 @@ use Rattle.std.proofs.lemmas.Bool.Decides.{nat_tests}
 use Rattle.mx_isa.specs.declared.inst.Inst.{Inst}
 use Rattle.mx_code.specs.Codes.{HasRegisters}
 use Rattle.mx_code.specs.Decoding.{inst_of}
-use Rattle.mx_code.specs.Delay.{Code, code_from}
-use Rattle.mx_code.specs.Clean.{is_inside}
+use Rattle.mx_delay.specs.Delay.{Code, code_from}
+use Rattle.mx_delay.specs.Clean.{is_inside}
 use Rattle.mx_source.specs.declared.statement.Statement.{Statement}
 use Rattle.mx_blocks.specs.declared.block.Block.{Block}
 use Rattle.mx_blocks.specs.declared.block.End.{End}

@@ -14,8 +14,8 @@ use Rattle.mx_isa.specs.Effect.{Sent, Found, Change, Core, Bus, change, offset_b
 use Rattle.mx_isa.specs.Views.{sources, Access, access, address}
 use Rattle.mx_isa.specs.UserBus.{is_user, user_bus, plain_word, from_input}
 use Rattle.mx_isa.proofs.Frame.{same_words, SeesAlike, change_same, core_same}
-use Rattle.mx_code.specs.Delay.{user_byte}
-use Rattle.mx_code.specs.Clean.{is_lawful}
+use Rattle.mx_delay.specs.Delay.{user_byte}
+use Rattle.mx_delay.specs.Clean.{is_lawful}
 use Rattle.mx_source.specs.declared.statement.Value.{Value}
 use Rattle.mx_source.specs.declared.statement.Value.TheVariants.{Int, Code}
 use Rattle.mx_source.specs.declared.statement.Why.{Why}

@@ -12,8 +12,8 @@ use Rattle.mx_isa.specs.declared.inst.Inst.TheVariants.{Load, Store}
 use Rattle.mx_isa.specs.declared.inst.Inst.TheVariants.{Halt as HaltInst}
 use Rattle.mx_isa.specs.Effect.{Decision, decides}
 use Rattle.mx_isa.specs.Views.{Access, access, is_load, is_halt, is_transfer, dest, reads}
-use Rattle.mx_code.specs.Delay.{idle, queued, next_of}
-use Rattle.mx_code.specs.Clean.{is_lawful, Watched, loads_to}
+use Rattle.mx_delay.specs.Delay.{idle, queued, next_of}
+use Rattle.mx_delay.specs.Clean.{is_lawful, Watched, loads_to}
 use Rattle.mx_depend.specs.Graphs.{inst_at}
 use Rattle.mx_source.specs.declared.statement.Statement.TheVariants.{Halt}
 use Rattle.mx_source.specs.Meaning.{Going, Halted, Run, run_step, run_for, is_stuck}

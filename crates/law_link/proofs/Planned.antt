@@ -10,7 +10,7 @@ use Rattle.mx_isa.specs.declared.inst.Inst.TheVariants.{Halt}
 use Rattle.mx_isa.specs.declared.place.Place.{Place}
 use Rattle.mx_isa.specs.Effect.{Decision, decides}
 use Rattle.mx_isa.specs.Views.{reads, access, is_transfer}
-use Rattle.mx_code.specs.Clean.{is_lawful, loads_to}
+use Rattle.mx_delay.specs.Clean.{is_lawful, loads_to}
 use Rattle.mx_depend.specs.Graphs.{inst_at}
 use Rattle.mx_blocks.specs.declared.block.Item.{Item}
 use Rattle.mx_blocks.specs.declared.block.Item.TheVariants.{Op, Nop}

@@ -7,7 +7,7 @@ use Rattle.std.proofs.lemmas.Option.{slice_get-map}
 use Rattle.mx_isa.specs.declared.inst.Inst.{Inst}
 use Rattle.mx_code.specs.Codes.{word_of_row}
 use Rattle.mx_code.specs.Decoding.{inst_of}
-use Rattle.mx_code.specs.Delay.{code_from, data_from}
+use Rattle.mx_delay.specs.Delay.{code_from, data_from}
 use Rattle.mx_blocks.specs.declared.block.Block.{Block}
 use Rattle.mx_blocks.specs.declared.block.Plan.{Plan}
 use Rattle.mx_layout.specs.Layout.{link_of}

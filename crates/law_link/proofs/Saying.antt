@@ -12,7 +12,7 @@ use Rattle.mx_isa.specs.Arithmetic.{word_of}
 use Rattle.mx_isa.specs.Words.{write}
 use Rattle.mx_isa.specs.Effect.{Decision, decides}
 use Rattle.mx_isa.specs.Views.{access, is_transfer}
-use Rattle.mx_code.specs.Clean.{is_lawful}
+use Rattle.mx_delay.specs.Clean.{is_lawful}
 use Rattle.mx_source.specs.declared.statement.Statement.{Statement}
 use Rattle.mx_source.specs.declared.statement.Statement.TheVariants.{Plain, LaCode}
 use Rattle.mx_source.specs.declared.statement.Value.TheVariants.{Code}

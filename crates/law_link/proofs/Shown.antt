@@ -1,4 +1,4 @@
--- The laws of linked code, from those on whole runs: the watched machine is the machine with delay slots (`watched`), its run begins
+-- The laws of linked code, from those on whole runs: the watched machine is the machine with delay slots (`watched_at`), its run begins
 -- as that machine starts (`begins_so`), and so what whole runs show of the meaning linked code shows (`shows_so`).
 use Rattle.std.proofs.Common.{◌≡◌, ℕ, zero, suc, ◌+◌, ◌*◌, ◌-◌, ◌<◌, ◌≤◌, Bool, true, false, cond, leb, not, ◌&&◌, List, [], ◌∷◌, length, map, Option, refl, sym, ap, ◌∙◌, subst, arith, ⊎_elim, inl, inr, ltb}
 use Rattle.std.specs.Prelude.{slice_index, slice_index_or}
@@ -8,8 +8,8 @@ use Rattle.mx_isa.specs.declared.place.Place.{Place}
 use Rattle.mx_isa.specs.Effect.{Core, decides}
 use Rattle.mx_isa.specs.Views.{reads}
 use Rattle.mx_isa.proofs.Frame.{same_words}
-use Rattle.mx_code.specs.Delay.{Code, does, data_from, Delay, stepped, delay_step, delay_for}
-use Rattle.mx_code.specs.Clean.{is_clean_step, loads_to, Watched, watch, watch_start, watch_for}
+use Rattle.mx_delay.specs.Delay.{Code, does, data_from, Delay, stepped, delay_step, delay_for}
+use Rattle.mx_delay.specs.Clean.{is_clean_step, loads_to, Watched, watch, watch_start, watch_for}
 use Rattle.mx_source.specs.declared.statement.Value.{Value}
 use Rattle.mx_source.specs.declared.statement.Value.TheVariants.{Int}
 use Rattle.mx_source.specs.SourceValue.{SourceValue}
@@ -21,7 +21,8 @@ use Rattle.mx_validate.specs.Padded.{insts_of, items_of}
 use Rattle.mx_layout.proofs.Links.{link_within}
 use Rattle.mx_link.specs.Origins.{Filling, from_nowhere}
 use Rattle.mx_link.specs.Words.{value_word}
-use Rattle.law_order.specs.Laws.{IsPrefix}
+use Rattle.mx_delay.proofs.Watched.{watched_at}
+use Rattle.mx_delay.specs.Prefixes.{IsPrefix}
 use Rattle.law_link.specs.Runs.{IsFilling, Linking, IsLinking, code_in, inside, data_in, linked_run, RunsClean}
 use Rattle.law_link.specs.Laws.{meant, IsSafe, LinkedCodeIsClean, Shows, HaltsSoon, LinkedCodeHalts, HaltedBefore, LinkedCodeHaltsOnly, LinkedCodeSends, block_words, planned_words, IsBlockStart, StartsBlock, LinkedBlocksStart, LaterBlocksStartLater, ComesFrom, FetchesStartBlocks}
 use Rattle.law_link.proofs.Saying.{Prefix, is_going}
@@ -36,32 +37,6 @@ use Rattle.law_link.proofs.Setting.{FillsSo, Known, Setting}
 
 false_true : false ≡ true → ⊥
 false_true e = grind arith
-
--- the watched machine is the machine
-abbrev on : Code → (ℕ → Bool) → Place → Option (List ℕ) → Watched → Watched
-on code within p input s = record {
-  at = delay_step code p input s.at;
-  clean = s.clean && (is_clean_step code within p input s.at && not (reads (does code s.at.first) s.loaded));
-  loaded = loads_to (does code s.at.first);
-}
-
-one_watched :
-    (code : Code) (within : ℕ → Bool) (p : Place) (input : Option (List ℕ)) (s : Watched)
-    → (watch code within p input s).at ≡ delay_step code p input s.at
-one_watched code within p input s = by_halted s.at.halted refl
-  where
-    by_halted : (b : Bool) → s.at.halted ≡ b → (watch code within p input s).at ≡ delay_step code p input s.at
-    by_halted true e =
-        ap (λ (x : Watched). x.at) (cond-true s.at.halted s (on code within p input s) e)
-        ∙ sym (cond-true s.at.halted s.at (stepped p input (does code s.at.first) (decides (does code s.at.first) s.at.first.address s.at.core.regs) s.at) e)
-    by_halted false e = ap (λ (x : Watched). x.at) (cond-false s.at.halted s (on code within p input s) e)
-
-watched :
-    (code : Code) (within : ℕ → Bool) (p : Place) (input : Option (List ℕ)) (n : ℕ) (s : Watched)
-    → (watch_for code within p input n s).at ≡ delay_for code p input n s.at
-watched code within p input zero s = refl
-watched code within p input (suc n) s =
-    watched code within p input n (watch code within p input s) ∙ ap (delay_for code p input n) (one_watched code within p input s)
 
 -- the first block stands at the beginning
 first_link : (source : SourceValue) (j at : ℕ) (sites : List Site) → BlocksFrom source 0 j (blocks_in sites) → link_of at sites 0 ≡ at
@@ -188,7 +163,7 @@ module _ (known : Known) where
   watched_so j = ap (watch_for (code_in l) (inside l) l.place input j) begins_so
 
   pub runs_so : (j : ℕ) → (Linked j).at ≡ linked_run l j
-  runs_so j = ap (λ (x : Watched). x.at) (watched_so j) ∙ watched (code_in l) (inside l) l.place input j (watch_start l.place (data_in l))
+  runs_so j = ap (λ (x : Watched). x.at) (watched_so j) ∙ watched_at (code_in l) (inside l) l.place input j (watch_start l.place (data_in l))
 
   clean_so : (j : ℕ) → IsSafe l (j + 64) → RunsClean l j × IsPrefix (linked_run l j).console (meant l (j + 64)).console
   clean_so j safe =

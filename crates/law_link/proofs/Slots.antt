@@ -8,8 +8,8 @@ use Rattle.std.proofs.lemmas.Option.{get_or_from_slice_get, slice_get-get_or}
 use Rattle.mx_isa.specs.declared.inst.Inst.{Inst}
 use Rattle.mx_isa.specs.declared.inst.Inst.TheVariants.{Halt as HaltInst}
 use Rattle.mx_isa.specs.Views.{is_load, dest, reads}
-use Rattle.mx_code.specs.Delay.{Code}
-use Rattle.mx_code.specs.Clean.{loads_to}
+use Rattle.mx_delay.specs.Delay.{Code}
+use Rattle.mx_delay.specs.Clean.{loads_to}
 use Rattle.mx_depend.specs.Independence.{feeds}
 use Rattle.mx_depend.specs.Graphs.{inst_at as inst_number}
 use Rattle.mx_blocks.specs.declared.block.Plan.{Plan}

@@ -9,8 +9,8 @@ use Rattle.std.proofs.lemmas.List.{length-take-le, take-append-drop}
 use Rattle.mx_isa.specs.declared.inst.Inst.{Inst}
 use Rattle.mx_isa.specs.Effect.{decides}
 use Rattle.mx_isa.specs.Views.{reads}
-use Rattle.mx_code.specs.Delay.{does, Delay, stepped, delay_step}
-use Rattle.mx_code.specs.Clean.{is_clean_step, loads_to, Watched}
+use Rattle.mx_delay.specs.Delay.{does, Delay, stepped, delay_step}
+use Rattle.mx_delay.specs.Clean.{is_clean_step, loads_to, Watched}
 use Rattle.mx_source.specs.Meaning.{Going, Run, is_stuck}
 use Rattle.mx_blocks.specs.declared.block.Item.{Item}
 use Rattle.mx_blocks.specs.declared.block.Item.TheVariants.{Op, Nop}

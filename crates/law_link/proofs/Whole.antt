@@ -7,8 +7,8 @@ use Rattle.std.proofs.lemmas.Option.{slice_get_past}
 use Rattle.std.proofs.lemmas.Bool.{cases_lt}
 use Rattle.std.proofs.lemmas.List.{length-take-le}
 use Rattle.mx_isa.specs.declared.inst.Inst.{Inst}
-use Rattle.mx_code.specs.Delay.{Delay}
-use Rattle.mx_code.specs.Clean.{Watched}
+use Rattle.mx_delay.specs.Delay.{Delay}
+use Rattle.mx_delay.specs.Clean.{Watched}
 use Rattle.mx_source.specs.Meaning.{Going, Halted, Run, run_for, is_stuck}
 use Rattle.mx_blocks.specs.declared.block.Block.{Block}
 use Rattle.mx_validate.specs.Padded.{insts_of, items_of, falls, body_count}

@@ -5,7 +5,7 @@ use Rattle.mx_isa.specs.declared.Place.{Place}
 use Rattle.mx_isa.specs.Words.{Words}
 use Rattle.mx_code.specs.Codes.{Codes}
 use Rattle.mx_code.specs.Decoding.{inst_of as spelled_inst}
-use Rattle.mx_code.specs.Delay.{Code, code_from, data_from}
+use Rattle.mx_delay.specs.Delay.{Code, code_from, data_from}
 use Rattle.mx_source.specs.SourceValue.{SourceValue, IsSource}
 use Rattle.mx_blocks.specs.declared.Block.{Block}
 use Rattle.mx_blocks.specs.declared.Plan.{Plan}

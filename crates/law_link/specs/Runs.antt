@@ -4,8 +4,8 @@ use Rattle.mx_isa.specs.declared.Place.{Place}
 use Rattle.mx_isa.specs.Words.{Words}
 use Rattle.mx_code.specs.Codes.{HasRegisters}
 use Rattle.mx_code.specs.Decoding.{inst_of as spelled_inst}
-use Rattle.mx_code.specs.Delay.{Code, code_from, data_from, Delay, delay}
-use Rattle.mx_code.specs.Clean.{is_inside, IsClean}
+use Rattle.mx_delay.specs.Delay.{Code, code_from, data_from, Delay, delay}
+use Rattle.mx_delay.specs.Clean.{is_inside, IsClean}
 use Rattle.mx_source.specs.declared.Statement.{Statement}
 use Rattle.mx_source.specs.SourceValue.{SourceValue, IsSource}
 use Rattle.mx_source.specs.Meaning.{given}

@@ -22,7 +22,8 @@ use Rattle.mx_blocks.specs.Items.{StandsAt, ops}
 use Rattle.mx_validate.specs.Padded.{insts_of, items_of}
 use Rattle.mx_validate.proofs.Listed.{once_below}
 use Rattle.law_order.specs.Running.{Ran, run_one, run_source, run_items}
-use Rattle.law_order.specs.Laws.{unplaced, IsPlanned, IsPrefix, ValidOrderKeepsEffect, ValidOrderStaysClean}
+use Rattle.law_order.specs.Laws.{unplaced, IsPlanned, ValidOrderKeepsEffect, ValidOrderStaysClean}
+use Rattle.mx_delay.specs.Prefixes.{IsPrefix}
 use Rattle.law_order.proofs.Reorder.{FreeOf, FreeInversions, from_to, run, run_in_order}
 use Rattle.law_order.proofs.Swap.{MaySwap, swap}
 

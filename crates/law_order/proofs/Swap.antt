@@ -14,7 +14,7 @@ use Rattle.mx_isa.specs.Effect.{Sent, Found, Change, Decision, change, decides, 
 use Rattle.mx_isa.specs.Views.{reads_md, writes_md, reads, writes, Access, access, address, is_transfer}
 use Rattle.mx_isa.specs.UserBus.{is_user, plain_word, from_input, user_bus}
 use Rattle.mx_isa.proofs.Frame.{put_put, SeesAlike, FindsAlike, change_same, decides_same, change_unwritten, change_md_none, StoresAt, stores_at, sees_alike, base_read, apply_apply, FitsIn, fits_in, apart_at, address_same}
-use Rattle.mx_code.specs.Clean.{is_lawful}
+use Rattle.mx_delay.specs.Clean.{is_lawful}
 use Rattle.mx_depend.specs.Independence.{OtherWord, Independent}
 use Rattle.law_order.specs.Running.{Ran, run_one}
 

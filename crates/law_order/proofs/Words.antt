@@ -9,8 +9,8 @@ use Rattle.mx_isa.specs.Effect.{Change, change, decides, sent, apply}
 use Rattle.mx_isa.specs.Views.{reads, dest, is_load, is_transfer}
 use Rattle.mx_isa.specs.UserBus.{user_bus}
 use Rattle.mx_isa.proofs.Frame.{change_anywhere}
-use Rattle.mx_code.specs.Delay.{idle}
-use Rattle.mx_code.specs.Clean.{loads_to}
+use Rattle.mx_delay.specs.Delay.{idle}
+use Rattle.mx_delay.specs.Clean.{loads_to}
 use Rattle.mx_depend.specs.Independence.{feeds}
 use Rattle.mx_depend.specs.Graphs.{inst_at}
 use Rattle.mx_blocks.specs.declared.block.Block.{Block}

@@ -5,6 +5,7 @@ use Rattle.mx_isa.specs.declared.inst.Inst.{Inst}
 use Rattle.mx_isa.specs.declared.inst.Inst.TheVariants.{Branch, Addi, Jspci}
 use Rattle.mx_isa.specs.declared.place.Place.{Place}
 use Rattle.mx_isa.specs.Fields.{InstFits}
+use Rattle.mx_delay.specs.Prefixes.{IsPrefix}
 use Rattle.mx_blocks.specs.declared.block.Block.{Block}
 use Rattle.mx_blocks.specs.declared.block.Plan.{Plan}
 use Rattle.mx_validate.specs.Padded.{insts_of, items_of}
@@ -32,10 +33,6 @@ ValidOrderKeepsEffect =
     (block : Block) (plan : Plan) (insts : List Inst) (p : Place) (input : Option (List ℕ)) (at : ℕ) (s : Ran)
     → IsPlanned block plan insts input
     → run_items p input at insts (items_of plan) s ≡ run_source p input at insts s
-
-pub record IsPrefix (xs ys : List ℕ) : Type 0 where
-  pub rest : List ℕ
-  pub whole : ys ≡ xs ++ rest
 
 -- where each access is lawful in source order, it is in the order of the plan, up to each place,
 -- and the bytes up to there are a prefix of those in source order

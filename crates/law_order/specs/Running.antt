@@ -5,8 +5,8 @@ use Rattle.mx_isa.specs.declared.place.Place.{Place}
 use Rattle.mx_isa.specs.Effect.{Core, Decision, decides, act}
 use Rattle.mx_isa.specs.Views.{access, is_transfer}
 use Rattle.mx_isa.specs.UserBus.{user_bus}
-use Rattle.mx_code.specs.Delay.{user_byte}
-use Rattle.mx_code.specs.Clean.{is_lawful}
+use Rattle.mx_delay.specs.Delay.{user_byte}
+use Rattle.mx_delay.specs.Clean.{is_lawful}
 use Rattle.mx_depend.specs.Graphs.{inst_at}
 use Rattle.mx_blocks.specs.declared.block.Item.{Item}
 use Rattle.mx_blocks.specs.declared.block.Item.TheVariants.{Op, Nop}

@@ -5,9 +5,9 @@ use Rattle.std.proofs.lemmas.Bool.Decides.{nat_tests}
 use Rattle.mx_isa.specs.declared.place.Place.{Place}
 use Rattle.mx_isa.specs.Words.{Words}
 use Rattle.mx_code.specs.Decoding.{inst_of}
-use Rattle.mx_code.specs.Delay.{Code, code_from, delay}
-use Rattle.mx_code.specs.Clean.{is_inside, Watched, watch_start}
-use Rattle.law_executions.specs.Executions.{executes, executions}
+use Rattle.mx_delay.specs.Delay.{Code, code_from, delay}
+use Rattle.mx_delay.specs.Clean.{is_inside, Watched, watch_start}
+use Rattle.mx_delay.specs.Executions.{executes, executions}
 use Rattle.mx_icache.specs.Residency.{resident}
 use Rattle.mx_pcchain.specs.Fetch.{Fetch}
 use Rattle.mx_turn.specs.declared.latches.Stage.{Stage}
@@ -24,7 +24,7 @@ use Rattle.mx_turn.proofs.Steps.{cycled_halted, cycled_acted, cycled_stalled}
 use Rattle.mx_handler.proofs.Pauses.{erased, goes_on, Setting}
 use Rattle.mx_handler.proofs.Phases.{State, going, pausing, over}
 use Rattle.law_interrupts.specs.Laws.{user_code, IsCleanImage}
-use Rattle.law_interrupts.proofs.Watched.{watched_at}
+use Rattle.mx_delay.proofs.Watched.{watched_at}
 use Rattle.law_interrupts.proofs.Pauses.{Steps, done_after, setting, shipped_code}
 use Rattle.law_interrupts.proofs.Saves.{passed, done, ran_at, passed_more}
 use Rattle.mx_report.proofs.Runs.{next_state}

@@ -8,7 +8,7 @@ use Rattle.mx_link.specs.declared.linked.Origin.{Origin}
 use Rattle.mx_link.specs.Origins.{from_target, origins_of}
 use Rattle.mx_link.specs.Linked.{link_map, linked_code, linked_data}
 use Rattle.mx_link.proofs.Sizes.{origins_end, code_end}
-use Rattle.law_executions.specs.Gathered.{is_of, gathered}
+use Rattle.mx_link.specs.Gathered.{is_of, gathered}
 use Rattle.mx_turn.specs.Cycle.{start as machine_start}
 use Rattle.mx_turn.specs.Program.{memory_of}
 use Rattle.mx_turn.specs.Run.{MachineRun, bits}

@@ -5,7 +5,7 @@ use Rattle.mx_turn.specs.Handler.{shipped}
 use Rattle.mx_turn.specs.OneTurn.{IsOnBoard}
 use Rattle.mx_turn.specs.Program.{program_of, memory_of}
 use Rattle.mx_turn.specs.Run.{run_of}
-use Rattle.law_executions.specs.Executions.{executions}
+use Rattle.mx_delay.specs.Executions.{executions}
 use Rattle.lab_profile.specs.Charges.{executed_at}
 use Rattle.law_interrupts.specs.Laws.{user_code, IsCleanImage}
 

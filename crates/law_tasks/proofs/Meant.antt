@@ -2,10 +2,10 @@
 use Rattle.std.proofs.Common.{◌≡◌, ℕ, suc, ◌+◌, ◌<◌, ◌≤◌, Bool, true, false, cond, not, List, None, refl, sym, ap, ◌∙◌, subst, arith}
 use Rattle.mx_isa.specs.Words.{Words}
 use Rattle.mx_code.specs.Decoding.{inst_of}
-use Rattle.mx_code.specs.Delay.{Delay, code_from, data_from, delay}
-use Rattle.mx_code.specs.Clean.{IsClean}
+use Rattle.mx_delay.specs.Delay.{Delay, code_from, data_from, delay}
+use Rattle.mx_delay.specs.Clean.{IsClean}
 use Rattle.mx_source.specs.Meaning.{given}
-use Rattle.law_order.specs.Laws.{IsPrefix}
+use Rattle.mx_delay.specs.Prefixes.{IsPrefix}
 use Rattle.mx_turn.specs.Cycle.{start}
 use Rattle.mx_turn.specs.Program.{Program, state_after, memory_of}
 use Rattle.mx_turn.specs.Run.{bits}
@@ -13,7 +13,7 @@ use Rattle.law_interrupts.proofs.Runs.{length_bits}
 use Rattle.law_link.specs.Runs.{Linking, IsLinking, words_in, code_in, inside, data_in, linked_run}
 use Rattle.law_link.specs.Laws.{meant, IsSafe}
 use Rattle.law_link.proofs.Shown.{is_clean, halts_only}
-use Rattle.law_end_to_end.proofs.Delays.{prefix_then}
+use Rattle.mx_delay.proofs.Steps.{prefix_then}
 use Rattle.law_end_to_end.proofs.Meanings.{meaning_sends, unstuck_before}
 use Rattle.mx_tasks.specs.Tasks.{Task}
 use Rattle.law_interrupts.specs.Saves.{takes_in}

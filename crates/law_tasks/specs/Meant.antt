@@ -2,7 +2,7 @@
 use Rattle.std.specs.Prelude.{◌≡◌, ℕ, suc, ◌+◌, ◌<◌, ◌≤◌, true, false, cond, not, List, length, None}
 use Rattle.mx_source.specs.Meaning.{HaltsIn}
 use Rattle.mx_link.specs.Linked.{linked_data}
-use Rattle.law_order.specs.Laws.{IsPrefix}
+use Rattle.mx_delay.specs.Prefixes.{IsPrefix}
 use Rattle.mx_turn.specs.Program.{Program}
 use Rattle.mx_turn.specs.Run.{run_of}
 use Rattle.law_interrupts.specs.Saves.{takes_in}

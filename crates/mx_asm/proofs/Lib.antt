@@ -1,6 +1,7 @@
 pub mod Apart
 pub mod Counts
 pub mod Fronts
+pub mod Held
 pub mod LabelBounds
 pub mod Labelled
 pub mod Listed

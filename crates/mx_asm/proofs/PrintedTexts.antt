@@ -6,6 +6,7 @@ use Rattle.std.specs.Str.{bytes_eq}
 use Rattle.std.proofs.lemmas.Bool.Decides.{nat_tests}
 use Rattle.std.proofs.lemmas.List.{append-nil}
 use Rattle.std.proofs.lemmas.List.Elements.{All-nil, All-cons, All-head, All-tail}
+use Rattle.mx_isa.specs.declared.board.TheConstants.{DATA_BASE, DATA_END}
 use Rattle.mx_source.specs.declared.statement.Label.{Label}
 use Rattle.mx_source.specs.declared.statement.Label.TheVariants as label
 use Rattle.mx_source.specs.declared.statement.Statement.{Statement}
@@ -291,10 +292,10 @@ printed_reads s h =
 
 -- what is answered with the source that a text reads as, or its fault
 pub printed_answer : (text : List ℕ) (result : Result SourceValue AsmError) → IfOk result (ReadsAs 256 65536 text)
-    → IfErr result (IsRefusal (text_fault 256 65536 text)) → ReadsPrinted text result
+    → IfErr result (IsRefusal (text_fault DATA_BASE DATA_END text)) → ReadsPrinted text result
 printed_answer text (Ok t) read refused s h e =
-    subst (IsSameProgram s) (sym (read.same ∙ ap (source_of 256) e)) (printed_reads s h).same
+    subst (IsSameProgram s) (sym (read.same ∙ ap (source_of DATA_BASE) e)) (printed_reads s h).same
 printed_answer text (Err Memory) read refused s h e = refl
 printed_answer text (Err (Refused line fault)) read refused s h e =
-    let none : text_fault 256 65536 text ≡ None = ap (text_fault 256 65536) e ∙ (printed_reads s h).faultless in
+    let none : text_fault DATA_BASE DATA_END text ≡ None = ap (text_fault DATA_BASE DATA_END) e ∙ (printed_reads s h).faultless in
     cc

@@ -26,7 +26,8 @@ use Rattle.mx_asm.specs.Faults.{first_fault, first_repeat, line_fault, words_fau
 use Rattle.mx_asm.specs.Texts.{text_labels, text_effects, text_fault, source_of, effects_from, statements_in, lines_in, values_in, input_in, onto_statements, onto_lines, onto_values, onto_input}
 use Rattle.mx_asm.proofs.LabelBounds.{found_none, labels_fit}
 use Rattle.mx_asm.proofs.Listed.{Listed, this_fault, listed_step, listed_none}
-use Rattle.mx_asm.proofs.Suits.{was_fit, effect_fits}
+use Rattle.mx_lines.proofs.Forms.{was_read}
+use Rattle.mx_asm.proofs.Suits.{effect_fits}
 use Rattle.mx_asm.proofs.Whole.{made}
 
 -- a line without a fault has an effect, and there is room for what it adds
@@ -109,7 +110,7 @@ module _ (labels : Labels) (end : ℕ) (from : Position) (all : List (List ℕ))
       (this_fault labels end from all repeated ss ns vs input p number line rest h) ∙ here.0 in
       let read = read_line labels end p (is_line repeated number) (length line) (words_of line) clear in
       let words = statement_words (line_words line) in
-      let fits = λ (count : ℕ) (fit : LabelsFit count labels). was_fit (EffectFits labels count) (effect_of labels p.section words) read.effect
+      let fits = λ (count : ℕ) (fit : LabelsFit count labels). was_read (EffectFits labels count) (effect_of labels p.section words) read.effect
       (effect_fits labels count fit p.section words) read.reads in
       all_listed rest
       (ss ++ onto_statements read.effect []) (ns ++ onto_lines number read.effect []) (vs ++ onto_values read.effect [])

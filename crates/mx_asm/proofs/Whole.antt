@@ -8,7 +8,7 @@ use Rattle.mx_source.specs.declared.statement.Label.{Label}
 use Rattle.mx_source.specs.Labels.{LabelFits}
 use Rattle.mx_source.specs.Names.{AreApart}
 use Rattle.mx_source.specs.SourceValue.{SourceValue, IsSource}
-use Rattle.mx_source.specs.SourceValue.{source_of as listed}
+use Rattle.mx_source.specs.SourceValue.{plain_source as listed}
 use Rattle.mx_asm.specs.declared.listing.Listing.{Listing}
 use Rattle.mx_lines.specs.Instructions.{Labels}
 use Rattle.mx_lines.specs.Fitting.{LabelsFit}

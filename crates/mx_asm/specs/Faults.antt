@@ -33,13 +33,15 @@ stands_past end p words = is_data p.section && has_label words && nat_le end p.a
 abbrev pub is_full : ℕ → Position → List Word → Bool
 is_full end p words = nat_lt end (after p words).address || stands_past end p words
 
+-- the last three faults of a line that stands at a position
+abbrev pub place_fault : ℕ → Position → ℕ → List Word → Option Fault
+place_fault end p long words =
+    if nat_lt MAX_STATEMENTS (after p words).index then Some TooManyInstructions
+    else (if is_full end p words then Some DataFull else (if nat_lt MAX_LINE_BYTES long then Some LineTooLong else None))
+
 -- the first of the faults that its statement does not decide
 abbrev pub layout_fault : ℕ → Position → ℕ → List Word → Option Fault
-layout_fault end p long words =
-    if has_dotted_label words then Some BadDirective
-    else (if nat_lt MAX_STATEMENTS (after p words).index then Some TooManyInstructions
-    else (if is_full end p words then Some DataFull
-    else (if nat_lt MAX_LINE_BYTES long then Some LineTooLong else None)))
+layout_fault end p long words = if has_dotted_label words then Some BadDirective else place_fault end p long words
 
 -- the lesser of the fault of a statement and of a label that is defined again, which comes behind the early faults and before all others
 abbrev pub with_repeat : Bool → Fault → Fault

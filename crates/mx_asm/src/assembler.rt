@@ -11,7 +11,7 @@ ghost use Rattle.mx_asm.specs.Printable.{ReadsPrinted};
 ghost use Rattle.mx_asm.specs.Texts.{ReadsAs, text_fault};
 ghost use Rattle.mx_lines.specs.Words.{texts};
 ghost use Rattle.mx_source.specs.Names.{named_labels, AreApart};
-ghost use Rattle.mx_source.specs.SourceValue.{IsSource, source_of};
+ghost use Rattle.mx_source.specs.SourceValue.{IsSource, plain_source};
 
 use crate::definitions::{Definitions, define_text};
 use crate::line::read_line;
@@ -160,7 +160,7 @@ pub fn assemble_at(alloc: Global, text: &[u8], user_data: u32, end: u32) -> Resu
 /// The source of a listing and its labels.
 pub fn listed_source(listing: Listing, labels: IndexMap<Name, Label>) -> Source
     requires { AreApart (named_labels labels.entries)
-        → IsSource (source_of listing.statements.items listing.lines.items listing.user_data.items (named_labels labels.entries)) }
+        → IsSource (plain_source listing.statements.items listing.lines.items listing.user_data.items (named_labels labels.entries)) }
     ensures { result ≡ record {
       statements = listing.statements.items;
       lines = listing.lines.items;

@@ -11,7 +11,7 @@ ghost use Rattle.mx_lines.specs.Words.{texts};
 
 use crate::front::{define_front, statement_words};
 use crate::position::Position;
-use mx_lines::{Labels, LineError, Word, read_words, split_line};
+use mx_lines::{Labels, LineError, Word, split_line, split_words};
 use std::alloc::{AllocError, Global};
 
 /// The labels of a text, and the first line that defines one again.
@@ -112,7 +112,7 @@ pub fn line_words(alloc: Global, line: &[u8]) -> Result<Vec<Word<'_>>, AllocErro
 fn words_or_none<'a>(words: &mut Vec<Word<'a>>, line: &'a [u8]) -> Result<(), AllocError>
     ensures { OnOk result (map word words.new.items ≡ Positions.line_words line.entry.now) }
 {
-    match read_words(words, line) {
+    match split_words(words, line) {
         Ok(()) => Ok(()),
         Err(LineError::Fault(_)) => {
             words.clear();

@@ -14,7 +14,7 @@ use crate::effect::{Effect, effect_of};
 use crate::front::{has_dotted_label, has_label, statement_words};
 use crate::position::{Position, Section};
 use mx_isa::MAX_STATEMENTS;
-use mx_lines::{Fault, Labels, LineError, MAX_LINE_BYTES, Word, read_words};
+use mx_lines::{Fault, Labels, LineError, MAX_LINE_BYTES, Word, split_words};
 use std::alloc::Global;
 
 /// What a line does, and where the next one stands.
@@ -63,7 +63,25 @@ fn layout_fault(
 {
     if has_dotted_label(words) {
         Some(Fault::BadDirective)
-    } else if next.index > MAX_STATEMENTS as u32 {
+    } else {
+        place_fault(end, position, next, long, words)
+    }
+}
+
+/// The last three faults of a line that stands at a position.
+pub fn place_fault(
+    end: u32,
+    position: &Position,
+    next: &Position,
+    long: usize,
+    words: &[Word],
+) -> Option<Fault>
+    requires { next.now ≡ Positions.after position.now (map word words.now) }
+    ensures fault { result ≡ Faults.place_fault end position.now long (map word words.now) }
+    ensures few { result ≡ None → next.now.index ≤ MAX_STATEMENTS }
+    ensures within { result ≡ None → next.now.address ≤ end }
+{
+    if next.index > MAX_STATEMENTS as u32 {
         Some(Fault::TooManyInstructions)
     } else if next.address > end || stands_past(end, position, words) {
         Some(Fault::DataFull)
@@ -75,7 +93,7 @@ fn layout_fault(
 }
 
 /// A data label of the line would stand past the end of memory.
-pub fn stands_past(end: u32, position: &Position, words: &[Word]) -> bool
+fn stands_past(end: u32, position: &Position, words: &[Word]) -> bool
     ensures { result ≡ Faults.stands_past end position.now (map word words.now) }
 {
     is_data(&position.section) && has_label(words) && position.address >= end
@@ -114,7 +132,7 @@ pub fn read_line<'a>(
     ensures fits { (count : ℕ) → LabelsFit count labels.now → IfOk result (λ r. EffectFits labels.now count (effect r.effect)) }
     ensures fault { IfErr result (IsFaultOf (Faults.words_fault labels.now end position.now repeated (length line.entry.now) (words_of line.entry.now))) }
 {
-    read_words(words, line)?;
+    split_words(words, line)?;
     let statement = statement_words(words);
     let effect = match effect_of(alloc, labels, position.section, statement) {
         Ok(effect) => effect,

@@ -1,3 +1,4 @@
+-- What a board holds.
 use Rattle.std.specs.Prelude.{◌≡◌, ◌≤◌, ℕ, List, length, slice_index, Option, Some, None}
 use Rattle.mx_isa.specs.declared.board.TheConstants.{DATA_END, CONSOLE}
 use Rattle.mx_io.specs.declared.limits.TheConstants.{MAX_FILE_BYTES}

@@ -8,6 +8,7 @@ use Rattle.std.proofs.lemmas.Bool.Decides.{nat_tests}
 use Rattle.std.proofs.lemmas.List.Concat.{flat_map-cons}
 use Rattle.std.proofs.lemmas.List.Elements.{All-nil, All-cons}
 use Rattle.std.proofs.lemmas.List.Sums.{sum_by-cons}
+use Rattle.mx_isa.specs.declared.board.TheConstants.{DATA_BASE}
 use Rattle.mx_source.specs.SourceValue.{SourceValue}
 use Rattle.mx_blocks.specs.declared.Block.{Block}
 use Rattle.mx_blocks.specs.Leaders.{AreBlocks, size}
@@ -32,7 +33,8 @@ use Rattle.cmd_answer.specs.Protocol.{Answers, resolved}
 use Rattle.cmd_answer.specs.Delivery.{Delivered}
 use Rattle.mx_io.specs.Shelves.{Told}
 use Rattle.cmd_table.specs.Commands.{Command}
-use Rattle.mx_command.specs.Protocols.{Layouts, measured, best_answer, protocol_of}
+use Rattle.cmd_source.specs.Protocols.{Layouts}
+use Rattle.mx_command.specs.Protocols.{measured, best_answer, protocol_of}
 use Rattle.mx_command.specs.Accepted.{Held}
 use Rattle.mx_command.specs.Measures.{Measured, IsMeasured, measured_line, measured_text, AcceptedBest, BestHeadline}
 use Rattle.mx_command.proofs.Headline.{read_is}
@@ -99,7 +101,7 @@ text_is source blocks =
 
 module _ (asked : Option Command) (held : Held) (a : AcceptedBest asked held) where
   abbrev source : SourceValue
-  source = source_of 256 a.text
+  source = source_of DATA_BASE a.text
 
   answer_is : (layout_of : Layouts) → resolved (protocol_of layout_of asked) held ≡ prints Done (lengths_text source (blocks_in (layout_of source)))
   answer_is layout_of =

@@ -3,6 +3,7 @@ use Rattle.std.proofs.Common.{◌≡◌, ℕ, ◌≤◌, List, length, false, Op
 use Rattle.std.specs.Prelude.{nat_lt, is_some}
 use Rattle.std.proofs.lemmas.Bool.{cond-false}
 use Rattle.std.proofs.lemmas.Bool.Decides.{nat_tests}
+use Rattle.mx_isa.specs.declared.board.TheConstants.{DATA_BASE}
 use Rattle.mx_board.specs.RequestFile.{requests_of}
 use Rattle.mx_source.specs.SourceValue.{SourceValue}
 use Rattle.mx_source.specs.Meaning as meant
@@ -30,7 +31,8 @@ use Rattle.law_end_to_end.specs.EndToEnd.{source_program}
 use Rattle.law_end_to_end.specs.Laws.{MeansItsSource}
 use Rattle.law_end_to_end.proofs.Accepted.{text_means}
 use Rattle.cmd_table.specs.Commands.{Command}
-use Rattle.mx_command.specs.Protocols.{unless_faulty, unless_overlong, Layouts, linked_protocol, run_protocol, protocol_of}
+use Rattle.cmd_source.specs.Protocols.{unless_faulty, unless_overlong, Layouts, linked_protocol}
+use Rattle.mx_command.specs.Protocols.{run_protocol, protocol_of}
 use Rattle.mx_command.specs.Accepted.{Held, Holds, AreRequests, IsInput, Accepted}
 use Rattle.mx_command.specs.Headline.{Headline}
 
@@ -66,7 +68,7 @@ given_is (Some line) bytes = refl
 
 module _ (asked : Option Command) (held : Held) (a : Accepted asked held) where
   abbrev source : SourceValue
-  source = source_of 256 a.text
+  source = source_of DATA_BASE a.text
 
   abbrev code_words : List ℕ
   code_words = linked_code from_target source board a.sites

@@ -2,6 +2,7 @@
 use Rattle.std.proofs.Common.{◌≡◌, ℕ, suc, ◌+◌, ◌≤◌, ◌++◌, List, [], ◌∷◌, length, Option, refl, sym, ap, ◌∙◌, subst, append_assoc, length-append, append-nil, arith}
 use Rattle.std.specs.Prelude.{All}
 use Rattle.std.proofs.lemmas.List.Elements.{All-nil, All-cons}
+use Rattle.mx_isa.specs.declared.board.TheConstants.{DATA_BASE}
 use Rattle.mx_source.specs.Printed.{printed}
 use Rattle.cmd_answer.specs.declared.FileKind.TheVariants.{Module}
 use Rattle.cmd_answer.specs.declared.Status.{Status}
@@ -16,9 +17,10 @@ use Rattle.law_modules.specs.JoinedTexts.{AreJoined}
 use Rattle.law_modules.proofs.Printable.{joined_reads}
 use Rattle.law_modules.proofs.Meant.{same_means}
 use Rattle.cmd_table.specs.Commands.{Command}
-use Rattle.mx_command.specs.Protocols.{Layouts, join_answer, printed_unless, modules_protocol, protocol_of}
+use Rattle.cmd_source.specs.Protocols.{Layouts}
+use Rattle.mx_command.specs.Protocols.{join_answer, printed_unless, modules_protocol, protocol_of}
 use Rattle.mx_command.specs.Accepted.{Held, Holds}
-use Rattle.mx_command.specs.Replied.{IsWithin}
+use Rattle.mx_command.specs.Within.{IsWithin}
 use Rattle.mx_command.specs.Joins.{HoldModules, AcceptedModules, WhereShort, JoinHeadline}
 use Rattle.mx_command.proofs.Headline.{read_is}
 
@@ -74,7 +76,7 @@ module _ (asked : Option Command) (held : Held) (a : AcceptedModules asked held)
     status = d.status;
     output = d.output;
     reads_back = λ short. joined_reads a.texts (are_joined short);
-    means = λ short place bytes n. same_means (joined a.texts) (source_of 256 (printed (joined a.texts)))
+    means = λ short place bytes n. same_means (joined a.texts) (source_of DATA_BASE (printed (joined a.texts)))
         (joined_reads a.texts (are_joined short)).same place bytes n;
   }
 

@@ -1,6 +1,7 @@
 -- Each command answers with a status of its own, and only an answer that is done writes a file.
 use Rattle.std.proofs.Common.{◌≡◌, ℕ, ◌++◌, List, [], ◌∷◌, Bool, true, false, cond, Option, Some, None, Result, Ok, Err, inl, inr, refl, sym, ap, ◌∙◌, subst}
 use Rattle.std.specs.Prelude.{is_some}
+use Rattle.mx_isa.specs.declared.board.TheConstants.{DATA_BASE, DATA_END}
 use Rattle.mx_board.specs.declared.EventError.{EventError}
 use Rattle.mx_board.specs.RequestFile.{requests_of}
 use Rattle.mx_image.specs.declared.ImageError.{ImageError}
@@ -31,13 +32,14 @@ use Rattle.mx_isa.specs.Board.{board}
 use Rattle.cmd_meaning.specs.Told.{status_of, meaning_answer}
 use Rattle.mx_module.specs.LinkFaults.{Refusal}
 use Rattle.mx_module.specs.Joined.{joined, join_fault}
-use Rattle.cmd_simulate.specs.declared.Limits.{Limits}
+use Rattle.cmd_options.specs.declared.Limits.{Limits}
 use Rattle.cmd_simulate.specs.Simulated.{program_answer}
-use Rattle.cmd_simulate.specs.Machines.{Files, if_asked, by_requests, requests_protocol, input_protocol, machine_protocol}
+use Rattle.cmd_options.specs.Options.{Files}
+use Rattle.cmd_simulate.specs.Machines.{if_asked, by_requests, requests_protocol, input_protocol, machine_protocol}
 use Rattle.mx_debug.specs.declared.Ending.{Ending}
 use Rattle.mx_debug.specs.declared.Ending.TheVariants as ending
 use Rattle.mx_debug.specs.Sessions.{Session, session}
-use Rattle.cmd_debug.specs.declared.SessionLimits.{SessionLimits}
+use Rattle.cmd_options.specs.declared.SessionLimits.{SessionLimits}
 use Rattle.cmd_debug.specs.Sessions.{session_answer, session_protocol}
 use Rattle.cmd_debug.specs.Sessions as sessions
 use Rattle.mx_tasks.specs.Places.{lower, upper}
@@ -46,8 +48,9 @@ use Rattle.cmd_share.specs.Runs.{shared_answer, sharing_protocol}
 use Rattle.cmd_table.specs.declared.Command.{Command as GivenCommand}
 use Rattle.cmd_table.specs.Seen.{seen_command}
 use Rattle.cmd_table.specs.Commands.{Command, Run, Meaning, Build, Exec, Listing, Gen, Soak, Migrate, Share, Debug, Best, Join}
-use Rattle.mx_command.specs.Protocols.{unless_faulty, unless_overlong, unless_refused, migrated, Layouts, AfterLayout, linked_protocol, run_protocol, build_protocol, linked_contents, list_protocol, unless_wrong, wrong_with, unless_far, upper_layout, pair_code, pair_data, pair_protocol, assembled_protocol, statement_named, unless_unlabelled, labelled_protocol, protocol_of, measured, printed_unless, modules_protocol}
-use Rattle.mx_command.specs.Replied.{is_answered, IsReplied}
+use Rattle.cmd_source.specs.Protocols.{unless_faulty, unless_overlong, Layouts, AfterLayout, linked_protocol}
+use Rattle.mx_command.specs.Protocols.{unless_refused, migrated, run_protocol, build_protocol, linked_contents, list_protocol, unless_wrong, wrong_with, unless_far, upper_layout, pair_code, pair_data, pair_protocol, assembled_protocol, statement_named, unless_unlabelled, labelled_protocol, protocol_of, measured, printed_unless, modules_protocol}
+use Rattle.cmd_source.specs.Replied.{is_answered, IsReplied}
 
 -- the answer to what was asked
 pub record IsAnswer (answer : Answer) : Type 0 where
@@ -115,7 +118,7 @@ answers_overlong None next has = has
 answers_linked :
     (layout_of : Layouts) (next : AfterLayout) → ((source : SourceValue) → HasAnswers (next source (layout_of source))) → (text : List ℕ)
     → HasAnswers (linked_protocol layout_of next text)
-answers_linked layout_of next has text = answers_faulty (text_fault 256 65536 text) _ (answers_overlong _ _ (has (source_of 256 text)))
+answers_linked layout_of next has text = answers_faulty (text_fault DATA_BASE DATA_END text) _ (answers_overlong _ _ (has (source_of DATA_BASE text)))
 
 answers_refused : (refusal : Option ImageError) (next : Protocol) → HasAnswers next → HasAnswers (unless_refused refusal next)
 answers_refused (Some error) next has = printed_answer _ _ refl
@@ -202,13 +205,15 @@ has_answers layout_of (Run source files limits) =
     answers_linked layout_of (run_protocol files limits)
     (λ read. answers_machine files limits (linked_code from_target read board (layout_of read)) (linked_data read board (layout_of read)) (is_some read.input))
 has_answers layout_of (Meaning source steps input) =
-    λ text. answers_faulty (text_fault 256 65536 text) _ (answers_input input _ (λ bytes. answers_meaning (source_of 256 text) board bytes steps))
+    λ text. answers_faulty (text_fault DATA_BASE DATA_END text) _
+    (answers_input input _ (λ bytes. answers_meaning (source_of DATA_BASE text) board bytes steps))
 has_answers layout_of (Build source target) =
     answers_linked layout_of (build_protocol target) (λ read. written_answer target (file_bytes (linked_contents read (layout_of read))))
 has_answers layout_of (Exec image files limits) =
     λ bytes. answers_refused (file_refusal bytes) _ (answers_machine files limits (file_in bytes).code (file_in bytes).user_data (file_in bytes).input)
 has_answers layout_of (Listing source) = answers_linked layout_of list_protocol (λ read. printed_answer Done (layout_listing read board (layout_of read)) refl)
-has_answers layout_of (Best source) = λ text. answers_measured (source_of 256 text) (layout_of (source_of 256 text)) (text_fault 256 65536 text)
+has_answers layout_of (Best source) =
+    λ text. answers_measured (source_of DATA_BASE text) (layout_of (source_of DATA_BASE text)) (text_fault DATA_BASE DATA_END text)
 has_answers layout_of (Gen seed count) = printed_answer _ _ refl
 has_answers layout_of (Soak seed count) = printed_answer _ _ refl
 has_answers layout_of (Migrate image target) = λ bytes. answers_migrated target bytes (file_refusal bytes)
@@ -216,7 +221,7 @@ has_answers layout_of (Share first second interrupts budget) =
     answers_assembled 1 lower (λ one. Reads Second second (assembled_protocol 2 upper (pair_protocol layout_of interrupts budget one)))
     (λ one. answers_assembled 2 upper (pair_protocol layout_of interrupts budget one) (answers_pair layout_of interrupts budget one))
 has_answers layout_of (Debug source label files limits) =
-    λ text. answers_faulty (text_fault 256 65536 text) _ (answers_labelled layout_of label files limits (source_of 256 text))
+    λ text. answers_faulty (text_fault DATA_BASE DATA_END text) _ (answers_labelled layout_of label files limits (source_of DATA_BASE text))
 has_answers layout_of (Join names) = answers_modules names []
 
 own_status : (status : Status) → is_answered status ≡ true → is_own status ≡ true

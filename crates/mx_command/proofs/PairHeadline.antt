@@ -23,7 +23,8 @@ use Rattle.cmd_share.specs.Runs.{shared_answer, sharing_protocol}
 use Rattle.law_tasks.specs.Sources.{IsSharingText}
 use Rattle.law_tasks.proofs.Texts.{texts_mean}
 use Rattle.cmd_table.specs.Commands.{Command}
-use Rattle.mx_command.specs.Protocols.{Layouts, wrong_by, wrong_with, unless_wrong, unless_far, assembled_protocol, pair_protocol, protocol_of}
+use Rattle.cmd_source.specs.Protocols.{Layouts}
+use Rattle.mx_command.specs.Protocols.{wrong_by, wrong_with, unless_wrong, unless_far, assembled_protocol, pair_protocol, protocol_of}
 use Rattle.mx_command.specs.Accepted.{Held}
 use Rattle.mx_command.specs.Pairs.{AcceptedPair, pair_program, PairHeadline}
 use Rattle.mx_command.proofs.Headline.{read_is, requests_are}

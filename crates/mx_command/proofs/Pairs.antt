@@ -30,7 +30,9 @@ use Rattle.mx_tasks.specs.declared.sharing.Shared.{Shared}
 use Rattle.mx_tasks.specs.declared.sharing.ShareError.TheVariants as share
 use Rattle.mx_tasks.specs.Shared.{IsPlaced, IsShared, IsShareRefusal}
 use Rattle.cmd_share.specs.Runs.{sharing_protocol}
-use Rattle.mx_command.specs.Protocols.{Layouts, of_program, overlong_text, wrong_by, wrong_with, unless_wrong, assembled_protocol, unless_far, moved, upper_layout, pair_code, pair_data, pair_protocol}
+use Rattle.cmd_source.specs.Refusals.{overlong_text}
+use Rattle.cmd_source.specs.Protocols.{Layouts}
+use Rattle.mx_command.specs.Protocols.{of_program, wrong_by, wrong_with, unless_wrong, assembled_protocol, unless_far, moved, upper_layout, pair_code, pair_data, pair_protocol}
 use Rattle.mx_command.specs.Sharing.{IsFitting}
 
 abbrev Greedy : Site → Type 0

@@ -1,6 +1,7 @@
 -- Every command but `build` and `migrate` only prints.
 use Rattle.std.proofs.Common.{◌≡◌, ℕ, ◌++◌, List, [], ◌∷◌, Bool, false, Option, Some, None, Result, Ok, Err, refl}
 use Rattle.std.specs.Prelude.{is_some}
+use Rattle.mx_isa.specs.declared.board.TheConstants.{DATA_BASE, DATA_END}
 use Rattle.mx_board.specs.declared.EventError.{EventError}
 use Rattle.mx_board.specs.RequestFile.{requests_of}
 use Rattle.mx_image.specs.declared.ImageError.{ImageError}
@@ -27,17 +28,19 @@ use Rattle.law_schedule.proofs.Scheduler.{scheduler}
 use Rattle.law_schedule.specs.Schedule.{IsScheduler}
 use Rattle.mx_module.specs.LinkFaults.{Refusal}
 use Rattle.mx_module.specs.Joined.{joined, join_fault}
-use Rattle.cmd_simulate.specs.declared.Limits.{Limits}
+use Rattle.cmd_options.specs.declared.Limits.{Limits}
 use Rattle.cmd_simulate.specs.Simulated.{program_answer}
-use Rattle.cmd_simulate.specs.Machines.{Files, if_asked, by_requests, requests_protocol, input_protocol, machine_protocol}
+use Rattle.cmd_options.specs.Options.{Files}
+use Rattle.cmd_simulate.specs.Machines.{if_asked, by_requests, requests_protocol, input_protocol, machine_protocol}
 use Rattle.mx_debug.specs.Sessions.{Session, session}
-use Rattle.cmd_debug.specs.declared.SessionLimits.{SessionLimits}
+use Rattle.cmd_options.specs.declared.SessionLimits.{SessionLimits}
 use Rattle.cmd_debug.specs.Sessions.{session_answer, session_protocol}
 use Rattle.mx_tasks.specs.Places.{lower, upper}
 use Rattle.mx_tasks.specs.Sharing.{shared}
 use Rattle.cmd_share.specs.Runs.{shared_answer}
 use Rattle.cmd_table.specs.Commands.{Command, Run, Meaning, Build, Exec, Listing, Gen, Soak, Migrate, Share, Debug, Best, Join}
-use Rattle.mx_command.specs.Protocols.{unless_faulty, unless_overlong, unless_refused, unless_wrong, wrong_with, unless_far, upper_layout, pair_code, pair_data, pair_protocol, assembled_protocol, statement_named, unless_unlabelled, labelled_protocol, Layouts, AfterLayout, linked_protocol, run_protocol, list_protocol, protocol_of, measured, printed_unless, modules_protocol}
+use Rattle.cmd_source.specs.Protocols.{unless_faulty, unless_overlong, Layouts, AfterLayout, linked_protocol}
+use Rattle.mx_command.specs.Protocols.{unless_refused, unless_wrong, wrong_with, unless_far, upper_layout, pair_code, pair_data, pair_protocol, assembled_protocol, statement_named, unless_unlabelled, labelled_protocol, run_protocol, list_protocol, protocol_of, measured, printed_unless, modules_protocol}
 use Rattle.mx_command.specs.Writing.{writes_a_file}
 
 program_prints : (p : Program) (code requests : List ℕ) (limits : Limits) → (program_answer p code requests limits).file ≡ None
@@ -81,7 +84,7 @@ overlong_prints None next prints = prints
 linked_prints :
     (layout_of : Layouts) (next : AfterLayout) → ((source : SourceValue) → OnlyPrints (next source (layout_of source))) → (text : List ℕ)
     → OnlyPrints (linked_protocol layout_of next text)
-linked_prints layout_of next prints text = faulty_prints (text_fault 256 65536 text) _ (overlong_prints _ _ (prints (source_of 256 text)))
+linked_prints layout_of next prints text = faulty_prints (text_fault DATA_BASE DATA_END text) _ (overlong_prints _ _ (prints (source_of DATA_BASE text)))
 
 refused_prints : (refusal : Option ImageError) (next : Protocol) → OnlyPrints next → OnlyPrints (unless_refused refusal next)
 refused_prints (Some error) next prints = refl
@@ -154,12 +157,13 @@ command_prints layout_of (Run source files limits) only =
     linked_prints layout_of (run_protocol files limits)
     (λ read. machine_prints files limits (linked_code from_target read board (layout_of read)) (linked_data read board (layout_of read)) (is_some read.input))
 command_prints layout_of (Meaning source steps input) only =
-    λ text. faulty_prints (text_fault 256 65536 text) _ (input_prints input _ (λ bytes. meaning_prints (source_of 256 text) board bytes steps))
+    λ text. faulty_prints (text_fault DATA_BASE DATA_END text) _ (input_prints input _ (λ bytes. meaning_prints (source_of DATA_BASE text) board bytes steps))
 command_prints layout_of (Build source target) only = absurd (cc)
 command_prints layout_of (Exec image files limits) only =
     λ bytes. refused_prints (file_refusal bytes) _ (machine_prints files limits (file_in bytes).code (file_in bytes).user_data (file_in bytes).input)
 command_prints layout_of (Listing source) only = linked_prints layout_of list_protocol (λ read. refl)
-command_prints layout_of (Best source) only = λ text. measured_prints (source_of 256 text) (layout_of (source_of 256 text)) (text_fault 256 65536 text)
+command_prints layout_of (Best source) only =
+    λ text. measured_prints (source_of DATA_BASE text) (layout_of (source_of DATA_BASE text)) (text_fault DATA_BASE DATA_END text)
 command_prints layout_of (Gen seed count) only = refl
 command_prints layout_of (Soak seed count) only = refl
 command_prints layout_of (Migrate image target) only = absurd (cc)
@@ -167,7 +171,7 @@ command_prints layout_of (Share first second interrupts budget) only =
     assembled_prints 1 lower (λ one. Reads Second second (assembled_protocol 2 upper (pair_protocol layout_of interrupts budget one)))
     (λ one. assembled_prints 2 upper (pair_protocol layout_of interrupts budget one) (pair_prints layout_of interrupts budget one))
 command_prints layout_of (Debug source label files limits) only =
-    λ text. faulty_prints (text_fault 256 65536 text) _ (labelled_prints layout_of label files limits (source_of 256 text))
+    λ text. faulty_prints (text_fault DATA_BASE DATA_END text) _ (labelled_prints layout_of label files limits (source_of DATA_BASE text))
 command_prints layout_of (Join names) only = modules_print names []
 
 only_prints : (layout_of : Layouts) (asked : Option Command) → writes_a_file asked ≡ false → OnlyPrints (protocol_of layout_of asked)

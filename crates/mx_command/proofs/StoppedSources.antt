@@ -12,13 +12,15 @@ use Rattle.mx_reorg.specs.Greedy.{IsGreedy}
 use Rattle.cmd_answer.specs.declared.Status.TheVariants.{Refused}
 use Rattle.cmd_answer.specs.Answer.{prints}
 use Rattle.cmd_answer.specs.Protocol.{Protocol, Answers}
-use Rattle.cmd_simulate.specs.Machines.{Files}
-use Rattle.cmd_debug.specs.declared.SessionLimits.{SessionLimits}
+use Rattle.cmd_options.specs.Options.{Files}
+use Rattle.cmd_options.specs.declared.SessionLimits.{SessionLimits}
 use Rattle.cmd_debug.specs.Sessions.{session_protocol}
 use Rattle.mx_isa.specs.Board.{board}
 use Rattle.law_schedule.specs.Schedule.{IsScheduler}
 use Rattle.law_schedule.proofs.Kept.{linked_sites, overlong_sites}
-use Rattle.mx_command.specs.Protocols.{overlong_line, unless_unlabelled, unless_overlong, no_label_line, statement_named, Layouts, stopped_protocol, labelled_protocol}
+use Rattle.cmd_source.specs.Refusals.{overlong_line}
+use Rattle.cmd_source.specs.Protocols.{unless_overlong, Layouts}
+use Rattle.mx_command.specs.Protocols.{unless_unlabelled, no_label_line, statement_named, stopped_protocol, labelled_protocol}
 
 module _ (layout_of : Layouts) (is : IsScheduler layout_of) (source : SourceValue) (label : List ℕ) (files : Files) (limits : SessionLimits) where
   abbrev after : ℕ → Protocol

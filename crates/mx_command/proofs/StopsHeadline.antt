@@ -4,6 +4,7 @@ use Rattle.std.specs.Prelude.{eqb, ltb, slice_get, option_and_then}
 use Rattle.std.specs.Str.{bytes_eq}
 use Rattle.std.proofs.lemmas.Bool.{cases_Bool, cond-true, cond-false}
 use Rattle.std.proofs.lemmas.Bool.Decides.{nat_tests}
+use Rattle.mx_isa.specs.declared.board.TheConstants.{DATA_BASE}
 use Rattle.mx_isa.specs.UserBus.{is_user}
 use Rattle.mx_source.specs.declared.Label.{Label}
 use Rattle.mx_source.specs.declared.Label.TheVariants.{Code, Data}
@@ -26,7 +27,8 @@ use Rattle.law_end_to_end.proofs.Accepted.{text_laid}
 use Rattle.mx_debug.specs.Sessions.{session}
 use Rattle.law_debug.specs.Laws.{StopsAsMeant}
 use Rattle.law_debug.proofs.Whole.{as_meant}
-use Rattle.cmd_debug.specs.Sessions.{session_answer, IsAsked}
+use Rattle.cmd_options.specs.Options.{IsAsked}
+use Rattle.cmd_debug.specs.Sessions.{session_answer}
 use Rattle.cmd_answer.specs.declared.FileKind.TheVariants.{Source}
 use Rattle.cmd_answer.specs.declared.Status.{Status}
 use Rattle.cmd_answer.specs.Answer.{Answer}
@@ -35,9 +37,10 @@ use Rattle.mx_io.specs.Shelves.{Told}
 use Rattle.cmd_answer.specs.Delivery.{Delivered}
 use Rattle.law_schedule.specs.Schedule.{IsScheduler}
 use Rattle.cmd_table.specs.Commands.{Command}
-use Rattle.mx_command.specs.Protocols.{Layouts, unless_faulty, unless_overlong, unless_unlabelled, statement_at, stopped_protocol, labelled_protocol, debug_protocol, protocol_of}
+use Rattle.cmd_source.specs.Protocols.{Layouts, unless_faulty, unless_overlong}
+use Rattle.mx_command.specs.Protocols.{unless_unlabelled, statement_at, stopped_protocol, labelled_protocol, debug_protocol, protocol_of}
 use Rattle.mx_command.specs.Accepted.{Held}
-use Rattle.mx_command.specs.Replied.{IsWithin}
+use Rattle.mx_command.specs.Within.{IsWithin}
 use Rattle.mx_command.specs.Stops.{AcceptedStops, accepted_stops, accepted_session, StopsHeadline}
 use Rattle.mx_command.proofs.Headline.{read_is, requests_are, input_is, given_is}
 
@@ -94,7 +97,7 @@ module _ (asked : Option Command) (held : Held) (a : AcceptedStops asked held) (
   ranges = subst IsWithin a.asks within
 
   abbrev source : SourceValue
-  source = source_of 256 a.text
+  source = source_of DATA_BASE a.text
 
   abbrev code_words : List ℕ
   code_words = linked_code from_nowhere source board a.sites

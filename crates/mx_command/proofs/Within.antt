@@ -4,7 +4,7 @@ use Rattle.std.proofs.lemmas.List.{length-map}
 use Rattle.cmd_table.specs.declared.command.Command.{Command}
 use Rattle.cmd_table.specs.declared.command.Command.TheVariants.{Run, Meaning, Build, Exec, Listing, Best, Gen, Soak, Migrate, Share, Debug, Join}
 use Rattle.cmd_table.specs.Seen.{seen_command, IsAllowed}
-use Rattle.mx_command.specs.Replied.{IsWithin}
+use Rattle.mx_command.specs.Within.{IsWithin}
 
 pub within_of : (asked : Command) → IsAllowed asked → IsWithin (Some (seen_command asked))
 within_of (Run source files limits) allowed = tt

@@ -1,5 +1,6 @@
 -- The run of a source that is accepted.
 use Rattle.std.specs.Prelude.{◌≡◌, ℕ, ◌≤◌, List, [], length, Option, Some, None, Ok}
+use Rattle.mx_isa.specs.declared.board.TheConstants.{DATA_BASE, DATA_END}
 use Rattle.mx_board.specs.RequestFile.{requests_of}
 use Rattle.mx_squash.specs.Copies.{Site}
 use Rattle.mx_layout.specs.Layout.{IsLayout, blocks_in}
@@ -8,8 +9,8 @@ use Rattle.mx_reorg.specs.Greedy.{IsGreedy}
 use Rattle.cmd_answer.specs.declared.FileKind.{FileKind}
 use Rattle.cmd_answer.specs.declared.FileKind.TheVariants.{Source, Interrupts, Input}
 use Rattle.cmd_answer.specs.Files.{limit_of}
-use Rattle.cmd_simulate.specs.declared.Limits.{Limits}
-use Rattle.cmd_simulate.specs.Machines.{Files}
+use Rattle.cmd_options.specs.declared.Limits.{Limits}
+use Rattle.cmd_options.specs.Options.{Files}
 use Rattle.mx_asm.specs.Texts.{source_of, text_fault}
 use Rattle.mx_isa.specs.Board.{board}
 use Rattle.cmd_table.specs.Commands.{Command, Run}
@@ -42,10 +43,10 @@ pub record Accepted (asked : Option Command) (held : Held) : Type 0 where
   pub asks : asked ≡ Some (Run name files limits)
   pub text : List ℕ
   pub is_text : Holds held Source name text
-  pub faultless : text_fault 256 65536 text ≡ None
+  pub faultless : text_fault DATA_BASE DATA_END text ≡ None
   pub sites : List Site
-  pub layout : IsLayout IsGreedy (source_of 256 text) board sites
-  pub reach : overlong (source_of 256 text) board (blocks_in sites) ≡ None
+  pub layout : IsLayout IsGreedy (source_of DATA_BASE text) board sites
+  pub reach : overlong (source_of DATA_BASE text) board (blocks_in sites) ≡ None
   pub requests : List ℕ
   pub are_requests : AreRequests held files.interrupts requests
   pub input : List ℕ

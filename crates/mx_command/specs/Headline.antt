@@ -1,15 +1,16 @@
 -- The headline: what `run` promises of a source that is accepted, whatever interrupts come.
 use Rattle.std.specs.Prelude.{◌≡◌, ◌++◌, ◌≢◌, ℕ, ◌+◌, ◌≤◌, cond, min, true, List, length, Option}
+use Rattle.mx_isa.specs.declared.board.TheConstants.{DATA_BASE}
 use Rattle.mx_io.specs.Counts.{Rose}
 use Rattle.mx_io.specs.Shelves.{Counts}
 use Rattle.mx_source.specs.SourceValue.{SourceValue}
 use Rattle.mx_source.specs.Meaning.{Run, meaning, HaltsIn}
-use Rattle.law_order.specs.Laws.{IsPrefix}
+use Rattle.mx_delay.specs.Prefixes.{IsPrefix}
 use Rattle.mx_link.specs.Origins.{from_target}
 use Rattle.mx_link.specs.Linked.{linked_code}
 use Rattle.mx_turn.specs.Run.{MachineRun, bound}
 use Rattle.mx_report.specs.Driving.{trace_text}
-use Rattle.cmd_simulate.specs.Simulated.{run_text}
+use Rattle.cmd_simulate.specs.Simulated.{dump_of, run_text}
 use Rattle.cmd_answer.specs.declared.Status.{Status}
 use Rattle.cmd_answer.specs.declared.Status.TheVariants.{Halted, OutOfBudget, ReadFault, WriteFault}
 use Rattle.mx_asm.specs.Texts.{source_of}
@@ -32,7 +33,7 @@ pub record IsNoFault (result : Status) : Type 0 where
 
 module _ (asked : Option Command) (held : Held) (a : Accepted asked held) where
   abbrev pub accepted_source : SourceValue
-  accepted_source = source_of 256 a.text
+  accepted_source = source_of DATA_BASE a.text
 
   -- what its linked code does on the pipelined machine
   abbrev pub accepted_run : MachineRun
@@ -42,7 +43,7 @@ module _ (asked : Option Command) (held : Held) (a : Accepted asked held) where
   abbrev pub accepted_text : List ℕ
   accepted_text =
       let trace = trace_text (source_program accepted_source a.sites a.input) a.requests (min a.limits.trace a.limits.budget) in
-      run_text accepted_run trace (linked_code from_target accepted_source board a.sites) a.limits.dump
+      run_text accepted_run trace (linked_code from_target accepted_source board a.sites) (dump_of a.limits)
 
   -- what the source means, executed one statement after the other
   abbrev pub meant : ℕ → Run

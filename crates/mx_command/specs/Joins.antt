@@ -1,5 +1,6 @@
 -- `join` of modules without faults, and what it promises.
 use Rattle.std.specs.Prelude.{◌≡◌, ◌++◌, ℕ, ◌+◌, ◌≤◌, List, [], ◌∷◌, length, All, Option, Some, None}
+use Rattle.mx_isa.specs.declared.board.TheConstants.{DATA_BASE}
 use Rattle.mx_isa.specs.declared.Place.{Place}
 use Rattle.mx_source.specs.declared.Label.{Label}
 use Rattle.mx_source.specs.Printed.{printed}
@@ -40,4 +41,4 @@ module _ (asked : Option Command) (held : Held) (a : AcceptedModules asked held)
     pub reads_back : WhereShort (ReadsBack (joined a.texts))
     -- so it means what the modules mean together, at any place, with any input and after any number of steps
     pub means : WhereShort ((place : Place) (bytes : List ℕ) (n : ℕ)
-        → meaning (source_of 256 (printed (joined a.texts))) place bytes n ≡ meaning (joined a.texts) place bytes n)
+        → meaning (source_of DATA_BASE (printed (joined a.texts))) place bytes n ≡ meaning (joined a.texts) place bytes n)

@@ -8,7 +8,8 @@ use Rattle.mx_isa.specs.Board.{board}
 use Rattle.cmd_answer.specs.Protocol.{Protocol}
 use Rattle.law_schedule.proofs.Scheduler.{scheduler}
 use Rattle.cmd_table.specs.Commands.{Command}
-use Rattle.mx_command.specs.Protocols.{Layouts, protocol_of}
+use Rattle.cmd_source.specs.Protocols.{Layouts}
+use Rattle.mx_command.specs.Protocols.{protocol_of}
 
 -- the layout of each source by greedy plans at the board's place (`greedy_layout_is`)
 unfoldable pub greedy_layout : Layouts

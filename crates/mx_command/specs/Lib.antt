@@ -1,5 +1,5 @@
 pub mod Protocols
-pub mod Replied
+pub mod Within
 pub mod Accepted
 pub mod Headline
 pub mod Writing

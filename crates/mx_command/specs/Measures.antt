@@ -2,6 +2,7 @@
 use Rattle.std.specs.Prelude.{◌≡◌, ◌++◌, ℕ, ◌≤◌, ◌<◌, List, length, codes, slice_index, map, All, Option, Some, None}
 use Rattle.std.specs.Option.{unwrap_or}
 use Rattle.std.specs.List.{flat_map, sum_by}
+use Rattle.mx_isa.specs.declared.board.TheConstants.{DATA_BASE, DATA_END}
 use Rattle.mx_source.specs.SourceValue.{SourceValue}
 use Rattle.mx_blocks.specs.declared.Block.{Block}
 use Rattle.mx_blocks.specs.declared.Plan.{Plan}
@@ -52,11 +53,11 @@ pub record AcceptedBest (asked : Option Command) (held : Held) : Type 0 where
   pub asks : asked ≡ Some (Best name)
   pub text : List ℕ
   pub is_text : Holds held Source name text
-  pub faultless : text_fault 256 65536 text ≡ None
+  pub faultless : text_fault DATA_BASE DATA_END text ≡ None
 
 module _ (asked : Option Command) (held : Held) (a : AcceptedBest asked held) where
   abbrev pub best_source : SourceValue
-  best_source = source_of 256 a.text
+  best_source = source_of DATA_BASE a.text
 
   -- the blocks of the source are measured, in order, and exactly what was measured is put out
   pub record BestHeadline (result : Status) (before after : List ℕ) : Type 0 where

@@ -1,6 +1,7 @@
 -- What each command reads and answers, in the order in which it is refused.
 use Rattle.std.specs.Prelude.{ℕ, ◌+◌, ◌++◌, [], ◌∷◌, codes, List, map, cond, ltb, length, slice_get, Option, Some, None, is_some, option_and_then, ℤ, pos, ◌-ℤ◌}
-use Rattle.std.specs.Fmt.{decimal, signed_decimal}
+use Rattle.std.specs.Fmt.{decimal}
+use Rattle.mx_isa.specs.declared.board.TheConstants.{DATA_BASE, DATA_END}
 use Rattle.mx_isa.specs.declared.Place.{Place}
 use Rattle.mx_source.specs.declared.Label.{Label}
 use Rattle.mx_source.specs.declared.Label.TheVariants.{Code, Data}
@@ -23,10 +24,10 @@ use Rattle.cmd_answer.specs.declared.FileKind.TheVariants.{Source, First, Second
 use Rattle.cmd_answer.specs.declared.Status.TheVariants.{Done, Refused, BadImage}
 use Rattle.cmd_answer.specs.Answer.{Answer, prints, writes, text_line, usage}
 use Rattle.cmd_answer.specs.Protocol.{Protocol, Answers, Reads}
-use Rattle.cmd_simulate.specs.declared.Limits.{Limits}
-use Rattle.cmd_simulate.specs.Machines.{Files, input_protocol, machine_protocol}
+use Rattle.cmd_options.specs.declared.Limits.{Limits}
+use Rattle.cmd_options.specs.Options.{Files}
+use Rattle.cmd_simulate.specs.Machines.{input_protocol, machine_protocol}
 use Rattle.mx_lines.specs.declared.Fault.{Fault}
-use Rattle.mx_lines.specs.declared.Fault.TheVariants as fault
 use Rattle.mx_lines.specs.Operands.{label_named}
 use Rattle.mx_asm.specs.Texts.{source_of, text_fault}
 use Rattle.mx_module.specs.declared.JoinFault.{JoinFault}
@@ -35,76 +36,20 @@ use Rattle.mx_module.specs.LinkFaults.{Refusal}
 use Rattle.mx_module.specs.Joined.{joined, join_fault}
 use Rattle.mx_isa.specs.Board.{board}
 use Rattle.cmd_meaning.specs.Told.{meaning_answer}
-use Rattle.cmd_debug.specs.declared.SessionLimits.{SessionLimits}
+use Rattle.cmd_options.specs.declared.SessionLimits.{SessionLimits}
 use Rattle.cmd_debug.specs.Sessions.{session_protocol}
 use Rattle.mx_tasks.specs.Places.{lower, upper}
 use Rattle.mx_tasks.specs.Images.{shared_code, shared_data}
 use Rattle.cmd_share.specs.Runs.{sharing_protocol}
+use Rattle.mx_lines.specs.FaultTexts.{fault_text}
+use Rattle.cmd_source.specs.Refusals.{fault_line, overlong_text}
+use Rattle.cmd_source.specs.Protocols.{unless_faulty, unless_overlong, Layouts, AfterLayout, linked_protocol}
 use Rattle.cmd_table.specs.Commands.{Command, Run, Meaning, Build, Exec, Listing, Gen, Soak, Migrate, Share, Debug, Best, Join}
-
-abbrev pub fault_text : Fault → List ℕ
-fault_text fault.BadByte = codes "F1 BadByte"
-fault_text fault.BadToken = codes "F2 BadToken"
-fault_text fault.UnknownMnemonic = codes "F3 UnknownMnemonic"
-fault_text fault.BadOperands = codes "F4 BadOperands"
-fault_text fault.BadRegister = codes "F5 BadRegister"
-fault_text fault.NumberOutOfRange = codes "F6 NumberOutOfRange"
-fault_text fault.DuplicateLabel = codes "F7 DuplicateLabel"
-fault_text fault.UndefinedLabel = codes "F8 UndefinedLabel"
-fault_text fault.WrongLabelKind = codes "F9 WrongLabelKind"
-fault_text fault.SystemInstruction = codes "F10 SystemInstruction"
-fault_text fault.BadDirective = codes "F11 BadDirective"
-fault_text fault.TooManyInstructions = codes "F12 TooManyInstructions"
-fault_text fault.DataFull = codes "F13 DataFull"
-fault_text fault.LineTooLong = codes "F14 LineTooLong"
-
--- the line of a faulty source
-abbrev pub fault_line : ℕ → Fault → List ℕ
-fault_line line f = text_line (codes "line " ++ decimal line ++ codes ": " ++ fault_text f)
-
--- a source's text: refused by its first fault, or what follows
-abbrev pub unless_faulty : Option (ℕ × Fault) → Protocol → Protocol
-unless_faulty (Some found) next = Answers (prints Refused (fault_line found.0 found.1))
-unless_faulty None next = next
 
 -- the meaning of a text after some steps, with the input of a file
 abbrev pub meaning_protocol : ℕ → Option (List ℕ) → List ℕ → Protocol
 meaning_protocol steps input text =
-    unless_faulty (text_fault 256 65536 text) (input_protocol input (λ bytes. Answers (meaning_answer (source_of 256 text) board bytes steps)))
-
-abbrev pub displacement_text : ℕ → ℤ → List ℕ
-displacement_text line displacement = codes "line " ++ decimal line ++ codes ": displacement " ++ signed_decimal displacement
-
-abbrev pub span_text : ℕ → ℕ → List ℕ
-span_text from to = codes " from " ++ decimal from ++ codes " to " ++ decimal to
-
--- a branch at one address, on this line, and its displacement to another
-abbrev pub overlong_text : ℕ → ℤ → ℕ → ℕ → List ℕ
-overlong_text line displacement from to = displacement_text line displacement ++ span_text from to
-
--- the line of a branch that does not reach its target; the displacement is one address minus the other
-abbrev pub overlong_line : ℕ → ℕ → ℕ → List ℕ
-overlong_line line from to = text_line (overlong_text line (pos to -ℤ pos from) from to)
-
--- a source: refused by its first branch that does not reach its target, or what follows
-abbrev pub unless_overlong : Option Overlong → Protocol → Protocol
-unless_overlong (Some found) next = Answers (prints Refused (overlong_line found.line found.from found.to))
-unless_overlong None next = next
-
--- which layout each source has
-abbrev pub Layouts : Type 0
-Layouts = SourceValue → List Site
-
--- what follows a source and its layout
-abbrev pub AfterLayout : Type 0
-AfterLayout = SourceValue → List Site → Protocol
-
--- a text, which is assembled and linked: refused by its first fault, then by a displacement, or what follows
-abbrev pub linked_protocol : Layouts → AfterLayout → List ℕ → Protocol
-linked_protocol layout_of next text =
-    let source = source_of 256 text in
-    let sites = layout_of source in
-    unless_faulty (text_fault 256 65536 text) (unless_overlong (overlong source board (blocks_in sites)) (next source sites))
+    unless_faulty (text_fault DATA_BASE DATA_END text) (input_protocol input (λ bytes. Answers (meaning_answer (source_of DATA_BASE text) board bytes steps)))
 
 -- the run of a source
 abbrev pub run_protocol : Files → Limits → AfterLayout
@@ -134,7 +79,7 @@ measured source sites (Some found) = prints Refused (fault_line found.0 found.1)
 measured source sites None = prints Done (lengths_text source (blocks_in sites))
 
 abbrev pub best_answer : Layouts → List ℕ → Answer
-best_answer layout_of text = let source = source_of 256 text in measured source (layout_of source) (text_fault 256 65536 text)
+best_answer layout_of text = let source = source_of DATA_BASE text in measured source (layout_of source) (text_fault DATA_BASE DATA_END text)
 
 abbrev pub image_text : ℕ → List ℕ → List ℕ
 image_text at cause = text_line (codes "image: " ++ cause ++ codes " at " ++ decimal at)
@@ -262,7 +207,7 @@ labelled_protocol layout_of label files limits source =
 -- of a text, which is refused by its first fault before
 abbrev pub debug_protocol : Layouts → List ℕ → Files → SessionLimits → List ℕ → Protocol
 debug_protocol layout_of label files limits text =
-    unless_faulty (text_fault 256 65536 text) (labelled_protocol layout_of label files limits (source_of 256 text))
+    unless_faulty (text_fault DATA_BASE DATA_END text) (labelled_protocol layout_of label files limits (source_of DATA_BASE text))
 
 -- the fault of a module's line
 abbrev pub join_fault_text : JoinFault → List ℕ

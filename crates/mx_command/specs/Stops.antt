@@ -1,18 +1,19 @@
 -- What `debug` promises of a source that is accepted, whatever interrupts come.
 use Rattle.std.specs.Prelude.{◌≡◌, ◌++◌, ℕ, ◌+◌, List, Option, Some, None}
+use Rattle.mx_isa.specs.declared.board.TheConstants.{DATA_BASE, DATA_END}
 use Rattle.mx_squash.specs.Copies.{Site}
 use Rattle.mx_layout.specs.Layout.{IsLayout, blocks_in}
 use Rattle.mx_layout.specs.Overlong.{overlong}
 use Rattle.mx_reorg.specs.Greedy.{IsGreedy}
 use Rattle.cmd_answer.specs.declared.FileKind.TheVariants.{Source}
 use Rattle.cmd_answer.specs.declared.Status.{Status}
-use Rattle.cmd_simulate.specs.Machines.{Files}
+use Rattle.cmd_options.specs.Options.{Files}
 use Rattle.mx_asm.specs.Texts.{source_of, text_fault}
 use Rattle.mx_isa.specs.Board.{board}
 use Rattle.law_end_to_end.specs.EndToEnd.{IsUnstuck}
 use Rattle.mx_debug.specs.Sessions.{Session, stops_of, ending_of, console_of}
 use Rattle.law_debug.specs.Laws.{Debugged, session_of, StopsAsMeant}
-use Rattle.cmd_debug.specs.declared.SessionLimits.{SessionLimits}
+use Rattle.cmd_options.specs.declared.SessionLimits.{SessionLimits}
 use Rattle.cmd_debug.specs.Sessions.{status_of}
 use Rattle.cmd_debug.specs.Texts.{session_text}
 use Rattle.cmd_table.specs.Commands.{Command, Debug}
@@ -30,12 +31,12 @@ pub record AcceptedStops (asked : Option Command) (held : Held) : Type 0 where
   pub asks : asked ≡ Some (Debug name label files limits)
   pub text : List ℕ
   pub is_text : Holds held Source name text
-  pub faultless : text_fault 256 65536 text ≡ None
+  pub faultless : text_fault DATA_BASE DATA_END text ≡ None
   pub index : ℕ
-  pub labelled : statement_named (source_of 256 text) label ≡ Some index
+  pub labelled : statement_named (source_of DATA_BASE text) label ≡ Some index
   pub sites : List Site
-  pub layout : IsLayout IsGreedy (source_of 256 text) board sites
-  pub reach : overlong (source_of 256 text) board (blocks_in sites) ≡ None
+  pub layout : IsLayout IsGreedy (source_of DATA_BASE text) board sites
+  pub reach : overlong (source_of DATA_BASE text) board (blocks_in sites) ≡ None
   pub requests : List ℕ
   pub are_requests : AreRequests held files.interrupts requests
   pub input : List ℕ
@@ -45,7 +46,7 @@ module _ (asked : Option Command) (held : Held) (a : AcceptedStops asked held) w
   -- the source, linked without copies, and what is asked of the session
   abbrev pub accepted_stops : Debugged
   accepted_stops = record {
-    source = source_of 256 a.text;
+    source = source_of DATA_BASE a.text;
     sites = a.sites;
     requests = a.requests;
     bytes = a.input;
@@ -64,4 +65,4 @@ module _ (asked : Option Command) (held : Held) (a : AcceptedStops asked held) w
     pub status : result ≡ status_of (ending_of accepted_session)
     pub output : after ≡ before ++
         (session_text a.limits.watch (stops_of accepted_session) (ending_of accepted_session) (console_of accepted_session))
-    pub means : IsUnstuck (source_of 256 a.text) a.input (a.limits.budget + block_ahead) → StopsAsMeant accepted_stops
+    pub means : IsUnstuck (source_of DATA_BASE a.text) a.input (a.limits.budget + block_ahead) → StopsAsMeant accepted_stops

@@ -1,15 +1,16 @@
 //! Of which texts the headline speaks.
 ghost use Rattle.std.specs.Prelude.{◌≡◌, ◌≤◌, length, true, IfOk, List, ℕ, None, Some, Ok};
+ghost use Rattle.mx_io.specs.declared.limits.TheConstants.{MAX_SOURCE_BYTES, MAX_FILE_BYTES};
 ghost use Rattle.mx_board.specs.RequestFile.{requests_of};
 ghost use Rattle.mx_squash.specs.Copies.{Site};
 ghost use Rattle.mx_layout.specs.Layout.{IsLayout, blocks_in};
 ghost use Rattle.mx_layout.specs.Overlong.{overlong};
 ghost use Rattle.mx_reorg.specs.Greedy.{IsGreedy};
 ghost use Rattle.mx_isa.specs.Board.{board};
-ghost use Rattle.cmd_simulate.specs.declared.Limits.{Limits};
+ghost use Rattle.cmd_options.specs.declared.Limits.{Limits};
 ghost use Rattle.mx_command.specs.Accepted.{Held, CanBeRun};
 
-use crate::sources::{assembled, linked_source};
+use cmd_source::{assembled, linked_source};
 use mx_board::{EventError, Requests};
 use mx_io::Memory;
 use mx_source::Source;
@@ -17,7 +18,7 @@ use std::alloc::Global;
 
 // Whether an interrupt file is well formed.
 fn are_requests(alloc: Global, bytes: &[u8]) -> Result<bool, Memory>
-    requires { length bytes.now ≤ 1048576 }
+    requires { length bytes.now ≤ MAX_FILE_BYTES }
     ensures { IfOk result (λ are. are ≡ true → (requests : List ℕ) × (requests_of bytes.now ≡ Ok requests)) }
 {
     match Requests::parse(alloc, bytes) {
@@ -42,8 +43,8 @@ fn reaches(alloc: Global, source: &Source) -> Result<bool, Memory>
 /// Whether the text has no fault, none of its branches is overlong, and the interrupt file is well formed: then the headline
 /// speaks of `run` of this text under these interrupts, whatever the two files are called and whatever the limits are.
 pub fn can_be_run(alloc: Global, text: &[u8], interrupts: &[u8]) -> Result<bool, Memory>
-    requires text { length text.now ≤ 4194304 }
-    requires interrupts { length interrupts.now ≤ 1048576 }
+    requires text { length text.now ≤ MAX_SOURCE_BYTES }
+    requires interrupts { length interrupts.now ≤ MAX_FILE_BYTES }
     ensures { IfOk result (λ can. can ≡ true → CanBeRun text.now interrupts.now) }
 {
     let source = match assembled(alloc, text)? {

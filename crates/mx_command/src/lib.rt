@@ -2,20 +2,18 @@
 #![tactic(auto)]
 
 mod accepting;
-mod debugged;
-mod files;
-mod images;
-mod joined;
+mod debug;
+mod from_image;
+mod from_source;
+mod join;
 mod laws;
 mod reply;
-mod shared;
-mod shipped;
-mod sourced;
-mod sources;
+mod share;
+mod system;
 mod top;
 
 pub use accepting::can_be_run;
 pub use cmd_answer::Status;
 pub use laws::greedy_layout_is;
-pub use shipped::command_on_system;
+pub use system::command_on_system;
 pub use top::command;

@@ -1,15 +1,16 @@
 -- How a session ends.
-use Rattle.std.proofs.Common.{◌≡◌, ℕ, zero, suc, ◌+◌, ◌-◌, ◌<◌, ◌≤◌, Bool, true, false, cond, not, ◌&&◌, List, [], ◌∷◌, ◌++◌, length, map, take, refl, sym, ap, ◌∙◌, subst, arith, ⊎_elim, append_assoc}
+use Rattle.std.proofs.Common.{◌≡◌, ℕ, zero, suc, ◌+◌, ◌-◌, ◌<◌, ◌≤◌, Bool, true, false, cond, not, ◌&&◌, List, [], ◌∷◌, ◌++◌, length, map, take, refl, sym, ap, ◌∙◌, subst, arith, ⊎_elim, append_assoc, true≢false, eqb}
 use Rattle.std.specs.Prelude.{leb, slice_index, get_or}
 use Rattle.std.proofs.lemmas.Bool.{cond-true, cond-false, cases_lt, le-leb}
 use Rattle.std.proofs.lemmas.Bool.Decides.{nat_tests}
-use Rattle.std.proofs.lemmas.List.{append-nil, length-append, take_at, get_or_at, get_or_append_left, take_all}
+use Rattle.std.proofs.lemmas.List.{append-nil, length-append, length-map, take_at, get_or_at, get_or_append_left, take_all}
 use Rattle.mx_turn.specs.declared.Cycled.{Cycled}
 use Rattle.mx_turn.specs.Cycle.{Machine}
 use Rattle.mx_turn.specs.Program.{state_after}
 use Rattle.mx_turn.specs.Run.{bits, console_after}
 use Rattle.mx_report.proofs.Runs.{cycled_at, state_at, next_halted, state_still, console_still}
 use Rattle.mx_debug.specs.declared.stop.Ending.{Ending}
+use Rattle.mx_debug.specs.declared.stop.Stop.{Stop}
 use Rattle.mx_debug.specs.declared.stop.Ending.TheVariants.{Stopped, Halted, OutOfBudget}
 use Rattle.mx_debug.specs.Stops.{is_stop, stop_cycles, stop_at}
 use Rattle.mx_debug.specs.Sessions.{Session, all_stops, is_stopped, stops_of, cycles_of, ending_of, console_of, last_of}
@@ -124,3 +125,34 @@ module _ (s : Session) where
         console = ap (λ k. console_after s.program (bits s.requests k)) (sym cycles);
         last = ap state (sym cycles);
       }
+
+  halted_at : (m : ℕ) → m ≤ s.budget → ((k : ℕ) → k < m → length (C k) < s.limit) → (state m).halted ≡ true → EndsSo s m Halted
+  halted_at zero within few halted = absurd (true≢false (sym halted))
+  halted_at (suc n) within few halted = ends_halted n within (few n (omega arith)) halted
+
+  stopped_at : (m : ℕ) → 1 ≤ s.limit → m ≤ s.budget → ((k : ℕ) → k < m → length (C k) < s.limit) → length (C m) ≡ s.limit → EndsSo s m Stopped
+  stopped_at zero one within few enough = let none : 0 ≡ s.limit = enough in absurd (omega (arith, one, none))
+  stopped_at (suc n) one within few enough = ends_stopped n within (few n (omega arith)) enough
+
+  spent_at : (m : ℕ) → m ≡ s.budget → length (C m) < s.limit → (state m).halted ≡ false → EndsSo s m OutOfBudget
+  spent_at m spent few going = subst (λ k. EndsSo s k OutOfBudget) (sym spent)
+      (ends_spent (subst (λ k. length (C k) < s.limit) spent few) (subst (λ k. (state k).halted ≡ false) spent going))
+
+  -- where the run ended after so many cycles, before each of which fewer stops than asked for had come
+  pub ends_so : (m : ℕ) (halted enough : Bool) → halted ≡ (state m).halted → 1 ≤ s.limit → m ≤ s.budget
+      → ((k : ℕ) → k < m → length (C k) < s.limit) → length (C m) ≤ s.limit → enough ≡ eqb (length (C m)) s.limit
+      → (halted ≡ false → enough ≡ false → m ≡ s.budget) → EndsSo s m (cond halted Halted (cond enough Stopped OutOfBudget))
+  ends_so m true enough is one within few most same whole = halted_at m within few (sym is)
+  ends_so m false true is one within few most same whole = stopped_at m one within few (let test = sym same in grind (arith, nat_tests))
+  ends_so m false false is one within few most same whole =
+      spent_at m (whole refl refl) (let test = sym same in grind (arith, nat_tests)) (sym is)
+
+  -- the same, by the stops that were told
+  pub ends_of_run : (m : ℕ) (stops : List Stop) (halted enough : Bool) → stops ≡ map (stop_at s.program s.requests s.watch) (C m)
+      → halted ≡ (state m).halted → 1 ≤ s.limit → m ≤ s.budget → ((k : ℕ) → k < m → length (C k) < s.limit) → length stops ≤ s.limit
+      → enough ≡ eqb (length stops) s.limit → (halted ≡ false → eqb (length stops) s.limit ≡ false → m ≡ s.budget)
+      → EndsSo s m (cond halted Halted (cond enough Stopped OutOfBudget))
+  ends_of_run m stops halted enough told is one within few most same whole =
+      let count : length stops ≡ length (C m) = ap length told ∙ length-map (C m) (stop_at s.program s.requests s.watch) in
+      ends_so m halted enough is one within few (subst (λ n. n ≤ s.limit) count most) (same ∙ ap (λ n. eqb n s.limit) count)
+      (λ h e. whole h (sym same ∙ e))

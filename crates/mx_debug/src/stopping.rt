@@ -1,27 +1,29 @@
 //! Running a machine from stop to stop.
-ghost use Rattle.std.specs.Prelude.{◌≡◌, ◌≤◌, ◌<◌, ◌+◌, ◌++◌, ◌∷◌, ◌^◌, ◌&&◌, [], List, ℕ, Bool, OnOk, IfOk, cond, suc, length, map};
+ghost use Rattle.std.specs.Prelude.{◌≡◌, ◌≤◌, ◌<◌, ◌+◌, ◌++◌, ◌∷◌, ◌^◌, ◌&&◌, ◌==◌, [], List, ℕ, Bool, OnOk, IfOk, cond, suc, length, map};
 ghost use Rattle.std.specs.Int.{IsInRange};
 ghost use Rattle.std.specs.List.{range_with_len};
-ghost use Rattle.std.specs.Option.{option_to_list};
 ghost use Rattle.mx_isa.specs.declared.board.TheConstants.{DATA_BASE, DATA_END, LAST_ADDRESS};
 ghost use Rattle.mx_isa.specs.Words.{reg};
 ghost use Rattle.mx_turn.specs.Program.{Program, state_after, answer_after};
-ghost use Rattle.mx_turn.specs.Run.{bits, console_after};
+ghost use Rattle.mx_turn.specs.Run.{is_requested, bits, console_after};
 ghost use Rattle.mx_debug.specs.Stops.{shows_live, goes_on, is_stop, stop_cycles, stop_with, stop_at};
+ghost use Rattle.mx_debug.specs.declared.stop.Ending.TheVariants.{Stopped as WithLastStop, Halted, OutOfBudget};
 ghost use Rattle.mx_debug.specs.Sessions.{session, stops_of, ending_of, console_of, last_of};
 
 use crate::{Ending, Stop, Stopped};
 use mx_board::Requests;
 use mx_io::Memory;
 use mx_isa::Reg;
+use mx_report::{Observer, observe};
 use mx_text::push_byte;
 use mx_turn::{Cycled, Machine, Stage};
 use std::alloc::{AllocError, Global};
 
-/// What is asked of each cycle: where to stop, and which data word is watched.
+/// What is asked of a session: where to stop and how often, and which data word is watched.
 #[derive(Clone, Copy)]
 struct Asked {
     address: u32,
+    limit: u32,
     watch: u32,
 }
 
@@ -121,71 +123,94 @@ fn push_if_stop<M: Machine>(
     Ok(())
 }
 
-/// One cycle, the first being 0: its byte, and a stop where it is one. Answers whether the machine has halted.
-fn run_cycle<M: Machine>(
+/// One cycle, the first being 0: its byte, and a stop where it is one.
+fn find_stop<M: Machine>(
     machine: &mut M,
-    requests: &Requests,
     cycle: u32,
+    request: bool,
     asked: &Asked,
     found: &mut Found,
-) -> Result<bool, AllocError>
+) -> Result<Cycled, AllocError>
     requires counted { M.cycles machine.old < 2 ^ 63 }
     requires watch { asked.now.watch < DATA_END }
-    requires early { cycle < 2 ^ 31 }
+    requires last { cycle + 1 < 2 ^ 32 }
     requires short { length found.old.console.items ≤ cycle }
-    ensures halted { IfOk result
-        (λ halted. (p : Program) → M.stands machine.old p (bits requests.now cycle) → halted ≡ (state_after p (bits requests.now (suc cycle))).halted) }
-    ensures stands { OnOk result ((p : Program) → M.stands machine.old p (bits requests.now cycle) → M.stands machine.new p (bits requests.now (suc cycle))) }
-    ensures console { OnOk result ((p : Program) → M.stands machine.old p (bits requests.now cycle)
-        → found.old.console.items ≡ console_after p (bits requests.now cycle) → found.new.console.items ≡ console_after p (bits requests.now (suc cycle))) }
-    ensures stops { OnOk result ((p : Program) → M.stands machine.old p (bits requests.now cycle)
-        → found.old.console.items ≡ console_after p (bits requests.now cycle)
-        → found.old.stops.items ≡ map (stop_at p requests.now asked.now.watch) (stop_cycles p requests.now asked.now.address cycle)
-        → found.new.stops.items ≡ map (stop_at p requests.now asked.now.watch) (stop_cycles p requests.now asked.now.address (suc cycle))) }
-    ensures short { OnOk result (length found.new.console.items ≤ cycle + 1) }
+    ensures answer { IfOk result (λ cycled. (p : Program) (h : List Bool) → M.stands machine.old p h → cycled ≡ answer_after p h request) }
+    ensures next { OnOk result ((p : Program) (h : List Bool) → M.stands machine.old p h → M.stands machine.new p (h ++ request ∷ [])) }
+    ensures console { OnOk result ((p : Program) (requests : List ℕ) → request ≡ is_requested requests cycle → M.stands machine.old p (bits requests cycle)
+        → found.old.console.items ≡ console_after p (bits requests cycle) → found.new.console.items ≡ console_after p (bits requests (suc cycle))) }
+    ensures stops { OnOk result ((p : Program) (requests : List ℕ) → request ≡ is_requested requests cycle → M.stands machine.old p (bits requests cycle)
+        → found.old.console.items ≡ console_after p (bits requests cycle)
+        → found.old.stops.items ≡ map (stop_at p requests asked.now.watch) (stop_cycles p requests asked.now.address cycle)
+        → found.new.stops.items ≡ map (stop_at p requests asked.now.watch) (stop_cycles p requests asked.now.address (suc cycle))) }
+    ensures short { OnOk result (length found.new.console.items ≤ suc cycle) }
     ensures few { OnOk result (length found.new.stops.items ≤ length found.old.stops.items + 1) }
-    ensures cycles { M.cycles machine.new ≤ M.cycles machine.old + 1 }
+    ensures cycles { OnOk result (M.cycles machine.new ≤ M.cycles machine.old + 1) }
 {
-    let cycled = machine.cycle(requests.wants(cycle));
+    let cycled = machine.cycle(request);
     push_byte(&mut found.console, cycled.byte)?;
     push_if_stop(machine, &cycled, cycle, asked, found)?;
-    Ok(cycled.halted)
+    Ok(cycled)
 }
 
-/// Runs the machine until it stops as often as asked for, halts, or the budget is spent, and answers which of these.
-fn run_cycles<M: Machine>(
-    machine: &mut M,
-    requests: &Requests,
-    asked: &Asked,
-    limit: u32,
-    budget: u32,
-    found: &mut Found,
-) -> Result<Ending, AllocError>
-    requires start { M.cycles machine.old ≡ 0 }
-    requires watch { asked.now.watch < DATA_END }
-    requires limit { 1 ≤ limit }
-    requires budget { budget ≤ 100000000 }
-    requires console { found.old.console.items ≡ [] }
-    requires stops { found.old.stops.items ≡ [] }
-    ensures ending { IfOk result
-        (λ ending. (p : Program) → M.stands machine.old p [] → ending ≡ ending_of (session p requests.now asked.now.address limit asked.now.watch budget)) }
-    ensures stops { OnOk result
-        ((p : Program) → M.stands machine.old p [] → found.new.stops.items ≡ stops_of (session p requests.now asked.now.address limit asked.now.watch budget)) }
-    ensures console { OnOk result
-        ((p : Program) → M.stands machine.old p []
-        → found.new.console.items ≡ console_of (session p requests.now asked.now.address limit asked.now.watch budget)) }
-    ensures stands { OnOk result ((p : Program) → M.stands machine.old p [] → (h : List Bool) × M.stands machine.new p h
-        × (state_after p h ≡ last_of (session p requests.now asked.now.address limit asked.now.watch budget))) }
+/// Whether there are as many stops as asked for.
+fn is_enough(asked: &Asked, found: &Found) -> bool
+    ensures { result ≡ (length found.now.stops.items == asked.now.limit) }
 {
-    for cycle in 0..budget {
-        if run_cycle(machine, requests, cycle, asked, found)? {
-            return Ok(Ending::Halted);
-        }
-        if found.stops.len() == limit as usize {
-            return Ok(Ending::Stopped);
-        }
+    found.stops.len() == asked.limit as usize
+}
+
+impl<M: Machine> Observer<M> for Asked {
+    type Notes = Found;
+
+    ghost saw = { λ asked found p requests n.
+        (found.console.items ≡ console_after p (bits requests n))
+        × (found.stops.items ≡ map (stop_at p requests asked.watch) (stop_cycles p requests asked.address n))
+        × ((k : ℕ) → k < n → length (stop_cycles p requests asked.address k) < asked.limit) };
+
+    ghost fits = { λ asked found n.
+        (asked.watch < DATA_END) × (length found.console.items ≤ n) × (length found.stops.items ≤ asked.limit) };
+
+    ghost enough = { λ asked found. length found.stops.items == asked.limit };
+
+    fn has_enough(&self, notes: &Found) -> bool {
+        is_enough(self, notes)
     }
-    Ok(Ending::OutOfBudget)
+
+    fn cycle(
+        &self,
+        notes: &mut Found,
+        machine: &mut M,
+        cycle: u32,
+        request: bool,
+    ) -> Result<Cycled, AllocError> {
+        let cycled = find_stop(machine, cycle, request, self, notes)?;
+        Ok(cycled)
+    }
+}
+
+/// How a session ends.
+fn ending_at(halted: bool, stopped: bool) -> Ending
+    ensures { result ≡ cond halted Halted (cond stopped WithLastStop OutOfBudget) }
+{
+    if halted {
+        Ending::Halted
+    } else if stopped {
+        Ending::Stopped
+    } else {
+        Ending::OutOfBudget
+    }
+}
+
+/// Before the first cycle.
+fn nothing_found(alloc: Global) -> Found
+    ensures stops { result.stops.items ≡ [] }
+    ensures console { result.console.items ≡ [] }
+{
+    Found {
+        stops: Vec::new(alloc),
+        console: Vec::new(alloc),
+    }
 }
 
 /// Runs a machine from its start, with its requests, and tells each of its stops: the cycles after which the word at
@@ -214,17 +239,20 @@ pub fn stops<M: Machine>(
     ensures stands { OnOk result ((p : Program) → M.stands machine.old p [] → (h : List Bool) × M.stands machine.new p h
         × (state_after p h ≡ last_of (session p requests.now address limit watch budget))) }
 {
-    let asked = Asked { address, watch };
-    let mut found = Found {
-        stops: Vec::new(alloc),
-        console: Vec::new(alloc),
+    let asked = Asked {
+        address,
+        limit,
+        watch,
     };
-    match run_cycles(machine, requests, &asked, limit, budget, &mut found) {
-        Ok(ending) => Ok(Stopped {
-            stops: found.stops,
-            console: found.console,
-            ending,
-        }),
-        Err(_) => Err(Memory),
-    }
+    let mut found = nothing_found(alloc);
+    let reached = match observe(machine, requests, 0, budget, &asked, &mut found) {
+        Ok(reached) => reached,
+        Err(_) => return Err(Memory),
+    };
+    let stopped = is_enough(&asked, &found);
+    Ok(Stopped {
+        stops: found.stops,
+        console: found.console,
+        ending: ending_at(reached.halted, stopped),
+    })
 }

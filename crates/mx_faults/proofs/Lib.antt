@@ -5,6 +5,5 @@ pub mod Walks
 pub mod Lines
 pub mod Texts
 pub mod Settled
-pub mod Registers
 pub mod Printing
 pub mod Tokens

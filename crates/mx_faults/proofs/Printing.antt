@@ -1,5 +1,5 @@
 -- What a text without faults reads as can be printed, where its names are short enough, and reads back.
-use Rattle.std.proofs.Common.{◌≡◌, ℕ, zero, suc, ◌+◌, ◌-◌, ◌≤◌, ◌<◌, ◌||◌, ◌&&◌, List, [], ◌∷◌, ◌++◌, length, map, take, drop, get_or, cond, Bool, true, false, Option, Some, None, Result, Ok, Err, refl, ap, sym, ◌∙◌, subst, arith}
+use Rattle.std.proofs.Common.{◌≡◌, ℕ, zero, suc, ◌+◌, ◌-◌, ◌≤◌, ◌<◌, ◌||◌, ◌&&◌, List, [], ◌∷◌, ◌++◌, length, map, take, drop, get_or, cond, Bool, true, false, Option, Some, None, Result, Ok, Err, refl, ap, sym, ◌∙◌, arith}
 use Rattle.std.specs.Prelude.{All, IfOk, not, is_some, nat_le, slice_index, slice_range, ◌==◌}
 use Rattle.std.specs.List.{list_all, prefix_len, take_while, IsDistinct, AllByRecursion}
 use Rattle.std.specs.Str.{bytes_eq}
@@ -9,6 +9,7 @@ use Rattle.std.proofs.lemmas.Bool.Decides.{nat_tests}
 use Rattle.std.proofs.lemmas.List.Elements.{All-nil, All-cons, All-push, All-head, All-tail}
 use Rattle.std.proofs.lemmas.List.Sums.{take_while-cons}
 use Rattle.std.proofs.Math.Seq.{drop-cons}
+use Rattle.mx_isa.specs.declared.board.TheConstants.{DATA_BASE, DATA_END}
 use Rattle.mx_lex.specs.Lines.{lines_of}
 use Rattle.mx_lex.specs.Bytes.{is_blank, is_allowed, begins_name, continues_name}
 use Rattle.mx_lex.specs.Tokens.{token, magnitude_at, number_token, number_at, mark_of, mark_or_number_at, ends_at, token_from, next_token, is_end, before, and_then, tokens_within, tokens_of}
@@ -19,7 +20,6 @@ use Rattle.mx_lex.specs.declared.token.LexFault.TheVariants as lexed
 use Rattle.mx_source.specs.declared.statement.Label.{Label}
 use Rattle.mx_source.specs.declared.statement.Label.TheVariants as label
 use Rattle.mx_source.specs.Labels.{LabelFits}
-use Rattle.mx_lines.specs.declared.fault.Fault.{Fault}
 use Rattle.mx_lines.specs.declared.fault.Fault.TheVariants.{BadByte, UndefinedLabel}
 use Rattle.mx_asm.specs.declared.position.Section.{Section}
 use Rattle.mx_asm.specs.declared.position.Section.TheVariants as section
@@ -32,13 +32,14 @@ use Rattle.mx_lines.specs.Fitting.{LabelsFit, NamedFits}
 use Rattle.mx_asm.specs.Positions.{after, behind, define, define_front, label_at, label_here, with_labels, labels_from, words_or_none, line_words, start, position_at_end}
 use Rattle.mx_asm.specs.Faults.{first_fault}
 use Rattle.mx_asm.specs.Texts.{text_fault, text_labels, text_effects, source_of}
-use Rattle.mx_asm.specs.Printable.{is_name, IsLabelName, IsWithin, IsWord, IsPrintable, ReadsBack}
+use Rattle.mx_asm.specs.Printable.{is_name, IsLabelName, IsWithin, IsWord, NamesRegisters, IsPrintable, ReadsBack}
 use Rattle.mx_lines.proofs.Fits.{any_fits}
+use Rattle.mx_lines.proofs.Forms.{was_read}
+use Rattle.mx_asm.proofs.Held.{Words, names_registers, statements_have, lines_are}
 use Rattle.mx_asm.proofs.LabelBounds.{define_fits, labels_fit}
 use Rattle.mx_asm.proofs.Sourced.{faultless_source, lines_fit}
 use Rattle.mx_asm.proofs.PrintedTexts.{printed_reads}
 use Rattle.mx_faults.specs.Sayable.{IsSayable}
-use Rattle.mx_faults.proofs.Registers.{AreNear, lines_have, words_have}
 
 -- a name that was read is one of the language
 abbrev Named : Word → Type 0
@@ -230,13 +231,13 @@ word_at_label : (labels : Labels) (count : ℕ) (l : Label) → NamedFits labels
 word_at_label labels count (label.Code i) h = tt
 word_at_label labels count (label.Data a) h = omega (arith, h)
 
-if_ok : {A : Type 0} (P : A → Type 0) (r : Result A Fault) (x : A) → IfOk r P → r ≡ Ok x → P x
-if_ok P r x h e = subst (λ s. IfOk s P) e h
-
-near_labels : (labels : Labels) (count : ℕ) → LabelsFit count labels → AreNear labels
+near_words : (labels : Labels) (count : ℕ) → LabelsFit count labels → Words labels IsWord
 unfolding any_label
-near_labels labels count fit =
-    λ name l e. word_at_label labels count l (if_ok (NamedFits labels count) (any_label labels name) l (any_fits labels name count UndefinedLabel fit) e)
+near_words labels count fit = record {
+  number = λ w h. h;
+  named = λ name l e. word_at_label labels count l
+      (was_read (NamedFits labels count) (any_label labels name) l (any_fits labels name count UndefinedLabel fit) e);
+}
 
 all_both : (labels : Labels) → All GoodEntry labels → All (λ (p : List ℕ × Label). length p.0 ≤ 200) labels
     → All (λ (p : List ℕ × Label). IsLabelName p.0) labels
@@ -273,31 +274,32 @@ module _ (low end : ℕ) (text : List ℕ) (least : 256 ≤ low) (order : low �
   fit = labels_fit labels end lines (start low) [] 1 most least clear
       (All-nil (λ (p : List ℕ × Label). LabelFits (position_at_end (start low) lines).index p.1))
 
-  near : AreNear labels
-  near = near_labels labels (position_at_end (start low) lines).index fit
+  words_near : Words labels IsWord
+  words_near = near_words labels (position_at_end (start low) lines).index fit
 
   pub sound : IsSayable (source_of low text)
   unfolding source_of text_effects text_labels
   sound = record {
-    registers = lines_have labels near (start low) 1 lines;
-    words = words_have labels near (start low) 1 lines;
+    registers = statements_have labels NamesRegisters (names_registers labels) (start low) 1 lines;
+    words = lines_are labels NamesRegisters (names_registers labels) IsWord words_near (start low) 1 lines;
     names = names_good lines (start low) [] (All-nil GoodEntry);
   }
 
 -- the canonical text of what a text without faults reads as
-module _ (text : List ℕ) (none : text_fault 256 65536 text ≡ None) (short : All (λ (p : List ℕ × Label). length p.0 ≤ 200) (source_of 256 text).labels) where
-  ends : let s = source_of 256 text in 256 + length s.user_data ≡ (position_at_end (start 256) (lines_of text)).address
+module _ (text : List ℕ) (none : text_fault DATA_BASE DATA_END text ≡ None)
+    (short : All (λ (p : List ℕ × Label). length p.0 ≤ 200) (source_of DATA_BASE text).labels) where
+  ends : let s = source_of DATA_BASE text in 256 + length s.user_data ≡ (position_at_end (start 256) (lines_of text)).address
   unfolding source_of text_effects text_labels text_fault
   ends = (lines_fit (labels_from (start 256) [] (lines_of text)) 65536 (start 256) (lines_of text) none (omega arith) (omega arith) (omega arith)).words
 
-  below : All (BelowEntry (position_at_end (start 256) (lines_of text)).address) (source_of 256 text).labels
+  below : All (BelowEntry (position_at_end (start 256) (lines_of text)).address) (source_of DATA_BASE text).labels
   unfolding source_of text_labels
   below = labels_below (lines_of text) (start 256) [] (position_at_end (start 256) (lines_of text)).address (omega arith) (omega arith)
       (All-nil (BelowEntry (position_at_end (start 256) (lines_of text)).address))
 
-  pub printable : IsPrintable (source_of 256 text)
+  pub printable : IsPrintable (source_of DATA_BASE text)
   printable =
-      let s = source_of 256 text in
+      let s = source_of DATA_BASE text in
       let own = sound 256 65536 text (omega arith) (omega arith) (omega arith) none in
       record {
         source = faultless_source 256 65536 text (omega arith) (omega arith) (omega arith) none;
@@ -307,5 +309,5 @@ module _ (text : List ℕ) (none : text_fault 256 65536 text ≡ None) (short : 
         within = all_within s.labels (length s.user_data) (position_at_end (start 256) (lines_of text)).address (sym ends) below;
       }
 
-  pub reads_back : ReadsBack (source_of 256 text)
-  reads_back = printed_reads (source_of 256 text) printable
+  pub reads_back : ReadsBack (source_of DATA_BASE text)
+  reads_back = printed_reads (source_of DATA_BASE text) printable

@@ -12,11 +12,11 @@ use Rattle.mx_asm.specs.declared.position.Position.{Position}
 use Rattle.mx_lines.specs.Words.{Word, texts, has_bad_byte as has_bad}
 use Rattle.mx_lines.specs.Instructions.{Labels}
 use Rattle.mx_asm.specs.Positions.{front_names, has_dotted_label, after, with_labels, label_here, line_words}
-use Rattle.mx_asm.specs.Faults.{repeats, line_fault, found_or}
+use Rattle.mx_asm.specs.Faults.{place_fault, repeats, line_fault, found_or}
 use Rattle.mx_faults.specs.Forms.{form, operands, is_no_register, is_outside, is_undefined, is_wrong_kind, moves_chain}
 use Rattle.mx_faults.specs.Before.{statement, has_twice}
 use Rattle.mx_faults.specs.Holding.{is_unknown, is_misshapen, is_system, is_misplaced}
-use Rattle.mx_faults.specs.Walking.{kind_by, with_number, walked, place_fault, settled, at_front}
+use Rattle.mx_faults.specs.Walking.{kind_by, with_number, walked, settled, at_front}
 use Rattle.mx_faults.proofs.Walks.{known, undotted, repeats_is}
 use Rattle.mx_faults.proofs.Lines.{least_of_twelve, parts_are, many, full}
 

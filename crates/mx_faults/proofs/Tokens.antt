@@ -1,11 +1,10 @@
 -- The token that shows a fault, as the program looks for it.
 use Rattle.std.proofs.Common.{◌≡◌, ℕ, suc, ◌+◌, ◌-◌, ◌≤◌, ◌<◌, ◌||◌, List, [], ◌∷◌, ◌++◌, length, take, drop, map, get_or, cond, Bool, true, false, Option, Some, None, Result, Ok, Err, refl, ap, sym, ◌∙◌, subst, arith}
 use Rattle.std.proofs.Math.Path.{fun_ext}
-use Rattle.std.specs.Prelude.{is_some, option_map, All, IfSome}
+use Rattle.std.specs.Prelude.{is_some, All, IfSome}
 use Rattle.std.specs.Borrow.{Bor}
 use Rattle.std.specs.Option.{option_or}
 use Rattle.std.specs.List.{cons_option, list_any}
-use Rattle.std.specs.Str.{str_eq_ignore_ascii_case}
 use Rattle.std.proofs.lemmas.Bool.{false≢true}
 use Rattle.std.proofs.lemmas.List.{drop-map, take_rest, append-nil, take_more, get_or-map, length-map}
 use Rattle.std.proofs.lemmas.List.Elements.{All-push, All-weaker}
@@ -16,19 +15,15 @@ use Rattle.mx_lex.specs.declared.token.Token.{Token}
 use Rattle.mx_source.specs.declared.statement.Label.{Label}
 use Rattle.mx_lines.specs.declared.word.Word.{Word as Lent}
 use Rattle.mx_lines.specs.declared.fault.Fault.{Fault}
-use Rattle.mx_lines.specs.declared.mnemonic.Mnemonic.{Mnemonic}
 use Rattle.mx_asm.specs.declared.position.Position.{Position}
 use Rattle.mx_lines.specs.Words.{Word, Name, Colon, texts}
 use Rattle.mx_lines.specs.Shapes.{word}
 use Rattle.mx_lines.specs.Instructions.{Labels}
-use Rattle.mx_lines.specs.Mnemonics.{mnemonics, spelled, mnemonic_named}
 use Rattle.mx_asm.specs.Positions.{begins_label, first_name, front_names, statement_words, define, is_defined, is_repeated, label_here, line_words, after, with_labels, start, position_at_end, labels_from}
 use Rattle.mx_faults.specs.declared.line_fault.LineFault.{LineFault}
 use Rattle.mx_faults.specs.declared.span.Span.{Span}
-use Rattle.mx_faults.specs.Forms.{Role, shape}
 use Rattle.mx_faults.specs.Before.{defines, kind_in}
 use Rattle.mx_faults.specs.Found.{HasSpan}
-use Rattle.mx_faults.specs.Roles.{shape_among}
 use Rattle.mx_faults.specs.Showing.{lex_fault_span, no_token, token_behind, first_known, span_by}
 use Rattle.mx_faults.specs.Walking.{kind_by, repeat_place, earlier_place, IsShown, IsShownAs, with_span}
 use Rattle.mx_faults.proofs.Walks.{known, known_defined, walk_kind, walk_known}
@@ -94,28 +89,6 @@ token_step n line at t more is = next_behind (n - 1) n line at t (omega arith) i
 pub statement_within : (words : List Word) → length (statement_words words) ≤ length words
 statement_within (Name name ∷ Colon ∷ words) = let rest = statement_within words in omega (arith, rest)
 statement_within _ = omega arith
-
--- the table of shapes
-abbrev with_shape : List ℕ × Mnemonic → List ℕ × List Role
-with_shape r = (r.0, shape r.1)
-
-among_cond : (b : Bool) (m : Mnemonic) (o : Option (List Role)) (q : Option Mnemonic) → o ≡ option_map shape q
-    → cond b (Some (shape m)) o ≡ option_map shape (cond b (Some m) q)
-among_cond true m o q h = refl
-among_cond false m o q h = h
-
-among_is : (rows : List (List ℕ × Mnemonic)) (name : List ℕ) → shape_among (map with_shape rows) name ≡ option_map shape (spelled rows name)
-among_is [] name = refl
-among_is (r ∷ rows) name = among_cond (str_eq_ignore_ascii_case name r.0) r.1 (shape_among (map with_shape rows) name) (spelled rows name) (among_is rows name)
-
-pub shapes_are : (name : List ℕ) → shape_among (map with_shape mnemonics) name ≡ option_map shape (mnemonic_named name)
-unfolding mnemonic_named
-shapes_are name = among_is mnemonics name
-
-pub shapes_of : (name : List ℕ) (rows : List (List ℕ × List Role)) (found : Option (List Role)) → found ≡ shape_among rows name
-    → rows ≡ map with_shape mnemonics
-    → found ≡ option_map shape (mnemonic_named name)
-shapes_of name rows found e same = e ∙ ap (λ (rs : List (List ℕ × List Role)). shape_among rs name) same ∙ shapes_are name
 
 -- a fault that is found at a place has its bytes
 pub shown_there : (labels earlier : Labels) (low : ℕ) (lines : List (List ℕ)) (i number : ℕ) (line : List ℕ) (span : Option Span) (fault : Fault)

@@ -1,8 +1,6 @@
 -- How the program goes over the lines of a text. Only private functions cite this.
-use Rattle.std.specs.Prelude.{◌≡◌, ℕ, ◌+◌, ◌-◌, Bool, nat_lt, List, [], ◌∷◌, take, get_or, option_map, Option, Some, None, if◌then◌else◌}
+use Rattle.std.specs.Prelude.{◌≡◌, ℕ, ◌+◌, ◌-◌, Bool, List, [], ◌∷◌, take, get_or, option_map, Option, Some, None, if◌then◌else◌}
 use Rattle.std.specs.List.{cons_option}
-use Rattle.mx_lines.specs.declared.fault.TheConstants.{MAX_LINE_BYTES}
-use Rattle.mx_isa.specs.declared.board.TheConstants.{MAX_STATEMENTS}
 use Rattle.mx_lines.specs.declared.fault.Fault.{Fault}
 use Rattle.mx_lines.specs.declared.fault.Fault.TheVariants as f
 use Rattle.mx_asm.specs.declared.position.Section.{Section}
@@ -14,7 +12,7 @@ use Rattle.mx_lines.specs.Operands.{label_named}
 use Rattle.mx_lines.specs.Words.{Word, Name, Colon}
 use Rattle.mx_lines.specs.Instructions.{Labels}
 use Rattle.mx_asm.specs.Positions.{is_defined, define, label_here, start, after, with_labels, labels_from, position_at_end, line_words}
-use Rattle.mx_asm.specs.Faults.{is_full, line_fault}
+use Rattle.mx_asm.specs.Faults.{line_fault}
 use Rattle.mx_faults.specs.declared.span.Span.{Span}
 use Rattle.mx_faults.specs.declared.line_fault.LineFault.{LineFault}
 use Rattle.mx_faults.specs.Showing.{span_by}
@@ -29,12 +27,6 @@ walked labels end p earlier number [] = []
 walked labels end p earlier number (line ∷ lines) =
     cons_option (with_number number (line_fault labels end p earlier line))
     (walked labels end (after p (line_words line)) (with_labels p earlier (line_words line)) (number + 1) lines)
-
--- the last three faults of a line that stands at a position
-abbrev pub place_fault : ℕ → Position → ℕ → List Word → Option Fault
-place_fault end p long words =
-    if nat_lt MAX_STATEMENTS (after p words).index then Some f.TooManyInstructions
-    else (if is_full end p words then Some f.DataFull else (if nat_lt MAX_LINE_BYTES long then Some f.LineTooLong else None))
 
 -- a fault, or that of a label that is defined again
 abbrev pub or_repeat : Bool → Option Fault → Option Fault

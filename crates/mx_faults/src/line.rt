@@ -1,15 +1,12 @@
 //! The fault of a line that stands anywhere in a text.
-ghost use Rattle.std.specs.Prelude.{◌≡◌, ◌≤◌, [], map, length, IfOk};
+ghost use Rattle.std.specs.Prelude.{◌≡◌, ◌≤◌, [], length, IfOk};
 ghost use Rattle.mx_isa.specs.declared.board.TheConstants.{DATA_END};
 ghost use Rattle.mx_asm.specs.Faults;
-ghost use Rattle.mx_asm.specs.Positions;
-ghost use Rattle.mx_lines.specs.Shapes.{word};
 ghost use Rattle.mx_faults.specs.Walking;
 ghost use Rattle.mx_faults.specs.Walking.{at_front};
 
-use mx_asm::{Position, Section, define_all, read_lines, stands_past};
-use mx_isa::MAX_STATEMENTS;
-use mx_lines::{AsmError, Fault, Labels, MAX_LINE_BYTES, Word};
+use mx_asm::{Position, Section, define_all, read_lines};
+use mx_lines::{AsmError, Fault, Labels};
 use std::alloc::{AllocError, Global};
 
 /// From where to before where data words stand.
@@ -17,28 +14,6 @@ use std::alloc::{AllocError, Global};
 pub struct Bounds {
     pub data_start: u32,
     pub end: u32,
-}
-
-/// The last three faults of a line that stands at a position.
-pub fn place_fault(
-    end: u32,
-    position: &Position,
-    next: &Position,
-    long: usize,
-    words: &[Word],
-) -> Option<Fault>
-    requires { next.now ≡ Positions.after position.now (map word words.now) }
-    ensures { result ≡ Walking.place_fault end position.now long (map word words.now) }
-{
-    if next.index > MAX_STATEMENTS as u32 {
-        Some(Fault::TooManyInstructions)
-    } else if next.address > end || stands_past(end, position, words) {
-        Some(Fault::DataFull)
-    } else if long > MAX_LINE_BYTES {
-        Some(Fault::LineTooLong)
-    } else {
-        None
-    }
 }
 
 /// A fault, or that of a label that is defined again.

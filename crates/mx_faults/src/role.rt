@@ -5,11 +5,10 @@ ghost use Rattle.mx_lines.specs.Mnemonics.{mnemonic_named};
 ghost use Rattle.mx_asm.specs.Directives.{directive_named};
 ghost use Rattle.mx_faults.specs.Forms;
 ghost use Rattle.mx_faults.specs.Showing;
-ghost use Rattle.mx_faults.specs.Roles.{role, row};
-ghost use Rattle.mx_faults.specs.Roles;
+ghost use Rattle.mx_faults.specs.Roles.{role};
 
 use mx_asm::is_dotted;
-use mx_lines::{Word, spells};
+use mx_lines::{Mnemonic, Word, mnemonic_named, spells};
 use std::alloc::{AllocError, Global};
 
 /// What may stand in a place.
@@ -32,13 +31,6 @@ pub enum Role {
     Open,
     Close,
     Hash,
-}
-
-/// A mnemonic, and what stands in the places behind it.
-#[derive(Clone, Copy)]
-struct Row {
-    word: &'static str,
-    shape: &'static [Role],
 }
 
 const NOTHING: [Role; 0] = [];
@@ -111,190 +103,34 @@ const TARGET: [Role; 1] = [Role::CodeName];
 
 const TARGET_AND_LINK: [Role; 3] = [Role::CodeName, Role::Comma, Role::Register];
 
-const ROWS: &[Row] = &[
-    Row {
-        word: "add",
-        shape: &THREE_REGISTERS,
-    },
-    Row {
-        word: "sub",
-        shape: &THREE_REGISTERS,
-    },
-    Row {
-        word: "subnc",
-        shape: &THREE_REGISTERS,
-    },
-    Row {
-        word: "and",
-        shape: &THREE_REGISTERS,
-    },
-    Row {
-        word: "or",
-        shape: &THREE_REGISTERS,
-    },
-    Row {
-        word: "xor",
-        shape: &THREE_REGISTERS,
-    },
-    Row {
-        word: "bic",
-        shape: &THREE_REGISTERS,
-    },
-    Row {
-        word: "rotlb",
-        shape: &THREE_REGISTERS,
-    },
-    Row {
-        word: "mstep",
-        shape: &THREE_REGISTERS,
-    },
-    Row {
-        word: "dstep",
-        shape: &THREE_REGISTERS,
-    },
-    Row {
-        word: "not",
-        shape: &TWO_REGISTERS,
-    },
-    Row {
-        word: "mstart",
-        shape: &TWO_REGISTERS,
-    },
-    Row {
-        word: "asr",
-        shape: &COUNTED,
-    },
-    Row {
-        word: "sh",
-        shape: &COUNTED_PAIR,
-    },
-    Row {
-        word: "addi",
-        shape: &ADDED,
-    },
-    Row {
-        word: "mov",
-        shape: &TWO_REGISTERS,
-    },
-    Row {
-        word: "nop",
-        shape: &NOTHING,
-    },
-    Row {
-        word: "movfrs",
-        shape: &FROM_SPECIAL,
-    },
-    Row {
-        word: "movtos",
-        shape: &TO_SPECIAL,
-    },
-    Row {
-        word: "ld",
-        shape: &ACCESS,
-    },
-    Row {
-        word: "st",
-        shape: &ACCESS,
-    },
-    Row {
-        word: "la",
-        shape: &ADDRESS,
-    },
-    Row {
-        word: "beq",
-        shape: &BRANCH,
-    },
-    Row {
-        word: "bne",
-        shape: &BRANCH,
-    },
-    Row {
-        word: "blt",
-        shape: &BRANCH,
-    },
-    Row {
-        word: "bge",
-        shape: &BRANCH,
-    },
-    Row {
-        word: "blo",
-        shape: &BRANCH,
-    },
-    Row {
-        word: "bhs",
-        shape: &BRANCH,
-    },
-    Row {
-        word: "bgt",
-        shape: &BRANCH,
-    },
-    Row {
-        word: "ble",
-        shape: &BRANCH,
-    },
-    Row {
-        word: "bhi",
-        shape: &BRANCH,
-    },
-    Row {
-        word: "blos",
-        shape: &BRANCH,
-    },
-    Row {
-        word: "b",
-        shape: &TARGET,
-    },
-    Row {
-        word: "call",
-        shape: &TARGET_AND_LINK,
-    },
-    Row {
-        word: "callr",
-        shape: &TWO_REGISTERS,
-    },
-    Row {
-        word: "jr",
-        shape: &REGISTER,
-    },
-    Row {
-        word: "halt",
-        shape: &NOTHING,
-    },
-    Row {
-        word: "jpc",
-        shape: &NOTHING,
-    },
-    Row {
-        word: "jpcrs",
-        shape: &NOTHING,
-    },
-];
-
-/// What stands behind the mnemonic among these that a name spells, in either case.
-fn shape_among(rows: &[Row], name: &[u8]) -> Option<&'static [Role]>
-    ensures { option_map (λ s. map role s.now) result ≡ Roles.shape_among (map row rows.now) name.now }
-{
-    for row in rows {
-        if spells(name, row.word) {
-            return Some(row.shape);
-        }
-    }
-    None
-}
-
 /// What stands in the places behind a mnemonic.
-fn shape_of(name: &[u8]) -> Option<&'static [Role]>
-    ensures { option_map (λ s. map role s.now) result ≡ option_map Forms.shape (mnemonic_named name.now) }
+fn shape(mnemonic: Mnemonic) -> &'static [Role]
+    ensures { map role result.now ≡ Forms.shape mnemonic }
 {
-    shape_among(ROWS, name)
+    match mnemonic {
+        Mnemonic::Compute(_) => &THREE_REGISTERS,
+        Mnemonic::Not | Mnemonic::Mstart | Mnemonic::Mov | Mnemonic::CallReg => &TWO_REGISTERS,
+        Mnemonic::Asr => &COUNTED,
+        Mnemonic::Sh => &COUNTED_PAIR,
+        Mnemonic::Addi => &ADDED,
+        Mnemonic::Nop | Mnemonic::Halt | Mnemonic::System => &NOTHING,
+        Mnemonic::MoveFrom => &FROM_SPECIAL,
+        Mnemonic::MoveTo => &TO_SPECIAL,
+        Mnemonic::Load | Mnemonic::Store => &ACCESS,
+        Mnemonic::LoadAddress => &ADDRESS,
+        Mnemonic::Branch(_) | Mnemonic::SwappedBranch(_) => &BRANCH,
+        Mnemonic::Goto => &TARGET,
+        Mnemonic::Call => &TARGET_AND_LINK,
+        Mnemonic::JumpReg => &REGISTER,
+    }
 }
 
-/// The same, as a list of its own.
+/// What stands in the places behind a name that is a mnemonic, as a list of its own.
 fn instruction_places(alloc: Global, name: &[u8]) -> Result<Option<Vec<Role>>, AllocError>
     ensures { IfOk result (λ o. option_map (λ v. map role v.items) o ≡ option_map Forms.shape (mnemonic_named name.now)) }
 {
-    match shape_of(name) {
-        Some(shape) => Ok(Some(Vec::from_slice(alloc, shape)?)),
+    match mnemonic_named(name) {
+        Some(mnemonic) => Ok(Some(Vec::from_slice(alloc, shape(mnemonic))?)),
         None => Ok(None),
     }
 }

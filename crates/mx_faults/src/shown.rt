@@ -1,7 +1,6 @@
 //! Which token of a line shows a fault of it.
-ghost use Rattle.std.specs.Prelude.{◌≡◌, ◌≤◌, map, length, is_some, IfOk};
-ghost use Rattle.mx_lines.specs.Operands.{in_range, register_named};
-ghost use Rattle.mx_lines.specs.Operands;
+ghost use Rattle.std.specs.Prelude.{◌≡◌, ◌≤◌, map, length, IfOk};
+ghost use Rattle.mx_lines.specs.Operands.{in_range};
 ghost use Rattle.mx_asm.specs.Positions.{line_words};
 ghost use Rattle.mx_asm.specs.Positions;
 ghost use Rattle.mx_lines.specs.Shapes.{word};
@@ -14,7 +13,7 @@ use crate::role::{Role, places};
 use crate::span::{Span, bad_byte_span, bad_token_span, token_span};
 use mx_asm::{Section, is_dotted, statement_words};
 use mx_isa::{MAX_DATA_WORDS, Special};
-use mx_lines::{Fault, Labels, Word, spells};
+use mx_lines::{Fault, Labels, Word, register_named, special_named};
 use mx_source::Label;
 use std::alloc::{AllocError, Global};
 
@@ -44,43 +43,13 @@ fn suits(role: &Role, found: &Word) -> bool
     }
 }
 
-/// The name is `r0` to `r31`.
-fn names_register(name: &[u8]) -> bool
-    ensures { result ≡ is_some (register_named name.now) }
-{
-    match name {
-        [b'r' | b'R', b'0'..=b'9'] => true,
-        [b'r' | b'R', tens @ b'1'..=b'3', ones @ b'0'..=b'9'] => {
-            10 * (*tens - b'0') + (*ones - b'0') <= 31
-        }
-        _ => false,
-    }
-}
-
-/// The special word of a name.
-fn special_named(name: &[u8]) -> Option<Special>
-    ensures { result ≡ Operands.special_named name.now }
-{
-    if spells(name, "md") {
-        Some(Special::Md)
-    } else if spells(name, "pc1") {
-        Some(Special::Pc1)
-    } else if spells(name, "pc2") {
-        Some(Special::Pc2)
-    } else if spells(name, "pc3") {
-        Some(Special::Pc3)
-    } else {
-        None
-    }
-}
-
 /// A name in the place of a register or a special name is none.
 fn is_no_register(role: &Role, found: &Word) -> bool
     ensures { result ≡ Forms.is_no_register (Roles.role role.now, word found.now) }
 {
     match found {
         Word::Name(name) => match role {
-            Role::Register => !names_register(name),
+            Role::Register => register_named(name).is_none(),
             Role::SpecialName => special_named(name).is_none(),
             _ => false,
         },

@@ -14,11 +14,11 @@ ghost use Rattle.mx_faults.specs.Showing.{span_by};
 ghost use Rattle.mx_faults.specs.Walking.{IsShown, IsShownAs, kind_by, walked, with_number, with_span};
 
 use crate::front::define_front;
-use crate::line::{Bounds, fault_alone, place_fault, settled};
+use crate::line::{Bounds, fault_alone, settled};
 use crate::line_fault::LineFault;
 use crate::shown::fault_span;
 use crate::span::Span;
-use mx_asm::{Position, define_all, line_words, statement_words};
+use mx_asm::{Position, define_all, line_words, place_fault, statement_words};
 use mx_io::Memory;
 use mx_lines::{Fault, Labels, Word, lines_of};
 use std::alloc::{AllocError, Global};

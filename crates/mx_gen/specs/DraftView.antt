@@ -1,3 +1,4 @@
+-- What contracts see of a source that is being generated.
 use Rattle.mx_source.specs.Names.{named_labels}
 use Rattle.mx_gen.specs.Drafts.{Draft}
 use Rattle.mx_gen.specs.declared.draft.Draft.TheInside.{Inside}

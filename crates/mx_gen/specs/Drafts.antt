@@ -3,7 +3,7 @@ use Rattle.std.specs.Prelude.{ℕ, suc, List, [], ◌∷◌, ◌++◌, length}
 use Rattle.mx_source.specs.declared.statement.Label.{Label}
 use Rattle.mx_source.specs.declared.statement.Label.TheVariants.{Code}
 use Rattle.mx_source.specs.declared.statement.Statement.{Statement}
-use Rattle.mx_source.specs.SourceValue.{SourceValue, source_of}
+use Rattle.mx_source.specs.SourceValue.{SourceValue, plain_source}
 
 pub record Draft : Type 0 where
   pub statements : List Statement
@@ -24,4 +24,4 @@ name n d = record d { labels = d.labels ++ (n, Code (length d.statements)) ∷ [
 
 -- the source of a draft, without data
 abbrev pub finished : Draft → SourceValue
-finished d = source_of d.statements d.lines [] d.labels
+finished d = plain_source d.statements d.lines [] d.labels

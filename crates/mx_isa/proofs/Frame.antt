@@ -12,7 +12,7 @@ use Rattle.mx_isa.specs.declared.inst.Inst.TheVariants.{Load, Store, Branch, Com
 use Rattle.mx_isa.specs.Arithmetic.{word_of, result_of, md_after}
 use Rattle.mx_isa.specs.Fields.{IsSignedField, InstFits}
 use Rattle.mx_isa.specs.Words.{Words, put, reg, write}
-use Rattle.mx_isa.specs.Effect.{Sent, Found, Change, unchanged, goes_on, op_uses_md, change, decides, Core, Bus, stored, or_kept, apply}
+use Rattle.mx_isa.specs.Effect.{Sent, Found, Change, unchanged, falls_through, op_uses_md, change, decides, Core, Bus, stored, or_kept, apply}
 use Rattle.mx_isa.specs.Views.{sources, dest, reads_md, writes_md, named, reads, writes, Access, access, address, is_load, is_store, is_transfer}
 
 -- two functions that agree everywhere are one
@@ -95,7 +95,7 @@ change_anywhere (MoveFrom d Md) at at' r md find h = refl
 change_anywhere (MoveTo a Md) at at' r md find h = refl
 change_anywhere _ at at' r md find h = refl
 
-pub decides_anywhere : (i : Inst) (at : ℕ) (r : Words) → is_transfer i ≡ false → decides i at r ≡ goes_on
+pub decides_anywhere : (i : Inst) (at : ℕ) (r : Words) → is_transfer i ≡ false → decides i at r ≡ falls_through
 decides_anywhere (Branch a b condition squash by) at r h = absurd (cc)
 decides_anywhere (Jspci a d imm) at r h = absurd (cc)
 decides_anywhere _ at r h = refl

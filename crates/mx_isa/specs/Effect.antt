@@ -70,8 +70,8 @@ change (MoveTo a Md) at r md find = record { dest = 0; value = 0; new_md = Some 
 change (Jspci a dest imm) at r md find = gives dest (at + 3)
 change _ at r md find = unchanged
 
-abbrev pub goes_on : Decision
-goes_on = record { target = None; cancels = false }
+abbrev pub falls_through : Decision
+falls_through = record { target = None; cancels = false }
 
 -- code addresses are taken modulo 2 ^ 31
 abbrev pub decides : Inst → ℕ → Words → Decision
@@ -80,7 +80,7 @@ decides (Branch a b condition squash by) at r =
     (record { target = Some ((at + cast_unsigned w32 by) % 2 ^ 31); cancels = false })
     (record { target = None; cancels = squash })
 decides (Jspci a dest imm) at r = record { target = Some (offset_by r a imm % 2 ^ 31); cancels = false }
-decides _ at r = goes_on
+decides _ at r = falls_through
 
 -- the next byte of an input of which some bytes were taken; all bits set where all are taken
 abbrev pub next_byte : List ℕ → ℕ → Found

@@ -8,7 +8,7 @@ use Rattle.mx_isa.specs.declared.inst.Inst.TheVariants.{Load, Store, Branch, Com
 use Rattle.mx_isa.specs.Words.{Words, reg, write}
 use Rattle.mx_isa.specs.Effect.{Found, Change}
 use Rattle.mx_isa.specs.Views.{dest}
-use Rattle.mx_code.specs.Delay.{Code}
+use Rattle.mx_delay.specs.Delay.{Code}
 use Rattle.mx_board.specs.Contents.{Contents}
 use Rattle.mx_pcchain.specs.declared.chain.Chain.{Chain}
 use Rattle.mx_turn.specs.Stages.{live}

@@ -6,7 +6,7 @@ use Rattle.mx_isa.specs.declared.inst.Inst.{Inst}
 use Rattle.mx_isa.specs.Words.{Words, reg}
 use Rattle.mx_isa.specs.Views.{dest}
 use Rattle.mx_isa.specs.Effect.{Decision}
-use Rattle.mx_code.specs.Delay.{Code}
+use Rattle.mx_delay.specs.Delay.{Code}
 use Rattle.mx_icache.specs.Residency.{resident}
 use Rattle.mx_board.specs.Contents.{Contents}
 use Rattle.mx_pcchain.specs.Fetch.{Fetch}

@@ -3,7 +3,7 @@ use Rattle.std.specs.Prelude.{◌≡◌, ◌<◌, ◌+◌, ℕ, zero, suc, Bool,
 use Rattle.mx_isa.specs.Words.{Words, reg, write}
 use Rattle.mx_isa.specs.Views.{dest}
 use Rattle.mx_isa.specs.Effect.{Decision}
-use Rattle.mx_code.specs.Delay.{Code, next_of}
+use Rattle.mx_delay.specs.Delay.{Code, next_of}
 use Rattle.mx_icache.specs.Residency.{resident}
 use Rattle.mx_board.specs.Contents.{Contents}
 use Rattle.mx_board.specs.Data.{words_of}

@@ -4,7 +4,7 @@ ghost use Rattle.mx_board.specs.Contents.{Contents};
 ghost use Rattle.mx_isa.specs.Words.{Words, reg};
 ghost use Rattle.mx_isa.specs.Effect.{decides};
 ghost use Rattle.mx_isa.specs.Views.{dest, is_halt};
-ghost use Rattle.mx_code.specs.Delay.{Code, next_of};
+ghost use Rattle.mx_delay.specs.Delay.{Code, next_of};
 ghost use Rattle.mx_icache.specs.Residency.{resident};
 ghost use Rattle.mx_turn.specs.declared.latches.Latches.{Latches as Shown};
 ghost use Rattle.mx_turn.specs.Counted.{Counted, after_turn, after_stall};

@@ -1,3 +1,4 @@
+-- How far a line has been read, and the bytes of its next token.
 use Rattle.std.specs.Prelude.{ℕ, List, length, ◌≤◌, ◌<◌, ◌≢◌}
 use Rattle.mx_lex.specs.declared.token.Token.{Token}
 use Rattle.mx_lex.specs.declared.token.Kind.TheVariants.{End}

@@ -6,3 +6,4 @@ pub mod Mnemonics
 pub mod Instructions
 pub mod LabelTable
 pub mod Fitting
+pub mod FaultTexts

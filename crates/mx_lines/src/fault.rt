@@ -9,49 +9,63 @@ pub const MAX_LINE_BYTES: usize = 255;
 
 /// What is wrong with a line. A line has the first of these that holds of it.
 #[derive(Clone, Copy, Debug, PartialEq, Eq, Error)]
+#[error("{}", self.text())]
 pub enum Fault {
     /// A byte outside the comment is neither a tab nor 32 to 126.
-    #[error("F1 BadByte")]
     BadByte,
     /// The line does not split into tokens.
-    #[error("F2 BadToken")]
     BadToken,
     /// The statement begins with a name that is no mnemonic.
-    #[error("F3 UnknownMnemonic")]
     UnknownMnemonic,
     /// The statement does not begin with a name, or its operands do not have the shape of its mnemonic.
-    #[error("F4 BadOperands")]
     BadOperands,
     /// A name in the place of a register or a special word is none.
-    #[error("F5 BadRegister")]
     BadRegister,
     /// A number is outside the range of its place.
-    #[error("F6 NumberOutOfRange")]
     NumberOutOfRange,
     /// A label is defined earlier.
-    #[error("F7 DuplicateLabel")]
     DuplicateLabel,
     /// A label is defined nowhere.
-    #[error("F8 UndefinedLabel")]
     UndefinedLabel,
     /// A code label in the place of a data label, or a data label in that of a code label.
-    #[error("F9 WrongLabelKind")]
     WrongLabelKind,
     /// An instruction of the system.
-    #[error("F10 SystemInstruction")]
     SystemInstruction,
     /// An unknown directive, one of another shape, or a statement in the wrong section.
-    #[error("F11 BadDirective")]
     BadDirective,
     /// There are more than 20,000 instructions.
-    #[error("F12 TooManyInstructions")]
     TooManyInstructions,
     /// There is no room for the data.
-    #[error("F13 DataFull")]
     DataFull,
     /// The line has more than 255 bytes.
-    #[error("F14 LineTooLong")]
     LineTooLong,
+}
+
+impl Fault {
+    ghost use Rattle.std.specs.Prelude.{◌≡◌};
+    ghost use Rattle.mx_lines.specs.FaultTexts.{fault_text};
+
+    /// The number of the fault and its name, as `F1 BadByte`.
+    pub fn text(self) -> &'static str
+        ensures { result.now ≡ fault_text self }
+    {
+        match self {
+            Fault::BadByte => "F1 BadByte",
+            Fault::BadToken => "F2 BadToken",
+            Fault::UnknownMnemonic => "F3 UnknownMnemonic",
+            Fault::BadOperands => "F4 BadOperands",
+            Fault::BadRegister => "F5 BadRegister",
+            Fault::NumberOutOfRange => "F6 NumberOutOfRange",
+            Fault::DuplicateLabel => "F7 DuplicateLabel",
+            Fault::UndefinedLabel => "F8 UndefinedLabel",
+            Fault::WrongLabelKind => "F9 WrongLabelKind",
+            Fault::SystemInstruction => "F10 SystemInstruction",
+            Fault::BadDirective => "F11 BadDirective",
+            Fault::TooManyInstructions => "F12 TooManyInstructions",
+            Fault::DataFull => "F13 DataFull",
+            Fault::LineTooLong => "F14 LineTooLong",
+        }
+    }
 }
 
 /// Why a text is not assembled.

@@ -36,7 +36,8 @@ pub enum Mnemonic {
     System,
 }
 
-const MNEMONICS: [(&str, Mnemonic); 39] = [
+/// Each mnemonic, and what it stands for.
+pub const MNEMONICS: [(&str, Mnemonic); 39] = [
     ("add", Mnemonic::Compute(Op::Add)),
     ("sub", Mnemonic::Compute(Op::Sub)),
     ("subnc", Mnemonic::Compute(Op::Subnc)),

@@ -17,7 +17,7 @@ pub fn register(name: &[u8]) -> Result<Reg, Fault>
 }
 
 /// `r0` to `r31` without leading zeros.
-fn register_named(name: &[u8]) -> Option<Reg>
+pub fn register_named(name: &[u8]) -> Option<Reg>
     ensures { result ≡ Operands.register_named name.now }
 {
     match name {
@@ -37,7 +37,8 @@ pub fn special(name: &[u8]) -> Result<Special, Fault>
     special_named(name).ok_or(Fault::BadRegister)
 }
 
-fn special_named(name: &[u8]) -> Option<Special>
+/// `md`, `pc1`, `pc2` or `pc3`, in either case.
+pub fn special_named(name: &[u8]) -> Option<Special>
     ensures { result ≡ Operands.special_named name.now }
 {
     if spells(name, "md") {

@@ -25,7 +25,7 @@ pub enum Word<'a> {
 
 /// The words of a line in the place of those before, or why there are none.
 #[tactic(auto, unfolding(crate::specs::Words::words_of))]
-pub fn read_words<'a>(words: &mut Vec<Word<'a>>, line: &'a [u8]) -> Result<(), LineError>
+pub fn split_words<'a>(words: &mut Vec<Word<'a>>, line: &'a [u8]) -> Result<(), LineError>
     ensures { Gives (λ _. map word words.new.items) result (Words.words_of line.entry.now) }
 {
     words.clear();

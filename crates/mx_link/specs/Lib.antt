@@ -2,3 +2,4 @@ pub mod Origins
 pub mod Words
 pub mod Linked
 pub mod Parts
+pub mod Gathered

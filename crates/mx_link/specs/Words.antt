@@ -5,7 +5,7 @@ use Rattle.mx_isa.specs.declared.Inst.{Inst}
 use Rattle.mx_isa.specs.declared.Inst.TheVariants.{Addi, Jspci}
 use Rattle.mx_isa.specs.declared.Inst.TheVariants.{Branch as BranchInst}
 use Rattle.mx_code.specs.Codes.{word_of_row}
-use Rattle.mx_code.specs.Delay.{idle}
+use Rattle.mx_delay.specs.Delay.{idle}
 use Rattle.mx_source.specs.declared.Statement.{Statement}
 use Rattle.mx_source.specs.declared.Statement.TheVariants.{LaCode, Branch, Call}
 use Rattle.mx_source.specs.declared.Value.{Value}

@@ -1,9 +1,10 @@
 //! Texts to be joined.
 ghost use Rattle.std.specs.Prelude.{◌≡◌};
+ghost use Rattle.mx_io.specs.declared.limits.TheConstants.{MAX_SOURCE_BYTES};
 
 use crate::error::JoinError;
 use crate::module::modules_of;
-use crate::program::source_of;
+use crate::program::joined_source;
 use mx_io::Memory;
 use mx_source::Source;
 use std::alloc::Global;
@@ -48,7 +49,7 @@ impl Joiner {
     /// `Memory` where there is no room for it: all stays as it was.
     pub fn add(&mut self, text: &[u8]) -> Result<(), Memory>
         requires room { length self.old < 16 }
-        requires short { length text.now ≤ 4194304 }
+        requires short { length text.now ≤ MAX_SOURCE_BYTES }
         ensures added { OnOk result (self.new ≡ self.old ++ text.now ∷ []) }
         ensures kept { OnErr result (self.new ≡ self.old) }
     {
@@ -74,6 +75,6 @@ impl Joiner {
     {
         let blanks = vec![in alloc; b' '; 256]?;
         let modules = modules_of(alloc, &self.texts, &blanks)?;
-        source_of(alloc, &modules)
+        joined_source(alloc, &modules)
     }
 }

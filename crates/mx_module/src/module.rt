@@ -1,5 +1,6 @@
 //! The modules of a program.
 ghost use Rattle.std.specs.Prelude.{◌≡◌, ◌≤◌, All, length, map, replicate, IfOk};
+ghost use Rattle.mx_io.specs.declared.limits.TheConstants.{MAX_SOURCE_BYTES};
 ghost use Rattle.mx_module.specs.Modules;
 ghost use Rattle.mx_module.specs.ModuleView.{text_bytes, IsShort};
 
@@ -53,7 +54,7 @@ impl<'a> Module<'a> {
         blanks: &'a [u8],
         start: Position,
     ) -> Result<(Module<'a>, Position), AllocError>
-        requires short { length text.now ≤ 4194304 }
+        requires short { length text.now ≤ MAX_SOURCE_BYTES }
         requires blank { blanks.now ≡ replicate 256 32 }
         requires room { start.index + length text.now < 2 ^ 32 }
         requires near { start.address ≤ 65537 }

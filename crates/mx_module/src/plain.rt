@@ -1,5 +1,6 @@
 //! The lines of a module, as the assembler reads them, and its imports and exports.
 ghost use Rattle.std.specs.Prelude.{◌≡◌, ◌≤◌, ◌++◌, [], length, map, replicate, IfOk, OnOk};
+ghost use Rattle.mx_io.specs.declared.limits.TheConstants.{MAX_SOURCE_BYTES};
 ghost use Rattle.mx_asm.specs.Positions.{line_words};
 ghost use Rattle.mx_lines.specs.Shapes.{word};
 ghost use Rattle.mx_lines.specs.Words.{texts};
@@ -38,7 +39,7 @@ pub fn parts_of<'a>(
     lines: &[&'a [u8]],
     blanks: &'a [u8],
 ) -> Result<Parts<'a>, AllocError>
-    requires few { length lines.now ≤ 4194304 }
+    requires few { length lines.now ≤ MAX_SOURCE_BYTES }
     requires blank { blanks.now ≡ replicate 256 32 }
     ensures lines { IfOk result (λ p. texts p.lines.items ≡ map Links.plain_line (texts lines.now)) }
     ensures links { IfOk result (λ p. map link_value p.links.items ≡ link_lines_from 1 (texts lines.now)) }

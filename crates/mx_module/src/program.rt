@@ -66,7 +66,7 @@ fn read_program(alloc: Global, modules: &[Module]) -> Result<Listing, JoinError>
 }
 
 /// The source of a program, or its first fault.
-pub fn source_of(alloc: Global, modules: &[Module]) -> Result<Source, JoinError>
+pub fn joined_source(alloc: Global, modules: &[Module]) -> Result<Source, JoinError>
     requires { IsProgram modules.now }
     ensures source { IfOk result (JoinsModules modules.now) }
     ensures refused { IfErr result (IsJoinRefusal (program_fault modules.now)) }

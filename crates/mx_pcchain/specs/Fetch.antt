@@ -1,3 +1,4 @@
+-- A fetch.
 use Rattle.std.specs.Prelude.{ℕ, Bool}
 
 -- a fetch: the address, and whether a branch squashed it

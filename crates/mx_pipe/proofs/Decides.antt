@@ -9,7 +9,7 @@ use Rattle.mx_isa.specs.declared.inst.Inst.TheVariants.{Branch, Jspci, Jpc, Jpcr
 use Rattle.mx_isa.specs.Arithmetic.{condition_holds}
 use Rattle.mx_isa.specs.Words.{Words, reg}
 use Rattle.mx_isa.specs.Effect.{Decision, decides, offset_by}
-use Rattle.mx_code.specs.Delay.{Code, next_of}
+use Rattle.mx_delay.specs.Delay.{Code, next_of}
 use Rattle.mx_pcchain.specs.Fetch.{Fetch}
 use Rattle.mx_pcchain.specs.Chain.{fetch_from, pop}
 use Rattle.mx_pcchain.specs.Modes.{psw_restored}

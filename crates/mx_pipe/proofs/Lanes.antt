@@ -7,7 +7,7 @@ use Rattle.mx_isa.specs.declared.board.TheConstants.{MAX_CODE_WORDS}
 use Rattle.mx_isa.specs.Words.{Words, reg, write}
 use Rattle.mx_isa.specs.Views.{sources, dest}
 use Rattle.mx_code.specs.Decoding.{inst_of}
-use Rattle.mx_code.specs.Delay.{Code, code_from}
+use Rattle.mx_delay.specs.Delay.{Code, code_from}
 use Rattle.mx_icache.specs.Residency.{resident}
 use Rattle.mx_board.specs.Contents.{Contents}
 use Rattle.mx_board.specs.Data.{words_of}

@@ -11,7 +11,7 @@ use Rattle.mx_isa.specs.Arithmetic.{md_after}
 use Rattle.mx_isa.specs.Words.{Words, reg, write}
 use Rattle.mx_isa.specs.Effect.{Found, Change, op_uses_md, or_kept}
 use Rattle.mx_isa.specs.Views.{sources, dest, is_load, is_halt}
-use Rattle.mx_code.specs.Delay.{Code}
+use Rattle.mx_delay.specs.Delay.{Code}
 use Rattle.mx_pcchain.specs.declared.chain.Chain.{Chain}
 use Rattle.mx_pcchain.specs.declared.psw.Psw.{Psw}
 use Rattle.mx_pcchain.specs.Fetch.{Fetch}

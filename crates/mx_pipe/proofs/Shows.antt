@@ -1,6 +1,6 @@
 -- What is shown of a turn moves on with its words, unless a branch or an interrupt marked them.
 use Rattle.std.proofs.Common.{◌≡◌, ℕ, ◌-◌, Bool, true, false, cond, eqb, true≢false, List, Option, Some, None, refl, sym}
-use Rattle.mx_code.specs.Delay.{Code}
+use Rattle.mx_delay.specs.Delay.{Code}
 use Rattle.mx_pcchain.specs.Fetch.{Fetch}
 use Rattle.mx_turn.specs.Counted.{after_stall}
 use Rattle.mx_turn.specs.Stages.{squash, stage_of}

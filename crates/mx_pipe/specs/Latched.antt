@@ -1,7 +1,7 @@
 -- What passes from one stage to the next.
 use Rattle.std.specs.Prelude.{ℕ, Bool, true, cond, Option, None, unwrap_or}
 use Rattle.mx_isa.specs.declared.inst.Inst.{Inst}
-use Rattle.mx_code.specs.Delay.{idle}
+use Rattle.mx_delay.specs.Delay.{idle}
 use Rattle.mx_pcchain.specs.Fetch.{Fetch}
 use Rattle.mx_turn.specs.Stages.{squash}
 

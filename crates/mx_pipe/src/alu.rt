@@ -4,7 +4,7 @@ ghost use Rattle.std.specs.Int.{w32, cast_unsigned};
 ghost use Rattle.mx_isa.specs.Words.{Words, reg};
 ghost use Rattle.mx_isa.specs.Arithmetic.{word_of};
 ghost use Rattle.mx_isa.specs.Views.{sources};
-ghost use Rattle.mx_code.specs.Delay.{idle, next_of};
+ghost use Rattle.mx_delay.specs.Delay.{idle, next_of};
 ghost use Rattle.mx_turn.specs.Decoded.{ShiftFits};
 ghost use Rattle.mx_turn.specs.Stages.{address_of};
 ghost use Rattle.mx_turn.specs.System.{number_of};

@@ -3,7 +3,7 @@ ghost use Rattle.std.specs.Prelude.{◌≡◌, ◌<◌, ◌+◌, ◌^◌, ℕ, B
 ghost use Rattle.mx_isa.specs.Words.{Words};
 ghost use Rattle.mx_pcchain.specs.Chain.{fetch_from, pop};
 ghost use Rattle.mx_pcchain.specs.Modes.{psw_restored};
-ghost use Rattle.mx_code.specs.Delay.{Code, next_of};
+ghost use Rattle.mx_delay.specs.Delay.{Code, next_of};
 ghost use Rattle.mx_icache.specs.Residency.{resident};
 ghost use Rattle.mx_turn.specs.Counted.{after_turn, after_stall};
 ghost use Rattle.mx_turn.specs.Stages.{fetch_of, stage_of};
@@ -456,23 +456,13 @@ impl<C: FetchCache> Machine for Pipe<C> {
 
     fn cycle(&mut self, request: bool) -> Cycled {
         if self.halted {
-            return Cycled {
-                byte: None,
-                taken: false,
-                halted: true,
-                stalled: false,
-            };
+            return Cycled::after_halt();
         }
         self.latch_request(request);
         let left = self.left();
         if left > 0 {
             self.stall(left - 1);
-            return Cycled {
-                byte: None,
-                taken: false,
-                halted: false,
-                stalled: true,
-            };
+            return Cycled::in_stall();
         }
         self.act()
     }

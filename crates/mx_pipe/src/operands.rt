@@ -2,7 +2,7 @@
 ghost use Rattle.std.specs.Prelude.{◌≡◌, ◌≤◌, IfSome, slice_index, unwrap_or};
 ghost use Rattle.mx_isa.specs.Words.{reg, write};
 ghost use Rattle.mx_isa.specs.Views.{sources, dest};
-ghost use Rattle.mx_code.specs.Delay.{idle};
+ghost use Rattle.mx_delay.specs.Delay.{idle};
 ghost use Rattle.mx_turn.specs.Decoded.{ShiftFits};
 ghost use Rattle.mx_pipe.specs.Latched.{does};
 

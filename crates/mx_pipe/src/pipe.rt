@@ -4,7 +4,6 @@ ghost use Rattle.std.specs.Option.{option_copied};
 ghost use Rattle.mx_io.specs.declared.limits.TheConstants.{MAX_FILE_BYTES};
 ghost use Rattle.mx_isa.specs.declared.board.TheConstants.{CODE_BASE};
 ghost use Rattle.mx_board.specs.Contents.{bytes_in};
-ghost use Rattle.mx_turn.specs.declared.latches.Stage.{Stage};
 ghost use Rattle.mx_turn.specs.Handler.{shipped};
 ghost use Rattle.mx_turn.specs.Program.{program_of};
 ghost use Rattle.mx_pipe.specs.Kept.{StandsFor};
@@ -16,7 +15,7 @@ use mx_icache::FetchCache;
 use mx_io::Memory;
 use mx_isa::CODE_BASE;
 use mx_pcchain::{Chain, Fetched, Psw};
-use mx_turn::{Counts, Decoded, Latches, SHIPPED, Stage, fetch_of};
+use mx_turn::{Counts, Decoded, Latches, SHIPPED, fetch_of};
 use std::alloc::Global;
 
 /// Whether the cache has been asked for the fetch of the coming turn, and the stalled cycles that are left where that
@@ -61,22 +60,6 @@ pub struct Pipe<C> {
     pub handler: Vec<u32>,
     /// The same, decoded.
     pub decoded: Decoded,
-}
-
-// What is shown before the first turn.
-fn nothing() -> Latches
-    ensures { result ≡ record { fetch = Stage.Empty; rf = Stage.Empty; alu = Stage.Empty; mem = Stage.Empty; wb = Stage.Empty; a = 0; b = 0; result = 0 } }
-{
-    Latches {
-        fetch: Stage::Empty,
-        rf: Stage::Empty,
-        alu: Stage::Empty,
-        mem: Stage::Empty,
-        wb: Stage::Empty,
-        a: 0,
-        b: 0,
-        result: 0,
-    }
 }
 
 // The words of a list, in a list of their own.
@@ -140,7 +123,7 @@ impl<C: FetchCache> Pipe<C> {
             psw: Psw::start(),
             chain: Chain::new(),
             counts: Counts::none(),
-            shown: nothing(),
+            shown: Latches::before_turns(),
             board,
             cache,
             code,

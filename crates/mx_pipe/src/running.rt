@@ -3,7 +3,7 @@ ghost use Rattle.std.specs.Prelude.{◌≡◌, ◌<◌, ◌≤◌, ◌+◌, ◌^
 ghost use Rattle.mx_isa.specs.declared.board.TheConstants.{MAX_CODE_WORDS};
 ghost use Rattle.mx_isa.specs.Words.{Words, reg};
 ghost use Rattle.mx_isa.specs.Views.{dest, is_load, is_halt};
-ghost use Rattle.mx_code.specs.Delay.{Code};
+ghost use Rattle.mx_delay.specs.Delay.{Code};
 ghost use Rattle.mx_icache.specs.Residency.{resident};
 ghost use Rattle.mx_turn.specs.Counted.{Counted, after_turn};
 ghost use Rattle.mx_turn.specs.Decoded.{code_in};

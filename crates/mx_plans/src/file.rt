@@ -1,6 +1,7 @@
 //! Reading a plan file.
 ghost use Rattle.std.specs.Prelude.{◌≡◌, ◌≤◌, ◌==◌, OnOk, IfOk, IfErr, length, ltb, Ok, Err};
 ghost use Rattle.std.specs.List.{list_any};
+ghost use Rattle.mx_io.specs.declared.limits.TheConstants.{MAX_SOURCE_BYTES};
 ghost use Rattle.mx_plans.specs.Marks.{is_terminator};
 ghost use Rattle.mx_plans.specs.Files.{after_word, after_piece, line_marks, line_said, plans_in, marks_of_lines, IsRefused};
 
@@ -115,7 +116,7 @@ fn line_said(is_there: bool, line: &[u8]) -> Result<PlanLine, PlanFault>
 
 /// The lines of a plan file for so many blocks, or its first faulty line.
 pub fn read_plans(alloc: Global, blocks: usize, text: &[u8]) -> Result<Vec<PlanLine>, PlanError>
-    requires { length text.now ≤ 4194304 }
+    requires { length text.now ≤ MAX_SOURCE_BYTES }
     ensures read { IfOk result (λ lines. plans_in blocks text.now ≡ Ok (marks_of_lines lines.items)) }
     ensures refused { IfErr result (IsRefused (plans_in blocks text.now)) }
 {

@@ -2,7 +2,6 @@
 #![tactic(auto)]
 
 mod file;
-mod keeping;
 mod laws;
 mod linking;
 mod mark;

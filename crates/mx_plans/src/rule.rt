@@ -2,11 +2,11 @@
 ghost use Rattle.std.specs.Prelude.{◌≡◌, ◌↔◌, ◌<◌, ◌+◌, IsTrue, MatchOption};
 ghost use Rattle.mx_plans.specs.Rules.{rank, Keeps, IsVerdict};
 
-use crate::keeping::{
-    ends_without_load, has_length, has_place, keeps_apart, keeps_order, stands_once,
-};
 use mx_blocks::{Block, Plan};
 use mx_validate::padded;
+use mx_validate::rules::{
+    ends_without_load, has_length, has_place, keeps_apart, keeps_order, stands_once,
+};
 
 /// A rule of a valid plan.
 #[derive(Clone, Copy, Debug, PartialEq, Eq)]

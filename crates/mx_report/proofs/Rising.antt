@@ -1,12 +1,14 @@
 -- Among rising numbers the next request is the only one that can come in a cycle.
 use Rattle.std.proofs.Common.{◌≡◌, ◌≢◌, ◌<◌, ◌≤◌, ◌+◌, ◌-◌, ◌⊎◌, inl, inr, ℕ, zero, suc, true, false, cond, List, [], ◌∷◌, ◌++◌, length, get_or}
 use Rattle.std.proofs.Common.{refl, arith, ap, ◌∙◌, subst, sym, ⊎_elim}
-use Rattle.std.specs.Prelude.{eqb, nat_lt}
+use Rattle.std.specs.Prelude.{eqb, nat_lt, min}
+use Rattle.std.specs.List.{prefix_len}
 use Rattle.std.specs.List.Sorted.{IsStrictlyIncreasing}
 use Rattle.std.proofs.lemmas.Bool.{cases_Bool, cases_lt, cond-true}
 use Rattle.std.proofs.lemmas.Bool.Decides.{nat_tests}
 use Rattle.std.proofs.lemmas.Grind.{get_or_default_zero}
 use Rattle.std.proofs.lemmas.List.Kept.{AllPairs-from_increasing}
+use Rattle.std.proofs.lemmas.List.Sums.{prefix_len_is}
 use Rattle.std.proofs.lemmas.List.Folds.{list_any_at, list_any_none}
 use Rattle.mx_board.specs.RequestFile.{is_wanted}
 use Rattle.mx_turn.specs.Program.{quiet}
@@ -91,6 +93,15 @@ parts_at xs rising (suc n) =
     subst (λ k. Parts xs k (suc n)) (sym e) (parts_elsewhere xs rising place n parts elsewhere))
     (found_or_not xs place n)
 
+-- so many stand in front that are before the cycle
+pub first_not_before : (xs : List ℕ) → IsStrictlyIncreasing xs → (n : ℕ) → prefix_len (λ c. nat_lt c n) xs ≡ met_before xs n
+first_not_before xs rising n =
+    let place = met_before xs n in
+    let parts = parts_at xs rising n in
+    prefix_len_is (λ c. nat_lt c n) xs place 0 parts.within
+    (λ k lt. let less = parts.before k lt in grind (arith, nat_tests))
+    (λ lt. let more = parts.behind place (omega arith) lt in grind (arith, nat_tests))
+
 next_is_not : (xs : List ℕ) (place n : ℕ) → next_at xs place ≢ n → place < length xs → get_or xs place 0 ≢ n
 next_is_not xs place n other lt =
     let test : nat_lt place (length xs) ≡ true = grind (arith, nat_tests) in
@@ -122,3 +133,8 @@ skipped xs rising cursor n at (suc k) (suc m) e le =
       λ i. earlier.0 i ++ passed_unwanted xs rising cursor m earlier.1 other i ∷ [],
       (passed_same xs rising cursor m earlier.1 other, earlier.1.1),
     )
+
+-- nor do those until then within a budget, with one cycle left
+pub passed : (xs : List ℕ) → IsStrictlyIncreasing xs → (cursor : Cursor) (n : ℕ) → IsAt xs cursor n → (k most to : ℕ)
+    → most ≡ min cursor.next (to - 1) - n → k ≤ most → (bits xs (k + n) ≡ quiet (bits xs n) k) × IsAt xs cursor (k + n)
+passed xs rising cursor n at k most to is le = skipped xs rising cursor n at k (k + n) (omega arith) (omega (arith, is, le))

@@ -1,11 +1,11 @@
 -- Runs that grow by a cycle, and runs that have halted.
 use Rattle.std.proofs.Common.{◌≡◌, ◌≤◌, ℕ, zero, suc, Bool, true, false, cond, List}
-use Rattle.std.proofs.Common.{[], ◌∷◌, ◌++◌, option_to_list, append_assoc, append-nil, arith, sym, ap, ◌∙◌, ⊎_elim}
+use Rattle.std.proofs.Common.{[], ◌∷◌, ◌++◌, option_to_list, append_assoc, append-nil, arith, refl, sym, ap, ◌∙◌, subst, ⊎_elim, true≢false}
 use Rattle.std.specs.Prelude.{min, eqb, nat_lt, Option}
 use Rattle.std.proofs.lemmas.Bool.Decides.{nat_tests}
 use Rattle.std.proofs.lemmas.Grind.{common_steps}
 use Rattle.std.proofs.lemmas.Bool.{cases_Bool, cases_lt, cond-true, cond-false}
-use Rattle.mx_code.specs.Delay.{Code}
+use Rattle.mx_delay.specs.Delay.{Code}
 use Rattle.mx_icache.specs.Residency.{resident}
 use Rattle.mx_turn.specs.declared.Cycled.{Cycled}
 use Rattle.mx_turn.specs.Cycle.{Machine, start, is_taken, entered, decided, turned, ended, reached, latched, acted, cycled, answer, acted_answer, after_bits}
@@ -142,3 +142,26 @@ module _ (p : Program) (requests : List ℕ) where
         (λ ge. let later : n ≤ min t m = omega arith in let e : n ≡ min t n = omega arith in
         trace_still (min t m) later ∙ ap (trace_text p requests) e)
         (cases_lt t n)
+
+  -- a machine that has not halted had not halted before
+  pub going_before : (n m : ℕ) → n ≤ m → (state_at m).halted ≡ false → (state_at n).halted ≡ false
+  going_before n m le going = ⊎_elim
+      (λ h. absurd (true≢false (sym (halted_still n h m le) ∙ going)))
+      (λ h. h)
+      (cases_Bool (state_at n).halted)
+
+  -- what is so where a run ended, and stays so once the machine has halted, is so at the end of its budget
+  pub at_end : (P : ℕ → Type 0) (n m : ℕ) (halted : Bool) → halted ≡ (state_at n).halted → (halted ≡ false → n ≡ m)
+      → ((state_at n).halted ≡ true → P n → P m) → P n → P m
+  at_end P n m true is whole still now = still (sym is) now
+  at_end P n m false is whole still now = subst P (whole refl) now
+
+  -- the console and the trace at the end of a budget are those of the cycles until the machine halts
+  module _ (n m : ℕ) (halted : Bool) (is : halted ≡ (state_at n).halted) (within : n ≤ m) (whole : halted ≡ false → n ≡ m) where
+    pub console_end : console_after p (bits requests n) ≡ console_after p (bits requests m)
+    console_end = at_end (λ k. console_after p (bits requests n) ≡ console_after p (bits requests k)) n m halted is whole
+        (λ h e. sym (console_still n h m within)) refl
+
+    pub trace_end : (t : ℕ) → trace_text p requests (min t n) ≡ trace_text p requests (min t m)
+    trace_end t = at_end (λ k. trace_text p requests (min t n) ≡ trace_text p requests (min t k)) n m halted is whole
+        (λ h e. sym (trace_within n h t m within)) refl

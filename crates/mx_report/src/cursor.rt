@@ -1,5 +1,6 @@
 //! Requests that are met in turn.
-ghost use Rattle.std.specs.Prelude.{◌≡◌, ◌<◌, suc, length};
+ghost use Rattle.std.specs.Prelude.{◌≡◌, ◌<◌, suc, length, nat_lt};
+ghost use Rattle.std.specs.List.{prefix_len};
 ghost use Rattle.std.specs.List.Sorted.{IsStrictlyIncreasing};
 ghost use Rattle.mx_board.specs.RequestFile.{is_wanted};
 ghost use Rattle.mx_report.specs.Cursor.{next_at, IsAt};
@@ -24,6 +25,13 @@ fn next_at(list: &[u32], place: usize) -> u64
     }
 }
 
+// How many requests stand in front that come before a cycle.
+fn requests_before(list: &[u32], cycle: u32) -> usize
+    ensures { result ≡ prefix_len (λ next. nat_lt next cycle) list.now }
+{
+    list.iter().take_while(|next| **next < cycle).count()
+}
+
 impl Cursor {
     /// Before the first cycle.
     pub fn start(list: &[u32]) -> Cursor
@@ -32,6 +40,18 @@ impl Cursor {
         Cursor {
             place: 0,
             next: next_at(list, 0),
+        }
+    }
+
+    /// Before a cycle: it has met the requests that come before it.
+    pub fn at(list: &[u32], cycle: u32) -> Cursor
+        requires ascending { IsStrictlyIncreasing list.now }
+        ensures { IsAt list.now result cycle }
+    {
+        let place = requests_before(list, cycle);
+        Cursor {
+            place,
+            next: next_at(list, place),
         }
     }
 

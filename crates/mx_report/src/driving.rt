@@ -1,15 +1,11 @@
 //! Running a machine.
-ghost use Rattle.std.specs.Prelude.{◌≡◌, ◌≤◌, ◌<◌, ◌+◌, ◌-◌, ◌++◌, ◌^◌, [], List, ℕ, Bool, true, OnOk, IfOk, cond, false, suc, min};
-ghost use Rattle.std.specs.Option.{option_to_list};
-ghost use Rattle.std.specs.List.Sorted.{IsStrictlyIncreasing};
-ghost use Rattle.mx_board.specs.RequestFile.{is_wanted};
-ghost use Rattle.mx_report.specs.Cursor.{IsAt};
-ghost use Rattle.mx_turn.specs.Program.{Program, state_after, answer_after};
+ghost use Rattle.std.specs.Prelude.{◌≡◌, ◌≤◌, ◌<◌, ◌+◌, ◌++◌, ◌^◌, [], List, ℕ, Bool, OnOk, IfOk, cond, false, suc, min};
+ghost use Rattle.mx_turn.specs.Program.{Program, state_after};
 ghost use Rattle.mx_turn.specs.Run.{bits, console_after, run_of};
 ghost use Rattle.mx_report.specs.Driving.{trace_text};
 ghost use Rattle.mx_report.specs.Trace.{line_of, trace_line};
 
-use crate::cursor::Cursor;
+use crate::observing::{Observer, observe};
 use crate::traces::push_trace_line;
 use mx_board::Requests;
 use mx_io::Memory;
@@ -62,134 +58,72 @@ fn push_line_if<M: Machine>(
     }
 }
 
-// Ends a cycle with its line, where it is one of those asked for, and answers whether the machine has halted.
-// A halt is told apart first: a cycle that did not halt then has nothing to keep for its answer.
-fn end_cycle<M: Machine>(
+// What `drive` looks at: the lines of the first cycles.
+#[derive(Drop)]
+struct Tracer {
     alloc: Global,
-    text: &mut Vec<u8>,
-    asked: bool,
-    cycle: u32,
-    cycled: &Cycled,
-    machine: &M,
-) -> Result<bool, AllocError>
-    ensures line { OnOk result ((p : Program) (h : List Bool) → M.stands machine.now p h
-        → text.new.items ≡ text.old.items ++ cond asked (trace_line cycle cycled.now (state_after p h).shown) []) }
-    ensures halted { IfOk result (λ halted. halted ≡ cycled.now.halted) }
+    lines: u32,
+}
+
+// What it notes: the console, and the lines.
+#[derive(Drop)]
+struct Traced {
+    console: Vec<u8>,
+    text: Vec<u8>,
+}
+
+// Nothing yet.
+fn nothing_traced(alloc: Global) -> Traced
+    ensures console { result.console.items ≡ [] }
+    ensures text { result.text.items ≡ [] }
 {
-    if cycled.halted {
-        push_line_if(alloc, text, asked, cycle, cycled, machine)?;
-        return Ok(true);
+    Traced {
+        console: Vec::new(alloc),
+        text: Vec::new(alloc),
     }
-    push_line_if(alloc, text, asked, cycle, cycled, machine)?;
-    Ok(false)
 }
 
-// One cycle, the first being 0: its byte, its line where it is one of the first `trace`, and whether the machine has halted.
-fn run_cycle<M: Machine>(
-    alloc: Global,
-    machine: &mut M,
-    list: &[u32],
-    cursor: &mut Cursor,
-    cycle: u32,
-    trace: u32,
-    console: &mut Vec<u8>,
-    text: &mut Vec<u8>,
-) -> Result<bool, AllocError>
-    requires cycles { M.cycles machine.old < 2 ^ 63 }
-    requires ascending { IsStrictlyIncreasing list.now }
-    requires before { IsAt list.now cursor.old cycle }
-    ensures after { OnOk result (IsAt list.now cursor.new (suc cycle)) }
-    ensures halted { IfOk result
-        (λ halted. (p : Program) → M.stands machine.old p (bits list.now cycle) → halted ≡ (state_after p (bits list.now (suc cycle))).halted) }
-    ensures stands { OnOk result ((p : Program) → M.stands machine.old p (bits list.now cycle) → M.stands machine.new p (bits list.now (suc cycle))) }
-    ensures console { OnOk result ((p : Program) → M.stands machine.old p (bits list.now cycle)
-        → console.old.items ≡ console_after p (bits list.now cycle) → console.new.items ≡ console_after p (bits list.now (suc cycle))) }
-    ensures trace { OnOk result ((p : Program) → M.stands machine.old p (bits list.now cycle) → (state_after p (bits list.now cycle)).halted ≡ false
-        → text.old.items ≡ trace_text p list.now (min trace cycle) → text.new.items ≡ trace_text p list.now (min trace (suc cycle))) }
-    ensures cycles { M.cycles machine.new ≤ M.cycles machine.old + 1 }
-{
-    let cycled = machine.cycle(cursor.comes(list, cycle));
-    push_byte(console, cycled.byte)?;
-    let halted = end_cycle(alloc, text, cycle < trace, cycle, &cycled, machine)?;
-    Ok(halted)
-}
+impl<M: Machine> Observer<M> for Tracer {
+    type Notes = Traced;
 
-// Goes on at once as far as no request comes, with one cycle of the budget left, once the cycles that may have a line are done.
-// Answers the cycle that comes next.
-fn run_ahead<M: Machine>(
-    machine: &mut M,
-    list: &[u32],
-    cursor: &Cursor,
-    cycle: u32,
-    budget: u32,
-    trace: u32,
-    console: &mut Vec<u8>,
-) -> Result<u32, AllocError>
-    requires budget { cycle < budget }
-    requires cycles { M.cycles machine.old ≤ cycle }
-    requires ascending { IsStrictlyIncreasing list.now }
-    requires before { IsAt list.now cursor.now cycle }
-    ensures onward { IfOk result (λ next. cycle ≤ next) }
-    ensures budget { IfOk result (λ next. next < budget) }
-    ensures cycles { IfOk result (λ next. M.cycles machine.new ≤ next) }
-    ensures after { IfOk result (λ next. IsAt list.now cursor.now next) }
-    ensures stands { IfOk result (λ next. (p : Program) → M.stands machine.old p (bits list.now cycle) → M.stands machine.new p (bits list.now next)) }
-    ensures console { IfOk result (λ next. (p : Program) → M.stands machine.old p (bits list.now cycle)
-        → console.old.items ≡ console_after p (bits list.now cycle) → console.new.items ≡ console_after p (bits list.now next)) }
-    ensures going { IfOk result (λ next. (p : Program) → M.stands machine.old p (bits list.now cycle)
-        → (state_after p (bits list.now cycle)).halted ≡ false → (state_after p (bits list.now next)).halted ≡ false) }
-    ensures lines { IfOk result (λ next. min trace next ≡ min trace cycle) }
-{
-    if cycle < trace {
-        return Ok(cycle);
+    ghost saw = { λ tracer traced p requests n.
+        (traced.console.items ≡ console_after p (bits requests n)) × (traced.text.items ≡ trace_text p requests (min tracer.lines n)) };
+
+    ghost fits = { λ tracer traced n. Unit {0} };
+
+    ghost enough = { λ tracer traced. false };
+
+    fn has_enough(&self, _notes: &Traced) -> bool {
+        false
     }
-    let quiet = cursor
-        .next
-        .min(u64::from(budget - 1))
-        .saturating_sub(u64::from(cycle));
-    let done = machine.advance(quiet, console)?;
-    Ok(cycle + done as u32)
-}
 
-// Runs the machine until it halts or the budget is spent, and answers whether it halted.
-fn run_cycles<M: Machine>(
-    alloc: Global,
-    machine: &mut M,
-    list: &[u32],
-    budget: u32,
-    trace: u32,
-    console: &mut Vec<u8>,
-    text: &mut Vec<u8>,
-) -> Result<bool, AllocError>
-    requires ascending { IsStrictlyIncreasing list.now }
-    requires start { M.cycles machine.old ≡ 0 }
-    requires console { console.old.items ≡ [] }
-    requires text { text.old.items ≡ [] }
-    ensures halted { IfOk result (λ halted. (p : Program) → M.stands machine.old p [] → halted ≡ (run_of p list.now budget).halted) }
-    ensures console { OnOk result ((p : Program) → M.stands machine.old p [] → console.new.items ≡ (run_of p list.now budget).console) }
-    ensures trace { OnOk result ((p : Program) → M.stands machine.old p [] → text.new.items ≡ trace_text p list.now (min trace budget)) }
-    ensures stands { OnOk result
-        ((p : Program) → M.stands machine.old p [] → (h : List Bool) × M.stands machine.new p h × (state_after p h ≡ (run_of p list.now budget).last)) }
-{
-    let mut cursor = Cursor::start(list);
-    let mut cycle = 0;
-    while cycle < budget {
-        cycle = run_ahead(machine, list, &cursor, cycle, budget, trace, console)?;
-        if run_cycle(
-            alloc,
-            machine,
-            list,
-            &mut cursor,
-            cycle,
-            trace,
-            console,
-            text,
-        )? {
-            return Ok(true);
+    fn cycle(
+        &self,
+        notes: &mut Traced,
+        machine: &mut M,
+        cycle: u32,
+        request: bool,
+    ) -> Result<Cycled, AllocError> {
+        let cycled = machine.cycle(request);
+        push_byte(&mut notes.console, cycled.byte)?;
+        let asked = cycle < self.lines;
+        push_line_if(self.alloc, &mut notes.text, asked, cycle, &cycled, machine)?;
+        Ok(cycled)
+    }
+
+    fn advance(
+        &self,
+        notes: &mut Traced,
+        machine: &mut M,
+        cycle: u32,
+        most: u32,
+    ) -> Result<u32, AllocError> {
+        if cycle < self.lines {
+            return Ok(0);
         }
-        cycle += 1;
+        let done = machine.advance(u64::from(most), &mut notes.console)?;
+        Ok(done as u32)
     }
-    Ok(false)
 }
 
 /// Runs a machine from its start: the cycles 0, 1 and so on, each with its request, until the machine halts or `budget`
@@ -209,23 +143,19 @@ pub fn drive<M: Machine>(
     ensures stands { OnOk result
         ((p : Program) → M.stands machine.old p [] → (h : List Bool) × M.stands machine.new p h × (state_after p h ≡ (run_of p requests.now budget).last)) }
 {
-    let mut console = Vec::new(alloc);
-    let mut text = Vec::new(alloc);
-    match run_cycles(
+    let tracer = Tracer {
         alloc,
-        machine,
-        requests.list(),
-        budget,
-        trace,
-        &mut console,
-        &mut text,
-    ) {
-        Ok(halted) => Ok(Driven {
-            halted,
-            counts: machine.counts(),
-            console,
-            trace: text,
-        }),
-        Err(_) => Err(Memory),
-    }
+        lines: trace,
+    };
+    let mut traced = nothing_traced(alloc);
+    let reached = match observe(machine, requests, 0, budget, &tracer, &mut traced) {
+        Ok(reached) => reached,
+        Err(_) => return Err(Memory),
+    };
+    Ok(Driven {
+        halted: reached.halted,
+        counts: machine.counts(),
+        console: traced.console,
+        trace: traced.text,
+    })
 }

@@ -3,11 +3,13 @@
 
 mod cursor;
 mod driving;
+mod observing;
 mod reports;
 mod traces;
 
 pub use cursor::Cursor;
 pub use driving::{Driven, drive};
 pub use mx_io::Memory;
+pub use observing::{Observer, Reached, observe};
 pub use reports::{Dump, push_counts, report};
 pub use traces::trace_line;

@@ -1,3 +1,4 @@
+-- What a step of the meaning answers.
 use Rattle.std.specs.Prelude.{ℕ, Option}
 use Rattle.mx_source.specs.Meaning.{Mark, Going, Halted, Stuck, Step}
 use Rattle.mx_seq.specs.declared.machine.Stepped.{Stepped}

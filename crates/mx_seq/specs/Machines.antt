@@ -1,3 +1,4 @@
+-- The state that the code keeps of a run of the meaning.
 use Rattle.std.specs.Prelude.{◌≡◌, ℕ, suc, cond, length}
 use Rattle.mx_isa.specs.Effect.{Found}
 use Rattle.mx_source.specs.declared.statement.Value.TheVariants.{Int}

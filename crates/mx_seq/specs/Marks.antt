@@ -1,3 +1,4 @@
+-- How a run of the meaning stands, as the code keeps it.
 use Rattle.mx_source.specs.Meaning as meant
 use Rattle.mx_seq.specs.declared.machine.Mark.{Mark}
 use Rattle.mx_seq.specs.declared.machine.Mark.TheVariants.{Going, Halted, Stuck}

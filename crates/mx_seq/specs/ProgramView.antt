@@ -1,3 +1,4 @@
+-- What contracts see of a program.
 use Rattle.mx_source.specs.Meaning.{Program}
 use Rattle.mx_seq.specs.Programs.{bytes_in}
 use Rattle.mx_seq.specs.declared.program.Program.TheInside.{Inside}

@@ -1,3 +1,4 @@
+-- What contracts see of a run of the meaning.
 use Rattle.mx_source.specs.Meaning.{Program, State}
 use Rattle.mx_seq.specs.Machines.{machine_state}
 use Rattle.mx_seq.specs.declared.seq.Seq.{Seq}

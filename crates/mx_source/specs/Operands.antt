@@ -1,3 +1,4 @@
+-- The texts of operands.
 use Rattle.std.specs.Prelude.{ℕ, List, codes, decimal}
 use Rattle.mx_source.specs.declared.text.Operand.{Operand}
 use Rattle.mx_source.specs.declared.text.Operand.TheVariants.{Register, Immediate, Count, Memory, Md, Name, Word}

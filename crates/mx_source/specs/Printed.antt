@@ -48,22 +48,31 @@ memory offset base = signed_decimal offset ++ codes "[" ++ register base ++ code
 abbrev pub spelled : List ℕ → List (List ℕ) → List ℕ
 spelled mnemonic operands = mnemonic ++ codes " " ++ join_with_byte 44 operands
 
-abbrev pub compute_text : Op → ℕ → ℕ → ℕ → List ℕ
-compute_text Add a b dest = spelled (codes "add") (register a ∷ register b ∷ register dest ∷ [])
-compute_text Sub a b dest = spelled (codes "sub") (register a ∷ register b ∷ register dest ∷ [])
-compute_text Subnc a b dest = spelled (codes "subnc") (register a ∷ register b ∷ register dest ∷ [])
-compute_text And a b dest = spelled (codes "and") (register a ∷ register b ∷ register dest ∷ [])
-compute_text Or a b dest = spelled (codes "or") (register a ∷ register b ∷ register dest ∷ [])
-compute_text Xor a b dest = spelled (codes "xor") (register a ∷ register b ∷ register dest ∷ [])
-compute_text Bic a b dest = spelled (codes "bic") (register a ∷ register b ∷ register dest ∷ [])
-compute_text Rotlb a b dest = spelled (codes "rotlb") (register a ∷ register b ∷ register dest ∷ [])
-compute_text Mstep a b dest = spelled (codes "mstep") (register a ∷ register b ∷ register dest ∷ [])
-compute_text Dstep a b dest = spelled (codes "dstep") (register a ∷ register b ∷ register dest ∷ [])
-compute_text Not a b dest = spelled (codes "not") (register a ∷ register dest ∷ [])
-compute_text Mstart a b dest = spelled (codes "mstart") (register b ∷ register dest ∷ [])
-compute_text (Asr n) a b dest = spelled (codes "asr") (register a ∷ count n ∷ register dest ∷ [])
-compute_text (Sh n) a b dest = spelled (codes "sh") (register a ∷ register b ∷ count n ∷ register dest ∷ [])
+-- the mnemonic of an operation
+abbrev pub operation_text : Op → List ℕ
+operation_text Add = codes "add"
+operation_text Sub = codes "sub"
+operation_text Subnc = codes "subnc"
+operation_text And = codes "and"
+operation_text Or = codes "or"
+operation_text Xor = codes "xor"
+operation_text Bic = codes "bic"
+operation_text Not = codes "not"
+operation_text Rotlb = codes "rotlb"
+operation_text Mstart = codes "mstart"
+operation_text Mstep = codes "mstep"
+operation_text Dstep = codes "dstep"
+operation_text (Asr n) = codes "asr"
+operation_text (Sh n) = codes "sh"
 
+abbrev pub compute_text : Op → ℕ → ℕ → ℕ → List ℕ
+compute_text Not a b dest = spelled (operation_text Not) (register a ∷ register dest ∷ [])
+compute_text Mstart a b dest = spelled (operation_text Mstart) (register b ∷ register dest ∷ [])
+compute_text (Asr n) a b dest = spelled (operation_text (Asr n)) (register a ∷ count n ∷ register dest ∷ [])
+compute_text (Sh n) a b dest = spelled (operation_text (Sh n)) (register a ∷ register b ∷ count n ∷ register dest ∷ [])
+compute_text op a b dest = spelled (operation_text op) (register a ∷ register b ∷ register dest ∷ [])
+
+-- the mnemonic of a branch
 abbrev pub condition_text : Cond → List ℕ
 condition_text Eq = codes "beq"
 condition_text Ne = codes "bne"

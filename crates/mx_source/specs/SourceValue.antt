@@ -17,8 +17,8 @@ pub record SourceValue : Type 0 where
   pub input : Option ℕ
 
 -- the source of these lists, without input
-abbrev pub source_of : List Statement → List ℕ → List Value → List (List ℕ × Label) → SourceValue
-source_of statements lines user_data labels =
+abbrev pub plain_source : List Statement → List ℕ → List Value → List (List ℕ × Label) → SourceValue
+plain_source statements lines user_data labels =
     record { statements = statements; lines = lines; user_data = user_data; labels = labels; input = None }
 
 -- what each source keeps to

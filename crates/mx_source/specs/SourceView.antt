@@ -1,3 +1,4 @@
+-- What contracts see of a source.
 use Rattle.mx_source.specs.Names.{named_labels}
 use Rattle.mx_source.specs.SourceValue.{SourceValue}
 use Rattle.mx_source.specs.declared.source.Source.TheInside.{Inside}

@@ -4,6 +4,7 @@
 mod group;
 mod grouping;
 mod laws;
+mod mnemonic;
 mod name;
 mod print;
 mod source;
@@ -11,6 +12,7 @@ mod statement;
 mod text;
 
 pub use laws::names_are_their_bytes;
+pub use mnemonic::{branch_name, operation_name};
 pub use mx_io::Memory;
 pub use mx_isa::Place;
 pub use name::Name;

@@ -13,6 +13,7 @@ ghost use Rattle.mx_source.specs.Groups.{AreGroups};
 
 use crate::group::{Group, Section};
 use crate::grouping::groups;
+use crate::mnemonic::branch_name;
 use crate::text::{Operand, Text};
 use crate::{Label, Name, Source, Statement, Value};
 use indexmap::IndexMap;
@@ -167,16 +168,9 @@ fn name(places: &[Group], i: u32) -> Operand<'_>
     Operand::Name(places[i as usize].first())
 }
 
-/// The mnemonic of a branch.
+/// The mnemonic of a branch, as bytes.
 fn mnemonic(cond: Cond) -> &'static [u8]
     ensures { result.now ≡ condition_text cond }
 {
-    match cond {
-        Cond::Eq => b"beq",
-        Cond::Ne => b"bne",
-        Cond::Lt => b"blt",
-        Cond::Ge => b"bge",
-        Cond::Lo => b"blo",
-        Cond::Hs => b"bhs",
-    }
+    branch_name(cond).as_bytes()
 }

@@ -34,7 +34,7 @@ impl Model for Source {
 
 impl Source {
     ghost use Rattle.mx_source.specs.Names.{named_labels, AreApart};
-    ghost use Rattle.mx_source.specs.SourceValue.{SourceValue, IsSource, source_of};
+    ghost use Rattle.mx_source.specs.SourceValue.{SourceValue, IsSource, plain_source};
     ghost use Rattle.mx_source.specs.Printed.{printed};
 
     /// The source of exactly these lists, without input. `lines` has the line of each statement,
@@ -45,8 +45,8 @@ impl Source {
         user_data: Vec<Value>,
         labels: IndexMap<Name, Label>,
     ) -> Source
-        requires { AreApart (named_labels labels.entries) → IsSource (source_of statements.items lines.items user_data.items (named_labels labels.entries)) }
-        ensures { result ≡ source_of statements.items lines.items user_data.items (named_labels labels.entries) }
+        requires { AreApart (named_labels labels.entries) → IsSource (plain_source statements.items lines.items user_data.items (named_labels labels.entries)) }
+        ensures { result ≡ plain_source statements.items lines.items user_data.items (named_labels labels.entries) }
     {
         // The map tells here that its keys are different.
         let _count = labels.len();

@@ -1,6 +1,7 @@
 //! A text, statement by statement.
 ghost use Rattle.std.specs.Prelude.{◌≡◌, ◌++◌, ◌∷◌, [], OnOk, codes};
 
+use crate::mnemonic::operation_name;
 use itoa::Buffer;
 use mx_isa::{Inst, Op, Reg};
 use std::alloc::{AllocError, Global};
@@ -180,21 +181,22 @@ impl Text {
             &Operand::Register(b),
             &Operand::Register(dest),
         );
+        let name = operation_name(op).as_bytes();
         match op {
-            Op::Add => self.three(b"add", first, second, last),
-            Op::Sub => self.three(b"sub", first, second, last),
-            Op::Subnc => self.three(b"subnc", first, second, last),
-            Op::And => self.three(b"and", first, second, last),
-            Op::Or => self.three(b"or", first, second, last),
-            Op::Xor => self.three(b"xor", first, second, last),
-            Op::Bic => self.three(b"bic", first, second, last),
-            Op::Rotlb => self.three(b"rotlb", first, second, last),
-            Op::Mstep => self.three(b"mstep", first, second, last),
-            Op::Dstep => self.three(b"dstep", first, second, last),
-            Op::Not => self.two(b"not", first, last),
-            Op::Mstart => self.two(b"mstart", second, last),
-            Op::Asr(n) => self.three(b"asr", first, &Operand::Count(n), last),
-            Op::Sh(n) => self.four(b"sh", first, second, &Operand::Count(n), last),
+            Op::Not => self.two(name, first, last),
+            Op::Mstart => self.two(name, second, last),
+            Op::Asr(n) => self.three(name, first, &Operand::Count(n), last),
+            Op::Sh(n) => self.four(name, first, second, &Operand::Count(n), last),
+            Op::Add
+            | Op::Sub
+            | Op::Subnc
+            | Op::And
+            | Op::Or
+            | Op::Xor
+            | Op::Bic
+            | Op::Rotlb
+            | Op::Mstep
+            | Op::Dstep => self.three(name, first, second, last),
         }
     }
 

@@ -3,9 +3,9 @@ use Rattle.std.proofs.Common.{◌≡◌, ℕ, Bool, false, cond, not, ◌&&◌, 
 use Rattle.mx_isa.specs.declared.inst.Inst.{Inst}
 use Rattle.mx_isa.specs.declared.inst.Inst.TheVariants.{Load, Store, Branch, Compute, Addi, MoveFrom, MoveTo, Jspci, Jpc, Jpcrs, Halt}
 use Rattle.mx_isa.specs.Words.{Words}
-use Rattle.mx_isa.specs.Effect.{Decision, decides, goes_on}
+use Rattle.mx_isa.specs.Effect.{Decision, decides, falls_through}
 use Rattle.mx_isa.specs.Views.{is_transfer}
-use Rattle.mx_code.specs.Delay.{Code, next_of}
+use Rattle.mx_delay.specs.Delay.{Code, next_of}
 use Rattle.mx_pcchain.specs.Fetch.{Fetch}
 use Rattle.mx_pcchain.specs.Chain.{pop}
 use Rattle.mx_pcchain.specs.Modes.{psw_restored}
@@ -15,7 +15,7 @@ use Rattle.mx_turn.specs.Cycle.{Machine, decision, decided_by, decided, led}
 use Rattle.mx_turn.specs.declared.alu_stage.Decided.{Decided}
 use Rattle.mx_turn.specs.Kept.{aside}
 
-pub goes_on_is : (i : Inst) (at : ℕ) (r : Words) → is_transfer i ≡ false → decides i at r ≡ goes_on
+pub goes_on_is : (i : Inst) (at : ℕ) (r : Words) → is_transfer i ≡ false → decides i at r ≡ falls_through
 goes_on_is (Load base d offset) at r e = refl
 goes_on_is (Store base value offset) at r e = refl
 goes_on_is (Branch a b condition s by) at r e = absurd (true≢false e)
@@ -65,8 +65,8 @@ decided_goes_on code m e =
     let i = live code m.alu in
     let d = goes_on_is i (address_of m.alu) (seen m.slot m.core.regs) e in
     sym ((λ k. by_parts (pops i) (restores i) (d k))
-    ∙ (λ k. by_parts (pops_not i e k) (restores i) goes_on)
-    ∙ (λ k. by_parts false (restores_not i e k) goes_on)
+    ∙ (λ k. by_parts (pops_not i e k) (restores i) falls_through)
+    ∙ (λ k. by_parts false (restores_not i e k) falls_through)
     ∙ (λ k. record m { next = fetch_of (next_of None m.next.address); fetch = unsquashed m.fetch k; rf = unsquashed m.rf k }))
   where
     by_parts : Bool → Bool → Decision → Machine

@@ -11,8 +11,8 @@ use Rattle.mx_isa.specs.Effect.{Sent, Found, Change, Decision, change, gives, de
 use Rattle.mx_isa.specs.Views.{Access, access, address, reads, is_halt, is_md}
 use Rattle.mx_isa.specs.UserBus.{is_user, user_bus, from_input, plain_word}
 use Rattle.mx_isa.proofs.Frame.{SeesAlike, FindsAlike, change_same, decides_same, sees_alike}
-use Rattle.mx_code.specs.Delay.{Code, Queued, queued, squash, next_of, idle, does, Delay, stepped, delay_step, delay_byte, user_byte}
-use Rattle.mx_code.specs.Clean.{is_lawful, is_clean_step}
+use Rattle.mx_delay.specs.Delay.{Code, Queued, queued, squash, next_of, idle, does, Delay, stepped, delay_step, delay_byte, user_byte}
+use Rattle.mx_delay.specs.Clean.{is_lawful, is_clean_step}
 use Rattle.mx_pcchain.specs.Fetch.{Fetch}
 use Rattle.mx_pcchain.specs.declared.chain.Chain.{Chain}
 use Rattle.mx_pcchain.specs.Chain.{special}

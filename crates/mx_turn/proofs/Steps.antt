@@ -1,7 +1,7 @@
 -- The parts of a turn.
 use Rattle.std.proofs.Common.{◌≡◌, ◌-◌, ℕ, Bool, true, false, eqb, not, ◌&&◌, List, [], ◌∷◌, ◌++◌, Option, None, refl, sym, ◌∙◌}
 use Rattle.std.proofs.lemmas.Bool.{cond-true, cond-false}
-use Rattle.mx_code.specs.Delay.{Code}
+use Rattle.mx_delay.specs.Delay.{Code}
 use Rattle.mx_turn.specs.declared.machine.Cycled.{Cycled}
 use Rattle.mx_turn.specs.Counted.{after_stall, after_turn}
 use Rattle.mx_turn.specs.Cycle.{Machine, is_taken, entered, decision, decided, turned, ended, takes, squashes, latched, reached, waited, acted, cycled, answer, acted_answer, after_bits}

@@ -7,7 +7,7 @@ use Rattle.std.proofs.lemmas.Option.{slice_get_past, unwrap_or-slice_get}
 use Rattle.std.proofs.lemmas.List.{length-append, length-map, length-replicate, get_or_append_left, get_or-append_right}
 use Rattle.mx_isa.specs.declared.inst.Inst.{Inst}
 use Rattle.mx_code.specs.Decoding.{inst_of}
-use Rattle.mx_code.specs.Delay.{idle, code_from}
+use Rattle.mx_delay.specs.Delay.{idle, code_from}
 use Rattle.mx_turn.specs.Decoded.{what_of, code_in}
 use Rattle.mx_pcchain.specs.Held.{stage_from}
 use Rattle.mx_turn.specs.Stages.{live}

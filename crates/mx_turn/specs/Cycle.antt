@@ -5,7 +5,7 @@ use Rattle.mx_isa.specs.declared.inst.Inst.{Inst}
 use Rattle.mx_isa.specs.Words.{Words, reg}
 use Rattle.mx_isa.specs.Effect.{Change, Decision, Core, Bus, decides, apply, sent}
 use Rattle.mx_isa.specs.Views.{sources, is_halt}
-use Rattle.mx_code.specs.Delay.{Code, next_of}
+use Rattle.mx_delay.specs.Delay.{Code, next_of}
 use Rattle.mx_pcchain.specs.declared.chain.Chain.{Chain}
 use Rattle.mx_pcchain.specs.declared.psw.Psw.{Psw}
 use Rattle.mx_pcchain.specs.Fetch.{Fetch}

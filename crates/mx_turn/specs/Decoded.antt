@@ -4,7 +4,7 @@ use Rattle.mx_isa.specs.declared.inst.Inst.{Inst}
 use Rattle.mx_isa.specs.declared.inst.Inst.TheVariants.{Compute}
 use Rattle.mx_isa.specs.Arithmetic.{CountFits}
 use Rattle.mx_code.specs.Decoding.{inst_of}
-use Rattle.mx_code.specs.Delay.{Code, idle}
+use Rattle.mx_delay.specs.Delay.{Code, idle}
 
 -- what a word does; one that spells nothing does nothing
 abbrev pub what_of : ℕ → Inst

@@ -2,7 +2,7 @@
 use Rattle.std.specs.Prelude.{◌≡◌, ℕ, Bool, not, cond, ◌&&◌, List, ◌∷◌, slice_index, unwrap_or}
 use Rattle.mx_isa.specs.Words.{Words, reg}
 use Rattle.mx_isa.specs.Views.{sources}
-use Rattle.mx_code.specs.Delay.{Code, next_of}
+use Rattle.mx_delay.specs.Delay.{Code, next_of}
 use Rattle.mx_icache.specs.Residency.{resident}
 use Rattle.mx_board.specs.Data.{words_of}
 use Rattle.mx_pcchain.specs.Chain.{fetch_from, pop}

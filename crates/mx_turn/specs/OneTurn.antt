@@ -5,8 +5,8 @@ use Rattle.mx_isa.specs.declared.place.Place.{Place}
 use Rattle.mx_isa.specs.Words.{Words}
 use Rattle.mx_isa.specs.Views.{reads}
 use Rattle.mx_isa.specs.UserBus.{is_user}
-use Rattle.mx_code.specs.Delay.{Code, Queued, does, Delay, delay_step, delay_byte}
-use Rattle.mx_code.specs.Clean.{is_clean_step}
+use Rattle.mx_delay.specs.Delay.{Code, Queued, does, Delay, delay_step, delay_byte}
+use Rattle.mx_delay.specs.Clean.{is_clean_step}
 use Rattle.mx_pcchain.specs.Fetch.{Fetch}
 use Rattle.mx_turn.specs.Counted.{Counted}
 use Rattle.mx_turn.specs.Cycle.{Machine, shifted, commit_byte, is_taken, reached, ended}

@@ -2,7 +2,7 @@
 use Rattle.std.specs.Prelude.{ℕ, zero, suc, Bool, false, cond, leb, List, [], ◌∷◌, ◌++◌, Option, option_to_list}
 use Rattle.mx_isa.specs.declared.board.TheConstants.{CODE_BASE, DATA_BASE}
 use Rattle.mx_isa.specs.Words.{Words}
-use Rattle.mx_code.specs.Delay.{Code, code_from, data_from}
+use Rattle.mx_delay.specs.Delay.{Code, code_from, data_from}
 use Rattle.mx_code.specs.Decoding.{inst_of}
 use Rattle.mx_icache.specs.Residency.{resident}
 use Rattle.mx_turn.specs.declared.machine.Cycled.{Cycled}

@@ -1,7 +1,7 @@
 -- The fetches in the stages of the pipeline.
 use Rattle.std.specs.Prelude.{ℕ, Bool, false, cond, ◌||◌, Option, Some, None}
 use Rattle.mx_isa.specs.declared.inst.Inst.{Inst}
-use Rattle.mx_code.specs.Delay.{Code, idle}
+use Rattle.mx_delay.specs.Delay.{Code, idle}
 use Rattle.mx_pcchain.specs.Fetch.{Fetch}
 use Rattle.mx_turn.specs.declared.latches.Stage.{Stage}
 use Rattle.mx_turn.specs.declared.latches.Stage.TheVariants.{Empty, Live, Squashed}

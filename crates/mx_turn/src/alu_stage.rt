@@ -18,7 +18,7 @@ pub struct Decided {
 }
 
 /// It leads to the next word.
-pub fn goes_on() -> Decided
+pub fn falls_through() -> Decided
     ensures { result ≡ record { target = None; cancels = false; pops = false; restores = false } }
 {
     Decided {
@@ -102,6 +102,6 @@ pub fn decide(inst: &Inst, at: u32, registers: &Registers) -> Decided
             pops: true,
             restores: true,
         },
-        _ => goes_on(),
+        _ => falls_through(),
     }
 }

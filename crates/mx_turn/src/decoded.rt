@@ -2,7 +2,7 @@
 ghost use Rattle.std.specs.Prelude.{◌≡◌, ◌≤◌, ◌-◌, ◌++◌, IfOk, IfSome, IfNone, All, map, length, replicate};
 ghost use Rattle.mx_isa.specs.declared.board.TheConstants.{CODE_BASE, MAX_CODE_WORDS};
 ghost use Rattle.mx_code.specs.Decoding.{inst_of};
-ghost use Rattle.mx_code.specs.Delay.{idle, code_from};
+ghost use Rattle.mx_delay.specs.Delay.{idle, code_from};
 ghost use Rattle.mx_turn.specs.Decoded.{what_of, code_in, ShiftFits};
 ghost use Rattle.mx_turn.specs.Stages.{live};
 ghost use Rattle.mx_turn.specs.Program.{code_with};

@@ -1,7 +1,7 @@
 //! Fetches as words: those in the stages, and the next one.
 ghost use Rattle.std.specs.Prelude.{◌≡◌, ◌<◌, ◌≤◌, ◌^◌, List, length, Option, Some, None, is_some, unwrap_or, slice_get};
 ghost use Rattle.mx_isa.specs.declared.inst.Inst.{Inst};
-ghost use Rattle.mx_code.specs.Delay.{next_of, idle};
+ghost use Rattle.mx_delay.specs.Delay.{next_of, idle};
 ghost use Rattle.mx_pcchain.specs.Chain.{fetch_from};
 ghost use Rattle.mx_turn.specs.Stages.{fetch_of, live, address_of};
 ghost use Rattle.mx_turn.specs.Decoded.{code_in};

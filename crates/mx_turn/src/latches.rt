@@ -21,3 +21,24 @@ pub struct Latches {
     pub b: u32,
     pub result: u32,
 }
+
+impl Latches {
+    ghost use Rattle.std.specs.Prelude.{◌≡◌};
+    ghost use Rattle.mx_turn.specs.declared.latches.Stage.{Stage};
+
+    /// What is shown before the first turn.
+    pub fn before_turns() -> Latches
+        ensures { result ≡ record { fetch = Stage.Empty; rf = Stage.Empty; alu = Stage.Empty; mem = Stage.Empty; wb = Stage.Empty; a = 0; b = 0; result = 0 } }
+    {
+        Latches {
+            fetch: Stage::Empty,
+            rf: Stage::Empty,
+            alu: Stage::Empty,
+            mem: Stage::Empty,
+            wb: Stage::Empty,
+            a: 0,
+            b: 0,
+            result: 0,
+        }
+    }
+}

@@ -17,6 +17,34 @@ pub struct Cycled {
     pub stalled: bool,
 }
 
+impl Cycled {
+    ghost use Rattle.std.specs.Prelude.{◌≡◌, None, true, false};
+
+    /// What each cycle after a halt gives.
+    pub fn after_halt() -> Cycled
+        ensures { result ≡ record { byte = None; taken = false; halted = true; stalled = false } }
+    {
+        Cycled {
+            byte: None,
+            taken: false,
+            halted: true,
+            stalled: false,
+        }
+    }
+
+    /// What a stalled cycle gives.
+    pub fn in_stall() -> Cycled
+        ensures { result ≡ record { byte = None; taken = false; halted = false; stalled = true } }
+    {
+        Cycled {
+            byte: None,
+            taken: false,
+            halted: false,
+            stalled: true,
+        }
+    }
+}
+
 /// A machine that runs cycle by cycle. Of its methods `advance` alone takes memory, for the console.
 pub trait Machine {
     ghost use Rattle.mx_turn.specs.Program.{Program, state_after, answer_after, quiet, quiet_bytes};

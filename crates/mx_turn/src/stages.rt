@@ -1,7 +1,7 @@
 //! Fetches in the stages.
 ghost use Rattle.std.specs.Prelude.{◌≡◌, ◌<◌, ◌^◌, IfSome, if◌then◌else◌, ℕ, Option};
 ghost use Rattle.mx_isa.specs.Effect.{Decision};
-ghost use Rattle.mx_code.specs.Delay.{next_of};
+ghost use Rattle.mx_delay.specs.Delay.{next_of};
 ghost use Rattle.mx_pcchain.specs.declared.chain.Chain.{Chain};
 ghost use Rattle.mx_pcchain.specs.Chain.{fetch_from, pop};
 ghost use Rattle.mx_pcchain.specs.Modes.{psw_restored};

@@ -8,7 +8,7 @@ ghost use Rattle.mx_board.specs.Contents.{bytes_in};
 ghost use Rattle.mx_icache.specs.Residency.{resident};
 ghost use Rattle.mx_turn.specs.declared.latches.Latches.{Latches};
 ghost use Rattle.mx_turn.specs.Decoded.{ShiftFits};
-ghost use Rattle.mx_code.specs.Delay.{next_of};
+ghost use Rattle.mx_delay.specs.Delay.{next_of};
 ghost use Rattle.mx_turn.specs.Stages.{fetch_of, live};
 ghost use Rattle.mx_turn.specs.Handler.{shipped};
 ghost use Rattle.mx_turn.specs.Cycle.{shifted, committed, commit_byte, showing, is_taken, entered, decision, decided, ended, takes, squashes, waited, acted, acted_answer};
@@ -17,6 +17,7 @@ ghost use Rattle.mx_turn.specs.Kept.{code_of_turns, machine_of, shown_of, looked
 
 use crate::alu_stage::{Decided, decide};
 use crate::decoded::Decoded;
+use crate::handler::SHIPPED;
 use crate::held::{Coming, Held};
 use crate::registers::{Registers, no_slot, read};
 use crate::shown::number_of;
@@ -29,33 +30,6 @@ use mx_io::Memory;
 use mx_isa::{CODE_BASE, Inst, Reg};
 use mx_pcchain::{Chain, Psw};
 use std::alloc::Global;
-
-/// The words of the shipped handler, with which a machine begins that is given no other (this project's profile).
-pub const SHIPPED: [u32; 23] = [
-    0x8802_0001,
-    0x8804_0002,
-    0x5000_1001,
-    0x5000_2002,
-    0x8802_0003,
-    0x8804_0004,
-    0x5000_1003,
-    0x8802_0005,
-    0x8004_0000,
-    0x8002_0003,
-    0xc084_0001,
-    0x8804_0000,
-    0x5840_0001,
-    0x8004_0004,
-    0x8002_0005,
-    0x5880_0002,
-    0x5840_0003,
-    0x8004_0002,
-    0x8002_0001,
-    0x4000_0000,
-    0xd000_0000,
-    0xd000_0000,
-    0xd800_0000,
-];
 
 /// What a turn showed before anything was squashed or killed in it: its stages, the mode and the chain.
 #[derive(Clone, Copy)]
@@ -449,23 +423,13 @@ impl<C: FetchCache> Machine for Turns<C> {
 
     fn cycle(&mut self, request: bool) -> Cycled {
         if self.halted {
-            return Cycled {
-                byte: None,
-                taken: false,
-                halted: true,
-                stalled: false,
-            };
+            return Cycled::after_halt();
         }
         self.latch = either(self.latch, request);
         if self.stall > 0 {
             self.stall -= 1;
             self.counts.stalled();
-            return Cycled {
-                byte: None,
-                taken: false,
-                halted: false,
-                stalled: true,
-            };
+            return Cycled::in_stall();
         }
         self.act()
     }

@@ -3,6 +3,7 @@
 
 mod choice;
 mod padding;
+pub mod rules;
 mod validity;
 
 pub use choice::{Chosen, Proposer, choose};

@@ -2,7 +2,7 @@
 use crate::texts::{Assembled, assemble_text};
 use anyhow::{Context, Result, bail, ensure};
 use mx_code::encode;
-use mx_handler::{HANDLER, handler_source};
+use mx_handler::{SHIPPED, handler_source};
 use mx_isa::Inst;
 use mx_source::{Source, Statement};
 use std::alloc::Global;
@@ -47,7 +47,7 @@ fn handler_row(index: usize) -> Result<(&'static str, u32)> {
     let text = *handler_source()
         .get(index)
         .context("not an address of the handler")?;
-    let word = *HANDLER.get(index).context("not an address of the handler")?;
+    let word = *SHIPPED.get(index).context("not an address of the handler")?;
     Ok((text, word))
 }
 

@@ -49,7 +49,7 @@ returns-clause-planned g c =
       told = told;
       answers = c.in_ok-behind.ensures _ (run_report code (image_run source linked requests bytes budget))
           (c.in_ok-run.ensures
-          ∙ ap (λ o. image_answer code user_data o requests (record { budget = budget; trace = 0; dump = None })) c.given_to-given.ensures
+          ∙ ap (λ o. image_answer code user_data o requests (record { budget = budget; trace = 0; dump = None; count = 1 })) c.given_to-given.ensures
           ∙ report_is code user_data (given source.input bytes) requests budget);
       runs = runs proposes source linked k requests bytes budget;
       means = means proposes source linked k requests bytes budget c.linked_by.ensures.source c.in_ok-linked.ensures.registers;

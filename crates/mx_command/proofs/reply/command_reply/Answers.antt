@@ -6,7 +6,8 @@ use Rattle.mx_io.specs.Shelves.{Told, Counts}
 use Rattle.cmd_answer.specs.Protocol.{Performed}
 use Rattle.cmd_answer.specs.Replies.{reply_answer}
 use Rattle.law_schedule.proofs.Scheduler.{scheduler}
-use Rattle.mx_command.specs.Protocols.{Layouts, modules_protocol}
+use Rattle.cmd_source.specs.Protocols.{Layouts}
+use Rattle.mx_command.specs.Protocols.{modules_protocol}
 use Rattle.law_schedule.proofs.Scheduler.{scheduler}
 use Rattle.mx_command.proofs.Own.{by_command, command_is_replied}
 use Rattle.mx_command.proofs.reply.command_reply.Goals as goal

@@ -6,7 +6,7 @@ use Rattle.cmd_table.specs.Seen.{seen_command, IsAllowed}
 use Rattle.cmd_table.specs.Commands.{Command}
 use Rattle.cmd_table.specs.Asked.{command_of}
 use Rattle.mx_command.specs.Protocols.{protocol_of}
-use Rattle.mx_command.specs.Replied.{IsWithin}
+use Rattle.mx_command.specs.Within.{IsWithin}
 use Rattle.mx_command.proofs.Within.{within_of}
 use Rattle.mx_command.proofs.reply.reply_to.Goals as goal
 

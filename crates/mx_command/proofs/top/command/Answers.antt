@@ -9,7 +9,8 @@ use Rattle.cmd_answer.specs.Protocol.{Performed}
 use Rattle.cmd_answer.specs.Replies.{reply_answer}
 use Rattle.cmd_table.specs.Commands.{Command}
 use Rattle.cmd_table.specs.Asked.{command_of}
-use Rattle.mx_command.specs.Protocols.{Layouts, protocol_of}
+use Rattle.cmd_source.specs.Protocols.{Layouts}
+use Rattle.mx_command.specs.Protocols.{protocol_of}
 use Rattle.cmd_answer.proofs.Commands.{status_cases}
 use Rattle.mx_command.proofs.Own.{own_answers, replied_status, replied_asks}
 use Rattle.cmd_answer.specs.Commands.{Outside, Commanded}

@@ -1,7 +1,7 @@
 use Rattle.std.proofs.Common.{◌≡◌, IfSome, map, length, ap, sym, ◌∙◌, subst}
 use Rattle.mx_lines.specs.Shapes.{word}
 use Rattle.mx_asm.specs.Positions.{behind, statement_words, label_here, define_front}
-use Rattle.mx_faults.specs.Walking.{place_fault}
+use Rattle.mx_asm.specs.Faults.{place_fault}
 use Rattle.mx_faults.specs.Showing.{span_by}
 use Rattle.mx_faults.specs.Walking.{kind_by}
 use Rattle.mx_faults.proofs.Settled.{settled_by}
@@ -25,7 +25,7 @@ returns-clause-fault c =
     let kept = ap (map word) c.deref.ensures.value ∙ c.in_ok-words.ensures in
     let kept' = ap (map word) c.deref-3.ensures.value ∙ c.in_ok-words.ensures in
     let again = is_again earlier _ (label_here p) _ _ c.in_ok-repeated.repeated c.in_ok-repeated.ensures.repeated c.label.ensures.label kept in
-    let placed = c.place_fault-placed.ensures ∙ ap (place_fault end p (length line)) kept' in
+    let placed = c.place_fault-placed.ensures.fault ∙ ap (place_fault end p (length line)) kept' in
     settled_by labels low end p earlier line c.settled-fault.result c.in_ok-alone.alone c.place_fault-placed.result c.is_some.result c.settled-fault.ensures c.in_ok-alone.ensures (c.is_some.ensures ∙ again.1) placed
 
 pub shown-requires : goal.shown-requires

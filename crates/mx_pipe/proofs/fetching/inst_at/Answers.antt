@@ -4,7 +4,7 @@ use Rattle.std.proofs.lemmas.Bool.{cond-true}
 use Rattle.std.proofs.lemmas.Bool.Decides.{nat_tests}
 use Rattle.mx_isa.specs.declared.inst.Inst.{Inst}
 use Rattle.mx_code.specs.Decoding.{inst_of}
-use Rattle.mx_code.specs.Delay.{Code, code_from, idle}
+use Rattle.mx_delay.specs.Delay.{Code, code_from, idle}
 use Rattle.mx_pipe.proofs.fetching.inst_at.Goals as goal
 
 -- the user's code is asked for from 4096 on alone

@@ -1,6 +1,6 @@
 use Rattle.std.proofs.Common.{◌≡◌, ◌≤◌, ◌-◌, ◌++◌, length, map, replicate, take, sym, ap, ◌∙◌, subst}
 use Rattle.std.proofs.lemmas.List.{length-map, take_all}
-use Rattle.mx_code.specs.Delay.{idle}
+use Rattle.mx_delay.specs.Delay.{idle}
 use Rattle.mx_turn.specs.Decoded.{what_of}
 use Rattle.mx_turn.proofs.decoded.both.Goals as goal
 

@@ -4,7 +4,7 @@ use Rattle.mx_isa.specs.declared.inst.Inst.{Inst}
 use Rattle.mx_isa.specs.Words.{reg}
 use Rattle.mx_isa.specs.Effect.{Decision, decides}
 use Rattle.mx_isa.specs.Views.{dest}
-use Rattle.mx_code.specs.Delay.{Code}
+use Rattle.mx_delay.specs.Delay.{Code}
 use Rattle.mx_icache.specs.Residency.{resident}
 use Rattle.mx_turn.specs.Counted.{after_turn}
 use Rattle.mx_turn.specs.Stages.{address_of, live}

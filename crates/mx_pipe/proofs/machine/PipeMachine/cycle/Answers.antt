@@ -1,6 +1,6 @@
 use Rattle.std.proofs.Common.{not, ◌≡◌, ◌-◌, cond, [], ◌∷◌, ◌++◌, refl, sym, ap, ◌∙◌, subst, arith}
 use Rattle.std.proofs.lemmas.Bool.{ne_eqb, eq-eqb}
-use Rattle.mx_code.specs.Delay.{Code}
+use Rattle.mx_delay.specs.Delay.{Code}
 use Rattle.mx_icache.specs.Residency.{resident}
 use Rattle.mx_turn.specs.Counted.{after_stall}
 use Rattle.mx_turn.specs.Cycle.{counts_after, Machine, latched, ended, reached, acted, acted_answer}
@@ -30,7 +30,8 @@ returns-then-left-gt0-clause-answer g c = λ p h s.
     let left : c.left-left.result ≡ m.stall =
     c.left-left.ensures.left m tied.rest.next (waits_latched g.C.FetchCache.holds self u p h s c.args.request e.state e.wait e.cache) in
     answers g.C.FetchCache.holds self p h s c.args.request _
-    (answer_stalled resident (code_of_pipe self) self.board.input m c.args.request (sym s.tied.rest.halted ∙ c.if-self.false)
+    (c.in_stall.ensures
+    ∙ answer_stalled resident (code_of_pipe self) self.board.input m c.args.request (sym s.tied.rest.halted ∙ c.if-self.false)
     (ne_eqb _ 0 (λ e. absurd (omega (arith, e, left, c.if-left-gt0.true)))))
 
 pub returns-then-left-gt0-clause-next : goal.returns-then-left-gt0-clause-next

@@ -1,5 +1,5 @@
 use Rattle.std.proofs.Common.{◌≡◌, Bool, false, cond, not, ◌&&◌, None, sym, ap, ◌∙◌, subst}
-use Rattle.mx_code.specs.Delay.{Code}
+use Rattle.mx_delay.specs.Delay.{Code}
 use Rattle.mx_turn.specs.Counted.{after_turn}
 use Rattle.mx_turn.specs.Cycle.{Machine, shifted, commit_byte, reached, turned, is_taken, decision}
 use Rattle.mx_pipe.specs.declared.alu.Course.TheVariants.{To}

@@ -2,7 +2,7 @@ use Rattle.std.proofs.Common.{◌≡◌, sym, ap, ◌∙◌}
 use Rattle.std.specs.Prelude.{slice_index}
 use Rattle.mx_isa.specs.Views.{sources}
 use Rattle.mx_isa.specs.Words.{reg}
-use Rattle.mx_code.specs.Delay.{Code}
+use Rattle.mx_delay.specs.Delay.{Code}
 use Rattle.mx_turn.specs.Stages.{live, address_of}
 use Rattle.mx_turn.specs.System.{seen, number_of}
 use Rattle.mx_turn.specs.Cycle.{Machine, first, second}

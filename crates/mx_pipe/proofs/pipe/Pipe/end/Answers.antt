@@ -1,6 +1,6 @@
 use Rattle.std.proofs.Common.{◌≡◌, Bool, true, false, ◌&&◌, cond, refl, sym, ◌∙◌, subst}
 use Rattle.std.specs.Prelude.{is_some}
-use Rattle.mx_code.specs.Delay.{Code}
+use Rattle.mx_delay.specs.Delay.{Code}
 use Rattle.mx_turn.specs.Cycle.{Machine, is_taken, entered, decided}
 use Rattle.mx_pipe.specs.Kept.{Holds}
 use Rattle.mx_pipe.proofs.pipe.Pipe.end.Goals as goal

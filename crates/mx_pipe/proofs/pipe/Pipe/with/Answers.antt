@@ -2,7 +2,7 @@ use Rattle.std.proofs.Common.{◌≡◌, length, arith, true≢false, refl, sym,
 use Rattle.mx_isa.specs.Words.{write}
 use Rattle.mx_isa.specs.Views.{dest}
 use Rattle.mx_code.specs.Decoding.{inst_of}
-use Rattle.mx_code.specs.Delay.{code_from, data_from}
+use Rattle.mx_delay.specs.Delay.{code_from, data_from}
 use Rattle.mx_turn.specs.Program.{code_with}
 use Rattle.mx_turn.specs.System.{slot_of}
 use Rattle.mx_turn.proofs.Stands.{no_registers, none_resident}
@@ -52,7 +52,7 @@ returns g c = record {
       psw = c.start.ensures;
       asked = refl;
       halted = refl;
-      shown = c.nothing.ensures;
+      shown = c.before_turns.ensures;
       short =
           let same = ap length (c.in_ok-code.ensures ∙ c.deref-2.ensures.value) in
           let few = c.args.image.now.code_within in

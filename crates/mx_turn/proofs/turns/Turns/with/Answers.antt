@@ -3,7 +3,7 @@ use Rattle.std.specs.Prelude.{slice_index}
 use Rattle.mx_isa.specs.Words.{reg}
 use Rattle.mx_isa.specs.Views.{sources}
 use Rattle.mx_code.specs.Decoding.{inst_of}
-use Rattle.mx_code.specs.Delay.{code_from, data_from}
+use Rattle.mx_delay.specs.Delay.{code_from, data_from}
 use Rattle.mx_icache.specs.Residency.{resident}
 use Rattle.mx_pcchain.specs.Fetch.{Fetch}
 use Rattle.mx_turn.specs.declared.latches.Latches.{Latches}

@@ -1,2 +1,0 @@
-//! How often the machine with delay slots executes the word at an address.
-#![tactic(auto)]

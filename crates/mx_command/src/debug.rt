@@ -1,0 +1,180 @@
+//! The reply of the command that tells a source's stops.
+ghost use Rattle.std.specs.Prelude.{◌≡◌, ◌≤◌, ◌<◌, ◌^◌, length, IfOk, IfErr, IfSome, List, ℕ, Option, Some, None};
+ghost use Rattle.mx_io.specs.declared.limits.TheConstants.{MAX_SOURCE_BYTES};
+ghost use Rattle.mx_layout.specs.Overlong.{Overlong, IsOverlong};
+ghost use Rattle.mx_link.specs.Origins.{from_nowhere};
+ghost use Rattle.mx_link.specs.Linked.{IsLinked, link_map};
+ghost use Rattle.mx_reorg.specs.Greedy.{IsGreedy};
+ghost use Rattle.mx_isa.specs.Board.{board};
+ghost use Rattle.cmd_answer.specs.Answer.{prints};
+ghost use Rattle.mx_io.specs.Shelves.{Counts};
+ghost use Rattle.cmd_answer.specs.Protocol.{Reads, Performed};
+ghost use Rattle.cmd_answer.specs.Replies.{reply_answer};
+ghost use Rattle.cmd_options.specs.Options.{seen_files, IsAsked};
+ghost use Rattle.law_schedule.specs.Schedule.{IsScheduler};
+ghost use Rattle.cmd_source.specs.Refusals.{overlong_line};
+ghost use Rattle.cmd_source.specs.Protocols.{Layouts};
+ghost use Rattle.mx_command.specs.Protocols.{statement_at, statement_named, no_label_line, labelled_protocol, debug_protocol};
+
+use cmd_answer::{FileKind, Reply, Status, line_reply};
+use cmd_debug::debug_image;
+use cmd_options::{RunFiles, SessionLimits};
+use cmd_source::{assembled, overlong_reply, read_named};
+use mx_io::{Memory, Shelf};
+use mx_isa::BOARD;
+use mx_link::{LinkError, Linked, link_plain};
+use mx_reorg::ListProposer;
+use mx_source::{Label, Source};
+use std::alloc::Global;
+
+// The statement of a source of so many at which a label stands.
+fn statement_at(label: Label, count: usize) -> Option<u32>
+    ensures { result ≡ statement_at count label }
+{
+    match label {
+        Label::Code(index) => {
+            if (index as usize) < count {
+                Some(index)
+            } else {
+                None
+            }
+        }
+        Label::Data(_) => None,
+    }
+}
+
+// The statement at the code label of this name.
+fn statement_named(source: &Source, name: &str) -> Option<u32>
+    ensures statement { result ≡ statement_named source.now name.now }
+    ensures within { IfSome result (λ index. index < length source.now.statements) }
+{
+    let wanted = name.as_bytes();
+    let labels = source.labels();
+    let count = source.statements().len();
+    for i in 0..labels.len() {
+        let Some((found, label)) = labels.get_index(i) else {
+            unreachable!();
+        };
+        if wanted == found.bytes() {
+            return statement_at(*label, count);
+        }
+    }
+    None
+}
+
+// The reply where no statement stands at a code label of this name.
+fn no_label_reply(alloc: Global, name: &str) -> Result<Reply, Memory>
+    ensures { IfOk result (λ r. reply_answer r ≡ prints Status.Refused (no_label_line name.now)) }
+{
+    let Ok(text) = format!(in alloc; "no code label {name}") else {
+        return Err(Memory);
+    };
+    let reply = line_reply(alloc, Status::Refused, text.as_str())?;
+    Ok(reply)
+}
+
+// A source, linked by the list scheduler without copies, or the reply to its first branch that does not reach its target.
+fn plain_source(alloc: Global, source: &Source) -> Result<Result<Linked, Reply>, Memory>
+    ensures linked { IfOk result (λ r. IfOk r (λ l. IsLinked IsGreedy from_nowhere source.now board l)) }
+    ensures refused { IfOk result (λ r. IfErr r (λ reply. (found : Overlong) × IsOverlong IsGreedy source.now board found
+        × (reply_answer reply ≡ prints Status.Refused (overlong_line found.line found.from found.to)))) }
+{
+    let _statements = source.statements();
+    match link_plain(alloc, source, BOARD, &mut ListProposer) {
+        Ok(linked) => Ok(Ok(linked)),
+        Err(LinkError::Displacement { line, from, to }) => {
+            Ok(Err(overlong_reply(alloc, line, from, to)?))
+        }
+        Err(LinkError::Memory) => Err(Memory),
+    }
+}
+
+// The address at which the block of a statement begins.
+fn address_of(linked: &Linked, source: &Source, index: u32) -> u32
+    requires linked { IsLinked IsGreedy from_nowhere source.now board linked.now }
+    requires within { index < length source.now.statements }
+    ensures address { (k : IsLinked IsGreedy from_nowhere source.now board linked.now) → result ≡ link_map board k.sites index }
+    ensures low { result < 2 ^ 31 }
+{
+    let _statements = source.statements();
+    linked.links[index as usize]
+}
+
+// The reply to a session of a source at a label.
+fn labelled_reply<S: Shelf>(
+    alloc: Global,
+    shelf: &mut S,
+    source: &Source,
+    label: &str,
+    files: &RunFiles,
+    limits: &SessionLimits,
+) -> Result<Reply, Memory>
+    requires { IsAsked limits.now }
+    ensures performed { (layout_of : Layouts) → IsScheduler layout_of → IfOk result (λ r. Performed (S.told shelf.old)
+        (labelled_protocol layout_of label.now (seen_files files.now) limits.now source.now)
+        (S.counts shelf.old) (S.counts shelf.new) (reply_answer r)) }
+    ensures told_stays { S.told shelf.new ≡ S.told shelf.old }
+    ensures writes_stay { S.write_faults shelf.new ≡ S.write_faults shelf.old }
+{
+    let Some(index) = statement_named(source, label) else {
+        let reply = no_label_reply(alloc, label)?;
+        return Ok(reply);
+    };
+    let linked = match plain_source(alloc, source)? {
+        Ok(linked) => linked,
+        Err(reply) => return Ok(reply),
+    };
+    let address = address_of(&linked, source, index);
+    let asks = source.input().is_some();
+    let reply = debug_image(alloc, shelf, &linked.image, asks, address, files, limits)?;
+    Ok(reply)
+}
+
+// The reply of `debug` to the text of its source.
+fn debug_text<S: Shelf>(
+    alloc: Global,
+    shelf: &mut S,
+    text: &[u8],
+    label: &str,
+    files: &RunFiles,
+    limits: &SessionLimits,
+) -> Result<Reply, Memory>
+    requires text { length text.now ≤ MAX_SOURCE_BYTES }
+    requires asked { IsAsked limits.now }
+    ensures performed { (layout_of : Layouts) → IsScheduler layout_of → IfOk result (λ r. Performed (S.told shelf.old)
+        (debug_protocol layout_of label.now (seen_files files.now) limits.now text.now)
+        (S.counts shelf.old) (S.counts shelf.new) (reply_answer r)) }
+    ensures told_stays { S.told shelf.new ≡ S.told shelf.old }
+    ensures writes_stay { S.write_faults shelf.new ≡ S.write_faults shelf.old }
+{
+    let source = match assembled(alloc, text)? {
+        Ok(source) => source,
+        Err(reply) => return Ok(reply),
+    };
+    let reply = labelled_reply(alloc, shelf, &source, label, files, limits)?;
+    Ok(reply)
+}
+
+/// The reply to `debug SOURCE LABEL`.
+pub fn debug_reply<S: Shelf>(
+    alloc: Global,
+    shelf: &mut S,
+    source: &str,
+    label: &str,
+    files: &RunFiles,
+    limits: &SessionLimits,
+) -> Result<Reply, Memory>
+    requires { IsAsked limits.now }
+    ensures performed { (layout_of : Layouts) → IsScheduler layout_of → IfOk result (λ r. Performed (S.told shelf.old)
+        (Reads FileKind.Source source.now (debug_protocol layout_of label.now (seen_files files.now) limits.now))
+        (S.counts shelf.old) (S.counts shelf.new) (reply_answer r)) }
+    ensures told_stays { S.told shelf.new ≡ S.told shelf.old }
+    ensures writes_stay { S.write_faults shelf.new ≡ S.write_faults shelf.old }
+{
+    let text = match read_named(alloc, shelf, FileKind::Source, source)? {
+        Ok(text) => text,
+        Err(reply) => return Ok(reply),
+    };
+    let reply = debug_text(alloc, shelf, text.as_slice(), label, files, limits)?;
+    Ok(reply)
+}

@@ -1,0 +1,5 @@
+pub mod Delay
+pub mod Clean
+pub mod Executions
+pub mod Prefixes
+pub mod Laws

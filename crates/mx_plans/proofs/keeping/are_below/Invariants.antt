@@ -1,6 +1,0 @@
-use Rattle.std.proofs.Common.{ℕ, ◌<◌}
-use Rattle.mx_blocks.specs.Items.{StandsAt}
-use Rattle.mx_plans.proofs.keeping.are_below.Given as goal
-
-abbrev pub invariant-loop-item : goal.invariant-loop-item
-invariant-loop-item l = (p k : ℕ) → p < l.item-index → StandsAt l.items p k → k < l.n
