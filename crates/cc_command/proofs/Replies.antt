@@ -1,13 +1,22 @@
 -- What holds of a reply once it is finished.
-use Rattle.std.proofs.Common.{◌≡◌, ◌≢◌, ◌⊎◌, ⊎_elim, ℕ, List, ◌∙◌, append-nil}
-use Rattle.mx_io.specs.Shelves.{Told}
+use Rattle.std.proofs.Common.{◌≡◌, ◌≢◌, ◌⊎◌, ⊎_elim, inl, inr, ap, ℕ, List, ◌∙◌, append-nil}
+use Rattle.mx_io.specs.Shelves.{Told, Counts}
 use Rattle.cmd_answer.specs.declared.status.Status.{Status}
 use Rattle.cmd_answer.specs.declared.status.Status.TheVariants.{Done, WriteFault, Memory}
 use Rattle.cmd_answer.specs.declared.reply.Reply.{Reply}
 use Rattle.cmd_answer.specs.declared.reply.Reply.TheVariants.{Prints, Writes}
-use Rattle.cmd_answer.specs.Delivery.{Delivered}
+use Rattle.cmd_answer.specs.declared.FileKind.{FileKind}
+use Rattle.cmd_answer.specs.Answer.{Answer}
+use Rattle.cmd_answer.specs.Protocol.{IsFault}
+use Rattle.cmd_answer.specs.Delivery.{Delivered, HasStatus}
 use Rattle.cmd_answer.specs.Replies.{reply_answer}
 use Rattle.cmd_answer.proofs.Commands.{status_cases}
+
+-- the fault of a file has a status of an answer
+pub fault_has_status : (shelf : Told) (kind : FileKind) (name : List ℕ) (before after : Counts) (answer : Answer)
+    → IsFault shelf kind name before after answer → HasStatus answer
+fault_has_status shelf kind name before after answer (inl fault) = inr (ap (λ (a : Answer). a.status) fault.0)
+fault_has_status shelf kind name before after answer (inr fault) = inr (ap (λ (a : Answer). a.status) fault.0)
 
 -- unless it ends as done, a reply wrote no file
 pub unwritten : (reply : Reply) (result : Status) (told told' : Told) (written written' : List ℕ)

@@ -1,7 +1,8 @@
 //! What is said where texts are not translated.
 
 use cc_lines::{Lines, first_word, label_before, without_comment};
-use cc_translate::{Fault, TranslateError};
+use cc_program::Fault;
+use cc_translate::TranslateError;
 use std::alloc::{AllocError, Global};
 
 /// How many labels may stand in one line.
@@ -41,7 +42,6 @@ fn fault_line(
     let mut line = Vec::new(alloc);
     let unit = fault.unit as usize;
     let number = fault.line;
-    let refusal = fault.refusal;
     if let Some(name) = names.get(unit) {
         line.extend_from_slice(name.as_bytes())?;
     }
@@ -50,8 +50,8 @@ fn fault_line(
     if let Some(text) = texts.get(unit) {
         line.extend_from_slice(word_of(*text, number))?;
     }
-    let why = format!(in alloc; ": {refusal}")?;
-    line.extend_from_slice(why.as_bytes())?;
+    line.extend_from_slice(b": ")?;
+    line.extend_from_slice(fault.refusal.reason().as_bytes())?;
     if let Some(symbol) = fault.symbol {
         line.extend_from_slice(b": ")?;
         line.extend_from_slice(symbol)?;

@@ -1,14 +1,14 @@
 //! The top call.
-ghost use Rattle.std.specs.Prelude.{◌≡◌, ◌≢◌, IfOk, IfErr, MatchOption};
+ghost use Rattle.std.specs.Prelude.{◌≡◌, ◌≢◌, IfOk, MatchOption};
 ghost use Rattle.cmd_answer.specs.declared.status.Status.TheVariants.{Done, Refused};
 ghost use Rattle.cmd_answer.specs.Answer.{prints, writes};
 ghost use Rattle.cmd_answer.specs.Delivery.{HasStatus};
-ghost use Rattle.cmd_answer.specs.Replies.{reply_answer};
+ghost use Rattle.cmd_answer.specs.Replies.{reply_answer, IfAnswered, OnAnswer};
 
 use crate::message::message;
 use crate::words::{Asked, asked_by};
 use cc_translate::translate;
-use cmd_answer::{FileKind, Reply, Status, finish, line_reply, read_file};
+use cmd_answer::{Failure, FileKind, Reply, Status, finish, line_reply, read_file, replied};
 use mx_io::{Memory, Shelf, Sink};
 use std::alloc::{AllocError, Global};
 
@@ -16,28 +16,20 @@ use std::alloc::{AllocError, Global};
 const USAGE: &str = "usage: mx_cc FILE.s .. [-o OUT.s]";
 
 /// The texts of files, or the reply to the first that is not read.
-fn texts_of<S: Shelf>(
-    alloc: Global,
-    shelf: &mut S,
-    names: &[&str],
-) -> Result<Result<Vec<Vec<u8>>, Reply>, Memory>
+fn texts_of<S: Shelf>(alloc: Global, shelf: &mut S, names: &[&str]) -> Result<Vec<Vec<u8>>, Failure>
     ensures told_stays { S.told shelf.new ≡ S.told shelf.old }
-    ensures fault { IfOk result (λ r. IfErr r (λ e. HasStatus (reply_answer e))) }
+    ensures fault { IfAnswered result HasStatus }
 {
     let mut texts = Vec::new(alloc);
     let mut number = 0u32;
     for name in names {
         number = number.saturating_add(1);
-        match read_file(alloc, shelf, FileKind::Module(number), *name)? {
-            Ok(text) => {
-                if texts.push(text).is_err() {
-                    return Err(Memory);
-                }
-            }
-            Err(reply) => return Ok(Err(reply)),
+        let text = read_file(alloc, shelf, FileKind::Module(number), *name)?;
+        if texts.push(text).is_err() {
+            return Err(Failure::Memory);
         }
     }
-    Ok(Ok(texts))
+    Ok(texts)
 }
 
 /// The texts as slices.
@@ -50,20 +42,17 @@ fn slices_of(alloc: Global, texts: &[Vec<u8>]) -> Result<Vec<&[u8]>, AllocError>
 }
 
 /// The reply that hands out a source: to a file, or to standard output.
-fn source_reply(alloc: Global, target: Option<&str>, output: Vec<u8>) -> Result<Reply, Memory>
+fn source_reply(alloc: Global, target: Option<&str>, output: Vec<u8>) -> Result<Reply, Failure>
     ensures source { IfOk result (λ r. MatchOption target.entry
         (reply_answer r ≡ prints Done output.items)
         (λ name. reply_answer r ≡ writes name.now output.items)) }
-    ensures status { IfOk result (λ r. HasStatus (reply_answer r)) }
+    ensures status { OnAnswer result HasStatus }
 {
     match target {
-        Some(name) => match String::from_str(alloc, name) {
-            Ok(name) => Ok(Reply::Writes {
-                name,
-                bytes: output,
-            }),
-            Err(_) => Err(Memory),
-        },
+        Some(name) => Ok(Reply::Writes {
+            name: String::from_str(alloc, name)?,
+            bytes: output,
+        }),
         None => Ok(Reply::Prints {
             status: Status::Done,
             output,
@@ -72,36 +61,34 @@ fn source_reply(alloc: Global, target: Option<&str>, output: Vec<u8>) -> Result<
 }
 
 /// The reply to texts that are not translated.
-fn refused_reply(output: Result<Vec<u8>, AllocError>) -> Result<Reply, Memory>
+fn refused_reply(output: Result<Vec<u8>, AllocError>) -> Result<Reply, Failure>
     ensures line { IfOk result (λ r. IfOk output (λ v. reply_answer r ≡ prints Refused v.items)) }
-    ensures status { IfOk result (λ r. HasStatus (reply_answer r)) }
+    ensures status { OnAnswer result HasStatus }
 {
-    match output {
-        Ok(output) => Ok(Reply::Prints {
-            status: Status::Refused,
-            output,
-        }),
-        Err(_) => Err(Memory),
-    }
+    Ok(Reply::Prints {
+        status: Status::Refused,
+        output: output?,
+    })
 }
 
-/// The reply to what is asked for.
-fn asked_reply<S: Shelf>(alloc: Global, shelf: &mut S, asked: &Asked) -> Result<Reply, Memory>
-    ensures told_stays { S.told shelf.new ≡ S.told shelf.old }
-    ensures status { IfOk result (λ r. HasStatus (reply_answer r)) }
+/// The reply to the texts of these files.
+fn texts_reply(alloc: Global, asked: &Asked, texts: &[Vec<u8>]) -> Result<Reply, Failure>
+    ensures { OnAnswer result HasStatus }
 {
-    let texts = match texts_of(alloc, shelf, &asked.files)? {
-        Ok(texts) => texts,
-        Err(reply) => return Ok(reply),
-    };
-    let slices = match slices_of(alloc, &texts) {
-        Ok(slices) => slices,
-        Err(_) => return Err(Memory),
-    };
+    let slices = slices_of(alloc, texts)?;
     match translate(alloc, &slices) {
         Ok(output) => source_reply(alloc, asked.target, output),
         Err(error) => refused_reply(message(alloc, &asked.files, &slices, &error)),
     }
+}
+
+/// The reply to what is asked for.
+fn asked_reply<S: Shelf>(alloc: Global, shelf: &mut S, asked: &Asked) -> Result<Reply, Failure>
+    ensures told_stays { S.told shelf.new ≡ S.told shelf.old }
+    ensures status { OnAnswer result HasStatus }
+{
+    let texts = texts_of(alloc, shelf, &asked.files)?;
+    texts_reply(alloc, asked, &texts)
 }
 
 /// The reply to the words.
@@ -109,10 +96,12 @@ fn reply_to<S: Shelf>(alloc: Global, words: &[String], shelf: &mut S) -> Result<
     ensures told_stays { S.told shelf.new ≡ S.told shelf.old }
     ensures status { IfOk result (λ r. HasStatus (reply_answer r)) }
 {
-    match asked_by(alloc, words) {
-        Ok(Some(asked)) => asked_reply(alloc, shelf, &asked),
-        Ok(None) => line_reply(alloc, Status::Usage, USAGE),
-        Err(_) => Err(Memory),
+    let Ok(asked) = asked_by(alloc, words) else {
+        return Err(Memory);
+    };
+    match asked {
+        Some(asked) => replied(asked_reply(alloc, shelf, &asked)),
+        None => line_reply(alloc, Status::Usage, USAGE),
     }
 }
 

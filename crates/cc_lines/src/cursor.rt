@@ -1,7 +1,8 @@
 //! Pieces of a text.
-ghost use Rattle.std.specs.Prelude.{◌≡◌, ◌≢◌, ◌<◌, ◌==◌, [], None, All, IfSome, MatchOption, not, reverse};
-ghost use Rattle.std.specs.List.{position, before_first, after_first};
+ghost use Rattle.std.specs.Prelude.{◌≡◌, ◌≢◌, ◌<◌, ◌≤◌, ◌==◌, [], None, All, IfSome, MatchOption, not, reverse, length};
+ghost use Rattle.std.specs.List.{position, position_or_len, before_first, after_first};
 ghost use Rattle.cc_lines.specs.Bytes;
+ghost use Rattle.cc_lines.specs.Marks;
 
 /// The lines of a text, with what their ends leave of a CR.
 #[derive(Drop)]
@@ -47,29 +48,71 @@ pub(crate) fn is_named(byte: u8) -> bool
     byte.is_ascii_alphanumeric() || byte == b'_' || byte == b'.' || byte == b'$'
 }
 
-/// The place of the first byte of a kind.
-fn place_of(text: &[u8], byte: u8) -> Option<usize>
-    ensures { result ≡ position (λ b. b == byte) text.now }
-{
-    text.iter().position(|b| *b == byte)
+/// A kind of bytes, before the first of which a text is split.
+#[derive(Clone, Copy)]
+pub(crate) enum Mark {
+    Byte(u8),
+    /// A space or a tab.
+    Gap,
+    /// A space, a tab or a comma.
+    Separator,
+    /// A byte that may not stand in a name.
+    Unnamed,
+    /// A byte that is no blank.
+    Seen,
 }
 
-/// A text up to the first byte of this kind, and what stands behind it.
+impl Mark {
+    /// Whether a byte is of this kind.
+    fn fits(self, byte: u8) -> bool
+        ensures { result ≡ Marks.fits self byte }
+    {
+        match self {
+            Mark::Byte(own) => byte == own,
+            Mark::Gap => byte == b' ' || byte == b'\t',
+            Mark::Separator => byte == b' ' || byte == b'\t' || byte == b',',
+            Mark::Unnamed => !is_named(byte),
+            Mark::Seen => !is_blank(byte),
+        }
+    }
+}
+
+/// The place of the first byte of a kind.
+fn place_of(text: &[u8], mark: Mark) -> Option<usize>
+    ensures { result ≡ position (λ b. Marks.fits mark b) text.now }
+{
+    text.iter().position(|b| mark.fits(*b))
+}
+
+/// How many bytes stand before the first of a kind.
+fn count_before(text: &[u8], mark: Mark) -> usize
+    ensures count { result ≡ position_or_len (λ b. Marks.fits mark b) text.now }
+    ensures within { result ≤ length text.now }
+{
+    match place_of(text, mark) {
+        Some(at) => at,
+        None => text.len(),
+    }
+}
+
+/// A text up to the first byte of a kind, and the rest from that byte on.
+pub(crate) fn split_before(text: &[u8], mark: Mark) -> (&[u8], &[u8])
+    ensures front { result.0.now ≡ before_first (λ b. Marks.fits mark b) text.now }
+    ensures rest { result.1.now ≡ Bytes.rest_from (λ b. Marks.fits mark b) text.now }
+{
+    text.split_at(count_before(text, mark))
+}
+
+/// A text up to the first byte with this value, and what stands behind it.
 pub(crate) fn split_at_byte(text: &[u8], byte: u8) -> (&[u8], &[u8])
     ensures front { result.0.now ≡ before_first (λ b. b == byte) text.now }
     ensures back { result.1.now ≡ after_first (λ b. b == byte) text.now }
 {
-    match place_of(text, byte) {
-        Some(at) => (&text[..at], &text[at + 1..]),
-        None => (text, &[]),
+    let (front, rest) = split_before(text, Mark::Byte(byte));
+    match rest {
+        [_, behind @ ..] => (front, behind),
+        [] => (front, rest),
     }
-}
-
-/// The place of the first byte that may not stand in a name.
-fn name_end(text: &[u8]) -> Option<usize>
-    ensures { result ≡ position (λ b. not (Bytes.is_named b)) text.now }
-{
-    text.iter().position(|b| !is_named(*b))
 }
 
 /// The bytes at the front that may stand in a name, and what stands behind them.
@@ -77,17 +120,7 @@ pub(crate) fn split_name(text: &[u8]) -> (&[u8], &[u8])
     ensures name { result.0.now ≡ Bytes.name_of text.now }
     ensures rest { result.1.now ≡ Bytes.behind_name text.now }
 {
-    match name_end(text) {
-        Some(at) => (&text[..at], &text[at..]),
-        None => (text, &[]),
-    }
-}
-
-/// The place of the first byte that is no blank.
-fn first_seen(text: &[u8]) -> Option<usize>
-    ensures { result ≡ position (λ b. not (Bytes.is_blank b)) text.now }
-{
-    text.iter().position(|b| !is_blank(*b))
+    split_before(text, Mark::Unnamed)
 }
 
 /// How many blanks stand behind the last byte that is none.
@@ -101,10 +134,7 @@ fn blanks_behind(text: &[u8]) -> Option<usize>
 pub(crate) fn trimmed_front(text: &[u8]) -> &[u8]
     ensures { result.now ≡ Bytes.front_trimmed text.now }
 {
-    match first_seen(text) {
-        Some(at) => &text[at..],
-        None => &[],
-    }
+    split_before(text, Mark::Seen).1
 }
 
 /// A text without the blanks at its front and its end.
@@ -151,6 +181,12 @@ fn digit(byte: u8, base: u32) -> Option<u32>
     if value < base { Some(value) } else { None }
 }
 
+/// The number behind whose digits in a base one more stands, if it is below 2^32.
+fn with_digit(value: u32, base: u32, byte: u8) -> Option<u32> {
+    let digit = digit(byte, base)?;
+    value.checked_mul(base)?.checked_add(digit)
+}
+
 /// The number that digits spell in a base of at most 16, if it is below 2^32.
 fn digits(text: &[u8], base: u32) -> Option<u32>
     ensures some { text.now ≡ [] → result ≡ None }
@@ -160,7 +196,7 @@ fn digits(text: &[u8], base: u32) -> Option<u32>
     }
     let mut value = 0u32;
     for byte in text {
-        value = value.checked_mul(base)?.checked_add(digit(*byte, base)?)?;
+        value = with_digit(value, base, *byte)?;
     }
     Some(value)
 }
@@ -168,19 +204,20 @@ fn digits(text: &[u8], base: u32) -> Option<u32>
 /// The number that a text spells, below 2^32, without a sign: decimal, octal behind a `0`, hexadecimal behind `0x`.
 fn unsigned(text: &[u8]) -> Option<u32> {
     match text {
-        [b'0', b'x', rest @ ..] | [b'0', b'X', rest @ ..] => digits(rest, 16),
-        [b'0', b'0'..=b'9', ..] => digits(text, 8),
+        [b'0', b'x' | b'X', rest @ ..] => digits(rest, 16),
+        [b'0', _, ..] => digits(text, 8),
         _ => digits(text, 10),
     }
 }
 
 /// The word that a text spells as a number from -2^32 to 2^32 - 1, with a sign or without, modulo 2^32.
 pub(crate) fn number(text: &[u8]) -> Option<u32> {
-    let (negative, rest) = match text {
-        [b'-', rest @ ..] => (true, trimmed_front(rest)),
-        [b'+', rest @ ..] => (false, trimmed_front(rest)),
-        _ => (false, text),
-    };
-    let word = unsigned(rest)?;
-    Some(if negative { word.wrapping_neg() } else { word })
+    match text {
+        [b'-', rest @ ..] => match unsigned(trimmed_front(rest)) {
+            Some(word) => Some(word.wrapping_neg()),
+            None => None,
+        },
+        [b'+', rest @ ..] => unsigned(trimmed_front(rest)),
+        _ => unsigned(text),
+    }
 }

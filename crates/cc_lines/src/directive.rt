@@ -1,12 +1,12 @@
 //! Directives.
 
-use crate::cursor::{number, split_at_byte, split_name, trimmed};
-use crate::line::first_word;
-use crate::operand::{Values, Word, word_read};
+use crate::cursor::{Mark, number, split_at_byte, split_before, split_name, trimmed};
+use crate::operand::{Value, value_read};
 use crate::refusal::Refusal;
+use crate::table::meaning_of;
 
 /// What a section holds.
-#[derive(Clone, Copy, Debug, PartialEq, Eq)]
+#[derive(Clone, Copy, PartialEq, Eq)]
 pub enum Section {
     Code,
     Data,
@@ -14,114 +14,157 @@ pub enum Section {
     Notes,
 }
 
-/// What a directive says.
+/// What a directive says. The name and the text that it is about stand beside it, in its line.
 #[derive(Clone, Copy)]
-pub enum Directive<'a> {
+pub enum Directive {
     Section(Section),
     Previous,
     /// `.frame`: whether the frame pointer is register 30, and the size of the frame.
-    Frame {
-        points: bool,
-        size: u32,
-    },
+    Frame { points: bool, size: u32 },
     /// `.mask`: whether register 31 is saved, and where it is behind the frame.
-    Mask {
-        saves_link: bool,
-        offset: u32,
-    },
-    Global(&'a [u8]),
-    Weak(&'a [u8]),
-    Local(&'a [u8]),
-    Common {
-        name: &'a [u8],
-        size: u32,
-        align: u32,
-        local: bool,
-    },
+    Mask { saves_link: bool, offset: u32 },
+    Global,
+    Weak,
+    Local,
+    Common { size: u32, align: u32, local: bool },
     /// The next data stands at a multiple of so many bytes.
     Align(u32),
     Space(u32),
     /// Values of so many bytes each.
-    Data {
-        bytes: u8,
-        values: Values<'a>,
-    },
+    Data(u8),
     /// Quoted texts, ended by a byte 0 each or not.
-    Text {
-        ended: bool,
-        quoted: &'a [u8],
-    },
+    Text { ended: bool },
     /// One name for what another names.
-    Alias {
-        name: &'a [u8],
-        target: &'a [u8],
-    },
+    Alias,
     /// `.set reorder` and `.set noreorder`: whether jumps have no delay slots, or have.
     Reorder(bool),
     /// The line of the source file with this number that the next statements come from.
-    Location {
-        file: u32,
-        line: u32,
-    },
+    Location { file: u32, line: u32 },
     /// The name, in quotes, of the source file with this number.
-    File {
-        number: u32,
-        quoted: &'a [u8],
-    },
+    File(u32),
     /// It says nothing that matters here.
     Ignored,
 }
 
-/// Directives that say nothing that matters here.
-const IGNORED: [&str; 20] = [
-    ".nan",
-    ".module",
-    ".ent",
-    ".end",
-    ".fmask",
-    ".size",
-    ".ident",
-    ".type",
-    ".cfi_startproc",
-    ".cfi_endproc",
-    ".cfi_sections",
-    ".hidden",
-    ".internal",
-    ".protected",
-    ".extern",
-    ".abicalls",
-    ".gnu_attribute",
-    ".option",
-    ".cfi_offset",
-    ".cfi_restore",
+/// A directive with what it is about.
+#[derive(Clone, Copy)]
+pub struct DirectiveLine<'a> {
+    pub directive: Directive,
+    /// The symbol that it is about, where it is about one.
+    pub name: &'a [u8],
+    /// Its values or quoted texts; of an alias the symbol that it stands for.
+    pub text: &'a [u8],
+}
+
+/// How what stands behind the word of a directive is read.
+#[derive(Clone, Copy)]
+enum Form {
+    /// Whatever stands there, the directive says this.
+    Says(Directive),
+    /// A name, of which it says this.
+    OfName(Directive),
+    Section,
+    Frame,
+    Mask,
+    Common { local: bool },
+    Align,
+    Space,
+    Set,
+    Location,
+    File,
+}
+
+const FORMS: [(&str, Form); 57] = [
+    (".loc", Form::Location),
+    (".word", Form::Says(Directive::Data(4))),
+    (".4byte", Form::Says(Directive::Data(4))),
+    (".long", Form::Says(Directive::Data(4))),
+    (".int", Form::Says(Directive::Data(4))),
+    (".half", Form::Says(Directive::Data(2))),
+    (".2byte", Form::Says(Directive::Data(2))),
+    (".short", Form::Says(Directive::Data(2))),
+    (".hword", Form::Says(Directive::Data(2))),
+    (".byte", Form::Says(Directive::Data(1))),
+    (".dword", Form::Says(Directive::Data(8))),
+    (".8byte", Form::Says(Directive::Data(8))),
+    (".ascii", Form::Says(Directive::Text { ended: false })),
+    (".asciz", Form::Says(Directive::Text { ended: true })),
+    (".asciiz", Form::Says(Directive::Text { ended: true })),
+    (".string", Form::Says(Directive::Text { ended: true })),
+    (".space", Form::Space),
+    (".zero", Form::Space),
+    (".skip", Form::Space),
+    (".align", Form::Align),
+    (".p2align", Form::Align),
+    (".comm", Form::Common { local: false }),
+    (".lcomm", Form::Common { local: true }),
+    (".text", Form::Says(Directive::Section(Section::Code))),
+    (".data", Form::Says(Directive::Section(Section::Data))),
+    (".rdata", Form::Says(Directive::Section(Section::Data))),
+    (".bss", Form::Says(Directive::Section(Section::Data))),
+    (".sdata", Form::Says(Directive::Section(Section::Data))),
+    (".sbss", Form::Says(Directive::Section(Section::Data))),
+    (".rodata", Form::Says(Directive::Section(Section::Data))),
+    (".section", Form::Section),
+    (".pushsection", Form::Section),
+    (".previous", Form::Says(Directive::Previous)),
+    (".popsection", Form::Says(Directive::Previous)),
+    (".globl", Form::OfName(Directive::Global)),
+    (".global", Form::OfName(Directive::Global)),
+    (".weak", Form::OfName(Directive::Weak)),
+    (".local", Form::OfName(Directive::Local)),
+    (".frame", Form::Frame),
+    (".mask", Form::Mask),
+    (".set", Form::Set),
+    (".file", Form::File),
+    (".nan", Form::Says(Directive::Ignored)),
+    (".module", Form::Says(Directive::Ignored)),
+    (".ent", Form::Says(Directive::Ignored)),
+    (".end", Form::Says(Directive::Ignored)),
+    (".fmask", Form::Says(Directive::Ignored)),
+    (".size", Form::Says(Directive::Ignored)),
+    (".ident", Form::Says(Directive::Ignored)),
+    (".type", Form::Says(Directive::Ignored)),
+    (".hidden", Form::Says(Directive::Ignored)),
+    (".internal", Form::Says(Directive::Ignored)),
+    (".protected", Form::Says(Directive::Ignored)),
+    (".extern", Form::Says(Directive::Ignored)),
+    (".abicalls", Form::Says(Directive::Ignored)),
+    (".gnu_attribute", Form::Says(Directive::Ignored)),
+    (".option", Form::Says(Directive::Ignored)),
 ];
 
 /// The bits of `.mask` that say that register 31 is saved.
 const LINK_BIT: u32 = 0x8000_0000;
 
-/// A word at the front of a text up to a blank or a comma.
+/// A word at the front of a text up to a blank or a comma, and what stands behind that.
 fn word_before(text: &[u8]) -> (&[u8], &[u8]) {
-    let count = text.len();
-    let at = text
-        .iter()
-        .position(|b| *b == b' ' || *b == b'\t' || *b == b',')
-        .unwrap_or(count)
-        .min(count);
-    let (front, back) = text.split_at(at);
-    let back = trimmed(back);
-    match back {
-        [b',', rest @ ..] => (front, trimmed(rest)),
-        _ => (front, back),
+    let (front, rest) = split_before(text, Mark::Separator);
+    let rest = trimmed(rest);
+    match rest {
+        [b',', behind @ ..] => (front, trimmed(behind)),
+        _ => (front, rest),
     }
 }
 
-/// The name that a text is.
-fn name_read(text: &[u8]) -> Result<&[u8], Refusal> {
+/// Whether a text is a name.
+fn is_name(text: &[u8]) -> bool {
     let (name, rest) = split_name(text);
-    if name.is_empty() || !trimmed(rest).is_empty() {
-        return Err(Refusal::BadName);
+    !name.is_empty() && trimmed(rest).is_empty()
+}
+
+/// What is said of the name that a text is.
+fn named(text: &[u8], directive: Directive) -> Result<Directive, Refusal> {
+    if is_name(text) {
+        Ok(directive)
+    } else {
+        Err(Refusal::BadName)
     }
-    Ok(name)
+}
+
+/// What stands before the first comma of a text.
+fn first_part(text: &[u8]) -> &[u8] {
+    trimmed(split_at_byte(text, b',').0)
 }
 
 /// The number that a text is.
@@ -131,31 +174,38 @@ fn number_read(text: &[u8]) -> Result<u32, Refusal> {
 
 /// The number behind the first comma of a text.
 fn second_number(text: &[u8]) -> Result<u32, Refusal> {
-    let (_, rest) = split_at_byte(text, b',');
-    let (number, _) = split_at_byte(rest, b',');
-    number_read(trimmed(number))
+    number_read(first_part(split_at_byte(text, b',').1))
+}
+
+/// What the names of sections for notes begin with.
+const NOTES: [&str; 8] = [
+    ".debug", ".mdebug", ".note", ".comment", ".gnu", ".pdr", ".reginfo", ".MIPS",
+];
+
+/// Whether a section of this name holds notes.
+fn holds_notes(name: &[u8]) -> bool {
+    for front in &NOTES {
+        if name.starts_with(front.as_bytes()) {
+            return true;
+        }
+    }
+    false
 }
 
 /// The section that a name and its flags tell.
 fn section_named(text: &[u8]) -> Section {
-    let (name, _) = split_at_byte(text, b',');
-    let name = trimmed(name);
+    let name = first_part(text);
     if name.starts_with(b".text") {
-        return Section::Code;
+        Section::Code
+    } else if holds_notes(name) {
+        Section::Notes
+    } else {
+        Section::Data
     }
-    let notes = name.starts_with(b".debug")
-        || name.starts_with(b".mdebug")
-        || name.starts_with(b".note")
-        || name.starts_with(b".comment")
-        || name.starts_with(b".gnu")
-        || name.starts_with(b".pdr")
-        || name.starts_with(b".reginfo")
-        || name.starts_with(b".MIPS");
-    if notes { Section::Notes } else { Section::Data }
 }
 
 /// `.set`: one name for another, or a mode of the assembler.
-fn set_read(text: &[u8]) -> Result<Directive<'_>, Refusal> {
+fn set_read(text: &[u8]) -> Result<Directive, Refusal> {
     if text == b"noreorder".as_slice() {
         return Ok(Directive::Reorder(false));
     }
@@ -170,172 +220,154 @@ fn set_read(text: &[u8]) -> Result<Directive<'_>, Refusal> {
 }
 
 /// One name for another. A name for the place where it stands is no name for a symbol.
-fn alias_read<'a>(name: &'a [u8], target: &'a [u8]) -> Result<Directive<'a>, Refusal> {
+fn alias_read(name: &[u8], target: &[u8]) -> Result<Directive, Refusal> {
     if target == b".".as_slice() {
         return Ok(Directive::Ignored);
     }
-    match word_read(target)? {
-        Word::Symbol(target, 0) => Ok(Directive::Alias {
-            name: name_read(name)?,
-            target,
-        }),
+    match value_read(target)? {
+        Value::Symbol(0) => named(name, Directive::Alias),
         _ => Err(Refusal::BadOperands),
     }
 }
 
+/// The multiple at which a datum of `.comm` stands: of 4 bytes where nothing tells it.
+fn alignment_read(text: &[u8]) -> Result<u32, Refusal> {
+    if text.is_empty() {
+        Ok(4)
+    } else {
+        number_read(trimmed(text))
+    }
+}
+
 /// `.comm` and `.lcomm`.
-fn common_read(text: &[u8], local: bool) -> Result<Directive<'_>, Refusal> {
+fn common_read(text: &[u8], local: bool) -> Result<Directive, Refusal> {
     let (name, rest) = split_at_byte(text, b',');
     let (size, align) = split_at_byte(rest, b',');
-    let align = if align.is_empty() {
-        4
-    } else {
-        number_read(trimmed(align))?
-    };
-    Ok(Directive::Common {
-        name: name_read(trimmed(name))?,
-        size: number_read(trimmed(size))?,
-        align,
-        local,
-    })
+    let align = alignment_read(align)?;
+    if !is_name(trimmed(name)) {
+        return Err(Refusal::BadName);
+    }
+    let size = number_read(trimmed(size))?;
+    Ok(Directive::Common { size, align, local })
 }
 
 /// `.frame $sp,32,$31`.
-fn frame_read(text: &[u8]) -> Result<Directive<'_>, Refusal> {
-    let (register, _) = split_at_byte(text, b',');
-    let register = trimmed(register);
-    Ok(Directive::Frame {
-        points: register == b"$fp".as_slice() || register == b"$30".as_slice(),
-        size: second_number(text)?,
-    })
+fn frame_read(text: &[u8]) -> Result<Directive, Refusal> {
+    let size = second_number(text)?;
+    let register = first_part(text);
+    let points = register == b"$fp".as_slice() || register == b"$30".as_slice();
+    Ok(Directive::Frame { points, size })
 }
 
 /// `.mask 0x80000000,-4`.
-fn mask_read(text: &[u8]) -> Result<Directive<'_>, Refusal> {
-    let (mask, _) = split_at_byte(text, b',');
+fn mask_read(text: &[u8]) -> Result<Directive, Refusal> {
+    let mask = number_read(first_part(text))?;
+    let offset = second_number(text)?;
     Ok(Directive::Mask {
-        saves_link: number_read(trimmed(mask))? & LINK_BIT != 0,
-        offset: second_number(text)?,
+        saves_link: mask & LINK_BIT != 0,
+        offset,
     })
 }
 
 /// `.align 2`: to a multiple of a power of two.
-fn align_read(text: &[u8]) -> Result<Directive<'_>, Refusal> {
-    let (power, _) = split_at_byte(text, b',');
-    match number_read(trimmed(power))? {
+fn align_read(text: &[u8]) -> Result<Directive, Refusal> {
+    match number_read(first_part(text))? {
         power @ 0..=15 => Ok(Directive::Align(1 << power)),
         _ => Err(Refusal::BadNumber),
     }
 }
 
+/// So many bytes of 0.
+fn space_read(text: &[u8]) -> Result<Directive, Refusal> {
+    let size = number_read(first_part(text))?;
+    Ok(Directive::Space(size))
+}
+
 /// `.loc 1 12 3`.
-fn location_read(text: &[u8]) -> Result<Directive<'_>, Refusal> {
+fn location_read(text: &[u8]) -> Result<Directive, Refusal> {
     let (file, rest) = word_before(text);
-    let (line, _) = word_before(rest);
-    Ok(Directive::Location {
-        file: number_read(file)?,
-        line: number_read(line)?,
-    })
+    let file = number_read(file)?;
+    let line = number_read(word_before(rest).0)?;
+    Ok(Directive::Location { file, line })
 }
 
 /// `.file 1 "name"`. Without a number it says nothing that matters here.
-fn file_read(text: &[u8]) -> Result<Directive<'_>, Refusal> {
+fn file_read(text: &[u8]) -> Result<Directive, Refusal> {
     if text.starts_with(b"\"") {
         return Ok(Directive::Ignored);
     }
-    let (digits, rest) = word_before(text);
-    let number = number_read(digits)?;
-    Ok(Directive::File {
-        number,
-        quoted: rest,
-    })
+    let number = number_read(word_before(text).0)?;
+    Ok(Directive::File(number))
 }
 
-/// Values of so many bytes each.
-fn data_of(bytes: u8, text: &[u8]) -> Result<Directive<'_>, Refusal> {
-    let values = Values::new(text);
-    Ok(Directive::Data { bytes, values })
-}
-
-/// So many bytes of 0.
-fn space_read(text: &[u8]) -> Result<Directive<'_>, Refusal> {
-    let (size, _) = split_at_byte(text, b',');
-    Ok(Directive::Space(number_read(trimmed(size))?))
-}
-
-/// The directive that lays down data, if this is one.
-fn data_read<'a>(word: &[u8], rest: &'a [u8]) -> Option<Result<Directive<'a>, Refusal>> {
-    Some(match word {
-        b".word" | b".4byte" | b".long" | b".int" => data_of(4, rest),
-        b".half" | b".2byte" | b".short" | b".hword" => data_of(2, rest),
-        b".byte" => data_of(1, rest),
-        b".dword" | b".8byte" => data_of(8, rest),
-        b".ascii" => Ok(Directive::Text {
-            ended: false,
-            quoted: rest,
-        }),
-        b".asciz" | b".asciiz" | b".string" => Ok(Directive::Text {
-            ended: true,
-            quoted: rest,
-        }),
-        b".space" | b".zero" | b".skip" => space_read(rest),
-        b".align" | b".p2align" => align_read(rest),
-        b".comm" => common_read(rest, false),
-        b".lcomm" => common_read(rest, true),
-        _ => return None,
-    })
-}
-
-/// The directive about names or the way of the text, if this is one.
-fn named_read<'a>(word: &[u8], rest: &'a [u8]) -> Option<Result<Directive<'a>, Refusal>> {
-    Some(match word {
-        b".text" => Ok(Directive::Section(Section::Code)),
-        b".data" | b".rdata" | b".bss" | b".sdata" | b".sbss" | b".rodata" => Ok(Directive::Section(
-            Section::Data,
-        )),
-        b".section" | b".pushsection" => Ok(Directive::Section(section_named(rest))),
-        b".previous" | b".popsection" => Ok(Directive::Previous),
-        b".globl" | b".global" => name_read(rest).map(Directive::Global),
-        b".weak" => name_read(rest).map(Directive::Weak),
-        b".local" => name_read(rest).map(Directive::Local),
-        b".frame" => frame_read(rest),
-        b".mask" => mask_read(rest),
-        b".set" => set_read(rest),
-        b".loc" => location_read(rest),
-        b".file" => file_read(rest),
-        _ => return None,
-    })
-}
-
-/// Whether a directive says nothing that matters here.
-fn is_ignored(word: &[u8]) -> bool {
-    if word.starts_with(b".cfi_") {
-        return true;
+/// What a directive of a form says, with this text behind its word.
+fn said_by(form: Form, text: &[u8]) -> Result<Directive, Refusal> {
+    match form {
+        Form::Says(directive) => Ok(directive),
+        Form::OfName(directive) => named(text, directive),
+        Form::Section => Ok(Directive::Section(section_named(text))),
+        Form::Frame => frame_read(text),
+        Form::Mask => mask_read(text),
+        Form::Common { local } => common_read(text, local),
+        Form::Align => align_read(text),
+        Form::Space => space_read(text),
+        Form::Set => set_read(text),
+        Form::Location => location_read(text),
+        Form::File => file_read(text),
     }
-    for name in &IGNORED {
-        if word == name.as_bytes() {
-            return true;
-        }
+}
+
+/// How a directive is read that begins with this word.
+fn form_of(word: &[u8]) -> Result<Form, Refusal> {
+    match meaning_of(&FORMS, word) {
+        Some(form) => Ok(form),
+        None if word.starts_with(b".cfi_") => Ok(Form::Says(Directive::Ignored)),
+        None => Err(Refusal::UnknownDirective),
     }
-    false
+}
+
+/// What stands behind the name at the front of a text and the `,` or `=` behind that: the name of another symbol.
+fn other_name(text: &[u8]) -> &[u8] {
+    match trimmed(split_name(text).1) {
+        [_, behind @ ..] => split_name(trimmed(behind)).0,
+        [] => &[],
+    }
+}
+
+/// A directive with the text that it stands before, or is itself.
+fn with_text(directive: Directive, text: &[u8]) -> DirectiveLine<'_> {
+    let name = split_name(text).0;
+    let text = match directive {
+        Directive::Alias => other_name(text),
+        Directive::File(_) => word_before(text).1,
+        _ => text,
+    };
+    DirectiveLine {
+        directive,
+        name,
+        text,
+    }
+}
+
+/// Whether a text is an assignment `name = other`.
+fn is_assignment(text: &[u8]) -> bool {
+    let (name, behind) = split_at_byte(text, b'=');
+    !behind.is_empty() && is_name(trimmed(name))
+}
+
+/// What the assignment `name = other` says.
+fn assignment_read(text: &[u8]) -> Result<Directive, Refusal> {
+    let (name, behind) = split_at_byte(text, b'=');
+    alias_read(trimmed(name), trimmed(behind))
 }
 
 /// The directive that a text spells, or the assignment `name = other`.
-pub(crate) fn directive_read(text: &[u8]) -> Result<Directive<'_>, Refusal> {
-    let (name, behind) = split_at_byte(text, b'=');
-    if !behind.is_empty() && name_read(trimmed(name)).is_ok() {
-        return alias_read(trimmed(name), trimmed(behind));
+pub(crate) fn directive_read(text: &[u8]) -> Result<DirectiveLine<'_>, Refusal> {
+    if is_assignment(text) {
+        return Ok(with_text(assignment_read(text)?, text));
     }
-    let word = first_word(text);
-    let rest = trimmed(text.get(word.len()..).unwrap_or(&[]));
-    if let Some(read) = data_read(word, rest) {
-        return read;
-    }
-    if let Some(read) = named_read(word, rest) {
-        return read;
-    }
-    if is_ignored(word) {
-        return Ok(Directive::Ignored);
-    }
-    Err(Refusal::UnknownDirective)
+    let (word, rest) = split_before(text, Mark::Gap);
+    let rest = trimmed(rest);
+    let directive = said_by(form_of(word)?, rest)?;
+    Ok(with_text(directive, rest))
 }

@@ -3,7 +3,7 @@ ghost use Rattle.std.specs.Prelude.{◌≡◌, ℕ, not};
 ghost use Rattle.cc_lines.specs.Conditions.{holds};
 
 /// A general register, by its number from 0 to 31.
-#[derive(Clone, Copy, Debug, PartialEq, Eq)]
+#[derive(Clone, Copy, PartialEq, Eq)]
 pub struct Register(pub u8);
 
 impl Register {
@@ -17,7 +17,7 @@ impl Register {
 }
 
 /// What is computed of two words.
-#[derive(Clone, Copy, Debug, PartialEq, Eq)]
+#[derive(Clone, Copy, PartialEq, Eq)]
 pub enum Operation {
     Add,
     Sub,
@@ -32,7 +32,7 @@ pub enum Operation {
 }
 
 /// The ways to shift a word.
-#[derive(Clone, Copy, Debug, PartialEq, Eq)]
+#[derive(Clone, Copy)]
 pub enum Shift {
     Left,
     Right,
@@ -40,14 +40,14 @@ pub enum Shift {
 }
 
 /// A second operand.
-#[derive(Clone, Copy, Debug, PartialEq, Eq)]
+#[derive(Clone, Copy, PartialEq, Eq)]
 pub enum Source {
     Register(Register),
     Number(u32),
 }
 
 /// How much of memory a load or a store moves.
-#[derive(Clone, Copy, Debug, PartialEq, Eq)]
+#[derive(Clone, Copy)]
 pub enum Width {
     Byte { signed: bool },
     Half { signed: bool },
@@ -59,21 +59,21 @@ pub enum Width {
 }
 
 /// Products and quotients, which go to LO and HI.
-#[derive(Clone, Copy, Debug, PartialEq, Eq)]
+#[derive(Clone, Copy)]
 pub enum Long {
     Product { signed: bool },
     Quotient { signed: bool },
 }
 
 /// The registers of products and quotients.
-#[derive(Clone, Copy, Debug, PartialEq, Eq)]
+#[derive(Clone, Copy)]
 pub enum Special {
     Lo,
     Hi,
 }
 
 /// When a branch is taken.
-#[derive(Clone, Copy, Debug, PartialEq, Eq)]
+#[derive(Clone, Copy, PartialEq, Eq)]
 pub enum Condition {
     Equal,
     NotEqual,
@@ -108,7 +108,7 @@ impl Condition {
 }
 
 /// Where a jump or a call goes.
-#[derive(Clone, Copy, Debug, PartialEq, Eq)]
+#[derive(Clone, Copy)]
 pub enum LinkFrom {
     /// To the symbol of the statement.
     Symbol,
@@ -117,7 +117,7 @@ pub enum LinkFrom {
 }
 
 /// An instruction. Where it names a symbol, that stands beside it, in its statement, and is added to the offset.
-#[derive(Clone, Copy, Debug, PartialEq, Eq)]
+#[derive(Clone, Copy)]
 pub enum Instruction {
     Compute {
         op: Operation,

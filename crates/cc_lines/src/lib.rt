@@ -11,9 +11,10 @@ mod operand;
 mod quoted;
 mod reading;
 mod refusal;
+mod table;
 
 pub use cursor::{Lines, without_comment};
-pub use directive::{Directive, Section};
+pub use directive::{Directive, DirectiveLine, Section};
 pub use instruction::{
     Condition, Instruction, LinkFrom, Long, Operation, Register, Shift, Source, Special, Statement,
     Width,

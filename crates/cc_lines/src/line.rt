@@ -1,10 +1,10 @@
 //! Lines.
 ghost use Rattle.std.specs.Prelude.{◌≡◌, ◌==◌, ◌||◌, ◌↔◌, [], drop, IfSome, IfOk};
-ghost use Rattle.std.specs.List.{position, before_first};
+ghost use Rattle.std.specs.List.{before_first};
 ghost use Rattle.cc_lines.specs.Bytes;
 
-use crate::cursor::{is_named, split_name, trimmed, trimmed_front};
-use crate::directive::{Directive, directive_read};
+use crate::cursor::{Mark, is_named, split_before, split_name, trimmed, trimmed_front};
+use crate::directive::{DirectiveLine, directive_read};
 use crate::instruction::Statement;
 use crate::reading::statement_read;
 use crate::refusal::Refusal;
@@ -14,7 +14,7 @@ use crate::refusal::Refusal;
 pub enum Line<'a> {
     Nothing,
     Statement(Statement<'a>),
-    Directive(Directive<'a>),
+    Directive(DirectiveLine<'a>),
 }
 
 /// The label at the front of a line, and what stands behind it.
@@ -29,21 +29,11 @@ pub fn label_before(text: &[u8]) -> Option<(&[u8], &[u8])>
     }
 }
 
-/// The place of the first space or tab.
-fn word_end(text: &[u8]) -> Option<usize>
-    ensures { result ≡ position (λ b. b == 32 || b == 9) text.now }
-{
-    text.iter().position(|b| *b == b' ' || *b == b'\t')
-}
-
 /// The word that a text without labels begins with: its mnemonic or directive.
 pub fn first_word(text: &[u8]) -> &[u8]
     ensures { result.now ≡ before_first (λ b. b == 32 || b == 9) text.now }
 {
-    match word_end(text) {
-        Some(at) => &text[..at],
-        None => text,
-    }
+    split_before(text, Mark::Gap).0
 }
 
 /// What a text without comment and labels spells.

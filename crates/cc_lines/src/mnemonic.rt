@@ -2,6 +2,7 @@
 
 use crate::instruction::{Condition, Long, Operation, Shift, Special, Width};
 use crate::refusal::Refusal;
+use crate::table::{is_among, meaning_of};
 
 /// What a mnemonic stands for.
 #[derive(Clone, Copy)]
@@ -119,32 +120,12 @@ const FLOATING: [&str; 10] = [
     "lwc1", "swc1", "ldc1", "sdc1", "mfc1", "mtc1", "cfc1", "ctc1", "bc1t", "bc1f",
 ];
 
-/// The mnemonic among these that a name spells.
-fn spelled(rows: &[(&str, Mnemonic)], name: &[u8]) -> Option<Mnemonic> {
-    for (spelling, mnemonic) in rows {
-        if name == spelling.as_bytes() {
-            return Some(*mnemonic);
-        }
-    }
-    None
-}
-
-/// Whether a name is one of these.
-fn is_among(names: &[&str], name: &[u8]) -> bool {
-    for spelling in names {
-        if name == spelling.as_bytes() {
-            return true;
-        }
-    }
-    false
-}
-
 /// The mnemonic that a name spells.
 pub(crate) fn mnemonic_named(name: &[u8]) -> Result<Mnemonic, Refusal> {
-    if let Some(mnemonic) = spelled(&MNEMONICS, name) {
+    if let Some(mnemonic) = meaning_of(&MNEMONICS, name) {
         return Ok(mnemonic);
     }
-    if let Some(mnemonic) = spelled(&MORE, name) {
+    if let Some(mnemonic) = meaning_of(&MORE, name) {
         return Ok(mnemonic);
     }
     if is_among(&SYSTEM, name) {

@@ -7,15 +7,26 @@ use crate::cursor::{is_named, number, split_at_byte, split_name, trimmed, trimme
 use crate::instruction::Register;
 use crate::refusal::Refusal;
 
-/// What stands between the commas of an instruction.
+/// What stands between the commas of an instruction. The name of its symbol, if it has one, is at the front of its text.
 #[derive(Clone, Copy)]
-pub(crate) enum Operand<'a> {
+pub(crate) enum Operand {
     Register(Register),
     Number(u32),
     /// A symbol with an addend.
-    Symbol(&'a [u8], u32),
-    /// An offset, a symbol perhaps, and a base.
-    Memory(Option<&'a [u8]>, u32, Register),
+    Symbol(u32),
+    /// An offset from what a register holds, and perhaps from a symbol.
+    Memory {
+        named: bool,
+        offset: u32,
+        base: Register,
+    },
+}
+
+/// A number, or the addend of the symbol whose name is at the front of the text.
+#[derive(Clone, Copy)]
+pub(crate) enum Value {
+    Number(u32),
+    Symbol(u32),
 }
 
 /// What a data directive may hold: a number, or a symbol with an addend.
@@ -102,7 +113,7 @@ fn addend_read(text: &[u8]) -> Result<u32, Refusal> {
     let text = trimmed(text);
     match text {
         [] => Ok(0),
-        [b'+', rest @ ..] | [b'-', rest @ ..] => match trimmed_front(rest) {
+        [b'+' | b'-', rest @ ..] => match trimmed_front(rest) {
             [first, ..] if is_named(*first) && !first.is_ascii_digit() => Err(
                 Refusal::LabelArithmetic,
             ),
@@ -112,34 +123,43 @@ fn addend_read(text: &[u8]) -> Result<u32, Refusal> {
     }
 }
 
-/// The number that a text spells, or the symbol with its addend.
-pub(crate) fn word_read(text: &[u8]) -> Result<Word<'_>, Refusal> {
+/// The number that a text spells, or the addend of its symbol.
+pub(crate) fn value_read(text: &[u8]) -> Result<Value, Refusal> {
     match text {
-        [b'0'..=b'9', ..] | [b'-', ..] | [b'+', ..] => match number(text) {
-            Some(value) => Ok(Word::Number(value)),
+        [b'0'..=b'9' | b'-' | b'+', ..] => match number(text) {
+            Some(value) => Ok(Value::Number(value)),
             None => Err(Refusal::BadNumber),
         },
         [first, ..] if is_named(*first) => {
-            let (name, rest) = split_name(text);
-            Ok(Word::Symbol(name, addend_read(rest)?))
+            let addend = addend_read(split_name(text).1)?;
+            Ok(Value::Symbol(addend))
         }
         _ => Err(Refusal::BadOperands),
     }
 }
 
 /// The operand in memory with this base, before which the text stands.
-fn memory_read(before: &[u8], base: Register) -> Result<Operand<'_>, Refusal> {
+fn memory_read(before: &[u8], base: Register) -> Result<Operand, Refusal> {
     if before.is_empty() {
-        return Ok(Operand::Memory(None, 0, base));
+        return Ok(Operand::Memory {
+            named: false,
+            offset: 0,
+            base,
+        });
     }
-    Ok(match word_read(before)? {
-        Word::Number(offset) => Operand::Memory(None, offset, base),
-        Word::Symbol(name, offset) => Operand::Memory(Some(name), offset, base),
+    let (named, offset) = match value_read(before)? {
+        Value::Number(offset) => (false, offset),
+        Value::Symbol(offset) => (true, offset),
+    };
+    Ok(Operand::Memory {
+        named,
+        offset,
+        base,
     })
 }
 
 /// The operand that a text spells.
-pub(crate) fn operand_read(text: &[u8]) -> Result<Operand<'_>, Refusal> {
+pub(crate) fn operand_read(text: &[u8]) -> Result<Operand, Refusal> {
     if let Some(register) = register_named(text) {
         return Ok(Operand::Register(register?));
     }
@@ -147,9 +167,9 @@ pub(crate) fn operand_read(text: &[u8]) -> Result<Operand<'_>, Refusal> {
         let (before, inner) = split_at_byte(front, b'(');
         return memory_read(trimmed(before), register_read(trimmed(inner))?);
     }
-    Ok(match word_read(text)? {
-        Word::Number(value) => Operand::Number(value),
-        Word::Symbol(name, offset) => Operand::Symbol(name, offset),
+    Ok(match value_read(text)? {
+        Value::Number(value) => Operand::Number(value),
+        Value::Symbol(addend) => Operand::Symbol(addend),
     })
 }
 
@@ -178,6 +198,10 @@ impl<'a> Values<'a> {
         }
         let (first, rest) = split_at_byte(self.rest, b',');
         self.rest = rest;
-        Ok(Some(word_read(trimmed(first))?))
+        let text = trimmed(first);
+        Ok(Some(match value_read(text)? {
+            Value::Number(value) => Word::Number(value),
+            Value::Symbol(addend) => Word::Symbol(split_name(text).0, addend),
+        }))
     }
 }

@@ -1,6 +1,6 @@
 //! Instructions of their operands.
 
-use crate::cursor::{split_at_byte, trimmed};
+use crate::cursor::{split_at_byte, split_name, trimmed};
 use crate::instruction::{
     Condition, Instruction, LinkFrom, Operation, Register, Source, Statement,
 };
@@ -10,45 +10,51 @@ use crate::refusal::Refusal;
 
 /// The operands of an instruction: none to three.
 #[derive(Clone, Copy)]
-enum Operands<'a> {
+enum Operands {
     None,
-    One(Operand<'a>),
-    Two(Operand<'a>, Operand<'a>),
-    Three(Operand<'a>, Operand<'a>, Operand<'a>),
+    One(Operand),
+    Two(Operand, Operand),
+    Three(Operand, Operand, Operand),
+}
+
+/// Operands, and the text of the last one: an instruction names a symbol there alone.
+#[derive(Clone, Copy)]
+struct Spelled<'a> {
+    operands: Operands,
+    last: &'a [u8],
 }
 
 /// The operands that a text spells.
-fn operands_read(text: &[u8]) -> Result<Operands<'_>, Refusal> {
+fn operands_read(text: &[u8]) -> Result<Spelled<'_>, Refusal> {
     if text.is_empty() {
-        return Ok(Operands::None);
+        return Ok(Spelled {
+            operands: Operands::None,
+            last: text,
+        });
     }
     let (first, rest) = split_at_byte(text, b',');
-    let a = operand_read(trimmed(first))?;
+    let last = trimmed(first);
+    let a = operand_read(last)?;
     if rest.is_empty() {
-        return Ok(Operands::One(a));
+        return Ok(Spelled {
+            operands: Operands::One(a),
+            last,
+        });
     }
     let (second, rest) = split_at_byte(rest, b',');
-    let b = operand_read(trimmed(second))?;
+    let last = trimmed(second);
+    let b = operand_read(last)?;
     if rest.is_empty() {
-        return Ok(Operands::Two(a, b));
+        return Ok(Spelled {
+            operands: Operands::Two(a, b),
+            last,
+        });
     }
-    let c = operand_read(trimmed(rest))?;
-    Ok(Operands::Three(a, b, c))
-}
-
-/// An instruction that names no symbol.
-fn plain<'a>(instruction: Instruction) -> Result<Statement<'a>, Refusal> {
-    Ok(Statement {
-        instruction,
-        symbol: None,
-    })
-}
-
-/// An instruction that names a symbol.
-fn named(instruction: Instruction, name: &[u8]) -> Result<Statement<'_>, Refusal> {
-    Ok(Statement {
-        instruction,
-        symbol: Some(name),
+    let last = trimmed(rest);
+    let c = operand_read(last)?;
+    Ok(Spelled {
+        operands: Operands::Three(a, b, c),
+        last,
     })
 }
 
@@ -64,11 +70,9 @@ fn source(operand: Operand) -> Result<Source, Refusal> {
 /// The registers and the second operand of `op $d,$s,$t`, or of `op $d,$t`, where the first source is the target.
 fn three(operands: Operands) -> Result<(Register, Register, Source), Refusal> {
     match operands {
-        Operands::Three(Operand::Register(rd), Operand::Register(rs), second) => Ok((
-            rd,
-            rs,
-            source(second)?,
-        )),
+        Operands::Three(Operand::Register(rd), Operand::Register(rs), second) => {
+            Ok((rd, rs, source(second)?))
+        }
         Operands::Two(Operand::Register(rd), second) => Ok((rd, rd, source(second)?)),
         _ => Err(Refusal::BadOperands),
     }
@@ -91,21 +95,15 @@ fn one(operands: Operands) -> Result<Register, Refusal> {
     }
 }
 
-/// The register and the place of `op $r,place`: its symbol, its base and its offset.
-fn memory(operands: Operands<'_>) -> Result<(Register, Option<&[u8]>, Register, u32), Refusal> {
+/// The register, the base and the offset of `op $r,place`.
+fn memory(operands: Operands) -> Result<(Register, Register, u32), Refusal> {
     match operands {
-        Operands::Two(Operand::Register(r), Operand::Memory(symbol, offset, base)) => Ok((
-            r, symbol, base, offset,
-        )),
-        Operands::Two(Operand::Register(r), Operand::Symbol(name, offset)) => {
-            Ok((r, Some(name), Register::ZERO, offset))
+        Operands::Two(Operand::Register(r), Operand::Memory { offset, base, .. }) => {
+            Ok((r, base, offset))
         }
-        Operands::Two(Operand::Register(r), Operand::Number(offset)) => Ok((
-            r,
-            None,
-            Register::ZERO,
-            offset,
-        )),
+        Operands::Two(Operand::Register(r), Operand::Symbol(offset) | Operand::Number(offset)) => {
+            Ok((r, Register::ZERO, offset))
+        }
         _ => Err(Refusal::BadOperands),
     }
 }
@@ -113,8 +111,8 @@ fn memory(operands: Operands<'_>) -> Result<(Register, Option<&[u8]>, Register, 
 /// The registers of `op $s,$t`, or of `op $0,$s,$t`.
 fn long(operands: Operands) -> Result<(Register, Register), Refusal> {
     match operands {
-        Operands::Two(Operand::Register(rs), Operand::Register(rt)) => Ok((rs, rt)),
-        Operands::Three(
+        Operands::Two(Operand::Register(rs), Operand::Register(rt))
+        | Operands::Three(
             Operand::Register(Register(0)),
             Operand::Register(rs),
             Operand::Register(rt),
@@ -124,86 +122,112 @@ fn long(operands: Operands) -> Result<(Register, Register), Refusal> {
 }
 
 /// A branch that compares two.
-fn branch(condition: Condition, operands: Operands<'_>) -> Result<Statement<'_>, Refusal> {
+fn branch(condition: Condition, operands: Operands) -> Result<Instruction, Refusal> {
     match operands {
-        Operands::Three(Operand::Register(rs), second, Operand::Symbol(target, 0)) => {
+        Operands::Three(Operand::Register(rs), second, Operand::Symbol(0)) => {
             let second = source(second)?;
-            named(
-                Instruction::Branch {
-                    condition,
-                    rs,
-                    second,
-                },
-                target,
-            )
+            Ok(Instruction::Branch {
+                condition,
+                rs,
+                second,
+            })
         }
         _ => Err(Refusal::BadOperands),
     }
 }
 
 /// A branch that compares with 0.
-fn branch_zero(condition: Condition, operands: Operands<'_>) -> Result<Statement<'_>, Refusal> {
+fn branch_zero(condition: Condition, operands: Operands) -> Result<Instruction, Refusal> {
     match operands {
-        Operands::Two(Operand::Register(rs), Operand::Symbol(target, 0)) => {
+        Operands::Two(Operand::Register(rs), Operand::Symbol(0)) => {
             let second = Source::Register(Register::ZERO);
-            named(
-                Instruction::Branch {
-                    condition,
-                    rs,
-                    second,
-                },
-                target,
-            )
+            Ok(Instruction::Branch {
+                condition,
+                rs,
+                second,
+            })
         }
         _ => Err(Refusal::BadOperands),
     }
 }
 
-/// A jump.
-fn jump(operands: Operands<'_>) -> Result<Statement<'_>, Refusal> {
+/// Where a jump goes.
+fn target(operands: Operands) -> Result<LinkFrom, Refusal> {
     match operands {
-        Operands::One(Operand::Symbol(target, 0)) => named(
-            Instruction::Jump(LinkFrom::Symbol),
-            target,
-        ),
-        Operands::One(Operand::Register(r)) => plain(Instruction::Jump(LinkFrom::Register(r))),
+        Operands::One(Operand::Symbol(0)) => Ok(LinkFrom::Symbol),
+        Operands::One(Operand::Register(r)) => Ok(LinkFrom::Register(r)),
         _ => Err(Refusal::BadOperands),
     }
 }
 
 /// A call, whose link is register 31.
-fn call(operands: Operands<'_>) -> Result<Statement<'_>, Refusal> {
+fn call(operands: Operands) -> Result<Instruction, Refusal> {
     match operands {
-        Operands::One(Operand::Symbol(target, 0)) => named(
-            Instruction::Call(LinkFrom::Symbol),
-            target,
-        ),
-        Operands::One(Operand::Register(r))
-        | Operands::Two(Operand::Register(Register::LINK), Operand::Register(r)) => {
-            plain(Instruction::Call(LinkFrom::Register(r)))
+        Operands::Two(Operand::Register(Register::LINK), Operand::Register(r)) => {
+            Ok(Instruction::Call(LinkFrom::Register(r)))
         }
-        _ => Err(Refusal::BadOperands),
+        _ => Ok(Instruction::Call(target(operands)?)),
     }
 }
 
 /// A number into a register.
-fn number(operands: Operands<'_>, upper: bool) -> Result<Statement<'_>, Refusal> {
+fn number(operands: Operands, factor: u32) -> Result<Instruction, Refusal> {
     match operands {
-        Operands::Two(Operand::Register(rd), Operand::Number(value)) => {
-            let value = if upper {
-                value.wrapping_mul(65536)
-            } else {
-                value
-            };
-            plain(Instruction::Number { rd, value })
+        Operands::Two(Operand::Register(rd), Operand::Number(number)) => {
+            let value = number.wrapping_mul(factor);
+            Ok(Instruction::Number { rd, value })
         }
         _ => Err(Refusal::BadOperands),
     }
 }
 
+/// A load, a store, or the address of a place.
+fn at_place(mnemonic: Mnemonic, operands: Operands) -> Result<Instruction, Refusal> {
+    let (register, base, offset) = memory(operands)?;
+    Ok(match mnemonic {
+        Mnemonic::Load(width) => Instruction::Load {
+            width,
+            rd: register,
+            base,
+            offset,
+        },
+        Mnemonic::Store(width) => Instruction::Store {
+            width,
+            rs: register,
+            base,
+            offset,
+        },
+        _ => Instruction::Address {
+            rd: register,
+            base,
+            offset,
+        },
+    })
+}
+
+/// A copy, or what is computed of one register.
+fn of_one(mnemonic: Mnemonic, operands: Operands) -> Result<Instruction, Refusal> {
+    let (rd, rs) = two(operands)?;
+    Ok(match mnemonic {
+        Mnemonic::Negate => Instruction::Compute {
+            op: Operation::Sub,
+            rd,
+            rs: Register::ZERO,
+            second: Source::Register(rs),
+        },
+        Mnemonic::Not => Instruction::Compute {
+            op: Operation::Nor,
+            rd,
+            rs,
+            second: Source::Register(Register::ZERO),
+        },
+        _ => Instruction::Move { rd, rs },
+    })
+}
+
 /// An instruction over registers alone.
-fn registers_alone<'a>(mnemonic: Mnemonic, operands: Operands) -> Result<Statement<'a>, Refusal> {
-    plain(match mnemonic {
+fn registers_alone(mnemonic: Mnemonic, operands: Operands) -> Result<Instruction, Refusal> {
+    Ok(match mnemonic {
         Mnemonic::Compute(op) => {
             let (rd, rs, second) = three(operands)?;
             Instruction::Compute { op, rd, rs, second }
@@ -211,30 +235,6 @@ fn registers_alone<'a>(mnemonic: Mnemonic, operands: Operands) -> Result<Stateme
         Mnemonic::Shift(op) => {
             let (rd, rs, by) = three(operands)?;
             Instruction::Shift { op, rd, rs, by }
-        }
-        Mnemonic::Move => {
-            let (rd, rs) = two(operands)?;
-            Instruction::Move { rd, rs }
-        }
-        Mnemonic::Negate => {
-            let (rd, rs) = two(operands)?;
-            let second = Source::Register(rs);
-            Instruction::Compute {
-                op: Operation::Sub,
-                rd,
-                rs: Register::ZERO,
-                second,
-            }
-        }
-        Mnemonic::Not => {
-            let (rd, rs) = two(operands)?;
-            let second = Source::Register(Register::ZERO);
-            Instruction::Compute {
-                op: Operation::Nor,
-                rd,
-                rs,
-                second,
-            }
         }
         Mnemonic::Long(op) => {
             let (rs, rt) = long(operands)?;
@@ -253,52 +253,48 @@ fn registers_alone<'a>(mnemonic: Mnemonic, operands: Operands) -> Result<Stateme
     })
 }
 
-/// The statement of a mnemonic and its operands.
-fn statement_of(mnemonic: Mnemonic, operands: Operands<'_>) -> Result<Statement<'_>, Refusal> {
+/// The instruction of a mnemonic and its operands.
+fn instruction_of(mnemonic: Mnemonic, operands: Operands) -> Result<Instruction, Refusal> {
     match mnemonic {
-        Mnemonic::Number => number(operands, false),
-        Mnemonic::Upper => number(operands, true),
-        Mnemonic::Address => {
-            let (rd, symbol, base, offset) = memory(operands)?;
-            Ok(Statement {
-                instruction: Instruction::Address { rd, base, offset },
-                symbol,
-            })
-        }
-        Mnemonic::Load(width) => {
-            let (rd, symbol, base, offset) = memory(operands)?;
-            Ok(Statement {
-                instruction: Instruction::Load {
-                    width,
-                    rd,
-                    base,
-                    offset,
-                },
-                symbol,
-            })
-        }
-        Mnemonic::Store(width) => {
-            let (rs, symbol, base, offset) = memory(operands)?;
-            Ok(Statement {
-                instruction: Instruction::Store {
-                    width,
-                    rs,
-                    base,
-                    offset,
-                },
-                symbol,
-            })
-        }
+        Mnemonic::Number => number(operands, 1),
+        Mnemonic::Upper => number(operands, 65536),
+        Mnemonic::Address | Mnemonic::Load(_) | Mnemonic::Store(_) => at_place(mnemonic, operands),
         Mnemonic::Branch(condition) => branch(condition, operands),
         Mnemonic::BranchZero(condition) => branch_zero(condition, operands),
-        Mnemonic::Goto | Mnemonic::Jump => jump(operands),
+        Mnemonic::Goto | Mnemonic::Jump => Ok(Instruction::Jump(target(operands)?)),
         Mnemonic::Call => call(operands),
+        Mnemonic::Move | Mnemonic::Negate | Mnemonic::Not => of_one(mnemonic, operands),
         _ => registers_alone(mnemonic, operands),
+    }
+}
+
+/// Whether an instruction names the symbol of its last operand. `break` and `nop` may stand before any operands.
+fn names_symbol(instruction: Instruction, operands: Operands) -> bool {
+    let last = match operands {
+        Operands::None => return false,
+        Operands::One(last) | Operands::Two(_, last) | Operands::Three(_, _, last) => last,
+    };
+    match instruction {
+        Instruction::Break | Instruction::Nop => false,
+        _ => matches!(
+            last,
+            Operand::Symbol(_) | Operand::Memory { named: true, .. }
+        ),
     }
 }
 
 /// The statement that a mnemonic and the text behind it spell.
 pub(crate) fn statement_read<'a>(name: &[u8], text: &'a [u8]) -> Result<Statement<'a>, Refusal> {
     let mnemonic = mnemonic_named(name)?;
-    statement_of(mnemonic, operands_read(text)?)
+    let Spelled { operands, last } = operands_read(text)?;
+    let instruction = instruction_of(mnemonic, operands)?;
+    let symbol = if names_symbol(instruction, operands) {
+        Some(split_name(last).0)
+    } else {
+        None
+    };
+    Ok(Statement {
+        instruction,
+        symbol,
+    })
 }

@@ -2,53 +2,61 @@
 ghost use Rattle.std.specs.Prelude.{◌≡◌};
 
 use std::alloc::{AllocError, AllocFailed};
-use thiserror::Error;
 
 /// Why a line is not taken.
-#[derive(Clone, Copy, Debug, PartialEq, Eq, Error)]
+#[derive(Clone, Copy)]
 pub enum Refusal {
-    #[error("an instruction that is not known")]
     UnknownMnemonic,
-    #[error("a directive that is not known")]
     UnknownDirective,
-    #[error("operands of another shape than it takes")]
     BadOperands,
-    #[error("a number that is too large or is none")]
     BadNumber,
-    #[error("floating-point registers are not taken; compile with -msoft-float")]
     FloatingPoint,
-    #[error("an instruction of the system")]
     System,
-    #[error("arithmetic on labels")]
     LabelArithmetic,
-    #[error("registers 1 and 22 to 28 are kept; compile with the options of lib/flags")]
     KeptRegister,
-    #[error("delay slots are not taken; compile with -fno-delayed-branch")]
     DelaySlots,
-    #[error("a text without its end")]
     BadText,
-    #[error("a character that a name may not have")]
     BadName,
-    #[error("an instruction outside a function")]
     OutsideFunction,
-    #[error("data without a label before it")]
     OutsideObject,
-    #[error("a symbol in less than a word, or in a word that is not on a word's place")]
     UnalignedSymbol,
-    #[error("a symbol that is defined twice")]
     DefinedTwice,
-    #[error("a symbol that is defined nowhere")]
     Undefined,
-    #[error("a label that is no place to go to")]
     NoPlace,
 }
 
+impl Refusal {
+    /// What is said of it.
+    pub fn reason(self) -> &'static str {
+        match self {
+            Refusal::UnknownMnemonic => "an instruction that is not known",
+            Refusal::UnknownDirective => "a directive that is not known",
+            Refusal::BadOperands => "operands of another shape than it takes",
+            Refusal::BadNumber => "a number that is too large or is none",
+            Refusal::FloatingPoint =>
+                "floating-point registers are not taken; compile with -msoft-float",
+            Refusal::System => "an instruction of the system",
+            Refusal::LabelArithmetic => "arithmetic on labels",
+            Refusal::KeptRegister =>
+                "registers 1 and 22 to 28 are kept; compile with the options of lib/flags",
+            Refusal::DelaySlots => "delay slots are not taken; compile with -fno-delayed-branch",
+            Refusal::BadText => "a text without its end",
+            Refusal::BadName => "a character that a name may not have",
+            Refusal::OutsideFunction => "an instruction outside a function",
+            Refusal::OutsideObject => "data without a label before it",
+            Refusal::UnalignedSymbol =>
+                "a symbol in less than a word, or in a word that is not on a word's place",
+            Refusal::DefinedTwice => "a symbol that is defined twice",
+            Refusal::Undefined => "a symbol that is defined nowhere",
+            Refusal::NoPlace => "a label that is no place to go to",
+        }
+    }
+}
+
 /// Why a line is not read.
-#[derive(Clone, Copy, Debug, PartialEq, Eq, Error)]
+#[derive(Clone, Copy)]
 pub enum LineError {
-    #[error("{0}")]
     Refused(Refusal),
-    #[error("out of memory")]
     Memory,
 }
 

@@ -3,20 +3,8 @@ ghost use Rattle.std.specs.Prelude.{◌≡◌};
 ghost use Rattle.cc_translate.specs.declared.error.TranslateError.TheVariants.{Memory};
 ghost use Rattle.cc_translate.specs.Errors.{IsTooMany};
 
-use cc_lines::{LineError, Refusal};
-use std::alloc::{AllocError, AllocFailed};
-
-/// The first line that is not taken.
-#[derive(Clone, Copy, Drop)]
-pub struct Fault<'a> {
-    /// The number of its text, from 0.
-    pub unit: u32,
-    /// Its number, from 1.
-    pub line: u32,
-    pub refusal: Refusal,
-    /// The symbol that it is about.
-    pub symbol: Option<&'a [u8]>,
-}
+use cc_program::{Fault, ReadError};
+use std::alloc::AllocError;
 
 /// Why texts are not translated.
 #[derive(Clone, Copy, Drop)]
@@ -39,25 +27,14 @@ impl<'a> From<AllocError> for TranslateError<'a> {
     }
 }
 
-/// The error of a line.
-pub(crate) fn error_at<'a>(unit: u32, line: u32, error: LineError) -> TranslateError<'a>
-    ensures { IsTooMany result }
-{
-    match error {
-        LineError::Refused(refusal) => TranslateError::Fault(Fault {
-            unit,
-            line,
-            refusal,
-            symbol: None,
-        }),
-        LineError::Memory => TranslateError::Memory,
-    }
-}
+impl<'a> From<ReadError<'a>> for TranslateError<'a> {
+    ghost from_gives = { λ _ e. IsTooMany e };
 
-impl<'a, T: Drop> From<AllocFailed<T>> for TranslateError<'a> {
-    ghost from_gives = { λ _ e. e ≡ Memory };
-
-    fn from(_: AllocFailed<T>) -> TranslateError<'a> {
-        TranslateError::Memory
+    fn from(error: ReadError<'a>) -> TranslateError<'a> {
+        match error {
+            ReadError::Fault(fault) => TranslateError::Fault(fault),
+            ReadError::NoMain => TranslateError::NoMain,
+            ReadError::Memory => TranslateError::Memory,
+        }
     }
 }

@@ -1,13 +1,12 @@
 //! The translation of a function.
 
 use crate::fusing::fuse;
-use crate::item::{Function, Item};
 use crate::liveness::live_after;
 use crate::output::Output;
 use crate::places::find_places;
 use crate::plan::{Plan, Step};
-use crate::program::Program;
 use crate::statements::translate_statement;
+use cc_program::{Function, Item, Program};
 use cc_rules::file_key;
 use std::alloc::{AllocError, Global};
 

@@ -1,22 +1,13 @@
 //! Comparisons that are made by the branch that reads them.
 
 use crate::effects::{of, reads, writes};
-use crate::item::Item;
-use crate::plan::{Plan, Step};
-use crate::symbols::Symbols;
+use crate::plan::{Comparison, Plan, Step};
 use cc_lines::{Condition, Instruction, Operation, Register, Source};
+use cc_program::{Item, Symbols};
 use cc_rules::is_comparison;
 
 /// How many items before a branch its comparison stands at most.
 const MOST_BETWEEN: usize = 32;
-
-/// A comparison.
-#[derive(Clone, Copy)]
-pub(crate) struct Comparison {
-    pub condition: Condition,
-    pub rs: Register,
-    pub second: Source,
-}
 
 /// The condition that `slt` or `sltu` and its like test.
 pub(crate) fn tested_by(op: Operation, rs: Register, second: Source) -> Comparison {
@@ -52,20 +43,23 @@ fn operands(rs: Register, second: Source) -> u64 {
     }
 }
 
-/// The register that a branch tests against 0, and whether it is taken where that is not 0.
-fn tested(instruction: &Instruction) -> Option<(Register, bool)> {
-    match *instruction {
-        Instruction::Branch {
+/// The register that a branch to a symbol tests against 0, and whether it is taken where that is not 0.
+fn tested(item: &Item) -> Option<(Register, bool)> {
+    let Item::Code {
+        instruction: Instruction::Branch {
             condition,
             rs,
             second: Source::Register(Register(0)) | Source::Number(0),
-        } => {
-            match condition {
-                Condition::NotEqual if rs != Register::ZERO => Some((rs, true)),
-                Condition::Equal if rs != Register::ZERO => Some((rs, false)),
-                _ => None,
-            }
-        }
+        },
+        symbol: Some(_),
+        ..
+    } = *item
+    else {
+        return None;
+    };
+    match condition {
+        Condition::NotEqual if rs != Register::ZERO => Some((rs, true)),
+        Condition::Equal if rs != Register::ZERO => Some((rs, false)),
         _ => None,
     }
 }
@@ -85,6 +79,17 @@ fn breaks(item: &Item, symbols: &Symbols) -> bool {
     }
 }
 
+/// The comparison that an instruction makes, if it alone writes the register `x` and reads none of those that are touched.
+fn comparison_in(instruction: &Instruction, x: Register, touched: u64) -> Option<Comparison> {
+    match *instruction {
+        Instruction::Compute { op, rd, rs, second }
+            if is_comparison(op) && rd == x && touched & operands(rs, second) == 0 => {
+            Some(tested_by(op, rs, second))
+        }
+        _ => None,
+    }
+}
+
 /// The comparison that stands before the item with a number, in the same block, and that alone writes the register `x`
 /// for it; and the number of its item.
 fn comparison_before(
@@ -100,62 +105,44 @@ fn comparison_before(
         if breaks(item, symbols) {
             return None;
         }
-        let Item::Code { instruction, .. } = item else {
-            continue;
-        };
-        if (reads(instruction) | writes(instruction)) & of(x) == 0 {
-            touched |= writes(instruction);
-            continue;
-        }
-        return match *instruction {
-            Instruction::Compute { op, rd, rs, second }
-                if is_comparison(op) && rd == x && touched & operands(rs, second) == 0 => {
-                Some((i, tested_by(op, rs, second)))
+        if let Item::Code { instruction, .. } = item {
+            if (reads(instruction) | writes(instruction)) & of(x) != 0 {
+                return Some((i, comparison_in(instruction, x, touched)?));
             }
-            _ => None,
-        };
+            touched |= writes(instruction);
+        }
     }
     None
 }
 
+/// The comparison that the branch with a number can make, and the number of the item that it is taken from.
+fn fused_at(
+    items: &[Item],
+    symbols: &Symbols,
+    plans: &[Plan],
+    number: usize,
+) -> Option<(usize, Comparison)> {
+    let (x, holds) = tested(items.get(number)?)?;
+    if plans.get(number)?.live & of(x) != 0 {
+        return None;
+    }
+    let (from, found) = comparison_before(items, symbols, number, x)?;
+    Some((from, if holds { found } else { found.opposite() }))
+}
+
+/// Lets a plan say what becomes of the item with a number.
+fn set_step(plans: &mut [Plan], number: usize, step: Step) {
+    if let Some(plan) = plans.get_mut(number) {
+        plan.step = step;
+    }
+}
+
 /// Lets each comparison that only a branch of its block reads be made by that branch.
 pub(crate) fn fuse(items: &[Item], symbols: &Symbols, plans: &mut [Plan]) {
-    for (j, item) in items.iter().enumerate() {
-        let Item::Code {
-            instruction,
-            symbol: Some(_),
-            ..
-        } = item
-        else {
-            continue;
-        };
-        let Some((x, holds)) = tested(instruction) else {
-            continue;
-        };
-        let live = match plans.get(j) {
-            Some(plan) => plan.live,
-            None => continue,
-        };
-        if live & of(x) != 0 {
-            continue;
-        }
-        let Some((i, found)) = comparison_before(items, symbols, j, x) else {
-            continue;
-        };
-        if let Some(plan) = plans.get_mut(i) {
-            plan.step = Step::Gone;
-        }
-        if let Some(plan) = plans.get_mut(j) {
-            let condition = if holds {
-                found.condition
-            } else {
-                found.condition.opposite()
-            };
-            plan.step = Step::Fused {
-                condition,
-                rs: found.rs,
-                second: found.second,
-            };
+    for number in 0..items.len() {
+        if let Some((from, found)) = fused_at(items, symbols, plans, number) {
+            set_step(plans, from, Step::Gone);
+            set_step(plans, number, Step::Fused(found));
         }
     }
 }

@@ -1,9 +1,8 @@
 //! Which registers are read behind each item of a function.
 
 use crate::effects::{ALL, ARGUMENTS, RETURNED, kills, reads};
-use crate::item::Item;
-use crate::symbols::{Meaning, Symbols};
 use cc_lines::{Instruction, LinkFrom, Register};
+use cc_program::{Item, Meaning, Symbols};
 use cc_rules::index_within;
 use std::alloc::{AllocError, Global};
 

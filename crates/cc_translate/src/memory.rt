@@ -1,10 +1,10 @@
 //! Loads and stores.
 
-use crate::item::Function;
 use crate::output::{Mask, Output};
 use crate::places::STACK_WORDS;
 use crate::plan::Place;
 use cc_lines::{Register, Width};
+use cc_program::Function;
 use cc_rules::signed;
 use std::alloc::AllocError;
 

@@ -1,12 +1,12 @@
 //! The text of the translation.
 
-use crate::symbols::Symbols;
+use cc_program::Symbols;
 use indexmap::IndexSet;
 use itoa::Buffer;
 use std::alloc::{AllocError, Global};
 
 /// The routines that statements call.
-#[derive(Clone, Copy, Debug, PartialEq, Eq)]
+#[derive(Clone, Copy, PartialEq, Eq)]
 pub(crate) enum Routine {
     /// The low word of a product.
     Low,
@@ -47,7 +47,7 @@ impl Routine {
 }
 
 /// Tables of data that statements read.
-#[derive(Clone, Copy, Debug, PartialEq, Eq)]
+#[derive(Clone, Copy, PartialEq, Eq)]
 pub(crate) enum Mask {
     LoadLeft,
     LoadRight,

@@ -1,11 +1,9 @@
 //! Where data are, with each pointer divided by 4 once as long as it is known.
 
 use crate::effects::{HI, bit, writes};
-use crate::item::{Function, Item};
 use crate::plan::{Place, Plan, Step};
-use crate::program::Program;
-use crate::symbols::Meaning;
 use cc_lines::{Instruction, LinkFrom, Long, Operation, Register, Source, Width};
+use cc_program::{Function, Item, Meaning, Program};
 use cc_rules::{byte_of, in_reach, quarter};
 
 /// The register with the stack pointer / 4.

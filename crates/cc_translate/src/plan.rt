@@ -13,6 +13,25 @@ pub(crate) enum Place {
     Far { base: u8, bytes: u32 },
 }
 
+/// A comparison.
+#[derive(Clone, Copy)]
+pub(crate) struct Comparison {
+    pub condition: Condition,
+    pub rs: Register,
+    pub second: Source,
+}
+
+impl Comparison {
+    /// The comparison that holds where this one does not.
+    pub(crate) fn opposite(self) -> Comparison {
+        Comparison {
+            condition: self.condition.opposite(),
+            rs: self.rs,
+            second: self.second,
+        }
+    }
+}
+
 /// What becomes of a statement.
 #[derive(Clone, Copy)]
 pub(crate) enum Step {
@@ -21,11 +40,7 @@ pub(crate) enum Step {
     /// A comparison that its branch makes.
     Gone,
     /// A branch that makes a comparison.
-    Fused {
-        condition: Condition,
-        rs: Register,
-        second: Source,
-    },
+    Fused(Comparison),
 }
 
 /// What is known of a statement from those around it.

@@ -156,47 +156,36 @@ m.div.d:
         jr r27
 ";
 
-/// A quotient of unsigned numbers and its remainder: so many steps as the quotient may have bits, 4, 8, 16, 24 or 32.
-const QUOTIENT: &str = "m.divu:
+/// How many steps a quotient of unsigned numbers takes: as many as it may have bits.
+const QUOTIENT_BITS: [u32; 5] = [4, 8, 16, 24, 32];
+
+/// What stands before these steps.
+const QUOTIENT: [&str; 5] = [
+    "m.divu:
         sh r1,r0,#8,r25
         bhs r25,r26,m.divu.b
         sh r1,r0,#4,r24
         bhs r24,r26,m.divu.a
         mov r24,r25
         sh r0,r1,#4,r1
-        movtos r1,md
-4*        dstep r25,r26,r25
-        movfrs md,r24
-        jr r27
-m.divu.a:
+",
+    "m.divu.a:
         sh r0,r1,#8,r1
-        movtos r1,md
-8*        dstep r25,r26,r25
-        movfrs md,r24
-        jr r27
-m.divu.b:
+",
+    "m.divu.b:
         sh r1,r0,#16,r25
         bhs r25,r26,m.divu.c
         sh r0,r1,#16,r1
-        movtos r1,md
-16*        dstep r25,r26,r25
-        movfrs md,r24
-        jr r27
-m.divu.c:
+",
+    "m.divu.c:
         sh r1,r0,#24,r25
         bhs r25,r26,m.divu.d
         sh r0,r1,#24,r1
-        movtos r1,md
-24*        dstep r25,r26,r25
-        movfrs md,r24
-        jr r27
-m.divu.d:
+",
+    "m.divu.d:
         mov r0,r25
-        movtos r1,md
-32*        dstep r25,r26,r25
-        movfrs md,r24
-        jr r27
-";
+",
+];
 
 /// How often a line of a routine stands, which is told before a `*`, and the line itself.
 fn repeated(line: &str) -> (u32, &str) {
@@ -217,6 +206,20 @@ fn put_text(out: &mut Output, text: &str) -> Result<(), AllocError> {
         if !line.ends_with(":") {
             out.statements = out.statements.saturating_add(times);
         }
+    }
+    Ok(())
+}
+
+/// The routine of a quotient and its remainder.
+fn put_quotient(out: &mut Output) -> Result<(), AllocError> {
+    for (lines, bits) in QUOTIENT.iter().zip(QUOTIENT_BITS) {
+        out.lines(lines, &[])?;
+        out.statement("movtos r1,md", &[])?;
+        for _ in 0..bits {
+            out.statement("dstep r25,r26,r25", &[])?;
+        }
+        out.statement("movfrs md,r24", &[])?;
+        out.statement("jr r27", &[])?;
     }
     Ok(())
 }
@@ -246,7 +249,7 @@ fn put_routine(out: &mut Output, which: Routine) -> Result<(), AllocError> {
         Routine::Low => put_text(out, LOW),
         Routine::Product => put_text(out, PRODUCT),
         Routine::SignedProduct => put_text(out, SIGNED_PRODUCT),
-        Routine::Quotient => put_text(out, QUOTIENT),
+        Routine::Quotient => put_quotient(out),
         Routine::SignedQuotient => put_text(out, SIGNED_QUOTIENT),
         _ => put_shift(out, which),
     }

@@ -1,19 +1,17 @@
 //! The translation of one statement, by itself and its plan.
 
 use crate::effects::{HI, bit};
-use crate::fusing::{Comparison, tested_by};
-use crate::item::Function;
+use crate::fusing::tested_by;
 use crate::memory::{
     FIRST, SECOND, THIRD, add_constant, call_at, constant, copy, load_statement, store_statement,
 };
 use crate::output::{Output, Routine};
 use crate::places::{FRAME_WORDS, STACK_WORDS};
-use crate::plan::{Plan, Step};
-use crate::program::Program;
-use crate::symbols::Meaning;
+use crate::plan::{Comparison, Plan, Step};
 use cc_lines::{
     Condition, Instruction, LinkFrom, Long, Operation, Register, Shift, Source, Special,
 };
+use cc_program::{Function, Meaning, Program};
 use cc_rules::special_register;
 use std::alloc::AllocError;
 
@@ -49,15 +47,13 @@ fn branch_text(condition: Condition) -> &'static str {
 fn branch(
     out: &mut Output,
     program: &Program,
-    condition: Condition,
-    rs: Register,
-    second: Source,
+    found: &Comparison,
     symbol: u32,
 ) -> Result<(), AllocError> {
-    let b = operand(out, second)?;
-    let numbers = [i64::from(rs.0), i64::from(b)];
+    let b = operand(out, found.second)?;
+    let numbers = [i64::from(found.rs.0), i64::from(b)];
     out.statement_to(
-        branch_text(condition),
+        branch_text(found.condition),
         &numbers,
         &program.symbols,
         symbol,
@@ -483,7 +479,16 @@ fn kept(
             rs,
             second,
         } => match symbol {
-            Some(symbol) => branch(out, program, condition, rs, second, symbol),
+            Some(symbol) => branch(
+                out,
+                program,
+                &Comparison {
+                    condition,
+                    rs,
+                    second,
+                },
+                symbol,
+            ),
             None => Ok(()),
         },
         Instruction::Jump(to) => jump(out, program, to, symbol),
@@ -506,14 +511,7 @@ pub(crate) fn translate_statement(
     }
     match (plan.step, symbol) {
         (Step::Gone, _) => Ok(()),
-        (
-            Step::Fused {
-                condition,
-                rs,
-                second,
-            },
-            Some(symbol),
-        ) => branch(out, program, condition, rs, second, symbol),
+        (Step::Fused(found), Some(symbol)) => branch(out, program, &found, symbol),
         _ => kept(out, program, function, instruction, symbol, plan),
     }
 }

@@ -4,13 +4,10 @@ ghost use Rattle.cc_translate.specs.Errors.{IsTooMany};
 
 use crate::error::TranslateError;
 use crate::functions::translate_function;
-use crate::layout::lay_out;
 use crate::output::Output;
-use crate::program::Program;
-use crate::reach::reach;
-use crate::reading::read_unit;
 use crate::routines::put_routines;
 use crate::words::{end_of, put_data};
+use cc_program::{Program, Reader};
 use cc_rules::FIRST_BYTE;
 use std::alloc::{AllocError, Global};
 
@@ -66,25 +63,6 @@ fn put_rest<'a>(
     Ok(())
 }
 
-/// Reads texts into a program, keeps what `main` reaches of it, and gives each datum its address. Answers the symbol of `main`
-/// and the first byte behind all data.
-fn read_all<'a>(
-    alloc: Global,
-    program: &mut Program<'a>,
-    texts: &[&'a [u8]],
-) -> Result<(u32, u64), TranslateError<'a>>
-    ensures { IfErr result (λ e. IsTooMany e) }
-{
-    let mut unit = 0u32;
-    for text in texts {
-        read_unit(alloc, program, unit, *text)?;
-        unit = unit.saturating_add(1);
-    }
-    program.symbols.begin_unit();
-    let main = reach(alloc, program)?;
-    Ok((main, lay_out(program)))
-}
-
 /// Adds code and data.
 fn put_all<'a>(
     alloc: Global,
@@ -121,7 +99,7 @@ fn source_of<'a>(
 pub fn translate<'a>(alloc: Global, texts: &[&'a [u8]]) -> Result<Vec<u8>, TranslateError<'a>>
     ensures { IfErr result (λ e. IsTooMany e) }
 {
-    let mut program = Program::new(alloc)?;
-    let (main, behind) = read_all(alloc, &mut program, texts)?;
-    source_of(alloc, &program, main, behind)
+    let mut reader = Reader::new(alloc)?;
+    let (main, behind) = reader.read_all(texts)?;
+    source_of(alloc, &reader.program, main, behind)
 }

@@ -1,10 +1,8 @@
 //! The data of the translation.
 ghost use Rattle.std.specs.Prelude.{◌≤◌};
 
-use crate::item::Object;
 use crate::output::{Mask, Output, Routine};
-use crate::program::Program;
-use crate::symbols::Meaning;
+use cc_program::{Meaning, Object, Program};
 use cc_rules::{kept_number, place_in, words_with};
 use std::alloc::{AllocError, Global};
 
@@ -211,18 +209,6 @@ fn put_image(out: &mut Output, program: &Program, image: &Image) -> Result<(), A
     Ok(())
 }
 
-/// The data of the program.
-fn put_program(
-    alloc: Global,
-    out: &mut Output,
-    program: &Program,
-    behind: u32,
-    end: u32,
-) -> Result<(), AllocError> {
-    let image = image_of(alloc, program, behind, end)?;
-    put_image(out, program, &image)
-}
-
 /// A label of a number, and a word.
 fn put_named(out: &mut Output, label: &str, number: u32, value: u32) -> Result<(), AllocError> {
     out.put(label)?;
@@ -354,7 +340,7 @@ pub(crate) fn put_data(
         out.put(".input\n")?;
     }
     out.put(".data\n")?;
-    put_program(alloc, out, program, behind, end)?;
+    put_image(out, program, &image_of(alloc, program, behind, end)?)?;
     put_tables(out)?;
     put_numbers(out, end)
 }

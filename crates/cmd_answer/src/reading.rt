@@ -1,13 +1,13 @@
 //! Reading the files of a command.
-ghost use Rattle.std.specs.Prelude.{◌≡◌, ◌++◌, codes, List, ℕ, IfOk, IfErr};
+ghost use Rattle.std.specs.Prelude.{◌≡◌, ◌++◌, codes, List, ℕ, IfOk};
 ghost use Rattle.cmd_answer.specs.declared.status.Status.TheVariants.{ReadFault};
 ghost use Rattle.cmd_answer.specs.Files.{file_word};
 ghost use Rattle.cmd_answer.specs.Answer.{prints, text_line};
 ghost use Rattle.mx_io.specs.Shelves.{Told, Counts, IsRead};
 ghost use Rattle.cmd_answer.specs.Protocol.{IsGiven, IsFault};
-ghost use Rattle.cmd_answer.specs.Replies.{reply_answer};
+ghost use Rattle.cmd_answer.specs.Replies.{reply_answer, IfAnswered};
 
-use crate::{FileKind, Reply, Status, line_reply};
+use crate::{Failure, FileKind, Reply, Status, line_reply};
 use mx_io::{Memory, Shelf, ShelfFault};
 use std::alloc::Global;
 
@@ -17,20 +17,21 @@ pub fn read_file<S: Shelf>(
     shelf: &mut S,
     kind: FileKind,
     name: &str,
-) -> Result<Result<Vec<u8>, Reply>, Memory>
+) -> Result<Vec<u8>, Failure>
     ensures read { IsRead (S.counts shelf.old) (S.counts shelf.new) }
-    ensures given { IfOk result (λ r. IfOk r (λ v. IsGiven (S.told shelf.old) kind name.now v.items
-        (S.counts shelf.old) (S.counts shelf.new))) }
-    ensures fault { IfOk result (λ r. IfErr r (λ e. IsFault (S.told shelf.old) kind name.now
-        (S.counts shelf.old) (S.counts shelf.new) (reply_answer e))) }
+    ensures given { IfOk result (λ v. IsGiven (S.told shelf.old) kind name.now v.items
+        (S.counts shelf.old) (S.counts shelf.new)) }
+    ensures fault { IfAnswered result (IsFault (S.told shelf.old) kind name.now (S.counts shelf.old) (S.counts shelf.new)) }
     ensures told_stays { S.told shelf.new ≡ S.told shelf.old }
     ensures writes_stay { S.write_faults shelf.new ≡ S.write_faults shelf.old }
 {
     match shelf.read(alloc, name, kind.limit()) {
-        Ok(bytes) => Ok(Ok(bytes)),
-        Err(ShelfFault::Failed) => Ok(Err(fault_reply(alloc, kind, " failed")?)),
-        Err(ShelfFault::TooLong) => Ok(Err(fault_reply(alloc, kind, " too long")?)),
-        Err(ShelfFault::Memory) => Err(Memory),
+        Ok(bytes) => Ok(bytes),
+        Err(ShelfFault::Failed) => Err(Failure::Answered(fault_reply(alloc, kind, " failed")?)),
+        Err(ShelfFault::TooLong) => {
+            Err(Failure::Answered(fault_reply(alloc, kind, " too long")?))
+        }
+        Err(ShelfFault::Memory) => Err(Failure::Memory),
     }
 }
 

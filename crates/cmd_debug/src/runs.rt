@@ -4,15 +4,14 @@ ghost use Rattle.std.specs.Option.{option_copied};
 ghost use Rattle.mx_io.specs.declared.limits.TheConstants.{MAX_FILE_BYTES};
 ghost use Rattle.mx_board.specs.Contents.{bytes_in};
 ghost use Rattle.cmd_answer.specs.Protocol.{Performed};
-ghost use Rattle.cmd_answer.specs.Replies.{reply_answer};
+ghost use Rattle.cmd_answer.specs.Replies.{reply_answer, OnAnswer};
 ghost use Rattle.cmd_options.specs.Options.{seen_files, IsAsked};
-ghost use Rattle.cmd_simulate.specs.Machines.{if_asked};
 ghost use Rattle.cmd_debug.specs.Sessions.{status_of, image_answer, session_protocol};
 
 use crate::texts::session_text;
-use cmd_answer::{Reply, Status};
+use cmd_answer::{Failure, Reply, Status};
 use cmd_options::{RunFiles, SessionLimits};
-use cmd_simulate::{read_input, read_requests};
+use cmd_simulate::{if_asked, read_run_files};
 use mx_board::Requests;
 use mx_code::Image;
 use mx_debug::{Ending, stops};
@@ -30,13 +29,6 @@ fn status_of(ending: Ending) -> Status
         Ending::Halted => Status::Halted,
         Ending::OutOfBudget => Status::OutOfBudget,
     }
-}
-
-// The input that a program is given, if it asks for one.
-fn if_asked(asks: bool, bytes: &[u8]) -> Option<&[u8]>
-    ensures { option_copied result ≡ if_asked asks bytes.entry.now }
-{
-    if asks { Some(bytes) } else { None }
 }
 
 // Runs an image with an input or none, under the shipped handler and with these requests, and tells its stops at an address.
@@ -81,24 +73,17 @@ pub fn debug_image<S: Shelf>(
     address: u32,
     files: &RunFiles,
     limits: &SessionLimits,
-) -> Result<Reply, Memory>
+) -> Result<Reply, Failure>
     requires address { address < 2 ^ 31 }
     requires asked { IsAsked limits.now }
-    ensures performed { IfOk result (λ r. Performed (S.told shelf.old)
+    ensures performed { OnAnswer result (Performed (S.told shelf.old)
         (session_protocol (seen_files files.now) limits.now image.now.code.items image.now.user_data.items asks address)
-        (S.counts shelf.old) (S.counts shelf.new) (reply_answer r)) }
+        (S.counts shelf.old) (S.counts shelf.new)) }
     ensures told_stays { S.told shelf.new ≡ S.told shelf.old }
     ensures writes_stay { S.write_faults shelf.new ≡ S.write_faults shelf.old }
 {
-    let requests = match read_requests(alloc, shelf, files.interrupts)? {
-        Ok(requests) => requests,
-        Err(reply) => return Ok(reply),
-    };
-    let input = match read_input(alloc, shelf, files.input)? {
-        Ok(input) => input,
-        Err(reply) => return Ok(reply),
-    };
-    let input = if_asked(asks, input.as_slice());
-    let reply = debug(alloc, image, input, &requests, address, limits)?;
+    let inputs = read_run_files(alloc, shelf, files)?;
+    let input = if_asked(asks, inputs.input.as_slice());
+    let reply = debug(alloc, image, input, &inputs.requests, address, limits)?;
     Ok(reply)
 }

@@ -1,5 +1,5 @@
 -- Steps of a run, and a run that has ended.
-use Rattle.std.proofs.Common.{◌≡◌, ◌≢◌, ℕ, zero, suc, ◌+◌, Bool, true, false, cond, ◌++◌, option_to_list, append-nil, Option, Some, None, refl, ap, ◌∙◌}
+use Rattle.std.proofs.Common.{◌≡◌, ◌≢◌, ℕ, zero, suc, ◌+◌, ◌-◌, ◌<◌, Bool, true, false, cond, ◌++◌, option_to_list, append-nil, Option, Some, None, refl, ap, sym, ◌∙◌, arith}
 use Rattle.std.specs.Prelude.{slice_get}
 use Rattle.mx_source.specs.declared.Value.{Value}
 use Rattle.mx_source.specs.declared.Value.TheVariants.{Int, Code}
@@ -93,8 +93,23 @@ steps_still p (suc n) r ended =
     rw (first, rest) refl
 
 -- a step of the next n + 1
-pub next_run : (p : Program) (n : ℕ) (r : Run) → run_for p (suc n) r ≡ run_for p n (run_step p r)
-next_run p n r = refl
-
 pub next_steps : (p : Program) (n : ℕ) (r : Run) → steps_in p (suc n) r ≡ went r.state.mark (run_step p r).state.mark + steps_in p n (run_step p r)
 next_steps p n r = refl
+
+-- once a run that goes on has taken a step, what is left of those that it may take, and how many of them count
+pub record Left (p : Program) (to n : ℕ) (now new : Run) : Type 0 where
+  pub run : run_for p (to - (n + 1)) new ≡ run_for p (to - n) now
+  pub steps : steps_in p (to - n) now ≡ went Going new.state.mark + steps_in p (to - (n + 1)) new
+
+pub left_after :
+    (p q : Program) (to n : ℕ) (now new : Run) → q ≡ p → new ≡ run_step q now → n < to → now.state.mark ≡ Going → Left p to n now new
+left_after p q to n now new same stepped lt going =
+    let took : new ≡ run_step p now = stepped ∙ ap (λ (x : Program). run_step x now) same in
+    let left : to - n ≡ suc (to - (n + 1)) = omega (arith, lt) in
+    record {
+      run = ap (run_for p (to - (n + 1))) took ∙ ap (λ k. run_for p k now) (sym left);
+      steps = ap (λ k. steps_in p k now) left
+          ∙ next_steps p (to - (n + 1)) now
+          ∙ ap (λ m. went m (run_step p now).state.mark + steps_in p (to - (n + 1)) (run_step p now)) going
+          ∙ ap (λ (r : Run). went Going r.state.mark + steps_in p (to - (n + 1)) r) (sym took);
+    }

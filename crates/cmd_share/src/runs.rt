@@ -1,11 +1,11 @@
 //! A run of an image of two programs, with the interrupt file that its options name.
 ghost use Rattle.std.specs.Prelude.{◌≡◌, ◌++◌, IfOk, OnOk, codes, option_map, List, ℕ, cond};
 ghost use Rattle.cmd_answer.specs.Protocol.{Performed};
-ghost use Rattle.cmd_answer.specs.Replies.{reply_answer};
+ghost use Rattle.cmd_answer.specs.Replies.{reply_answer, OnAnswer};
 ghost use Rattle.mx_tasks.specs.Sharing.{shared};
 ghost use Rattle.cmd_share.specs.Runs.{console_of, shared_text, shared_answer, sharing_protocol};
 
-use cmd_answer::{Reply, Status};
+use cmd_answer::{Failure, Reply, Status};
 use cmd_simulate::read_requests;
 use mx_board::Requests;
 use mx_code::Image;
@@ -88,17 +88,14 @@ pub fn run_shared<S: Shelf>(
     image: &Image,
     interrupts: Option<&str>,
     budget: u32,
-) -> Result<Reply, Memory>
-    ensures performed { IfOk result (λ r. Performed (S.told shelf.old)
+) -> Result<Reply, Failure>
+    ensures performed { OnAnswer result (Performed (S.told shelf.old)
         (sharing_protocol (option_map (λ s. s.now) interrupts.entry) budget image.now.code.items image.now.user_data.items)
-        (S.counts shelf.old) (S.counts shelf.new) (reply_answer r)) }
+        (S.counts shelf.old) (S.counts shelf.new)) }
     ensures told_stays { S.told shelf.new ≡ S.told shelf.old }
     ensures writes_stay { S.write_faults shelf.new ≡ S.write_faults shelf.old }
 {
-    let requests = match read_requests(alloc, shelf, interrupts)? {
-        Ok(requests) => requests,
-        Err(reply) => return Ok(reply),
-    };
+    let requests = read_requests(alloc, shelf, interrupts)?;
     let reply = simulate_shared(alloc, image, &requests, budget)?;
     Ok(reply)
 }

@@ -37,6 +37,10 @@ abbrev pub input_protocol : Option (List ℕ) → (List ℕ → Protocol) → Pr
 input_protocol None next = next []
 input_protocol (Some name) next = Reads Input name next
 
+-- the files of a run, in their order
+abbrev pub files_protocol : Files → (List ℕ → List ℕ → Protocol) → Protocol
+files_protocol files next = requests_protocol files.interrupts (λ requests. input_protocol files.input (λ bytes. next requests bytes))
+
 -- the input of a program that asks for one
 abbrev pub if_asked : Bool → List ℕ → Option (List ℕ)
 if_asked true bytes = Some bytes

@@ -8,13 +8,22 @@ ghost use Rattle.cmd_answer.specs.declared.Status.TheVariants.{BadEvents};
 ghost use Rattle.cmd_answer.specs.Answer.{Answer, prints};
 ghost use Rattle.mx_io.specs.Shelves.{Told, Counts};
 ghost use Rattle.cmd_answer.specs.Protocol.{Protocol, Performed};
-ghost use Rattle.cmd_answer.specs.Replies.{reply_answer};
-ghost use Rattle.cmd_simulate.specs.Machines.{event_text, event_line, requests_protocol, input_protocol};
+ghost use Rattle.cmd_answer.specs.Replies.{reply_answer, IfAnswered};
+ghost use Rattle.cmd_options.specs.Options.{seen_files};
+ghost use Rattle.cmd_simulate.specs.Machines.{event_text, event_line, requests_protocol, input_protocol, files_protocol};
 
-use cmd_answer::{FileKind, Reply, Status, line_reply, read_file};
+use cmd_answer::{Failure, FileKind, Reply, Status, line_reply, read_file};
+use cmd_options::RunFiles;
 use mx_board::{EventError, Requests};
 use mx_io::{Memory, Shelf};
 use std::alloc::Global;
+
+/// What the files of a run hold.
+#[derive(Drop)]
+pub struct RunInputs {
+    pub requests: Requests,
+    pub input: Vec<u8>,
+}
 
 // The line of a faulty interrupt file.
 fn event_reply(alloc: Global, line: u32, cause: &str) -> Result<Reply, Memory>
@@ -40,15 +49,15 @@ fn fault_reply(alloc: Global, fault: &EventError) -> Result<Reply, Memory>
 }
 
 // The requests of a file's bytes, or the reply to its first faulty line.
-fn parse_requests(alloc: Global, bytes: &[u8]) -> Result<Result<Requests, Reply>, Memory>
+fn parse_requests(alloc: Global, bytes: &[u8]) -> Result<Requests, Failure>
     requires { length bytes.now ≤ MAX_FILE_BYTES }
-    ensures given { IfOk result (λ r. IfOk r (λ requests. requests_of bytes.now ≡ Ok requests)) }
-    ensures refused { IfOk result
-        (λ r. IfErr r (λ reply. (fault : EventError) × (requests_of bytes.now ≡ Err fault) × (reply_answer reply ≡ prints BadEvents (event_line fault)))) }
+    ensures given { IfOk result (λ requests. requests_of bytes.now ≡ Ok requests) }
+    ensures refused { IfAnswered result
+        (λ answer. (fault : EventError) × (requests_of bytes.now ≡ Err fault) × (answer ≡ prints BadEvents (event_line fault))) }
 {
     match Requests::parse(alloc, bytes) {
-        Ok(requests) => Ok(Ok(requests)),
-        Err(fault) => Ok(Err(fault_reply(alloc, &fault)?)),
+        Ok(requests) => Ok(requests),
+        Err(fault) => Err(Failure::Answered(fault_reply(alloc, &fault)?)),
     }
 }
 
@@ -57,27 +66,25 @@ pub fn read_requests<S: Shelf>(
     alloc: Global,
     shelf: &mut S,
     name: Option<&str>,
-) -> Result<Result<Requests, Reply>, Memory>
-    ensures given { IfOk result (λ r. IfOk r (λ requests. (next : List ℕ → Protocol) (after : Counts) (answer : Answer)
+) -> Result<Requests, Failure>
+    ensures given { IfOk result (λ requests. (next : List ℕ → Protocol) (after : Counts) (answer : Answer)
         → Performed (S.told shelf.old) (next requests)
         (S.counts shelf.new) after answer
         → Performed (S.told shelf.old) (requests_protocol (option_map (λ s. s.now) name.entry) next)
-        (S.counts shelf.old) after answer)) }
-    ensures refused { IfOk result (λ r. IfErr r (λ reply. (next : List ℕ → Protocol)
+        (S.counts shelf.old) after answer) }
+    ensures refused { IfAnswered result (λ answer. (next : List ℕ → Protocol)
         → Performed (S.told shelf.old) (requests_protocol (option_map (λ s. s.now) name.entry) next)
-        (S.counts shelf.old) (S.counts shelf.new) (reply_answer reply))) }
+        (S.counts shelf.old) (S.counts shelf.new) answer) }
     ensures told_stays { S.told shelf.new ≡ S.told shelf.old }
     ensures writes_stay { S.write_faults shelf.new ≡ S.write_faults shelf.old }
 {
     match name {
-        Some(name) => match read_file(alloc, shelf, FileKind::Interrupts, name)? {
-            Ok(bytes) => match parse_requests(alloc, bytes.as_slice())? {
-                Ok(requests) => Ok(Ok(requests)),
-                Err(reply) => Ok(Err(reply)),
-            },
-            Err(reply) => Ok(Err(reply)),
-        },
-        None => Ok(Ok(Requests::none(alloc))),
+        Some(name) => {
+            let bytes = read_file(alloc, shelf, FileKind::Interrupts, name)?;
+            let requests = parse_requests(alloc, bytes.as_slice())?;
+            Ok(requests)
+        }
+        None => Ok(Requests::none(alloc)),
     }
 }
 
@@ -86,24 +93,47 @@ pub fn read_input<S: Shelf>(
     alloc: Global,
     shelf: &mut S,
     name: Option<&str>,
-) -> Result<Result<Vec<u8>, Reply>, Memory>
-    ensures within { IfOk result (λ r. IfOk r (λ bytes. length bytes.items ≤ MAX_FILE_BYTES)) }
-    ensures given { IfOk result (λ r. IfOk r (λ bytes. (next : List ℕ → Protocol) (after : Counts) (answer : Answer)
+) -> Result<Vec<u8>, Failure>
+    ensures within { IfOk result (λ bytes. length bytes.items ≤ MAX_FILE_BYTES) }
+    ensures given { IfOk result (λ bytes. (next : List ℕ → Protocol) (after : Counts) (answer : Answer)
         → Performed (S.told shelf.old) (next bytes.items)
         (S.counts shelf.new) after answer
         → Performed (S.told shelf.old) (input_protocol (option_map (λ s. s.now) name.entry) next)
-        (S.counts shelf.old) after answer)) }
-    ensures refused { IfOk result (λ r. IfErr r (λ reply. (next : List ℕ → Protocol)
+        (S.counts shelf.old) after answer) }
+    ensures refused { IfAnswered result (λ answer. (next : List ℕ → Protocol)
         → Performed (S.told shelf.old) (input_protocol (option_map (λ s. s.now) name.entry) next)
-        (S.counts shelf.old) (S.counts shelf.new) (reply_answer reply))) }
+        (S.counts shelf.old) (S.counts shelf.new) answer) }
     ensures told_stays { S.told shelf.new ≡ S.told shelf.old }
     ensures writes_stay { S.write_faults shelf.new ≡ S.write_faults shelf.old }
 {
     match name {
-        Some(name) => match read_file(alloc, shelf, FileKind::Input, name)? {
-            Ok(bytes) => Ok(Ok(bytes)),
-            Err(reply) => Ok(Err(reply)),
-        },
-        None => Ok(Ok(Vec::new(alloc))),
+        Some(name) => {
+            let bytes = read_file(alloc, shelf, FileKind::Input, name)?;
+            Ok(bytes)
+        }
+        None => Ok(Vec::new(alloc)),
     }
+}
+
+/// What the files of a run hold, which are read in their order, or the reply to the first fault.
+pub fn read_run_files<S: Shelf>(
+    alloc: Global,
+    shelf: &mut S,
+    files: &RunFiles,
+) -> Result<RunInputs, Failure>
+    ensures within { IfOk result (λ inputs. length inputs.input.items ≤ MAX_FILE_BYTES) }
+    ensures given { IfOk result (λ inputs. (next : List ℕ → List ℕ → Protocol) (after : Counts) (answer : Answer)
+        → Performed (S.told shelf.old) (next inputs.requests inputs.input.items)
+        (S.counts shelf.new) after answer
+        → Performed (S.told shelf.old) (files_protocol (seen_files files.now) next)
+        (S.counts shelf.old) after answer) }
+    ensures refused { IfAnswered result (λ answer. (next : List ℕ → List ℕ → Protocol)
+        → Performed (S.told shelf.old) (files_protocol (seen_files files.now) next)
+        (S.counts shelf.old) (S.counts shelf.new) answer) }
+    ensures told_stays { S.told shelf.new ≡ S.told shelf.old }
+    ensures writes_stay { S.write_faults shelf.new ≡ S.write_faults shelf.old }
+{
+    let requests = read_requests(alloc, shelf, files.interrupts)?;
+    let input = read_input(alloc, shelf, files.input)?;
+    Ok(RunInputs { requests, input })
 }

@@ -5,6 +5,6 @@ mod files;
 mod runs;
 mod simulated;
 
-pub use files::{read_input, read_requests};
-pub use runs::run_image;
+pub use files::{RunInputs, read_input, read_requests, read_run_files};
+pub use runs::{if_asked, run_image};
 pub use simulated::{simulate, simulate_on};

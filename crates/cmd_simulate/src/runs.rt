@@ -1,21 +1,21 @@
 //! A run of an image, with the files that its options name.
-ghost use Rattle.std.specs.Prelude.{◌≡◌, IfOk, List, ℕ};
+ghost use Rattle.std.specs.Prelude.{◌≡◌, List, ℕ};
 ghost use Rattle.std.specs.Option.{option_copied};
 ghost use Rattle.cmd_answer.specs.Protocol.{Performed};
-ghost use Rattle.cmd_answer.specs.Replies.{reply_answer};
+ghost use Rattle.cmd_answer.specs.Replies.{OnAnswer};
 ghost use Rattle.cmd_options.specs.Options.{seen_files};
 ghost use Rattle.cmd_simulate.specs.Machines.{machine_protocol, if_asked};
 
-use crate::files::{read_input, read_requests};
+use crate::files::read_run_files;
 use crate::simulate;
-use cmd_answer::Reply;
+use cmd_answer::{Failure, Reply};
 use cmd_options::{Limits, RunFiles};
 use mx_code::Image;
-use mx_io::{Memory, Shelf};
+use mx_io::Shelf;
 use std::alloc::Global;
 
-// The input that a program is given, if it asks for one.
-fn if_asked(asks: bool, bytes: &[u8]) -> Option<&[u8]>
+/// The input that a program is given, if it asks for one.
+pub fn if_asked(asks: bool, bytes: &[u8]) -> Option<&[u8]>
     ensures { option_copied result ≡ if_asked asks bytes.entry.now }
 {
     if asks { Some(bytes) } else { None }
@@ -30,27 +30,15 @@ pub fn run_image<S: Shelf>(
     asks: bool,
     files: &RunFiles,
     limits: &Limits,
-) -> Result<Reply, Memory>
-    ensures performed { IfOk result (λ r. Performed (S.told shelf.old)
+) -> Result<Reply, Failure>
+    ensures performed { OnAnswer result (Performed (S.told shelf.old)
         (machine_protocol (seen_files files.now) limits.now image.now.code.items image.now.user_data.items asks)
-        (S.counts shelf.old) (S.counts shelf.new) (reply_answer r)) }
+        (S.counts shelf.old) (S.counts shelf.new)) }
     ensures told_stays { S.told shelf.new ≡ S.told shelf.old }
     ensures writes_stay { S.write_faults shelf.new ≡ S.write_faults shelf.old }
 {
-    let requests = match read_requests(alloc, shelf, files.interrupts)? {
-        Ok(requests) => requests,
-        Err(reply) => return Ok(reply),
-    };
-    let input = match read_input(alloc, shelf, files.input)? {
-        Ok(input) => input,
-        Err(reply) => return Ok(reply),
-    };
-    let reply = simulate(
-        alloc,
-        image,
-        if_asked(asks, input.as_slice()),
-        &requests,
-        limits,
-    )?;
+    let inputs = read_run_files(alloc, shelf, files)?;
+    let input = if_asked(asks, inputs.input.as_slice());
+    let reply = simulate(alloc, image, input, &inputs.requests, limits)?;
     Ok(reply)
 }

@@ -2,26 +2,14 @@
 ghost use Rattle.std.specs.Prelude.{◌≡◌, ◌++◌, codes, OnOk, IfOk};
 ghost use Rattle.mx_text.specs.Text.{count_line};
 ghost use Rattle.mx_code.specs.NoOps.{noops_in};
-ghost use Rattle.mx_report.specs.Report.{counts_text, words_text};
+ghost use Rattle.mx_report.specs.Report.{words_text};
 ghost use Rattle.cmd_soak.specs.Soak.{soaked_text};
 
 use mx_io::Memory;
 use mx_link::Linked;
-use mx_report::Driven;
+use mx_report::{Driven, push_counts};
 use mx_text::push_count;
-use mx_turn::Counts;
 use std::alloc::{AllocError, Global};
-
-// Appends the counts of a machine.
-fn push_counts(alloc: Global, text: &mut Vec<u8>, counts: &Counts) -> Result<(), AllocError>
-    ensures { OnOk result (text.new.items ≡ text.old.items ++ counts_text counts.now) }
-{
-    push_count(alloc, text, "cycles", counts.cycles)?;
-    push_count(alloc, text, "fetches", counts.fetches)?;
-    push_count(alloc, text, "misses", counts.misses)?;
-    push_count(alloc, text, "squashes", counts.squashes)?;
-    push_count(alloc, text, "interrupts", counts.interrupts)
-}
 
 // Appends the counts of the code words.
 fn push_words(alloc: Global, text: &mut Vec<u8>, linked: &Linked) -> Result<(), AllocError>

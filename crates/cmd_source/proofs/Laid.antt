@@ -11,7 +11,7 @@ use Rattle.mx_link.specs.Origins.{from_target}
 use Rattle.mx_link.specs.Linked.{IsLinked}
 use Rattle.mx_reorg.specs.Greedy.{IsGreedy}
 use Rattle.cmd_answer.specs.declared.Status.TheVariants.{Refused}
-use Rattle.cmd_answer.specs.Answer.{prints}
+use Rattle.cmd_answer.specs.Answer.{Answer, prints}
 use Rattle.cmd_answer.specs.Protocol.{Protocol, Answers}
 use Rattle.mx_lines.specs.declared.Fault.{Fault}
 use Rattle.mx_asm.specs.Texts.{source_of, text_fault}
@@ -33,6 +33,18 @@ pub faulty :
     (next : SourceValue → Protocol) (text : List ℕ) (line : ℕ) (fault : Fault) → text_fault DATA_BASE DATA_END text ≡ Some (line, fault)
     → source_protocol next text ≡ Answers (prints Refused (fault_line line fault))
 faulty next text line fault e = ap (λ (found : Option (ℕ × Fault)). unless_faulty found (next (source_of DATA_BASE text))) e
+
+-- what is wrong with a text, or with a source, and its answer
+abbrev pub IsFaulty : List ℕ → Answer → Type 0
+IsFaulty text answer =
+    (line : ℕ) × (fault : Fault) × (text_fault DATA_BASE DATA_END text ≡ Some (line, fault)) × (answer ≡ prints Refused (fault_line line fault))
+
+abbrev pub IsTooLong : SourceValue → Answer → Type 0
+IsTooLong source answer =
+    (found : Overlong) × IsOverlong IsGreedy source board found × (answer ≡ prints Refused (overlong_line found.line found.from found.to))
+
+pub stops : (next : SourceValue → Protocol) (text : List ℕ) (answer : Answer) → IsFaulty text answer → source_protocol next text ≡ Answers answer
+stops next text answer wrong = faulty next text wrong.0 wrong.1 wrong.2 ∙ ap Answers (sym wrong.3)
 
 -- what follows a source, as far as its branches reach their targets
 abbrev reaching : Layouts → AfterLayout → SourceValue → Protocol
@@ -56,3 +68,7 @@ module _ (layout_of : Layouts) (is : IsScheduler layout_of) (source : SourceValu
         sourced (reaching layout_of next) text source e read
         ∙ ap (λ (o : Option Overlong). unless_overlong o (next source (layout_of source)))
         (ap (λ (s : List Site). overlong source board (blocks_in s)) same ∙ k.reach)
+
+pub faulty_text : (layout_of : Layouts) (next : AfterLayout) (text : List ℕ) (answer : Answer) → IsFaulty text answer
+    → linked_protocol layout_of next text ≡ Answers answer
+faulty_text layout_of next text answer wrong = stops (reaching layout_of next) text answer wrong

@@ -1,5 +1,5 @@
 //! Sources, assembled and linked, or the reply to what is wrong with them.
-ghost use Rattle.std.specs.Prelude.{◌≡◌, ◌≤◌, ◌++◌, codes, length, vec_len, IfOk, IfErr, List, ℕ, Some, None, string_bytes};
+ghost use Rattle.std.specs.Prelude.{◌≡◌, ◌≤◌, ◌++◌, codes, length, vec_len, IfOk, List, ℕ, Some, None, string_bytes};
 ghost use Rattle.mx_isa.specs.declared.board.TheConstants.{DATA_BASE, DATA_END};
 ghost use Rattle.mx_io.specs.declared.limits.TheConstants.{MAX_SOURCE_BYTES};
 ghost use Rattle.mx_source.specs.SourceValue.{SourceValue};
@@ -13,14 +13,14 @@ ghost use Rattle.mx_isa.specs.Board.{board};
 ghost use Rattle.cmd_answer.specs.Answer.{Answer, prints};
 ghost use Rattle.mx_io.specs.Shelves.{Counts};
 ghost use Rattle.cmd_answer.specs.Protocol.{Protocol, Answers, Reads, Performed};
-ghost use Rattle.cmd_answer.specs.Replies.{reply_answer};
+ghost use Rattle.cmd_answer.specs.Replies.{reply_answer, IfAnswered};
 ghost use Rattle.law_schedule.specs.Schedule.{IsScheduler};
 ghost use Rattle.cmd_source.specs.Refusals.{fault_line, displacement_text, span_text, overlong_text, overlong_line};
 ghost use Rattle.cmd_source.specs.Protocols.{source_protocol, Layouts, AfterLayout, linked_protocol};
 ghost use Rattle.cmd_source.specs.Replied.{IsReplied};
 
 use crate::files::read_named;
-use cmd_answer::{FileKind, Reply, Status, line_reply};
+use cmd_answer::{Failure, FileKind, Reply, Status, line_reply};
 use mx_asm::assemble;
 use mx_io::{Memory, Shelf};
 use mx_isa::BOARD;
@@ -51,17 +51,19 @@ fn fault_reply(alloc: Global, line: u32, fault: Fault) -> Result<Reply, Memory>
 }
 
 /// The source of a text, or the reply to its first fault.
-pub fn assembled(alloc: Global, text: &[u8]) -> Result<Result<Source, Reply>, Memory>
+pub fn assembled(alloc: Global, text: &[u8]) -> Result<Source, Failure>
     requires { length text.now ≤ MAX_SOURCE_BYTES }
-    ensures source { IfOk result (λ r. IfOk r (λ source. (text_fault DATA_BASE DATA_END text.now ≡ None) × (source ≡ source_of DATA_BASE text.now))) }
-    ensures refused { IfOk result
-        (λ r. IfErr r (λ reply. (line : ℕ) × (fault : SourceFault) × (text_fault DATA_BASE DATA_END text.now ≡ Some (line, fault))
-        × (reply_answer reply ≡ prints Status.Refused (fault_line line fault)))) }
+    ensures source { IfOk result (λ source. (text_fault DATA_BASE DATA_END text.now ≡ None) × (source ≡ source_of DATA_BASE text.now)) }
+    ensures refused { IfAnswered result
+        (λ answer. (line : ℕ) × (fault : SourceFault) × (text_fault DATA_BASE DATA_END text.now ≡ Some (line, fault))
+        × (answer ≡ prints Status.Refused (fault_line line fault))) }
 {
     match assemble(alloc, text) {
-        Ok(source) => Ok(Ok(source)),
-        Err(AsmError::Refused { line, fault }) => Ok(Err(fault_reply(alloc, line, fault)?)),
-        Err(AsmError::Memory) => Err(Memory),
+        Ok(source) => Ok(source),
+        Err(AsmError::Refused { line, fault }) => {
+            Err(Failure::Answered(fault_reply(alloc, line, fault)?))
+        }
+        Err(AsmError::Memory) => Err(Failure::Memory),
     }
 }
 
@@ -110,102 +112,79 @@ pub fn overlong_reply(alloc: Global, line: u32, from: u32, to: u32) -> Result<Re
 }
 
 /// A source, linked by the list scheduler, or the reply to its first branch that does not reach its target.
-pub fn linked_source(alloc: Global, source: &Source) -> Result<Result<Linked, Reply>, Memory>
-    ensures linked { IfOk result (λ r. IfOk r (λ l. IsLinked IsGreedy from_target source.now board l)) }
-    ensures refused { IfOk result (λ r. IfErr r (λ reply. (found : Overlong) × IsOverlong IsGreedy source.now board found
-        × (reply_answer reply ≡ prints Status.Refused (overlong_line found.line found.from found.to)))) }
+pub fn linked_source(alloc: Global, source: &Source) -> Result<Linked, Failure>
+    ensures linked { IfOk result (IsLinked IsGreedy from_target source.now board) }
+    ensures refused { IfAnswered result (λ answer. (found : Overlong) × IsOverlong IsGreedy source.now board found
+        × (answer ≡ prints Status.Refused (overlong_line found.line found.from found.to))) }
 {
     let _statements = source.statements();
     match link(alloc, source, BOARD, &mut ListProposer) {
-        Ok(linked) => Ok(Ok(linked)),
+        Ok(linked) => Ok(linked),
         Err(LinkError::Displacement { line, from, to }) => {
-            Ok(Err(overlong_reply(alloc, line, from, to)?))
+            Err(Failure::Answered(overlong_reply(alloc, line, from, to)?))
         }
-        Err(LinkError::Memory) => Err(Memory),
+        Err(LinkError::Memory) => Err(Failure::Memory),
     }
 }
 
 /// The program of a text, or the reply to its first fault, or to its first branch that does not reach its target.
-pub fn linked_text(alloc: Global, text: Vec<u8>) -> Result<Result<Program, Reply>, Memory>
+pub fn linked_text(alloc: Global, text: Vec<u8>) -> Result<Program, Failure>
     requires { vec_len text ≤ MAX_SOURCE_BYTES }
-    ensures source { IfOk result (λ r. IfOk r (λ p. (p.text.items ≡ text.items)
-        × (text_fault DATA_BASE DATA_END text.items ≡ None) × (p.source ≡ source_of DATA_BASE text.items))) }
-    ensures linked { IfOk result (λ r. IfOk r (λ p. IsLinked IsGreedy from_target p.source board p.linked)) }
-    ensures given { IfOk result (λ r. IfOk r (λ p. (layout_of : Layouts) → IsScheduler layout_of → (next : AfterLayout)
-        → linked_protocol layout_of next text.items ≡ next p.source (layout_of p.source))) }
-    ensures refused { IfOk result (λ r. IfErr r (λ reply. (layout_of : Layouts) → IsScheduler layout_of → (next : AfterLayout)
-        → linked_protocol layout_of next text.items ≡ Answers (reply_answer reply))) }
-    ensures replied { IfOk result (λ r. IfErr r (λ reply. IsReplied (reply_answer reply))) }
+    ensures source { IfOk result (λ p. (p.text.items ≡ text.items)
+        × (text_fault DATA_BASE DATA_END text.items ≡ None) × (p.source ≡ source_of DATA_BASE text.items)) }
+    ensures linked { IfOk result (λ p. IsLinked IsGreedy from_target p.source board p.linked) }
+    ensures given { IfOk result (λ p. (layout_of : Layouts) → IsScheduler layout_of → (next : AfterLayout)
+        → linked_protocol layout_of next text.items ≡ next p.source (layout_of p.source)) }
+    ensures refused { IfAnswered result (λ answer. (layout_of : Layouts) → IsScheduler layout_of → (next : AfterLayout)
+        → linked_protocol layout_of next text.items ≡ Answers answer) }
+    ensures replied { IfAnswered result IsReplied }
 {
-    let source = match assembled(alloc, text.as_slice())? {
-        Ok(source) => source,
-        Err(reply) => return Ok(Err(reply)),
-    };
-    match linked_source(alloc, &source)? {
-        Ok(linked) => Ok(Ok(Program {
-            text,
-            source,
-            linked,
-        })),
-        Err(reply) => Ok(Err(reply)),
-    }
+    let source = assembled(alloc, text.as_slice())?;
+    let linked = linked_source(alloc, &source)?;
+    Ok(Program {
+        text,
+        source,
+        linked,
+    })
 }
 
 /// The source of this name, or the reply to the fault of its file, or to what is wrong with its text.
-pub fn read_source<S: Shelf>(
-    alloc: Global,
-    shelf: &mut S,
-    name: &str,
-) -> Result<Result<Source, Reply>, Memory>
-    ensures source { IfOk result (λ r. IfOk r (λ source. (text : List ℕ) × (text_fault DATA_BASE DATA_END text ≡ None) × (source ≡ source_of DATA_BASE text))) }
-    ensures given { IfOk result (λ r. IfOk r (λ source. (next : SourceValue → Protocol) (after : Counts) (answer : Answer)
+pub fn read_source<S: Shelf>(alloc: Global, shelf: &mut S, name: &str) -> Result<Source, Failure>
+    ensures source { IfOk result (λ source. (text : List ℕ) × (text_fault DATA_BASE DATA_END text ≡ None) × (source ≡ source_of DATA_BASE text)) }
+    ensures given { IfOk result (λ source. (next : SourceValue → Protocol) (after : Counts) (answer : Answer)
         → Performed (S.told shelf.old) (next source)
         (S.counts shelf.new) after answer
         → Performed (S.told shelf.old) (Reads FileKind.Source name.now (source_protocol next))
-        (S.counts shelf.old) after answer)) }
-    ensures refused { IfOk result (λ r. IfErr r (λ reply. (next : SourceValue → Protocol)
+        (S.counts shelf.old) after answer) }
+    ensures refused { IfAnswered result (λ answer. (next : SourceValue → Protocol)
         → Performed (S.told shelf.old) (Reads FileKind.Source name.now (source_protocol next))
-        (S.counts shelf.old) (S.counts shelf.new) (reply_answer reply))) }
-    ensures replied { IfOk result (λ r. IfErr r (λ reply. IsReplied (reply_answer reply))) }
+        (S.counts shelf.old) (S.counts shelf.new) answer) }
+    ensures replied { IfAnswered result IsReplied }
     ensures told_stays { S.told shelf.new ≡ S.told shelf.old }
     ensures writes_stay { S.write_faults shelf.new ≡ S.write_faults shelf.old }
 {
-    let text = match read_named(alloc, shelf, FileKind::Source, name)? {
-        Ok(text) => text,
-        Err(reply) => return Ok(Err(reply)),
-    };
-    match assembled(alloc, text.as_slice())? {
-        Ok(source) => Ok(Ok(source)),
-        Err(reply) => Ok(Err(reply)),
-    }
+    let text = read_named(alloc, shelf, FileKind::Source, name)?;
+    let source = assembled(alloc, text.as_slice())?;
+    Ok(source)
 }
 
 /// The program of the source of this name, or the reply to the fault of its file, or to what is wrong with its text.
-pub fn read_program<S: Shelf>(
-    alloc: Global,
-    shelf: &mut S,
-    name: &str,
-) -> Result<Result<Program, Reply>, Memory>
-    ensures source { IfOk result (λ r. IfOk r (λ p. (text_fault DATA_BASE DATA_END p.text.items ≡ None) × (p.source ≡ source_of DATA_BASE p.text.items))) }
-    ensures linked { IfOk result (λ r. IfOk r (λ p. IsLinked IsGreedy from_target p.source board p.linked)) }
-    ensures given { IfOk result (λ r. IfOk r (λ p. (layout_of : Layouts) → IsScheduler layout_of → (next : AfterLayout) (after : Counts) (answer : Answer)
+pub fn read_program<S: Shelf>(alloc: Global, shelf: &mut S, name: &str) -> Result<Program, Failure>
+    ensures source { IfOk result (λ p. (text_fault DATA_BASE DATA_END p.text.items ≡ None) × (p.source ≡ source_of DATA_BASE p.text.items)) }
+    ensures linked { IfOk result (λ p. IsLinked IsGreedy from_target p.source board p.linked) }
+    ensures given { IfOk result (λ p. (layout_of : Layouts) → IsScheduler layout_of → (next : AfterLayout) (after : Counts) (answer : Answer)
         → Performed (S.told shelf.old) (next p.source (layout_of p.source))
         (S.counts shelf.new) after answer
         → Performed (S.told shelf.old) (Reads FileKind.Source name.now (linked_protocol layout_of next))
-        (S.counts shelf.old) after answer)) }
-    ensures refused { IfOk result (λ r. IfErr r (λ reply. (layout_of : Layouts) → IsScheduler layout_of → (next : AfterLayout)
+        (S.counts shelf.old) after answer) }
+    ensures refused { IfAnswered result (λ answer. (layout_of : Layouts) → IsScheduler layout_of → (next : AfterLayout)
         → Performed (S.told shelf.old) (Reads FileKind.Source name.now (linked_protocol layout_of next))
-        (S.counts shelf.old) (S.counts shelf.new) (reply_answer reply))) }
-    ensures replied { IfOk result (λ r. IfErr r (λ reply. IsReplied (reply_answer reply))) }
+        (S.counts shelf.old) (S.counts shelf.new) answer) }
+    ensures replied { IfAnswered result IsReplied }
     ensures told_stays { S.told shelf.new ≡ S.told shelf.old }
     ensures writes_stay { S.write_faults shelf.new ≡ S.write_faults shelf.old }
 {
-    let text = match read_named(alloc, shelf, FileKind::Source, name)? {
-        Ok(text) => text,
-        Err(reply) => return Ok(Err(reply)),
-    };
-    match linked_text(alloc, text)? {
-        Ok(program) => Ok(Ok(program)),
-        Err(reply) => Ok(Err(reply)),
-    }
+    let text = read_named(alloc, shelf, FileKind::Source, name)?;
+    let program = linked_text(alloc, text)?;
+    Ok(program)
 }

@@ -1,8 +1,9 @@
 //! What is made of the words of each command, once they are read.
-ghost use Rattle.std.specs.Prelude.{◌≡◌, IfSome, option_map};
+ghost use Rattle.std.specs.Prelude.{◌≡◌, ◌≤◌, IfSome, option_map};
 ghost use Rattle.cmd_line.specs.Read.{seen};
 ghost use Rattle.cmd_table.specs.Asked.{limits_of, run_of, meaning_of, build_of, exec_of, list_of, gen_of, soak_of, migrate_of, share_of, session_limits_of, debug_of, best_of, join_of};
-ghost use Rattle.cmd_options.specs.Options.{IsAsked};
+ghost use Rattle.cmd_options.specs.Options.{IsAsked, seen_files};
+ghost use Rattle.cmd_table.specs.Commands;
 ghost use Rattle.cmd_table.specs.Seen.{seen_command, IsAllowed};
 
 use crate::command::{Command, FEWEST_MODULES, MOST_MODULES};
@@ -32,26 +33,47 @@ fn limits_of(
     })
 }
 
-/// What was read of `run`.
-pub fn run_read<'a>(read: &Read<'a>) -> Option<Command<'a>>
-    ensures command { option_map seen_command result ≡ run_of (seen read.entry.now) }
-    ensures allowed { IfSome result IsAllowed }
+// What `run` and `exec` are told: the file of the program, those beside it, and the limits.
+#[derive(Clone, Copy)]
+struct Started<'a> {
+    program: &'a str,
+    files: RunFiles<'a>,
+    limits: Limits,
+}
+
+// What was read of `run` or `exec`.
+fn read_started<'a>(read: &Read<'a>) -> Option<Started<'a>>
+    ensures run { option_map (λ s. Commands.Run s.program.now (seen_files s.files) s.limits) result ≡ run_of (seen read.entry.now) }
+    ensures exec { option_map (λ s. Commands.Exec s.program.now (seen_files s.files) s.limits) result ≡ exec_of (seen read.entry.now) }
 {
     match (read.names.as_slice(), read.values.as_slice()) {
-        ([source], [budget, trace, dump, count, interrupts, input]) => {
+        ([program], [budget, trace, dump, count, interrupts, input]) => {
             let limits = limits_of(*budget, *trace, *dump, *count)?;
             let files = RunFiles {
                 interrupts: *interrupts,
                 input: *input,
             };
-            Some(Command::Run {
-                source: *source,
+            Some(Started {
+                program: *program,
                 files,
                 limits,
             })
         }
         _ => None,
     }
+}
+
+/// What was read of `run`.
+pub fn run_read<'a>(read: &Read<'a>) -> Option<Command<'a>>
+    ensures command { option_map seen_command result ≡ run_of (seen read.entry.now) }
+    ensures allowed { IfSome result IsAllowed }
+{
+    let asked = read_started(read)?;
+    Some(Command::Run {
+        source: asked.program,
+        files: asked.files,
+        limits: asked.limits,
+    })
 }
 
 /// What was read of `meaning`.
@@ -91,21 +113,12 @@ pub fn exec_read<'a>(read: &Read<'a>) -> Option<Command<'a>>
     ensures command { option_map seen_command result ≡ exec_of (seen read.entry.now) }
     ensures allowed { IfSome result IsAllowed }
 {
-    match (read.names.as_slice(), read.values.as_slice()) {
-        ([image], [budget, trace, dump, count, interrupts, input]) => {
-            let limits = limits_of(*budget, *trace, *dump, *count)?;
-            let files = RunFiles {
-                interrupts: *interrupts,
-                input: *input,
-            };
-            Some(Command::Exec {
-                image: *image,
-                files,
-                limits,
-            })
-        }
-        _ => None,
-    }
+    let asked = read_started(read)?;
+    Some(Command::Exec {
+        image: asked.program,
+        files: asked.files,
+        limits: asked.limits,
+    })
 }
 
 /// What was read of `list`.
@@ -130,19 +143,36 @@ pub fn best_read<'a>(read: &Read<'a>) -> Option<Command<'a>>
     }
 }
 
-/// What was read of `gen`.
-pub fn gen_read<'a>(read: &Read<'a>) -> Option<Command<'a>>
-    ensures command { option_map seen_command result ≡ gen_of (seen read.entry.now) }
-    ensures allowed { IfSome result IsAllowed }
+// What `gen` and `soak` are told: the seed, and how many items are generated.
+#[derive(Clone, Copy)]
+struct Seeded {
+    seed: u32,
+    count: u32,
+}
+
+// What was read of `gen` or `soak`.
+fn read_seeded(read: &Read) -> Option<Seeded>
+    ensures generated { option_map (λ s. Commands.Gen s.seed s.count) result ≡ gen_of (seen read.entry.now) }
+    ensures soaked { option_map (λ s. Commands.Soak s.seed s.count) result ≡ soak_of (seen read.entry.now) }
+    ensures allowed { IfSome result (λ s. s.count ≤ 4000) }
 {
     match (read.names.as_slice(), read.values.as_slice()) {
         ([seed, count], []) => {
             let seed = number(seed, 0, 4_294_967_295)?;
             let count = number(count, 0, 4_000)?;
-            Some(Command::Gen { seed, count })
+            Some(Seeded { seed, count })
         }
         _ => None,
     }
+}
+
+/// What was read of `gen`.
+pub fn gen_read<'a>(read: &Read<'a>) -> Option<Command<'a>>
+    ensures command { option_map seen_command result ≡ gen_of (seen read.entry.now) }
+    ensures allowed { IfSome result IsAllowed }
+{
+    let Seeded { seed, count } = read_seeded(read)?;
+    Some(Command::Gen { seed, count })
 }
 
 /// What was read of `soak`.
@@ -150,14 +180,8 @@ pub fn soak_read<'a>(read: &Read<'a>) -> Option<Command<'a>>
     ensures command { option_map seen_command result ≡ soak_of (seen read.entry.now) }
     ensures allowed { IfSome result IsAllowed }
 {
-    match (read.names.as_slice(), read.values.as_slice()) {
-        ([seed, count], []) => {
-            let seed = number(seed, 0, 4_294_967_295)?;
-            let count = number(count, 0, 4_000)?;
-            Some(Command::Soak { seed, count })
-        }
-        _ => None,
-    }
+    let Seeded { seed, count } = read_seeded(read)?;
+    Some(Command::Soak { seed, count })
 }
 
 /// What was read of `migrate`.

@@ -1,6 +1,6 @@
 //! Caches as JSON.
 use super::study::{CacheRow, Study};
-use lab_json::{document_text, write_flag, write_numbers, write_text};
+use lab_json::{Value, document_text, write_members, write_record};
 use lab_terms::SHIPPED_CACHE;
 use mx_io::Memory;
 use serde::{Described, Serialize, Serializer};
@@ -16,19 +16,18 @@ struct Document<'a> {
 // Writes what a cache makes of a run.
 fn write_row<S: Serializer>(out: &mut S, row: &CacheRow) -> Result<(), S::Error> {
     let geometry = row.geometry;
-    let what = [
-        ("words", geometry.words()),
-        ("sets", u64::from(geometry.sets)),
-        ("ways", u64::from(geometry.ways)),
-        ("line", u64::from(geometry.line)),
-        ("brings", u64::from(geometry.brings)),
-        ("penalty", u64::from(geometry.penalty)),
+    let members = [
+        ("words", Value::Number(geometry.words())),
+        ("sets", Value::Number(u64::from(geometry.sets))),
+        ("ways", Value::Number(u64::from(geometry.ways))),
+        ("line", Value::Number(u64::from(geometry.line))),
+        ("brings", Value::Number(u64::from(geometry.brings))),
+        ("penalty", Value::Number(u64::from(geometry.penalty))),
+        ("shipped", Value::Flag(geometry == SHIPPED_CACHE)),
+        ("misses", Value::Number(row.misses)),
+        ("cycles", Value::Number(row.cycles)),
     ];
-    out.begin_map(Some(9))?;
-    write_numbers(out, &what)?;
-    write_flag(out, "shipped", geometry == SHIPPED_CACHE)?;
-    write_numbers(out, &[("misses", row.misses), ("cycles", row.cycles)])?;
-    out.end_map()
+    write_record(out, &members)
 }
 
 // Writes the caches.
@@ -46,16 +45,16 @@ impl Described for Document<'_> {}
 impl Serialize for Document<'_> {
     fn serialize<S: Serializer>(&self, out: &mut S) -> Result<(), S::Error> {
         let counts = &self.study.counts;
-        let sums = [
-            ("cycles", counts.cycles),
-            ("fetches", counts.fetches),
-            ("misses", counts.misses),
+        let members = [
+            ("command", Value::Text("caches")),
+            ("source", Value::Text(self.source)),
+            ("halted", Value::Flag(self.study.halted)),
+            ("cycles", Value::Number(counts.cycles)),
+            ("fetches", Value::Number(counts.fetches)),
+            ("misses", Value::Number(counts.misses)),
         ];
         out.begin_map(Some(7))?;
-        write_text(out, "command", "caches")?;
-        write_text(out, "source", self.source)?;
-        write_flag(out, "halted", self.study.halted)?;
-        write_numbers(out, &sums)?;
+        write_members(out, &members)?;
         write_rows(out, self.study.rows.as_slice())?;
         out.end_map()
     }

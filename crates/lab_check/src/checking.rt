@@ -5,7 +5,7 @@ ghost use Rattle.mx_io.specs.declared.limits.TheConstants.{MAX_SOURCE_BYTES};
 use crate::error::{fault_finding, overlong_finding};
 use crate::finding::Finding;
 use crate::labels::definitions_of;
-use crate::warning::warnings;
+use crate::warning::{Warning, warning_finding, warnings};
 use lab_faults::{Findings, check_text};
 use mx_asm::assemble;
 use mx_io::Memory;
@@ -46,20 +46,52 @@ fn told_faults<'a>(
     })
 }
 
-// The first branch of a source that does not reach its target, as it is told.
-fn overlong_of<'a>(
-    alloc: Global,
-    lines: &[&'a [u8]],
-    source: &Source,
-) -> Result<Option<Finding<'a>>, AllocError> {
+// A branch at an address that does not reach its target, and the line of its statement.
+#[derive(Clone, Copy)]
+struct Overlong {
+    line: u32,
+    from: u32,
+    to: u32,
+}
+
+// The first branch of a source that does not reach its target.
+fn overlong_in(alloc: Global, source: &Source) -> Result<Option<Overlong>, AllocError> {
     let _statements = source.statements();
     match link(alloc, source, BOARD, &mut ListProposer) {
         Ok(_) => Ok(None),
-        Err(LinkError::Displacement { line, from, to }) => {
-            Ok(Some(overlong_finding(alloc, lines, line, from, to)?))
-        }
+        Err(LinkError::Displacement { line, from, to }) => Ok(Some(Overlong { line, from, to })),
         Err(LinkError::Memory) => Err(AllocError),
     }
+}
+
+// Adds warnings, as they are told, up to so many.
+fn push_warnings<'a>(
+    alloc: Global,
+    lines: &[&'a [u8]],
+    warned: &[Warning],
+    at_most: usize,
+    findings: &mut Vec<Finding<'a>>,
+) -> Result<(), AllocError> {
+    for warning in warned.iter().take(at_most) {
+        findings.push(warning_finding(alloc, lines, *warning)?)?;
+    }
+    Ok(())
+}
+
+// A branch and warnings, as they are told: the branch if there is one, and at most so many warnings.
+fn findings_of<'a>(
+    alloc: Global,
+    lines: &[&'a [u8]],
+    overlong: Option<Overlong>,
+    warned: &[Warning],
+    at_most: usize,
+) -> Result<Vec<Finding<'a>>, AllocError> {
+    let mut findings = Vec::new(alloc);
+    if let Some(Overlong { line, from, to }) = overlong {
+        findings.push(overlong_finding(alloc, lines, line, from, to)?)?;
+    }
+    push_warnings(alloc, lines, warned, at_most, &mut findings)?;
+    Ok(findings)
 }
 
 // What is found in a source without faults: a branch that does not reach its target, and at most so many warnings.
@@ -69,24 +101,14 @@ fn told_source<'a>(
     source: &Source,
     at_most: usize,
 ) -> Result<Checked<'a>, AllocError> {
-    let mut findings = Vec::new(alloc);
-    let mut is_overlong = false;
-    if let Some(overlong) = overlong_of(alloc, lines, source)? {
-        is_overlong = true;
-        findings.push(overlong)?;
-    }
-    let mut count = 0usize;
-    for warning in warnings(alloc, lines, source)? {
-        if count < at_most {
-            findings.push(warning)?;
-        }
-        count = count.saturating_add(1);
-    }
+    let overlong = overlong_in(alloc, source)?;
+    let warned = warnings(alloc, lines, source)?;
+    let findings = findings_of(alloc, lines, overlong, &warned, at_most)?;
     Ok(Checked {
         findings,
         faults: 0,
-        is_overlong,
-        warnings: count,
+        is_overlong: overlong.is_some(),
+        warnings: warned.len(),
     })
 }
 

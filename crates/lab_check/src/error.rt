@@ -52,6 +52,13 @@ pub fn overlong_finding<'a>(
     from: u32,
     to: u32,
 ) -> Result<Finding<'a>, AllocError> {
+    let message = format!(in alloc;
+        "the branch at 0x{from:x} does not reach its target at 0x{to:x}: it goes 32768 words back and 32767 on"
+    )?;
+    let hint = said(
+        alloc,
+        "a `jr` goes to any place, which `la LABEL,R` puts into a register",
+    )?;
     Ok(Finding {
         line,
         text: line_at(lines, line),
@@ -60,12 +67,7 @@ pub fn overlong_finding<'a>(
         severity: Severity::Error,
         code: "L1",
         name: "Displacement",
-        message: format!(in alloc;
-            "the branch at 0x{from:x} does not reach its target at 0x{to:x}: it goes 32768 words back and 32767 on"
-        )?,
-        hint: said(
-            alloc,
-            "a `jr` goes to any place, which `la LABEL,R` puts into a register",
-        )?,
+        message,
+        hint,
     })
 }

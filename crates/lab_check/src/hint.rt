@@ -14,13 +14,18 @@ use std::alloc::{AllocError, Global};
 /// The directives of the language.
 const DIRECTIVES: [&str; 5] = [".code", ".data", ".word", ".space", ".input"];
 
-/// A hint of these words.
-pub fn said(alloc: Global, text: &str) -> Result<Option<String>, AllocError> {
-    Ok(Some(String::from_str(alloc, text)?))
+/// A hint that was made, if there was memory for it.
+pub fn hinted(text: Result<String, AllocError>) -> Result<Option<String>, AllocError> {
+    Ok(Some(text?))
 }
 
-// A hint of these words, if there are any.
-fn said_if(alloc: Global, text: Option<&str>) -> Result<Option<String>, AllocError> {
+/// A hint of these words.
+pub fn said(alloc: Global, text: &str) -> Result<Option<String>, AllocError> {
+    hinted(String::from_str(alloc, text))
+}
+
+/// A hint of these words, if there are any.
+pub fn said_if(alloc: Global, text: Option<&str>) -> Result<Option<String>, AllocError> {
     match text {
         Some(text) => said(alloc, text),
         None => Ok(None),
@@ -30,48 +35,35 @@ fn said_if(alloc: Global, text: Option<&str>) -> Result<Option<String>, AllocErr
 // The name that was meant in the place of a word.
 fn meant(alloc: Global, word: &str, names: &[&str]) -> Result<Option<String>, AllocError> {
     match nearest(alloc, word, names)? {
-        Some(name) => Ok(Some(format!(in alloc; "did you mean `{name}`?")?)),
+        Some(name) => hinted(format!(in alloc; "did you mean `{name}`?")),
         None => Ok(None),
     }
 }
 
 // F1: signs that editors and word processors put in the place of others.
-fn byte_hint(alloc: Global, shown: &Shown) -> Result<Option<String>, AllocError> {
-    match char_of(shown) {
-        Some(BYTE_ORDER_MARK) => said(
-            alloc,
-            "this is a byte order mark: store the text as UTF-8 without one",
-        ),
-        Some("\u{a0}") => said(
-            alloc,
-            "this is a no-break space: a space or a tab stands between words",
-        ),
-        Some("\u{2212}" | "\u{2013}" | "\u{2014}") => said(alloc, "a minus is written `-`"),
-        Some("\r") => said(alloc, "a line ends with LF, or with CR and LF"),
-        _ => said(alloc, "behind a `;` any text may stand"),
+fn byte_told(typed: Option<&str>) -> &'static str {
+    match typed {
+        Some(BYTE_ORDER_MARK) => "this is a byte order mark: store the text as UTF-8 without one",
+        Some("\u{a0}") => "this is a no-break space: a space or a tab stands between words",
+        Some("\u{2212}" | "\u{2013}" | "\u{2014}") => "a minus is written `-`",
+        Some("\r") => "a line ends with LF, or with CR and LF",
+        _ => "behind a `;` any text may stand",
     }
 }
 
 // F2: bytes at which no token begins.
-fn token_hint(alloc: Global, token: &[u8]) -> Result<Option<String>, AllocError> {
+fn token_told(token: &[u8]) -> Option<&'static str> {
     match token {
-        [b'(' | b')', ..] => said(alloc, "an address is OFFSET[R], as `4[r1]`"),
-        [b'$' | b'%', ..] => said(
-            alloc,
-            "a register is written `r1`, without a sign before it",
-        ),
-        [b'\'' | b'"', ..] => said(alloc, "a character is written as its number: 65 is `A`"),
-        [b'/' | b'*' | b'!' | b'@' | b'|', ..] => said(alloc, "a comment begins with `;`"),
-        [b'+', ..] => said(alloc, "a number that is not negative has no sign"),
-        [b'-', ..] => said(
-            alloc,
-            "a `-` stands directly before the digits of its number",
-        ),
-        [b'0'..=b'9', ..] => said(
-            alloc,
+        [b'(' | b')', ..] => Some("an address is OFFSET[R], as `4[r1]`"),
+        [b'$' | b'%', ..] => Some("a register is written `r1`, without a sign before it"),
+        [b'\'' | b'"', ..] => Some("a character is written as its number: 65 is `A`"),
+        [b'/' | b'*' | b'!' | b'@' | b'|', ..] => Some("a comment begins with `;`"),
+        [b'+', ..] => Some("a number that is not negative has no sign"),
+        [b'-', ..] => Some("a `-` stands directly before the digits of its number"),
+        [b'0'..=b'9', ..] => Some(
             "a number is decimal, or hexadecimal behind `0x`; a name begins with a letter or `_`",
         ),
-        _ => Ok(None),
+        _ => None,
     }
 }
 
@@ -81,6 +73,13 @@ fn is_before_mnemonic(words: &[Word]) -> bool {
         [Word::Name(_), Word::Name(second), ..] => is_mnemonic(second),
         _ => false,
     }
+}
+
+// F3: a mnemonic like this one, in small letters.
+fn slip_hint(alloc: Global, word: &str) -> Result<Option<String>, AllocError> {
+    let lower = word.to_ascii_lowercase(alloc)?;
+    let names = mnemonics(alloc)?;
+    meant(alloc, lower.as_str(), &names)
 }
 
 // F3: a word of another machine, a label without its colon, or a slip.
@@ -94,10 +93,9 @@ fn mnemonic_hint(
         return said(alloc, instead);
     }
     if is_before_mnemonic(words) {
-        return Ok(Some(format!(in alloc; "a label has a `:` behind it: `{word}:`")?));
+        return hinted(format!(in alloc; "a label has a `:` behind it: `{word}:`"));
     }
-    let lower = word.to_ascii_lowercase(alloc)?;
-    meant(alloc, lower.as_str(), &mnemonics(alloc)?)
+    slip_hint(alloc, word)
 }
 
 // The number of a register, behind another letter or zeros.
@@ -118,20 +116,19 @@ fn register_hint(alloc: Global, token: &[u8]) -> Result<Option<String>, AllocErr
         return said(alloc, instead);
     }
     match register_number(token) {
-        Some(number) => Ok(Some(format!(in alloc; "did you mean `r{number}`?")?)),
+        Some(number) => hinted(format!(in alloc; "did you mean `r{number}`?")),
         None => Ok(None),
     }
 }
 
 // F6: a number that is too wide for its place.
-fn range_hint(alloc: Global, name: &[u8]) -> Result<Option<String>, AllocError> {
+fn range_told(name: &[u8]) -> Option<&'static str> {
     if spells(name, "addi") {
-        return said(
-            alloc,
+        return Some(
             "a wider number is a data word: `ld LABEL[r0],R` loads the word that `.word` puts there",
         );
     }
-    Ok(None)
+    None
 }
 
 // F7: where the label stands first.
@@ -141,7 +138,7 @@ fn repeat_hint(
     definitions: &[Definition],
 ) -> Result<Option<String>, AllocError> {
     match first_definition(definitions, token) {
-        Some(line) => Ok(Some(format!(in alloc; "line {line} defines it first")?)),
+        Some(line) => hinted(format!(in alloc; "line {line} defines it first")),
         None => Ok(None),
     }
 }
@@ -155,9 +152,9 @@ fn label_hint(
     if let Some(other) = other_case(definitions, token) {
         let name = text_of(other.name);
         let line = other.line;
-        return Ok(Some(format!(in alloc;
+        return hinted(format!(in alloc;
             "line {line} defines `{name}`: in labels small and capital letters differ"
-        )?));
+        ));
     }
     let names = names_of(alloc, definitions)?;
     meant(alloc, text_of(token), &names)
@@ -174,24 +171,34 @@ fn directive_hint(alloc: Global, token: &[u8]) -> Result<Option<String>, AllocEr
     }
 }
 
+// What may have been meant by a faulty line of these words.
+fn hint_by(
+    alloc: Global,
+    shown: &Shown,
+    words: &[Word],
+    definitions: &[Definition],
+) -> Result<Option<String>, AllocError> {
+    let token = token_of(shown);
+    match shown.fault {
+        Fault::BadByte => said(alloc, byte_told(char_of(shown))),
+        Fault::BadToken => said_if(alloc, token_told(token)),
+        Fault::UnknownMnemonic => mnemonic_hint(alloc, words, token),
+        Fault::BadOperands => operand_hint(alloc, shown, words),
+        Fault::BadRegister => register_hint(alloc, token),
+        Fault::NumberOutOfRange => said_if(alloc, range_told(name_of(words))),
+        Fault::DuplicateLabel => repeat_hint(alloc, token, definitions),
+        Fault::UndefinedLabel => label_hint(alloc, token, definitions),
+        Fault::BadDirective => directive_hint(alloc, token),
+        _ => Ok(None),
+    }
+}
+
 /// What may have been meant by a faulty line, in a sentence, where something is known.
 pub fn hint(
     alloc: Global,
     shown: &Shown,
     definitions: &[Definition],
 ) -> Result<Option<String>, AllocError> {
-    let token = token_of(shown);
     let words = line_words(alloc, shown.text)?;
-    match shown.fault {
-        Fault::BadByte => byte_hint(alloc, shown),
-        Fault::BadToken => token_hint(alloc, token),
-        Fault::UnknownMnemonic => mnemonic_hint(alloc, &words, token),
-        Fault::BadOperands => operand_hint(alloc, shown, &words),
-        Fault::BadRegister => register_hint(alloc, token),
-        Fault::NumberOutOfRange => range_hint(alloc, name_of(&words)),
-        Fault::DuplicateLabel => repeat_hint(alloc, token, definitions),
-        Fault::UndefinedLabel => label_hint(alloc, token, definitions),
-        Fault::BadDirective => directive_hint(alloc, token),
-        _ => Ok(None),
-    }
+    hint_by(alloc, shown, &words, definitions)
 }

@@ -1,43 +1,40 @@
 //! A finding as JSON.
 use crate::finding::Finding;
-use lab_json::push_record;
-use serde::Serialize;
-use std::alloc::{AllocError, Global};
+use lab_json::{Value, write_record};
+use serde::{Described, Serialize, Serializer};
 
-// What an object tells. Columns are counted in bytes, from 1.
-#[derive(Drop, Serialize)]
-struct Told<'a> {
-    file: &'a str,
-    line: u32,
-    column: usize,
-    end_column: usize,
-    severity: &'static str,
-    code: &'static str,
-    name: &'static str,
-    message: &'a str,
-    hint: Option<&'a str>,
+/// A finding in a file, as it is written.
+#[derive(Clone, Copy)]
+pub(crate) struct Told<'a> {
+    pub file: &'a str,
+    pub finding: &'a Finding<'a>,
 }
 
-/// Appends a finding in a file as an object of JSON, on a line.
-pub(crate) fn push_json(
-    alloc: Global,
-    output: &mut Vec<u8>,
-    file: &str,
-    finding: &Finding,
-) -> Result<(), AllocError> {
-    let told = Told {
-        file,
-        line: finding.line,
-        column: finding.column(),
-        end_column: finding.end_column(),
-        severity: finding.severity.word(),
-        code: finding.code,
-        name: finding.name,
-        message: finding.message.as_str(),
-        hint: match &finding.hint {
-            Some(hint) => Some(hint.as_str()),
-            None => None,
-        },
-    };
-    push_record(alloc, output, &told)
+// What may have been meant.
+fn hint_of<'a>(finding: &'a Finding) -> Value<'a> {
+    match &finding.hint {
+        Some(hint) => Value::Text(hint.as_str()),
+        None => Value::Null,
+    }
+}
+
+impl Described for Told<'_> {}
+
+impl Serialize for Told<'_> {
+    // Columns are counted in bytes, from 1.
+    fn serialize<S: Serializer>(&self, out: &mut S) -> Result<(), S::Error> {
+        let finding = self.finding;
+        let members = [
+            ("file", Value::Text(self.file)),
+            ("line", Value::Number(u64::from(finding.line))),
+            ("column", Value::Number(finding.column() as u64)),
+            ("end_column", Value::Number(finding.end_column() as u64)),
+            ("severity", Value::Text(finding.severity.word())),
+            ("code", Value::Text(finding.code)),
+            ("name", Value::Text(finding.name)),
+            ("message", Value::Text(finding.message.as_str())),
+            ("hint", hint_of(finding)),
+        ];
+        write_record(out, &members)
+    }
 }

@@ -5,7 +5,7 @@ use mx_asm::{begins_label, first_name, line_words};
 use std::alloc::{AllocError, Global};
 
 /// A label at the front of a line, the number of the line, counted from 1, and the place of its token there.
-#[derive(Clone, Copy, Debug, PartialEq, Eq)]
+#[derive(Clone, Copy)]
 pub struct Definition<'a> {
     pub name: &'a [u8],
     pub line: u32,

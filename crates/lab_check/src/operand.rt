@@ -1,6 +1,6 @@
 //! What may have been meant by an operand that does not stand in its place.
 
-use crate::hint::said;
+use crate::hint::{hinted, said, said_if};
 use crate::sentence::{name_of, text_of, token_of};
 use lab_faults::Shown;
 use mx_asm::{line_words, statement_words};
@@ -20,29 +20,24 @@ fn words_before(alloc: Global, shown: &Shown) -> Result<usize, AllocError> {
 
 // A `,` was left out.
 fn comma_hint(alloc: Global, token: &[u8]) -> Result<Option<String>, AllocError> {
+    let word = text_of(token);
     match token {
         [b',' | b'[' | b']' | b':', ..] => Ok(None),
-        _ => {
-            let word = text_of(token);
-            Ok(Some(format!(in alloc; "a `,` is missing before `{word}`")?))
-        }
+        _ => hinted(format!(in alloc; "a `,` is missing before `{word}`")),
     }
 }
 
 // A number, with or without its `#`, stands where a register does.
-fn register_hint(alloc: Global, name: &[u8], token: &[u8]) -> Result<Option<String>, AllocError> {
-    match token {
-        [b'#' | b'-' | b'0'..=b'9', ..] if spells(name, "add") => {
-            said(alloc, "`addi R,#NUMBER,R` adds a number")
-        }
-        [b'#' | b'-' | b'0'..=b'9', ..] if spells(name, "sub") => {
-            said(alloc, "`addi R,#-NUMBER,R` takes a number away")
-        }
-        [b'#' | b'-' | b'0'..=b'9', ..] => said(
-            alloc,
-            "a register stands here: `addi r0,#NUMBER,R` puts a number into one",
-        ),
-        _ => Ok(None),
+fn register_told(name: &[u8], token: &[u8]) -> Option<&'static str> {
+    let [b'#' | b'-' | b'0'..=b'9', ..] = token else {
+        return None;
+    };
+    if spells(name, "add") {
+        Some("`addi R,#NUMBER,R` adds a number")
+    } else if spells(name, "sub") {
+        Some("`addi R,#-NUMBER,R` takes a number away")
+    } else {
+        Some("a register stands here: `addi r0,#NUMBER,R` puts a number into one")
     }
 }
 
@@ -50,9 +45,9 @@ fn register_hint(alloc: Global, name: &[u8], token: &[u8]) -> Result<Option<Stri
 fn hash_hint(alloc: Global, name: &[u8], token: &[u8]) -> Result<Option<String>, AllocError> {
     let word = text_of(token);
     match token {
-        [b'-' | b'0'..=b'9', ..] => Ok(Some(format!(in alloc;
-            "a number has a `#` before it: `#{word}`"
-        )?)),
+        [b'-' | b'0'..=b'9', ..] => {
+            hinted(format!(in alloc; "a number has a `#` before it: `#{word}`"))
+        }
         [b'r' | b'R', ..] if spells(name, "addi") => {
             said(alloc, "`add R,R,R` adds two registers")
         }
@@ -61,11 +56,26 @@ fn hash_hint(alloc: Global, name: &[u8], token: &[u8]) -> Result<Option<String>,
 }
 
 // What stands where an address begins.
-fn open_hint(alloc: Global, name: &[u8]) -> Result<Option<String>, AllocError> {
+fn open_told(name: &[u8]) -> &'static str {
     if spells(name, "st") {
-        return said(alloc, "the address stands first: `st OFFSET[R],R`");
+        "the address stands first: `st OFFSET[R],R`"
+    } else {
+        "the address stands first: `ld OFFSET[R],R`"
     }
-    said(alloc, "the address stands first: `ld OFFSET[R],R`")
+}
+
+// What is said where something else stands in a place.
+fn place_told(role: Role, name: &[u8], token: &[u8]) -> Option<&'static str> {
+    match role {
+        Role::Register => register_told(name, token),
+        Role::Open => Some(open_told(name)),
+        Role::Offset => Some("a number or a data label stands before the `[`, as `0[r1]`"),
+        Role::Immediate => {
+            Some("a number stands behind the `#`: `la LABEL,R` gives the address of a label")
+        }
+        Role::CodeName | Role::AnyName => Some("the name of a label stands here"),
+        _ => None,
+    }
 }
 
 // The hint where something else stands in a place.
@@ -77,19 +87,28 @@ fn place_hint(
 ) -> Result<Option<String>, AllocError> {
     match role {
         Role::Comma => comma_hint(alloc, token),
-        Role::Register => register_hint(alloc, name, token),
         Role::Hash => hash_hint(alloc, name, token),
-        Role::Open => open_hint(alloc, name),
-        Role::Offset => said(
+        _ => said_if(alloc, place_told(role, name, token)),
+    }
+}
+
+// The hint where something else stands behind so many words, where these are the places of a statement.
+fn hint_behind(
+    alloc: Global,
+    roles: &[Role],
+    before: usize,
+    name: &[u8],
+    token: &[u8],
+) -> Result<Option<String>, AllocError> {
+    if before == 0 {
+        return Ok(None);
+    }
+    match roles.get(before - 1) {
+        Some(role) => place_hint(alloc, *role, name, token),
+        None => said(
             alloc,
-            "a number or a data label stands before the `[`, as `0[r1]`",
+            "there is an operand too many; a comment begins with `;`",
         ),
-        Role::Immediate => said(
-            alloc,
-            "a number stands behind the `#`: `la LABEL,R` gives the address of a label",
-        ),
-        Role::CodeName | Role::AnyName => said(alloc, "the name of a label stands here"),
-        _ => Ok(None),
     }
 }
 
@@ -99,19 +118,9 @@ pub fn operand_hint(
     shown: &Shown,
     words: &[Word],
 ) -> Result<Option<String>, AllocError> {
-    let name = name_of(words);
+    let before = words_before(alloc, shown)?;
     let Some(roles) = places(alloc, statement_words(words))? else {
         return Ok(None);
     };
-    let before = words_before(alloc, shown)?;
-    if before == 0 {
-        return Ok(None);
-    }
-    match roles.get(before - 1) {
-        Some(role) => place_hint(alloc, *role, name, token_of(shown)),
-        None => said(
-            alloc,
-            "there is an operand too many; a comment begins with `;`",
-        ),
-    }
+    hint_behind(alloc, &roles, before, name_of(words), token_of(shown))
 }

@@ -1,6 +1,7 @@
 //! What is printed of a text.
 use crate::finding::{Finding, Severity};
-use crate::json::push_json;
+use crate::json::Told;
+use lab_json::push_record;
 use std::alloc::{AllocError, Global};
 
 /// How findings are printed.
@@ -47,31 +48,31 @@ fn push_in(output: &mut Vec<u8>, form: Form, colour: &str, text: &[u8]) -> Resul
 fn push_head(
     alloc: Global,
     output: &mut Vec<u8>,
-    file: &str,
-    finding: &Finding,
+    told: &Told,
     form: Form,
 ) -> Result<(), AllocError> {
+    let (file, finding) = (told.file, told.finding);
     let (line, column) = (finding.line, finding.column());
     let severity = finding.severity.word();
     let (code, name, message) = (finding.code, finding.name, finding.message.as_str());
     let place = format!(in alloc; "{file}:{line}:{column}:")?;
     let grave = format!(in alloc; "{severity}:")?;
-    let told = format!(in alloc; " {code} {name}: {message}\n")?;
+    let rest = format!(in alloc; " {code} {name}: {message}\n")?;
     push_in(output, form, BOLD, place.as_bytes())?;
     output.push(b' ')?;
     push_in(output, form, colour_of(finding.severity), grave.as_bytes())?;
-    output.extend_from_slice(told.as_bytes())
+    output.extend_from_slice(rest.as_bytes())
 }
 
 // Puts down a finding: where and what it is, the line, the marks under it, and what may have been meant.
 fn push_finding(
     alloc: Global,
     output: &mut Vec<u8>,
-    file: &str,
-    finding: &Finding,
+    told: &Told,
     form: Form,
 ) -> Result<(), AllocError> {
-    push_head(alloc, output, file, finding, form)?;
+    let finding = told.finding;
+    push_head(alloc, output, told, form)?;
     output.extend_from_slice(b"    ")?;
     output.extend_from_slice(finding.text)?;
     output.push(b'\n')?;
@@ -99,9 +100,10 @@ pub fn push_findings(
     form: Form,
 ) -> Result<(), AllocError> {
     for finding in findings {
+        let told = Told { file, finding };
         match form {
-            Form::Text | Form::Coloured => push_finding(alloc, output, file, finding, form)?,
-            Form::Json => push_json(alloc, output, file, finding)?,
+            Form::Text | Form::Coloured => push_finding(alloc, output, &told, form)?,
+            Form::Json => push_record(alloc, output, &told)?,
         }
     }
     Ok(())

@@ -1,6 +1,7 @@
 //! What is wrong with a faulty line, in a sentence.
 use lab_faults::Shown;
 use mx_asm::{line_words, statement_words};
+use mx_faults::Span;
 use mx_lines::{Fault, MNEMONICS, Mnemonic, Word, mnemonic_named, spells};
 use std::alloc::{AllocError, Global};
 use std::str;
@@ -82,12 +83,17 @@ pub fn text_of(bytes: &[u8]) -> &str {
     str::from_utf8(bytes).unwrap_or("")
 }
 
-/// The bytes of a line that are shown.
-pub fn token_of<'a>(shown: &Shown<'a>) -> &'a [u8] {
-    match shown.span {
-        Some(span) => shown.text.get(span.start..span.end).unwrap_or(&[]),
+/// The bytes of a part of a line, if there is one.
+pub fn bytes_in(line: &[u8], span: Option<Span>) -> &[u8] {
+    match span {
+        Some(span) => line.get(span.start..span.end).unwrap_or(&[]),
         None => &[],
     }
+}
+
+/// The bytes of a line that are shown.
+pub fn token_of<'a>(shown: &Shown<'a>) -> &'a [u8] {
+    bytes_in(shown.text, shown.span)
 }
 
 /// The first word of a statement, if it is a name.
@@ -111,62 +117,101 @@ fn range_of(name: &[u8]) -> &'static str {
     }
 }
 
-// F4: a word that does not stand in its place, or a word that is missing.
-fn operands_sentence(alloc: Global, name: &[u8], token: &[u8]) -> Result<String, AllocError> {
+// A token, and what is said of it.
+fn told_of(alloc: Global, token: &[u8], rest: &str) -> Result<String, AllocError> {
     let shown = text_of(token);
-    if name.is_empty() {
-        return Ok(format!(in alloc;
-            "`{shown}` stands where a mnemonic or a directive stands, which is a name"
-        )?);
-    }
-    let form = form_of(name);
-    let name_text = text_of(name);
-    if token == name {
-        return Ok(format!(in alloc;
-            "`{name_text}` has too few operands: {form} stands behind it"
-        )?);
-    }
-    Ok(format!(in alloc;
-        "`{shown}` does not stand in its place: {form} stands behind `{name_text}`"
-    )?)
+    format!(in alloc; "`{shown}` {rest}")
 }
 
-// F9: a label of the other kind.
-fn kind_sentence(alloc: Global, name: &[u8], token: &str) -> Result<String, AllocError> {
+// A token that does not stand in its place.
+fn place_sentence(alloc: Global, name: &[u8], token: &[u8]) -> Result<String, AllocError> {
+    let (shown, form, name) = (text_of(token), form_of(name), text_of(name));
+    format!(in alloc; "`{shown}` does not stand in its place: {form} stands behind `{name}`")
+}
+
+// F4: a word that does not stand in its place, or a word that is missing.
+fn operands_sentence(alloc: Global, name: &[u8], token: &[u8]) -> Result<String, AllocError> {
+    if name.is_empty() {
+        return told_of(
+            alloc,
+            token,
+            "stands where a mnemonic or a directive stands, which is a name",
+        );
+    }
+    if token != name {
+        return place_sentence(alloc, name, token);
+    }
+    let (shown, form) = (text_of(token), form_of(name));
+    format!(in alloc; "`{shown}` has too few operands: {form} stands behind it")
+}
+
+// F6: a number that is too wide for its place.
+fn range_sentence(alloc: Global, name: &[u8], token: &[u8]) -> Result<String, AllocError> {
+    let (shown, range) = (text_of(token), range_of(name));
+    format!(in alloc; "{shown} is outside its range: a number from {range} stands here")
+}
+
+// F9: what is said of a label of the other kind.
+fn kind_told(name: &[u8]) -> &'static str {
     if spells(name, "ld") || spells(name, "st") {
-        Ok(format!(in alloc; "`{token}` is a code label: an offset is a number or a data label")?)
+        "is a code label: an offset is a number or a data label"
     } else {
-        Ok(format!(in alloc; "`{token}` is a data label: a target is a code label")?)
+        "is a data label: a target is a code label"
+    }
+}
+
+// A directive of the data section that stands in the code section.
+fn section_sentence(alloc: Global, name: &[u8], token: &[u8]) -> Result<String, AllocError> {
+    let (shown, form) = (text_of(token), form_of(name));
+    format!(in alloc;
+        "`{shown}` stands in the data section, behind a line `.data`, and {form} stands behind it"
+    )
+}
+
+// What is said of a statement that does not stand in its place, or of an unknown directive.
+fn statement_told(token: &[u8]) -> &'static str {
+    match token {
+        [b'.', ..] => "is no directive: those are .code, .data, .word, .space and .input",
+        _ => "stands in the code section: a line `.code` goes back to it",
     }
 }
 
 // F11: a label that begins with `.`, an unknown directive, or a statement that does not stand in its place.
 fn directive_sentence(alloc: Global, name: &[u8], token: &[u8]) -> Result<String, AllocError> {
-    let shown = text_of(token);
-    let form = form_of(name);
-    let name_text = text_of(name);
     if spells(token, ".word") || spells(token, ".space") {
-        return Ok(format!(in alloc;
-            "`{shown}` stands in the data section, behind a line `.data`, and {form} stands behind it"
-        )?);
+        return section_sentence(alloc, name, token);
     }
-    if token != name {
-        return match token {
-            [b'.', ..] => Ok(format!(in alloc;
-                "`{shown}` is no label: a label does not begin with a `.`"
-            )?),
-            _ => Ok(format!(in alloc;
-                "`{shown}` does not stand in its place: {form} stands behind `{name_text}`"
-            )?),
-        };
+    if token == name {
+        return told_of(alloc, token, statement_told(token));
     }
     match token {
-        [b'.', ..] => Ok(format!(in alloc;
-            "`{shown}` is no directive: those are .code, .data, .word, .space and .input"
-        )?),
-        _ => Ok(format!(in alloc;
-            "`{shown}` stands in the code section: a line `.code` goes back to it"
-        )?),
+        [b'.', ..] => told_of(
+            alloc,
+            token,
+            "is no label: a label does not begin with a `.`",
+        ),
+        _ => place_sentence(alloc, name, token),
+    }
+}
+
+// What is said of a token, where it is the same whatever stands before it.
+fn fault_told(fault: Fault) -> Option<&'static str> {
+    match fault {
+        Fault::BadToken => Some("is no token: a name, a number or one of , [ ] # : stands here"),
+        Fault::UnknownMnemonic => {
+            Some("is no mnemonic: a statement begins with a mnemonic or a directive")
+        }
+        Fault::BadRegister => {
+            Some("is no register: those are r0 to r31, and md where a special name stands")
+        }
+        Fault::DuplicateLabel => {
+            Some("is a label already: each label is defined once in a text")
+        }
+        Fault::UndefinedLabel => Some("is defined nowhere: a label of the text stands here"),
+        Fault::SystemInstruction => {
+            Some("belongs to the system: a source moves md alone, and has no jpc and jpcrs")
+        }
+        _ => None,
     }
 }
 
@@ -177,34 +222,13 @@ fn token_sentence(
     name: &[u8],
     token: &[u8],
 ) -> Result<String, AllocError> {
-    let shown = text_of(token);
+    if let Some(told) = fault_told(fault) {
+        return told_of(alloc, token, told);
+    }
     match fault {
-        Fault::BadToken => Ok(format!(in alloc;
-            "`{shown}` is no token: a name, a number or one of , [ ] # : stands here"
-        )?),
-        Fault::UnknownMnemonic => Ok(format!(in alloc;
-            "`{shown}` is no mnemonic: a statement begins with a mnemonic or a directive"
-        )?),
         Fault::BadOperands => operands_sentence(alloc, name, token),
-        Fault::BadRegister => Ok(format!(in alloc;
-            "`{shown}` is no register: those are r0 to r31, and md where a special name stands"
-        )?),
-        Fault::NumberOutOfRange => {
-            let range = range_of(name);
-            Ok(format!(in alloc;
-                "{shown} is outside its range: a number from {range} stands here"
-            )?)
-        }
-        Fault::DuplicateLabel => Ok(format!(in alloc;
-            "`{shown}` is a label already: each label is defined once in a text"
-        )?),
-        Fault::UndefinedLabel => Ok(format!(in alloc;
-            "`{shown}` is defined nowhere: a label of the text stands here"
-        )?),
-        Fault::WrongLabelKind => kind_sentence(alloc, name, shown),
-        Fault::SystemInstruction => Ok(format!(in alloc;
-            "`{shown}` belongs to the system: a source moves md alone, and has no jpc and jpcrs"
-        )?),
+        Fault::NumberOutOfRange => range_sentence(alloc, name, token),
+        Fault::WrongLabelKind => told_of(alloc, token, kind_told(name)),
         _ => directive_sentence(alloc, name, token),
     }
 }
@@ -235,33 +259,37 @@ fn byte_sentence(alloc: Global, shown: &Shown) -> Result<String, AllocError> {
         [] => 0,
     };
     match char_of(shown) {
-        Some(typed) if byte > 126 && typed != BYTE_ORDER_MARK => Ok(format!(in alloc;
+        Some(typed) if byte > 126 && typed != BYTE_ORDER_MARK => format!(in alloc;
             "`{typed}` stands outside a comment, where tabs and the bytes 32 to 126 may stand"
-        )?),
-        _ => Ok(format!(in alloc;
+        ),
+        _ => format!(in alloc;
             "byte {byte} stands outside a comment, where tabs and the bytes 32 to 126 may stand"
-        )?),
+        ),
     }
+}
+
+// A line that is too long.
+fn length_sentence(alloc: Global, line: &[u8]) -> Result<String, AllocError> {
+    let count = line.len();
+    format!(in alloc; "the line has {count} bytes, and a line has at most 255")
 }
 
 /// What is wrong with a faulty line, and what stands in the place of what is wrong.
 pub fn sentence(alloc: Global, shown: &Shown) -> Result<String, AllocError> {
-    let token = token_of(shown);
     match shown.fault {
         Fault::BadByte => byte_sentence(alloc, shown),
-        Fault::TooManyInstructions => Ok(format!(in alloc;
-            "with this line there are more than 20000 instructions, which is all that a source may have"
-        )?),
-        Fault::DataFull => Ok(format!(in alloc;
-            "there is no room for the data: the last word is at address 65535"
-        )?),
-        Fault::LineTooLong => {
-            let count = shown.text.len();
-            Ok(format!(in alloc; "the line has {count} bytes, and a line has at most 255")?)
-        }
+        Fault::TooManyInstructions => String::from_str(
+            alloc,
+            "with this line there are more than 20000 instructions, which is all that a source may have",
+        ),
+        Fault::DataFull => String::from_str(
+            alloc,
+            "there is no room for the data: the last word is at address 65535",
+        ),
+        Fault::LineTooLong => length_sentence(alloc, shown.text),
         fault => {
             let words = line_words(alloc, shown.text)?;
-            token_sentence(alloc, fault, name_of(&words), token)
+            token_sentence(alloc, fault, name_of(&words), token_of(shown))
         }
     }
 }

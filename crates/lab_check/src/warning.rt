@@ -1,20 +1,21 @@
 //! What is not wrong with a source, and is seldom meant.
 use crate::finding::{Finding, Severity};
-use crate::hint::said;
+use crate::hint::said_if;
 use crate::labels::{Definition, definitions_of};
-use crate::sentence::text_of;
+use crate::sentence::{bytes_in, text_of};
 use lab_faults::{line_at, marks_under};
 use lab_terms::{reached, ways_of};
 use mx_asm::{line_words, statement_words};
-use mx_faults::token_span;
+use mx_faults::{Span, token_span};
 use mx_isa::{INPUT, Inst, Reg};
 use mx_lines::Word;
 use mx_source::{Label, Source, Statement};
 use std::alloc::{AllocError, Global};
 
 // A kind of warning.
-#[derive(Clone, Copy, Debug, PartialEq, Eq)]
+#[derive(Clone, Copy)]
 enum Kind {
+    NoStatement,
     RunsPastEnd,
     Unreached,
     UnusedLabel,
@@ -25,7 +26,7 @@ impl Kind {
     // Its number.
     fn code(self) -> &'static str {
         match self {
-            Kind::RunsPastEnd => "W1",
+            Kind::NoStatement | Kind::RunsPastEnd => "W1",
             Kind::Unreached => "W2",
             Kind::UnusedLabel => "W3",
             Kind::UnreadInput => "W4",
@@ -35,28 +36,84 @@ impl Kind {
     // Its name.
     fn name(self) -> &'static str {
         match self {
-            Kind::RunsPastEnd => "RunsPastEnd",
+            Kind::NoStatement | Kind::RunsPastEnd => "RunsPastEnd",
             Kind::Unreached => "Unreached",
             Kind::UnusedLabel => "UnusedLabel",
             Kind::UnreadInput => "UnreadInput",
         }
     }
 
+    // What is said: of a label behind its name.
+    fn told(self) -> &'static str {
+        match self {
+            Kind::NoStatement => "there is no statement: a run is stuck at once",
+            Kind::RunsPastEnd => {
+                "a run may go on behind the last statement from here, where it is stuck"
+            }
+            Kind::Unreached => "no run comes to this statement",
+            Kind::UnusedLabel => "is used nowhere",
+            Kind::UnreadInput => "the source has an input, and no statement reads it",
+        }
+    }
+
     // What helps, where that is the same wherever it is found.
     fn hint(self) -> Option<&'static str> {
         match self {
-            Kind::RunsPastEnd => Some("a `halt` there ends the run"),
+            Kind::NoStatement | Kind::RunsPastEnd => Some("a `halt` there ends the run"),
             Kind::UnreadInput => Some("`ld 254[r0],R` takes the next byte of the input"),
             _ => None,
         }
     }
 }
 
-// Where it is found: a line, counted from 1, and the place of a token there.
+/// A warning, and where it is found: a line, counted from 1, and the place of a token there.
 #[derive(Clone, Copy)]
-struct Spot {
+pub struct Warning {
+    kind: Kind,
     line: u32,
     place: usize,
+}
+
+// The bytes of the token at a place of a line, if it has some.
+fn span_at(line: &[u8], place: usize) -> Option<Span> {
+    match token_span(line, place) {
+        Some(span) if span.start < span.end => Some(span),
+        _ => None,
+    }
+}
+
+// What is said of a warning at a token.
+fn message_of(alloc: Global, kind: Kind, token: &[u8]) -> Result<String, AllocError> {
+    let (told, name) = (kind.told(), text_of(token));
+    match kind {
+        Kind::UnusedLabel => format!(in alloc; "the label `{name}` {told}"),
+        _ => String::from_str(alloc, told),
+    }
+}
+
+/// A warning in a text of these lines, as it is told.
+pub fn warning_finding<'a>(
+    alloc: Global,
+    lines: &[&'a [u8]],
+    warning: Warning,
+) -> Result<Finding<'a>, AllocError> {
+    let Warning { kind, line, place } = warning;
+    let text = line_at(lines, line);
+    let span = span_at(text, place);
+    let marks = marks_under(alloc, text, span)?;
+    let message = message_of(alloc, kind, bytes_in(text, span))?;
+    let hint = said_if(alloc, kind.hint())?;
+    Ok(Finding {
+        line,
+        text,
+        marks,
+        span,
+        severity: Severity::Warning,
+        code: kind.code(),
+        name: kind.name(),
+        message,
+        hint,
+    })
 }
 
 // The lines of a text, and what is found so far.
@@ -64,41 +121,26 @@ struct Spot {
 struct Search<'a, 'l> {
     alloc: Global,
     lines: &'l [&'a [u8]],
-    found: Vec<Finding<'a>>,
+    found: Vec<Warning>,
 }
 
-impl<'a> Search<'a, '_> {
+impl Search<'_, '_> {
     // Adds a warning.
-    fn add(&mut self, kind: Kind, spot: Spot, message: String) -> Result<(), AllocError> {
-        let text = line_at(self.lines, spot.line);
-        let span = match token_span(text, spot.place) {
-            Some(span) if span.start < span.end => Some(span),
-            _ => None,
-        };
-        let hint = match kind.hint() {
-            Some(hint) => said(self.alloc, hint)?,
-            None => None,
-        };
-        let marks = marks_under(self.alloc, text, span)?;
-        self.found.push(Finding {
-            line: spot.line,
-            text,
-            marks,
-            span,
-            severity: Severity::Warning,
-            code: kind.code(),
-            name: kind.name(),
-            message,
-            hint,
-        })?;
+    fn add(&mut self, kind: Kind, line: u32, place: usize) -> Result<(), AllocError> {
+        self.found.push(Warning { kind, line, place })?;
         Ok(())
     }
 
-    // Where the statement of a line stands.
-    fn statement_spot(&self, line: u32) -> Result<Spot, AllocError> {
+    // The place of the token of a line with which its statement begins.
+    fn statement_place(&self, line: u32) -> Result<usize, AllocError> {
         let words = line_words(self.alloc, line_at(self.lines, line))?;
-        let place = words.len().saturating_sub(statement_words(&words).len());
-        Ok(Spot { line, place })
+        Ok(words.len().saturating_sub(statement_words(&words).len()))
+    }
+
+    // Adds a warning of the statement of a line.
+    fn add_statement(&mut self, kind: Kind, line: u32) -> Result<(), AllocError> {
+        let place = self.statement_place(line)?;
+        self.add(kind, line, place)
     }
 }
 
@@ -106,19 +148,14 @@ impl<'a> Search<'a, '_> {
 fn add_ends(search: &mut Search, source: &Source, reached: &[bool]) -> Result<(), AllocError> {
     let count = source.statements().len();
     if count == 0 {
-        let message = format!(in search.alloc; "there is no statement: a run is stuck at once")?;
-        return search.add(Kind::RunsPastEnd, Spot { line: 1, place: 0 }, message);
+        return search.add(Kind::NoStatement, 1, 0);
     }
     let mut behind = 0usize;
     for (statement, line) in source.statements().iter().zip(source.lines()) {
         let is_reached = reached.get(behind).copied().unwrap_or(false);
         behind = behind.saturating_add(1);
         if is_reached && may_leave(statement, behind == count, count) {
-            let spot = search.statement_spot(*line)?;
-            let message = format!(in search.alloc;
-                "a run may go on behind the last statement from here, where it is stuck"
-            )?;
-            search.add(Kind::RunsPastEnd, spot, message)?;
+            search.add_statement(Kind::RunsPastEnd, *line)?;
         }
     }
     Ok(())
@@ -139,9 +176,7 @@ fn add_unreached(search: &mut Search, source: &Source, reached: &[bool]) -> Resu
     let mut is_open = true;
     for (is_reached, line) in reached.iter().zip(source.lines()) {
         if is_open && !*is_reached {
-            let spot = search.statement_spot(*line)?;
-            let message = format!(in search.alloc; "no run comes to this statement")?;
-            search.add(Kind::Unreached, spot, message)?;
+            search.add_statement(Kind::Unreached, *line)?;
         }
         is_open = *is_reached;
     }
@@ -185,13 +220,7 @@ fn add_unused(search: &mut Search, source: &Source) -> Result<(), AllocError> {
     let used = used_labels(search, source)?;
     for (definition, is_used) in definitions.iter().zip(&used) {
         if !*is_used && !is_entry(source, definition) {
-            let name = text_of(definition.name);
-            let message = format!(in search.alloc; "the label `{name}` is used nowhere")?;
-            let spot = Spot {
-                line: definition.line,
-                place: definition.place,
-            };
-            search.add(Kind::UnusedLabel, spot, message)?;
+            search.add(Kind::UnusedLabel, definition.line, definition.place)?;
         }
     }
     Ok(())
@@ -217,18 +246,16 @@ fn add_unread(search: &mut Search, source: &Source) -> Result<(), AllocError> {
             return Ok(());
         }
     }
-    let spot = search.statement_spot(line)?;
-    let message = format!(in search.alloc; "the source has an input, and no statement reads it")?;
-    search.add(Kind::UnreadInput, spot, message)
+    search.add_statement(Kind::UnreadInput, line)
 }
 
 /// What is seldom meant in a source, of a text of these lines: a run may go on behind its last statement, no run comes to
 /// a statement, a label is used nowhere, an input is never read; in this order, each by its lines.
-pub fn warnings<'a>(
+pub fn warnings(
     alloc: Global,
-    lines: &[&'a [u8]],
+    lines: &[&[u8]],
     source: &Source,
-) -> Result<Vec<Finding<'a>>, AllocError> {
+) -> Result<Vec<Warning>, AllocError> {
     let mut search = Search {
         alloc,
         lines,

@@ -1,10 +1,13 @@
 //! The reply of `check`.
+ghost use Rattle.std.specs.Prelude.{◌≤◌, length};
+ghost use Rattle.mx_io.specs.declared.limits.TheConstants.{MAX_SOURCE_BYTES};
+
 use crate::given::{file_given, word_given};
 use crate::printed::printed;
 use clap::ArgMatches;
-use cmd_answer::{FileKind, Reply, Status, read_file};
+use cmd_answer::{Failure, FileKind, Reply, Status, read_file};
 use lab_check::{Checked, Form, MOST_LINES, check, push_findings};
-use mx_io::{Memory, Shelf};
+use mx_io::Shelf;
 use std::alloc::{AllocError, Global};
 
 /// How many faulty lines and how many warnings are shown.
@@ -62,28 +65,43 @@ fn status_of(checked: &Checked) -> Status {
     }
 }
 
+// How many findings the words ask for.
+fn most_given(matches: &ArgMatches) -> usize
+    ensures { result ≤ MAX_SOURCE_BYTES }
+{
+    if matches.get_flag("all") {
+        MOST_LINES
+    } else {
+        MOST_SHOWN
+    }
+}
+
+// The form that the words ask for.
+fn form_given(matches: &ArgMatches) -> Form {
+    match (word_given(matches, "as"), word_given(matches, "colour")) {
+        ("json", _) => Form::Json,
+        (_, "always") => Form::Coloured,
+        _ => Form::Text,
+    }
+}
+
+// The reply that tells what is wrong with a text.
+fn text_reply(alloc: Global, matches: &ArgMatches, text: &[u8]) -> Result<Reply, Failure>
+    requires { length text.now ≤ MAX_SOURCE_BYTES }
+{
+    let checked = check(alloc, text, most_given(matches))?;
+    let name = word_given(matches, "SOURCE");
+    let said = report(alloc, name, &checked, form_given(matches));
+    printed(status_of(&checked), said)
+}
+
 /// The reply to `check SOURCE`.
 pub fn check_reply<S: Shelf>(
     alloc: Global,
     shelf: &mut S,
     matches: &ArgMatches,
-) -> Result<Reply, Memory> {
+) -> Result<Reply, Failure> {
     let name = file_given(matches, "SOURCE");
-    let text = match read_file(alloc, shelf, FileKind::Source, name)? {
-        Ok(text) => text,
-        Err(reply) => return Ok(reply),
-    };
-    let most = if matches.get_flag("all") {
-        MOST_LINES
-    } else {
-        MOST_SHOWN
-    };
-    let form = match (word_given(matches, "as"), word_given(matches, "colour")) {
-        ("json", _) => Form::Json,
-        (_, "always") => Form::Coloured,
-        _ => Form::Text,
-    };
-    let checked = check(alloc, &text, most)?;
-    let name = word_given(matches, "SOURCE");
-    printed(status_of(&checked), report(alloc, name, &checked, form))
+    let text = read_file(alloc, shelf, FileKind::Source, name)?;
+    text_reply(alloc, matches, &text)
 }

@@ -1,17 +1,20 @@
 //! The reply of `compare`.
+ghost use Rattle.std.specs.Prelude.{◌≤◌, length};
+ghost use Rattle.mx_io.specs.declared.limits.TheConstants.{MAX_FILE_BYTES};
+
+use crate::failure::named;
 use crate::given::{file_by, number_given, word_given};
-use crate::printed::printed;
+use crate::printed::{printed, unlinked};
 use crate::runs::{Stimulus, read_stimulus};
 use clap::ArgMatches;
-use cmd_answer::{Reply, Status};
-use cmd_source::{Program, overlong_reply, read_program};
+use cmd_answer::{Failure, Reply, Status};
+use cmd_source::{Program, read_program};
 use lab_measures::{Comparison, Conditions, compare};
 use lab_tables::{
     Compared, comparison_json, comparison_text, comparisons_csv, comparisons_json, comparisons_text,
 };
 use lab_watch::Watcher;
 use mx_io::{Memory, Shelf};
-use mx_link::LinkError;
 use std::alloc::Global;
 
 // A linked source, by its name.
@@ -21,114 +24,82 @@ struct NamedSource<'a> {
     program: Program,
 }
 
-// Sources, and what the run of each is given.
-#[derive(Drop)]
-struct GivenSources<'a> {
-    sources: Vec<NamedSource<'a>>,
-    stimulus: Stimulus,
-}
-
-// The reply to what is wrong with a source. Where there are several, it names the source.
-fn source_reply(alloc: Global, name: &str, is_one: bool, reply: Reply) -> Result<Reply, Memory> {
-    let Reply::Prints { status, output } = reply else {
-        return Ok(reply);
-    };
-    if is_one {
-        return Ok(Reply::Prints { status, output });
-    }
-    let mut text = Vec::new(alloc);
-    for piece in [name.as_bytes(), b": ", output.as_slice()] {
-        if text.extend_from_slice(piece).is_err() {
-            return Err(Memory);
+// What is wrong with a source. Where there are several, it names the source.
+fn named_failure(alloc: Global, name: &str, is_one: bool, failure: Failure) -> Failure {
+    match failure {
+        Failure::Answered(Reply::Prints { status, output }) if !is_one => {
+            match named(alloc, name, output.as_slice()) {
+                Ok(output) => Failure::Answered(Reply::Prints { status, output }),
+                Err(_) => Failure::Memory,
+            }
         }
+        failure => failure,
     }
-    Ok(Reply::Prints {
-        status,
-        output: text,
-    })
 }
 
-// The sources that the words name, linked, or the reply to the first that is wrong.
+// The source of this name, linked.
+fn read_source<'a, S: Shelf>(
+    alloc: Global,
+    shelf: &mut S,
+    name: &'a str,
+    is_one: bool,
+) -> Result<NamedSource<'a>, Failure> {
+    match read_program(alloc, shelf, file_by(name)) {
+        Ok(program) => Ok(NamedSource { name, program }),
+        Err(failure) => Err(named_failure(alloc, name, is_one, failure)),
+    }
+}
+
+// The sources of these names, linked.
 fn read_sources<'a, S: Shelf>(
     alloc: Global,
     shelf: &mut S,
-    matches: &ArgMatches<'a>,
-) -> Result<Result<Vec<NamedSource<'a>>, Reply>, Memory> {
+    names: &[&'a str],
+) -> Result<Vec<NamedSource<'a>>, Failure> {
     let mut sources = Vec::new(alloc);
-    let Some(names) = matches.get_strs("SOURCE") else {
-        return Ok(Ok(sources));
-    };
     for name in names {
-        match read_program(alloc, shelf, file_by(*name))? {
-            Ok(program) => {
-                if sources.push(NamedSource { name, program }).is_err() {
-                    return Err(Memory);
-                }
-            }
-            Err(reply) => {
-                let is_one = names.len() == 1;
-                return Ok(Err(source_reply(alloc, name, is_one, reply)?));
-            }
+        let source = read_source(alloc, shelf, *name, names.len() == 1)?;
+        if sources.push(source).is_err() {
+            return Err(Failure::Memory);
         }
     }
-    Ok(Ok(sources))
+    Ok(sources)
 }
 
-// Sources with what the words give their runs, or the reply to the first of these that is wrong.
-fn given_with<'a, S: Shelf>(
+// The comparison of a source.
+fn compare_one<'a, W: Watcher>(
     alloc: Global,
-    shelf: &mut S,
-    matches: &ArgMatches<'a>,
-    sources: Vec<NamedSource<'a>>,
-) -> Result<Result<GivenSources<'a>, Reply>, Memory> {
-    match read_stimulus(alloc, shelf, matches)? {
-        Ok(stimulus) => Ok(Ok(GivenSources { sources, stimulus })),
-        Err(reply) => Ok(Err(reply)),
+    one: &NamedSource<'a>,
+    is_one: bool,
+    conditions: &Conditions,
+    watcher: W,
+) -> Result<Compared<'a>, Failure>
+    requires { length conditions.now.input.now ≤ MAX_FILE_BYTES }
+{
+    let source = one.name;
+    match compare(alloc, &one.program.source, conditions, watcher) {
+        Ok(comparison) => Ok(Compared { source, comparison }),
+        Err(error) => Err(named_failure(alloc, source, is_one, unlinked(alloc, &error))),
     }
 }
 
-// The sources with what their runs are given, or the reply to the first of these that is wrong.
-fn read_given<'a, S: Shelf>(
-    alloc: Global,
-    shelf: &mut S,
-    matches: &ArgMatches<'a>,
-) -> Result<Result<GivenSources<'a>, Reply>, Memory> {
-    match read_sources(alloc, shelf, matches)? {
-        Ok(sources) => given_with(alloc, shelf, matches, sources),
-        Err(reply) => Ok(Err(reply)),
-    }
-}
-
-// The comparison of each source, or the reply to the first that a scheduler cannot link.
+// The comparison of each source.
 fn compare_each<'a, W: Watcher>(
     alloc: Global,
-    given: &GivenSources<'a>,
-    budget: u32,
+    sources: &[NamedSource<'a>],
+    conditions: &Conditions,
     watcher: W,
-) -> Result<Result<Vec<Compared<'a>>, Reply>, Memory> {
-    let conditions = Conditions {
-        requests: &given.stimulus.requests,
-        input: given.stimulus.input.as_slice(),
-        budget,
-    };
+) -> Result<Vec<Compared<'a>>, Failure>
+    requires { length conditions.now.input.now ≤ MAX_FILE_BYTES }
+{
     let mut compared = Vec::new(alloc);
-    for one in given.sources.iter() {
-        let source = one.name;
-        match compare(alloc, &one.program.source, &conditions, watcher) {
-            Ok(comparison) => {
-                if compared.push(Compared { source, comparison }).is_err() {
-                    return Err(Memory);
-                }
-            }
-            Err(LinkError::Displacement { line, from, to }) => {
-                let reply = overlong_reply(alloc, line, from, to)?;
-                let is_one = given.sources.len() == 1;
-                return Ok(Err(source_reply(alloc, source, is_one, reply)?));
-            }
-            Err(LinkError::Memory) => return Err(Memory),
+    for one in sources {
+        let source = compare_one(alloc, one, sources.len() == 1, conditions, watcher)?;
+        if compared.push(source).is_err() {
+            return Err(Failure::Memory);
         }
     }
-    Ok(Ok(compared))
+    Ok(compared)
 }
 
 // Comparisons in the form that the words ask for.
@@ -146,17 +117,33 @@ fn text_of(alloc: Global, matches: &ArgMatches, compared: &[Compared]) -> Result
     }
 }
 
-// The reply that compares the sources, or the one to the first that a scheduler cannot link.
-fn given_reply<'a, W: Watcher>(
+// The reply that compares sources under what is given to the run of each.
+fn compared_reply<W: Watcher>(
     alloc: Global,
-    matches: &ArgMatches<'a>,
-    given: &GivenSources<'a>,
+    matches: &ArgMatches,
+    sources: &[NamedSource],
+    stimulus: &Stimulus,
     watcher: W,
-) -> Result<Reply, Memory> {
-    match compare_each(alloc, given, number_given(matches, "budget"), watcher)? {
-        Ok(compared) => printed(Status::Done, text_of(alloc, matches, compared.as_slice())),
-        Err(reply) => Ok(reply),
-    }
+) -> Result<Reply, Failure> {
+    let conditions = Conditions {
+        requests: &stimulus.requests,
+        input: stimulus.input.as_slice(),
+        budget: number_given(matches, "budget"),
+    };
+    let compared = compare_each(alloc, sources, &conditions, watcher)?;
+    printed(Status::Done, text_of(alloc, matches, compared.as_slice()))
+}
+
+// The reply that compares sources.
+fn sources_reply<S: Shelf, W: Watcher>(
+    alloc: Global,
+    shelf: &mut S,
+    matches: &ArgMatches,
+    sources: &[NamedSource],
+    watcher: W,
+) -> Result<Reply, Failure> {
+    let stimulus = read_stimulus(alloc, shelf, matches)?;
+    compared_reply(alloc, matches, sources, &stimulus, watcher)
 }
 
 /// The reply to `compare SOURCE ..`.
@@ -165,9 +152,8 @@ pub fn compare_reply<S: Shelf, W: Watcher>(
     shelf: &mut S,
     matches: &ArgMatches,
     watcher: W,
-) -> Result<Reply, Memory> {
-    match read_given(alloc, shelf, matches)? {
-        Ok(given) => given_reply(alloc, matches, &given, watcher),
-        Err(reply) => Ok(reply),
-    }
+) -> Result<Reply, Failure> {
+    let names = matches.get_strs("SOURCE").unwrap_or(&[]);
+    let sources = read_sources(alloc, shelf, names)?;
+    sources_reply(alloc, shelf, matches, sources.as_slice(), watcher)
 }

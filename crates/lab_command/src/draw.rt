@@ -11,7 +11,7 @@ use crate::given::{number_given, word_given};
 use crate::printed::printed;
 use crate::runs::GivenRun;
 use clap::ArgMatches;
-use cmd_answer::{Reply, Status};
+use cmd_answer::{Failure, Reply, Status};
 use cmd_source::Program;
 use lab_draw::{Drawing, draw, rows_of};
 use lab_pictures::{PlaceNames, Subject, html, json, kanata, svg, text, vcd};
@@ -136,6 +136,6 @@ pub fn draw_reply<W: Watcher>(
     matches: &ArgMatches,
     run: &GivenRun,
     watcher: W,
-) -> Result<Reply, Memory> {
+) -> Result<Reply, Failure> {
     printed(Status::Done, picture_of(alloc, matches, run, watcher))
 }

@@ -9,7 +9,7 @@ use crate::given::word_given;
 use crate::printed::printed;
 use crate::runs::GivenRun;
 use clap::ArgMatches;
-use cmd_answer::{Reply, Status};
+use cmd_answer::{Failure, Reply, Status};
 use lab_explain::{Explained, explained_json, explained_text};
 use lab_measures::{Ran, Standing, run_machine, stand};
 use lab_watch::{Watcher, watched_pipe};
@@ -80,7 +80,7 @@ pub fn explain_reply<W: Watcher>(
     matches: &ArgMatches,
     run: &GivenRun,
     watcher: W,
-) -> Result<Reply, Memory> {
+) -> Result<Reply, Failure> {
     let steps = run.budget.saturating_add(STATEMENTS_AHEAD);
     let input = run.stimulus.input.as_slice();
     let standing = stand(alloc, &run.program.source, input, steps)?;

@@ -101,8 +101,8 @@ fn file_of<'a>(matches: &ArgMatches<'a>, status: Status, said: &[u8]) -> &'a str
     }
 }
 
-// Bytes with a name before them.
-fn named(alloc: Global, name: &str, said: &[u8]) -> Result<Vec<u8>, AllocError> {
+/// Bytes with a name before them.
+pub fn named(alloc: Global, name: &str, said: &[u8]) -> Result<Vec<u8>, AllocError> {
     let mut text = Vec::new(alloc);
     if !name.is_empty() {
         text.extend_from_slice(name.as_bytes())?;

@@ -2,16 +2,16 @@
 ghost use Rattle.std.specs.Prelude.{◌≤◌, ◌<◌, IfOk};
 
 use crate::given::{number_given, word_given};
-use crate::printed::printed;
+use crate::printed::{printed, refused, run_status};
 use crate::runs::GivenRun;
 use clap::ArgMatches;
-use cmd_answer::{Reply, Status, line_reply};
-use lab_measures::{Run, Span, Sweep, cycles_in, pairs, run_with, singles};
+use cmd_answer::{Failure, Reply, Status};
+use lab_measures::{Row, Run, Span, Sweep, cycles_in, pairs, run_with, singles};
 use lab_tables::{places_of, sweep_csv, sweep_json, sweep_text};
 use lab_watch::Watcher;
 use mx_board::Requests;
 use mx_io::Memory;
-use std::alloc::{AllocError, Global};
+use std::alloc::Global;
 
 /// The most runs.
 const MOST_RUNS: u64 = 100_000;
@@ -19,50 +19,61 @@ const MOST_RUNS: u64 = 100_000;
 /// The most cycles of which each two make a run.
 const MOST_PAIRED: u64 = 447;
 
-// The reply to words that cannot be followed.
-fn usage_reply(alloc: Global, text: Result<String, AllocError>) -> Result<Reply, Memory> {
-    match text {
-        Ok(text) => line_reply(alloc, Status::Usage, text.as_str()),
-        Err(_) => Err(Memory),
-    }
-}
-
 // The cycles that the words ask for, of a run whose last cycle is this one; or the reply where there are none.
-fn span_given(alloc: Global, matches: &ArgMatches, last: u32) -> Result<Result<Span, Reply>, Memory>
-    ensures { IfOk result (λ r. IfOk r (λ span. 0 < span.step)) }
+fn span_given(alloc: Global, matches: &ArgMatches, last: u32) -> Result<Span, Failure>
+    ensures { IfOk result (λ span. 0 < span.step) }
 {
     let from = number_given(matches, "from");
     let to = matches.get_one::<u32>("to").unwrap_or(last);
-    let refused = if from > last {
+    let line = if from > last {
         format!(in alloc; "--from {from} is behind the last cycle of the undisturbed run, {last}")
     } else if from > to {
         format!(in alloc; "--from {from} is more than --to {to}")
     } else {
-        return Ok(Ok(Span {
+        return Ok(Span {
             from,
             to: to.min(last),
             step: number_given(matches, "step").max(1),
-        }));
+        });
     };
-    Ok(Err(usage_reply(alloc, refused)?))
+    Err(refused(alloc, Status::Usage, line))
 }
 
 // The reply where a span makes too many runs.
-fn excess_reply(alloc: Global, span: Span, is_pairs: bool) -> Result<Option<Reply>, Memory> {
+fn refuse_excess(alloc: Global, span: Span, is_pairs: bool) -> Result<(), Failure> {
     let (runs, most) = if is_pairs {
         (span.pairs(), MOST_PAIRED)
     } else {
         (span.count(), MOST_RUNS)
     };
     if runs <= MOST_RUNS {
-        return Ok(None);
+        return Ok(());
     }
     let behind = u64::from(span.to.saturating_sub(span.from));
     let step = behind.checked_div(most).unwrap_or(0).saturating_add(1);
-    let text = format!(in alloc;
+    let line = format!(in alloc;
         "{runs} runs are more than {MOST_RUNS}: --step {step} makes fewer"
     );
-    Ok(Some(usage_reply(alloc, text)?))
+    Err(refused(alloc, Status::Usage, line))
+}
+
+// The runs with requests in these cycles, beside the undisturbed run.
+fn rows_of<W: Watcher>(
+    alloc: Global,
+    run: &GivenRun,
+    undisturbed: &Run,
+    cycles: &[u32],
+    is_pairs: bool,
+    watcher: W,
+) -> Result<Vec<Row>, Memory> {
+    let image = &run.program.linked.image;
+    let input = run.asked_input();
+    let console = undisturbed.console.as_slice();
+    if is_pairs {
+        pairs(alloc, image, input, run.budget, console, cycles, watcher)
+    } else {
+        singles(alloc, image, input, run.budget, console, cycles, watcher)
+    }
 }
 
 // The runs with requests in the cycles of a span, beside the undisturbed run.
@@ -73,21 +84,18 @@ fn sweep_of<W: Watcher>(
     span: Span,
     is_pairs: bool,
     watcher: W,
-) -> Result<Sweep, Memory>
+) -> Result<Sweep, Failure>
     requires { 0 < span.step }
 {
-    let Ok(cycles) = cycles_in(alloc, span) else {
-        return Err(Memory);
-    };
-    let image = &run.program.linked.image;
-    let input = run.asked_input();
-    let console = undisturbed.console.as_slice();
-    let cycles = cycles.as_slice();
-    let rows = if is_pairs {
-        pairs(alloc, image, input, run.budget, console, cycles, watcher)?
-    } else {
-        singles(alloc, image, input, run.budget, console, cycles, watcher)?
-    };
+    let cycles = cycles_in(alloc, span)?;
+    let rows = rows_of(
+        alloc,
+        run,
+        undisturbed,
+        cycles.as_slice(),
+        is_pairs,
+        watcher,
+    )?;
     Ok(Sweep {
         cycles: undisturbed.cycles,
         halted: undisturbed.halted,
@@ -125,48 +133,27 @@ fn text_of(
     }
 }
 
-// The status of a sweep: whether each of its runs halted.
-fn status_of(sweep: &Sweep) -> Status {
-    if sweep.halted && sweep.rows.iter().all(|row| row.halted) {
-        Status::Done
-    } else {
-        Status::OutOfBudget
-    }
+// Whether each run of a sweep halted.
+fn all_halted(sweep: &Sweep) -> bool {
+    sweep.halted && sweep.rows.iter().all(|row| row.halted)
 }
 
-// The reply that tells of the runs with requests in the cycles of a span.
+// The reply that tells of the runs with requests in the cycles that the words ask for.
 fn sweep_reply<W: Watcher>(
     alloc: Global,
     matches: &ArgMatches,
     run: &GivenRun,
     undisturbed: &Run,
-    span: Span,
     watcher: W,
-) -> Result<Reply, Memory>
-    requires { 0 < span.step }
-{
-    let is_pairs = matches.get_flag("pairs");
-    if let Some(reply) = excess_reply(alloc, span, is_pairs)? {
-        return Ok(reply);
-    }
-    let sweep = sweep_of(alloc, run, undisturbed, span, is_pairs, watcher)?;
-    printed(status_of(&sweep), text_of(alloc, matches, run, &sweep))
-}
-
-// The same for the span that the words ask for, or the reply where there are no such cycles.
-fn span_reply<W: Watcher>(
-    alloc: Global,
-    matches: &ArgMatches,
-    run: &GivenRun,
-    undisturbed: &Run,
-    watcher: W,
-) -> Result<Reply, Memory> {
+) -> Result<Reply, Failure> {
     let cycles = undisturbed.cycles.saturating_sub(1);
     let last = cycles.min(u64::from(run.budget)) as u32;
-    match span_given(alloc, matches, last)? {
-        Ok(span) => sweep_reply(alloc, matches, run, undisturbed, span, watcher),
-        Err(reply) => Ok(reply),
-    }
+    let span = span_given(alloc, matches, last)?;
+    let is_pairs = matches.get_flag("pairs");
+    refuse_excess(alloc, span, is_pairs)?;
+    let sweep = sweep_of(alloc, run, undisturbed, span, is_pairs, watcher)?;
+    let text = text_of(alloc, matches, run, &sweep);
+    printed(run_status(all_halted(&sweep)), text)
 }
 
 // A run without requests.
@@ -182,7 +169,7 @@ pub fn interrupts_reply<W: Watcher>(
     matches: &ArgMatches,
     run: &GivenRun,
     watcher: W,
-) -> Result<Reply, Memory> {
+) -> Result<Reply, Failure> {
     let undisturbed = undisturbed_run(alloc, run)?;
-    span_reply(alloc, matches, run, &undisturbed, watcher)
+    sweep_reply(alloc, matches, run, &undisturbed, watcher)
 }

@@ -3,16 +3,15 @@ ghost use Rattle.std.specs.Prelude.{◌≤◌, length, IfOk};
 ghost use Rattle.mx_io.specs.declared.limits.TheConstants.{MAX_FILE_BYTES};
 
 use crate::given::{file_given, number_given};
-use crate::printed::printed;
+use crate::printed::{answered, printed, refused, unlinked};
 use crate::runs::{Stimulus, read_stimulus};
 use clap::ArgMatches;
-use cmd_answer::{Reply, Status, line_reply};
-use cmd_source::{overlong_reply, read_source};
+use cmd_answer::{Failure, Reply, Status, line_reply};
+use cmd_source::read_source;
 use lab_plans::planned_reply;
 use lab_watch::Watcher;
 use mx_blocks::blocks;
-use mx_io::{Memory, Shelf, ShelfFault};
-use mx_link::LinkError;
+use mx_io::{Shelf, ShelfFault};
 use mx_plans::{PlanError, PlanLine, print_plans, read_plans};
 use mx_source::Source;
 use std::alloc::Global;
@@ -21,38 +20,30 @@ use std::alloc::Global;
 const MOST_BYTES: usize = 1_048_576;
 
 // The bytes of a plan file, or the reply to its fault.
-fn read_plan_file<S: Shelf>(
-    alloc: Global,
-    shelf: &mut S,
-    name: &str,
-) -> Result<Result<Vec<u8>, Reply>, Memory>
-    ensures { IfOk result (λ r. IfOk r (λ bytes. length bytes.items ≤ MAX_FILE_BYTES)) }
+fn read_plan_file<S: Shelf>(alloc: Global, shelf: &mut S, name: &str) -> Result<Vec<u8>, Failure>
+    ensures { IfOk result (λ bytes. length bytes.items ≤ MAX_FILE_BYTES) }
 {
     let fault = match shelf.read(alloc, name, MOST_BYTES) {
-        Ok(bytes) => return Ok(Ok(bytes)),
+        Ok(bytes) => return Ok(bytes),
         Err(ShelfFault::Failed) => "read fault: plans failed",
         Err(ShelfFault::TooLong) => "read fault: plans too long",
-        Err(ShelfFault::Memory) => return Err(Memory),
+        Err(ShelfFault::Memory) => return Err(Failure::Memory),
     };
-    Ok(Err(line_reply(alloc, Status::ReadFault, fault)?))
+    Err(answered(line_reply(alloc, Status::ReadFault, fault)))
 }
 
 // The lines of a plan file for a source, or the reply to its first faulty line.
-fn parse_plans(
-    alloc: Global,
-    source: &Source,
-    text: &[u8],
-) -> Result<Result<Vec<PlanLine>, Reply>, Memory>
+fn parse_plans(alloc: Global, source: &Source, text: &[u8]) -> Result<Vec<PlanLine>, Failure>
     requires { length text.now ≤ MAX_FILE_BYTES }
 {
     let blocks = blocks(alloc, source)?;
     match read_plans(alloc, blocks.len(), text) {
-        Ok(plans) => Ok(Ok(plans)),
-        Err(PlanError::Memory) => Err(Memory),
-        Err(error) => match format!(in alloc; "plans {error}") {
-            Ok(line) => Ok(Err(line_reply(alloc, Status::BadEvents, line.as_str())?)),
-            Err(_) => Err(Memory),
-        },
+        Ok(plans) => Ok(plans),
+        Err(PlanError::Memory) => Err(Failure::Memory),
+        Err(error) => {
+            let line = format!(in alloc; "plans {error}");
+            Err(refused(alloc, Status::BadEvents, line))
+        }
     }
 }
 
@@ -62,11 +53,9 @@ fn plans_of<S: Shelf>(
     shelf: &mut S,
     source: &Source,
     name: &str,
-) -> Result<Result<Vec<PlanLine>, Reply>, Memory> {
-    match read_plan_file(alloc, shelf, name)? {
-        Ok(text) => parse_plans(alloc, source, text.as_slice()),
-        Err(reply) => Ok(Err(reply)),
-    }
+) -> Result<Vec<PlanLine>, Failure> {
+    let text = read_plan_file(alloc, shelf, name)?;
+    parse_plans(alloc, source, text.as_slice())
 }
 
 // The reply that runs a source by plans.
@@ -77,17 +66,16 @@ fn run_by_plans<W: Watcher>(
     stimulus: &Stimulus,
     budget: u32,
     watcher: W,
-) -> Result<Reply, Memory> {
+) -> Result<Reply, Failure> {
     let requests = &stimulus.requests;
     let input = stimulus.input.as_slice();
     match planned_reply(alloc, source, plans, requests, input, budget, watcher) {
         Ok(reply) => Ok(reply),
-        Err(LinkError::Displacement { line, from, to }) => overlong_reply(alloc, line, from, to),
-        Err(LinkError::Memory) => Err(Memory),
+        Err(error) => Err(unlinked(alloc, &error)),
     }
 }
 
-// The same with what the words give its run, or the reply to the first of these that is wrong.
+// The same with what the words give its run.
 fn run_given<S: Shelf, W: Watcher>(
     alloc: Global,
     shelf: &mut S,
@@ -95,14 +83,10 @@ fn run_given<S: Shelf, W: Watcher>(
     source: &Source,
     plans: &[PlanLine],
     watcher: W,
-) -> Result<Reply, Memory> {
-    match read_stimulus(alloc, shelf, matches)? {
-        Ok(stimulus) => {
-            let budget = number_given(matches, "budget");
-            run_by_plans(alloc, source, plans, &stimulus, budget, watcher)
-        }
-        Err(reply) => Ok(reply),
-    }
+) -> Result<Reply, Failure> {
+    let stimulus = read_stimulus(alloc, shelf, matches)?;
+    let budget = number_given(matches, "budget");
+    run_by_plans(alloc, source, plans, &stimulus, budget, watcher)
 }
 
 // The reply that runs a source by the plans of a file, or prints them.
@@ -112,14 +96,12 @@ fn source_reply<S: Shelf, W: Watcher>(
     matches: &ArgMatches,
     source: &Source,
     watcher: W,
-) -> Result<Reply, Memory> {
+) -> Result<Reply, Failure> {
     if matches.get_flag("print") {
         return printed(Status::Done, print_plans(alloc, source));
     }
-    match plans_of(alloc, shelf, source, file_given(matches, "FILE"))? {
-        Ok(plans) => run_given(alloc, shelf, matches, source, plans.as_slice(), watcher),
-        Err(reply) => Ok(reply),
-    }
+    let plans = plans_of(alloc, shelf, source, file_given(matches, "FILE"))?;
+    run_given(alloc, shelf, matches, source, plans.as_slice(), watcher)
 }
 
 /// The reply to `plans SOURCE FILE`, or to `plans SOURCE --print`.
@@ -128,9 +110,7 @@ pub fn plans_reply<S: Shelf, W: Watcher>(
     shelf: &mut S,
     matches: &ArgMatches,
     watcher: W,
-) -> Result<Reply, Memory> {
-    match read_source(alloc, shelf, file_given(matches, "SOURCE"))? {
-        Ok(source) => source_reply(alloc, shelf, matches, &source, watcher),
-        Err(reply) => Ok(reply),
-    }
+) -> Result<Reply, Failure> {
+    let source = read_source(alloc, shelf, file_given(matches, "SOURCE"))?;
+    source_reply(alloc, shelf, matches, &source, watcher)
 }

@@ -1,11 +1,53 @@
-//! Replies of texts.
-use cmd_answer::{Reply, Status};
+//! Replies of texts and lines.
+ghost use Rattle.std.specs.Prelude.{◌≡◌, if◌then◌else◌};
+
+use cmd_answer::{Failure, Reply, Status, line_reply};
+use cmd_source::overlong_reply;
 use mx_io::Memory;
+use mx_link::LinkError;
+use std::alloc::{AllocError, Global};
 
 /// The reply that prints a text and ends with a status. Where there is no text, there was no memory for it.
-pub fn printed<E: Drop>(status: Status, text: Result<Vec<u8>, E>) -> Result<Reply, Memory> {
+pub fn printed<E: Drop>(status: Status, text: Result<Vec<u8>, E>) -> Result<Reply, Failure> {
     match text {
         Ok(output) => Ok(Reply::Prints { status, output }),
-        Err(_) => Err(Memory),
+        Err(_) => Err(Failure::Memory),
+    }
+}
+
+/// How a command ends that tells of runs: whether they halted.
+pub fn run_status(halted: bool) -> Status
+    ensures { result ≡ if halted then Status.Done else Status.OutOfBudget }
+{
+    if halted {
+        Status::Done
+    } else {
+        Status::OutOfBudget
+    }
+}
+
+/// A command is answered by this. Where there is no reply, there was no memory for it.
+pub fn answered(reply: Result<Reply, Memory>) -> Failure {
+    match reply {
+        Ok(reply) => Failure::Answered(reply),
+        Err(_) => Failure::Memory,
+    }
+}
+
+/// A command is answered by a line and a status. Where there is no line, there was no memory for it.
+pub fn refused(alloc: Global, status: Status, line: Result<String, AllocError>) -> Failure {
+    match line {
+        Ok(line) => answered(line_reply(alloc, status, line.as_str())),
+        Err(_) => Failure::Memory,
+    }
+}
+
+/// A source is not linked.
+pub fn unlinked(alloc: Global, error: &LinkError) -> Failure {
+    match *error {
+        LinkError::Displacement { line, from, to } => answered(overlong_reply(
+            alloc, line, from, to,
+        )),
+        LinkError::Memory => Failure::Memory,
     }
 }

@@ -1,11 +1,11 @@
 //! The reply of `profile`.
 use crate::given::word_given;
-use crate::printed::printed;
+use crate::printed::{printed, run_status};
 use crate::runs::GivenRun;
 use clap::ArgMatches;
-use cmd_answer::{Reply, Status};
+use cmd_answer::{Failure, Reply};
 use lab_costs::{By, Subject, callgrind, profile_json, profile_text};
-use lab_profile::{Calls, Column, Profile, calls_of, profile_of};
+use lab_profile::{Calls, Column, calls_of, profile_of};
 use lab_watch::{Watcher, watched_pipe};
 use mx_icache::LineCache;
 use mx_io::Memory;
@@ -32,15 +32,6 @@ fn column_given(matches: &ArgMatches) -> Column {
         "squashed" => Column::Squashed,
         "killed" => Column::Killed,
         _ => Column::Line,
-    }
-}
-
-// How a profiled run ended.
-fn status_of(profile: &Profile) -> Status {
-    if profile.halted {
-        Status::Done
-    } else {
-        Status::OutOfBudget
     }
 }
 
@@ -83,7 +74,7 @@ pub fn profile_reply<W: Watcher>(
     matches: &ArgMatches,
     run: &GivenRun,
     watcher: W,
-) -> Result<Reply, Memory> {
+) -> Result<Reply, Failure> {
     let program = &run.program;
     let profile = profile_of(
         alloc,
@@ -101,5 +92,5 @@ pub fn profile_reply<W: Watcher>(
         profile: &profile,
     };
     let text = text_of(alloc, matches, run, &subject, watcher);
-    printed(status_of(&profile), text)
+    printed(run_status(profile.halted), text)
 }

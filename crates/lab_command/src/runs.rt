@@ -11,11 +11,11 @@ ghost use Rattle.mx_isa.specs.Board.{board};
 
 use crate::given::{file_given, file_if_given, number_given};
 use clap::ArgMatches;
-use cmd_answer::Reply;
+use cmd_answer::Failure;
 use cmd_simulate::{read_input, read_requests};
 use cmd_source::{Program, read_program};
 use mx_board::Requests;
-use mx_io::{Memory, Shelf};
+use mx_io::Shelf;
 use std::alloc::Global;
 
 /// What comes to a run from outside: its interrupt requests and the bytes of its input.
@@ -53,11 +53,9 @@ fn stimulus_with<S: Shelf>(
     shelf: &mut S,
     matches: &ArgMatches,
     requests: Requests,
-) -> Result<Result<Stimulus, Reply>, Memory> {
-    match read_input(alloc, shelf, file_if_given(matches, "input"))? {
-        Ok(input) => Ok(Ok(Stimulus { requests, input })),
-        Err(reply) => Ok(Err(reply)),
-    }
+) -> Result<Stimulus, Failure> {
+    let input = read_input(alloc, shelf, file_if_given(matches, "input"))?;
+    Ok(Stimulus { requests, input })
 }
 
 /// The requests and the input that the words name, or the reply to the first of these files that is wrong.
@@ -65,11 +63,9 @@ pub fn read_stimulus<S: Shelf>(
     alloc: Global,
     shelf: &mut S,
     matches: &ArgMatches,
-) -> Result<Result<Stimulus, Reply>, Memory> {
-    match read_requests(alloc, shelf, file_if_given(matches, "interrupts"))? {
-        Ok(requests) => stimulus_with(alloc, shelf, matches, requests),
-        Err(reply) => Ok(Err(reply)),
-    }
+) -> Result<Stimulus, Failure> {
+    let requests = read_requests(alloc, shelf, file_if_given(matches, "interrupts"))?;
+    stimulus_with(alloc, shelf, matches, requests)
 }
 
 // A linked source with what the words give its run, or the reply to the first of these that is wrong.
@@ -78,18 +74,16 @@ fn run_with<S: Shelf>(
     shelf: &mut S,
     matches: &ArgMatches,
     program: Program,
-) -> Result<Result<GivenRun, Reply>, Memory>
+) -> Result<GivenRun, Failure>
     requires { IsLinked IsGreedy from_target program.source board program.linked }
-    ensures { IfOk result (λ r. IfOk r (λ run. IsLinked IsGreedy from_target run.program.source board run.program.linked)) }
+    ensures { IfOk result (λ run. IsLinked IsGreedy from_target run.program.source board run.program.linked) }
 {
-    match read_stimulus(alloc, shelf, matches)? {
-        Ok(stimulus) => Ok(Ok(GivenRun {
-            program,
-            stimulus,
-            budget: number_given(matches, "budget"),
-        })),
-        Err(reply) => Ok(Err(reply)),
-    }
+    let stimulus = read_stimulus(alloc, shelf, matches)?;
+    Ok(GivenRun {
+        program,
+        stimulus,
+        budget: number_given(matches, "budget"),
+    })
 }
 
 /// The source that the words name, linked, and what they give its run; or the reply to the first of these that is wrong.
@@ -97,11 +91,9 @@ pub fn read_run<S: Shelf>(
     alloc: Global,
     shelf: &mut S,
     matches: &ArgMatches,
-) -> Result<Result<GivenRun, Reply>, Memory>
-    ensures { IfOk result (λ r. IfOk r (λ run. IsLinked IsGreedy from_target run.program.source board run.program.linked)) }
+) -> Result<GivenRun, Failure>
+    ensures { IfOk result (λ run. IsLinked IsGreedy from_target run.program.source board run.program.linked) }
 {
-    match read_program(alloc, shelf, file_given(matches, "SOURCE"))? {
-        Ok(program) => run_with(alloc, shelf, matches, program),
-        Err(reply) => Ok(Err(reply)),
-    }
+    let program = read_program(alloc, shelf, file_given(matches, "SOURCE"))?;
+    run_with(alloc, shelf, matches, program)
 }

@@ -83,29 +83,38 @@ const INPUT: OptionRow = OptionRow {
 };
 
 // The form of what is printed.
-const TEXT_JSON: [&str; 2] = ["text", "json"];
+const TEXT_OR_JSON: Takes = Takes::Word {
+    called: "FORM",
+    words: &["text", "json"],
+    default: "text",
+};
 
-const TEXT_JSON_CSV: [&str; 3] = ["text", "json", "csv"];
+const TEXT_JSON_OR_CSV: Takes = Takes::Word {
+    called: "FORM",
+    words: &["text", "json", "csv"],
+    default: "text",
+};
 
-const PICTURES: [&str; 6] = ["text", "svg", "html", "json", "kanata", "vcd"];
+// The first of some cycles.
+const FIRST_CYCLE: Takes = Takes::Number {
+    default: Some("0"),
+    least: 0,
+    most: MOST_BUDGET,
+};
 
 const DRAW: [OptionRow; 6] = [
     OptionRow {
         name: "as",
         takes: Takes::Word {
             called: "FORM",
-            words: &PICTURES,
+            words: &["text", "svg", "html", "json", "kanata", "vcd"],
             default: "text",
         },
         help: "the form of the picture",
     },
     OptionRow {
         name: "from",
-        takes: Takes::Number {
-            default: Some("0"),
-            least: 0,
-            most: MOST_BUDGET,
-        },
+        takes: FIRST_CYCLE,
         help: "the first cycle that is drawn",
     },
     OptionRow {
@@ -130,11 +139,7 @@ const CHECK: [OptionRow; 3] = [
     },
     OptionRow {
         name: "as",
-        takes: Takes::Word {
-            called: "FORM",
-            words: &TEXT_JSON,
-            default: "text",
-        },
+        takes: TEXT_OR_JSON,
         help: "the form of what is found",
     },
     OptionRow {
@@ -151,11 +156,7 @@ const CHECK: [OptionRow; 3] = [
 const EXPLAIN: [OptionRow; 4] = [
     OptionRow {
         name: "as",
-        takes: Takes::Word {
-            called: "FORM",
-            words: &TEXT_JSON,
-            default: "text",
-        },
+        takes: TEXT_OR_JSON,
         help: "the form of what is told",
     },
     BUDGET,
@@ -201,11 +202,7 @@ const PROFILE: [OptionRow; 6] = [
 const COMPARE: [OptionRow; 4] = [
     OptionRow {
         name: "as",
-        takes: Takes::Word {
-            called: "FORM",
-            words: &TEXT_JSON_CSV,
-            default: "text",
-        },
+        takes: TEXT_JSON_OR_CSV,
         help: "the form of the comparison",
     },
     BUDGET,
@@ -215,11 +212,7 @@ const COMPARE: [OptionRow; 4] = [
 
 const DISASSEMBLE: [OptionRow; 1] = [OptionRow {
     name: "as",
-    takes: Takes::Word {
-        called: "FORM",
-        words: &TEXT_JSON,
-        default: "text",
-    },
+    takes: TEXT_OR_JSON,
     help: "the form of the listing",
 }];
 
@@ -267,11 +260,7 @@ const CACHES: [OptionRow; 6] = [
 const SWEEP: [OptionRow; 8] = [
     OptionRow {
         name: "from",
-        takes: Takes::Number {
-            default: Some("0"),
-            least: 0,
-            most: MOST_BUDGET,
-        },
+        takes: FIRST_CYCLE,
         help: "the first cycle in which a request comes",
     },
     OptionRow {
@@ -304,11 +293,7 @@ const SWEEP: [OptionRow; 8] = [
     },
     OptionRow {
         name: "as",
-        takes: Takes::Word {
-            called: "FORM",
-            words: &TEXT_JSON_CSV,
-            default: "text",
-        },
+        takes: TEXT_JSON_OR_CSV,
         help: "the form of what is told",
     },
     BUDGET,

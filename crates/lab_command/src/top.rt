@@ -14,7 +14,7 @@ use crate::trace::trace_reply;
 use crate::words::parse_words;
 use clap::error::ErrorKind;
 use clap::{ArgMatches, Error};
-use cmd_answer::{Reply, Status};
+use cmd_answer::{Failure, Reply, Status, replied};
 use lab_output::{Answer, Destination, Ended, failed, is_error, put_out};
 use lab_watch::Watcher;
 use mx_io::{Memory, Shelf, Sink};
@@ -35,14 +35,14 @@ fn run_reply<W: Watcher>(
     matches: &ArgMatches,
     run: &GivenRun,
     watcher: W,
-) -> Result<Reply, Memory> {
+) -> Result<Reply, Failure> {
     match name {
         "draw" => draw_reply(alloc, matches, run, watcher),
         "explain" => explain_reply(alloc, matches, run, watcher),
         "profile" => profile_reply(alloc, matches, run, watcher),
         "interrupts" => interrupts_reply(alloc, matches, run, watcher),
         "trace" => trace_reply(alloc, matches, run, watcher),
-        _ => Err(Memory),
+        _ => Err(Failure::Memory),
     }
 }
 
@@ -53,17 +53,17 @@ fn answered_by<S: Shelf, W: Watcher>(
     matches: &ArgMatches,
     shelf: &mut S,
     watcher: W,
-) -> Result<Reply, Memory> {
+) -> Result<Reply, Failure> {
     match name {
         "check" => check_reply(alloc, shelf, matches),
         "compare" => compare_reply(alloc, shelf, matches, watcher),
         "disassemble" => disassemble_reply(alloc, shelf, matches),
         "caches" => caches_reply(alloc, shelf, matches, watcher),
         "plans" => plans_reply(alloc, shelf, matches, watcher),
-        _ => match read_run(alloc, shelf, matches)? {
-            Ok(run) => run_reply(alloc, name, matches, &run, watcher),
-            Err(reply) => Ok(reply),
-        },
+        _ => {
+            let run = read_run(alloc, shelf, matches)?;
+            run_reply(alloc, name, matches, &run, watcher)
+        }
     }
 }
 
@@ -139,7 +139,7 @@ fn answer_to<'a, S: Shelf, T: Watcher, C: Causes>(
     match parse_words(alloc, words) {
         Ok(matches) => match matches.subcommand() {
             Some((name, found)) => {
-                let reply = answered_by(alloc, name, found, shelf, watcher)?;
+                let reply = replied(answered_by(alloc, name, found, shelf, watcher))?;
                 answer_of(alloc, name, found, reply, causes)
             }
             None => Err(Memory),

@@ -1,8 +1,9 @@
 //! The reply of `trace`.
 use crate::given::word_given;
+use crate::printed::run_status;
 use crate::runs::GivenRun;
 use clap::ArgMatches;
-use cmd_answer::{Reply, Status};
+use cmd_answer::{Failure, Reply};
 use lab_trace::{Traced, trace_of};
 use lab_watch::{Watcher, watched_pipe};
 use mx_icache::LineCache;
@@ -31,26 +32,17 @@ fn traced_run<W: Watcher>(
     )
 }
 
-// The reply that prints a trace.
-fn traced_reply(traced: Traced) -> Reply {
-    let status = if traced.halted {
-        Status::Done
-    } else {
-        Status::OutOfBudget
-    };
-    Reply::Prints {
-        status,
-        output: traced.text,
-    }
-}
-
 /// The reply to `trace SOURCE`.
 pub fn trace_reply<W: Watcher>(
     alloc: Global,
     matches: &ArgMatches,
     run: &GivenRun,
     watcher: W,
-) -> Result<Reply, Memory> {
+) -> Result<Reply, Failure> {
     let source = word_given(matches, "SOURCE");
-    traced_run(alloc, source, run, watcher).map(traced_reply)
+    let Traced { text, halted } = traced_run(alloc, source, run, watcher)?;
+    Ok(Reply::Prints {
+        status: run_status(halted),
+        output: text,
+    })
 }

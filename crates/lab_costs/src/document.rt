@@ -4,7 +4,9 @@ use crate::rows::{Row, rows_by};
 use crate::shown::text_of;
 use crate::spent::spent_in;
 use crate::subject::Subject;
-use lab_json::{document_text, write_flag, write_numbers, write_object, write_text};
+use lab_json::{
+    Value, document_text, write_members, write_numbers, write_object, write_record, write_text,
+};
 use lab_profile::{Column, LineCost, Spent};
 use mx_io::Memory;
 use mx_isa::CODE_BASE;
@@ -46,36 +48,9 @@ fn parts_of(on: Spent) -> [(&'static str, u64); 6] {
     ]
 }
 
-// The line of a part of a source, and what it cost.
-fn costs_of(line: u32, cost: &LineCost) -> [(&'static str, u64); 8] {
-    [
-        ("line", u64::from(line)),
-        ("count", cost.executed),
-        ("cycles", cost.cycles),
-        ("stalls", cost.stalls),
-        ("noops", cost.noops),
-        ("squashed", cost.cancelled),
-        ("killed", cost.killed),
-        ("squashes", cost.squashes),
-    ]
-}
-
-// An entry of a list, 0 past its end.
-fn entry(list: &[u64], at: usize) -> u64 {
-    list.get(at).copied().unwrap_or(0)
-}
-
-// The line of a word of the code, and what was counted at it.
-fn word_counts(subject: &Subject, place: usize, line: u32) -> [(&'static str, u64); 6] {
-    let tally = &subject.profile.tally;
-    [
-        ("line", u64::from(line)),
-        ("fetches", entry(tally.fetches.as_slice(), place)),
-        ("cycles", entry(tally.cycles.as_slice(), place)),
-        ("executed", entry(tally.executed.as_slice(), place)),
-        ("squashed", entry(tally.cancelled.as_slice(), place)),
-        ("squashes", entry(tally.squashes.as_slice(), place)),
-    ]
+// What was counted at a word of the code, 0 past its end.
+fn counted(list: &[u64], place: usize) -> Value<'static> {
+    Value::Number(list.get(place).copied().unwrap_or(0))
 }
 
 // The address of a word of the code.
@@ -93,12 +68,25 @@ fn word_of(by: By) -> &'static str {
     }
 }
 
-// Writes the name of a part of a source.
-fn write_name<S: Serializer>(alloc: Global, out: &mut S, name: &[u8]) -> Result<(), S::Error> {
-    match text_of(alloc, name) {
-        Ok(name) => write_text(out, "name", name.as_str()),
-        Err(_) => Err(out.custom("out of memory")),
-    }
+// Writes a part of a source of this name, with what it cost.
+fn write_named<S: Serializer>(
+    out: &mut S,
+    name: &str,
+    line: u32,
+    cost: &LineCost,
+) -> Result<(), S::Error> {
+    let members = [
+        ("name", Value::Text(name)),
+        ("line", Value::Number(u64::from(line))),
+        ("count", Value::Number(cost.executed)),
+        ("cycles", Value::Number(cost.cycles)),
+        ("stalls", Value::Number(cost.stalls)),
+        ("noops", Value::Number(cost.noops)),
+        ("squashed", Value::Number(cost.cancelled)),
+        ("killed", Value::Number(cost.killed)),
+        ("squashes", Value::Number(cost.squashes)),
+    ];
+    write_record(out, &members)
 }
 
 // Writes a part of a source, with what it cost.
@@ -109,10 +97,10 @@ fn write_row<S: Serializer>(
     line: u32,
     cost: &LineCost,
 ) -> Result<(), S::Error> {
-    out.begin_map(Some(9))?;
-    write_name(alloc, out, name)?;
-    write_numbers(out, &costs_of(line, cost))?;
-    out.end_map()
+    match text_of(alloc, name) {
+        Ok(name) => write_named(out, name.as_str(), line, cost),
+        Err(_) => Err(out.custom("out of memory")),
+    }
 }
 
 // Writes a word of the code that comes from there, with what was counted at it.
@@ -127,11 +115,18 @@ fn write_word<S: Serializer>(
         Origin::Copy(statement) => ("copy", subject.line_of(statement)),
         Origin::Pad => ("noop", 0),
     };
-    out.begin_map(Some(8))?;
-    write_numbers(out, &[("address", u64::from(address_of(place)))])?;
-    write_text(out, "kind", kind)?;
-    write_numbers(out, &word_counts(subject, place, line))?;
-    out.end_map()
+    let tally = &subject.profile.tally;
+    let members = [
+        ("address", Value::Number(u64::from(address_of(place)))),
+        ("kind", Value::Text(kind)),
+        ("line", Value::Number(u64::from(line))),
+        ("fetches", counted(&tally.fetches, place)),
+        ("cycles", counted(&tally.cycles, place)),
+        ("executed", counted(&tally.executed, place)),
+        ("squashed", counted(&tally.cancelled, place)),
+        ("squashes", counted(&tally.squashes, place)),
+    ];
+    write_record(out, &members)
 }
 
 // Writes the parts of the source.
@@ -164,19 +159,32 @@ fn write_words<S: Serializer>(subject: &Subject, out: &mut S) -> Result<(), S::E
     out.end_seq()
 }
 
+// Writes what the run is, and its counts.
+fn write_front<S: Serializer>(out: &mut S, subject: &Subject) -> Result<(), S::Error> {
+    let profile = subject.profile;
+    let members = [
+        ("command", Value::Text("profile")),
+        ("source", Value::Text(subject.file)),
+        ("halted", Value::Flag(profile.halted)),
+    ];
+    write_members(out, &members)?;
+    write_object(out, "counts", &counts_of(&profile.counts))?;
+    write_numbers(out, &[("waiting", profile.waiting)])
+}
+
+// Writes what the cycles were spent on, and by which parts costs are told.
+fn write_spent<S: Serializer>(out: &mut S, spent: Spent, by: By) -> Result<(), S::Error> {
+    write_object(out, "spent", &parts_of(spent))?;
+    write_text(out, "by", word_of(by))
+}
+
 impl Described for Document<'_> {}
 
 impl Serialize for Document<'_> {
     fn serialize<S: Serializer>(&self, out: &mut S) -> Result<(), S::Error> {
-        let profile = self.subject.profile;
         out.begin_map(Some(11))?;
-        write_text(out, "command", "profile")?;
-        write_text(out, "source", self.subject.file)?;
-        write_flag(out, "halted", profile.halted)?;
-        write_object(out, "counts", &counts_of(&profile.counts))?;
-        write_numbers(out, &[("waiting", profile.waiting)])?;
-        write_object(out, "spent", &parts_of(self.spent))?;
-        write_text(out, "by", word_of(self.by))?;
+        write_front(out, &self.subject)?;
+        write_spent(out, self.spent, self.by)?;
         write_rows(self, out)?;
         write_rest(self, out)?;
         write_words(&self.subject, out)?;

@@ -274,18 +274,22 @@ fn push_head(text: &mut Vec<u8>, by: By) -> Result<(), AllocError> {
     text.extend_from_slice(named_by(by).as_bytes())
 }
 
-// Appends the rows of the parts of the source, where these are the costs of the statements.
-fn push_table(
-    alloc: Global,
-    text: &mut Vec<u8>,
-    subject: &Subject,
-    costs: &[LineCost],
+/// What a run cost, and how that is printed.
+#[derive(Clone, Copy)]
+struct Table<'a> {
+    subject: &'a Subject<'a>,
+    /// The costs of its statements.
+    costs: &'a [LineCost],
     by: By,
     column: Column,
-) -> Result<(), AllocError> {
+}
+
+// Appends the rows of the parts of the source.
+fn push_table(alloc: Global, text: &mut Vec<u8>, table: &Table) -> Result<(), AllocError> {
+    let (subject, costs) = (table.subject, table.costs);
     let all = subject.together(costs).cycles;
-    let rows = rows_by(alloc, subject, costs, by, column)?;
-    if by == By::Line && column == Column::Line {
+    let rows = rows_by(alloc, subject, costs, table.by, table.column)?;
+    if table.by == By::Line && table.column == Column::Line {
         return push_source(alloc, text, subject, rows.as_slice(), all);
     }
     for row in rows.iter() {
@@ -295,16 +299,19 @@ fn push_table(
 }
 
 // Appends what stands behind the table.
-fn push_end(
-    alloc: Global,
-    text: &mut Vec<u8>,
-    subject: &Subject,
-    costs: &[LineCost],
-) -> Result<(), AllocError> {
+fn push_end(alloc: Global, text: &mut Vec<u8>, table: &Table) -> Result<(), AllocError> {
+    let (subject, costs) = (table.subject, table.costs);
     let together = subject.together(costs);
     push_rest(alloc, text, subject, together)?;
     push_spent(alloc, text, spent_in(subject, costs))?;
     push_sums(alloc, text, subject.profile, together.noops)
+}
+
+// Appends all of it.
+fn push_profile(alloc: Global, text: &mut Vec<u8>, table: &Table) -> Result<(), AllocError> {
+    push_head(text, table.by)?;
+    push_table(alloc, text, table)?;
+    push_end(alloc, text, table)
 }
 
 /// What a run cost, by parts of its source in the order of a column, and the sums.
@@ -315,10 +322,13 @@ pub fn profile_text(
     column: Column,
 ) -> Result<Vec<u8>, AllocError> {
     let costs = subject.statement_costs(alloc)?;
-    let costs = costs.as_slice();
     let mut text = Vec::new(alloc);
-    push_head(&mut text, by)?;
-    push_table(alloc, &mut text, subject, costs, by, column)?;
-    push_end(alloc, &mut text, subject, costs)?;
+    let table = Table {
+        subject,
+        costs: costs.as_slice(),
+        by,
+        column,
+    };
+    push_profile(alloc, &mut text, &table)?;
     Ok(text)
 }

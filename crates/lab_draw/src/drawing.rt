@@ -1,7 +1,6 @@
 //! Recording a run.
 ghost use Rattle.std.specs.Prelude.{◌≡◌, ◌≤◌, ◌<◌, ◌+◌, ◌-◌, ◌++◌, ◌∷◌, ◌^◌, [], List, ℕ, Bool, false, Some, None, IfOk, cond, leb, length, min, slice_index};
 ghost use Rattle.mx_isa.specs.declared.board.TheConstants.{DATA_END};
-ghost use Rattle.mx_isa.specs.Words.{reg};
 ghost use Rattle.mx_turn.specs.Program.{Program, state_after};
 ghost use Rattle.mx_turn.specs.Run.{bits, console_after};
 ghost use Rattle.lab_draw.specs.Frames.{data_word, IsFrameOf, AreFrames, IsDrawing};
@@ -9,8 +8,8 @@ ghost use Rattle.lab_draw.specs.Frames.{data_word, IsFrameOf, AreFrames, IsDrawi
 use crate::Frame;
 use mx_board::Requests;
 use mx_io::Memory;
-use mx_isa::{DATA_END, Reg};
-use mx_report::{Observer, Reached, observe};
+use mx_isa::DATA_END;
+use mx_report::{Observer, Reached, observe, registers_of};
 use mx_text::push_byte;
 use mx_turn::{Cycled, Machine};
 use std::alloc::{AllocError, Global};
@@ -25,28 +24,6 @@ pub struct Drawing {
     pub frames: Vec<Frame>,
     /// How many cycles the run has, where it halts within its budget.
     pub end: Option<u32>,
-}
-
-// A register of a machine.
-fn register_at<M: Machine>(machine: &M, n: u8) -> u32
-    requires { n ≤ 31 }
-    ensures { (p : Program) (h : List Bool) → M.stands machine.now p h → result ≡ reg (state_after p h).core.regs n }
-{
-    match Reg::new(n) {
-        Some(register) => machine.register(register),
-        None => 0,
-    }
-}
-
-// The registers of a machine.
-fn registers_of<M: Machine>(machine: &M) -> [u32; 32]
-    ensures { (p : Program) (h : List Bool) → M.stands machine.now p h → (k : ℕ) → k < 32 → slice_index result k ≡ reg (state_after p h).core.regs k }
-{
-    let mut registers = [0; 32];
-    for n in 0..32u8 {
-        registers[n as usize] = register_at(machine, n);
-    }
-    registers
 }
 
 // One cycle, with a request or not.

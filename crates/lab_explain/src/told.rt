@@ -1,8 +1,6 @@
 //! A run and a meaning, in words.
 use super::advice::{advice_of, name_of, reason_of};
-use lab_json::{
-    push_record, write_flag, write_number_or_null, write_numbers, write_text, write_text_or_null,
-};
+use lab_json::{Value, push_record, write_record};
 use lab_measures::{Ran, Standing};
 use lab_terms::{Verdict, enough, verdict_of};
 use mx_source::Why;
@@ -216,29 +214,28 @@ fn verdict_word(verdict: Verdict) -> &'static str {
     }
 }
 
-// Writes the steps of the meaning, and the run.
-fn write_run<S: Serializer>(out: &mut S, explained: &Explained) -> Result<(), S::Error> {
-    let run = [
-        ("statements", u64::from(explained.standing.progress.steps)),
-        ("cycles", explained.ran.cycles),
-    ];
-    let given = [
-        ("budget", u64::from(explained.budget)),
-        ("requests", u64::from(explained.requests)),
-    ];
-    write_numbers(out, &run)?;
-    write_flag(out, "halted", explained.ran.halted)?;
-    write_numbers(out, &given)?;
-    write_number_or_null(out, "enough", explained.enough())
+// A text, or null.
+fn text_or_null(text: Option<&'static str>) -> Value<'static> {
+    match text {
+        Some(text) => Value::Text(text),
+        None => Value::Null,
+    }
 }
 
-// Writes where and why a meaning is stuck, if it is.
-fn write_why<S: Serializer>(out: &mut S, line: u32, why: Option<Why>) -> Result<(), S::Error> {
-    let line = (why.is_some() && line > 0).then_some(u64::from(line));
-    write_number_or_null(out, "line", line)?;
-    write_text_or_null(out, "why", why.map(name_of))?;
-    write_text_or_null(out, "message", why.map(reason_of))?;
-    write_text_or_null(out, "hint", why.map(advice_of))
+// A number, or null.
+fn number_or_null(number: Option<u64>) -> Value<'static> {
+    match number {
+        Some(number) => Value::Number(number),
+        None => Value::Null,
+    }
+}
+
+// The line of a statement at which a meaning is stuck, if there is one.
+fn line_if(line: u32, why: Option<Why>) -> Option<u64> {
+    match why {
+        Some(_) if line > 0 => Some(u64::from(line)),
+        _ => None,
+    }
 }
 
 impl Described for Explained<'_> {}
@@ -250,12 +247,22 @@ impl Serialize for Explained<'_> {
             Verdict::Stuck(why) => Some(why),
             _ => None,
         };
-        out.begin_map(Some(12))?;
-        write_text(out, "file", self.file)?;
-        write_text(out, "verdict", verdict_word(verdict))?;
-        write_run(out, self)?;
-        write_why(out, self.line, why)?;
-        out.end_map()
+        let steps = self.standing.progress.steps;
+        let members = [
+            ("file", Value::Text(self.file)),
+            ("verdict", Value::Text(verdict_word(verdict))),
+            ("statements", Value::Number(u64::from(steps))),
+            ("cycles", Value::Number(self.ran.cycles)),
+            ("halted", Value::Flag(self.ran.halted)),
+            ("budget", Value::Number(u64::from(self.budget))),
+            ("requests", Value::Number(u64::from(self.requests))),
+            ("enough", number_or_null(self.enough())),
+            ("line", number_or_null(line_if(self.line, why))),
+            ("why", text_or_null(why.map(name_of))),
+            ("message", text_or_null(why.map(reason_of))),
+            ("hint", text_or_null(why.map(advice_of))),
+        ];
+        write_record(out, &members)
     }
 }
 

@@ -5,7 +5,7 @@ mod members;
 mod texts;
 
 pub use members::{
-    write_flag, write_number_if_any, write_number_or_null, write_numbers, write_object, write_text,
-    write_text_or_null,
+    Value, write_flag, write_members, write_number_if_any, write_number_or_null, write_numbers,
+    write_object, write_record, write_text, write_text_or_null,
 };
 pub use texts::{document_text, push_record};

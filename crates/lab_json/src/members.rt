@@ -1,6 +1,78 @@
 //! Members of objects, as they are written.
 use serde::Serializer;
 
+/// What a member is.
+#[derive(Clone, Copy)]
+pub enum Value<'a> {
+    Null,
+    Flag(bool),
+    Number(u64),
+    Signed(i64),
+    Text(&'a str),
+    /// A list of numbers.
+    Numbers(&'a [u64]),
+    /// An object of numbers.
+    Object(&'a [(&'a str, u64)]),
+}
+
+impl Value<'_> {
+    /// A number with a sign, or null.
+    pub fn signed(number: Option<i64>) -> Value<'static> {
+        match number {
+            Some(number) => Value::Signed(number),
+            None => Value::Null,
+        }
+    }
+}
+
+// Writes a list of numbers.
+fn write_list<S: Serializer>(out: &mut S, numbers: &[u64]) -> Result<(), S::Error> {
+    out.begin_seq(Some(numbers.len()))?;
+    for number in numbers {
+        out.u64(*number)?;
+    }
+    out.end_seq()
+}
+
+// Writes an object of numbers.
+fn write_numbered<S: Serializer>(out: &mut S, numbers: &[(&str, u64)]) -> Result<(), S::Error> {
+    out.begin_map(Some(numbers.len()))?;
+    write_numbers(out, numbers)?;
+    out.end_map()
+}
+
+// Writes a value.
+fn write_value<S: Serializer>(out: &mut S, value: Value) -> Result<(), S::Error> {
+    match value {
+        Value::Null => out.unit(),
+        Value::Flag(flag) => out.bool(flag),
+        Value::Number(number) => out.u64(number),
+        Value::Signed(number) => out.i64(number),
+        Value::Text(text) => out.str(text),
+        Value::Numbers(numbers) => write_list(out, numbers),
+        Value::Object(numbers) => write_numbered(out, numbers),
+    }
+}
+
+/// Writes members.
+pub fn write_members<S: Serializer>(
+    out: &mut S,
+    members: &[(&str, Value)],
+) -> Result<(), S::Error> {
+    for (name, value) in members {
+        out.key(*name)?;
+        write_value(out, *value)?;
+    }
+    Ok(())
+}
+
+/// Writes an object of these members.
+pub fn write_record<S: Serializer>(out: &mut S, members: &[(&str, Value)]) -> Result<(), S::Error> {
+    out.begin_map(Some(members.len()))?;
+    write_members(out, members)?;
+    out.end_map()
+}
+
 /// Writes a member that is a text.
 pub fn write_text<S: Serializer>(out: &mut S, name: &str, text: &str) -> Result<(), S::Error> {
     out.key(name)?;
@@ -67,7 +139,5 @@ pub fn write_object<S: Serializer>(
     numbers: &[(&str, u64)],
 ) -> Result<(), S::Error> {
     out.key(name)?;
-    out.begin_map(Some(numbers.len()))?;
-    write_numbers(out, numbers)?;
-    out.end_map()
+    write_numbered(out, numbers)
 }

@@ -1,17 +1,24 @@
 //! A drawing as a text of 100 columns, in bands of sixteen cycles.
 use crate::ending::push_ending;
-use crate::label::{label_of, push_fitted};
+use crate::label::{push_address, push_fitted_word, push_origin};
 use crate::marks::{cell_of, end_of, stage_name, without};
 use crate::subject::Subject;
+use crate::whole::bytes_of;
 use lab_draw::{Cell, Frame, Row};
 use mx_io::Memory;
 use std::alloc::{AllocError, Global};
+use std::ops::Range;
 
 /// The cycles of a band.
 const COLUMNS: usize = 16;
 
 /// The signs of a word at most.
 const WORD: usize = 20;
+
+/// What two lines begin with.
+const INTERRUPTS: &str = "interrupts";
+
+const CONSOLE: &str = "console";
 
 // What a cell shows, in at most four bytes.
 fn push_cell(line: &mut String, cell: Cell) -> Result<(), AllocError> {
@@ -51,28 +58,76 @@ fn is_seen(row: &Row, begins: usize, count: usize) -> bool {
     seen
 }
 
+// Appends the word at an address, and blanks up to the next column.
+fn push_word_column(
+    alloc: Global,
+    line: &mut String,
+    subject: &Subject,
+    address: Option<u32>,
+) -> Result<(), AllocError> {
+    let mut word = String::new(alloc);
+    push_fitted_word(alloc, &mut word, subject, address, WORD)?;
+    write!(line, " {word:<20} ")
+}
+
+// Appends where the word at an address comes from, behind blanks.
+fn push_origin_column(
+    alloc: Global,
+    line: &mut String,
+    subject: &Subject,
+    address: Option<u32>,
+) -> Result<(), AllocError> {
+    let mut origin = String::new(alloc);
+    push_origin(&mut origin, subject, address)?;
+    write!(line, "{origin:>5} ")
+}
+
+// Appends the label of a row, and its cells in a band.
+fn push_columns(
+    alloc: Global,
+    line: &mut String,
+    subject: &Subject,
+    row: &Row,
+    band: Range<usize>,
+) -> Result<(), AllocError> {
+    push_address(line, row.address)?;
+    push_word_column(alloc, line, subject, row.address)?;
+    push_origin_column(alloc, line, subject, row.address)?;
+    for place in band {
+        push_cell(line, cell_of(row, place))?;
+    }
+    Ok(())
+}
+
 // Appends the line of a row in a band.
 fn push_row(
     alloc: Global,
     text: &mut String,
     subject: &Subject,
     row: &Row,
-    begins: usize,
-    count: usize,
+    band: Range<usize>,
 ) -> Result<(), AllocError> {
-    let label = label_of(alloc, subject, row.address)?;
-    let (address, origin) = (&label.address, &label.origin);
-    let mut word = String::new(alloc);
-    push_fitted(&mut word, label.word.as_str(), WORD)?;
     let mut line = String::new(alloc);
-    write!(line, "{address} {word:<20} {origin:>5} ")?;
-    for place in begins..begins.saturating_add(count) {
-        push_cell(&mut line, cell_of(row, place))?;
-    }
+    push_columns(alloc, &mut line, subject, row, band)?;
     end_line(text, line.as_str())
 }
 
-// Appends the line of the cycles' numbers, of which the last three digits are shown.
+// Appends what stands before the cycles' numbers.
+fn push_title(alloc: Global, line: &mut String, first: u64, last: u64) -> Result<(), AllocError> {
+    let title = format!(in alloc; "cycles {first} to {last}")?;
+    write!(line, "{title:<36}")
+}
+
+// Appends the cycles' numbers, of which the last three digits are shown.
+fn push_digits(line: &mut String, first: u64, last: u64) -> Result<(), AllocError> {
+    for cycle in first..=last {
+        let digits = cycle % 1000;
+        write!(line, "{digits:<4}")?;
+    }
+    Ok(())
+}
+
+// Appends the line of the cycles' numbers.
 fn push_numbers(
     alloc: Global,
     text: &mut String,
@@ -80,13 +135,9 @@ fn push_numbers(
     count: usize,
 ) -> Result<(), AllocError> {
     let last = first.saturating_add(count as u64).saturating_sub(1);
-    let title = format!(in alloc; "cycles {first} to {last}")?;
     let mut line = String::new(alloc);
-    write!(line, "{title:<36}")?;
-    for cycle in first..=last {
-        let digits = cycle % 1000;
-        write!(line, "{digits:<4}")?;
-    }
+    push_title(alloc, &mut line, first, last)?;
+    push_digits(&mut line, first, last)?;
     end_line(text, line.as_str())
 }
 
@@ -117,33 +168,45 @@ fn push_sent(line: &mut String, frame: &Frame) -> Result<(), AllocError> {
     }
 }
 
-// Appends the lines of requests and interrupts, and of the console, where there is something to tell.
+// Appends the columns of requests and interrupts.
+fn push_interrupts(line: &mut String, frames: &[Frame]) -> Result<(), AllocError> {
+    write!(line, "{INTERRUPTS:<36}")?;
+    for frame in frames {
+        push_event(line, frame)?;
+    }
+    Ok(())
+}
+
+// Appends the columns of the bytes that were sent.
+fn push_console(line: &mut String, frames: &[Frame]) -> Result<(), AllocError> {
+    write!(line, "{CONSOLE:<36}")?;
+    for frame in frames {
+        push_sent(line, frame)?;
+    }
+    Ok(())
+}
+
+// Appends the line of requests and interrupts, where there is one.
 fn push_events(alloc: Global, text: &mut String, frames: &[Frame]) -> Result<(), AllocError> {
-    if frames
+    if !frames
         .iter()
         .any(|frame| frame.requested || frame.cycled.taken)
     {
-        let mut line = String::new(alloc);
-        write!(line, "{:<36}", "interrupts")?;
-        for frame in frames {
-            push_event(&mut line, frame)?;
-        }
-        end_line(text, line.as_str())?;
+        return Ok(());
     }
-    push_console(alloc, text, frames)
+    let mut line = String::new(alloc);
+    push_interrupts(&mut line, frames)?;
+    end_line(text, line.as_str())
 }
 
 // Appends the line of the console, where a byte was sent.
-fn push_console(alloc: Global, text: &mut String, frames: &[Frame]) -> Result<(), AllocError> {
-    if frames.iter().any(|frame| frame.cycled.byte.is_some()) {
-        let mut line = String::new(alloc);
-        write!(line, "{:<36}", "console")?;
-        for frame in frames {
-            push_sent(&mut line, frame)?;
-        }
-        end_line(text, line.as_str())?;
+fn push_bytes(alloc: Global, text: &mut String, frames: &[Frame]) -> Result<(), AllocError> {
+    if !frames.iter().any(|frame| frame.cycled.byte.is_some()) {
+        return Ok(());
     }
-    Ok(())
+    let mut line = String::new(alloc);
+    push_console(&mut line, frames)?;
+    end_line(text, line.as_str())
 }
 
 // Appends the lines of the rows in a band.
@@ -155,12 +218,13 @@ fn push_rows(
     begins: usize,
     count: usize,
 ) -> Result<(), AllocError> {
+    let end = begins.saturating_add(count);
     for row in rows {
-        if row.begins >= begins.saturating_add(count) {
+        if row.begins >= end {
             return Ok(());
         }
         if is_seen(row, begins, count) {
-            push_row(alloc, text, subject, row, begins, count)?;
+            push_row(alloc, text, subject, row, begins..end)?;
         }
     }
     Ok(())
@@ -171,26 +235,41 @@ fn ended_before(rows: &[Row], place: usize) -> usize {
     rows.iter().take_while(|row| end_of(row) <= place).count()
 }
 
-// The whole text.
-fn text_of(alloc: Global, subject: &Subject, rows: &[Row]) -> Result<String, AllocError> {
-    let mut text = String::new(alloc);
+// Appends the bands.
+fn push_bands(
+    alloc: Global,
+    text: &mut String,
+    subject: &Subject,
+    rows: &[Row],
+) -> Result<(), AllocError> {
     let frames = subject.drawing.frames.as_slice();
     let mut left = rows;
     for (band, shown) in frames.chunks(COLUMNS).enumerate() {
         let begins = band.saturating_mul(COLUMNS);
         left = without(left, ended_before(left, begins));
         let first = u64::from(subject.from).saturating_add(begins as u64);
-        push_numbers(alloc, &mut text, first, shown.len())?;
-        push_events(alloc, &mut text, shown)?;
-        push_rows(alloc, &mut text, subject, left, begins, shown.len())?;
+        push_numbers(alloc, text, first, shown.len())?;
+        push_events(alloc, text, shown)?;
+        push_bytes(alloc, text, shown)?;
+        push_rows(alloc, text, subject, left, begins, shown.len())?;
         text.push('\n')?;
     }
+    Ok(())
+}
+
+// Appends the whole text.
+fn push_text(
+    alloc: Global,
+    text: &mut String,
+    subject: &Subject,
+    rows: &[Row],
+) -> Result<(), AllocError> {
+    push_bands(alloc, text, subject, rows)?;
     text.push_str(
         "IF RF ALU MEM WB: the stages; .. waits for the cache; * squashed; ! killed by an interrupt\n",
     )?;
-    push_ending(&mut text, subject)?;
-    text.push('\n')?;
-    Ok(text)
+    push_ending(text, subject)?;
+    text.push('\n')
 }
 
 /// A drawing as a text of 100 columns: bands of sixteen cycles, a row a fetch, a cell a cycle.
@@ -199,8 +278,7 @@ fn text_of(alloc: Global, subject: &Subject, rows: &[Row]) -> Result<String, All
 ///
 /// `Memory` where there is no room for it.
 pub fn text(alloc: Global, subject: &Subject, rows: &[Row]) -> Result<Vec<u8>, Memory> {
-    match text_of(alloc, subject, rows) {
-        Ok(text) => Ok(text.into_bytes()),
-        Err(_) => Err(Memory),
-    }
+    let mut text = String::new(alloc);
+    let written = push_text(alloc, &mut text, subject, rows);
+    bytes_of(text, written)
 }

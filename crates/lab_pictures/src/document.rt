@@ -5,26 +5,31 @@ use crate::page::{body, data_end, head, panels, tail, title_end};
 use crate::script::script;
 use crate::style::style;
 use crate::subject::Subject;
+use crate::whole::bytes_of;
 use lab_draw::Row;
 use mx_io::Memory;
 use std::alloc::{AllocError, Global};
 
-// The whole page.
-fn page_of(alloc: Global, subject: &Subject, rows: &[Row]) -> Result<String, AllocError> {
-    let mut text = String::new(alloc);
+// Appends what stands before the data.
+fn push_front(text: &mut String, name: &str) -> Result<(), AllocError> {
     text.push_str(head())?;
-    push_escaped(&mut text, subject.name())?;
-    text.push_str(title_end())?;
-    text.push_str(style())?;
-    text.push_str(body())?;
-    push_escaped(&mut text, subject.name())?;
-    text.push_str(panels())?;
+    push_escaped(text, name)?;
+    for part in [title_end(), style(), body()] {
+        text.push_str(part)?;
+    }
+    push_escaped(text, name)?;
+    text.push_str(panels())
+}
+
+// Appends the whole page.
+fn push_page(text: &mut String, subject: &Subject, rows: &[Row]) -> Result<(), AllocError> {
+    push_front(text, subject.name())?;
     text.push('{')?;
-    push_members(alloc, &mut text, subject, rows)?;
-    text.push_str(data_end())?;
-    text.push_str(script())?;
-    text.push_str(tail())?;
-    Ok(text)
+    push_members(text, subject, rows)?;
+    for part in [data_end(), script(), tail()] {
+        text.push_str(part)?;
+    }
+    Ok(())
 }
 
 /// A drawing as a page of HTML that needs no server and no network: the data of the run, and a script that draws what is in
@@ -34,8 +39,7 @@ fn page_of(alloc: Global, subject: &Subject, rows: &[Row]) -> Result<String, All
 ///
 /// `Memory` where there is no room for it.
 pub fn html(alloc: Global, subject: &Subject, rows: &[Row]) -> Result<Vec<u8>, Memory> {
-    match page_of(alloc, subject, rows) {
-        Ok(text) => Ok(text.into_bytes()),
-        Err(_) => Err(Memory),
-    }
+    let mut text = String::new(alloc);
+    let written = push_page(&mut text, subject, rows);
+    bytes_of(text, written)
 }

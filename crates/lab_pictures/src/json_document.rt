@@ -1,6 +1,7 @@
 //! A drawing as JSON.
 use crate::members::{push_members, push_string};
 use crate::subject::Subject;
+use crate::whole::bytes_of;
 use lab_draw::Row;
 use mx_io::Memory;
 use std::alloc::{AllocError, Global};
@@ -16,17 +17,15 @@ fn push_halt(text: &mut String, subject: &Subject) -> Result<(), AllocError> {
     }
 }
 
-// The whole document: what the page does not need as numbers, and its data.
-fn document_of(alloc: Global, subject: &Subject, rows: &[Row]) -> Result<String, AllocError> {
-    let mut text = String::new(alloc);
+// Appends the whole document: what the page does not need as numbers, and its data.
+fn push_document(text: &mut String, subject: &Subject, rows: &[Row]) -> Result<(), AllocError> {
     let budget = subject.budget;
     text.push_str("{\"command\":\"draw\",\"file\":")?;
-    push_string(&mut text, subject.name().as_bytes())?;
+    push_string(text, subject.name().as_bytes())?;
     write!(text, ",\"budget\":{budget},\"halts\":")?;
-    push_halt(&mut text, subject)?;
+    push_halt(text, subject)?;
     text.push_str(",\n")?;
-    push_members(alloc, &mut text, subject, rows)?;
-    Ok(text)
+    push_members(text, subject, rows)
 }
 
 /// A drawing as one document of JSON: the members that the page of `html` holds, and before them the file, the budget, and the
@@ -36,8 +35,7 @@ fn document_of(alloc: Global, subject: &Subject, rows: &[Row]) -> Result<String,
 ///
 /// `Memory` where there is no room for it.
 pub fn json(alloc: Global, subject: &Subject, rows: &[Row]) -> Result<Vec<u8>, Memory> {
-    match document_of(alloc, subject, rows) {
-        Ok(text) => Ok(text.into_bytes()),
-        Err(_) => Err(Memory),
-    }
+    let mut text = String::new(alloc);
+    let written = push_document(&mut text, subject, rows);
+    bytes_of(text, written)
 }

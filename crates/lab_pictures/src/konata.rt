@@ -1,25 +1,27 @@
 //! A drawing in the format Kanata 0004, which the Konata viewer reads.
-use crate::label::label_of;
+use crate::label::{push_address, push_origin, push_word};
 use crate::marks::{cell_of, end_of, is_shown, stage_name, without};
 use crate::subject::Subject;
+use crate::whole::bytes_of;
 use lab_draw::{Cell, Row};
 use mx_io::Memory;
 use std::alloc::{AllocError, Global};
 
 // Appends the lines with which an instruction comes in: its number, and its label.
 fn push_begin(
-    alloc: Global,
     text: &mut String,
     subject: &Subject,
     row: &Row,
     number: usize,
 ) -> Result<(), AllocError> {
-    let label = label_of(alloc, subject, row.address)?;
     let fetch = row.fetch;
-    let (address, word, origin) = (&label.address, &label.word, &label.origin);
-    write!(text, "I\t{number}\t{fetch}\t0\n")?;
-    write!(text, "L\t{number}\t0\t{address}: {word}\n")?;
-    write!(text, "L\t{number}\t1\tline {origin}\n")
+    write!(text, "I\t{number}\t{fetch}\t0\nL\t{number}\t0\t")?;
+    push_address(text, row.address)?;
+    text.push_str(": ")?;
+    push_word(text, subject, row.address)?;
+    write!(text, "\nL\t{number}\t1\tline ")?;
+    push_origin(text, subject, row.address)?;
+    text.push('\n')
 }
 
 // Appends the line with which an instruction leaves: it retires, or is flushed where it was squashed or killed.
@@ -66,7 +68,6 @@ fn push_leave(text: &mut String, row: &Row, number: usize, before: Cell) -> Resu
 
 // Appends what a row does in the frame of a place.
 fn push_row(
-    alloc: Global,
     text: &mut String,
     subject: &Subject,
     row: &Row,
@@ -74,7 +75,7 @@ fn push_row(
     place: usize,
 ) -> Result<(), AllocError> {
     if place == row.begins {
-        push_begin(alloc, text, subject, row, number)?;
+        push_begin(text, subject, row, number)?;
         return push_change(text, number, Cell::Nothing, cell_of(row, place));
     }
     let before = cell_of(row, place.saturating_sub(1));
@@ -84,7 +85,6 @@ fn push_row(
 
 // Appends what the rows do in the frame of a place. They stand in the order in which they begin.
 fn push_frame(
-    alloc: Global,
     text: &mut String,
     subject: &Subject,
     rows: &[Row],
@@ -96,15 +96,14 @@ fn push_frame(
             return Ok(());
         }
         if is_shown(row) {
-            push_row(alloc, text, subject, row, first.saturating_add(k), place)?;
+            push_row(text, subject, row, first.saturating_add(k), place)?;
         }
     }
     Ok(())
 }
 
-// The whole text.
-fn text_of(alloc: Global, subject: &Subject, rows: &[Row]) -> Result<String, AllocError> {
-    let mut text = String::new(alloc);
+// Appends the whole text.
+fn push_kanata(text: &mut String, subject: &Subject, rows: &[Row]) -> Result<(), AllocError> {
     let from = subject.from;
     write!(text, "Kanata\t0004\nC=\t{from}\n")?;
     let mut left = rows;
@@ -116,9 +115,9 @@ fn text_of(alloc: Global, subject: &Subject, rows: &[Row]) -> Result<String, All
         if place > 0 {
             text.push_str("C\t1\n")?;
         }
-        push_frame(alloc, &mut text, subject, left, first, place)?;
+        push_frame(text, subject, left, first, place)?;
     }
-    Ok(text)
+    Ok(())
 }
 
 /// A drawing as a text in the format Kanata, version 0004.
@@ -127,8 +126,7 @@ fn text_of(alloc: Global, subject: &Subject, rows: &[Row]) -> Result<String, All
 ///
 /// `Memory` where there is no room for it.
 pub fn kanata(alloc: Global, subject: &Subject, rows: &[Row]) -> Result<Vec<u8>, Memory> {
-    match text_of(alloc, subject, rows) {
-        Ok(text) => Ok(text.into_bytes()),
-        Err(_) => Err(Memory),
-    }
+    let mut text = String::new(alloc);
+    let written = push_kanata(&mut text, subject, rows);
+    bytes_of(text, written)
 }

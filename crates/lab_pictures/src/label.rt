@@ -5,17 +5,6 @@ use mx_code::decode;
 use mx_link::Origin;
 use std::alloc::{AllocError, Global};
 
-/// The words of a row's label.
-#[derive(Drop)]
-pub struct Label {
-    /// The address, in hexadecimal.
-    pub address: String,
-    /// The word there, in assembly language.
-    pub word: String,
-    /// Where it comes from: a line, `+` and a line for a copy, `-` for a no-op that was put in, `h` for the handler.
-    pub origin: String,
-}
-
 // Appends a word of an address.
 fn push_code_word(
     text: &mut String,
@@ -30,7 +19,7 @@ fn push_code_word(
 }
 
 // Appends where a code word comes from.
-fn push_origin(text: &mut String, subject: &Subject, origin: Origin) -> Result<(), AllocError> {
+fn push_from(text: &mut String, subject: &Subject, origin: Origin) -> Result<(), AllocError> {
     match origin {
         Origin::Own(statement) => {
             let line = subject.line_of(statement);
@@ -44,47 +33,67 @@ fn push_origin(text: &mut String, subject: &Subject, origin: Origin) -> Result<(
     }
 }
 
-/// The label of an address; dashes where the frames end before it is known.
-pub fn label_of(
-    alloc: Global,
-    subject: &Subject,
-    address: Option<u32>,
-) -> Result<Label, AllocError> {
-    let mut word = String::new(alloc);
-    let mut origin = String::new(alloc);
-    let Some(address) = address else {
-        let address = String::from_str(alloc, "--------")?;
-        return Ok(Label {
-            address,
-            word,
-            origin,
-        });
-    };
-    match subject.standing(address) {
-        Standing::Handler(stands) => {
-            push_code_word(&mut word, subject, address, stands)?;
-            origin.push_str("h")?;
-        }
-        Standing::Code(stands, from) => {
-            push_code_word(&mut word, subject, address, stands)?;
-            push_origin(&mut origin, subject, from)?;
-        }
-        Standing::Outside => {}
+/// Appends an address in hexadecimal; dashes where the frames end before it is known.
+pub fn push_address(text: &mut String, address: Option<u32>) -> Result<(), AllocError> {
+    match address {
+        Some(address) => write!(text, "{address:08x}"),
+        None => text.push_str("--------"),
     }
-    let address = format!(in alloc; "{address:08x}")?;
-    Ok(Label {
-        address,
-        word,
-        origin,
-    })
 }
 
-/// Appends a word of a label where there is room for so many signs: of a longer one, which a long name makes, the front and two
-/// dots.
-pub fn push_fitted(text: &mut String, word: &str, room: usize) -> Result<(), AllocError> {
+/// Appends the word at an address, in assembly language.
+pub fn push_word(
+    text: &mut String,
+    subject: &Subject,
+    address: Option<u32>,
+) -> Result<(), AllocError> {
+    let Some(address) = address else {
+        return Ok(());
+    };
+    match subject.standing(address) {
+        Standing::Handler(word) | Standing::Code(word, _) => {
+            push_code_word(text, subject, address, word)
+        }
+        Standing::Outside => Ok(()),
+    }
+}
+
+/// Appends where the word at an address comes from: a line, `+` and a line for a copy, `-` for a no-op that was put in, `h`
+/// for the handler.
+pub fn push_origin(
+    text: &mut String,
+    subject: &Subject,
+    address: Option<u32>,
+) -> Result<(), AllocError> {
+    let Some(address) = address else {
+        return Ok(());
+    };
+    match subject.standing(address) {
+        Standing::Handler(_) => text.push_str("h"),
+        Standing::Code(_, origin) => push_from(text, subject, origin),
+        Standing::Outside => Ok(()),
+    }
+}
+
+// Appends a word where there is room for so many signs, else the front of it and two dots.
+fn push_fitted(text: &mut String, word: &str, room: usize) -> Result<(), AllocError> {
     if word.len() <= room {
         return text.push_str(word);
     }
     text.push_str(word.get(..room.saturating_sub(2)).unwrap_or(""))?;
     text.push_str("..")
+}
+
+/// Appends the word at an address where there is room for so many signs: of a longer one, which a long name makes, the front
+/// and two dots.
+pub fn push_fitted_word(
+    alloc: Global,
+    text: &mut String,
+    subject: &Subject,
+    address: Option<u32>,
+    room: usize,
+) -> Result<(), AllocError> {
+    let mut word = String::new(alloc);
+    push_word(&mut word, subject, address)?;
+    push_fitted(text, word.as_str(), room)
 }

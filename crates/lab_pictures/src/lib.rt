@@ -16,6 +16,7 @@ mod script;
 mod style;
 mod subject;
 mod waves;
+mod whole;
 
 pub use bands::text;
 pub use document::html;

@@ -1,13 +1,13 @@
 //! The data of a drawing as JSON, which the page of HTML holds and `json` hands out.
 use crate::ending::push_ending;
-use crate::label::label_of;
+use crate::label::{push_origin, push_word};
 use crate::subject::{Standing, Subject};
 use lab_draw::{Cell, Frame, Row, Way, way_of};
 use lab_words::{NamedPlace, PlaceNames};
 use mx_isa::{CODE_BASE, Inst};
 use mx_link::Origin;
 use mx_turn::{Latches, SHIPPED, Stage};
-use std::alloc::{AllocError, Global};
+use std::alloc::AllocError;
 
 // Appends bytes between the quotes of a string of JSON. A byte that may end the string or the page's element is written by its number.
 fn push_bytes(text: &mut String, bytes: &[u8]) -> Result<(), AllocError> {
@@ -56,25 +56,26 @@ fn push_reads(text: &mut String, inst: Option<Inst>) -> Result<(), AllocError> {
 
 // Appends a word of the listing.
 fn push_listed(
-    alloc: Global,
     text: &mut String,
     subject: &Subject,
     address: u32,
     word: u32,
 ) -> Result<(), AllocError> {
-    let label = label_of(alloc, subject, Some(address))?;
     let line = line_at(subject, address);
-    let (spelled, origin) = (&label.word, &label.origin);
-    write!(text, "[{address},{word},\"{spelled}\",\"{origin}\",{line},")?;
+    write!(text, "[{address},{word},\"")?;
+    push_word(text, subject, Some(address))?;
+    text.push_str("\",\"")?;
+    push_origin(text, subject, Some(address))?;
+    write!(text, "\",{line},")?;
     push_reads(text, subject.inst_at(address))?;
     text.push(']')
 }
 
 // Appends the listing: the program's words, and the handler's.
-fn push_listing(alloc: Global, text: &mut String, subject: &Subject) -> Result<(), AllocError> {
+fn push_listing(text: &mut String, subject: &Subject) -> Result<(), AllocError> {
     let mut address = CODE_BASE;
     for word in subject.linked.image.code.iter() {
-        push_listed(alloc, text, subject, address, *word)?;
+        push_listed(text, subject, address, *word)?;
         text.push_str(",\n")?;
         address = address.saturating_add(1);
     }
@@ -82,7 +83,7 @@ fn push_listing(alloc: Global, text: &mut String, subject: &Subject) -> Result<(
         if place > 0 {
             text.push_str(",\n")?;
         }
-        push_listed(alloc, text, subject, place as u32, *word)?;
+        push_listed(text, subject, place as u32, *word)?;
     }
     Ok(())
 }
@@ -316,15 +317,10 @@ fn push_run(text: &mut String, subject: &Subject) -> Result<(), AllocError> {
 }
 
 /// Appends the members of the data as JSON, and the brace that ends them.
-pub fn push_members(
-    alloc: Global,
-    text: &mut String,
-    subject: &Subject,
-    rows: &[Row],
-) -> Result<(), AllocError> {
+pub fn push_members(text: &mut String, subject: &Subject, rows: &[Row]) -> Result<(), AllocError> {
     push_run(text, subject)?;
     text.push_str(",\n\"listing\":[\n")?;
-    push_listing(alloc, text, subject)?;
+    push_listing(text, subject)?;
     text.push_str("],\n\"words\":[\n")?;
     push_words(text, subject.drawing.words.as_slice())?;
     let first = match rows.first() {

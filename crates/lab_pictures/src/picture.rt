@@ -1,9 +1,10 @@
 //! A drawing as SVG.
 use crate::ending::push_ending;
 use crate::escape::push_escaped;
-use crate::label::{label_of, push_fitted};
+use crate::label::{push_address, push_fitted_word, push_origin};
 use crate::marks::{cell_of, is_shown, stage_name};
 use crate::subject::Subject;
+use crate::whole::bytes_of;
 use lab_draw::{Cell, Frame, Row};
 use mx_io::Memory;
 use std::alloc::{AllocError, Global};
@@ -17,6 +18,9 @@ const ROW: u64 = 18;
 
 /// The signs of a row's word at most.
 const WORD: usize = 29;
+
+/// What stands behind a word.
+const END: &str = "</text>";
 
 const HEAD: u64 = 58;
 
@@ -69,6 +73,17 @@ fn push_word(text: &mut String, x: u64, y: u64, word: &str) -> Result<(), AllocE
     write!(text, "<text x=\"{x}\" y=\"{y}\">{word}</text>")
 }
 
+// Appends what stands before a word.
+fn push_open(text: &mut String, x: u64, y: u64) -> Result<(), AllocError> {
+    write!(text, "<text x=\"{x}\" y=\"{y}\">")
+}
+
+// Appends what stands between two words, the second of which is at this place.
+fn push_next(text: &mut String, x: u64, y: u64) -> Result<(), AllocError> {
+    text.push_str(END)?;
+    push_open(text, x, y)
+}
+
 // Appends the label of a row.
 fn push_label(
     alloc: Global,
@@ -77,13 +92,14 @@ fn push_label(
     row: &Row,
     y: u64,
 ) -> Result<(), AllocError> {
-    let label = label_of(alloc, subject, row.address)?;
     let base = y.saturating_add(12);
-    push_word(text, 6, base, label.address.as_str())?;
-    write!(text, "<text x=\"76\" y=\"{base}\">")?;
-    push_fitted(text, label.word.as_str(), WORD)?;
-    text.push_str("</text>")?;
-    push_word(text, 272, base, label.origin.as_str())
+    push_open(text, 6, base)?;
+    push_address(text, row.address)?;
+    push_next(text, 76, base)?;
+    push_fitted_word(alloc, text, subject, row.address, WORD)?;
+    push_next(text, 272, base)?;
+    push_origin(text, subject, row.address)?;
+    text.push_str(END)
 }
 
 // Appends the line on which a row's cells stand, from the first to the last one that shows something.
@@ -197,7 +213,7 @@ fn push_foot(text: &mut String, subject: &Subject, bottom: u64) -> Result<(), Al
     let base = bottom.saturating_add(36);
     write!(text, "<text x=\"6\" y=\"{base}\">")?;
     push_ending(text, subject)?;
-    text.push_str("</text>")
+    text.push_str(END)
 }
 
 // Appends the picture.
@@ -237,8 +253,6 @@ fn push_svg(
 /// `Memory` where there is no room for it.
 pub fn svg(alloc: Global, subject: &Subject, rows: &[Row]) -> Result<Vec<u8>, Memory> {
     let mut text = String::new(alloc);
-    match push_svg(alloc, &mut text, subject, rows) {
-        Ok(()) => Ok(text.into_bytes()),
-        Err(_) => Err(Memory),
-    }
+    let written = push_svg(alloc, &mut text, subject, rows);
+    bytes_of(text, written)
 }

@@ -25,7 +25,7 @@ pub struct Subject<'a> {
 }
 
 /// What stands at a code address.
-#[derive(Clone, Copy, Debug, PartialEq, Eq)]
+#[derive(Clone, Copy)]
 pub enum Standing {
     /// A word of the handler.
     Handler(u32),

@@ -1,5 +1,6 @@
 //! A drawing as a value change dump, by IEEE 1364, which GTKWave reads.
 use crate::subject::Subject;
+use crate::whole::bytes_of;
 use lab_draw::Frame;
 use mx_io::Memory;
 use mx_turn::Stage;
@@ -138,10 +139,9 @@ fn push_head(text: &mut String) -> Result<(), AllocError> {
     text.push_str("$upscope $end\n$enddefinitions $end\n")
 }
 
-// The whole text.
-fn text_of(alloc: Global, subject: &Subject) -> Result<String, AllocError> {
-    let mut text = String::new(alloc);
-    push_head(&mut text)?;
+// Appends the whole text.
+fn push_vcd(text: &mut String, subject: &Subject) -> Result<(), AllocError> {
+    push_head(text)?;
     let mut before = [0u32; 25];
     let mut registers = [0u32; 32];
     let mut all = true;
@@ -149,15 +149,14 @@ fn text_of(alloc: Global, subject: &Subject) -> Result<String, AllocError> {
     for frame in subject.drawing.frames.iter() {
         let now = values_of(frame);
         write!(text, "#{cycle}\n")?;
-        push_changes(&mut text, all, &before, &now)?;
-        push_registers(&mut text, all, &registers, &frame.registers)?;
+        push_changes(text, all, &before, &now)?;
+        push_registers(text, all, &registers, &frame.registers)?;
         before = now;
         registers = frame.registers;
         all = false;
         cycle = cycle.saturating_add(1);
     }
-    write!(text, "#{cycle}\n")?;
-    Ok(text)
+    write!(text, "#{cycle}\n")
 }
 
 /// A drawing as a value change dump. The time is the cycle.
@@ -166,8 +165,7 @@ fn text_of(alloc: Global, subject: &Subject) -> Result<String, AllocError> {
 ///
 /// `Memory` where there is no room for it.
 pub fn vcd(alloc: Global, subject: &Subject) -> Result<Vec<u8>, Memory> {
-    match text_of(alloc, subject) {
-        Ok(text) => Ok(text.into_bytes()),
-        Err(_) => Err(Memory),
-    }
+    let mut text = String::new(alloc);
+    let written = push_vcd(&mut text, subject);
+    bytes_of(text, written)
 }

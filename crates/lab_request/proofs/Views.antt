@@ -1,6 +1,6 @@
--- What was read: lists, objects, numbers.
-use Rattle.std.proofs.Common.{◌≡◌, ◌<◌, ◌≤◌, ◌∙◌, ℕ, true, false, List, [], ◌∷◌, map, length, refl, sym, ap, Option, Some, None, arith}
-use Rattle.std.specs.Prelude.{◌&&◌, option_map, unwrap_or, nat_le, String, string_bytes}
+-- What was read: lists and objects.
+use Rattle.std.proofs.Common.{◌≡◌, ◌<◌, ◌≤◌, ◌∙◌, false, List, [], ◌∷◌, map, length, refl, sym, ap, Option, Some}
+use Rattle.std.specs.Prelude.{◌&&◌, option_map, nat_le, String, string_bytes}
 use Rattle.std.specs.List.{flat_map}
 use Rattle.std.specs.Map.{keys_of as map_keys}
 use Rattle.std.specs.declared.alloc.Global.{Global}
@@ -9,7 +9,7 @@ use Rattle.std.proofs.lemmas.Bool.{le-leb, lt-leb}
 use Rattle.serde_json.specs.Data.{Data, Items}
 use Rattle.serde_json.specs.View.{items_of, items_view, members_view, view}
 use Rattle.serde_json.specs.declared.value.Value.{Value}
-use Rattle.lab_request.specs.Fields.{listed, keys_of, whole, number_in, is_from, is_within, are_cycles, is_requests}
+use Rattle.lab_request.specs.Fields.{listed, keys_of, are_cycles, is_requests}
 use Rattle.lab_request.specs.Requests.{cycle_line}
 
 -- the values of a list that was read
@@ -21,13 +21,6 @@ listed_items (d ∷ ds) = ap (λ rest. d ∷ rest) (listed_items ds)
 pub keys_of_members : (es : List (String Global × Value)) → keys_of (members_view es) ≡ map string_bytes (map_keys es)
 keys_of_members [] = refl
 keys_of_members (e ∷ es) = ap (λ rest. string_bytes e.0 ∷ rest) (keys_of_members es)
-
-within_option : (o : Option ℕ) (least most : ℕ) → unwrap_or (option_map (is_from least most) o) false ≡ true → unwrap_or o 0 ≤ most
-within_option None least most h = absurd (cc)
-within_option (Some n) least most h = grind arith
-
-pub within_most : (least most : ℕ) (d : Data) → is_within least most d ≡ true → number_in d ≤ most
-within_most least most d h = within_option (whole d) least most h
 
 -- whether a list that was read is one of requests
 requests_in : (vs : List Value) (o : Option Items) → Some (items_view vs) ≡ o

@@ -1,5 +1,5 @@
 -- What the places of linked code are.
-use Rattle.std.specs.Prelude.{ℕ, Bool, true, false, Option, Some, None}
+use Rattle.std.specs.Prelude.{ℕ, Bool, true, false, Option, Some, None, List, [], codes}
 use Rattle.mx_link.specs.declared.linked.Origin.{Origin}
 use Rattle.mx_link.specs.declared.linked.Origin.TheVariants as from
 use Rattle.lab_terms.specs.declared.places.Slot.{Slot}
@@ -47,3 +47,33 @@ is_noop (Copied k slot) = false
 is_noop BehindLoad = true
 is_noop (EmptySlot slot) = true
 is_noop Padding = true
+
+-- what the word is
+abbrev pub kind_text : Place → List ℕ
+kind_text (Own k) = codes "own"
+kind_text (OwnInSlot k slot) = codes "own"
+kind_text (Copied k slot) = codes "copy"
+kind_text BehindLoad = codes "noop"
+kind_text (EmptySlot slot) = codes "noop"
+kind_text Padding = codes "noop"
+
+-- why a no-op stands there, nothing where the word is none
+abbrev pub why_text : Place → List ℕ
+why_text (Own k) = []
+why_text (OwnInSlot k slot) = []
+why_text (Copied k slot) = []
+why_text BehindLoad = codes "load"
+why_text (EmptySlot slot) = codes "slot"
+why_text Padding = codes "padding"
+
+-- what the place is, nothing where a statement has its own word there
+abbrev pub words_text : Place → List ℕ
+words_text (Own k) = []
+words_text (OwnInSlot k First) = codes "moved into slot 1"
+words_text (OwnInSlot k Second) = codes "moved into slot 2"
+words_text (Copied k First) = codes "copied into slot 1"
+words_text (Copied k Second) = codes "copied into slot 2"
+words_text BehindLoad = codes "no-op behind a load"
+words_text (EmptySlot First) = codes "no-op: nothing fitted into slot 1"
+words_text (EmptySlot Second) = codes "no-op: nothing fitted into slot 2"
+words_text Padding = codes "no-op"

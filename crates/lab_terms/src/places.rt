@@ -1,6 +1,6 @@
 //! What the places of linked code are.
 ghost use Rattle.std.specs.Prelude.{◌≡◌};
-ghost use Rattle.lab_terms.specs.Places.{place_of, statement_of, slot_of, number_of, is_noop};
+ghost use Rattle.lab_terms.specs.Places.{place_of, statement_of, slot_of, number_of, is_noop, kind_text, why_text, words_text};
 
 use mx_link::Origin;
 use mx_source::Statement;
@@ -143,7 +143,9 @@ impl Place {
     }
 
     /// What the word is: a statement's own, a copy of it, or a no-op.
-    pub fn kind(self) -> &'static str {
+    pub fn kind(self) -> &'static str
+        ensures { result.now ≡ kind_text self }
+    {
         match self {
             Place::Own(_) | Place::OwnInSlot(..) => "own",
             Place::Copied(..) => "copy",
@@ -152,7 +154,9 @@ impl Place {
     }
 
     /// Why a no-op stands there; empty where the word is none.
-    pub fn why(self) -> &'static str {
+    pub fn why(self) -> &'static str
+        ensures { result.now ≡ why_text self }
+    {
         match self {
             Place::BehindLoad => "load",
             Place::EmptySlot(_) => "slot",
@@ -162,7 +166,9 @@ impl Place {
     }
 
     /// What the place is, in words.
-    pub fn words(self) -> &'static str {
+    pub fn words(self) -> &'static str
+        ensures { result.now ≡ words_text self }
+    {
         match self {
             Place::Own(_) => "",
             Place::OwnInSlot(_, Slot::First) => "moved into slot 1",

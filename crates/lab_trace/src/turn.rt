@@ -1,5 +1,5 @@
 //! The lines of a trace.
-use lab_json::{write_flag, write_number_if_any, write_numbers};
+use lab_json::{Value, write_flag, write_number_if_any, write_numbers, write_object, write_record};
 use lab_terms::Committed;
 use mx_turn::{Counts, Cycled, Latches, Machine, Stage};
 use serde::{Described, Serialize, Serializer};
@@ -53,11 +53,12 @@ fn write_stage<S: Serializer>(out: &mut S, name: &str, stage: Stage) -> Result<(
         Stage::Live(address) => (address, false),
         Stage::Squashed(address) => (address, true),
     };
+    let members = [
+        ("address", Value::Number(u64::from(address))),
+        ("squashed", Value::Flag(squashed)),
+    ];
     out.key(name)?;
-    out.begin_map(Some(2))?;
-    write_numbers(out, &[("address", u64::from(address))])?;
-    write_flag(out, "squashed", squashed)?;
-    out.end_map()
+    write_record(out, &members)
 }
 
 // Writes what is written to a place, if it is.
@@ -73,10 +74,15 @@ fn write_write<S: Serializer>(
         ("to", u64::from(write.to)),
         ("value", u64::from(write.value)),
     ];
-    out.key(name)?;
-    out.begin_map(Some(2))?;
-    write_numbers(out, &numbers)?;
-    out.end_map()
+    write_object(out, name, &numbers)
+}
+
+// Writes what commits.
+fn write_committed<S: Serializer>(out: &mut S, turn: &TurnRecord) -> Result<(), S::Error> {
+    write_stage(out, "commit", turn.commit)?;
+    write_write(out, "register", turn.register)?;
+    write_number_if_any(out, "md", turn.md.map(u64::from))?;
+    write_write(out, "store", turn.store)
 }
 
 impl Described for TurnRecord {}
@@ -90,10 +96,7 @@ impl Serialize for TurnRecord {
         ];
         out.begin_map(None)?;
         write_numbers(out, &numbers)?;
-        write_stage(out, "commit", self.commit)?;
-        write_write(out, "register", self.register)?;
-        write_number_if_any(out, "md", self.md.map(u64::from))?;
-        write_write(out, "store", self.store)?;
+        write_committed(out, self)?;
         write_number_if_any(out, "byte", self.byte.map(u64::from))?;
         write_flag(out, "interrupt", self.interrupt)?;
         out.end_map()
@@ -104,18 +107,16 @@ impl Described for EndRecord {}
 
 impl Serialize for EndRecord {
     fn serialize<S: Serializer>(&self, out: &mut S) -> Result<(), S::Error> {
-        let numbers = [
-            ("cycles", self.counts.cycles),
-            ("fetches", self.counts.fetches),
-            ("misses", self.counts.misses),
-            ("squashes", self.counts.squashes),
-            ("interrupts", self.counts.interrupts),
-            ("md", u64::from(self.md)),
+        let members = [
+            ("halted", Value::Flag(self.halted)),
+            ("cycles", Value::Number(self.counts.cycles)),
+            ("fetches", Value::Number(self.counts.fetches)),
+            ("misses", Value::Number(self.counts.misses)),
+            ("squashes", Value::Number(self.counts.squashes)),
+            ("interrupts", Value::Number(self.counts.interrupts)),
+            ("md", Value::Number(u64::from(self.md))),
         ];
-        out.begin_map(Some(7))?;
-        write_flag(out, "halted", self.halted)?;
-        write_numbers(out, &numbers)?;
-        out.end_map()
+        write_record(out, &members)
     }
 }
 

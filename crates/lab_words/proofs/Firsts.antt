@@ -109,36 +109,32 @@ after_base : (b c d : Bool) → (b ≡ true → c ≡ d) → (b && c) ≡ (b && 
 after_base true c d f = f refl
 after_base false c d f = refl
 
+-- the words of a list from a base on, by their distance from it and by their addresses
+bounds : (base a long : ℕ) → (nat_le base a && nat_lt (a - base) long) ≡ (nat_le base a && nat_lt a (base + long))
+bounds base a long = after_base (nat_le base a) (nat_lt (a - base) long) (nat_lt a (base + long)) within
+  where
+    within : nat_le base a ≡ true → nat_lt (a - base) long ≡ nat_lt a (base + long)
+    within from = same_test (nat_lt (a - base) long) (nat_lt a (base + long)) before behind
+      where
+        above : base ≤ a
+        above = grind (arith, nat_tests)
+
+        before : nat_lt (a - base) long ≡ true → nat_lt a (base + long) ≡ true
+        before k = let lt : a - base < long = grind (arith, nat_tests) in let far : a < base + long = omega arith in grind (arith, nat_tests)
+
+        behind : nat_lt a (base + long) ≡ true → nat_lt (a - base) long ≡ true
+        behind k = let far : a < base + long = grind (arith, nat_tests) in let lt : a - base < long = omega (arith, above) in grind (arith, nat_tests)
+
 code_bounds : (a words long : ℕ) → long ≡ min (words + 1) (2 ^ 64 - 1) → a < 2 ^ 32
     → (nat_le 4096 a && nat_lt (a - 4096) long) ≡ (nat_le 4096 a && nat_le a (4096 + words))
-code_bounds a words long e h = after_base (nat_le 4096 a) (nat_lt (a - 4096) long) (nat_le a (4096 + words)) within
+code_bounds a words long e h =
+    bounds 4096 a long ∙ ap (λ t. nat_le 4096 a && t) (same_test (nat_lt a (4096 + long)) (nat_le a (4096 + words)) before behind)
   where
-    within : nat_le 4096 a ≡ true → nat_lt (a - 4096) long ≡ nat_le a (4096 + words)
-    within from = same_test (nat_lt (a - 4096) long) (nat_le a (4096 + words)) before behind
-      where
-        base : 4096 ≤ a
-        base = grind (arith, nat_tests)
+    before : nat_lt a (4096 + long) ≡ true → nat_le a (4096 + words) ≡ true
+    before k = let lt : a < 4096 + long = grind (arith, nat_tests) in let le : a ≤ 4096 + words = omega arith in grind (arith, nat_tests)
 
-        before : nat_lt (a - 4096) long ≡ true → nat_le a (4096 + words) ≡ true
-        before k = let lt : a - 4096 < long = grind (arith, nat_tests) in let le : a ≤ 4096 + words = omega arith in grind (arith, nat_tests)
-
-        behind : nat_le a (4096 + words) ≡ true → nat_lt (a - 4096) long ≡ true
-        behind k = let le : a ≤ 4096 + words = grind (arith, nat_tests) in let lt : a - 4096 < long = omega arith in grind (arith, nat_tests)
-
-data_bounds : (a words : ℕ) → (nat_le 256 a && nat_lt (a - 256) words) ≡ (nat_le 256 a && nat_lt a (256 + words))
-data_bounds a words = after_base (nat_le 256 a) (nat_lt (a - 256) words) (nat_lt a (256 + words)) within
-  where
-    within : nat_le 256 a ≡ true → nat_lt (a - 256) words ≡ nat_lt a (256 + words)
-    within from = same_test (nat_lt (a - 256) words) (nat_lt a (256 + words)) before behind
-      where
-        base : 256 ≤ a
-        base = grind (arith, nat_tests)
-
-        before : nat_lt (a - 256) words ≡ true → nat_lt a (256 + words) ≡ true
-        before k = let lt : a - 256 < words = grind (arith, nat_tests) in let far : a < 256 + words = omega arith in grind (arith, nat_tests)
-
-        behind : nat_lt a (256 + words) ≡ true → nat_lt (a - 256) words ≡ true
-        behind k = let far : a < 256 + words = grind (arith, nat_tests) in let lt : a - 256 < words = omega (arith, base) in grind (arith, nat_tests)
+    behind : nat_le a (4096 + words) ≡ true → nat_lt a (4096 + long) ≡ true
+    behind k = let le : a ≤ 4096 + words = grind (arith, nat_tests) in let lt : a < 4096 + long = omega arith in grind (arith, nat_tests)
 
 -- tables of the first labels name the words as the labels do
 pub names_alike : (entries : List (Name × Label)) (link : ℕ → ℕ) (words data_words count : ℕ) (places : List NamedPlace)
@@ -156,7 +152,7 @@ names_alike entries link words data_words count places code_offsets data_offsets
       named_at entries (λ l. data_offset (place_of link l)) names_address 256 (data_same link) user_data
       (record { first = λ k lt. data_first k (omega (arith, data_long)) ∙ ap (first_from k 0) data_are }) a
       ∙ ap (λ b. cond b (first_named (names_address a) (named_labels entries)) None)
-      (ap (λ n. nat_le 256 a && nat_lt (a - 256) n) data_long ∙ data_bounds a data_words);
+      (ap (λ n. nat_le 256 a && nat_lt (a - 256) n) data_long ∙ bounds 256 a data_words);
 }
   where
     code_are : code_offsets ≡ offsets_of (λ l. code_offset (place_of link l)) entries

@@ -8,7 +8,7 @@ use Rattle.mx_delay.specs.Delay.{Delay, next_of}
 use Rattle.mx_delay.specs.Clean.{Watched}
 use Rattle.mx_source.specs.Meaning.{Going, Run, run_for, is_stuck}
 use Rattle.mx_blocks.specs.declared.block.Item.{Item}
-use Rattle.mx_blocks.specs.declared.block.Item.TheVariants.{Op, Nop}
+use Rattle.mx_blocks.specs.declared.block.Item.TheVariants.{Op}
 use Rattle.mx_blocks.specs.Leaders.{size}
 use Rattle.mx_validate.specs.Padded.{insts_of, items_of, falls, body_count}
 use Rattle.mx_squash.specs.declared.copying.Copied.{Copied}
@@ -17,7 +17,6 @@ use Rattle.mx_layout.specs.Layout.{plan_size}
 use Rattle.mx_link.proofs.Sizes.{length-origins_from}
 use Rattle.mx_link.specs.Origins.{own, over, goal_of, origins_from}
 use Rattle.mx_link.specs.Parts.{origin_at}
-use Rattle.law_order.specs.Parts.{AreBelow}
 use Rattle.law_link.proofs.Going.{Did, IsPlain, Stands, did_all, starts, for, for_same}
 use Rattle.law_link.proofs.Ends.{Ended, slots_taken, slots_cancelled}
 use Rattle.law_link.proofs.Planned.{bodies_length, pre_length}
@@ -34,17 +33,7 @@ use Rattle.law_counts.proofs.Marks.{Marked, marked_left, marked_right, marked_sp
 use Rattle.law_counts.proofs.Weights.{weight, weight_append}
 use Rattle.law_counts.proofs.Copies.{Counting, MarkedSite, first_slot, second_slot, own_items, slotting}
 use Rattle.law_counts.proofs.Leads.{leads_word}
-
-false_true : false ≡ true → ⊥
-false_true e = grind arith
-
-pub left_below : (n : ℕ) (f g : Item) → AreBelow n (f ∷ g ∷ []) → AreBelow n (f ∷ [])
-left_below n (Op k) g h = (h.0, tt)
-left_below n Nop g h = tt
-
-pub right_below : (n : ℕ) (f g : Item) → AreBelow n (f ∷ g ∷ []) → AreBelow n (g ∷ [])
-right_below n (Op k) g h = h.1
-right_below n Nop g h = h
+use Rattle.law_order.proofs.Split.{below_left, below_right}
 
 module _ (counting : Counting) where
   open counting use {known, q, test as T, known.{linking.{filling, sites as all}}}
@@ -271,8 +260,8 @@ module _ (counting : Counting) where
           f = b.f;
           g = b.g;
           three = b.three;
-          below_f = left_below body b.f b.g b.below;
-          below_g = right_below body b.f b.g b.below;
+          below_f = below_left body (b.f ∷ []) (b.g ∷ []) b.below;
+          below_g = below_right body (b.f ∷ []) (b.g ∷ []) b.below;
         }
 
         abbrev both : ℕ

@@ -1,7 +1,7 @@
 -- The two words behind a transfer, by the statements that they are of (`slots_taken`, `slots_left`): both slots together weigh what
 -- the block's own two items weigh, and the words of the target that are copied to them, unless the branch does not go.
-use Rattle.std.proofs.Common.{◌≡◌, ◌≢◌, ℕ, zero, suc, ◌+◌, ◌<◌, ◌≤◌, Bool, true, false, cond, eqb, ltb, not, ◌&&◌, List, [], ◌∷◌, length, All, Option, Some, None, slice_index_or, min, refl, sym, ap, ◌∙◌, arith, ⊎_elim}
-use Rattle.std.proofs.lemmas.Bool.{cases_eq, cond-true, cond-false}
+use Rattle.std.proofs.Common.{◌≡◌, ◌≢◌, ℕ, zero, suc, ◌+◌, ◌<◌, ◌≤◌, Bool, true, false, cond, eqb, ltb, not, ◌&&◌, List, [], ◌∷◌, length, All, Option, Some, None, slice_index_or, refl, sym, ap, ◌∙◌, arith, ⊎_elim}
+use Rattle.std.proofs.lemmas.Bool.{cases_eq, cond-true, cond-false, false≢true}
 use Rattle.std.proofs.lemmas.Bool.Decides.{nat_tests}
 use Rattle.mx_blocks.specs.declared.block.Item.{Item}
 use Rattle.mx_blocks.specs.declared.block.Item.TheVariants.{Op, Nop}
@@ -10,21 +10,18 @@ use Rattle.mx_squash.specs.declared.copying.Copied.{Copied}
 use Rattle.mx_squash.specs.Copies.{Site, site_of, is_target, copied, count, room, slot, is_nop, may_stay, may_copy, copyable, item_at, filled, most, is_too_far, is_fed, is_branch_end, always_goes, terminator}
 use Rattle.mx_layout.proofs.Links.{site_found}
 use Rattle.mx_link.proofs.Sizes.{length-origins_from}
-use Rattle.mx_link.proofs.Slots.{copyable_small}
+use Rattle.mx_link.proofs.Slots.{copyable_small, at_most_two}
 use Rattle.mx_link.specs.declared.linked.Origin.TheVariants.{Pad}
 use Rattle.mx_link.specs.Origins.{own, over, copied_to, goal_of, origins_from, origins_at}
 use Rattle.mx_link.specs.Parts.{origin_at}
 use Rattle.law_link.proofs.Layouts.{Goal, goal_is, Standing, standing, setting}
 use Rattle.law_link.proofs.Setting.{Known}
 use Rattle.law_link.proofs.Sited.{not_copied}
-use Rattle.law_link.proofs.Slots.{nop_is, at_most_two, counted, RoomForBoth, RoomForOne, room_cases, from_zero, from_second, from_first, from_both, linked_site, Slotted, slot_f, slot_g}
+use Rattle.law_link.proofs.Slots.{nop_is, counted, RoomForBoth, RoomForOne, room_cases, from_zero, from_second, from_first, from_both, linked_site, Slotted, slot_f, slot_g, min_left, min_right, CopiesOf, copies_of, stays_not}
 use Rattle.mx_link.specs.Gathered.{is_of}
 use Rattle.law_counts.proofs.Tally.{one, span}
 use Rattle.law_counts.proofs.Marks.{Marked, marked_at}
 use Rattle.law_counts.proofs.Weights.{weight}
-
-false_true : false ≡ true → ⊥
-false_true e = grind arith
 
 origin_there :
     (s : Site) (c : Copied) (p : ℕ) (items : List Item) (k : ℕ) → k < length items
@@ -138,14 +135,8 @@ module _ (counting : Counting) where
       abbrev n : ℕ
       n = count s gs
 
-      count_is : c.count ≡ n
-      count_is = ap (λ (d : Copied). d.count) is_c
-
-      from_is : c.from ≡ filled (room s.block s.plan) n (item_at gs.plan 0) (item_at gs.plan 1)
-      from_is = ap (λ (d : Copied). d.from) is_c
-
-      squash_is : c.squash ≡ (ltb 0 n && may_stay s.block)
-      squash_is = ap (λ (d : Copied). d.squash) is_c
+      told : CopiesOf s gs c
+      told = copies_of s gs c is_c
 
       abbrev head : ℕ → ℕ
       head k = one (is_of q (own goal (item_at gs.plan k)))
@@ -173,13 +164,10 @@ module _ (counting : Counting) where
           omega arith
 
       is_set : 1 ≤ n → may_stay s.block ≡ true → c.squash ≡ true
-      is_set some may = squash_is ∙ both (ltb 0 n) (may_stay s.block) (grind (arith, nat_tests)) may
+      is_set some may = told.squash_is ∙ both (ltb 0 n) (may_stay s.block) (grind (arith, nat_tests)) may
         where
           both : (a b : Bool) → a ≡ true → b ≡ true → (a && b) ≡ true
           both a b h k = grind arith
-
-      stays_not : is_branch_end s.block.end ≡ false → may_stay s.block ≡ false
-      stays_not e = ap (λ b. b && not (always_goes (terminator s.block))) e
 
       some_copied : 1 ≤ n → Slotting
       some_copied some =
@@ -197,40 +185,34 @@ module _ (counting : Counting) where
           λ may. ap (λ b. cond b 0 (first_slot + second_slot)) (is_set some may) ∙ omega arith in
           ⊎_elim
           (λ (single : n ≡ 1).
-          let e = from_is ∙ from_first (room s.block s.plan) n (item_at gs.plan 0) (item_at gs.plan 1) r.two single in
+          let e = told.from_is ∙ from_first (room s.block s.plan) n (item_at gs.plan 0) (item_at gs.plan 1) r.two single in
           let x = first_is (item_at gs.plan 0 ∷ Nop ∷ []) e ∙ over_nop (item_at gs.plan 0) f (nop_f r.first) in
           let y = second_is (item_at gs.plan 0 ∷ Nop ∷ []) e in
-          let copies : span T c.count (lk goal) ≡ head 0 = ap (λ k. span T k (lk goal)) (count_is ∙ single) ∙ one_head (omega arith) in
+          let copies : span T c.count (lk goal) ≡ head 0 = ap (λ k. span T k (lk goal)) (told.count_is ∙ single) ∙ one_head (omega arith) in
           record { taken = omega arith; left = left })
           (λ (more : n ≢ 1).
           let two : n ≡ 2 = (let t = at_most_two (may_copy gs.plan 0) (may_copy gs.plan 1) in omega arith) in
-          let e = from_is ∙ from_both (room s.block s.plan) n (item_at gs.plan 0) (item_at gs.plan 1) r.two two in
+          let e = told.from_is ∙ from_both (room s.block s.plan) n (item_at gs.plan 0) (item_at gs.plan 1) r.two two in
           let x = first_is (item_at gs.plan 0 ∷ item_at gs.plan 1 ∷ []) e ∙ over_nop (item_at gs.plan 0) f (nop_f r.first) in
           let y = second_is (item_at gs.plan 0 ∷ item_at gs.plan 1 ∷ []) e ∙ over_nop (item_at gs.plan 1) g (nop_g r.second) in
-          let copies : span T c.count (lk goal) ≡ head 0 + head 1 = ap (λ k. span T k (lk goal)) (count_is ∙ two) ∙ two_heads (omega arith) in
+          let copies : span T c.count (lk goal) ≡ head 0 + head 1 = ap (λ k. span T k (lk goal)) (told.count_is ∙ two) ∙ two_heads (omega arith) in
           record { taken = omega arith; left = left })
           (cases_eq n 1))
           (λ (r : RoomForOne (room s.block s.plan) (may_stay s.block) (is_nop (slot s.plan 2))).
           let room_one = r.one in
           let single : n ≡ 1 = omega arith in
           let own_g = no_weight g (nop_g r.second) in
-          let e = from_is ∙ from_second (room s.block s.plan) n (item_at gs.plan 0) (item_at gs.plan 1) r.one single in
+          let e = told.from_is ∙ from_second (room s.block s.plan) n (item_at gs.plan 0) (item_at gs.plan 1) r.one single in
           let x = first_is (Nop ∷ item_at gs.plan 0 ∷ []) e in
           let y = second_is (Nop ∷ item_at gs.plan 0 ∷ []) e ∙ over_nop (item_at gs.plan 0) g (nop_g r.second) in
-          let copies : span T c.count (lk goal) ≡ head 0 = ap (λ k. span T k (lk goal)) (count_is ∙ single) ∙ one_head (omega arith) in
-          record { taken = omega arith; left = λ may. absurd (false_true (sym r.surely ∙ may)) })
-          (room_cases s.block.end (may_stay s.block) (is_nop (slot s.plan 1)) (is_nop (slot s.plan 2)) stays_not (omega arith))
-        where
-          min_left : (a b m : ℕ) → m ≡ min a b → m ≤ a
-          min_left a b m e = omega arith
-
-          min_right : (a b m : ℕ) → m ≡ min a b → m ≤ b
-          min_right a b m e = omega arith
+          let copies : span T c.count (lk goal) ≡ head 0 = ap (λ k. span T k (lk goal)) (told.count_is ∙ single) ∙ one_head (omega arith) in
+          record { taken = omega arith; left = λ may. absurd (false≢true (sym r.surely ∙ may)) })
+          (room_cases s.block.end (may_stay s.block) (is_nop (slot s.plan 1)) (is_nop (slot s.plan 2)) (stays_not s) (omega arith))
 
       from_goal : Slotting
       from_goal = ⊎_elim
-          (λ (z : n ≡ 0). all_own (count_is ∙ z) (squash_is ∙ ap (λ m. ltb 0 m && may_stay s.block) z)
-          (from_is ∙ from_zero (room s.block s.plan) n (item_at gs.plan 0) (item_at gs.plan 1) z))
+          (λ (z : n ≡ 0). all_own (told.count_is ∙ z) (told.squash_is ∙ ap (λ m. ltb 0 m && may_stay s.block) z)
+          (told.from_is ∙ from_zero (room s.block s.plan) n (item_at gs.plan 0) (item_at gs.plan 1) z))
           (λ (z : n ≢ 0). some_copied (omega arith))
           (cases_eq n 0)
 

@@ -3,15 +3,14 @@
 -- are the visits of the meaning so far and what those words weigh. A block takes it to the next one, or the run ends (`Over`).
 use Rattle.std.proofs.Common.{◌≡◌, ℕ, zero, suc, ◌+◌, ◌-◌, ◌<◌, ◌≤◌, Bool, true, false, cond, eqb, List, [], ◌∷◌, ◌⊎◌, length, take, Some, None, refl, sym, ap, ◌∙◌, subst, arith, ⊎_elim, inl, inr}
 use Rattle.std.proofs.lemmas.Option.{slice_get_past}
-use Rattle.std.proofs.lemmas.Bool.{cases_lt}
+use Rattle.std.proofs.lemmas.Bool.{cases_lt, false≢true}
 use Rattle.std.proofs.lemmas.List.{length-take-le}
 use Rattle.mx_isa.specs.declared.inst.Inst.{Inst}
 use Rattle.mx_delay.specs.Delay.{Delay}
 use Rattle.mx_delay.specs.Clean.{Watched}
 use Rattle.mx_source.specs.Meaning.{Going, Halted, Run, run_for, start, is_stuck, HaltsIn}
-use Rattle.mx_blocks.specs.declared.block.Block.{Block as BlockOf}
 use Rattle.mx_blocks.specs.Leaders.{size}
-use Rattle.mx_validate.specs.Padded.{insts_of, items_of, falls, body_count}
+use Rattle.mx_validate.specs.Padded.{items_of, body_count}
 use Rattle.mx_squash.specs.Copies.{Site, site_of}
 use Rattle.mx_layout.specs.Layout.{plan_size}
 use Rattle.mx_layout.proofs.Links.{site_found}
@@ -33,16 +32,7 @@ use Rattle.law_counts.proofs.Leads.{leads_tally}
 use Rattle.law_counts.proofs.Block.{Block, Coming, CountedOn, CountedStop}
 use Rattle.law_counts.proofs.Block.{first as first_of, w as lay_of, n as size_of, len as len_of, place as place_at, begun as begun_at}
 use Rattle.law_counts.proofs.Ways.{counts_by}
-
-false_true : false ≡ true → ⊥
-false_true e = grind arith
-
-body_most : (b : BlockOf) → 1 ≤ length (insts_of b) → length (insts_of b) ≤ suc (body_count b)
-body_most b some = by_end (falls b.end)
-  where
-    by_end : (f : Bool) → length (insts_of b) ≤ suc (cond f (length (insts_of b)) (length (insts_of b) - 1))
-    by_end true = omega arith
-    by_end false = omega arith
+use Rattle.law_link.proofs.Whole.{body_most}
 
 module _ (counting : Counting) where
   open counting use {known, q, test as T, marks}
@@ -362,7 +352,7 @@ module _ (counting : Counting) where
   pub past_end : (m : ℕ) → (M m).state.mark ≡ Going → length p.statements ≤ index m → is_stuck (M (m + 1)).state.mark ≡ false → ⊥
   past_end m g far r =
       let stops = step_is p (M m) None g (slice_get_past p.statements (index m) far) in
-      false_true (sym r ∙ ap (λ (s : Run). is_stuck s.state.mark) (run_add p m 1 r0 ∙ stops))
+      false≢true (sym r ∙ ap (λ (s : Run). is_stuck s.state.mark) (run_add p m 1 r0 ∙ stops))
 
   -- a run that halts
   module _ (n : ℕ) (halts : HaltsIn source place bytes n) where
@@ -379,12 +369,12 @@ module _ (counting : Counting) where
     going_before : (k : ℕ) → (M k).state.mark ≡ Going → k < n
     going_before k g = ⊎_elim
         (λ (less : k < n). less)
-        (λ (more : n ≤ k). absurd (false_true (sym (ap is_going halts.halted) ∙ sym (ap (λ (s : Run). is_going s.state.mark) (stays k more)) ∙ ap is_going g)))
+        (λ (more : n ≤ k). absurd (false≢true (sym (ap is_going halts.halted) ∙ sym (ap (λ (s : Run). is_going s.state.mark) (stays k more)) ∙ ap is_going g)))
         (cases_lt k n)
 
     halted_from : (k : ℕ) → (M k).state.mark ≡ Halted → n ≤ k
     halted_from k e = ⊎_elim
-        (λ (less : k < n). absurd (false_true (sym (ap is_going e) ∙ ap is_going (halts.first k less))))
+        (λ (less : k < n). absurd (false≢true (sym (ap is_going e) ∙ ap is_going (halts.first k less))))
         (λ (more : n ≤ k). more)
         (cases_lt k n)
 
@@ -419,7 +409,7 @@ module _ (counting : Counting) where
         (λ (early : j < suc o.before).
         let rest : D o.before ≡ D j = ap D (let e : o.before ≡ j + (o.before - j) = omega arith in e) ∙ D_add j (o.before - j)
         ∙ halted_for machine (o.before - j) (D j) halted in
-        absurd (false_true (sym o.runs_on ∙ ap (λ (x : Watched). x.at.halted) rest ∙ halted)))
+        absurd (false≢true (sym o.runs_on ∙ ap (λ (x : Watched). x.at.halted) rest ∙ halted)))
         (λ (late : suc o.before ≤ j).
         let e : j ≡ suc o.before + (j - suc o.before) = omega arith in
         let split = ap count e ∙ tally_add T machine (suc o.before) (j - suc o.before) (from r0) in

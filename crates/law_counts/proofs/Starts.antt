@@ -1,6 +1,6 @@
 -- Without copies each leader that the meaning comes to is a start (`starts_from`), and all words before it were counted.
 use Rattle.std.proofs.Common.{◌≡◌, ℕ, zero, suc, ◌+◌, ◌-◌, ◌<◌, ◌≤◌, true, false, length, refl, sym, ap, ◌∙◌, subst, arith, ⊎_elim, inl}
-use Rattle.std.proofs.lemmas.Bool.{cases_lt}
+use Rattle.std.proofs.lemmas.Bool.{cases_lt, false≢true}
 use Rattle.mx_source.specs.Meaning.{Going, Run, run_for, is_stuck}
 use Rattle.mx_link.specs.Origins.{Filling}
 use Rattle.law_link.specs.Laws.{planned_words}
@@ -13,9 +13,6 @@ use Rattle.law_counts.proofs.Copies.{Counting}
 use Rattle.law_counts.proofs.Block.{n as size_of}
 use Rattle.law_counts.proofs.Runs.{M, index, count, visited, r0, Came, comes_first, block_at, inner, Next, Final, run_block, past_end}
 use Rattle.law_counts.proofs.Counted.{counting_of, executed_is}
-
-false_true : false ≡ true → ⊥
-false_true e = grind arith
 
 module _ (counting : Counting) where
   open counting use {known, q, test as T, known.{linking as l, linking.{source}}}
@@ -32,7 +29,7 @@ module _ (counting : Counting) where
     goes_yet k less stopped =
         let same = ap (M counting) (let e : m ≡ k + (m - k) = omega arith in e) ∙ run_add p k (m - k) (r0 counting)
         ∙ stays_for p (m - k) (M counting k) stopped in
-        false_true (sym stopped ∙ sym (ap (λ (s : Run). is_going s.state.mark) same) ∙ ap is_going going)
+        false≢true (sym stopped ∙ sym (ap (λ (s : Run). is_going s.state.mark) same) ∙ ap is_going going)
 
     record Starts : Type 0 where
       e : ℕ
@@ -55,7 +52,7 @@ module _ (counting : Counting) where
         let same : M counting m ≡ run_for p (m - k) (M counting k) = ap (M counting) on ∙ run_add p k (m - k) (r0 counting) in
         let i = inner counting t.block (M counting k) a.going (sym t.is_first) (m - k) (omega arith)
         (ap (λ (s : Run). is_stuck s.state.mark) (sym same) ∙ ap is_stuck going) in
-        absurd (false_true (sym (t.block.standing.of.block.inner (m - k) (omega arith) (omega arith))
+        absurd (false≢true (sym (t.block.standing.of.block.inner (m - k) (omega arith) (omega arith))
         ∙ ap leader (sym i.index ∙ ap (λ (s : Run). s.state.index) (sym same)) ∙ leads)))
         (λ (behind : k + size_of counting t.block ≤ m). ⊎_elim
         (λ (x : Next counting k (size_of counting t.block)). starts_from fuel (k + n) x.e x.came behind (omega arith))

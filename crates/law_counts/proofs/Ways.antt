@@ -1,5 +1,6 @@
 -- One block by how it ends: what its words count (`counted`), whichever way it goes.
 use Rattle.std.proofs.Common.{◌≡◌, ℕ, pos, suc, ◌+◌, ◌%◌, ◌^◌, Bool, true, false, cond, not, ◌⊎◌, length, Some, None, refl, sym, ap, ◌∙◌, subst, arith, inl, inr}
+use Rattle.std.proofs.lemmas.Bool.{false≢true}
 use Rattle.mx_isa.specs.declared.inst.Inst.TheVariants.{Jspci}
 use Rattle.mx_isa.specs.declared.inst.Inst.TheVariants.{Branch as BranchInst}
 use Rattle.mx_isa.specs.Words.{reg}
@@ -24,9 +25,6 @@ use Rattle.law_order.proofs.Words.{item_inst}
 use Rattle.law_counts.proofs.Copies.{Counting, no_copies_there}
 use Rattle.law_counts.proofs.Block.{Block, Coming, CountedOn, CountedStop, falls_count, stops_count, slotted, taken_count, jumps_count, left_count}
 use Rattle.law_counts.proofs.Block.{here as setting_of, first as first_of, w as lay_of, n as size_of, entered as entered_at}
-
-false_true : false ≡ true → ⊥
-false_true e = grind arith
 
 module _ (counting : Counting) (block : Block counting) (coming : Coming counting block) where
   open counting use {known, known.{linking.{filling, sites as all}}}
@@ -122,7 +120,7 @@ module _ (counting : Counting) (block : Block counting) (coming : Coming countin
           where
             may : (m : Bool) → may_stay s.block ≡ m → may_stay s.block ≡ true
             may true q = q
-            may false q = absurd (false_true (sym e ∙ k.surely (copies.3 ∙ ap not q) (core_of link r1.state).regs))
+            may false q = absurd (false≢true (sym e ∙ k.surely (copies.3 ∙ ap not q) (core_of link r1.state).regs))
 
     call_counts :
         (slots : Slots here) (k : IsCall here first w slots) → Filled here w.insts b.f b.g slots → Leads here slots.target
@@ -154,7 +152,7 @@ module _ (counting : Counting) (block : Block counting) (coming : Coming countin
             ∙ ap (λ u. stepped_to here entered b kind (jumps u k.d r1.state)) e
 
         by_value : (v : Value) → value_in r1.state.regs k.a ≡ v → On
-        by_value (Int word) e = absurd (false_true (sym safe ∙ ap (λ (u : Run). is_stuck u.state.mark) (runs_to (Int word) e)))
+        by_value (Int word) e = absurd (false≢true (sym safe ∙ ap (λ (u : Run). is_stuck u.state.mark) (runs_to (Int word) e)))
         by_value (CodeValue t) e =
             let sm = small t in
             let to : reg (core_of link r1.state).regs k.a ≡ link t = sym (linked_value link r1.state.regs k.a) ∙ ap (linked link) e in

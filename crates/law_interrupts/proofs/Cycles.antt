@@ -3,6 +3,7 @@ use Rattle.std.proofs.Common.{◌≡◌, ℕ, ◌+◌, ◌-◌, ◌*◌, ◌≤�
 use Rattle.std.specs.Prelude.{option_to_list}
 use Rattle.std.proofs.lemmas.Bool.{cond-true, cond-false, cases_Bool, false≢true, and_parts, eqb-true}
 use Rattle.std.proofs.lemmas.Bool.Decides.{nat_tests}
+use Rattle.mx_isa.specs.declared.board.TheConstants.{CODE_BASE}
 use Rattle.mx_isa.specs.declared.place.Place.{Place}
 use Rattle.mx_isa.specs.Words.{Words}
 use Rattle.mx_delay.specs.Delay.{Code}
@@ -65,7 +66,7 @@ module _ (handler user : Code) (inside : ℕ → Bool) (p : Place) (input : Opti
     pub taken : m.counts.interrupts + one m.latch ≤ asked
     pub all : m.halted ≡ false → m.counts.cycles ≡ cycles
 
-  pub stands_start : (words : Words) → p.code ≡ 4096 → words 0 ≡ 0 → Stands (start words) (watch_start p words) 0 0 0
+  pub stands_start : (words : Words) → p.code ≡ CODE_BASE → words 0 ≡ 0 → Stands (start words) (watch_start p words) 0 0 0
   stands_start words at_code low = record {
     rest = 3;
     state = at_start (setting handler user inside p input) words (done_after (watch_start p words) 0) (begins handler user inside p input words at_code low);
@@ -80,7 +81,7 @@ module _ (handler user : Code) (inside : ℕ → Bool) (p : Place) (input : Opti
     pub sends : s.at.console ++ option_to_list byte ≡ (past user inside p input passed s).at.console
     pub stands : Stands n (past user inside p input passed s) (w + one passed) (cycles + 1) (asked + one request)
 
-  module _ (at_board : IsOnBoard p) (at_code : p.code ≡ 4096) (m : Machine) (request : Bool) (s : Watched) (w cycles asked : ℕ)
+  module _ (at_board : IsOnBoard p) (at_code : p.code ≡ CODE_BASE) (m : Machine) (request : Bool) (s : Watched) (w cycles asked : ℕ)
       (handled : 1 ≤ asked + one request → Handled (setting handler user inside p input)) (st : Stands m s w cycles asked) where
     abbrev code : Code
     code = code_with handler user

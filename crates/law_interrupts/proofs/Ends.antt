@@ -1,6 +1,7 @@
 -- What a run within a budget gives.
 use Rattle.std.proofs.Common.{◌≡◌, ℕ, ◌+◌, ◌*◌, ◌≤◌, Bool, true, List, [], ◌⊎◌, length, Option, refl, subst, arith, ⊎_elim, inl, inr}
 use Rattle.std.proofs.lemmas.Bool.{cases_Bool}
+use Rattle.mx_isa.specs.declared.board.TheConstants.{CODE_BASE}
 use Rattle.mx_isa.specs.declared.place.Place.{Place}
 use Rattle.mx_isa.specs.Words.{Words}
 use Rattle.mx_code.specs.Decoding.{inst_of}
@@ -19,15 +20,15 @@ use Rattle.law_interrupts.proofs.Pauses.{InUserAfter, Steps, done_after, setting
 use Rattle.law_interrupts.proofs.Cycles.{stands_start}
 use Rattle.law_interrupts.proofs.Runs.{program, steps, Ran, runs, passed_few, length_bits, asked_few}
 
-module _ (handler_words user_words data_words : List ℕ) (p : Place) (input : Option (List ℕ)) (at_board : IsOnBoard p) (at_code : p.code ≡ 4096)
+module _ (handler_words user_words data_words : List ℕ) (p : Place) (input : Option (List ℕ)) (at_board : IsOnBoard p) (at_code : p.code ≡ CODE_BASE)
     (requests : List ℕ) (budget : ℕ) (clean : IsCleanImage (program_of handler_words user_words data_words input) p budget)
     (handled : 1 ≤ length requests
-    → Handled (setting (code_from inst_of 0 handler_words) (code_from inst_of 4096 user_words) (is_inside p (length user_words)) p input)) where
+    → Handled (setting (code_from inst_of 0 handler_words) (code_from inst_of CODE_BASE user_words) (is_inside p (length user_words)) p input)) where
   abbrev handler : Code
   handler = code_from inst_of 0 handler_words
 
   abbrev user : Code
-  user = code_from inst_of 4096 user_words
+  user = code_from inst_of CODE_BASE user_words
 
   abbrev inside : ℕ → Bool
   inside = is_inside p (length user_words)
@@ -88,11 +89,11 @@ module _ (handler_words user_words data_words : List ℕ) (p : Place) (input : O
 
 -- requests under the shipped handler
 shipped_handles : (code_words : List ℕ) (p : Place) (input : Option (List ℕ)) → IsOnBoard p
-    → Handled (setting (code_from inst_of 0 shipped) (code_from inst_of 4096 code_words) (is_inside p (length code_words)) p input)
-shipped_handles code_words p input b = shipped_handled (code_from inst_of 4096 code_words) (is_inside p (length code_words)) p input b
+    → Handled (setting (code_from inst_of 0 shipped) (code_from inst_of CODE_BASE code_words) (is_inside p (length code_words)) p input)
+shipped_handles code_words p input b = shipped_handled (code_from inst_of CODE_BASE code_words) (is_inside p (length code_words)) p input b
 
 pub runs_as : (code_words data_words : List ℕ) (input : Option (List ℕ)) (requests : List ℕ) (budget : ℕ) (p : Place)
-    → IsOnBoard p → p.code ≡ 4096
+    → IsOnBoard p → p.code ≡ CODE_BASE
     → let q = program_of shipped code_words data_words input in
     IsCleanImage q p budget
     → let r = run_of q requests budget in
@@ -101,7 +102,7 @@ runs_as code_words data_words input requests budget p b c clean =
     as_delay shipped code_words data_words p input b c requests budget clean (λ e. shipped_handles code_words p input b)
 
 pub gets_on : (code_words data_words : List ℕ) (input : Option (List ℕ)) (requests : List ℕ) (budget : ℕ) (p : Place)
-    → IsOnBoard p → p.code ≡ 4096
+    → IsOnBoard p → p.code ≡ CODE_BASE
     → let q = program_of shipped code_words data_words input in
     IsCleanImage q p budget
     → let r = run_of q requests budget in
@@ -116,13 +117,13 @@ unasked : {A : Type 0} → 1 ≤ length {A = ℕ} [] → A
 unasked h = absurd (omega (arith, h))
 
 pub undisturbed_as : (q : Program) (budget : ℕ) (p : Place)
-    → IsOnBoard p → p.code ≡ 4096 → IsCleanImage q p budget
+    → IsOnBoard p → p.code ≡ CODE_BASE → IsCleanImage q p budget
     → let r = run_of q [] budget in
     RunsAs p r (delay_of q p r.passed)
 undisturbed_as q budget p b c clean = as_delay q.handler_words q.user_words q.data_words p q.input b c [] budget clean (λ h. unasked h)
 
 pub undisturbed : (q : Program) (budget : ℕ) (p : Place)
-    → IsOnBoard p → p.code ≡ 4096 → IsCleanImage q p budget
+    → IsOnBoard p → p.code ≡ CODE_BASE → IsCleanImage q p budget
     → let r = run_of q [] budget in
     (w : ℕ) → 3 * (w + 3) ≤ budget → (w ≤ r.passed) ⊎ (r.halted ≡ true)
 undisturbed q budget p b c clean w h =

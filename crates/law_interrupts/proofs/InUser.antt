@@ -3,6 +3,7 @@ use Rattle.std.proofs.Common.{◌≡◌, ℕ, ◌+◌, ◌%◌, ◌^◌, ◌<◌
 use Rattle.std.specs.Prelude.{option_to_list}
 use Rattle.std.proofs.lemmas.Bool.{cond-false, leb-true, and_parts, and_right}
 use Rattle.std.specs.Int.{w32, cast_unsigned}
+use Rattle.mx_isa.specs.declared.board.TheConstants.{CODE_BASE}
 use Rattle.mx_isa.specs.declared.inst.Inst.{Inst}
 use Rattle.mx_isa.specs.declared.inst.Inst.TheVariants.{Branch, Jspci}
 use Rattle.mx_isa.specs.declared.place.Place.{Place}
@@ -24,7 +25,7 @@ use Rattle.mx_delay.proofs.Watched.{next, CleanStep, clean_step, console_next}
 
 -- a code address from the user's on
 abbrev pub IsUsers : ℕ → Type 0
-IsUsers a = (4096 ≤ a) × (a < 2 ^ 31)
+IsUsers a = (CODE_BASE ≤ a) × (a < 2 ^ 31)
 
 -- a queue of user code
 pub record IsQueue (d : Delay) : Type 0 where
@@ -82,8 +83,8 @@ in_user_alike p c s stall latch counts u =
 -- the coming turn of user code is clean, and takes no interrupt
 pub record IsReady (code own : Code) (inside : ℕ → Bool) (p : Place) (input : Option (List ℕ)) (c : Machine) (s : Watched) : Type 0 where
   pub at_board : IsOnBoard p
-  pub from : 4096 ≤ p.code
-  pub words : (a : ℕ) → 4096 ≤ a → inside a ≡ true → code a ≡ own a
+  pub from : CODE_BASE ≤ p.code
+  pub words : (a : ℕ) → CODE_BASE ≤ a → inside a ≡ true → code a ≡ own a
   pub goes : c.halted ≡ false
   pub quiet : is_taken c ≡ false
   pub clean : (next own inside p input s).clean ≡ true
@@ -133,7 +134,7 @@ module _ (code own : Code) (inside : ℕ → Bool) (p : Place) (input : Option (
   steps : (next own inside p input s).at ≡ after
   steps = step.at ∙ cond-false s.at.halted s.at after goes'
 
-  high : 4096 ≤ (next own inside p input s).at.third.address
+  high : CODE_BASE ≤ (next own inside p input s).at.third.address
   high =
       let e = leb-true p.code (next own inside p input s).at.third.address (ap (λ (d : Delay). leb p.code d.third.address) step.at ∙ inner.1) in
       let f = ready.from in

@@ -3,6 +3,7 @@ use Rattle.std.proofs.Common.{◌≡◌, ℕ, ◌+◌, ◌%◌, ◌^◌, ◌<◌
 use Rattle.std.specs.Prelude.{is_some, unwrap_or}
 use Rattle.std.proofs.lemmas.Bool.{agree_below_at, cond-true, le-leb, leb-true, and_parts}
 use Rattle.std.proofs.lemmas.Bool.Decides.{nat_tests}
+use Rattle.mx_isa.specs.declared.board.TheConstants.{CODE_BASE}
 use Rattle.mx_isa.specs.declared.place.Place.{Place}
 use Rattle.mx_isa.specs.Words.{Words}
 use Rattle.mx_isa.specs.Effect.{Sent, stored}
@@ -58,7 +59,7 @@ module _ (handler user : Code) (inside : ℕ → Bool) (p : Place) (input : Opti
     last = 25;
   }
 
-  module _ (at_board : IsOnBoard p) (at_code : p.code ≡ 4096) where
+  module _ (at_board : IsOnBoard p) (at_code : p.code ≡ CODE_BASE) where
     module _ (c : Machine) (k : Steps) (stall : ℕ) (latch : Bool) (counts : Counted) (u : InUserAfter p c k.done k.interrupts)
         (goes : c.halted ≡ false) (untaken : is_taken c ≡ false) (clean : (next user inside p input k.done).clean ≡ true) where
       abbrev x : Machine
@@ -68,7 +69,7 @@ module _ (handler user : Code) (inside : ℕ → Bool) (p : Place) (input : Opti
       ready = record {
         at_board = at_board;
         from = omega (arith, at_code);
-        words = λ a high is. cond-true _ _ _ (le-leb 4096 a high);
+        words = λ a high is. cond-true _ _ _ (le-leb CODE_BASE a high);
         goes = goes;
         quiet = untaken;
         clean = clean;
@@ -98,13 +99,13 @@ module _ (handler user : Code) (inside : ℕ → Bool) (p : Place) (input : Opti
       no_word = λ k. refl;
       no_interrupt = λ k. (let e : k.interrupts + 0 ≡ k.interrupts = omega arith in ap (done_after k.done) e);
       halted = λ c k u. u.in_user.follows.halted;
-      users = λ c k u. ap is_users u.in_user.follows.alu ∙ le-leb 4096 k.done.at.first.address u.in_user.queue.first.0;
+      users = λ c k u. ap is_users u.in_user.follows.alu ∙ le-leb CODE_BASE k.done.at.first.address u.in_user.queue.first.0;
       alike = λ c k stall latch counts u. record { in_user = in_user_alike p c k.done stall latch counts u.in_user; counted = u.counted };
       turn = λ c k stall latch counts u goes untaken clean. stepped c k stall latch counts u goes untaken clean;
     }
 
   -- before the first cycle
-  pub begins : (words : Words) → p.code ≡ 4096 → words 0 ≡ 0 → Pause setting (start words) 2 (done_after (watch_start p words) 0)
+  pub begins : (words : Words) → p.code ≡ CODE_BASE → words 0 ≡ 0 → Pause setting (start words) 2 (done_after (watch_start p words) 0)
   begins words at_code low = first_pause setting words (done_after (watch_start p words) 0) (record {
     in_user = record {
       follows = record {

@@ -2,6 +2,7 @@
 use Rattle.std.proofs.Common.{◌≡◌, ℕ, zero, suc, ◌+◌, ◌≤◌, Bool, true, false, eqb, ltb, ◌||◌, List, [], ◌∷◌, ◌++◌, length, length-append, append-nil, append_assoc, Option, refl, sym, ap, ◌∙◌, subst, arith}
 use Rattle.std.specs.Prelude.{option_to_list}
 use Rattle.std.proofs.lemmas.Bool.Decides.{nat_tests}
+use Rattle.mx_isa.specs.declared.board.TheConstants.{CODE_BASE}
 use Rattle.mx_isa.specs.declared.place.Place.{Place}
 use Rattle.mx_code.specs.Decoding.{inst_of}
 use Rattle.mx_delay.specs.Delay.{Code, code_from}
@@ -80,7 +81,7 @@ module _ (handler_words user_words : List ℕ) (inside : ℕ → Bool) (p : Plac
   handler = code_from inst_of 0 handler_words
 
   abbrev user : Code
-  user = code_from inst_of 4096 user_words
+  user = code_from inst_of CODE_BASE user_words
 
   abbrev pub steps : ℕ → Watched → Watched
   steps n s = watch_for user inside p input n s
@@ -113,7 +114,7 @@ module _ (handler_words user_words : List ℕ) (inside : ℕ → Bool) (p : Plac
       (subst (λ y. Standing m s w cycles y) g x))
 
   -- where so many requests come at most
-  module _ (at_board : IsOnBoard p) (at_code : p.code ≡ 4096) (most : ℕ) (handled : 1 ≤ most → Handled (setting handler user inside p input)) where
+  module _ (at_board : IsOnBoard p) (at_code : p.code ≡ CODE_BASE) (most : ℕ) (handled : 1 ≤ most → Handled (setting handler user inside p input)) where
     -- one more bit in front
     module _ (b : Bool) (h : List Bool) (m : Machine) (s : Watched) (w cycles asked : ℕ) where
       abbrev n : Machine

@@ -1,5 +1,6 @@
 -- What an interrupt saves in a run, and what comes back.
 use Rattle.std.proofs.Common.{◌≡◌, ℕ, zero, suc, ◌+◌, ◌-◌, ◌%◌, ◌^◌, ◌<◌, ◌≤◌, Bool, true, false, List, [], ◌∷◌, ◌++◌, length, append-nil, append_assoc, Option, refl, sym, ap, ◌∙◌, subst, arith}
+use Rattle.mx_isa.specs.declared.board.TheConstants.{CODE_BASE}
 use Rattle.mx_isa.specs.declared.place.Place.{Place}
 use Rattle.mx_isa.specs.Words.{Words}
 use Rattle.mx_code.specs.Decoding.{inst_of}
@@ -41,10 +42,10 @@ bits_more requests n (suc k) =
           ∙ append_assoc (bits requests n) r.0 (is_requested requests (k + n) ∷ []),
     )
 
-module _ (user_words data_words : List ℕ) (p : Place) (input : Option (List ℕ)) (at_board : IsOnBoard p) (at_code : p.code ≡ 4096)
+module _ (user_words data_words : List ℕ) (p : Place) (input : Option (List ℕ)) (at_board : IsOnBoard p) (at_code : p.code ≡ CODE_BASE)
     (requests : List ℕ) (budget : ℕ) (clean : IsCleanImage (program_of shipped user_words data_words input) p budget) where
   abbrev user : Code
-  user = code_from inst_of 4096 user_words
+  user = code_from inst_of CODE_BASE user_words
 
   abbrev inside : ℕ → Bool
   inside = is_inside p (length user_words)
@@ -166,7 +167,7 @@ module _ (user_words data_words : List ℕ) (p : Place) (input : Option (List �
     )
 
 pub saves_all : (code_words data_words : List ℕ) (input : Option (List ℕ)) (requests : List ℕ) (budget : ℕ) (p : Place)
-    → IsOnBoard p → p.code ≡ 4096
+    → IsOnBoard p → p.code ≡ CODE_BASE
     → let r = program_of shipped code_words data_words input in
     IsCleanImage r p budget
     → (n : ℕ) → n < budget

@@ -1,5 +1,6 @@
 -- What the machine with interrupts does on clean code, under the shipped handler, told by the machine with delay slots.
 use Rattle.std.specs.Prelude.{◌≡◌, ℕ, ◌+◌, ◌*◌, ◌%◌, ◌^◌, ◌≤◌, true, ◌⊎◌, List, [], length, Option}
+use Rattle.mx_isa.specs.declared.board.TheConstants.{CODE_BASE}
 use Rattle.mx_isa.specs.declared.place.Place.{Place}
 use Rattle.mx_code.specs.Decoding.{inst_of}
 use Rattle.mx_delay.specs.Delay.{Code, Delay, code_from, delay}
@@ -25,7 +26,7 @@ pub record RunsAs (p : Place) (run : MachineRun) (d : Delay) : Type 0 where
 
 -- A program's own code, from 4096 on
 abbrev pub user_code : Program → Code
-user_code q = code_from inst_of 4096 q.user_words
+user_code q = code_from inst_of CODE_BASE q.user_words
 
 -- The program's code at a place, with the data words that its run begins with, is clean for n steps.
 abbrev pub IsCleanImage : Program → Place → ℕ → Type 0
@@ -40,7 +41,7 @@ abbrev pub RunIsDelay : Type 0
 RunIsDelay =
     (code_words data_words : List ℕ) (input : Option (List ℕ)) (requests : List ℕ) (budget : ℕ) (p : Place)
     → IsOnBoard p
-    → p.code ≡ 4096
+    → p.code ≡ CODE_BASE
     → let q = program_of shipped code_words data_words input in
     IsCleanImage q p budget
     → let run = run_of q requests budget in
@@ -52,7 +53,7 @@ abbrev pub RunGetsOn : Type 0
 RunGetsOn =
     (code_words data_words : List ℕ) (input : Option (List ℕ)) (requests : List ℕ) (budget : ℕ) (p : Place)
     → IsOnBoard p
-    → p.code ≡ 4096
+    → p.code ≡ CODE_BASE
     → let q = program_of shipped code_words data_words input in
     IsCleanImage q p budget
     → let run = run_of q requests budget in
@@ -64,7 +65,7 @@ abbrev pub UndisturbedRunIsDelay : Type 0
 UndisturbedRunIsDelay =
     (q : Program) (budget : ℕ) (p : Place)
     → IsOnBoard p
-    → p.code ≡ 4096
+    → p.code ≡ CODE_BASE
     → IsCleanImage q p budget
     → let run = run_of q [] budget in
     RunsAs p run (delay_of q p run.passed)
@@ -74,7 +75,7 @@ abbrev pub UndisturbedRunGetsOn : Type 0
 UndisturbedRunGetsOn =
     (q : Program) (budget : ℕ) (p : Place)
     → IsOnBoard p
-    → p.code ≡ 4096
+    → p.code ≡ CODE_BASE
     → IsCleanImage q p budget
     → let run = run_of q [] budget in
     (w : ℕ) → 3 * (w + 3) ≤ budget → (w ≤ run.passed) ⊎ (run.halted ≡ true)

@@ -1,5 +1,6 @@
 -- What an interrupt saves of clean code, and what the shipped handler gives back.
 use Rattle.std.specs.Prelude.{◌≡◌, ℕ, suc, ◌+◌, ◌%◌, ◌^◌, ◌<◌, Bool, true, false, List, Option}
+use Rattle.mx_isa.specs.declared.board.TheConstants.{CODE_BASE}
 use Rattle.mx_isa.specs.declared.place.Place.{Place}
 use Rattle.mx_delay.specs.Delay.{Delay}
 use Rattle.mx_pcchain.specs.Chain.{chain_of}
@@ -41,7 +42,7 @@ abbrev pub InterruptSaves : Type 0
 InterruptSaves =
     (code_words data_words : List ℕ) (input : Option (List ℕ)) (requests : List ℕ) (budget : ℕ) (p : Place)
     → IsOnBoard p
-    → p.code ≡ 4096
+    → p.code ≡ CODE_BASE
     → let q = program_of shipped code_words data_words input in
     IsCleanImage q p budget
     → (n : ℕ) → n < budget

@@ -114,31 +114,32 @@ module _ (machine : Machine) where
         ∙ ap (λ (x : Bool). line (squash x (queued (q + 1))) (squash x (queued (q + 2))) (next_of d.target (q + 2)) s1) is_c
         ∙ ap (λ n. line (squash c (queued (q + 1))) (squash c (queued (q + 2))) n s1) is_z
 
+    -- and so many words behind its own
+    past_by :
+        (n : ℕ) (c : Bool) (z : ℕ) → d.cancels ≡ c → next_of d.target (q + 2) ≡ z → p.code ≤ z
+        → steps (length pre + 1 + n) (begins b s) ≡ steps n (line (squash c (queued (q + 1))) (squash c (queued (q + 2))) z s1)
+    past_by n c z is_c is_z low_z = for_add machine (length pre + 1) n (begins b s) ∙ ap (steps n) (past_transfer c z is_c is_z low_z)
+
     -- both slots are taken
     pub slots_taken :
         (z : ℕ) → d.cancels ≡ false → next_of d.target (q + 2) ≡ z → p.code ≤ z → z + 2 < 2 ^ 31
         → steps (length pre + 1 + 2) (begins b s) ≡ begins z (doing (q + 2) g (doing (q + 1) f s1))
     slots_taken z is_c is_z low_z k =
-        for_add machine (length pre + 1) 2 (begins b s)
-        ∙ ap (steps 2) (past_transfer false z is_c is_z low_z)
-        ∙ two_words (q + 1) (q + 2) z s1 f g rest.2.0 rest.2.1 plain_f at_g in_g plain_g low_z k
+        past_by 2 false z is_c is_z low_z ∙ two_words (q + 1) (q + 2) z s1 f g rest.2.0 rest.2.1 plain_f at_g in_g plain_g low_z k
 
     -- both slots are squashed
     pub slots_cancelled :
         (z : ℕ) → d.cancels ≡ true → next_of d.target (q + 2) ≡ z → p.code ≤ z → z + 2 < 2 ^ 31
         → steps (length pre + 1 + 2) (begins b s) ≡ begins z (doing (q + 2) idle (doing (q + 1) idle s1))
     slots_cancelled z is_c is_z low_z k =
-        for_add machine (length pre + 1) 2 (begins b s)
-        ∙ ap (steps 2) (past_transfer true z is_c is_z low_z)
-        ∙ two_dead (q + 1) (q + 2) z s1 rest.2.1 in_g low_z k
+        past_by 2 true z is_c is_z low_z ∙ two_dead (q + 1) (q + 2) z s1 rest.2.1 in_g low_z k
 
     -- the first slot is done
     pub one_taken :
         (z : ℕ) → d.cancels ≡ false → next_of d.target (q + 2) ≡ z → p.code ≤ z → z + 2 < 2 ^ 31
         → steps (length pre + 1 + 1) (begins b s) ≡ line (queued (q + 2)) (queued z) (z + 1) (doing (q + 1) f s1)
     one_taken z is_c is_z low_z k =
-        for_add machine (length pre + 1) 1 (begins b s)
-        ∙ ap (steps 1) (past_transfer false z is_c is_z low_z)
+        past_by 1 false z is_c is_z low_z
         ∙ sym (plain_word machine (q + 1) (queued (q + 2)) z s1 f rest.2.0 rest.2.1 plain_f low_z (omega arith))
 
   -- a halt

@@ -17,7 +17,6 @@ use Rattle.mx_delay.specs.Delay.{Code, idle, code_from}
 use Rattle.mx_delay.specs.Clean.{is_inside}
 use Rattle.mx_code.proofs.Rows.{spelled}
 use Rattle.mx_source.specs.declared.statement.Statement.{Statement}
-use Rattle.mx_source.specs.declared.statement.Statement.TheVariants.{Plain, LaCode, Branch, Call, CallReg, JumpReg, Halt}
 use Rattle.mx_source.specs.SourceValue.{SourceValue, IsSource}
 use Rattle.mx_blocks.specs.declared.block.Item.{Item}
 use Rattle.mx_blocks.specs.Leaders.{IsBlockOf}
@@ -30,11 +29,12 @@ use Rattle.mx_layout.specs.Layout.{plan_size, StandFrom}
 use Rattle.mx_link.specs.declared.linked.Origin.{Origin}
 use Rattle.mx_link.specs.declared.linked.Origin.TheVariants.{Own, Copy, Pad}
 use Rattle.mx_link.specs.Origins.{Filling, origins_from, origins_at}
-use Rattle.mx_link.specs.Words.{linked_inst, linked_statement, inst_at, insts_from, code_of}
+use Rattle.mx_link.specs.Words.{linked_statement, inst_at, insts_from, code_of}
 use Rattle.mx_link.specs.Parts.{origin_at}
 use Rattle.mx_link.proofs.Sizes.{length-origins_from, length-insts_from}
 use Rattle.mx_link.proofs.Linkable.{Goes, has_words}
 use Rattle.law_link.proofs.Going.{Stands, stands_left, stands_right}
+use Rattle.mx_link.proofs.Registers.{linked_registers}
 
 -- an instruction that has a word
 pub record Spelled (i : Inst) : Type 0 where
@@ -123,16 +123,6 @@ pieces_spelled piece (s ∷ list) h =
     all_append (piece s) (flat_map piece list) (All-head (λ (s : Site). AllSpelled (piece s)) s list h)
     (pieces_spelled piece list (All-tail (λ (s : Site). AllSpelled (piece s)) s list h))
 
--- the registers of a linked instruction are those of its statement
-linked_registers : (link : ℕ → ℕ) (c : Copied) (at : ℕ) (s : Statement) → HasRegisters (statement_inst s) → HasRegisters (linked_inst link c at s)
-linked_registers link c at (Plain i) h = h
-linked_registers link c at (LaCode d t) h = h
-linked_registers link c at (Branch a b condition t) h = h
-linked_registers link c at (Call d t) h = h
-linked_registers link c at (CallReg a d) h = h
-linked_registers link c at (JumpReg a) h = h
-linked_registers link c at Halt h = h
-
 -- the registers of each statement are 0 to 31
 abbrev pub RegistersOf : SourceValue → Type 0
 RegistersOf source = (i : ℕ) (s : Statement) → slice_get source.statements i ≡ Some s → HasRegisters (statement_inst s)
@@ -155,7 +145,7 @@ module _ (source : SourceValue) (registers : RegistersOf source) (link : ℕ →
     where
       by_statement : (o : Option Statement) → slice_get source.statements i ≡ o → HasRegisters (linked_statement link c at o)
       by_statement None e = (omega arith, omega arith, omega arith)
-      by_statement (Some s) e = linked_registers link c at s (registers i s e)
+      by_statement (Some s) e = (linked_registers link c at s).0 (registers i s e)
 
   origin_registers : (c : Copied) (at : ℕ) (o : Origin) → HasRegisters (inst_at link source.statements c at o)
   origin_registers c at (Own i) = statement_registers c at i

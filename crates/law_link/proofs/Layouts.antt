@@ -1,6 +1,7 @@
 -- A layout whose branches reach their targets: what holds of each site (`Facts`), where its transfer goes (`Goal`), that its words
 -- stand (`Standing`), and so the setting in which its runs are (`setting`).
 use Rattle.std.proofs.Common.{◌≡◌, ℕ, ◌+◌, ◌^◌, ◌<◌, ◌≤◌, Bool, true, false, eqb, List, length, All, Option, Some, None, slice_index_or, refl, sym, ap, ◌∙◌, subst, arith, ⊎_elim}
+use Rattle.std.proofs.lemmas.Bool.{false≢true}
 use Rattle.std.specs.Prelude.{slice_get}
 use Rattle.std.proofs.lemmas.Bool.Decides.{nat_tests}
 use Rattle.mx_isa.specs.declared.inst.Inst.{Inst}
@@ -38,9 +39,6 @@ use Rattle.mx_source.specs.Meaning.{program}
 use Rattle.std.proofs.lemmas.Option.{slice_get_within, get_or_from_slice_get}
 use Rattle.std.proofs.Common.{cond}
 
-false_true : false ≡ true → ⊥
-false_true e = grind arith
-
 equal : (m n : ℕ) → eqb m n ≡ true → m ≡ n
 equal m n e = grind (arith, nat_tests)
 
@@ -48,7 +46,7 @@ equal m n e = grind (arith, nat_tests)
 pub goal_first : (e : End) (b : Block) → is_target e b ≡ true → b.first ≡ goal_of e
 goal_first (Branches target) b h = equal b.first target h
 goal_first (Calls target) b h = equal b.first target h
-goal_first _ b h = absurd (false_true h)
+goal_first _ b h = absurd (false≢true h)
 
 -- the places before the terminator of a site that was found
 abbrev pub place_in : Option Site → ℕ

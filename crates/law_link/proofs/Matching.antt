@@ -2,7 +2,7 @@
 -- A statement that is not stuck takes it to what its instruction does, with the same byte and a lawful access (`body_step`).
 use Rattle.std.proofs.Common.{◌≡◌, ℕ, ℤ, suc, ◌+◌, ◌%◌, ◌^◌, ◌<◌, Bool, true, false, cond, eqb, ◌&&◌, ◌||◌, ◌⊎◌, Option, Some, None, refl, sym, ap, ◌∙◌, subst, arith, ⊎_elim, inl, inr}
 use Rattle.std.specs.Prelude.{is_some}
-use Rattle.std.proofs.lemmas.Bool.{eqb-true, or_parts}
+use Rattle.std.proofs.lemmas.Bool.{eqb-true, or_parts, false≢true}
 use Rattle.std.proofs.lemmas.Bool.Decides.{nat_tests}
 use Rattle.mx_isa.specs.declared.inst.Op.{Op}
 use Rattle.mx_isa.specs.declared.inst.Op.TheVariants.{Add}
@@ -24,9 +24,6 @@ use Rattle.mx_source.specs.Values.{Values, value_in, put_value, write_value, is_
 use Rattle.mx_source.specs.Statements.{IsPlain as IsPlainStatement}
 use Rattle.mx_source.specs.Meaning.{Program, State, copies, operands, any_code, why_access, why_plain, passed, store_value, done}
 use Rattle.mx_link.specs.Words.{value_word}
-
-false_true : false ≡ true → ⊥
-false_true e = grind arith
 
 some_none : (w : Why) → Some w ≡ None → ⊥
 some_none w e = cc
@@ -65,7 +62,7 @@ no_code_sent :
     → code ≡ false
 no_code_sent true true user h e = absurd (some_none CodeToConsole h)
 no_code_sent true false user h e = refl
-no_code_sent false code user h e = absurd (false_true e)
+no_code_sent false code user h e = absurd (false≢true e)
 
 module _ (link : ℕ → ℕ) where
   abbrev pub linked : Value → ℕ
@@ -91,7 +88,7 @@ module _ (link : ℕ → ℕ) where
   -- a word in a register is seen as it is
   pub word_linked : (v : Value) → is_code v ≡ false → word_in v ≡ linked v
   word_linked (Int w) h = refl
-  word_linked (Code i) h = absurd (false_true (sym h))
+  word_linked (Code i) h = absurd (false≢true (sym h))
 
   linked_if : (b : Bool) (u v : Value) → linked (cond b u v) ≡ cond b (linked u) (linked v)
   linked_if true u v = refl
@@ -233,7 +230,7 @@ module _ (link : ℕ → ℕ) where
       takes = refl;
       byte = refl;
     }
-    copied_is _ a d b s h = absurd (false_true h)
+    copied_is _ a d b s h = absurd (false≢true h)
 
     abbrev Sees : Inst → State → Type 0
     Sees i s = SeesAlike i (words_in s.regs) (linked_all s.regs)

@@ -4,7 +4,7 @@
 -- before it does them (`shown`).
 use Rattle.std.proofs.Common.{◌≡◌, ℕ, suc, ◌+◌, ◌*◌, ◌-◌, ◌^◌, ◌<◌, ◌≤◌, Bool, true, false, ◌&&◌, List, [], ◌∷◌, ◌++◌, ◌⊎◌, length, length-append, Option, Some, None, refl, sym, ap, ◌∙◌, subst, arith, ⊎_elim, inl, inr}
 use Rattle.std.specs.Prelude.{slice_get}
-use Rattle.std.proofs.lemmas.Bool.{cond-true, cond-false}
+use Rattle.std.proofs.lemmas.Bool.{cond-true, cond-false, false≢true}
 use Rattle.std.proofs.lemmas.Bool.Decides.{nat_tests}
 use Rattle.std.proofs.lemmas.List.{append-nil, length-map}
 use Rattle.mx_isa.specs.declared.inst.Inst.{Inst}
@@ -33,17 +33,7 @@ use Rattle.law_link.proofs.Saying.{said, step_is, not_stuck_before, run_same, ru
 use Rattle.law_link.proofs.Planned.{ran_of, all_ran, all_loaded, bodies, pre, last, bodies_length, pre_length, plain_body, plain_pre, size_ends, falls_run, words_are, ends_run, decides_there, apart_all, apart_pre, end_loaded}
 use Rattle.law_link.proofs.Setting.{Machine, PlannedBlock, Setting, machine_of, short}
 use Rattle.law_link.proofs.Going.{once}
-
-false_true : false ≡ true → ⊥
-false_true e = grind arith
-
-left_below : (n : ℕ) (f g : Item) → AreBelow n (f ∷ g ∷ []) → AreBelow n (f ∷ [])
-left_below n (Op k) g h = (h.0, tt)
-left_below n Nop g h = tt
-
-right_below : (n : ℕ) (f g : Item) → AreBelow n (f ∷ g ∷ []) → AreBelow n (g ∷ [])
-right_below n (Op k) g h = h.1
-right_below n Nop g h = h
+use Rattle.law_order.proofs.Split.{below_left, below_right}
 
 plain_item :
     (insts : List Inst) (n : ℕ) (x : Item) → AreBelow n (x ∷ []) → ((k : ℕ) → k < n → IsPlain (inst_at insts k)) → IsPlain (item_inst insts x)
@@ -62,8 +52,8 @@ some_none : (a : Access) → Some a ≡ None → ⊥
 some_none a e = cc
 
 no_access_moves : (i : Inst) → is_transfer i ≡ true → access i ≡ None
-no_access_moves (Load base d offset) h = absurd (false_true h)
-no_access_moves (Store base v offset) h = absurd (false_true h)
+no_access_moves (Load base d offset) h = absurd (false≢true h)
+no_access_moves (Store base v offset) h = absurd (false≢true h)
 no_access_moves _ h = refl
 
 abbrev pub nowhere : Decision
@@ -488,10 +478,10 @@ module _ (setting : Setting) where
       item_plain x h = plain_item w.insts (body_count w.block) x h (plain_body p.input w.planned inner_plain)
 
       pub plain_f : IsPlain fw
-      plain_f = item_plain f (left_below (body_count w.block) f g below)
+      plain_f = item_plain f (below_left (body_count w.block) (f ∷ []) (g ∷ []) below)
 
       pub plain_g : IsPlain gw
-      plain_g = item_plain g (right_below (body_count w.block) f g below)
+      plain_g = item_plain g (below_right (body_count w.block) (f ∷ []) (g ∷ []) below)
 
       bound : at + 5 < 2 ^ 31
       bound = let fl = front_is in let l3 = len3 in let sm = small (i + n) in let nx = w.next in omega arith
@@ -768,7 +758,7 @@ module _ (setting : Setting) where
           (slots : Slots) → Decides (onward slots.squash) → Landed (i + n) → slots.sure ≡ false → Filled w.insts f g slots
           → Behind slots.first slots.second → Onward
       passes slots e m unsure (Own none clear first second) st = passes_own slots.squash slots.first slots.second e m clear first second st
-      passes slots e m unsure (InSecond one surely ng first head free leads) st = absurd (false_true (sym unsure ∙ surely))
+      passes slots e m unsure (InSecond one surely ng first head free leads) st = absurd (false≢true (sym unsure ∙ surely))
       passes slots e m unsure (InFirst one set nf ng head second leads) st =
           passes_squashed slots.squash slots.first slots.second e m (set unsure) head.plain (subst IsPlain (sym second) idle_plain) nf ng st
       passes slots e m unsure (InBoth two set nf ng head other leads) st =

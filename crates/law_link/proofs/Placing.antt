@@ -1,10 +1,10 @@
 -- The block of each leader stands as the laws on one block want it (`placed`): its body, its plan, and how it ends, which its last
 -- statement tells (`ends`).
-use Rattle.std.proofs.Common.{◌≡◌, ℕ, pos, negsuc, zero, suc, ◌+◌, ◌-◌, ◌%◌, ◌^◌, ◌<◌, ◌≤◌, Bool, true, false, cond, eqb, leb, not, ◌&&◌, ◌||◌, List, [], ◌∷◌, ◌++◌, length, take, All, Option, Some, None, slice_index_or, refl, sym, ap, ◌∙◌, subst, arith, inl}
+use Rattle.std.proofs.Common.{◌≡◌, ℕ, pos, negsuc, zero, suc, ◌+◌, ◌-◌, ◌%◌, ◌^◌, ◌<◌, ◌≤◌, Bool, true, false, cond, eqb, leb, not, ◌&&◌, List, [], ◌∷◌, ◌++◌, length, take, All, Option, Some, None, slice_index_or, refl, sym, ap, ◌∙◌, subst, arith, inl}
 use Rattle.std.specs.Prelude.{slice_get}
 use Rattle.std.specs.Int.{w32, cast_unsigned}
 use Rattle.std.specs.Option.{option_map}
-use Rattle.std.proofs.lemmas.Bool.{and_parts, eqb-true}
+use Rattle.std.proofs.lemmas.Bool.{and_parts, eqb-true, false≢true}
 use Rattle.std.proofs.lemmas.Bool.Decides.{nat_tests}
 use Rattle.std.proofs.lemmas.List.{length-map, map-append}
 use Rattle.std.proofs.lemmas.Option.{same_Some, none-some}
@@ -25,9 +25,9 @@ use Rattle.mx_source.specs.Values.{value_in}
 use Rattle.mx_source.specs.Meaning.{State, jumps, execute}
 use Rattle.mx_blocks.specs.declared.block.Block.{Block}
 use Rattle.mx_blocks.specs.declared.block.Item.{Item}
-use Rattle.mx_blocks.specs.declared.block.Item.TheVariants.{Op, Nop}
+use Rattle.mx_blocks.specs.declared.block.Item.TheVariants.{Op}
 use Rattle.mx_blocks.specs.declared.block.End.TheVariants.{Falls as FallsEnd, Jumps as JumpsEnd}
-use Rattle.mx_blocks.specs.Leaders.{is_leader, end_of, size, IsBlockOf, BlocksFrom}
+use Rattle.mx_blocks.specs.Leaders.{is_leader, end_of, size, BlocksFrom}
 use Rattle.mx_blocks.proofs.LeadersBegin.{block_small}
 use Rattle.mx_validate.specs.Padded.{items_of, falls, body_count}
 use Rattle.mx_squash.specs.declared.copying.Copied.{Copied}
@@ -39,31 +39,20 @@ use Rattle.mx_link.specs.Parts.{origin_at}
 use Rattle.mx_link.proofs.Bodies.{inst_is}
 use Rattle.mx_link.proofs.Linkable.{Goes}
 use Rattle.law_order.specs.Parts.{AreBelow, EndsWith, IsTransfer, Parts}
-use Rattle.law_order.proofs.Split.{has_parts}
+use Rattle.law_order.proofs.Split.{has_parts, below_left, below_right}
 use Rattle.law_order.proofs.Words.{item_inst, words}
 use Rattle.law_link.specs.Laws.{plan_words}
 use Rattle.law_link.proofs.Going.{Stands}
 use Rattle.law_link.proofs.Planned.{bodies_length, size_ends}
 use Rattle.law_link.proofs.Codes.{place_leads, statement_fits}
 use Rattle.law_link.proofs.Sited.{body, there, inst_there, words_from, plain_word_at, end_word}
-use Rattle.mx_layout.proofs.Links.{site_found}
+use Rattle.mx_layout.proofs.Links.{site_found, first_low}
 use Rattle.law_link.proofs.Layouts.{place_in, goes, begins, end_low, setting}
 use Rattle.law_link.proofs.Slots.{never, Stood, linked_site, insts_at, planned_at, parts_stand, Slotted, slots_there, filled_there, own_slots}
 use Rattle.law_link.proofs.Transfers.{Lay, Kind, Branches, Calls, IsBranch, IsCall, EndOf, Falls, Stops, Moves, Jumps}
 use Rattle.law_link.proofs.OneBlock.{Slots, Transfers}
 use Rattle.law_link.proofs.Whole.{Placed}
 use Rattle.law_link.proofs.Setting.{Known, PlannedBlock}
-
-false_true : false ≡ true → ⊥
-false_true e = grind arith
-
--- no block begins before the first
-first_low :
-    (source : SourceValue) (i j : ℕ) (list : List Site) (k : ℕ) (d : Site) → BlocksFrom source i j (blocks_in list) → k < length list
-    → i ≤ (slice_index_or list k d).block.first
-first_low source i j [] k d h l = absurd (omega arith)
-first_low source i j (s ∷ list) zero d h l = let first = h.0 in omega arith
-first_low source i j (s ∷ list) (suc k) d h l = let later = first_low source (i + size s.block) j list k d h.2 (omega arith) in omega arith
 
 behind_block : (t : ℕ) (b : Block) → b.first + size b ≤ t → has_statement t b ≡ false
 behind_block t b l = grind (arith, nat_tests)
@@ -99,14 +88,6 @@ next_links source i j at (s ∷ list) h st (suc k) d l =
     (behind_block (r.block.first + size r.block) s.block (omega arith))
     ∙ next_links source (i + size s.block) j (at + plan_size s.plan) list h.2 st.1 k d (omega arith)
 
-left_below : (n : ℕ) (f g : Item) → AreBelow n (f ∷ g ∷ []) → AreBelow n (f ∷ [])
-left_below n (Op k) g h = (h.0, tt)
-left_below n Nop g h = tt
-
-right_below : (n : ℕ) (f g : Item) → AreBelow n (f ∷ g ∷ []) → AreBelow n (g ∷ [])
-right_below n (Op k) g h = h.1
-right_below n Nop g h = h
-
 -- a displacement leads from one address to the other
 displaced : (a z : ℕ) → a < 2 ^ 31 → z < 2 ^ 31 → (a + cast_unsigned w32 (displacement a z)) % 2 ^ 31 ≡ z
 displaced a z h k = by_order (leb a z) refl
@@ -124,7 +105,7 @@ always_holds a b Eq f e =
     let za = eqb-true a 0 both.0 in
     let zb = eqb-true b 0 both.1 in
     (λ k. condition_holds Eq (reg f (za k)) (reg f (zb k)))
-always_holds a b _ f e = absurd (false_true e)
+always_holds a b _ f e = absurd (false≢true e)
 
 module _ (known : Known) where
   open known use {linking.{filling, source, place, sites as all}, laid.{well_formed as is, layout as h}, bare}
@@ -314,10 +295,10 @@ module _ (known : Known) where
     -- a transfer and its slots
     module _ (f_not : falls s.block.end ≡ false) (t : IsTransfer n back) where
       below_f : AreBelow n (t.first ∷ [])
-      below_f = left_below n t.first t.second t.slots
+      below_f = below_left n (t.first ∷ []) (t.second ∷ []) t.slots
 
       below_g : AreBelow n (t.second ∷ [])
-      below_g = right_below n t.first t.second t.slots
+      below_g = below_right n (t.first ∷ []) (t.second ∷ []) t.slots
 
       abbrev transfers : TransfersHere
       transfers = record { f_not = f_not; f = t.first; g = t.second; three = t.is; below = t.slots }

@@ -4,7 +4,7 @@
 use Rattle.std.proofs.Common.{◌≡◌, ℕ, pos, zero, suc, ◌+◌, ◌^◌, ◌<◌, Bool, true, false, cond, ◌&&◌, List, [], ◌∷◌, ◌++◌, length, Option, Some, None, option_to_list, append_assoc, refl, sym, ap, ◌∙◌, subst, arith, ⊎_elim}
 use Rattle.std.specs.Prelude.{slice_get}
 use Rattle.std.specs.Int.{w32, cast_unsigned}
-use Rattle.std.proofs.lemmas.Bool.{cases_Bool}
+use Rattle.std.proofs.lemmas.Bool.{cases_Bool, false≢true}
 use Rattle.std.proofs.lemmas.List.{append-nil}
 use Rattle.mx_isa.specs.declared.inst.Inst.{Inst}
 use Rattle.mx_isa.specs.declared.inst.Inst.TheVariants.{Addi, Load, Store, Compute, MoveFrom, MoveTo}
@@ -37,9 +37,6 @@ abbrev pub is_going : Mark → Bool
 is_going Going = true
 is_going _ = false
 
-false_true : false ≡ true → ⊥
-false_true e = grind arith
-
 module _ (p : Program) where
   -- a step, by the statement that stands there
   abbrev pub said : Option Statement → Run → Run
@@ -57,8 +54,8 @@ module _ (p : Program) where
   stuck_stays r h = by_mark r.state.mark (execute p (slice_get p.statements r.state.index) r.state) h
     where
       by_mark : (m : Mark) (t : Step) → is_stuck m ≡ true → is_stuck (if_going m t r.state).after.mark ≡ true
-      by_mark Going t e = absurd (false_true e)
-      by_mark Halted t e = absurd (false_true e)
+      by_mark Going t e = absurd (false≢true e)
+      by_mark Halted t e = absurd (false≢true e)
       by_mark (Stuck why) t e = h
 
   stuck_later : (n : ℕ) (r : Run) → is_stuck r.state.mark ≡ true → is_stuck (run_for p n r).state.mark ≡ true
@@ -66,7 +63,7 @@ module _ (p : Program) where
   stuck_later (suc n) r h = stuck_later n (run_step p r) (stuck_stays r h)
 
   pub not_stuck_before : (n : ℕ) (r : Run) → is_stuck (run_for p n r).state.mark ≡ false → is_stuck r.state.mark ≡ false
-  not_stuck_before n r h = ⊎_elim (λ t. absurd (false_true (sym h ∙ stuck_later n r t))) (λ f. f) (cases_Bool (is_stuck r.state.mark))
+  not_stuck_before n r h = ⊎_elim (λ t. absurd (false≢true (sym h ∙ stuck_later n r t))) (λ f. f) (cases_Bool (is_stuck r.state.mark))
 
   pub run_same : (m n : ℕ) (r : Run) → m ≡ n → run_for p m r ≡ run_for p n r
   run_same m n r e = ap (λ k. run_for p k r) e
@@ -91,7 +88,7 @@ module _ (p : Program) where
       by_mark :
           (m : Mark) (t : Step) → is_going m ≡ false → (let u : Run =
           record { state = (if_going m t r.state).after; console = r.console ++ option_to_list (if_going m t r.state).byte } in u ≡ r)
-      by_mark Going t e = absurd (false_true (sym e))
+      by_mark Going t e = absurd (false≢true (sym e))
       by_mark Halted t e = λ k. record { state = r.state; console = append-nil r.console k }
       by_mark (Stuck why) t e = λ k. record { state = r.state; console = append-nil r.console k }
 
@@ -101,7 +98,7 @@ module _ (p : Program) where
 
 mark_none : (o : Option Why) (t : Step) (s : State) → is_stuck (unless_stuck o t s).after.mark ≡ false → o ≡ None
 mark_none None t s h = refl
-mark_none (Some why) t s h = absurd (false_true (sym h))
+mark_none (Some why) t s h = absurd (false≢true (sym h))
 
 -- a plain statement neither transfers nor halts
 pub plain_stays : (i : Inst) → IsPlainStatement i → IsPlain i
@@ -176,7 +173,7 @@ module _ (link : ℕ → ℕ) where
           }
         where
           stay : (t : Bool) → t ≡ false → cond t (decides i 0 (core_of link r.state).regs) d ≡ d
-          stay true e = absurd (false_true (sym e))
+          stay true e = absurd (false≢true (sym e))
           stay false e = refl
 
       abbrev plain_said : Inst → Run → Option Why → Run

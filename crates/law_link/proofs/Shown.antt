@@ -1,15 +1,14 @@
 -- The laws of linked code, from those on whole runs: the watched machine is the machine with delay slots (`watched_at`), its run begins
 -- as that machine starts (`begins_so`), and so what whole runs show of the meaning linked code shows (`shows_so`).
-use Rattle.std.proofs.Common.{◌≡◌, ℕ, zero, suc, ◌+◌, ◌*◌, ◌-◌, ◌<◌, ◌≤◌, Bool, true, false, cond, leb, not, ◌&&◌, List, [], ◌∷◌, length, map, Option, refl, sym, ap, ◌∙◌, subst, arith, ⊎_elim, inl, inr, ltb}
+use Rattle.std.proofs.Common.{◌≡◌, ℕ, zero, suc, ◌+◌, ◌*◌, ◌-◌, ◌<◌, ◌≤◌, Bool, true, false, cond, leb, ◌&&◌, List, [], ◌∷◌, length, map, Option, refl, sym, ap, ◌∙◌, subst, arith, ⊎_elim, inl, inr, ltb}
 use Rattle.std.specs.Prelude.{slice_index, slice_index_or}
-use Rattle.std.proofs.lemmas.Bool.{cond-true, cond-false, cases_lt}
+use Rattle.std.proofs.lemmas.Bool.{cases_lt, false≢true}
 use Rattle.std.proofs.lemmas.Bool.Decides.{nat_tests}
 use Rattle.mx_isa.specs.declared.place.Place.{Place}
-use Rattle.mx_isa.specs.Effect.{Core, decides}
-use Rattle.mx_isa.specs.Views.{reads}
+use Rattle.mx_isa.specs.Effect.{Core}
 use Rattle.mx_isa.proofs.Frame.{same_words}
-use Rattle.mx_delay.specs.Delay.{Code, does, data_from, Delay, stepped, delay_step, delay_for}
-use Rattle.mx_delay.specs.Clean.{is_clean_step, loads_to, Watched, watch, watch_start, watch_for}
+use Rattle.mx_delay.specs.Delay.{data_from, Delay}
+use Rattle.mx_delay.specs.Clean.{Watched, watch_start, watch_for}
 use Rattle.mx_source.specs.declared.statement.Value.{Value}
 use Rattle.mx_source.specs.declared.statement.Value.TheVariants.{Int}
 use Rattle.mx_source.specs.SourceValue.{SourceValue}
@@ -34,9 +33,6 @@ use Rattle.law_link.proofs.Placing.{placed}
 use Rattle.law_link.proofs.Whole.{Placed, Begun, D, from, M_stays, runs_clean, halts_soon as soon_halted, halted_back, sent_soon, sum_of_plans}
 use Rattle.law_link.proofs.Starts.{FetchesLeader, block_starts, sum_grows, some_words, block_at_fetch}
 use Rattle.law_link.proofs.Setting.{FillsSo, Known, Setting}
-
-false_true : false ≡ true → ⊥
-false_true e = grind arith
 
 -- the first block stands at the beginning
 first_link : (source : SourceValue) (j at : ℕ) (sites : List Site) → BlocksFrom source 0 j (blocks_in sites) → link_of at sites 0 ≡ at
@@ -207,10 +203,10 @@ module _ (known : Known) where
       by_mark : (k : Mark) → (meant l m).state.mark ≡ k → (meant l m).state.mark ≡ Going
       by_mark Going q = q
       by_mark Halted q =
-          absurd (false_true (sym (ap is_going q) ∙ sym (ap (λ (r : Run). is_going r.state.mark) (M_stays seen begun m last le (ap is_going q)))
+          absurd (false≢true (sym (ap is_going q) ∙ sym (ap (λ (r : Run). is_going r.state.mark) (M_stays seen begun m last le (ap is_going q)))
           ∙ ap is_going e))
       by_mark (Stuck why) q =
-          absurd (false_true (sym (ap is_going q) ∙ sym (ap (λ (r : Run). is_going r.state.mark) (M_stays seen begun m last le (ap is_going q)))
+          absurd (false≢true (sym (ap is_going q) ∙ sym (ap (λ (r : Run). is_going r.state.mark) (M_stays seen begun m last le (ap is_going q)))
           ∙ ap is_going e))
 
   halted_so : (j : ℕ) → IsSafe l (j + 64) → (linked_run l j).halted ≡ true → HaltedBefore l j
@@ -267,7 +263,7 @@ module _ (known : Known) where
   behind i j w less lead = ⊎_elim
       (λ (q : j < i + length (insts_of w.lay.block)).
       let on : i + (j - i) ≡ j = omega arith in
-      absurd (false_true (sym (w.inner (j - i) (omega arith) (omega arith)) ∙ ap (is_leader source) on ∙ lead)))
+      absurd (false≢true (sym (w.inner (j - i) (omega arith) (omega arith)) ∙ ap (is_leader source) on ∙ lead)))
       (λ q. q)
       (cases_lt j (i + length (insts_of w.lay.block)))
 

@@ -2,6 +2,7 @@
 -- plan. Before the terminator's place each word is its item's (`front_words`), and what a body holds is linked alike everywhere
 -- (`linked_anywhere`), so also where it is copied to.
 use Rattle.std.proofs.Common.{◌≡◌, ℕ, suc, ◌+◌, ◌<◌, ◌≤◌, Bool, true, false, cond, eqb, List, [], ◌∷◌, ◌++◌, length, map, take, All, Option, Some, None, slice_index_or, refl, sym, ap, ◌∙◌, subst, arith}
+use Rattle.std.proofs.lemmas.Bool.{false≢true}
 use Rattle.std.specs.Prelude.{slice_get, slice_range, is_some}
 use Rattle.std.specs.Option.{option_map}
 use Rattle.std.proofs.lemmas.Bool.Decides.{nat_tests}
@@ -33,13 +34,10 @@ use Rattle.mx_link.proofs.Fits.{inst_fits}
 use Rattle.mx_link.proofs.Sizes.{length-origins_from}
 use Rattle.law_order.specs.Laws.{unplaced, IsPlanned}
 use Rattle.law_order.specs.Parts.{AreBelow}
-use Rattle.law_order.proofs.Split.{body_within, body_goes_on}
+use Rattle.law_order.proofs.Split.{body_within, body_goes_on, below_left, below_right}
 use Rattle.law_order.proofs.Words.{item_inst, words}
 use Rattle.law_link.proofs.Saying.{IsBodyOf, AreBody}
 use Rattle.law_link.proofs.Setting.{LinkedSite}
-
-false_true : false ≡ true → ⊥
-false_true e = grind arith
 
 -- but for what depends on where it stands, a linked instruction is its statement's
 unplaced_same : (link : ℕ → ℕ) (c : Copied) (at : ℕ) (s : Statement) → unplaced (linked_inst link c at s) ≡ unplaced (inst_of s)
@@ -62,22 +60,22 @@ pub linked_anywhere :
     → linked_inst link c at s ≡ linked_inst link c' at' s
 linked_anywhere link c c' at at' (Plain i) h = refl
 linked_anywhere link c c' at at' (LaCode d t) h = refl
-linked_anywhere link c c' at at' (Branch a b condition t) h = absurd (false_true (sym h))
-linked_anywhere link c c' at at' (Call d t) h = absurd (false_true (sym h))
-linked_anywhere link c c' at at' (CallReg a d) h = absurd (false_true (sym h))
-linked_anywhere link c c' at at' (JumpReg a) h = absurd (false_true (sym h))
-linked_anywhere link c c' at at' Halt h = absurd (false_true (sym h))
+linked_anywhere link c c' at at' (Branch a b condition t) h = absurd (false≢true (sym h))
+linked_anywhere link c c' at at' (Call d t) h = absurd (false≢true (sym h))
+linked_anywhere link c c' at at' (CallReg a d) h = absurd (false≢true (sym h))
+linked_anywhere link c c' at at' (JumpReg a) h = absurd (false≢true (sym h))
+linked_anywhere link c c' at at' Halt h = absurd (false≢true (sym h))
 
 body_of :
     (link : ℕ → ℕ) (P : ℕ → Type 0) (c : Copied) (at : ℕ) (s : Statement) → StatementFits P s → is_last (inst_of s) ≡ false
     → IsBodyOf link (Some s) (linked_inst link c at s)
 body_of link P c at (Plain i) f h = (f.0, refl)
 body_of link P c at (LaCode d t) f h = refl
-body_of link P c at (Branch a b condition t) f h = absurd (false_true (sym h))
-body_of link P c at (Call d t) f h = absurd (false_true (sym h))
-body_of link P c at (CallReg a d) f h = absurd (false_true (sym h))
-body_of link P c at (JumpReg a) f h = absurd (false_true (sym h))
-body_of link P c at Halt f h = absurd (false_true (sym h))
+body_of link P c at (Branch a b condition t) f h = absurd (false≢true (sym h))
+body_of link P c at (Call d t) f h = absurd (false≢true (sym h))
+body_of link P c at (CallReg a d) f h = absurd (false≢true (sym h))
+body_of link P c at (JumpReg a) f h = absurd (false≢true (sym h))
+body_of link P c at Halt f h = absurd (false≢true (sym h))
 
 are_body :
     (link : ℕ → ℕ) (statements : List Statement) (i : ℕ) (xs : List Inst)
@@ -223,8 +221,8 @@ module _ (here : LinkedSite) where
   not_copied p h = none (eqb p (s.plan.place + 1)) (eqb p (s.plan.place + 2)) (grind (arith, nat_tests)) (grind (arith, nat_tests))
     where
       none : (x y : Bool) → x ≡ false → y ≡ false → cond x (slice_index_or c.from 0 Nop) (cond y (slice_index_or c.from 1 Nop) Nop) ≡ Nop
-      none true y e f = absurd (false_true (sym e))
-      none false true e f = absurd (false_true (sym f))
+      none true y e f = absurd (false≢true (sym e))
+      none false true e f = absurd (false≢true (sym f))
       none false false e f = refl
 
   -- the word of an item at place p
@@ -237,14 +235,6 @@ module _ (here : LinkedSite) where
   abbrev pub words_from : ℕ → List Item → List Inst
   words_from p items = insts_from link source.statements c (s.start + p) (origins_from s c p items)
 
-  right_below : (n : ℕ) (x : Item) (items : List Item) → AreBelow n (x ∷ items) → AreBelow n items
-  right_below n (Op k) items h = h.1
-  right_below n Nop items h = h
-
-  left_below : (n : ℕ) (x : Item) (items : List Item) → AreBelow n (x ∷ items) → AreBelow n (x ∷ [])
-  left_below n (Op k) items h = (h.0, tt)
-  left_below n Nop items h = tt
-
   -- items before the terminator's place
   pub front_words :
       (p : ℕ) (items : List Item) → p + length items ≤ s.plan.place → AreBelow (body_count s.block) items → words_from p items ≡ words insts items
@@ -252,8 +242,8 @@ module _ (here : LinkedSite) where
   front_words p (x ∷ items) l h =
       let on : suc (s.start + p) ≡ s.start + suc p = omega arith in
       (λ k. (plain_word_at p x (omega arith) ∙ body_word (s.start + p) x
-      (left_below (body_count s.block) x items h)) k ∷ insts_from link source.statements c (on k) (origins_from s c (suc p) items))
-      ∙ ap (λ l. item_inst insts x ∷ l) (front_words (suc p) items (omega arith) (right_below (body_count s.block) x items h))
+      (below_left (body_count s.block) (x ∷ []) items h)) k ∷ insts_from link source.statements c (on k) (origins_from s c (suc p) items))
+      ∙ ap (λ l. item_inst insts x ∷ l) (front_words (suc p) items (omega arith) (below_right (body_count s.block) (x ∷ []) items h))
 
   -- items before others
   pub words_append : (xs ys : List Item) → words_from 0 (xs ++ ys) ≡ words_from 0 xs ++ words_from (length xs) ys

@@ -2,7 +2,7 @@
 -- What is copied is no load that the word behind it reads (`free`), and is a word of the target before its terminator (`is_head`).
 use Rattle.std.proofs.Common.{◌≡◌, ◌≢◌, ℕ, zero, suc, ◌+◌, ◌<◌, ◌≤◌, Bool, true, false, cond, eqb, ltb, not, ◌&&◌, ◌||◌, List, [], ◌∷◌, ◌++◌, ◌⊎◌, length, Option, Some, None, slice_index_or, take, min, refl, sym, ap, ◌∙◌, subst, arith, ⊎_elim, inl, inr}
 use Rattle.std.specs.Prelude.{slice_get}
-use Rattle.std.proofs.lemmas.Bool.{cases_eq, and_parts, cond-true, cond-false}
+use Rattle.std.proofs.lemmas.Bool.{cases_eq, and_parts, cond-true, cond-false, false≢true}
 use Rattle.std.proofs.lemmas.Bool.Decides.{nat_tests}
 use Rattle.std.proofs.lemmas.Option.{get_or_from_slice_get, slice_get-get_or}
 use Rattle.mx_isa.specs.declared.inst.Inst.{Inst}
@@ -37,9 +37,7 @@ use Rattle.law_link.proofs.Sited.{insts, laid, body, there, inst_there, linked_a
 use Rattle.law_link.proofs.Layouts.{place_in, Goal, goal_is, goes, Standing, standing, setting}
 use Rattle.mx_layout.proofs.Links.{site_found}
 use Rattle.law_link.proofs.Setting.{Known, LinkedSite, PlannedBlock}
-
-false_true : false ≡ true → ⊥
-false_true e = grind arith
+use Rattle.mx_link.proofs.Slots.{copyable_first, copyable_second, at_most_two}
 
 get_left : (xs ys : List Item) (k : ℕ) (x : Item) → k < length xs → slice_get (xs ++ ys) k ≡ Some x → slice_get xs k ≡ Some x
 get_left [] ys k x l e = absurd (omega arith)
@@ -71,9 +69,15 @@ item_stands code inside b list (y ∷ items) (suc k) x h e =
     let on : b + 1 + k ≡ b + suc k = omega arith in
     record { at = ap code (sym on) ∙ r.at; within = ap inside (sym on) ∙ r.within }
 
+pub min_left : (a b m : ℕ) → m ≡ min a b → m ≤ a
+min_left a b m e = omega arith
+
+pub min_right : (a b m : ℕ) → m ≡ min a b → m ≤ b
+min_right a b m e = omega arith
+
 pub nop_is : (x : Item) → is_nop (Some x) ≡ true → x ≡ Nop
 nop_is Nop e = refl
-nop_is (Op k) e = absurd (false_true e)
+nop_is (Op k) e = absurd (false≢true e)
 
 get_front : (xs : List Item) (y f g : Item) (k : ℕ) → slice_get (xs ++ y ∷ f ∷ g ∷ []) (length xs + suc k) ≡ slice_get (f ∷ g ∷ []) k
 get_front [] y f g k = ap (slice_get (y ∷ f ∷ g ∷ [])) (let e : 0 + suc k ≡ suc k = omega arith in e)
@@ -167,7 +171,7 @@ module _ (known : Known) where
       (s g : Site) (st : Stood g) → g.block.first ≡ goal_of s.block.end → (c : Copied) (a : ℕ) (x own' : Item)
       → AreBelow (body_count g.block) (x ∷ []) → is_op (Some x) ≡ true
       → inst_at lk source.statements c a (over (goal_of s.block.end) x (own s.block.first own')) ≡ item_inst (insts_at g st) x
-  copy_word s g st first c a Nop own' b e = absurd (false_true e)
+  copy_word s g st first c a Nop own' b e = absurd (false≢true e)
   copy_word s g st first c a (Op k) own' b e =
       let go = goes known g st.of in
       let w = body_within g.block in
@@ -206,22 +210,8 @@ copyable_there plan k e =
     below m n t = grind (arith, nat_tests)
 
     by_item : (o : Option Item) → slice_get (items_of plan) k ≡ o → is_op (slice_get (items_of plan) k) ≡ true → k < plan.place → Copyable plan k
-    by_item None f t l = absurd (false_true (sym (ap is_op f) ∙ t))
+    by_item None f t l = absurd (false≢true (sym (ap is_op f) ∙ t))
     by_item (Some x) f t l = record { before = l; item = x; there = f; op = sym (ap is_op f) ∙ t; is_at = get_or_from_slice_get (items_of plan) k x Nop f }
-
-first_copied : (a b : Bool) → 1 ≤ cond a (cond b 2 1) 0 → a ≡ true
-first_copied true b h = refl
-first_copied false b h = absurd (omega arith)
-
-second_copied : (a b : Bool) → 2 ≤ cond a (cond b 2 1) 0 → b ≡ true
-second_copied true true h = refl
-second_copied true false h = absurd (omega arith)
-second_copied false b h = absurd (omega arith)
-
-pub at_most_two : (a b : Bool) → cond a (cond b 2 1) 0 ≤ 2
-at_most_two true true = omega arith
-at_most_two true false = omega arith
-at_most_two false b = omega arith
 
 pub record Counted (fed : Bool) (n m : ℕ) : Type 0 where
   pub not_fed : fed ≡ false
@@ -287,6 +277,23 @@ pub record Slotted (known : Known) : Type 0 where
   pub three : parts.back ≡ Op (body_count site.block) ∷ f ∷ g ∷ []
   pub below_f : AreBelow (body_count site.block) (f ∷ [])
   pub below_g : AreBelow (body_count site.block) (g ∷ [])
+
+-- what the copies of a site say of its slots where they come from a target
+pub record CopiesOf (s gs : Site) (c : Copied) : Type 0 where
+  pub count_is : c.count ≡ count s gs
+  pub from_is : c.from ≡ filled (room s.block s.plan) (count s gs) (item_at gs.plan 0) (item_at gs.plan 1)
+  pub squash_is : c.squash ≡ (ltb 0 (count s gs) && may_stay s.block)
+
+pub copies_of : (s gs : Site) (c : Copied) → c ≡ copied s (Some gs) → CopiesOf s gs c
+copies_of s gs c e = record {
+  count_is = ap (λ (d : Copied). d.count) e;
+  from_is = ap (λ (d : Copied). d.from) e;
+  squash_is = ap (λ (d : Copied). d.squash) e;
+}
+
+-- an end that is no branch leaves nothing to a copy
+pub stays_not : (s : Site) → is_branch_end s.block.end ≡ false → may_stay s.block ≡ false
+stays_not s e = ap (λ b. b && not (always_goes (terminator s.block))) e
 
 module _ (known : Known) (here : Slotted known) where
   open known use {linking.{filling, source, sites as all}, bare, fills}
@@ -379,24 +386,15 @@ module _ (known : Known) (here : Slotted known) where
     abbrev n : ℕ
     n = count s gs
 
-    count_is : c.count ≡ n
-    count_is = ap (λ (d : Copied). d.count) is_c
-
-    from_is : c.from ≡ filled (room s.block s.plan) n (item_at gs.plan 0) (item_at gs.plan 1)
-    from_is = ap (λ (d : Copied). d.from) is_c
-
-    squash_is : c.squash ≡ (ltb 0 n && may_stay s.block)
-    squash_is = ap (λ (d : Copied). d.squash) is_c
+    told : CopiesOf s gs c
+    told = copies_of s gs c is_c
 
     -- where words are copied, the branch squashes unless it always goes
     set : 1 ≤ n → sure ≡ false → c.squash ≡ true
-    set some e = squash_is ∙ both (ltb 0 n) (may_stay s.block) (grind (arith, nat_tests)) e
+    set some e = told.squash_is ∙ both (ltb 0 n) (may_stay s.block) (grind (arith, nat_tests)) e
       where
         both : (a b : Bool) → a ≡ true → not b ≡ false → (a && b) ≡ true
         both a b h k = grind arith
-
-    stays_not : is_branch_end s.block.end ≡ false → may_stay s.block ≡ false
-    stays_not e = ap (λ b. b && not (always_goes (terminator s.block))) e
 
     -- a load in slot 1 does not feed the word in slot 2
     free :
@@ -415,7 +413,7 @@ module _ (known : Known) (here : Slotted known) where
         by_item :
             (wi : Item) → slice_get (items_of gs.plan) 0 ≡ Some wi → is_op (Some wi) ≡ true → AreBelow (body_count gs.block) (wi ∷ [])
             → reads (item_inst (insts_of_site gs gst) wi) (loads_to (inst_number (insts_of_site s st) k)) ≡ false
-        by_item Nop there op bw = absurd (false_true op)
+        by_item Nop there op bw = absurd (false≢true op)
         by_item (Op j) there op bw =
             let ws = body_within s.block in
             let wg = body_within gs.block in
@@ -450,23 +448,23 @@ module _ (known : Known) (here : Slotted known) where
         let k = counted (is_too_far s gs) (is_fed s gs) (most s gs) some in
         let few : n ≤ room s.block s.plan = min_left (room s.block s.plan) (copyable gs.plan) n k.all_of in
         let less : n ≤ copyable gs.plan = min_right (room s.block s.plan) (copyable gs.plan) n k.all_of in
-        let first = copyable_there gs.plan 0 (first_copied (may_copy gs.plan 0) (may_copy gs.plan 1) (omega arith)) in
+        let first = copyable_there gs.plan 0 (copyable_first gs.plan (omega arith)) in
         let nop_g : is_nop (slot s.plan 2) ≡ true → g ≡ Nop = λ e. nop_is g (sym (ap is_nop slot_g) ∙ e) in
         let nop_f : is_nop (slot s.plan 1) ≡ true → f ≡ Nop = λ e. nop_is f (sym (ap is_nop slot_f) ∙ e) in
         ⊎_elim
         (λ (r : RoomForBoth (room s.block s.plan) (is_nop (slot s.plan 1)) (is_nop (slot s.plan 2))). ⊎_elim
         (λ (one : n ≡ 1).
-        let e = from_is ∙ from_first (room s.block s.plan) n (item_at gs.plan 0) (item_at gs.plan 1) r.two one in
-        InFirst (count_is ∙ one) (set some) (nop_f r.first) (nop_g r.second)
+        let e = told.from_is ∙ from_first (room s.block s.plan) n (item_at gs.plan 0) (item_at gs.plan 1) r.two one in
+        InFirst (told.count_is ∙ one) (set some) (nop_f r.first) (nop_g r.second)
         (subst (λ i. HeadOf known goal 0 i) (sym (x_is first.item (ap (λ l. slice_index_or l 0 Nop) e ∙ first.is_at) ∙ copied_in 1 0 first f))
         (headed 0 first).head)
         (y_is Nop (ap (λ l. slice_index_or l 1 Nop) e) ∙ own_item 2 g below_g ∙ ap (item_inst (insts_of_site s st)) (nop_g r.second))
         goal_leads)
         (λ (more : n ≢ 1).
         let two : n ≡ 2 = (let t = at_most_two (may_copy gs.plan 0) (may_copy gs.plan 1) in omega arith) in
-        let second = copyable_there gs.plan 1 (second_copied (may_copy gs.plan 0) (may_copy gs.plan 1) (omega arith)) in
-        let e = from_is ∙ from_both (room s.block s.plan) n (item_at gs.plan 0) (item_at gs.plan 1) r.two two in
-        InBoth (count_is ∙ two) (set some) (nop_f r.first) (nop_g r.second)
+        let second = copyable_there gs.plan 1 (copyable_second gs.plan (omega arith)) in
+        let e = told.from_is ∙ from_both (room s.block s.plan) n (item_at gs.plan 0) (item_at gs.plan 1) r.two two in
+        InBoth (told.count_is ∙ two) (set some) (nop_f r.first) (nop_g r.second)
         (subst (λ i. HeadOf known goal 0 i) (sym (x_is first.item (ap (λ l. slice_index_or l 0 Nop) e ∙ first.is_at) ∙ copied_in 1 0 first f))
         (headed 0 first).head)
         (subst (λ i. HeadOf known goal 1 i) (sym (y_is second.item (ap (λ l. slice_index_or l 1 Nop) e ∙ second.is_at) ∙ copied_in 2 1 second g))
@@ -476,25 +474,19 @@ module _ (known : Known) (here : Slotted known) where
         (λ (r : RoomForOne (room s.block s.plan) (may_stay s.block) (is_nop (slot s.plan 2))).
         let room_one = r.one in
         let one : n ≡ 1 = omega arith in
-        let e = from_is ∙ from_second (room s.block s.plan) n (item_at gs.plan 0) (item_at gs.plan 1) r.one one in
+        let e = told.from_is ∙ from_second (room s.block s.plan) n (item_at gs.plan 0) (item_at gs.plan 1) r.one one in
         let x_own = x_is Nop (ap (λ l. slice_index_or l 0 Nop) e) ∙ own_item 1 f below_f in
         let y_copy = y_is first.item (ap (λ l. slice_index_or l 1 Nop) e ∙ first.is_at) ∙ copied_in 2 0 first g in
-        InSecond (count_is ∙ one) (ap not r.surely) (nop_g r.second) x_own
+        InSecond (told.count_is ∙ one) (ap not r.surely) (nop_g r.second) x_own
         (subst (λ i. HeadOf known goal 0 i) (sym y_copy) (headed 0 first).head)
         ((λ k. reads (y_copy k) (loads_to (x_own k))) ∙ free first r.one k.not_fed f refl below_f)
         goal_leads)
-        (room_cases s.block.end (may_stay s.block) (is_nop (slot s.plan 1)) (is_nop (slot s.plan 2)) stays_not (omega arith))
-      where
-        min_left : (a b m : ℕ) → m ≡ min a b → m ≤ a
-        min_left a b m e = omega arith
-
-        min_right : (a b m : ℕ) → m ≡ min a b → m ≤ b
-        min_right a b m e = omega arith
+        (room_cases s.block.end (may_stay s.block) (is_nop (slot s.plan 1)) (is_nop (slot s.plan 2)) (stays_not s) (omega arith))
 
     from_goal : FilledHere
     from_goal = ⊎_elim
-        (λ (z : n ≡ 0). all_own (count_is ∙ z) (squash_is ∙ ap (λ m. ltb 0 m && may_stay s.block) z)
-        (from_is ∙ from_zero (room s.block s.plan) n (item_at gs.plan 0) (item_at gs.plan 1) z))
+        (λ (z : n ≡ 0). all_own (told.count_is ∙ z) (told.squash_is ∙ ap (λ m. ltb 0 m && may_stay s.block) z)
+        (told.from_is ∙ from_zero (room s.block s.plan) n (item_at gs.plan 0) (item_at gs.plan 1) z))
         (λ (z : n ≢ 0). some_copied (omega arith))
         (cases_eq n 0)
 

@@ -3,7 +3,7 @@
 -- other way the words of one block are taken each at its place (`first_at`), and of all of them only the first has the address of a
 -- leader: so where that address is fetched, a block starts (`block_at_fetch`, again across one block by `run_block`).
 use Rattle.std.proofs.Common.{◌≡◌, ℕ, zero, suc, ◌+◌, ◌*◌, ◌-◌, ◌<◌, ◌≤◌, Bool, true, false, cond, not, ◌&&◌, List, [], ◌∷◌, ◌⊎◌, length, length-append, take, drop, refl, sym, ap, ◌∙◌, subst, arith, ⊎_elim}
-use Rattle.std.proofs.lemmas.Bool.{cases_lt, cases_Bool, cond-true, cond-false}
+use Rattle.std.proofs.lemmas.Bool.{cases_lt, cases_Bool, cond-true, cond-false, false≢true}
 use Rattle.std.proofs.lemmas.Bool.Decides.{nat_tests}
 use Rattle.std.proofs.lemmas.List.{length-take-le, take-append-drop}
 use Rattle.mx_isa.specs.declared.inst.Inst.{Inst}
@@ -23,7 +23,7 @@ use Rattle.law_link.proofs.OneBlock.{did_of, begins as beginning}
 use Rattle.law_link.proofs.Planned.{pre_length, plain_pre}
 use Rattle.law_link.proofs.Transfers.{inner_of, front_of, front_stands, back_short}
 use Rattle.law_link.proofs.Setting.{Machine, Setting}
-use Rattle.law_link.proofs.Whole.{Placed, Begun, false_true}
+use Rattle.law_link.proofs.Whole.{Placed, Begun}
 use Rattle.law_link.proofs.Whole as whole
 
 ops_length : (xs : List Item) → length (ops xs) ≤ length xs
@@ -98,7 +98,7 @@ module _ (setting : Setting) (begun : Begun setting) where
       (λ (x : m < k + size_at k v u a h).
       let is_m : m ≡ k + (m - k) = omega arith in
       let ix = ap (λ j. (M j).state.index) is_m ∙ whole.inner_index setting begun k w (m - k) a.going (omega arith) (subst Runs is_m (going_runs m g)) in
-      absurd (false_true (sym (w.inner (m - k) (omega arith) (omega arith)) ∙ sym (ap leader ix) ∙ lead)))
+      absurd (false≢true (sym (w.inner (m - k) (omega arith) (omega arith)) ∙ sym (ap leader ix) ∙ lead)))
       (λ (x : k + size_at k v u a h ≤ m). ⊎_elim
       (λ (y : Next k v (size_at k v u a h)). starts_from fuel m (k + size_at k v u a h) y.v2 y.u2 y.at x (omega arith) g lead)
       (λ (y : Final k u (size_at k v u a h) (long_at k v u a h)).
@@ -193,7 +193,7 @@ module _ (setting : Setting) (begun : Begun setting) where
 
   not_yet : (s : Watched) → (step_of s).at.halted ≡ false → s.at.halted ≡ false
   not_yet s h = ⊎_elim
-      (λ e. absurd (false_true (sym h ∙ ap (λ (x : Watched). x.at.halted) (cond-true s.at.halted s (on_step s) e) ∙ e)))
+      (λ e. absurd (false≢true (sym h ∙ ap (λ (x : Watched). x.at.halted) (cond-true s.at.halted s (on_step s) e) ∙ e)))
       (λ e. e)
       (cases_Bool s.at.halted)
 
@@ -329,7 +329,7 @@ module _ (setting : Setting) (begun : Begun setting) where
         (λ (fin : Final m u (size_at m v u a h) (long_at m v u a h)).
         let e_in = fin.within in
         let o = fin.over in
-        absurd (false_true (sym on ∙ (whole.grows setting begun fin.e d (omega arith)).halted o.halted)))
+        absurd (false≢true (sym on ∙ (whole.grows setting begun fin.e d (omega arith)).halted o.halted)))
         (whole.run_block setting begun m v u a h rr))
         (cases_lt d (u + long_at m v u a h)))
         (λ h. absurd (whole.past_end setting begun m a.going h (runs_before (m + 1) (d + 64)

@@ -3,7 +3,7 @@
 use Rattle.std.proofs.Common.{◌≡◌, ℕ, ℤ, pos, suc, ◌+◌, ◌%◌, ◌^◌, ◌<◌, ◌≤◌, Bool, true, false, cond, List, [], ◌∷◌, ◌++◌, ◌⊎◌, length, Option, Some, None, option_to_list, refl, sym, ap, ◌∙◌, subst, arith, inl, inr}
 use Rattle.std.specs.Prelude.{slice_get}
 use Rattle.std.specs.Int.{w32, cast_unsigned}
-use Rattle.std.proofs.lemmas.Bool.{or_parts}
+use Rattle.std.proofs.lemmas.Bool.{or_parts, false≢true}
 use Rattle.mx_isa.specs.declared.inst.Cond.{Cond}
 use Rattle.mx_isa.specs.declared.inst.Inst.{Inst}
 use Rattle.mx_isa.specs.declared.inst.Inst.TheVariants.{Jspci}
@@ -33,11 +33,8 @@ use Rattle.law_link.proofs.OneBlock.{Leads, Slots, Filled, Own, InSecond, InFirs
 use Rattle.law_link.proofs.OneBlock.{Transfers}
 use Rattle.law_link.proofs.Setting.{Machine, Setting, machine_of, short}
 
-false_true : false ≡ true → ⊥
-false_true e = grind arith
-
 no_place_of_code : (b : Bool) (s : State) (t : Step) → is_stuck (cond b (stuck CodeOperand s) t).after.mark ≡ false → b ≡ false
-no_place_of_code true s t h = absurd (false_true (sym h))
+no_place_of_code true s t h = absurd (false≢true (sym h))
 no_place_of_code false s t h = refl
 
 module _ (setting : Setting) where
@@ -279,7 +276,7 @@ module _ (setting : Setting) where
               (unsure slots.sure refl) filled st
             where
               unsure : (v : Bool) → slots.sure ≡ v → v ≡ false
-              unsure true q = absurd (false_true (sym e ∙ k.surely q (core r1.state).regs))
+              unsure true q = absurd (false≢true (sym e ∙ k.surely q (core r1.state).regs))
               unsure false q = refl
 
       -- the link of a jump is the next place
@@ -322,7 +319,7 @@ module _ (setting : Setting) where
               ∙ ap (λ u. stepped_to (jumps u k.d r1.state)) e
 
           by_value : (v : Value) → value_in r1.state.regs k.a ≡ v → Onward
-          by_value (Int word) e = absurd (false_true (sym safe ∙ ap (λ (u : Run). is_stuck u.state.mark) (run_to (Int word) e)))
+          by_value (Int word) e = absurd (false≢true (sym safe ∙ ap (λ (u : Run). is_stuck u.state.mark) (run_to (Int word) e)))
           by_value (CodeValue t) e =
               let sm = small t in
               let to : reg (core r1.state).regs k.a ≡ link t = sym (linked_value link r1.state.regs k.a) ∙ ap (linked link) e in

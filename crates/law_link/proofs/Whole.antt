@@ -4,7 +4,7 @@
 -- m, v and u grown by what was done (`Next`), or the run ends (`Final`). From it come clean runs, halts on both sides and what is sent.
 use Rattle.std.proofs.Common.{◌≡◌, ℕ, zero, suc, ◌+◌, ◌*◌, ◌-◌, ◌<◌, ◌≤◌, Bool, true, false, cond, List, [], ◌∷◌, ◌⊎◌, length, take, None, refl, sym, ap, ◌∙◌, subst, arith, ⊎_elim, inl, inr}
 use Rattle.std.proofs.lemmas.Option.{slice_get_past}
-use Rattle.std.proofs.lemmas.Bool.{cases_lt}
+use Rattle.std.proofs.lemmas.Bool.{cases_lt, false≢true}
 use Rattle.std.proofs.lemmas.List.{length-take-le}
 use Rattle.mx_isa.specs.declared.inst.Inst.{Inst}
 use Rattle.mx_delay.specs.Delay.{Delay}
@@ -19,10 +19,7 @@ use Rattle.law_link.proofs.Planned.{bodies_length}
 use Rattle.law_link.proofs.Transfers.{Lay, EndOf, CodesLead, inner_of, one_block}
 use Rattle.law_link.proofs.Setting.{Machine, Setting, machine_of, short}
 
-pub false_true : false ≡ true → ⊥
-false_true e = grind arith
-
-body_most : (b : Block) → 1 ≤ length (insts_of b) → length (insts_of b) ≤ suc (body_count b)
+pub body_most : (b : Block) → 1 ≤ length (insts_of b) → length (insts_of b) ≤ suc (body_count b)
 body_most b some = by_end (falls b.end)
   where
     by_end : (f : Bool) → length (insts_of b) ≤ suc (cond f (length (insts_of b)) (length (insts_of b) - 1))
@@ -290,7 +287,7 @@ module _ (setting : Setting) (begun : Begun setting) where
   pub past_end : (m : ℕ) → (M m).state.mark ≡ Going → length p.statements ≤ (M m).state.index → Runs (m + 1) → ⊥
   past_end m g h r =
       let is = step_is p (M m) None g (slice_get_past p.statements (M m).state.index h) in
-      false_true (sym r ∙ ap (λ (s : Run). is_stuck s.state.mark) (run_add p m 1 r0 ∙ is))
+      false≢true (sym r ∙ ap (λ (s : Run). is_stuck s.state.mark) (run_add p m 1 r0 ∙ is))
 
   pub lead_of :
       (m v u : ℕ) (a : At m v u) → (M m).state.index < length p.statements → (leader (M m).state.index ≡ true) × (a.c ≤ place_of (M m).state.index)
@@ -449,9 +446,9 @@ module _ (setting : Setting) (begun : Begun setting) where
 
   pub halted_back : (j : ℕ) → Runs (j + 64) → (D j).at.halted ≡ true → HaltedAt j
   halted_back j r h = ⊎_elim
-      (λ (f : Far j). absurd (false_true (sym f.at.runs_on ∙ (grows j f.v f.far).halted h)))
+      (λ (f : Far j). absurd (false≢true (sym f.at.runs_on ∙ (grows j f.v f.far).halted h)))
       (λ (f : Done (j + 63)). ⊎_elim
-      (λ (q : j < f.e). absurd (false_true (sym f.over.runs_on ∙ (grows j f.over.before (let e = f.over.is_e in omega arith)).halted h)))
+      (λ (q : j < f.e). absurd (false≢true (sym f.over.runs_on ∙ (grows j f.over.before (let e = f.over.is_e in omega arith)).halted h)))
       (λ (q : f.e ≤ j). record {
         n = f.n;
         few = (let l = f.over.low_e in omega arith);
@@ -480,7 +477,7 @@ module _ (setting : Setting) (begun : Begun setting) where
   pub going_before : (m n : ℕ) → (M n).state.mark ≡ Halted → (M m).state.mark ≡ Going → m < n
   going_before m n h g = ⊎_elim
       (λ (q : m < n). q)
-      (λ (q : n ≤ m). absurd (false_true (sym (ap is_going h) ∙ sym (ap (λ (s : Run). is_going s.state.mark) (M_stays n m q (ap is_going h)))
+      (λ (q : n ≤ m). absurd (false≢true (sym (ap is_going h) ∙ sym (ap (λ (s : Run). is_going s.state.mark) (M_stays n m q (ap is_going h)))
       ∙ ap is_going g)))
       (cases_lt m n)
 

@@ -1,7 +1,7 @@
 -- The labels of a program stand at addresses up to the end of its data.
 use Rattle.std.proofs.Common.{◌≡◌, ℕ, ◌+◌, ◌≤◌, ◌++◌, List, [], ◌∷◌, length, map, Option, None, refl, sym, ap, ◌∙◌, subst, length-append, arith}
 use Rattle.std.specs.Prelude.{All}
-use Rattle.std.proofs.lemmas.List.Elements.{All-nil, All-cons, All-head, All-tail, All-append}
+use Rattle.std.proofs.lemmas.List.Elements.{All-nil, All-append}
 use Rattle.mx_source.specs.declared.Label.{Label}
 use Rattle.mx_source.specs.declared.Label.TheVariants as label
 use Rattle.mx_asm.specs.declared.Position.{Position}
@@ -21,7 +21,7 @@ use Rattle.mx_module.specs.Joined.{seen_in, line_of, fault_in_lines, effects_in,
 use Rattle.mx_module.proofs.Appended.{values_both}
 use Rattle.mx_module.proofs.Chained.{Chained, first, first_room, first_near, next}
 use Rattle.mx_module.proofs.Exported.{refusal_none}
-use Rattle.mx_module.proofs.Sounded.{AllLabels, line_none}
+use Rattle.mx_module.proofs.Sounded.{AllLabels, line_none, renamed_have}
 
 -- a data label that stands at this address or before
 abbrev pub IsUpTo : ℕ → Label → Type 0
@@ -68,12 +68,6 @@ up_more j k le (label.Data a) h = omega (arith, le, h)
 all_up_more : (j k : ℕ) → j ≤ k → (es : Labels) → AllUpTo j es → AllUpTo k es
 all_up_more j k le es h = λ i d lt. up_more j k le _ (h i d lt)
 
-renamed_up : (end : ℕ) (m : ModuleValue) (place : ℕ) (es : Labels) → AllUpTo end es → AllUpTo end (map (renamed m place) es)
-renamed_up end m place [] h = All-nil (λ (p : List ℕ × Label). IsUpTo end p.1)
-renamed_up end m place (e ∷ es) h =
-    All-cons (λ (p : List ℕ × Label). IsUpTo end p.1) (renamed m place e) (map (renamed m place) es)
-    (All-head (λ (p : List ℕ × Label). IsUpTo end p.1) e es h) (renamed_up end m place es (All-tail (λ (p : List ℕ × Label). IsUpTo end p.1) e es h))
-
 -- in modules without faults
 pub modules_up : (all rest : List ModuleValue) (place : ℕ) (h : Chained rest) → fault_in_lines all place rest ≡ None
     → AllUpTo (h.from.address + length (values_in (effects_in all place rest))) (labels_in place rest)
@@ -96,7 +90,7 @@ modules_up all (m ∷ rest) place h none =
     let labels : AllUpTo (position_at_end m.start m.lines).address m.labels = subst (AllUpTo (position_at_end m.start m.lines).address) (sym f.labels)
     (labels_up m.lines m.start [] (omega (arith, near)) (All-nil (λ (p : List ℕ × Label). IsUpTo (position_at_end m.start m.lines).address p.1))) in
     All-append (λ (p : List ℕ × Label). IsUpTo end p.1) (map (renamed m place) m.labels) (labels_in (place + 1) rest)
-    (renamed_up end m place m.labels (all_up_more (position_at_end m.start m.lines).address end (omega (arith, from, many, words)) m.labels labels))
+    (renamed_have (IsUpTo end) m place m.labels (all_up_more (position_at_end m.start m.lines).address end (omega (arith, from, many, words)) m.labels labels))
     (all_up_more ((position_at_end m.start m.lines).address + length (values_in later)) end (omega (arith, from, many, words))
     (labels_in (place + 1) rest) behind_it)
 

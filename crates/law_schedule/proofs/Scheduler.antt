@@ -1,4 +1,5 @@
--- A function that gives the layout of each source by greedy plans. It is total since it is decided whether a source value has blocks, also of a value that is no source.
+-- A function that gives the layout of each source by greedy plans. It is total since it is decided whether a source value has blocks,
+-- also of a value that is no source.
 use Rattle.std.proofs.Common.{◌≡◌, ℕ, zero, suc, ◌+◌, ◌-◌, ◌<◌, ◌≤◌, true, false, ◌⊎◌, List, [], ◌∷◌, length, map, Some, refl, sym, ap, ◌∙◌, subst, ⊎_elim, inl, inr, arith}
 use Rattle.std.specs.Prelude.{slice_get, slice_range, slice_index_or, is_some}
 use Rattle.std.specs.Option.{option_map}

@@ -21,9 +21,8 @@ use Rattle.mx_tasks.specs.Sharing.{task_console, task_passed, first_is_current, 
 use Rattle.mx_tasks.specs.Changes.{FetchesSwitch}
 use Rattle.mx_tasks.specs.Images.{shared_code, shared_data, two_tasks, two_data}
 use Rattle.mx_tasks.proofs.Runs.{passed_few}
-use Rattle.mx_tasks.proofs.Two.{is_two}
 use Rattle.mx_tasks.proofs.Images.{are_places, holds_both}
-use Rattle.mx_tasks.proofs.Changes.{switch_fetches}
+use Rattle.mx_tasks.proofs.Changes.{is_two, switch_fetches}
 use Rattle.law_tasks.specs.Meant.{data_words, AreShared, shared_program, HaltsWith, MeanTheirSources}
 
 module _ (first second : Linking) (requests : List ℕ) (budget : ℕ) (s : AreShared first second)

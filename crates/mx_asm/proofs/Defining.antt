@@ -1,5 +1,5 @@
 -- The definitions of lines, one line after another.
-use Rattle.std.proofs.Common.{◌≡◌, ℕ, ◌+◌, List, [], ◌∷◌, length, Bool, true, false, cond, Option, Some, None, refl, ap, sym, ◌∙◌, subst}
+use Rattle.std.proofs.Common.{◌≡◌, ℕ, ◌+◌, ◌≤◌, List, [], ◌∷◌, length, Bool, true, false, cond, Option, Some, None, refl, ap, sym, ◌∙◌, subst}
 use Rattle.mx_lex.specs.Lines.{lines_of}
 use Rattle.mx_asm.specs.declared.definitions.Definitions.{Definitions}
 use Rattle.mx_asm.specs.declared.position.Position.{Position}
@@ -18,15 +18,18 @@ pub record IsDefined (from : Position) (all : List (List ℕ)) (d : Definitions)
   labels : labels_from d.last d.labels rest ≡ labels_from from [] all
   repeated : or_later d.repeated (first_repeat d.last d.labels number rest) ≡ first_repeat from [] 1 all
   last : position_at_end d.last rest ≡ position_at_end from all
+  pub near : d.last.address ≤ 65537
 
-pub begun : (from : Position) (all : List (List ℕ)) (d : Definitions) → d.labels ≡ [] → d.repeated ≡ None → d.last ≡ from → IsDefined from all d 1 all
-begun from all d none never here = record {
+pub begun : (from : Position) (all : List (List ℕ)) (d : Definitions) → d.labels ≡ [] → d.repeated ≡ None → d.last ≡ from
+    → from.address ≤ 65537 → IsDefined from all d 1 all
+begun from all d none never here near = record {
   labels = ap (λ p. labels_from p d.labels all) here ∙ ap (λ ls. labels_from from ls all) none;
   repeated =
       ap (λ f. or_later f (first_repeat d.last d.labels 1 all)) never
       ∙ ap (λ p. first_repeat p d.labels 1 all) here
       ∙ ap (λ ls. first_repeat from ls 1 all) none;
   last = ap (λ p. position_at_end p all) here;
+  near = rw here near;
 }
 
 earlier_or_later : (found : Option ℕ) (again : Bool) (number : ℕ) (later : Option ℕ)
@@ -41,9 +44,9 @@ none_later None = refl
 
 module _ {from : Position} {all : List (List ℕ)} {d : Definitions} {number : ℕ} where
   -- one line more
-  pub defined : {d' : Definitions} (line : List ℕ) (rest : List (List ℕ)) → IsDefined from all d number (line ∷ rest) → Defines d d' number (line_words line)
+  pub defined : {d' : Definitions} {line : List ℕ} {rest : List (List ℕ)} → IsDefined from all d number (line ∷ rest) → Defines d d' number (line_words line)
       → IsDefined from all d' (number + 1) rest
-  defined {d'} line rest h e =
+  defined {d'} {line} {rest} h e =
       let words = line_words line in
       let again = earlier_line d.repeated (repeats d.last d.labels words) number in
       record {
@@ -59,6 +62,7 @@ module _ {from : Position} {all : List (List ℕ)} {d : Definitions} {number : �
             (first_repeat (after d.last words) (with_labels d.last d.labels words) (number + 1) rest)
             ∙ h.repeated;
         last = ap (λ p. position_at_end p rest) e.last ∙ h.last;
+        near = e.near;
       }
 
   pub none_left : (rest : List ℕ) → length rest ≡ 0 → IsDefined from all d number (lines_of rest) → IsDefined from all d number []

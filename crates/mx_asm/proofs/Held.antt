@@ -151,6 +151,27 @@ module _ (labels : Labels) (Has : Statement → Type 0) (forms : Forms labels Ha
   pub statements_have : (p : Position) (number : ℕ) (lines : List (List ℕ)) → All Has (statements_in (effects_from labels p number lines))
   statements_have = lines_have labels Has forms (λ v. Unit {0}) (any_words labels)
 
+-- no matter what the statements are
+any_forms : (labels : Labels) → Forms labels (λ s. Unit {0})
+any_forms labels = record {
+  compute = λ o a dest b fits p q r. tt;
+  addi = λ a dest imm fits p q. tt;
+  move_from = λ dest h. tt;
+  move_to = λ a h. tt;
+  load = λ word base dest o e p q. tt;
+  store = λ word base value o e p q. tt;
+  address = λ name l dest e h. tt;
+  branch = λ name a b c target e p q. tt;
+  call = λ name dest target e h. tt;
+  call_register = λ a dest p q. tt;
+  jump = λ a h. tt;
+  halt = tt;
+}
+
+module _ (labels : Labels) (Is : Value → Type 0) (words_are : Words labels Is) where
+  pub values_have : (p : Position) (number : ℕ) (lines : List (List ℕ)) → All Is (values_in (effects_from labels p number lines))
+  values_have = lines_are labels (λ s. Unit {0}) (any_forms labels) Is words_are
+
 -- registers that are read are 0 to 31
 address_names : (l : Label) (dest : ℕ) → IsRegister dest → NamesRegisters (address_of l dest)
 address_names (label.Code i) dest h = h

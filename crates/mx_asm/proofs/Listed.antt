@@ -1,8 +1,8 @@
 -- The loop over the lines of a text that makes its listing.
-use Rattle.std.proofs.Common.{◌≡◌, ℕ, ◌+◌, ◌≤◌, ◌<◌, List, [], ◌∷◌, ◌++◌, length, drop, get_or, Bor, cond, eqb, Bool, true, false, Option, Some, None, Ok, refl, ap, sym, ◌∙◌, subst, append_assoc, length-append, arith}
+use Rattle.std.proofs.Common.{◌≡◌, ℕ, ◌+◌, ◌≤◌, ◌<◌, List, [], ◌∷◌, ◌++◌, length, cond, eqb, Bool, true, false, Option, Some, None, Ok, refl, ap, sym, ◌∙◌, subst, append_assoc, length-append, arith}
 use Rattle.std.specs.Prelude.{All}
 use Rattle.std.proofs.lemmas.Bool.Decides.{nat_tests}
-use Rattle.std.proofs.lemmas.List.{append-nil, at_drop_more}
+use Rattle.std.proofs.lemmas.List.{append-nil}
 use Rattle.std.proofs.lemmas.List.Elements.{All-append, All-nil, All-cons}
 use Rattle.mx_source.specs.declared.statement.Statement.{Statement}
 use Rattle.mx_source.specs.declared.statement.Value.{Value}
@@ -10,13 +10,15 @@ use Rattle.mx_source.specs.Labels.{IsPlace}
 use Rattle.mx_source.specs.Statements.{StatementFits, ValueFits}
 use Rattle.mx_lines.specs.declared.fault.Fault.{Fault}
 use Rattle.mx_asm.specs.declared.position.Position.{Position}
-use Rattle.mx_lines.specs.Words.{Word, words_of, texts}
+use Rattle.mx_lines.specs.Words.{Word, words_of}
 use Rattle.mx_lines.specs.Instructions.{Labels}
 use Rattle.mx_lines.specs.Fitting.{LabelsFit}
 use Rattle.mx_asm.specs.Directives.{Effect, Nothing, Instruction, Data, Input, effect_of}
 use Rattle.mx_asm.specs.Effects.{EffectFits, first_input, IsFaultOf}
-use Rattle.mx_asm.specs.declared.listing.Listing.{Listing}
 use Rattle.mx_asm.specs.Listings.{IsListingOf, IsRefusal, refusal}
+use Rattle.mx_asm.specs.declared.assembler.Reading.{Reading}
+use Rattle.mx_asm.specs.Readings.{Reads, Refuses}
+use Rattle.mx_lines.specs.declared.fault.AsmError.{AsmError}
 use Rattle.mx_lines.specs.declared.fault.LineError.{LineError}
 use Rattle.mx_lines.specs.declared.fault.LineError.TheVariants as errors
 use Rattle.mx_asm.specs.Positions.{line_words, statement_words, after, behind, with_labels, position_at_end, instruction_count, word_count}
@@ -140,7 +142,8 @@ module _ (labels : Labels) (end : ℕ) (from : Position) (all : List (List ℕ))
       ∙ ap (λ f. found_or number f (first_fault labels end (after p (line_words line)) (with_labels p h.earlier (line_words line)) (number + 1) rest))
       (this_fault ∙ found)
 
-  listed_next : (e : Effect) → words_fault labels end p (is_line repeated number) (length line) (words_of line) ≡ None
+  -- one line more
+  pub listed_next : (e : Effect) → words_fault labels end p (is_line repeated number) (length line) (words_of line) ≡ None
       → effect_of labels p.section (statement_words (line_words line)) ≡ Ok e
       → (after p (line_words line)).index ≤ 20000 → (after p (line_words line)).address ≤ end → end ≤ 65536
       → ((count : ℕ) → LabelsFit count labels → EffectFits labels count e)
@@ -175,30 +178,28 @@ module _ (labels : Labels) (end : ℕ) (from : Position) (all : List (List ℕ))
             (values_fit_more labels count e (fits count fit));
       }
 
-  -- the loop's step, where the new values have names of their own
-  pub listed_step : (e : Effect) (ss' : List Statement) (ns' : List ℕ) (vs' : List Value) (input' : Option ℕ) (p' : Position) (number' : ℕ)
-      → words_fault labels end p (is_line repeated number) (length line) (words_of line) ≡ None
-      → effect_of labels p.section (statement_words (line_words line)) ≡ Ok e
-      → p' ≡ after p (line_words line) → p'.index ≤ 20000 → p'.address ≤ end → end ≤ 65536
-      → ((count : ℕ) → LabelsFit count labels → EffectFits labels count e)
-      → ss' ≡ ss ++ onto_statements e [] → ns' ≡ ns ++ onto_lines number e [] → vs' ≡ vs ++ onto_values e []
-      → input' ≡ first_input input (onto_input number e None) → number' ≡ number + 1
-      → Listed labels end from all repeated ss' ns' vs' input' p' number' rest
-  listed_step e ss' ns' vs' input' p' number' none effect next few within le fits es en ev ei em =
-      let h0 = listed_next e none effect (subst (λ (q : Position). q.index ≤ 20000) next few) (subst (λ (q : Position). q.address ≤ end) next within) le fits in
-      let h1 = subst (λ q. Listed labels end from all repeated (ss ++ onto_statements e []) (ns ++ onto_lines number e []) (vs ++ onto_values e [])
-      (first_input input (onto_input number e None)) q (number + 1) rest) (sym next) h0 in
-      let h2 = subst (λ x. Listed labels end from all repeated x (ns ++ onto_lines number e []) (vs ++ onto_values e [])
-      (first_input input (onto_input number e None)) p' (number + 1) rest) (sym es) h1 in
-      let h3 = subst (λ x. Listed labels end from all repeated ss' x (vs ++ onto_values e []) (first_input input (onto_input number e None)) p'
-      (number + 1) rest) (sym en) h2 in
-      let h4 = subst (λ x. Listed labels end from all repeated ss' ns' x (first_input input (onto_input number e None)) p' (number + 1) rest) (sym ev) h3 in
-      let h5 = subst (λ x. Listed labels end from all repeated ss' ns' vs' x p' (number + 1) rest) (sym ei) h4 in
-      subst (λ x. Listed labels end from all repeated ss' ns' vs' input' p' x rest) (sym em) h5
+-- the same of what the program has read
+pub record IsRead (labels : Labels) (end : ℕ) (from : Position) (all : List (List ℕ)) (repeated : Option ℕ) (r : Reading) (rest : List (List ℕ)) : Type 0 where
+  pub listed : Listed labels end from all repeated r.listing.statements.items r.listing.lines.items r.listing.user_data.items r.listing.input
+      r.position r.number rest
 
-pub texts_step : (lines : List (Bor (List ℕ))) (i : ℕ) (d : Bor (List ℕ)) → i < length lines
-    → texts (drop i lines) ≡ (get_or lines i d).now ∷ texts (drop (i + 1) lines)
-texts_step lines i d lt = at_drop_more texts lines i d lt
+module _ {labels : Labels} {end : ℕ} {from : Position} {all : List (List ℕ)} {repeated : Option ℕ} {r : Reading} where
+  pub read_more : {r' : Reading} {line : List ℕ} {rest : List (List ℕ)} → IsRead labels end from all repeated r (line ∷ rest)
+      → Reads labels end repeated line r r' → end ≤ 65536 → IsRead labels end from all repeated r' rest
+  read_more {r'} {line} {rest} h e le =
+      let l = r.listing in
+      let next = listed_next labels end from all repeated l.statements.items l.lines.items l.user_data.items l.input r.position r.number line rest h.listed
+      e.does e.faultless e.effect
+      (subst (λ (q : Position). q.index ≤ 20000) e.position e.few) (subst (λ (q : Position). q.address ≤ end) e.position e.within) le e.fits in
+      record { listed = rw (e.adds.statements, e.adds.lines, e.adds.user_data, e.adds.input, e.position, e.number) next }
+
+  -- the error at the next line refuses the text
+  pub read_refused : {line : List ℕ} {rest : List (List ℕ)} (error : AsmError) → IsRead labels end from all repeated r (line ∷ rest)
+      → Refuses labels end repeated line r error → IsRefusal (first_fault labels end from [] 1 all) error
+  read_refused {line} {rest} error h refuses =
+      let l = r.listing in
+      refuses (first_fault labels end from [] 1 all)
+      (refused labels end from all repeated l.statements.items l.lines.items l.user_data.items l.input r.position r.number line rest h.listed)
 
 pub refusal_is : (found : Option (ℕ × Fault)) (here : Option Fault) (number : ℕ) (e : LineError)
     → ((fault : Fault) → here ≡ Some fault → found ≡ Some (number, fault)) → IsFaultOf here e → IsRefusal found (refusal number e)
@@ -231,19 +232,22 @@ no_later_input (Some line) = refl
 no_later_input None = refl
 
 -- a listing to which no line is left to add is that of all lines
-pub listed_all : (labels : Labels) (end : ℕ) (from : Position) (all : List (List ℕ)) (repeated : Option ℕ) (l : Listing) (p : Position) (number : ℕ)
-    → Listed labels end from all repeated l.statements.items l.lines.items l.user_data.items l.input p number [] → IsListingOf labels end from all l
-listed_all labels end from all repeated l p number h = record {
-  faultless = sym h.fault;
-  statements = sym (append-nil l.statements.items) ∙ h.statements;
-  lines = sym (append-nil l.lines.items) ∙ h.lines;
-  user_data = sym (append-nil l.user_data.items) ∙ h.values;
-  input = sym (no_later_input l.input) ∙ h.inputs;
-  count = h.count ∙ ap (λ (q : Position). q.index) h.last;
-  each = h.each;
-  words = h.words ∙ ap (λ (q : Position). q.address) h.last;
-  few = subst (λ (q : Position). q.index ≤ 20000) h.last h.few;
-  within = subst (λ (q : Position). q.address ≤ end) h.last h.within;
-  statements_fit = h.statements_fit;
-  values_fit = h.values_fit;
-}
+pub all_read : {labels : Labels} {end : ℕ} {from : Position} {all : List (List ℕ)} {repeated : Option ℕ} {r : Reading}
+    → IsRead labels end from all repeated r [] → IsListingOf labels end from all r.listing
+all_read {labels} {end} {from} {all} {repeated} {r} is_read =
+    let l = r.listing in
+    let h = is_read.listed in
+    record {
+      faultless = sym h.fault;
+      statements = sym (append-nil l.statements.items) ∙ h.statements;
+      lines = sym (append-nil l.lines.items) ∙ h.lines;
+      user_data = sym (append-nil l.user_data.items) ∙ h.values;
+      input = sym (no_later_input l.input) ∙ h.inputs;
+      count = h.count ∙ ap (λ (q : Position). q.index) h.last;
+      each = h.each;
+      words = h.words ∙ ap (λ (q : Position). q.address) h.last;
+      few = subst (λ (q : Position). q.index ≤ 20000) h.last h.few;
+      within = subst (λ (q : Position). q.address ≤ end) h.last h.within;
+      statements_fit = h.statements_fit;
+      values_fit = h.values_fit;
+    }

@@ -25,7 +25,7 @@ use Rattle.mx_asm.specs.Positions.{has_dotted_label, labels_from, line_words, wo
 use Rattle.mx_asm.specs.Faults.{first_fault, first_repeat, line_fault, words_fault, least_fault, layout_fault, is_full, stands_past, is_line}
 use Rattle.mx_asm.specs.Texts.{text_labels, text_effects, text_fault, source_of, effects_from, statements_in, lines_in, values_in, input_in, onto_statements, onto_lines, onto_values, onto_input}
 use Rattle.mx_asm.proofs.LabelBounds.{found_none, labels_fit}
-use Rattle.mx_asm.proofs.Listed.{Listed, this_fault, listed_step, listed_none}
+use Rattle.mx_asm.proofs.Listed.{Listed, this_fault, listed_next, listed_none}
 use Rattle.mx_lines.proofs.Forms.{was_read}
 use Rattle.mx_asm.proofs.Suits.{effect_fits}
 use Rattle.mx_asm.proofs.Whole.{made}
@@ -115,10 +115,7 @@ module _ (labels : Labels) (end : ℕ) (from : Position) (all : List (List ℕ))
       all_listed rest
       (ss ++ onto_statements read.effect []) (ns ++ onto_lines number read.effect []) (vs ++ onto_values read.effect [])
       (first_input input (onto_input number read.effect None)) (after p (line_words line)) (number + 1)
-      (listed_step labels end from all repeated ss ns vs input p number line rest h read.effect
-      (ss ++ onto_statements read.effect []) (ns ++ onto_lines number read.effect []) (vs ++ onto_values read.effect [])
-      (first_input input (onto_input number read.effect None)) (after p (line_words line)) (number + 1)
-      clear read.reads refl read.few read.within most fits refl refl refl refl refl)
+      (listed_next labels end from all repeated ss ns vs input p number line rest h read.effect clear read.reads read.few read.within most fits)
 
   pub whole : from.index ≤ 20000 → from.address ≤ end → AllListed
   whole room order = all_listed all [] [] [] None from 1 (listed_none labels end from all repeated refl room order)

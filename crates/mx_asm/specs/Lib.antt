@@ -6,3 +6,4 @@ pub mod Texts
 pub mod Printable
 pub mod Effects
 pub mod Listings
+pub mod Readings

@@ -1,5 +1,5 @@
 //! The assembler.
-ghost use Rattle.std.specs.Prelude.{◌≡◌, ◌≤◌, [], length, IfOk, IfErr};
+ghost use Rattle.std.specs.Prelude.{◌≡◌, ◌≤◌, [], length, IfOk, IfErr, OnOk};
 ghost use Rattle.mx_io.specs.declared.limits.TheConstants.{MAX_SOURCE_BYTES};
 ghost use Rattle.mx_isa.specs.declared.board.TheConstants.{DATA_BASE, DATA_END, MAX_STATEMENTS};
 ghost use Rattle.mx_lex.specs.Lines.{lines_of};
@@ -19,9 +19,50 @@ use crate::listing::{Listing, add};
 use crate::position::Position;
 use indexmap::IndexMap;
 use mx_isa::{DATA_BASE, DATA_END};
-use mx_lines::{AsmError, Labels, LineError, split_line};
+use mx_lines::{AsmError, Labels, LineError, Word, split_line};
 use mx_source::{Label, Name, Source};
 use std::alloc::Global;
+
+/// What the lines so far do, and the number and the place of the next one.
+#[derive(Drop)]
+pub(crate) struct Reading {
+    pub(crate) listing: Listing,
+    pub(crate) position: Position,
+    pub(crate) number: u32,
+}
+
+impl Reading {
+    ghost use Rattle.mx_asm.specs.Readings.{Reads, Refuses};
+
+    /// Adds what the next line does.
+    ///
+    /// `words` are those of a line before, and of this one from then on.
+    fn read<'a>(
+        &mut self,
+        alloc: Global,
+        words: &mut Vec<Word<'a>>,
+        labels: &Labels,
+        end: u32,
+        repeated: Option<u32>,
+        line: &'a [u8],
+    ) -> Result<(), AsmError>
+        requires room { self.old.position.index ≤ MAX_STATEMENTS }
+        requires near { self.old.position.address ≤ DATA_END }
+        requires number { self.old.number ≤ MAX_SOURCE_BYTES }
+        ensures reads { OnOk result (Reads labels.now end repeated line.entry.now self.old self.new) }
+        ensures refused { IfErr result (Refuses labels.now end repeated line.entry.now self.old) }
+    {
+        let again = is_line(repeated, self.number);
+        let read = match read_line(alloc, words, labels, end, &self.position, again, line) {
+            Ok(read) => read,
+            Err(error) => return Err(refusal(self.number, error)),
+        };
+        self.position = read.next;
+        add(&mut self.listing, self.number, read.effect)?;
+        self.number += 1;
+        Ok(())
+    }
+}
 
 /// What all lines do from a position on, or the first faulty line.
 ///
@@ -42,20 +83,16 @@ pub fn read_lines(
     ensures read { IfOk result (IsListingOf labels.now end from (texts lines.now)) }
     ensures refused { IfErr result (IsRefusal (first_fault labels.now end from [] 1 (texts lines.now))) }
 {
-    let mut listing = Listing::new(alloc);
-    let mut position = from;
-    let mut number = 1u32;
+    let mut reading = Reading {
+        listing: Listing::new(alloc),
+        position: from,
+        number: 1,
+    };
     let mut words = Vec::new(alloc);
     for line in lines {
-        let again = is_line(repeated, number);
-        let read = match read_line(alloc, &mut words, labels, end, &position, again, line) {
-            Ok(read) => read,
-            Err(error) => return Err(refusal(number, error)),
-        };
-        position = read.next;
-        add(&mut listing, number, read.effect)?;
-        number += 1;
+        reading.read(alloc, &mut words, labels, end, repeated, line)?;
     }
+    let Reading { listing, .. } = reading;
     Ok(listing)
 }
 
@@ -76,23 +113,19 @@ fn read_text(
     ensures read { IfOk result (IsListingOf labels.now end from (lines_of text.now)) }
     ensures refused { IfErr result (IsRefusal (first_fault labels.now end from [] 1 (lines_of text.now))) }
 {
-    let mut listing = Listing::new(alloc);
-    let mut position = from;
-    let mut number = 1u32;
+    let mut reading = Reading {
+        listing: Listing::new(alloc),
+        position: from,
+        number: 1,
+    };
     let mut words = Vec::new(alloc);
     let mut rest = text;
     while !rest.is_empty() {
         let (line, behind) = split_line(rest);
-        let again = is_line(repeated, number);
-        let read = match read_line(alloc, &mut words, labels, end, &position, again, line) {
-            Ok(read) => read,
-            Err(error) => return Err(refusal(number, error)),
-        };
-        position = read.next;
-        add(&mut listing, number, read.effect)?;
-        number += 1;
+        reading.read(alloc, &mut words, labels, end, repeated, line)?;
         rest = behind;
     }
+    let Reading { listing, .. } = reading;
     Ok(listing)
 }
 

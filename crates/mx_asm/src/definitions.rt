@@ -50,6 +50,21 @@ impl Definitions {
         self.last = self.last.after(statement_words(words));
         Ok(())
     }
+
+    /// Adds those of a line, whose words take the place of those before.
+    fn add_line<'a>(
+        &mut self,
+        words: &mut Vec<Word<'a>>,
+        number: u32,
+        line: &'a [u8],
+    ) -> Result<(), AllocError>
+        requires room { self.old.last.index < 2 ^ 32 - 1 }
+        requires near { self.old.last.address ≤ 65537 }
+        ensures { OnOk result (Defines self.old self.new number (Positions.line_words line.entry.now)) }
+    {
+        words_or_none(words, line)?;
+        self.add(number, words)
+    }
 }
 
 /// The definitions of all lines from a position on, whatever is wrong with them.
@@ -65,9 +80,9 @@ pub fn define_all(alloc: Global, lines: &[&[u8]], from: Position) -> Result<Defi
 {
     let mut found = Definitions::new(alloc, from);
     let mut number = 1u32;
+    let mut words = Vec::new(alloc);
     for line in lines {
-        let words = line_words(alloc, line)?;
-        found.add(number, &words)?;
+        found.add_line(&mut words, number, line)?;
         number += 1;
     }
     Ok(found)
@@ -91,8 +106,7 @@ pub(crate) fn define_text(
     let mut rest = text;
     while !rest.is_empty() {
         let (line, behind) = split_line(rest);
-        words_or_none(&mut words, line)?;
-        found.add(number, &words)?;
+        found.add_line(&mut words, number, line)?;
         number += 1;
         rest = behind;
     }

@@ -48,26 +48,6 @@ fn with_repeat(repeated: bool, fault: Fault) -> Fault
     }
 }
 
-/// The first of the faults that the statement does not decide.
-fn layout_fault(
-    end: u32,
-    position: &Position,
-    next: &Position,
-    long: usize,
-    words: &[Word],
-) -> Option<Fault>
-    requires { next.now ≡ Positions.after position.now (map word words.now) }
-    ensures fault { result ≡ Faults.layout_fault end position.now long (map word words.now) }
-    ensures few { result ≡ None → next.now.index ≤ MAX_STATEMENTS }
-    ensures within { result ≡ None → next.now.address ≤ end }
-{
-    if has_dotted_label(words) {
-        Some(Fault::BadDirective)
-    } else {
-        place_fault(end, position, next, long, words)
-    }
-}
-
 /// The last three faults of a line that stands at a position.
 pub fn place_fault(
     end: u32,
@@ -145,7 +125,10 @@ pub fn read_line<'a>(
         return Err(LineError::Fault(Fault::DuplicateLabel));
     }
     let next = position.after(statement);
-    match layout_fault(end, position, &next, line.len(), words) {
+    if has_dotted_label(words) {
+        return Err(LineError::Fault(Fault::BadDirective));
+    }
+    match place_fault(end, position, &next, line.len(), words) {
         Some(fault) => Err(LineError::Fault(fault)),
         None => Ok(Line { effect, next }),
     }

@@ -1,5 +1,5 @@
 -- Gaps between leaders, and the statements of a block.
-use Rattle.std.proofs.Common.{◌≡◌, ◌≢◌, ℕ, zero, suc, ◌+◌, ◌-◌, ◌<◌, ◌≤◌, Bool, true, false, cond, eqb, ◌||◌, not, ◌⊎◌, List, [], ◌∷◌, ◌++◌, length, map, All, Option, Some, None, refl, sym, ap, ◌∙◌, subst, ⊎_elim, arith}
+use Rattle.std.proofs.Common.{◌≡◌, ◌≢◌, ℕ, zero, suc, ◌+◌, ◌-◌, ◌<◌, ◌≤◌, Bool, true, false, cond, eqb, ◌||◌, not, ◌⊎◌, List, [], ◌∷◌, ◌++◌, length, map, All, Option, Some, None, refl, sym, ap, ◌∙◌, subst, ⊎_elim, arith, get_or}
 use Rattle.std.specs.Prelude.{slice_get, slice_range, is_some}
 use Rattle.std.specs.List.{list_any}
 use Rattle.std.specs.Option.{option_map}
@@ -7,7 +7,7 @@ use Rattle.std.proofs.lemmas.Bool.{false≢true, cases_Bool}
 use Rattle.std.proofs.lemmas.Bool.Decides.{nat_tests}
 use Rattle.std.proofs.lemmas.Grind.{common_steps}
 use Rattle.std.proofs.lemmas.List.{length-map}
-use Rattle.std.proofs.lemmas.Option.{slice_get_within, slice_get-map, get_or_from_slice_get, gets}
+use Rattle.std.proofs.lemmas.Option.{slice_get_within, slice_get-map, get_or_from_slice_get, gets, slice_get_read}
 use Rattle.mx_isa.specs.declared.inst.Inst.{Inst}
 use Rattle.mx_isa.specs.declared.inst.Inst.TheVariants.{Jspci, Jpc, Jpcrs}
 use Rattle.mx_isa.specs.declared.inst.Inst.TheVariants.{Branch as BranchInst, Halt as HaltInst}
@@ -150,4 +150,20 @@ is_block source block end leader l m gaps next e g i =
       insts = e ∙ ap (λ n. map inst_of (slice_range source.statements block.first n)) whole;
       end = ap (λ n. option_map end_of (slice_get source.statements (n - 1))) (sym whole) ∙ g;
       input = i;
+    }
+
+-- what is read of the statements of a block: their instructions, and the last of them
+pub record HasRead (source : SourceValue) (first end : ℕ) (insts : List Inst) (s : Statement) : Type 0 where
+  pub insts_are : insts ≡ map inst_of (slice_range source.statements first end)
+  pub last_is : slice_get source.statements (end - 1) ≡ Some s
+
+pub has_read :
+    (source : SourceValue) (first end : ℕ) (list : List Statement) (insts : List Inst) (s : Statement) → list ≡ source.statements → first < end
+    → end ≤ length source.statements → insts ≡ map inst_of (slice_range list first end) → s ≡ get_or list (end - 1) s
+    → HasRead source first end insts s
+has_read source first end list insts s e later within is last =
+    let same = ap length e in
+    record {
+      insts_are = is ∙ ap (λ l. map inst_of (slice_range l first end)) e;
+      last_is = ap (λ l. slice_get l (end - 1)) (sym e) ∙ slice_get_read list _ (end - 1) s refl (omega arith) last;
     }

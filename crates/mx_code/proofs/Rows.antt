@@ -5,11 +5,11 @@ use Rattle.std.proofs.lemmas.Bool.{cases_Bool}
 use Rattle.std.proofs.lemmas.Bool.Decides.{nat_tests}
 use Rattle.mx_isa.specs.Fields.{InstFits, IsSignedField, OpFits}
 use Rattle.mx_isa.specs.declared.inst.Cond.{Cond}
-use Rattle.mx_isa.specs.declared.inst.Cond.TheVariants.{Eq, Ne, Lt, Ge, Lo, Hs}
+use Rattle.mx_isa.specs.declared.inst.Cond.TheVariants.{Eq}
 use Rattle.mx_isa.specs.declared.inst.Special.{Special}
-use Rattle.mx_isa.specs.declared.inst.Special.TheVariants.{Md, Pc1, Pc2, Pc3}
+use Rattle.mx_isa.specs.declared.inst.Special.TheVariants.{Md}
 use Rattle.mx_isa.specs.declared.inst.Op.{Op}
-use Rattle.mx_isa.specs.declared.inst.Op.TheVariants.{Add, Sub, Subnc, And, Or, Xor, Bic, Not, Rotlb, Mstart, Mstep, Dstep, Asr, Sh}
+use Rattle.mx_isa.specs.declared.inst.Op.TheVariants.{Not, Mstart, Asr, Sh}
 use Rattle.mx_isa.specs.declared.inst.Inst.{Inst}
 use Rattle.mx_isa.specs.declared.inst.Inst.TheVariants.{Load, Store, Branch, Compute, Addi, MoveFrom, MoveTo, Jspci, Jpc, Jpcrs, Halt}
 use Rattle.mx_code.specs.Codes.{Codes, HasRegisters, word_of_row, assembled, signed_bits, number_of_cond, number_of_special, opcode_of, function_of, squash_bit}
@@ -21,6 +21,9 @@ pub record AreFields (o f s r : ℕ) : Type 0 where
   pub first : f < 32
   pub second : s < 32
   pub rest : r < 2 ^ 17
+
+alone : (o : ℕ) → o < 8 → AreFields o 0 0 0
+alone o op = record { op = op; first = omega arith; second = omega arith; rest = omega arith }
 
 -- a word is assembled from its fields
 pub assembled_fields : (w : ℕ) → assembled (w / 2 ^ 30) (field 27 3 w) (field 22 5 w) (field 17 5 w) (field 0 17 w) ≡ w
@@ -72,19 +75,11 @@ low_again false n h = omega arith
 
 cond_again : (condition : Cond) → cond_row (number_of_cond condition) ≡ Some condition
 cond_again Eq = refl
-cond_again Ne = refl
-cond_again Lt = refl
-cond_again Ge = refl
-cond_again Lo = refl
-cond_again Hs = refl
+cond_again _ = refl
 
 cond_within : (condition : Cond) → number_of_cond condition < 8
 cond_within Eq = omega arith
-cond_within Ne = omega arith
-cond_within Lt = omega arith
-cond_within Ge = omega arith
-cond_within Lo = omega arith
-cond_within Hs = omega arith
+cond_within _ = omega arith
 
 signed_within_16 : (z : ℤ) → IsSignedField 15 z → signed_bits 16 z < 2 ^ 16
 signed_within_16 (pos n) h = omega arith
@@ -92,47 +87,21 @@ signed_within_16 (negsuc n) h = omega arith
 
 special_again : (special : Special) → special_row (number_of_special special) ≡ Some special
 special_again Md = refl
-special_again Pc1 = refl
-special_again Pc2 = refl
-special_again Pc3 = refl
+special_again _ = refl
 
 special_within : (special : Special) → number_of_special special < 4
 special_within Md = omega arith
-special_within Pc1 = omega arith
-special_within Pc2 = omega arith
-special_within Pc3 = omega arith
+special_within _ = omega arith
 
 function_within : (op : Op) (a b : ℕ) → OpFits op a b → function_of op < 2 ^ 12
-function_within Add a b h = omega arith
-function_within Sub a b h = omega arith
-function_within Subnc a b h = omega arith
-function_within And a b h = omega arith
-function_within Or a b h = omega arith
-function_within Xor a b h = omega arith
-function_within Bic a b h = omega arith
-function_within Not a b h = omega arith
-function_within Rotlb a b h = omega arith
-function_within Mstart a b h = omega arith
-function_within Mstep a b h = omega arith
-function_within Dstep a b h = omega arith
 function_within (Asr n) a b h = omega (arith, h.0)
 function_within (Sh n) a b h = omega (arith, h)
+function_within _ a b h = omega arith
 
 opcode_within : (op : Op) → opcode_of op < 8
 opcode_within (Asr n) = omega arith
 opcode_within (Sh n) = omega arith
-opcode_within Add = omega arith
-opcode_within Sub = omega arith
-opcode_within Subnc = omega arith
-opcode_within And = omega arith
-opcode_within Or = omega arith
-opcode_within Xor = omega arith
-opcode_within Bic = omega arith
-opcode_within Not = omega arith
-opcode_within Rotlb = omega arith
-opcode_within Mstart = omega arith
-opcode_within Mstep = omega arith
-opcode_within Dstep = omega arith
+opcode_within _ = omega arith
 
 asr_again : (n : ℕ) → n ≤ 31 → shift_row n 0 ≡ Some (Asr n)
 asr_again n h = grind (arith, nat_tests)
@@ -144,37 +113,17 @@ abbrev op_row : ℕ → ℕ → ℕ → ℕ → Option Op
 op_row opcode function a b = cond (nat_eq opcode 0) (plain_op_row function a b) (shift_row function b)
 
 op_again : (op : Op) (a b : ℕ) → OpFits op a b → op_row (opcode_of op) (function_of op) a b ≡ Some op
-op_again Add a b h = refl
-op_again Sub a b h = refl
-op_again Subnc a b h = refl
-op_again And a b h = refl
-op_again Or a b h = refl
-op_again Xor a b h = refl
-op_again Bic a b h = refl
 op_again Not a b h = ap (λ x. plain_op_row 7 a x) h
-op_again Rotlb a b h = refl
 op_again Mstart a b h = ap (λ x. plain_op_row 9 x b) h
-op_again Mstep a b h = refl
-op_again Dstep a b h = refl
 op_again (Asr n) a b h = ap (λ x. shift_row n x) h.1 ∙ asr_again n h.0
 op_again (Sh n) a b h = sh_again n b h
+op_again _ a b h = refl
 
 -- a compute row by its operation
 compute_by_op : (op : Op) (a b rest : ℕ) → compute_row (opcode_of op) a b rest ≡ compute_with a b rest (op_row (opcode_of op) (rest % 2 ^ 12) a b)
-compute_by_op Add a b rest = refl
-compute_by_op Sub a b rest = refl
-compute_by_op Subnc a b rest = refl
-compute_by_op And a b rest = refl
-compute_by_op Or a b rest = refl
-compute_by_op Xor a b rest = refl
-compute_by_op Bic a b rest = refl
-compute_by_op Not a b rest = refl
-compute_by_op Rotlb a b rest = refl
-compute_by_op Mstart a b rest = refl
-compute_by_op Mstep a b rest = refl
-compute_by_op Dstep a b rest = refl
 compute_by_op (Asr n) a b rest = refl
 compute_by_op (Sh n) a b rest = refl
+compute_by_op _ a b rest = refl
 
 compute_again : (op : Op) (a b dest : ℕ) → OpFits op a b → compute_row (opcode_of op) a b (dest * 2 ^ 12 + function_of op) ≡ Some (Compute a dest b op)
 compute_again op a b dest h =
@@ -205,48 +154,25 @@ branch_again condition a b squash by h =
     ∙ ap (λ x. Some (Branch a b condition squash (signed_of 16 x))) (low_again squash (signed_bits 16 by) small)
     ∙ ap (λ x. Some (Branch a b condition squash x)) (signed_again_16 by h)
 
+-- two registers and a signed number of 17 bits
+by_number : (k o f s : ℕ) (z : ℤ) (w : ℕ) → o < 8 → (f ≤ 31) × (s ≤ 31) → IsSignedField 16 z → w ≡ assembled k o f s (signed_bits 17 z)
+    → (i : ℤ → Inst) → row_of k o f s (signed_bits 17 z) ≡ Some (i (signed_of 17 (signed_bits 17 z))) → inst_of w ≡ Some (i z)
+by_number k o f s z w op registers fits is i row =
+    let first : f < 32 = omega (arith, registers.0) in
+    let second : s < 32 = omega (arith, registers.1) in
+    by_fields k o f s (signed_bits 17 z) w (record { op = op; first = first; second = second; rest = signed_within z fits }) is
+    ∙ row
+    ∙ ap (λ x. Some (i x)) (signed_again z fits)
+
 -- a word that spells an instruction is decoded to it
 pub spelled : (i : Inst) (w : ℕ) → Codes i w → inst_of w ≡ Some i
-spelled (Load base dest offset) w c =
-    by_fields 2 0 base dest (signed_bits 17 offset) w (record {
-      op = omega arith;
-      first = omega (arith, c.registers.0);
-      second = omega (arith, c.registers.1);
-      rest = signed_within offset c.fits;
-    }) c.word_is
-    ∙ ap (λ z. Some (Load base dest z)) (signed_again offset c.fits)
-spelled (Store base value offset) w c =
-    by_fields 2 1 base value (signed_bits 17 offset) w (record {
-      op = omega arith;
-      first = omega (arith, c.registers.0);
-      second = omega (arith, c.registers.1);
-      rest = signed_within offset c.fits;
-    }) c.word_is
-    ∙ ap (λ z. Some (Store base value z)) (signed_again offset c.fits)
-spelled (Addi a dest imm) w c =
-    by_fields 3 0 a dest (signed_bits 17 imm) w (record {
-      op = omega arith;
-      first = omega (arith, c.registers.0);
-      second = omega (arith, c.registers.1);
-      rest =
-          signed_within imm c.fits;
-    }) c.word_is
-    ∙ ap (λ z. Some (Addi a dest z)) (signed_again imm c.fits)
-spelled (Jspci a dest imm) w c =
-    by_fields 3 1 a dest (signed_bits 17 imm) w (record {
-      op = omega arith;
-      first = omega (arith, c.registers.0);
-      second = omega (arith, c.registers.1);
-      rest =
-          signed_within imm c.fits;
-    }) c.word_is
-    ∙ ap (λ z. Some (Jspci a dest z)) (signed_again imm c.fits)
-spelled Jpc w c =
-    by_fields 3 2 0 0 0 w (record { op = omega arith; first = omega arith; second = omega arith; rest = omega arith }) c.word_is
-spelled Jpcrs w c =
-    by_fields 3 3 0 0 0 w (record { op = omega arith; first = omega arith; second = omega arith; rest = omega arith }) c.word_is
-spelled Halt w c =
-    by_fields 3 4 0 0 0 w (record { op = omega arith; first = omega arith; second = omega arith; rest = omega arith }) c.word_is
+spelled (Load base dest offset) w c = by_number 2 0 base dest offset w (omega arith) c.registers c.fits c.word_is (λ z. Load base dest z) refl
+spelled (Store base value offset) w c = by_number 2 1 base value offset w (omega arith) c.registers c.fits c.word_is (λ z. Store base value z) refl
+spelled (Addi a dest imm) w c = by_number 3 0 a dest imm w (omega arith) c.registers c.fits c.word_is (λ z. Addi a dest z) refl
+spelled (Jspci a dest imm) w c = by_number 3 1 a dest imm w (omega arith) c.registers c.fits c.word_is (λ z. Jspci a dest z) refl
+spelled Jpc w c = by_fields 3 2 0 0 0 w (alone 2 (omega arith)) c.word_is
+spelled Jpcrs w c = by_fields 3 3 0 0 0 w (alone 3 (omega arith)) c.word_is
+spelled Halt w c = by_fields 3 4 0 0 0 w (alone 4 (omega arith)) c.word_is
 spelled (Branch a b condition squash by) w c =
     by_fields 0 (number_of_cond condition) a b (squash_bit squash * 2 ^ 16 + signed_bits 16 by) w (record {
       op = cond_within condition;
@@ -318,38 +244,25 @@ bits_of_signed r h = either (λ z. signed_bits 17 z ≡ r) (nat_lt r (2 ^ 16)) (
 bits_of_signed_16 : (r : ℕ) → r < 2 ^ 16 → signed_bits 16 (signed_of 16 r) ≡ r
 bits_of_signed_16 r h = either (λ z. signed_bits 16 z ≡ r) (nat_lt r (2 ^ 15)) (pos r) (negsuc (2 ^ 16 - suc r)) (λ t. refl) (λ t. omega arith)
 
+-- an instruction with two registers and a signed number is spelled by them
+number_found : (i : Inst) (k o f s r : ℕ) → AreFields o f s r → (IsSignedField 16 (signed_of 17 r) → InstFits i)
+    → ((f ≤ 31) × (s ≤ 31) → HasRegisters i) → assembled k o f s (signed_bits 17 (signed_of 17 r)) ≡ word_of_row i → Codes i (assembled k o f s r)
+number_found i k o f s r b fits registers is = record {
+  fits = fits (signed_fits r b.rest);
+  registers = registers (omega (arith, b.first), omega (arith, b.second));
+  word_is = ap (assembled k o f s) (sym (bits_of_signed r b.rest)) ∙ is;
+}
+
 memory_found : (k o f s r : ℕ) → k ≡ 2 → AreFields o f s r → IfSome (memory_row o f s r) (λ i. Codes i (assembled k o f s r))
 memory_found k o f s r e b =
-    pick (o == 0) _ _ _ (λ t. record {
-      fits = signed_fits r b.rest;
-      registers = (omega (arith, b), omega (arith, b));
-      word_is =
-          omega (arith, e, same o 0 t, bits_of_signed r b.rest);
-    })
-    (λ u. pick (o == 1) _ _ _
-    (λ t. record {
-      fits = signed_fits r b.rest;
-      registers = (omega (arith, b), omega (arith, b));
-      word_is =
-          omega (arith, e, same o 1 t, bits_of_signed r b.rest);
-    })
+    pick (o == 0) _ _ _ (λ t. number_found (Load f s (signed_of 17 r)) k o f s r b (λ x. x) (λ x. x) (omega (arith, e, same o 0 t)))
+    (λ u. pick (o == 1) _ _ _ (λ t. number_found (Store f s (signed_of 17 r)) k o f s r b (λ x. x) (λ x. x) (omega (arith, e, same o 1 t)))
     (λ u. tt))
 
 immediate_found : (k o f s r : ℕ) → k ≡ 3 → AreFields o f s r → IfSome (immediate_row o f s r) (λ i. Codes i (assembled k o f s r))
 immediate_found k o f s r e b =
-    pick (o == 0) _ _ _ (λ t. record {
-      fits = signed_fits r b.rest;
-      registers = (omega (arith, b), omega (arith, b));
-      word_is =
-          omega (arith, e, same o 0 t, bits_of_signed r b.rest);
-    })
-    (λ u. pick (o == 1) _ _ _
-    (λ t. record {
-      fits = signed_fits r b.rest;
-      registers = (omega (arith, b), omega (arith, b));
-      word_is =
-          omega (arith, e, same o 1 t, bits_of_signed r b.rest);
-    })
+    pick (o == 0) _ _ _ (λ t. number_found (Addi f s (signed_of 17 r)) k o f s r b (λ x. x) (λ x. x) (omega (arith, e, same o 0 t)))
+    (λ u. pick (o == 1) _ _ _ (λ t. number_found (Jspci f s (signed_of 17 r)) k o f s r b (λ x. x) (λ x. x) (omega (arith, e, same o 1 t)))
     (λ u. pick (f == 0 && (s == 0 && r == 0)) _ _ _ (λ z.
     pick (o == 2) _ _ _ (λ t. record { fits = tt; registers = tt; word_is = omega (arith, e, same o 2 t, all_zero f s r z) })
     (λ u. pick (o == 3) _ _ _ (λ t. record { fits = tt; registers = tt; word_is = omega (arith, e, same o 3 t, all_zero f s r z) })

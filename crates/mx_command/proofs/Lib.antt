@@ -7,7 +7,6 @@ pub mod GreedyLayouts
 pub mod Links
 pub mod Laid
 pub mod Headline
-pub mod Prints
 pub mod Modules
 pub mod Pairs
 pub mod PairHeadline

@@ -1,15 +1,13 @@
 -- The files of modules, read one after the other.
-use Rattle.std.proofs.Common.{◌≡◌, ℕ, ◌+◌, ◌++◌, ◌<◌, List, [], ◌∷◌, length, drop, get_or, Vec, Result, Ok, Err, IfOk, IfErr, refl, subst}
+use Rattle.std.proofs.Common.{◌≡◌, ℕ, ◌+◌, ◌++◌, ◌<◌, List, [], ◌∷◌, length, drop, get_or, refl, subst}
 use Rattle.std.specs.Borrow.{Bor}
-use Rattle.std.specs.Global.{Global}
 use Rattle.std.proofs.lemmas.List.{at_drop_more}
 use Rattle.cmd_line.specs.Command.{texts}
 use Rattle.cmd_answer.specs.declared.FileKind.TheVariants.{Module}
-use Rattle.cmd_answer.specs.declared.Reply.{Reply}
 use Rattle.cmd_answer.specs.Answer.{Answer}
 use Rattle.mx_io.specs.Shelves.{Told, Counts}
 use Rattle.cmd_answer.specs.Protocol.{Protocol, Reads, Performed}
-use Rattle.cmd_answer.specs.Replies.{reply_answer}
+use Rattle.cmd_source.proofs.Readings.{FileGiven, FileRefused}
 use Rattle.mx_command.specs.Protocols.{join_answer, modules_protocol}
 
 -- what is performed by the names that are left, behind these texts, is performed by all names
@@ -21,18 +19,13 @@ Continues told names left found before now =
 module _ (told : Told) (names rest found : List (List ℕ)) (name : List ℕ) (number : ℕ) (before now later : Counts) (e : number ≡ length found + 1)
     (goes : Continues told names (name ∷ rest) found before now) where
   -- behind the next file
-  pub reads_next : (text : List ℕ)
-      → ((next : List ℕ → Protocol) (after : Counts) (answer : Answer) → Performed told (next text) later after answer
-      → Performed told (Reads (Module number) name next) now after answer)
-      → Continues told names rest (found ++ text ∷ []) before later
+  pub reads_next : (text : List ℕ) → FileGiven told (Module number) name now later text → Continues told names rest (found ++ text ∷ []) before later
   reads_next text given = λ after answer performed.
       let next : List ℕ → Protocol = λ t. modules_protocol rest (found ++ t ∷ []) in
       goes after answer (subst (λ n. Performed told (Reads (Module n) name next) now after answer) e (given next after answer performed))
 
   -- a fault of the next file is the answer
-  pub read_fails :
-      (answer : Answer) → ((next : List ℕ → Protocol) → Performed told (Reads (Module number) name next) now later answer)
-      → Performed told (modules_protocol names []) before later answer
+  pub read_fails : (answer : Answer) → FileRefused told (Module number) name now later answer → Performed told (modules_protocol names []) before later answer
   read_fails answer failed =
       let next : List ℕ → Protocol = λ t. modules_protocol rest (found ++ t ∷ []) in
       goes later answer (subst (λ n. Performed told (Reads (Module n) name next) now later answer) e (failed next))
@@ -59,25 +52,15 @@ module _ (told here : Told) (names : List (Bor (List ℕ))) (i : ℕ) (d : Bor (
   goes_on = subst (λ left. Continues told (texts names) left found before now) (left_more names i d lt) goes
 
   -- the file of the name at this place gives a text, and the next one is read
-  pub next_is_read : (r : Result (Vec ℕ Global) Reply) (text : Vec ℕ Global) → r ≡ Ok text
-      → IfOk r (λ bytes. (next : List ℕ → Protocol) (after : Counts) (answer : Answer) → Performed here (next bytes.items) later after answer
-      → Performed here (Reads (Module number) name next) now after answer)
-      → Continues told (texts names) (texts (drop (i + 1) names)) (found ++ text.items ∷ []) before later
-  next_is_read r text is given =
-      let by_text = subst
-      (λ q. IfOk q (λ bytes. (next : List ℕ → Protocol) (after : Counts) (answer : Answer) → Performed here (next bytes.items) later after answer
-      → Performed here (Reads (Module number) name next) now after answer))
-      is given in
-      reads_next told (texts names) (texts (drop (i + 1) names)) found name number before now later e goes_on text.items
-      (subst (λ (t : Told). (next : List ℕ → Protocol) (after : Counts) (answer : Answer) → Performed t (next text.items) later after answer
-      → Performed t (Reads (Module number) name next) now after answer) same by_text)
+  pub next_is_read : (text : List ℕ) → FileGiven here (Module number) name now later text
+      → Continues told (texts names) (texts (drop (i + 1) names)) (found ++ text ∷ []) before later
+  next_is_read text given =
+      reads_next told (texts names) (texts (drop (i + 1) names)) found name number before now later e goes_on text
+      (subst (λ (t : Told). FileGiven t (Module number) name now later text) same given)
 
   -- or it has a fault, which is the answer
-  pub next_fails : (r : Result (Vec ℕ Global) Reply) (reply : Reply) → r ≡ Err reply
-      → IfErr r (λ given. (next : List ℕ → Protocol) → Performed here (Reads (Module number) name next) now later (reply_answer given))
-      → Performed told (modules_protocol (texts names) []) before later (reply_answer reply)
-  next_fails r reply is failed =
-      let by_reply = subst (λ q. IfErr q (λ given. (next : List ℕ → Protocol)
-      → Performed here (Reads (Module number) name next) now later (reply_answer given))) is failed in
-      read_fails told (texts names) (texts (drop (i + 1) names)) found name number before now later e goes_on (reply_answer reply)
-      (subst (λ (t : Told). (next : List ℕ → Protocol) → Performed t (Reads (Module number) name next) now later (reply_answer reply)) same by_reply)
+  pub next_fails : (answer : Answer) → FileRefused here (Module number) name now later answer
+      → Performed told (modules_protocol (texts names) []) before later answer
+  next_fails answer failed =
+      read_fails told (texts names) (texts (drop (i + 1) names)) found name number before now later e goes_on answer
+      (subst (λ (t : Told). FileRefused t (Module number) name now later answer) same failed)

@@ -10,6 +10,7 @@ ghost use Rattle.mx_isa.specs.Board.{board};
 ghost use Rattle.cmd_options.specs.declared.Limits.{Limits};
 ghost use Rattle.mx_command.specs.Accepted.{Held, CanBeRun};
 
+use cmd_answer::Failure;
 use cmd_source::{assembled, linked_source};
 use mx_board::{EventError, Requests};
 use mx_io::Memory;
@@ -34,9 +35,10 @@ fn reaches(alloc: Global, source: &Source) -> Result<bool, Memory>
     ensures { IfOk result (λ all. all ≡ true → (sites : List Site) × IsLayout IsGreedy source.now board sites
         × (overlong source.now board (blocks_in sites) ≡ None)) }
 {
-    match linked_source(alloc, source)? {
+    match linked_source(alloc, source) {
         Ok(_) => Ok(true),
-        Err(_) => Ok(false),
+        Err(Failure::Answered(_)) => Ok(false),
+        Err(Failure::Memory) => Err(Memory),
     }
 }
 
@@ -47,9 +49,10 @@ pub fn can_be_run(alloc: Global, text: &[u8], interrupts: &[u8]) -> Result<bool,
     requires interrupts { length interrupts.now ≤ MAX_FILE_BYTES }
     ensures { IfOk result (λ can. can ≡ true → CanBeRun text.now interrupts.now) }
 {
-    let source = match assembled(alloc, text)? {
+    let source = match assembled(alloc, text) {
         Ok(source) => source,
-        Err(_) => return Ok(false),
+        Err(Failure::Answered(_)) => return Ok(false),
+        Err(Failure::Memory) => return Err(Memory),
     };
     if reaches(alloc, &source)? {
         let wanted = are_requests(alloc, interrupts)?;

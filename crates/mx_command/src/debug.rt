@@ -1,6 +1,5 @@
 //! The reply of the command that tells a source's stops.
-ghost use Rattle.std.specs.Prelude.{◌≡◌, ◌≤◌, ◌<◌, ◌^◌, length, IfOk, IfErr, IfSome, List, ℕ, Option, Some, None};
-ghost use Rattle.mx_io.specs.declared.limits.TheConstants.{MAX_SOURCE_BYTES};
+ghost use Rattle.std.specs.Prelude.{◌≡◌, ◌<◌, ◌^◌, length, IfOk, IfSome, List, ℕ, Option, Some, None};
 ghost use Rattle.mx_layout.specs.Overlong.{Overlong, IsOverlong};
 ghost use Rattle.mx_link.specs.Origins.{from_nowhere};
 ghost use Rattle.mx_link.specs.Linked.{IsLinked, link_map};
@@ -9,17 +8,17 @@ ghost use Rattle.mx_isa.specs.Board.{board};
 ghost use Rattle.cmd_answer.specs.Answer.{prints};
 ghost use Rattle.mx_io.specs.Shelves.{Counts};
 ghost use Rattle.cmd_answer.specs.Protocol.{Reads, Performed};
-ghost use Rattle.cmd_answer.specs.Replies.{reply_answer};
+ghost use Rattle.cmd_answer.specs.Replies.{reply_answer, IfAnswered, OnAnswer};
 ghost use Rattle.cmd_options.specs.Options.{seen_files, IsAsked};
 ghost use Rattle.law_schedule.specs.Schedule.{IsScheduler};
 ghost use Rattle.cmd_source.specs.Refusals.{overlong_line};
 ghost use Rattle.cmd_source.specs.Protocols.{Layouts};
 ghost use Rattle.mx_command.specs.Protocols.{statement_at, statement_named, no_label_line, labelled_protocol, debug_protocol};
 
-use cmd_answer::{FileKind, Reply, Status, line_reply};
+use cmd_answer::{Failure, FileKind, Reply, Status, line_reply};
 use cmd_debug::debug_image;
 use cmd_options::{RunFiles, SessionLimits};
-use cmd_source::{assembled, overlong_reply, read_named};
+use cmd_source::{overlong_reply, read_source};
 use mx_io::{Memory, Shelf};
 use mx_isa::BOARD;
 use mx_link::{LinkError, Linked, link_plain};
@@ -74,18 +73,18 @@ fn no_label_reply(alloc: Global, name: &str) -> Result<Reply, Memory>
 }
 
 // A source, linked by the list scheduler without copies, or the reply to its first branch that does not reach its target.
-fn plain_source(alloc: Global, source: &Source) -> Result<Result<Linked, Reply>, Memory>
-    ensures linked { IfOk result (λ r. IfOk r (λ l. IsLinked IsGreedy from_nowhere source.now board l)) }
-    ensures refused { IfOk result (λ r. IfErr r (λ reply. (found : Overlong) × IsOverlong IsGreedy source.now board found
-        × (reply_answer reply ≡ prints Status.Refused (overlong_line found.line found.from found.to)))) }
+fn plain_source(alloc: Global, source: &Source) -> Result<Linked, Failure>
+    ensures linked { IfOk result (IsLinked IsGreedy from_nowhere source.now board) }
+    ensures refused { IfAnswered result (λ answer. (found : Overlong) × IsOverlong IsGreedy source.now board found
+        × (answer ≡ prints Status.Refused (overlong_line found.line found.from found.to))) }
 {
     let _statements = source.statements();
     match link_plain(alloc, source, BOARD, &mut ListProposer) {
-        Ok(linked) => Ok(Ok(linked)),
+        Ok(linked) => Ok(linked),
         Err(LinkError::Displacement { line, from, to }) => {
-            Ok(Err(overlong_reply(alloc, line, from, to)?))
+            Err(Failure::Answered(overlong_reply(alloc, line, from, to)?))
         }
-        Err(LinkError::Memory) => Err(Memory),
+        Err(LinkError::Memory) => Err(Failure::Memory),
     }
 }
 
@@ -108,11 +107,11 @@ fn labelled_reply<S: Shelf>(
     label: &str,
     files: &RunFiles,
     limits: &SessionLimits,
-) -> Result<Reply, Memory>
+) -> Result<Reply, Failure>
     requires { IsAsked limits.now }
-    ensures performed { (layout_of : Layouts) → IsScheduler layout_of → IfOk result (λ r. Performed (S.told shelf.old)
+    ensures performed { (layout_of : Layouts) → IsScheduler layout_of → OnAnswer result (Performed (S.told shelf.old)
         (labelled_protocol layout_of label.now (seen_files files.now) limits.now source.now)
-        (S.counts shelf.old) (S.counts shelf.new) (reply_answer r)) }
+        (S.counts shelf.old) (S.counts shelf.new)) }
     ensures told_stays { S.told shelf.new ≡ S.told shelf.old }
     ensures writes_stay { S.write_faults shelf.new ≡ S.write_faults shelf.old }
 {
@@ -120,39 +119,10 @@ fn labelled_reply<S: Shelf>(
         let reply = no_label_reply(alloc, label)?;
         return Ok(reply);
     };
-    let linked = match plain_source(alloc, source)? {
-        Ok(linked) => linked,
-        Err(reply) => return Ok(reply),
-    };
+    let linked = plain_source(alloc, source)?;
     let address = address_of(&linked, source, index);
     let asks = source.input().is_some();
-    let reply = debug_image(alloc, shelf, &linked.image, asks, address, files, limits)?;
-    Ok(reply)
-}
-
-// The reply of `debug` to the text of its source.
-fn debug_text<S: Shelf>(
-    alloc: Global,
-    shelf: &mut S,
-    text: &[u8],
-    label: &str,
-    files: &RunFiles,
-    limits: &SessionLimits,
-) -> Result<Reply, Memory>
-    requires text { length text.now ≤ MAX_SOURCE_BYTES }
-    requires asked { IsAsked limits.now }
-    ensures performed { (layout_of : Layouts) → IsScheduler layout_of → IfOk result (λ r. Performed (S.told shelf.old)
-        (debug_protocol layout_of label.now (seen_files files.now) limits.now text.now)
-        (S.counts shelf.old) (S.counts shelf.new) (reply_answer r)) }
-    ensures told_stays { S.told shelf.new ≡ S.told shelf.old }
-    ensures writes_stay { S.write_faults shelf.new ≡ S.write_faults shelf.old }
-{
-    let source = match assembled(alloc, text)? {
-        Ok(source) => source,
-        Err(reply) => return Ok(reply),
-    };
-    let reply = labelled_reply(alloc, shelf, &source, label, files, limits)?;
-    Ok(reply)
+    debug_image(alloc, shelf, &linked.image, asks, address, files, limits)
 }
 
 /// The reply to `debug SOURCE LABEL`.
@@ -163,18 +133,14 @@ pub fn debug_reply<S: Shelf>(
     label: &str,
     files: &RunFiles,
     limits: &SessionLimits,
-) -> Result<Reply, Memory>
+) -> Result<Reply, Failure>
     requires { IsAsked limits.now }
-    ensures performed { (layout_of : Layouts) → IsScheduler layout_of → IfOk result (λ r. Performed (S.told shelf.old)
+    ensures performed { (layout_of : Layouts) → IsScheduler layout_of → OnAnswer result (Performed (S.told shelf.old)
         (Reads FileKind.Source source.now (debug_protocol layout_of label.now (seen_files files.now) limits.now))
-        (S.counts shelf.old) (S.counts shelf.new) (reply_answer r)) }
+        (S.counts shelf.old) (S.counts shelf.new)) }
     ensures told_stays { S.told shelf.new ≡ S.told shelf.old }
     ensures writes_stay { S.write_faults shelf.new ≡ S.write_faults shelf.old }
 {
-    let text = match read_named(alloc, shelf, FileKind::Source, source)? {
-        Ok(text) => text,
-        Err(reply) => return Ok(reply),
-    };
-    let reply = debug_text(alloc, shelf, text.as_slice(), label, files, limits)?;
-    Ok(reply)
+    let source = read_source(alloc, shelf, source)?;
+    labelled_reply(alloc, shelf, &source, label, files, limits)
 }

@@ -5,11 +5,11 @@ ghost use Rattle.mx_image.specs.Files.{file_refusal, file_in, file_bytes};
 ghost use Rattle.cmd_answer.specs.Answer.{prints, writes};
 ghost use Rattle.mx_io.specs.Shelves.{Counts};
 ghost use Rattle.cmd_answer.specs.Protocol.{Answers, Reads, Performed};
-ghost use Rattle.cmd_answer.specs.Replies.{reply_answer};
+ghost use Rattle.cmd_answer.specs.Replies.{reply_answer, OnAnswer};
 ghost use Rattle.cmd_options.specs.Options.{seen_files};
 ghost use Rattle.mx_command.specs.Protocols.{image_text, image_line, unless_refused, exec_protocol, migrate_answer};
 
-use cmd_answer::{FileKind, Reply, Status, line_reply};
+use cmd_answer::{Failure, FileKind, Reply, Status, line_reply};
 use cmd_options::{Limits, RunFiles};
 use cmd_simulate::run_image;
 use cmd_source::read_named;
@@ -48,18 +48,15 @@ fn exec_bytes<S: Shelf>(
     bytes: &[u8],
     files: &RunFiles,
     limits: &Limits,
-) -> Result<Reply, Memory>
-    ensures performed { IfOk result (λ r. Performed (S.told shelf.old)
+) -> Result<Reply, Failure>
+    ensures performed { OnAnswer result (Performed (S.told shelf.old)
         (exec_protocol (seen_files files.now) limits.now bytes.now)
-        (S.counts shelf.old) (S.counts shelf.new) (reply_answer r)) }
+        (S.counts shelf.old) (S.counts shelf.new)) }
     ensures told_stays { S.told shelf.new ≡ S.told shelf.old }
     ensures writes_stay { S.write_faults shelf.new ≡ S.write_faults shelf.old }
 {
     match read_image_file(alloc, bytes) {
-        Ok(file) => {
-            let reply = run_image(alloc, shelf, &file.image, file.input, files, limits)?;
-            Ok(reply)
-        }
+        Ok(file) => run_image(alloc, shelf, &file.image, file.input, files, limits),
         Err(error) => {
             let reply = image_reply(alloc, &error)?;
             Ok(reply)
@@ -93,19 +90,15 @@ pub fn exec_reply<S: Shelf>(
     image: &str,
     files: &RunFiles,
     limits: &Limits,
-) -> Result<Reply, Memory>
-    ensures performed { IfOk result (λ r. Performed (S.told shelf.old)
+) -> Result<Reply, Failure>
+    ensures performed { OnAnswer result (Performed (S.told shelf.old)
         (Reads FileKind.Image image.now (exec_protocol (seen_files files.now) limits.now))
-        (S.counts shelf.old) (S.counts shelf.new) (reply_answer r)) }
+        (S.counts shelf.old) (S.counts shelf.new)) }
     ensures told_stays { S.told shelf.new ≡ S.told shelf.old }
     ensures writes_stay { S.write_faults shelf.new ≡ S.write_faults shelf.old }
 {
-    let bytes = match read_named(alloc, shelf, FileKind::Image, image)? {
-        Ok(bytes) => bytes,
-        Err(reply) => return Ok(reply),
-    };
-    let reply = exec_bytes(alloc, shelf, bytes.as_slice(), files, limits)?;
-    Ok(reply)
+    let bytes = read_named(alloc, shelf, FileKind::Image, image)?;
+    exec_bytes(alloc, shelf, bytes.as_slice(), files, limits)
 }
 
 /// The reply to `migrate IMAGE NEW`.
@@ -114,17 +107,14 @@ pub fn migrate_reply<S: Shelf>(
     shelf: &mut S,
     image: &str,
     target: &str,
-) -> Result<Reply, Memory>
-    ensures performed { IfOk result (λ r. Performed (S.told shelf.old)
+) -> Result<Reply, Failure>
+    ensures performed { OnAnswer result (Performed (S.told shelf.old)
         (Reads FileKind.Image image.now (λ bytes. Answers (migrate_answer target.now bytes)))
-        (S.counts shelf.old) (S.counts shelf.new) (reply_answer r)) }
+        (S.counts shelf.old) (S.counts shelf.new)) }
     ensures told_stays { S.told shelf.new ≡ S.told shelf.old }
     ensures writes_stay { S.write_faults shelf.new ≡ S.write_faults shelf.old }
 {
-    let bytes = match read_named(alloc, shelf, FileKind::Image, image)? {
-        Ok(bytes) => bytes,
-        Err(reply) => return Ok(reply),
-    };
+    let bytes = read_named(alloc, shelf, FileKind::Image, image)?;
     let reply = migrate_bytes(alloc, bytes.as_slice(), target)?;
     Ok(reply)
 }

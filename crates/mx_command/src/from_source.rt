@@ -1,28 +1,28 @@
 //! The replies of the commands that read a source.
-ghost use Rattle.std.specs.Prelude.{◌≡◌, ◌≤◌, length, IfOk, List, ℕ, option_map, is_some};
-ghost use Rattle.mx_io.specs.declared.limits.TheConstants.{MAX_SOURCE_BYTES};
+ghost use Rattle.std.specs.Prelude.{◌≡◌, IfOk, List, ℕ, option_map, is_some};
+ghost use Rattle.cmd_best.specs.Lengths.{lengths_text};
+ghost use Rattle.mx_layout.specs.Layout.{blocks_in};
 ghost use Rattle.mx_link.specs.Origins.{from_target};
 ghost use Rattle.mx_link.specs.Linked.{IsLinked};
 ghost use Rattle.mx_reorg.specs.Greedy.{IsGreedy};
 ghost use Rattle.mx_isa.specs.Board.{board};
 ghost use Rattle.mx_image.specs.Files.{file_bytes};
-ghost use Rattle.cmd_answer.specs.Answer.{writes};
+ghost use Rattle.cmd_answer.specs.Answer.{prints, writes};
 ghost use Rattle.mx_io.specs.Shelves.{Counts};
 ghost use Rattle.cmd_answer.specs.Protocol.{Answers, Reads, Performed};
-ghost use Rattle.cmd_answer.specs.Replies.{reply_answer};
+ghost use Rattle.cmd_answer.specs.Replies.{reply_answer, OnAnswer};
 ghost use Rattle.cmd_options.specs.Options.{seen_files};
 ghost use Rattle.law_schedule.specs.Schedule.{IsScheduler};
 ghost use Rattle.cmd_source.specs.Protocols.{Layouts, linked_protocol};
 ghost use Rattle.mx_command.specs.Protocols.{run_protocol, meaning_protocol, build_protocol, list_protocol, best_answer};
-ghost use Rattle.cmd_source.specs.Replied.{IsReplied};
 
-use cmd_answer::{FileKind, Reply, Status};
+use cmd_answer::{Failure, FileKind, Reply, Status};
 use cmd_best::lengths_text;
 use cmd_list::listing;
 use cmd_meaning::meaning_reply;
 use cmd_options::{Limits, RunFiles};
 use cmd_simulate::{read_input, run_image};
-use cmd_source::{Program, assembled, read_named, read_program};
+use cmd_source::{Program, read_program, read_source};
 use mx_image::{ImageFile, write_file};
 use mx_io::{Memory, Shelf};
 use mx_link::Linked;
@@ -36,48 +36,16 @@ pub fn run_reply<S: Shelf>(
     source: &str,
     files: &RunFiles,
     limits: &Limits,
-) -> Result<Reply, Memory>
-    ensures performed { (layout_of : Layouts) → IsScheduler layout_of → IfOk result (λ r. Performed (S.told shelf.old)
+) -> Result<Reply, Failure>
+    ensures performed { (layout_of : Layouts) → IsScheduler layout_of → OnAnswer result (Performed (S.told shelf.old)
         (Reads FileKind.Source source.now (linked_protocol layout_of (run_protocol (seen_files files.now) limits.now)))
-        (S.counts shelf.old) (S.counts shelf.new) (reply_answer r)) }
-    ensures replied { IfOk result (λ r. IsReplied (reply_answer r)) }
+        (S.counts shelf.old) (S.counts shelf.new)) }
     ensures told_stays { S.told shelf.new ≡ S.told shelf.old }
     ensures writes_stay { S.write_faults shelf.new ≡ S.write_faults shelf.old }
 {
-    let program = match read_program(alloc, shelf, source)? {
-        Ok(program) => program,
-        Err(reply) => return Ok(reply),
-    };
+    let program = read_program(alloc, shelf, source)?;
     let asks = program.source.input().is_some();
-    let reply = run_image(alloc, shelf, &program.linked.image, asks, files, limits)?;
-    Ok(reply)
-}
-
-// The reply of `meaning` to the text of its source.
-fn meaning_text<S: Shelf>(
-    alloc: Global,
-    shelf: &mut S,
-    text: &[u8],
-    steps: u32,
-    input: Option<&str>,
-) -> Result<Reply, Memory>
-    requires { length text.now ≤ MAX_SOURCE_BYTES }
-    ensures performed { IfOk result (λ r. Performed (S.told shelf.old)
-        (meaning_protocol steps (option_map (λ s. s.now) input.entry) text.now)
-        (S.counts shelf.old) (S.counts shelf.new) (reply_answer r)) }
-    ensures told_stays { S.told shelf.new ≡ S.told shelf.old }
-    ensures writes_stay { S.write_faults shelf.new ≡ S.write_faults shelf.old }
-{
-    let source = match assembled(alloc, text)? {
-        Ok(source) => source,
-        Err(reply) => return Ok(reply),
-    };
-    let bytes = match read_input(alloc, shelf, input)? {
-        Ok(bytes) => bytes,
-        Err(reply) => return Ok(reply),
-    };
-    let reply = meaning_reply(alloc, &source, bytes.as_slice(), steps)?;
-    Ok(reply)
+    run_image(alloc, shelf, &program.linked.image, asks, files, limits)
 }
 
 /// The reply to `meaning SOURCE`.
@@ -87,18 +55,16 @@ pub fn told_reply<S: Shelf>(
     source: &str,
     steps: u32,
     input: Option<&str>,
-) -> Result<Reply, Memory>
-    ensures performed { IfOk result (λ r. Performed (S.told shelf.old)
+) -> Result<Reply, Failure>
+    ensures performed { OnAnswer result (Performed (S.told shelf.old)
         (Reads FileKind.Source source.now (meaning_protocol steps (option_map (λ s. s.now) input.entry)))
-        (S.counts shelf.old) (S.counts shelf.new) (reply_answer r)) }
+        (S.counts shelf.old) (S.counts shelf.new)) }
     ensures told_stays { S.told shelf.new ≡ S.told shelf.old }
     ensures writes_stay { S.write_faults shelf.new ≡ S.write_faults shelf.old }
 {
-    let text = match read_named(alloc, shelf, FileKind::Source, source)? {
-        Ok(text) => text,
-        Err(reply) => return Ok(reply),
-    };
-    let reply = meaning_text(alloc, shelf, text.as_slice(), steps, input)?;
+    let source = read_source(alloc, shelf, source)?;
+    let bytes = read_input(alloc, shelf, input)?;
+    let reply = meaning_reply(alloc, &source, bytes.as_slice(), steps)?;
     Ok(reply)
 }
 
@@ -134,68 +100,53 @@ pub fn build_reply<S: Shelf>(
     shelf: &mut S,
     source: &str,
     target: &str,
-) -> Result<Reply, Memory>
-    ensures performed { (layout_of : Layouts) → IsScheduler layout_of → IfOk result (λ r. Performed (S.told shelf.old)
+) -> Result<Reply, Failure>
+    ensures performed { (layout_of : Layouts) → IsScheduler layout_of → OnAnswer result (Performed (S.told shelf.old)
         (Reads FileKind.Source source.now (linked_protocol layout_of (build_protocol target.now)))
-        (S.counts shelf.old) (S.counts shelf.new) (reply_answer r)) }
-    ensures replied { IfOk result (λ r. IsReplied (reply_answer r)) }
+        (S.counts shelf.old) (S.counts shelf.new)) }
     ensures told_stays { S.told shelf.new ≡ S.told shelf.old }
     ensures writes_stay { S.write_faults shelf.new ≡ S.write_faults shelf.old }
 {
-    let program = match read_program(alloc, shelf, source)? {
-        Ok(program) => program,
-        Err(reply) => return Ok(reply),
-    };
+    let program = read_program(alloc, shelf, source)?;
     let Program { source, linked, .. } = program;
     let reply = file_reply(alloc, &source, linked, target)?;
     Ok(reply)
 }
 
 /// The reply to `list SOURCE`.
-pub fn list_reply<S: Shelf>(alloc: Global, shelf: &mut S, source: &str) -> Result<Reply, Memory>
-    ensures performed { (layout_of : Layouts) → IsScheduler layout_of → IfOk result (λ r. Performed (S.told shelf.old)
+pub fn list_reply<S: Shelf>(alloc: Global, shelf: &mut S, source: &str) -> Result<Reply, Failure>
+    ensures performed { (layout_of : Layouts) → IsScheduler layout_of → OnAnswer result (Performed (S.told shelf.old)
         (Reads FileKind.Source source.now (linked_protocol layout_of list_protocol))
-        (S.counts shelf.old) (S.counts shelf.new) (reply_answer r)) }
-    ensures replied { IfOk result (λ r. IsReplied (reply_answer r)) }
+        (S.counts shelf.old) (S.counts shelf.new)) }
     ensures told_stays { S.told shelf.new ≡ S.told shelf.old }
     ensures writes_stay { S.write_faults shelf.new ≡ S.write_faults shelf.old }
 {
-    let program = match read_program(alloc, shelf, source)? {
-        Ok(program) => program,
-        Err(reply) => return Ok(reply),
-    };
+    let program = read_program(alloc, shelf, source)?;
     let output = listing(alloc, &program.source, &program.linked)?;
     let status = Status::Done;
     Ok(Reply::Prints { status, output })
 }
 
-// The reply of `best` to the text of its source.
-fn best_text(alloc: Global, text: &[u8]) -> Result<Reply, Memory>
-    requires { length text.now ≤ MAX_SOURCE_BYTES }
-    ensures { (layout_of : Layouts) → IsScheduler layout_of → IfOk result (λ r. reply_answer r ≡ best_answer layout_of text.now) }
+// The reply that tells the lengths of a source's plans.
+fn lengths_reply(alloc: Global, source: &Source) -> Result<Reply, Memory>
+    ensures { (layout_of : Layouts) → IsScheduler layout_of
+        → IfOk result (λ r. reply_answer r ≡ prints Status.Done (lengths_text source.now (blocks_in (layout_of source.now)))) }
 {
-    let source = match assembled(alloc, text)? {
-        Ok(source) => source,
-        Err(reply) => return Ok(reply),
-    };
     let _statements = source.statements();
-    let output = lengths_text(alloc, &source)?;
+    let output = lengths_text(alloc, source)?;
     let status = Status::Done;
     Ok(Reply::Prints { status, output })
 }
 
 /// The reply to `best SOURCE`.
-pub fn best_reply<S: Shelf>(alloc: Global, shelf: &mut S, source: &str) -> Result<Reply, Memory>
-    ensures performed { (layout_of : Layouts) → IsScheduler layout_of → IfOk result (λ r. Performed (S.told shelf.old)
+pub fn best_reply<S: Shelf>(alloc: Global, shelf: &mut S, source: &str) -> Result<Reply, Failure>
+    ensures performed { (layout_of : Layouts) → IsScheduler layout_of → OnAnswer result (Performed (S.told shelf.old)
         (Reads FileKind.Source source.now (λ text. Answers (best_answer layout_of text)))
-        (S.counts shelf.old) (S.counts shelf.new) (reply_answer r)) }
+        (S.counts shelf.old) (S.counts shelf.new)) }
     ensures told_stays { S.told shelf.new ≡ S.told shelf.old }
     ensures writes_stay { S.write_faults shelf.new ≡ S.write_faults shelf.old }
 {
-    let text = match read_named(alloc, shelf, FileKind::Source, source)? {
-        Ok(text) => text,
-        Err(reply) => return Ok(reply),
-    };
-    let reply = best_text(alloc, text.as_slice())?;
+    let source = read_source(alloc, shelf, source)?;
+    let reply = lengths_reply(alloc, &source)?;
     Ok(reply)
 }

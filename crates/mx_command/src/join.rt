@@ -1,14 +1,13 @@
 //! The reply of the command that joins modules to one source.
-ghost use Rattle.std.specs.Prelude.{◌≡◌, ◌≤◌, [], length, IfOk, IfErr, List, ℕ};
+ghost use Rattle.std.specs.Prelude.{◌≡◌, ◌≤◌, [], length, IfOk, List, ℕ};
 ghost use Rattle.cmd_answer.specs.Answer.{prints};
 ghost use Rattle.mx_io.specs.Shelves.{Counts};
 ghost use Rattle.cmd_answer.specs.Protocol.{Performed};
-ghost use Rattle.cmd_answer.specs.Replies.{reply_answer};
+ghost use Rattle.cmd_answer.specs.Replies.{reply_answer, IfAnswered, OnAnswer};
 ghost use Rattle.cmd_line.specs.Command.{texts};
 ghost use Rattle.mx_command.specs.Protocols.{join_fault_text, refusal_line, join_answer, modules_protocol};
-ghost use Rattle.cmd_source.specs.Replied.{IsReplied};
 
-use cmd_answer::{FileKind, Reply, Status, line_reply};
+use cmd_answer::{Failure, FileKind, Reply, Status, line_reply};
 use cmd_source::read_named;
 use mx_io::{Memory, Shelf};
 use mx_module::{JoinError, JoinFault, Joiner};
@@ -66,51 +65,39 @@ fn joined_reply(alloc: Global, joiner: &Joiner) -> Result<Reply, Memory>
 }
 
 // The texts of modules, whose files are read in order, or the reply to the first fault of a file.
-fn read_modules<S: Shelf>(
-    alloc: Global,
-    shelf: &mut S,
-    names: &[&str],
-) -> Result<Result<Joiner, Reply>, Memory>
+fn read_modules<S: Shelf>(alloc: Global, shelf: &mut S, names: &[&str]) -> Result<Joiner, Failure>
     requires few { length names.now ≤ 16 }
-    ensures count { IfOk result (λ r. IfOk r (λ joiner. length joiner ≡ length names.now)) }
-    ensures given { IfOk result (λ r. IfOk r (λ joiner. Performed (S.told shelf.old)
+    ensures count { IfOk result (λ joiner. length joiner ≡ length names.now) }
+    ensures given { IfOk result (λ joiner. Performed (S.told shelf.old)
         (modules_protocol (texts names.now) [])
-        (S.counts shelf.old) (S.counts shelf.new) (join_answer joiner))) }
-    ensures refused { IfOk result (λ r. IfErr r (λ reply. Performed (S.told shelf.old)
+        (S.counts shelf.old) (S.counts shelf.new) (join_answer joiner)) }
+    ensures refused { IfAnswered result (Performed (S.told shelf.old)
         (modules_protocol (texts names.now) [])
-        (S.counts shelf.old) (S.counts shelf.new) (reply_answer reply))) }
+        (S.counts shelf.old) (S.counts shelf.new)) }
     ensures told_stays { S.told shelf.new ≡ S.told shelf.old }
     ensures writes_stay { S.write_faults shelf.new ≡ S.write_faults shelf.old }
 {
     let mut joiner = Joiner::new(alloc);
     let mut number = 1u32;
     for name in names {
-        let text = match read_named(alloc, shelf, FileKind::Module(number), name)? {
-            Ok(text) => text,
-            Err(reply) => return Ok(Err(reply)),
-        };
+        let text = read_named(alloc, shelf, FileKind::Module(number), name)?;
         joiner.add(text.as_slice())?;
         number += 1;
     }
-    Ok(Ok(joiner))
+    Ok(joiner)
 }
 
 /// The reply to `join FIRST SECOND ..`. All files are read before what is wrong with one of their texts is told.
-pub fn join_reply<S: Shelf>(alloc: Global, shelf: &mut S, names: &[&str]) -> Result<Reply, Memory>
+pub fn join_reply<S: Shelf>(alloc: Global, shelf: &mut S, names: &[&str]) -> Result<Reply, Failure>
     requires some { 1 ≤ length names.now }
     requires few { length names.now ≤ 16 }
-    ensures performed { IfOk result (λ r. Performed (S.told shelf.old)
+    ensures performed { OnAnswer result (Performed (S.told shelf.old)
         (modules_protocol (texts names.now) [])
-        (S.counts shelf.old) (S.counts shelf.new) (reply_answer r)) }
-    ensures replied { IfOk result (λ r. IsReplied (reply_answer r)) }
+        (S.counts shelf.old) (S.counts shelf.new)) }
     ensures told_stays { S.told shelf.new ≡ S.told shelf.old }
     ensures writes_stay { S.write_faults shelf.new ≡ S.write_faults shelf.old }
 {
-    match read_modules(alloc, shelf, names)? {
-        Ok(joiner) => {
-            let reply = joined_reply(alloc, &joiner)?;
-            Ok(reply)
-        }
-        Err(reply) => Ok(reply),
-    }
+    let joiner = read_modules(alloc, shelf, names)?;
+    let reply = joined_reply(alloc, &joiner)?;
+    Ok(reply)
 }

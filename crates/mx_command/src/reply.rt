@@ -6,7 +6,7 @@ ghost use Rattle.cmd_soak.specs.Soak.{soak_text};
 ghost use Rattle.cmd_answer.specs.Answer.{prints, usage};
 ghost use Rattle.mx_io.specs.Shelves.{Counts};
 ghost use Rattle.cmd_answer.specs.Protocol.{Performed};
-ghost use Rattle.cmd_answer.specs.Replies.{reply_answer};
+ghost use Rattle.cmd_answer.specs.Replies.{reply_answer, OnAnswer};
 ghost use Rattle.cmd_table.specs.Seen.{seen_command, IsAllowed};
 ghost use Rattle.cmd_table.specs.Asked.{command_of};
 ghost use Rattle.law_schedule.specs.Schedule.{IsScheduler};
@@ -20,7 +20,7 @@ use crate::from_image::{exec_reply, migrate_reply};
 use crate::from_source::{best_reply, build_reply, list_reply, run_reply, told_reply};
 use crate::join::join_reply;
 use crate::share::share_reply;
-use cmd_answer::{Reply, Status, line_reply};
+use cmd_answer::{Failure, Reply, Status, line_reply, replied};
 use cmd_soak::soak;
 use cmd_table::{Command, read_command};
 use mx_gen::generate;
@@ -41,8 +41,7 @@ fn gen_reply(alloc: Global, seed: u32, count: u32) -> Result<Reply, Memory>
 /// The reply to `soak SEED COUNT`.
 fn soak_reply(alloc: Global, seed: u32, count: u32) -> Result<Reply, Memory>
     requires { count ≤ 4000 }
-    ensures answer { (layout_of : Layouts) → IsScheduler layout_of → IfOk result (λ r. reply_answer r ≡ prints Status.Done (soak_text layout_of seed count)) }
-    ensures replied { IfOk result (λ r. IsReplied (reply_answer r)) }
+    ensures { (layout_of : Layouts) → IsScheduler layout_of → IfOk result (λ r. reply_answer r ≡ prints Status.Done (soak_text layout_of seed count)) }
 {
     let output = soak(alloc, seed, count)?;
     let status = Status::Done;
@@ -50,12 +49,11 @@ fn soak_reply(alloc: Global, seed: u32, count: u32) -> Result<Reply, Memory>
 }
 
 /// The reply to a command.
-fn command_reply<S: Shelf>(alloc: Global, shelf: &mut S, asked: &Command) -> Result<Reply, Memory>
+fn command_reply<S: Shelf>(alloc: Global, shelf: &mut S, asked: &Command) -> Result<Reply, Failure>
     requires { IsAllowed asked.now }
-    ensures performed { (layout_of : Layouts) → IsScheduler layout_of → IfOk result (λ r. Performed (S.told shelf.old)
+    ensures performed { (layout_of : Layouts) → IsScheduler layout_of → OnAnswer result (Performed (S.told shelf.old)
         (protocol_of layout_of (Some (seen_command asked.now)))
-        (S.counts shelf.old) (S.counts shelf.new) (reply_answer r)) }
-    ensures replied { IfOk result (λ r. IsReplied (reply_answer r)) }
+        (S.counts shelf.old) (S.counts shelf.new)) }
     ensures told_stays { S.told shelf.new ≡ S.told shelf.old }
     ensures writes_stay { S.write_faults shelf.new ≡ S.write_faults shelf.old }
 {
@@ -64,38 +62,20 @@ fn command_reply<S: Shelf>(alloc: Global, shelf: &mut S, asked: &Command) -> Res
             source,
             ref files,
             ref limits,
-        } => {
-            let reply = run_reply(alloc, shelf, source, files, limits)?;
-            Ok(reply)
-        }
+        } => run_reply(alloc, shelf, source, files, limits),
         Command::Meaning {
             source,
             steps,
             input,
-        } => {
-            let reply = told_reply(alloc, shelf, source, steps, input)?;
-            Ok(reply)
-        }
-        Command::Build { source, target } => {
-            let reply = build_reply(alloc, shelf, source, target)?;
-            Ok(reply)
-        }
+        } => told_reply(alloc, shelf, source, steps, input),
+        Command::Build { source, target } => build_reply(alloc, shelf, source, target),
         Command::Exec {
             image,
             ref files,
             ref limits,
-        } => {
-            let reply = exec_reply(alloc, shelf, image, files, limits)?;
-            Ok(reply)
-        }
-        Command::Listing { source } => {
-            let reply = list_reply(alloc, shelf, source)?;
-            Ok(reply)
-        }
-        Command::Best { source } => {
-            let reply = best_reply(alloc, shelf, source)?;
-            Ok(reply)
-        }
+        } => exec_reply(alloc, shelf, image, files, limits),
+        Command::Listing { source } => list_reply(alloc, shelf, source),
+        Command::Best { source } => best_reply(alloc, shelf, source),
         Command::Gen { seed, count } => {
             let reply = gen_reply(alloc, seed, count)?;
             Ok(reply)
@@ -104,32 +84,20 @@ fn command_reply<S: Shelf>(alloc: Global, shelf: &mut S, asked: &Command) -> Res
             let reply = soak_reply(alloc, seed, count)?;
             Ok(reply)
         }
-        Command::Migrate { image, target } => {
-            let reply = migrate_reply(alloc, shelf, image, target)?;
-            Ok(reply)
-        }
+        Command::Migrate { image, target } => migrate_reply(alloc, shelf, image, target),
         Command::Share {
             first,
             second,
             interrupts,
             budget,
-        } => {
-            let reply = share_reply(alloc, shelf, first, second, interrupts, budget)?;
-            Ok(reply)
-        }
+        } => share_reply(alloc, shelf, first, second, interrupts, budget),
         Command::Debug {
             source,
             label,
             ref files,
             ref limits,
-        } => {
-            let reply = debug_reply(alloc, shelf, source, label, files, limits)?;
-            Ok(reply)
-        }
-        Command::Join { ref names } => {
-            let reply = join_reply(alloc, shelf, names.as_slice())?;
-            Ok(reply)
-        }
+        } => debug_reply(alloc, shelf, source, label, files, limits),
+        Command::Join { ref names } => join_reply(alloc, shelf, names.as_slice()),
     }
 }
 
@@ -145,10 +113,7 @@ pub fn reply_to<S: Shelf>(alloc: Global, words: &[String], shelf: &mut S) -> Res
     ensures writes_stay { S.write_faults shelf.new ≡ S.write_faults shelf.old }
 {
     match read_command(alloc, words)? {
-        Some(asked) => {
-            let reply = command_reply(alloc, shelf, &asked)?;
-            Ok(reply)
-        }
+        Some(asked) => replied(command_reply(alloc, shelf, &asked)),
         None => {
             let reply = line_reply(alloc, Status::Usage, "usage: mx_run COMMAND WORDS")?;
             Ok(reply)

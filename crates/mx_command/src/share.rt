@@ -1,5 +1,5 @@
 //! The reply of the command that runs two sources on one machine.
-ghost use Rattle.std.specs.Prelude.{◌≡◌, ◌≤◌, ◌++◌, length, IfOk, IfErr, List, ℕ, Option, Some, option_map, pos, ◌-ℤ◌};
+ghost use Rattle.std.specs.Prelude.{◌≡◌, ◌≤◌, ◌++◌, length, IfOk, List, ℕ, Option, Some, option_map, pos, ◌-ℤ◌};
 ghost use Rattle.mx_io.specs.declared.limits.TheConstants.{MAX_SOURCE_BYTES};
 ghost use Rattle.mx_source.specs.SourceValue.{SourceValue};
 ghost use Rattle.mx_tasks.specs.Places.{lower, upper};
@@ -8,15 +8,14 @@ ghost use Rattle.cmd_answer.specs.Files.{limit_of};
 ghost use Rattle.cmd_answer.specs.Answer.{Answer, prints, text_line};
 ghost use Rattle.mx_io.specs.Shelves.{Counts};
 ghost use Rattle.cmd_answer.specs.Protocol.{Protocol, Answers, Reads, Performed};
-ghost use Rattle.cmd_answer.specs.Replies.{reply_answer};
+ghost use Rattle.cmd_answer.specs.Replies.{reply_answer, IfAnswered, OnAnswer};
 ghost use Rattle.law_schedule.specs.Schedule.{IsScheduler};
 ghost use Rattle.cmd_source.specs.Refusals.{overlong_text};
 ghost use Rattle.cmd_source.specs.Protocols.{Layouts};
 ghost use Rattle.mx_command.specs.Protocols.{of_program, line_cause, wrong_with, assembled_protocol, pair_protocol, share_protocol};
 ghost use Rattle.mx_command.specs.Sharing.{IsFitting};
-ghost use Rattle.cmd_source.specs.Replied.{IsReplied};
 
-use cmd_answer::{FileKind, Reply, Status, line_reply};
+use cmd_answer::{Failure, FileKind, Reply, Status, line_reply};
 use cmd_share::run_shared;
 use cmd_source::{overlong_text, read_named};
 use mx_asm::assemble_at;
@@ -67,33 +66,28 @@ fn far_reply(alloc: Global, program: u32, line: u32, from: u32, to: u32) -> Resu
 }
 
 // The source of a program's text, assembled for its place, or the reply to what is wrong with it.
-fn assembled_for(
-    alloc: Global,
-    program: u32,
-    place: Place,
-    text: &[u8],
-) -> Result<Result<Source, Reply>, Memory>
+fn assembled_for(alloc: Global, program: u32, place: Place, text: &[u8]) -> Result<Source, Failure>
     requires short { length text.now ≤ MAX_SOURCE_BYTES }
     requires least { 256 ≤ place.user_data }
-    ensures source { IfOk result (λ r. IfOk r (IsFitting place text.now)) }
-    ensures refused { IfOk result (λ r. IfErr r (λ reply. (cause : List ℕ) × (wrong_with place text.now ≡ Some cause)
-        × (reply_answer reply ≡ prints Status.Refused (text_line (of_program program cause))))) }
+    ensures source { IfOk result (IsFitting place text.now) }
+    ensures refused { IfAnswered result (λ answer. (cause : List ℕ) × (wrong_with place text.now ≡ Some cause)
+        × (answer ≡ prints Status.Refused (text_line (of_program program cause)))) }
 {
     let source = match assemble_at(alloc, text, place.user_data, place.end) {
         Ok(source) => source,
         Err(AsmError::Refused { line, fault }) => {
-            return Ok(Err(line_wrong(alloc, program, line, fault.text())?));
+            return Err(Failure::Answered(line_wrong(alloc, program, line, fault.text())?));
         }
-        Err(AsmError::Memory) => return Err(Memory),
+        Err(AsmError::Memory) => return Err(Failure::Memory),
     };
     if let Some(line) = source.input() {
-        return Ok(Err(line_wrong(alloc, program, line, "input")?));
+        return Err(Failure::Answered(line_wrong(alloc, program, line, "input")?));
     }
     if let Some(line) = source.lines().get(MOST) {
         let reply = line_wrong(alloc, program, *line, "too many instructions")?;
-        return Ok(Err(reply));
+        return Err(Failure::Answered(reply));
     }
-    Ok(Ok(source))
+    Ok(source)
 }
 
 // The source of program 1 or 2, whose text is in a file, or the reply to a fault of the file, or to what is wrong with the text.
@@ -104,50 +98,39 @@ fn read_assembled<S: Shelf>(
     program: u32,
     place: Place,
     name: &str,
-) -> Result<Result<Source, Reply>, Memory>
+) -> Result<Source, Failure>
     requires short { limit_of kind ≤ MAX_SOURCE_BYTES }
     requires least { 256 ≤ place.user_data }
-    ensures source { IfOk result (λ r. IfOk r (λ source. (text : List ℕ) × IsFitting place text source)) }
-    ensures given { IfOk result (λ r. IfOk r (λ source. (next : SourceValue → Protocol) (after : Counts) (answer : Answer)
+    ensures source { IfOk result (λ source. (text : List ℕ) × IsFitting place text source) }
+    ensures given { IfOk result (λ source. (next : SourceValue → Protocol) (after : Counts) (answer : Answer)
         → Performed (S.told shelf.old) (next source)
         (S.counts shelf.new) after answer
         → Performed (S.told shelf.old) (Reads kind name.now (assembled_protocol program place next))
-        (S.counts shelf.old) after answer)) }
-    ensures refused { IfOk result (λ r. IfErr r (λ reply. (next : SourceValue → Protocol)
+        (S.counts shelf.old) after answer) }
+    ensures refused { IfAnswered result (λ answer. (next : SourceValue → Protocol)
         → Performed (S.told shelf.old) (Reads kind name.now (assembled_protocol program place next))
-        (S.counts shelf.old) (S.counts shelf.new) (reply_answer reply))) }
-    ensures replied { IfOk result (λ r. IfErr r (λ reply. IsReplied (reply_answer reply))) }
+        (S.counts shelf.old) (S.counts shelf.new) answer) }
     ensures told_stays { S.told shelf.new ≡ S.told shelf.old }
     ensures writes_stay { S.write_faults shelf.new ≡ S.write_faults shelf.old }
 {
-    let text = match read_named(alloc, shelf, kind, name)? {
-        Ok(text) => text,
-        Err(reply) => return Ok(Err(reply)),
-    };
-    match assembled_for(alloc, program, place, text.as_slice())? {
-        Ok(source) => Ok(Ok(source)),
-        Err(reply) => Ok(Err(reply)),
-    }
+    let text = read_named(alloc, shelf, kind, name)?;
+    let source = assembled_for(alloc, program, place, text.as_slice())?;
+    Ok(source)
 }
 
 // The image of two sources, or the reply to the first branch that does not reach its target.
-fn joined_image(
-    alloc: Global,
-    first: &Source,
-    second: &Source,
-) -> Result<Result<Image, Reply>, Memory>
+fn joined_image(alloc: Global, first: &Source, second: &Source) -> Result<Image, Failure>
     requires first { (text : List ℕ) × IsFitting lower text first.now }
     requires second { (text : List ℕ) × IsFitting upper text second.now }
-    ensures given { IfOk result (λ r. IfOk r (λ image. (layout_of : Layouts) → IsScheduler layout_of → (interrupts : Option (List ℕ)) (budget : ℕ)
-        → pair_protocol layout_of interrupts budget first.now second.now ≡ sharing_protocol interrupts budget image.code.items image.user_data.items)) }
-    ensures refused { IfOk result (λ r. IfErr r (λ reply. (layout_of : Layouts) → IsScheduler layout_of → (interrupts : Option (List ℕ)) (budget : ℕ)
-        → pair_protocol layout_of interrupts budget first.now second.now ≡ Answers (reply_answer reply))) }
-    ensures replied { IfOk result (λ r. IfErr r (λ reply. IsReplied (reply_answer reply))) }
+    ensures given { IfOk result (λ image. (layout_of : Layouts) → IsScheduler layout_of → (interrupts : Option (List ℕ)) (budget : ℕ)
+        → pair_protocol layout_of interrupts budget first.now second.now ≡ sharing_protocol interrupts budget image.code.items image.user_data.items) }
+    ensures refused { IfAnswered result (λ answer. (layout_of : Layouts) → IsScheduler layout_of → (interrupts : Option (List ℕ)) (budget : ℕ)
+        → pair_protocol layout_of interrupts budget first.now second.now ≡ Answers answer) }
 {
     match share(alloc, first, second, &mut ListProposer) {
         Ok(shared) => {
             let Shared { image, .. } = shared;
-            Ok(Ok(image))
+            Ok(image)
         }
         Err(
             ShareError::Displacement {
@@ -158,9 +141,9 @@ fn joined_image(
             },
         ) => {
             let reply = far_reply(alloc, program, line, from, to)?;
-            Ok(Err(reply))
+            Err(Failure::Answered(reply))
         }
-        Err(ShareError::Memory) => Err(Memory),
+        Err(ShareError::Memory) => Err(Failure::Memory),
     }
 }
 
@@ -172,22 +155,17 @@ fn pair_reply<S: Shelf>(
     second: &Source,
     interrupts: Option<&str>,
     budget: u32,
-) -> Result<Reply, Memory>
+) -> Result<Reply, Failure>
     requires first { (text : List ℕ) × IsFitting lower text first.now }
     requires second { (text : List ℕ) × IsFitting upper text second.now }
-    ensures performed { (layout_of : Layouts) → IsScheduler layout_of → IfOk result (λ r. Performed (S.told shelf.old)
+    ensures performed { (layout_of : Layouts) → IsScheduler layout_of → OnAnswer result (Performed (S.told shelf.old)
         (pair_protocol layout_of (option_map (λ s. s.now) interrupts.entry) budget first.now second.now)
-        (S.counts shelf.old) (S.counts shelf.new) (reply_answer r)) }
-    ensures replied { IfOk result (λ r. IsReplied (reply_answer r)) }
+        (S.counts shelf.old) (S.counts shelf.new)) }
     ensures told_stays { S.told shelf.new ≡ S.told shelf.old }
     ensures writes_stay { S.write_faults shelf.new ≡ S.write_faults shelf.old }
 {
-    let image = match joined_image(alloc, first, second)? {
-        Ok(image) => image,
-        Err(reply) => return Ok(reply),
-    };
-    let reply = run_shared(alloc, shelf, &image, interrupts, budget)?;
-    Ok(reply)
+    let image = joined_image(alloc, first, second)?;
+    run_shared(alloc, shelf, &image, interrupts, budget)
 }
 
 // The same of a first program and a second one that is in a file, or the reply to what is wrong with that.
@@ -198,22 +176,17 @@ fn second_reply<S: Shelf>(
     second: &str,
     interrupts: Option<&str>,
     budget: u32,
-) -> Result<Reply, Memory>
+) -> Result<Reply, Failure>
     requires first { (text : List ℕ) × IsFitting lower text first.now }
-    ensures performed { (layout_of : Layouts) → IsScheduler layout_of → IfOk result (λ r. Performed (S.told shelf.old)
+    ensures performed { (layout_of : Layouts) → IsScheduler layout_of → OnAnswer result (Performed (S.told shelf.old)
         (Reads FileKind.Second second.now (assembled_protocol 2 upper
         (pair_protocol layout_of (option_map (λ s. s.now) interrupts.entry) budget first.now)))
-        (S.counts shelf.old) (S.counts shelf.new) (reply_answer r)) }
-    ensures replied { IfOk result (λ r. IsReplied (reply_answer r)) }
+        (S.counts shelf.old) (S.counts shelf.new)) }
     ensures told_stays { S.told shelf.new ≡ S.told shelf.old }
     ensures writes_stay { S.write_faults shelf.new ≡ S.write_faults shelf.old }
 {
-    let source = match read_assembled(alloc, shelf, FileKind::Second, 2, UPPER, second)? {
-        Ok(source) => source,
-        Err(reply) => return Ok(reply),
-    };
-    let reply = pair_reply(alloc, shelf, first, &source, interrupts, budget)?;
-    Ok(reply)
+    let source = read_assembled(alloc, shelf, FileKind::Second, 2, UPPER, second)?;
+    pair_reply(alloc, shelf, first, &source, interrupts, budget)
 }
 
 /// The reply to `share FIRST SECOND`. The second file is read where nothing is wrong with the first program.
@@ -224,18 +197,13 @@ pub fn share_reply<S: Shelf>(
     second: &str,
     interrupts: Option<&str>,
     budget: u32,
-) -> Result<Reply, Memory>
-    ensures performed { (layout_of : Layouts) → IsScheduler layout_of → IfOk result (λ r. Performed (S.told shelf.old)
+) -> Result<Reply, Failure>
+    ensures performed { (layout_of : Layouts) → IsScheduler layout_of → OnAnswer result (Performed (S.told shelf.old)
         (share_protocol layout_of first.now second.now (option_map (λ s. s.now) interrupts.entry) budget)
-        (S.counts shelf.old) (S.counts shelf.new) (reply_answer r)) }
-    ensures replied { IfOk result (λ r. IsReplied (reply_answer r)) }
+        (S.counts shelf.old) (S.counts shelf.new)) }
     ensures told_stays { S.told shelf.new ≡ S.told shelf.old }
     ensures writes_stay { S.write_faults shelf.new ≡ S.write_faults shelf.old }
 {
-    let source = match read_assembled(alloc, shelf, FileKind::First, 1, LOWER, first)? {
-        Ok(source) => source,
-        Err(reply) => return Ok(reply),
-    };
-    let reply = second_reply(alloc, shelf, &source, second, interrupts, budget)?;
-    Ok(reply)
+    let source = read_assembled(alloc, shelf, FileKind::First, 1, LOWER, first)?;
+    second_reply(alloc, shelf, &source, second, interrupts, budget)
 }

@@ -1,14 +1,14 @@
 -- How a session ends.
-use Rattle.std.proofs.Common.{◌≡◌, ℕ, zero, suc, ◌+◌, ◌-◌, ◌<◌, ◌≤◌, Bool, true, false, cond, not, ◌&&◌, List, [], ◌∷◌, ◌++◌, length, map, take, refl, sym, ap, ◌∙◌, subst, arith, ⊎_elim, append_assoc, true≢false, eqb}
+use Rattle.std.proofs.Common.{◌≡◌, ℕ, zero, suc, ◌+◌, ◌-◌, ◌<◌, ◌≤◌, Bool, true, false, cond, not, ◌&&◌, List, [], ◌∷◌, ◌++◌, length, map, take, refl, sym, ap, ◌∙◌, subst, arith, append_assoc, true≢false, eqb}
 use Rattle.std.specs.Prelude.{leb, slice_index, get_or}
-use Rattle.std.proofs.lemmas.Bool.{cond-true, cond-false, cases_lt, le-leb}
+use Rattle.std.proofs.lemmas.Bool.{cond-true, cond-false, le-leb}
 use Rattle.std.proofs.lemmas.Bool.Decides.{nat_tests}
 use Rattle.std.proofs.lemmas.List.{append-nil, length-append, length-map, take_at, get_or_at, get_or_append_left, take_all}
 use Rattle.mx_turn.specs.declared.Cycled.{Cycled}
 use Rattle.mx_turn.specs.Cycle.{Machine}
 use Rattle.mx_turn.specs.Program.{state_after}
 use Rattle.mx_turn.specs.Run.{bits, console_after}
-use Rattle.mx_report.proofs.Runs.{cycled_at, state_at, next_halted, state_still, console_still}
+use Rattle.mx_report.proofs.Runs.{still, cycled_at, state_at, next_halted, state_still, console_still}
 use Rattle.mx_debug.specs.declared.stop.Ending.{Ending}
 use Rattle.mx_debug.specs.declared.stop.Stop.{Stop}
 use Rattle.mx_debug.specs.declared.stop.Ending.TheVariants.{Stopped, Halted, OutOfBudget}
@@ -69,14 +69,11 @@ module _ (s : Session) where
 
   -- nor is one after it
   stops_still : (n : ℕ) → (state n).halted ≡ true → (m : ℕ) → n ≤ m → C m ≡ C n
-  stops_still n halted zero le = ap C (let e : zero ≡ n = omega (arith, le) in e)
-  stops_still n halted (suc m) le = ⊎_elim
-      (λ less.
-      ap (λ b. C m ++ cond b (m ∷ []) []) (no_stop m (ap (λ (x : Machine). x.halted) (state_still s.program s.requests n halted (suc m) le) ∙ halted))
-      ∙ append-nil (C m)
-      ∙ stops_still n halted m (omega (arith, less)))
-      (λ more. ap C (let e : suc m ≡ n = omega (arith, more, le) in e))
-      (cases_lt n (suc m))
+  stops_still n halted = still C n (λ m le same.
+      let later : n ≤ suc m = omega (arith, le) in
+      ap (λ b. C m ++ cond b (m ∷ []) [])
+      (no_stop m (ap (λ (x : Machine). x.halted) (state_still s.program s.requests n halted (suc m) later) ∙ halted))
+      ∙ append-nil (C m))
 
   -- not as many stops came
   module _ (few : length (all_stops s) < s.limit) where

@@ -1,9 +1,7 @@
 //! Running a machine from stop to stop.
 ghost use Rattle.std.specs.Prelude.{◌≡◌, ◌≤◌, ◌<◌, ◌+◌, ◌++◌, ◌∷◌, ◌^◌, ◌&&◌, ◌==◌, [], List, ℕ, Bool, OnOk, IfOk, cond, suc, length, map};
 ghost use Rattle.std.specs.Int.{IsInRange};
-ghost use Rattle.std.specs.List.{range_with_len};
 ghost use Rattle.mx_isa.specs.declared.board.TheConstants.{DATA_BASE, DATA_END, LAST_ADDRESS};
-ghost use Rattle.mx_isa.specs.Words.{reg};
 ghost use Rattle.mx_turn.specs.Program.{Program, state_after, answer_after};
 ghost use Rattle.mx_turn.specs.Run.{is_requested, bits, console_after};
 ghost use Rattle.mx_debug.specs.Stops.{shows_live, goes_on, is_stop, stop_cycles, stop_with, stop_at};
@@ -13,8 +11,7 @@ ghost use Rattle.mx_debug.specs.Sessions.{session, stops_of, ending_of, console_
 use crate::{Ending, Stop, Stopped};
 use mx_board::Requests;
 use mx_io::Memory;
-use mx_isa::Reg;
-use mx_report::{Observer, observe};
+use mx_report::{Observer, observe, registers_of};
 use mx_text::push_byte;
 use mx_turn::{Cycled, Machine, Stage};
 use std::alloc::{AllocError, Global};
@@ -58,29 +55,6 @@ fn is_at<M: Machine>(machine: &M, cycled: &Cycled, address: u32) -> bool
         → result ≡ (goes_on cycled.now && shows_live address (state_after p h).shown.alu) }
 {
     goes_on(cycled) && shows_live(address, machine.latches().alu)
-}
-
-/// The value of the register of this number.
-fn register_at<M: Machine>(machine: &M, n: u8) -> u32
-    requires { n ≤ 31 }
-    ensures { (p : Program) (h : List Bool) → M.stands machine.now p h → result ≡ reg (state_after p h).core.regs n }
-{
-    match Reg::new(n) {
-        Some(register) => machine.register(register),
-        None => 0,
-    }
-}
-
-/// The values of all registers.
-fn registers_of<M: Machine>(machine: &M) -> [u32; 32]
-    ensures { (p : Program) (h : List Bool) → M.stands machine.now p h
-        → result ≡ map (reg (state_after p h).core.regs) (range_with_len 0 32) }
-{
-    let mut registers = [0; 32];
-    for n in 0..32u8 {
-        registers[usize::from(n)] = register_at(machine, n);
-    }
-    registers
 }
 
 /// What is told of a stop.

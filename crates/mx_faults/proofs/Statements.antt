@@ -21,6 +21,7 @@ use Rattle.mx_lines.specs.declared.mnemonic.Mnemonic.{Mnemonic}
 use Rattle.mx_lines.specs.declared.mnemonic.Mnemonic.TheVariants as m
 use Rattle.mx_lines.specs.Reading.{◌>>=◌}
 use Rattle.mx_lines.specs.Words.{Word, Name, Number, Comma, Open, Close, Hash, Colon, End}
+use Rattle.mx_lines.specs.Shapes.{three_names, memory}
 use Rattle.mx_lines.specs.Operands.{register, register_named, special, special_named, immediate, count, integer, in_range, label_named, any_label, code_label, code_index, data_label, data_address, offset}
 use Rattle.mx_lines.specs.Mnemonics.{mnemonic_named}
 use Rattle.mx_lines.specs.Instructions.{Labels, compute, of_one, mstart, asr, sh, addi, nop, halt, if_md, move_from, move_to, load, store, address_of, load_address, branch, swapped_branch, goto, call, call_register, jump, system, spelled_by, with_mnemonic, instruction}
@@ -182,15 +183,11 @@ module _ (labels : Labels) (s : Section) where
       regs3 s (λ x y z. Plain (inst.Compute x z y o)) (register_named a) (register_named b) (register_named c)
   compute_is o _ = refl
 
-  not_is : (words : List Word) → Spells m.Not (of_one op.Not words) words
+  -- as for `not`, so for `mov`
+  one_is : (o : Op) (words : List Word) → Spells m.Not (of_one o words) words
   unfolding of_one register
-  not_is (Name a ∷ Comma ∷ Name b ∷ []) = regs2 s (λ x y. Plain (inst.Compute x y 0 op.Not)) (register_named a) (register_named b)
-  not_is _ = refl
-
-  mov_is : (words : List Word) → Spells m.Mov (of_one op.Add words) words
-  unfolding of_one register
-  mov_is (Name a ∷ Comma ∷ Name b ∷ []) = regs2 s (λ x y. Plain (inst.Compute x y 0 op.Add)) (register_named a) (register_named b)
-  mov_is _ = refl
+  one_is o (Name a ∷ Comma ∷ Name b ∷ []) = regs2 s (λ x y. Plain (inst.Compute x y 0 o)) (register_named a) (register_named b)
+  one_is o _ = refl
 
   mstart_is : (words : List Word) → Spells m.Mstart (mstart words) words
   unfolding mstart register
@@ -240,49 +237,50 @@ module _ (labels : Labels) (s : Section) where
   move_to_is (Name a ∷ Comma ∷ Name b ∷ []) = to_special s (λ x y. Plain (inst.MoveTo x y)) (register_named a) (special_named b)
   move_to_is _ = refl
 
+  -- as for `ld`, so for `st`
+  accessed_is : (make : ℕ → ℕ → ℤ → Statement) (words : List Word)
+      → Spells m.Load (memory words >>= λ operands. register operands.base >>= λ base. register operands.register >>= λ r.
+      offset labels operands.offset >>= λ o. Ok (make base r o)) words
+  unfolding register offset immediate data_label any_label
+  accessed_is make (Name a ∷ Open ∷ Name b ∷ Close ∷ Comma ∷ Name c ∷ []) =
+      offset2 s make (register_named b) (register_named c) (label_named labels a)
+  accessed_is make (Number negative value ∷ Open ∷ Name b ∷ Close ∷ Comma ∷ Name c ∷ []) =
+      number2 s make (register_named b) (register_named c) (in_range 65536 65535 negative value) (integer negative value)
+  accessed_is make (Comma ∷ Open ∷ Name b ∷ Close ∷ Comma ∷ Name c ∷ []) = refl
+  accessed_is make (Open ∷ Open ∷ Name b ∷ Close ∷ Comma ∷ Name c ∷ []) = refl
+  accessed_is make (Close ∷ Open ∷ Name b ∷ Close ∷ Comma ∷ Name c ∷ []) = refl
+  accessed_is make (Hash ∷ Open ∷ Name b ∷ Close ∷ Comma ∷ Name c ∷ []) = refl
+  accessed_is make (Colon ∷ Open ∷ Name b ∷ Close ∷ Comma ∷ Name c ∷ []) = refl
+  accessed_is make (End ∷ Open ∷ Name b ∷ Close ∷ Comma ∷ Name c ∷ []) = refl
+  accessed_is make _ = refl
+
   load_is : (words : List Word) → Spells m.Load (load labels words) words
-  unfolding load register offset immediate data_label any_label
-  load_is (Name a ∷ Open ∷ Name b ∷ Close ∷ Comma ∷ Name c ∷ []) =
-      offset2 s (λ x y o. Plain (inst.Load x y o)) (register_named b) (register_named c) (label_named labels a)
-  load_is (Number negative value ∷ Open ∷ Name b ∷ Close ∷ Comma ∷ Name c ∷ []) =
-      number2 s (λ x y o. Plain (inst.Load x y o)) (register_named b) (register_named c) (in_range 65536 65535 negative value) (integer negative value)
-  load_is (Comma ∷ Open ∷ Name b ∷ Close ∷ Comma ∷ Name c ∷ []) = refl
-  load_is (Open ∷ Open ∷ Name b ∷ Close ∷ Comma ∷ Name c ∷ []) = refl
-  load_is (Close ∷ Open ∷ Name b ∷ Close ∷ Comma ∷ Name c ∷ []) = refl
-  load_is (Hash ∷ Open ∷ Name b ∷ Close ∷ Comma ∷ Name c ∷ []) = refl
-  load_is (Colon ∷ Open ∷ Name b ∷ Close ∷ Comma ∷ Name c ∷ []) = refl
-  load_is (End ∷ Open ∷ Name b ∷ Close ∷ Comma ∷ Name c ∷ []) = refl
-  load_is _ = refl
+  unfolding load
+  load_is words = accessed_is (λ base dest o. Plain (inst.Load base dest o)) words
 
   store_is : (words : List Word) → Spells m.Store (store labels words) words
-  unfolding store register offset immediate data_label any_label
-  store_is (Name a ∷ Open ∷ Name b ∷ Close ∷ Comma ∷ Name c ∷ []) =
-      offset2 s (λ x y o. Plain (inst.Store x y o)) (register_named b) (register_named c) (label_named labels a)
-  store_is (Number negative value ∷ Open ∷ Name b ∷ Close ∷ Comma ∷ Name c ∷ []) =
-      number2 s (λ x y o. Plain (inst.Store x y o)) (register_named b) (register_named c) (in_range 65536 65535 negative value) (integer negative value)
-  store_is (Comma ∷ Open ∷ Name b ∷ Close ∷ Comma ∷ Name c ∷ []) = refl
-  store_is (Open ∷ Open ∷ Name b ∷ Close ∷ Comma ∷ Name c ∷ []) = refl
-  store_is (Close ∷ Open ∷ Name b ∷ Close ∷ Comma ∷ Name c ∷ []) = refl
-  store_is (Hash ∷ Open ∷ Name b ∷ Close ∷ Comma ∷ Name c ∷ []) = refl
-  store_is (Colon ∷ Open ∷ Name b ∷ Close ∷ Comma ∷ Name c ∷ []) = refl
-  store_is (End ∷ Open ∷ Name b ∷ Close ∷ Comma ∷ Name c ∷ []) = refl
-  store_is _ = refl
+  unfolding store
+  store_is words = accessed_is (λ base value o. Plain (inst.Store base value o)) words
 
   load_address_is : (words : List Word) → Spells m.LoadAddress (load_address labels words) words
   unfolding load_address register any_label
   load_address_is (Name a ∷ Comma ∷ Name b ∷ []) = any1 s (λ x l. address_of l x) (register_named b) (label_named labels a)
   load_address_is _ = refl
 
+  compared_is : (c : Cond) (make : ℕ → ℕ → ℕ → Statement) (words : List Word)
+      → Spells (m.Branch c) (three_names words >>= λ names. register names.0 >>= λ a. register names.1 >>= λ b.
+      code_label labels names.2 >>= λ target. Ok (make a b target)) words
+  unfolding register code_label any_label
+  compared_is c make (Name a ∷ Comma ∷ Name b ∷ Comma ∷ Name t ∷ []) = target2 s make (register_named a) (register_named b) (label_named labels t)
+  compared_is c make _ = refl
+
   branch_is : (c : Cond) (words : List Word) → Spells (m.Branch c) (branch labels c words) words
-  unfolding branch register code_label any_label
-  branch_is c (Name a ∷ Comma ∷ Name b ∷ Comma ∷ Name t ∷ []) = target2 s (λ x y i. Branch x y c i) (register_named a) (register_named b) (label_named labels t)
-  branch_is c _ = refl
+  unfolding branch
+  branch_is c words = compared_is c (λ a b target. Branch a b c target) words
 
   swapped_is : (c : Cond) (words : List Word) → Spells (m.SwappedBranch c) (swapped_branch labels c words) words
-  unfolding swapped_branch register code_label any_label
-  swapped_is c (Name a ∷ Comma ∷ Name b ∷ Comma ∷ Name t ∷ []) =
-      target2 s (λ x y i. Branch y x c i) (register_named a) (register_named b) (label_named labels t)
-  swapped_is c _ = refl
+  unfolding swapped_branch
+  swapped_is c words = compared_is c (λ a b target. Branch b a c target) words
 
   goto_is : (words : List Word) → Spells m.Goto (goto labels words) words
   unfolding goto code_label any_label
@@ -307,12 +305,12 @@ module _ (labels : Labels) (s : Section) where
   spelled_is : (mnemonic : Mnemonic) (words : List Word) → Spells mnemonic (spelled_by labels mnemonic words) words
   unfolding spelled_by
   spelled_is (m.Compute o) words = compute_is o words
-  spelled_is m.Not words = not_is words
+  spelled_is m.Not words = one_is op.Not words
   spelled_is m.Mstart words = mstart_is words
   spelled_is m.Asr words = asr_is words
   spelled_is m.Sh words = sh_is words
   spelled_is m.Addi words = addi_is words
-  spelled_is m.Mov words = mov_is words
+  spelled_is m.Mov words = one_is op.Add words
   spelled_is m.Nop words = nop_is words
   spelled_is m.MoveFrom words = move_from_is words
   spelled_is m.MoveTo words = move_to_is words

@@ -7,6 +7,10 @@ ghost use Rattle.mx_faults.specs.Forms;
 ghost use Rattle.mx_faults.specs.Showing;
 ghost use Rattle.mx_faults.specs.Roles.{role};
 
+use crate::role::Role::{
+    AnyName, Close, CodeName, Comma, Hash, Immediate, Offset, Open, Register, ShiftCount,
+    SpecialName,
+};
 use mx_asm::is_dotted;
 use mx_lines::{Mnemonic, Word, mnemonic_named, spells};
 use std::alloc::{AllocError, Global};
@@ -35,73 +39,33 @@ pub enum Role {
 
 const NOTHING: [Role; 0] = [];
 
-const REGISTER: [Role; 1] = [Role::Register];
+const REGISTER: [Role; 1] = [Register];
 
-const TWO_REGISTERS: [Role; 3] = [Role::Register, Role::Comma, Role::Register];
+const TWO_REGISTERS: [Role; 3] = [Register, Comma, Register];
 
-const THREE_REGISTERS: [Role; 5] = [
-    Role::Register,
-    Role::Comma,
-    Role::Register,
-    Role::Comma,
-    Role::Register,
-];
+const THREE_REGISTERS: [Role; 5] = [Register, Comma, Register, Comma, Register];
 
-const COUNTED: [Role; 6] = [
-    Role::Register,
-    Role::Comma,
-    Role::Hash,
-    Role::ShiftCount,
-    Role::Comma,
-    Role::Register,
-];
+const COUNTED: [Role; 6] = [Register, Comma, Hash, ShiftCount, Comma, Register];
 
 const COUNTED_PAIR: [Role; 8] = [
-    Role::Register,
-    Role::Comma,
-    Role::Register,
-    Role::Comma,
-    Role::Hash,
-    Role::ShiftCount,
-    Role::Comma,
-    Role::Register,
+    Register, Comma, Register, Comma, Hash, ShiftCount, Comma, Register,
 ];
 
-const ADDED: [Role; 6] = [
-    Role::Register,
-    Role::Comma,
-    Role::Hash,
-    Role::Immediate,
-    Role::Comma,
-    Role::Register,
-];
+const ADDED: [Role; 6] = [Register, Comma, Hash, Immediate, Comma, Register];
 
-const FROM_SPECIAL: [Role; 3] = [Role::SpecialName, Role::Comma, Role::Register];
+const FROM_SPECIAL: [Role; 3] = [SpecialName, Comma, Register];
 
-const TO_SPECIAL: [Role; 3] = [Role::Register, Role::Comma, Role::SpecialName];
+const TO_SPECIAL: [Role; 3] = [Register, Comma, SpecialName];
 
-const ACCESS: [Role; 6] = [
-    Role::Offset,
-    Role::Open,
-    Role::Register,
-    Role::Close,
-    Role::Comma,
-    Role::Register,
-];
+const ACCESS: [Role; 6] = [Offset, Open, Register, Close, Comma, Register];
 
-const ADDRESS: [Role; 3] = [Role::AnyName, Role::Comma, Role::Register];
+const ADDRESS: [Role; 3] = [AnyName, Comma, Register];
 
-const BRANCH: [Role; 5] = [
-    Role::Register,
-    Role::Comma,
-    Role::Register,
-    Role::Comma,
-    Role::CodeName,
-];
+const BRANCH: [Role; 5] = [Register, Comma, Register, Comma, CodeName];
 
-const TARGET: [Role; 1] = [Role::CodeName];
+const TARGET: [Role; 1] = [CodeName];
 
-const TARGET_AND_LINK: [Role; 3] = [Role::CodeName, Role::Comma, Role::Register];
+const TARGET_AND_LINK: [Role; 3] = [CodeName, Comma, Register];
 
 /// What stands in the places behind a mnemonic.
 fn shape(mnemonic: Mnemonic) -> &'static [Role]

@@ -23,7 +23,8 @@ pub insert_new : (k : Name) (v : Label) (entries : List (Name × Label)) → IsN
     insert_entry (λ (x y : Name). bytes_eq (name_bytes x) (name_bytes y)) entries k v ≡ entries ++ (k, v) ∷ []
 insert_new k v [] new = refl
 insert_new k v (e ∷ es) new =
-    ap (λ b. if b then (e.0, v) ∷ es else e ∷ insert_entry (λ (x y : Name). bytes_eq (name_bytes x) (name_bytes y)) es k v) (apart (name_bytes k) (name_bytes e.0) (All-head (λ p. p.0 ≢ name_bytes k) (name_bytes e.0, e.1) (named_labels es) new))
+    ap (λ b. if b then (e.0, v) ∷ es else e ∷ insert_entry (λ (x y : Name). bytes_eq (name_bytes x) (name_bytes y)) es k v) (apart (name_bytes k)
+    (name_bytes e.0) (All-head (λ p. p.0 ≢ name_bytes k) (name_bytes e.0, e.1) (named_labels es) new))
     ∙ ap (λ t. e ∷ t) (insert_new k v es (All-tail (λ p. p.0 ≢ name_bytes k) (name_bytes e.0, e.1) (named_labels es) new))
 
 pub named_new : (k : Name) (v : Label) (entries all : List (Name × Label)) (bytes : List ℕ) (i j : ℕ) → IsNew (name_bytes k) (named_labels entries)

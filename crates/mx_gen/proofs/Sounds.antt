@@ -240,7 +240,8 @@ opening_sound = let d1 = set 1 1 empty in let d2 = set 2 4 d1 in let d3 = set 3 
       next_line = lit≤ tt;
       older = All-nil (IsOlder 0);
       labels_fit = All-nil (λ (p : List ℕ × Label). LabelFits 8 p.1);
-      statements_fit = set_fits 8 64 d7 (lit< tt) (set_fits 7 49 d6 (lit< tt) (set_fits 6 36 d5 (lit< tt) (set_fits 5 25 d4 (lit< tt) (set_fits 4 16 d3 (lit< tt)
+      statements_fit = set_fits 8 64 d7 (lit< tt) (set_fits 7 49 d6 (lit< tt) (set_fits 6 36 d5 (lit< tt) (set_fits 5 25 d4 (lit< tt) (set_fits 4 16 d3
+          (lit< tt)
           (set_fits 3 9 d2 (lit< tt) (set_fits 2 4 d1 (lit< tt) (set_fits 1 1 empty (lit< tt) (All-nil (StatementFits (IsPlace [] 8))))))))));
     }
 

@@ -1,5 +1,5 @@
 -- The lines of a set in their places, and the words of each, told from the addresses fetched so far. A cache keeps them as it likes.
-use Rattle.std.proofs.Common.{◌≡◌, ◌≢◌, ℕ, ◌+◌, ◌*◌, ◌/◌, ◌%◌, ◌<◌, Bool, true, false, eqb, ◌||◌, List, ◌∷◌, Option, Some, refl, sym, ◌∙◌, ap, arith}
+use Rattle.std.proofs.Common.{◌≡◌, ◌≢◌, ℕ, ◌+◌, ◌*◌, ◌/◌, ◌%◌, ◌<◌, Bool, true, false, eqb, ◌||◌, List, ◌∷◌, Option, Some, refl, sym, ◌∙◌, ap, arith, ◌&&◌}
 use Rattle.std.proofs.lemmas.Bool.Decides.{nat_tests}
 use Rattle.mx_icache.specs.Residency.{line_of, set_of, is_among_last, allocated, is_held, missed_since, resident}
 use Rattle.mx_icache.specs.Places.{Apart, ValidWhereResident}
@@ -11,6 +11,10 @@ Inside line past s = (w l : ℕ) → w < 8 → line w ≡ Some l → is_among_la
 
 line_of-word : (l j : ℕ) → j < 16 → line_of (16 * l + j) ≡ l
 line_of-word l j h = omega arith
+
+-- where the line of an address is held, it missed since where it is resident
+pub missed_here : (past : List ℕ) (a : ℕ) (v : Bool) → is_held past (line_of a) ≡ true → resident past a ≡ v → missed_since past a ≡ v
+missed_here past a v held e = sym (ap (λ t. t && missed_since past a) held) ∙ e
 
 -- where the line of a word is held, the word is resident where it missed since
 resident_here : (past : List ℕ) (s l j : ℕ) → set_of l ≡ s → is_among_last (allocated past s) l ≡ true → j < 16

@@ -1,18 +1,14 @@
 -- What a fetch makes of a set of a plain cache.
-use Rattle.std.proofs.Common.{◌≡◌, ◌≢◌, ℕ, zero, suc, ◌+◌, ◌-◌, ◌*◌, ◌/◌, ◌%◌, ◌<◌, ◌≤◌, Bool, true, false, eqb, ◌&&◌, ◌||◌, List, [], ◌∷◌, length, take, map, Option, Some, None, option_map, refl, sym, ◌∙◌, ap, arith}
+use Rattle.std.proofs.Common.{◌≡◌, ◌≢◌, ℕ, zero, suc, ◌+◌, ◌-◌, ◌*◌, ◌/◌, ◌%◌, ◌<◌, ◌≤◌, Bool, true, false, eqb, ◌||◌, List, [], ◌∷◌, length, take, map, Option, Some, None, option_map, refl, sym, ◌∙◌, ap, arith}
 use Rattle.std.specs.List.{list_any, slice_get}
 use Rattle.std.proofs.lemmas.Bool.Decides.{nat_tests}
+use Rattle.std.proofs.lemmas.Option.{slice_get-map}
 use Rattle.mx_icache.specs.declared.plain_set.PlainSet.{PlainSet}
 use Rattle.mx_icache.specs.Residency.{line_of, set_of, allocated, is_held, missed_since, resident}
 use Rattle.mx_icache.specs.Places.{Apart, ValidWhereResident}
 use Rattle.mx_icache.specs.PlainSets.{line_at, word_at, PlainSetHolds}
 use Rattle.mx_icache.proofs.Steps.{allocated-other, allocated-held, allocated-missed}
-use Rattle.mx_icache.proofs.Lines.{Inside, words_other, words_hit, words_filled, words_allocated, apart_allocated}
-
-slice_get-map : {X Y : Type 0} (f : X → Y) (xs : List X) (i : ℕ) → slice_get (map f xs) i ≡ option_map f (slice_get xs i)
-slice_get-map f [] i = refl
-slice_get-map f (x ∷ xs) zero = refl
-slice_get-map f (x ∷ xs) (suc i) = slice_get-map f xs i
+use Rattle.mx_icache.proofs.Lines.{Inside, words_other, words_hit, words_filled, words_allocated, apart_allocated, missed_here}
 
 among_from_get : (xs : List ℕ) (i l : ℕ) → slice_get xs i ≡ Some l → list_any (λ m. eqb m l) xs ≡ true
 among_from_get [] i l h = absurd (cc)
@@ -58,9 +54,6 @@ plain_other set a past s ne h = record {
   apart = h.apart;
   words = words_other (line_at set) (word_at set) a past s ne (plain_inside set past s h) h.words;
 }
-
-missed_here : (past : List ℕ) (a : ℕ) (v : Bool) → is_held past (line_of a) ≡ true → resident past a ≡ v → missed_since past a ≡ v
-missed_here past a v held e = sym (ap (λ t. t && missed_since past a) held) ∙ e
 
 word_here : (set : PlainSet) (past : List ℕ) (a i : ℕ) → PlainSetHolds set past (set_of (line_of a)) → i < 8 → line_at set i ≡ Some (line_of a)
     → word_at set i (a % 16) ≡ resident past a

@@ -1,11 +1,11 @@
 -- What a fetch makes of a set of a line cache.
-use Rattle.std.proofs.Common.{◌≡◌, ◌≢◌, ℕ, ◌+◌, ◌*◌, ◌/◌, ◌%◌, ◌<◌, Bool, true, false, eqb, ◌&&◌, ◌||◌, List, ◌∷◌, Option, Some, sym, ◌∙◌, ap, arith}
+use Rattle.std.proofs.Common.{◌≡◌, ◌≢◌, ℕ, ◌+◌, ◌*◌, ◌/◌, ◌%◌, ◌<◌, Bool, true, false, eqb, ◌||◌, List, ◌∷◌, Option, Some, sym, ◌∙◌, arith}
 use Rattle.mx_icache.specs.declared.line_set.Set.{Set}
 use Rattle.mx_icache.specs.Residency.{line_of, set_of, allocated, is_held, missed_since, resident}
 use Rattle.mx_icache.specs.LineSets.{line_in, word_in, GoesRound, SetHolds}
 use Rattle.mx_icache.specs.Places.{Apart, ValidWhereResident}
 use Rattle.mx_icache.proofs.Steps.{allocated-other, allocated-held, allocated-missed}
-use Rattle.mx_icache.proofs.Lines.{Inside, words_other, words_hit, words_filled, words_allocated, apart_allocated}
+use Rattle.mx_icache.proofs.Lines.{Inside, words_other, words_hit, words_filled, words_allocated, apart_allocated, missed_here}
 use Rattle.mx_icache.proofs.Ring.{ring_inside, ring_absent, ring_more}
 
 pub set_inside : (set : Set) (past : List ℕ) (s : ℕ) → SetHolds set past s → Inside (line_in set) past s
@@ -35,9 +35,6 @@ apart_same line new e h = rw e h
 
 words_same : (line new : ℕ → Option ℕ) (word : ℕ → ℕ → Bool) (past : List ℕ) → new ≡ line → ValidWhereResident line word past → ValidWhereResident new word past
 words_same line new word past e h = rw e h
-
-missed_here : (past : List ℕ) (a : ℕ) (v : Bool) → is_held past (line_of a) ≡ true → resident past a ≡ v → missed_since past a ≡ v
-missed_here past a v held e = sym (ap (λ t. t && missed_since past a) held) ∙ e
 
 pub word_here : (set : Set) (past : List ℕ) (a w : ℕ) → SetHolds set past (set_of (line_of a)) → w < 8 → line_in set w ≡ Some (line_of a)
     → word_in set w (a % 16) ≡ resident past a

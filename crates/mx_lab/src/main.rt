@@ -1,17 +1,14 @@
 //! Runs the command for people that the words of its command line ask for, on the system's files and its standard output.
 #![tactic(auto)]
 
-use cmd_answer::Status;
+use cmd_answer::command_words;
 use lab_command::{Cause, Causes, lab};
 use lab_watch::OnTerminal;
 use mx_io::{RealShelf, RealSink};
 use std::alloc::Global;
+use std::fs;
 use std::io::{ErrorKind, Read, Write};
 use std::process::ExitCode;
-use std::{env, fs};
-
-/// The exit status where a word is not UTF-8.
-const NOT_TEXT: u8 = 10;
 
 // The files of the system.
 #[derive(Clone, Copy)]
@@ -39,28 +36,14 @@ impl Causes for OnSystem<'_> {
 }
 
 fn main(rt: HostRuntime) -> ExitCode {
-    let alloc = rt.alloc();
-    let args = match env::args(&rt) {
-        Ok(args) => args,
-        Err(error) => {
-            let code = if error.kind() == ErrorKind::OutOfMemory {
-                Status::Memory.number()
-            } else {
-                NOT_TEXT
-            };
-            return ExitCode::from(code);
-        }
+    let words = match command_words(&rt) {
+        Ok(words) => words,
+        Err(number) => return ExitCode::from(number),
     };
-    let mut words = Vec::new(alloc);
-    for word in args.skip(1) {
-        if words.push(word).is_err() {
-            return ExitCode::from(Status::Memory.number());
-        }
-    }
     let mut shelf = RealShelf::new(&rt);
     let mut out = RealSink::new(&rt);
     let ended = lab(
-        alloc,
+        rt.alloc(),
         words.as_slice(),
         &mut shelf,
         &mut out,

@@ -2,9 +2,9 @@
 use Rattle.std.proofs.Common.{◌≡◌, ℕ, Bool, true, false, List, refl, sym, ap, ◌∙◌, arith}
 use Rattle.std.specs.Prelude.{slice_index}
 use Rattle.std.proofs.lemmas.Bool.Decides.{nat_tests}
-use Rattle.mx_isa.specs.declared.inst.Special.TheVariants.{Md, Pc1, Pc2, Pc3}
+use Rattle.mx_isa.specs.declared.inst.Special.TheVariants.{Md}
 use Rattle.mx_isa.specs.declared.inst.Inst.{Inst}
-use Rattle.mx_isa.specs.declared.inst.Inst.TheVariants.{Load, Store, Branch, Compute, Addi, MoveFrom, MoveTo, Jspci, Jpc, Jpcrs, Halt}
+use Rattle.mx_isa.specs.declared.inst.Inst.TheVariants.{Load, Compute, Addi, MoveFrom, MoveTo, Jspci}
 use Rattle.mx_isa.specs.Words.{Words, reg, write}
 use Rattle.mx_isa.specs.Effect.{Found, Change}
 use Rattle.mx_isa.specs.Views.{dest}
@@ -39,51 +39,22 @@ module _ (c : Chain) (at : ℕ) (r : Words) (md : ℕ) (find : ℕ → Found) (f
   abbrev written : Bool → Inst → Words
   written user i = let x : Change = system_change user c i at r md find in write f x.dest x.value
 
-  undone : (user : Bool) (i : Inst) → write (written user i) (dest i) (reg f (dest i)) ≡ f
-  undone user (Load base d offset) = put_back f d _
-  undone user (Store base value offset) = refl
-  undone user (Branch a b condition s by) = refl
-  undone user (Compute a d b op) = put_back f d _
-  undone user (Addi a d imm) = put_back f d _
-  undone true (MoveFrom d Md) = put_back f d _
-  undone false (MoveFrom d Md) = put_back f d _
-  undone true (MoveFrom d Pc1) = kept f d
-  undone false (MoveFrom d Pc1) = put_back f d _
-  undone true (MoveFrom d Pc2) = kept f d
-  undone false (MoveFrom d Pc2) = put_back f d _
-  undone true (MoveFrom d Pc3) = kept f d
-  undone false (MoveFrom d Pc3) = put_back f d _
-  undone user (MoveTo a Md) = refl
-  undone user (MoveTo a Pc1) = refl
-  undone user (MoveTo a Pc2) = refl
-  undone user (MoveTo a Pc3) = refl
-  undone user (Jspci a d imm) = put_back f d _
-  undone user Jpc = refl
-  undone user Jpcrs = refl
-  undone user Halt = refl
+  -- with the old value of its register the change is undone, and with the new one the file behind it is the changed one
+  record GoesBack (user : Bool) (i : Inst) : Type 0 where
+    pub undone : write (written user i) (dest i) (reg f (dest i)) ≡ f
+    pub redone : write f (dest i) (reg (written user i) (dest i)) ≡ written user i
 
-  redone : (user : Bool) (i : Inst) → write f (dest i) (reg (written user i) (dest i)) ≡ written user i
-  redone user (Load base d offset) = again f d _
-  redone user (Store base value offset) = refl
-  redone user (Branch a b condition s by) = refl
-  redone user (Compute a d b op) = again f d _
-  redone user (Addi a d imm) = again f d _
-  redone true (MoveFrom d Md) = again f d _
-  redone false (MoveFrom d Md) = again f d _
-  redone true (MoveFrom d Pc1) = kept f d
-  redone false (MoveFrom d Pc1) = again f d _
-  redone true (MoveFrom d Pc2) = kept f d
-  redone false (MoveFrom d Pc2) = again f d _
-  redone true (MoveFrom d Pc3) = kept f d
-  redone false (MoveFrom d Pc3) = again f d _
-  redone user (MoveTo a Md) = refl
-  redone user (MoveTo a Pc1) = refl
-  redone user (MoveTo a Pc2) = refl
-  redone user (MoveTo a Pc3) = refl
-  redone user (Jspci a d imm) = again f d _
-  redone user Jpc = refl
-  redone user Jpcrs = refl
-  redone user Halt = refl
+  goes_back : (user : Bool) (i : Inst) → GoesBack user i
+  goes_back user (Load base d offset) = record { undone = put_back f d _; redone = again f d _ }
+  goes_back user (Compute a d b op) = record { undone = put_back f d _; redone = again f d _ }
+  goes_back user (Addi a d imm) = record { undone = put_back f d _; redone = again f d _ }
+  goes_back user (Jspci a d imm) = record { undone = put_back f d _; redone = again f d _ }
+  goes_back false (MoveFrom d Md) = record { undone = put_back f d _; redone = again f d _ }
+  goes_back false (MoveFrom d _) = record { undone = put_back f d _; redone = again f d _ }
+  goes_back true (MoveFrom d Md) = record { undone = put_back f d _; redone = again f d _ }
+  goes_back true (MoveFrom d _) = record { undone = kept f d; redone = kept f d }
+  goes_back user (MoveTo a Md) = record { undone = refl; redone = refl }
+  goes_back user _ = record { undone = refl; redone = refl }
 
 -- the lane may be left in any turn
 pub may_leave : {C : Type 0} (holds : C → List ℕ → Type 0) (code : Code) (m : Machine) (l : Lane) (b : Contents) (cache : C)
@@ -97,14 +68,15 @@ may_leave holds code m l b cache h =
     let before : f ≡ h.before = ap (λ (y : Machine). y.before) h.state in
     let file : write f x.dest x.value ≡ slice_index l.registers.file = ap (λ (y : Machine). y.core.regs) h.state in
     let replaced : reg f (dest i) ≡ l.replaced = (λ k. reg (before k) (dest (live code (mem k)))) ∙ sym h.replaced in
+    let back = goes_back m.chain _ _ m.core.md _ f m.psw.current.user i in
     record {
       file =
           sym (λ k. write (file k) (dest (live code (mem k))) (replaced k))
-          ∙ undone m.chain _ _ m.core.md _ f m.psw.current.user i
+          ∙ back.undone
           ∙ before;
       regs =
           sym (λ k. write (before k) (dest (live code (mem k))) (reg (file k) (dest (live code (mem k)))))
-          ∙ redone m.chain _ _ m.core.md _ f m.psw.current.user i
+          ∙ back.redone
           ∙ file;
       slot = sym (λ k. slot_of (live code (mem k)) (before k)) ∙ ap (λ (y : Machine). y.slot) h.state;
     }

@@ -2,15 +2,16 @@
 use Rattle.std.specs.Prelude.{◌≡◌, ◌<◌, ◌+◌, ℕ, zero, suc, Bool, true, false, not, cond, List, [], ◌∷◌, ◌++◌, Option, Some, option_to_list, slice_index}
 use Rattle.mx_isa.specs.Words.{Words, reg, write}
 use Rattle.mx_isa.specs.Views.{dest}
-use Rattle.mx_isa.specs.Effect.{Decision}
+use Rattle.mx_isa.specs.declared.inst.Inst.{Inst}
+use Rattle.mx_isa.specs.Effect.{Decision, decides}
 use Rattle.mx_delay.specs.Delay.{Code, next_of}
 use Rattle.mx_icache.specs.Residency.{resident}
 use Rattle.mx_board.specs.Contents.{Contents}
 use Rattle.mx_board.specs.Data.{words_of}
 use Rattle.mx_turn.specs.declared.latches.Latches.{Latches}
 use Rattle.mx_turn.specs.Counted.{Counted, after_stall}
-use Rattle.mx_turn.specs.Stages.{fetch_of, live, squash}
-use Rattle.mx_turn.specs.System.{slot_of}
+use Rattle.mx_turn.specs.Stages.{address_of, fetch_of, live, squash}
+use Rattle.mx_turn.specs.System.{slot_of, seen}
 use Rattle.mx_turn.specs.Cycle.{Machine, shifted, committed, cycled, answer}
 use Rattle.mx_lane.specs.declared.lane.Lane.{Lane}
 use Rattle.mx_lane.specs.declared.queue.Queue.{Queue}
@@ -54,6 +55,16 @@ plain d m = record m {
   fetch = squash d.cancels m.fetch;
   rf = squash d.cancels m.rf;
 }
+
+-- where the word in ALU leads
+abbrev pub lead_of : Inst → Queue → Lane → Decision
+lead_of inst q l = decides inst (address_of q.alu) (seen l.registers.slot (slice_index l.registers.file))
+
+-- the stages move on by a decision that goes back to no saved fetch, whatever else the lane keeps
+abbrev pub MovesBy : Decision → Queue → Queue → Type 0
+MovesBy d q after =
+    (l : Lane) (b : Contents) (past : List ℕ) (before : Words) (shown : Latches) (counts : Counted)
+    → lane_of (joined after l) b (after.next.address ∷ past) before shown counts ≡ shifted (plain d (lane_of (joined q l) b past before shown counts))
 
 -- the cycles of a turn without those of its fetch, and with those of the next one's
 abbrev pub turn_cycles : Bool → ℕ

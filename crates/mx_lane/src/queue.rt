@@ -1,18 +1,16 @@
 //! Turns without a request, with what changes in each of them apart from the registers.
 ghost use Rattle.std.specs.Prelude.{◌≡◌, ◌<◌, ◌≤◌, ◌+◌, ◌^◌, ◌++◌, ◌∷◌, ◌&&◌, not, false, true, ℕ, List, IfOk, OnOk, IfSome, IfNone, slice_index};
-ghost use Rattle.mx_board.specs.Contents.{Contents};
 ghost use Rattle.mx_isa.specs.Words.{Words, reg};
-ghost use Rattle.mx_isa.specs.Effect.{decides};
 ghost use Rattle.mx_isa.specs.Views.{dest, is_halt};
 ghost use Rattle.mx_delay.specs.Delay.{Code, next_of};
 ghost use Rattle.mx_icache.specs.Residency.{resident};
 ghost use Rattle.mx_turn.specs.declared.latches.Latches.{Latches as Shown};
-ghost use Rattle.mx_turn.specs.Counted.{Counted, after_turn, after_stall};
+ghost use Rattle.mx_turn.specs.Counted.{Counted, after_turn};
 ghost use Rattle.mx_turn.specs.Decoded.{ShiftFits, code_in};
-ghost use Rattle.mx_turn.specs.Stages.{address_of, fetch_of, live, squash};
-ghost use Rattle.mx_turn.specs.System.{pops, seen};
-ghost use Rattle.mx_turn.specs.Cycle.{Machine as State, shifted, committed, commit_byte, decision};
-ghost use Rattle.mx_lane.specs.Lanes.{lane_of, joined, plain, turn_cycles, turn_counts, quietly, later_bytes, InTurn, IsKnown};
+ghost use Rattle.mx_turn.specs.Stages.{fetch_of, live, squash};
+ghost use Rattle.mx_turn.specs.System.{pops};
+ghost use Rattle.mx_turn.specs.Cycle.{Machine as State, committed, commit_byte};
+ghost use Rattle.mx_lane.specs.Lanes.{lane_of, joined, lead_of, MovesBy, turn_cycles, turn_counts, quietly, later_bytes, InTurn, IsKnown};
 
 use crate::Lane;
 use mx_board::Board;
@@ -82,10 +80,8 @@ impl Queue {
     // Where a transfer in ALU leads; none where it goes back to a saved fetch.
     #[inline(always)]
     fn transfer(&self, inst: &Inst, lane: &Lane) -> Option<Lead>
-        ensures target { IfSome result (λ l. l.target ≡ (decides inst.now (address_of self.now.alu)
-            (seen lane.now.registers.slot (slice_index lane.now.registers.file))).target) }
-        ensures cancels { IfSome result (λ l. l.cancels ≡ (decides inst.now (address_of self.now.alu)
-            (seen lane.now.registers.slot (slice_index lane.now.registers.file))).cancels) }
+        ensures target { IfSome result (λ l. l.target ≡ (lead_of inst.now self.now lane.now).target) }
+        ensures cancels { IfSome result (λ l. l.cancels ≡ (lead_of inst.now self.now lane.now).cancels) }
         ensures code_address { IfSome result (λ l. IfSome l.target (λ a. a < 2 ^ 31)) }
         ensures stays { IfSome result (λ l. (pops inst.now && not lane.now.psw.current.user) ≡ false) }
     {
@@ -102,10 +98,8 @@ impl Queue {
     // The word in ALU leads to the next one, where it is no transfer and no halt.
     #[inline(always)]
     fn plain_lead(&self, inst: &Inst, lane: &Lane) -> Option<Lead>
-        ensures target { IfSome result (λ l. l.target ≡ (decides inst.now (address_of self.now.alu)
-            (seen lane.now.registers.slot (slice_index lane.now.registers.file))).target) }
-        ensures cancels { IfSome result (λ l. l.cancels ≡ (decides inst.now (address_of self.now.alu)
-            (seen lane.now.registers.slot (slice_index lane.now.registers.file))).cancels) }
+        ensures target { IfSome result (λ l. l.target ≡ (lead_of inst.now self.now lane.now).target) }
+        ensures cancels { IfSome result (λ l. l.cancels ≡ (lead_of inst.now self.now lane.now).cancels) }
         ensures code_address { IfSome result (λ l. IfSome l.target (λ a. a < 2 ^ 31)) }
         ensures stays { IfSome result (λ l. (pops inst.now && not lane.now.psw.current.user) ≡ false) }
         ensures on { IfSome result (λ l. is_halt inst.now ≡ false) }
@@ -123,9 +117,7 @@ impl Queue {
     #[inline(always)]
     fn move_on(&mut self, lead: &Lead)
         requires code_address { IfSome lead.now.target (λ a. a < 2 ^ 31) }
-        ensures state { (l : Lane) (b : Contents) (past : List ℕ) (before : Words) (shown : Shown) (counts : Counted)
-            → lane_of (joined self.new l) b (self.new.next.address ∷ past) before shown counts
-            ≡ shifted (plain (record { target = lead.now.target; cancels = lead.now.cancels }) (lane_of (joined self.old l) b past before shown counts)) }
+        ensures state { MovesBy (record { target = lead.now.target; cancels = lead.now.cancels }) self.old self.new }
         ensures counts { self.new.counts ≡ self.old.counts }
         ensures missed { self.new.missed ≡ self.old.missed }
         ensures window { self.new.window ≡ self.old.window }
@@ -141,13 +133,8 @@ impl Queue {
     // done, where it goes back to a saved fetch; nor of a halt.
     #[inline(always)]
     fn follow(&mut self, inst: &Inst, lane: &Lane) -> Option<bool>
-        ensures state { IfSome result (λ c. (l : Lane) (b : Contents) (past : List ℕ) (before : Words) (shown : Shown) (counts : Counted)
-            → lane_of (joined self.new l) b (self.new.next.address ∷ past) before shown counts
-            ≡ shifted (plain (decides inst.now (address_of self.old.alu)
-            (seen lane.now.registers.slot (slice_index lane.now.registers.file)))
-            (lane_of (joined self.old l) b past before shown counts))) }
-        ensures cancels { IfSome result (λ c. c ≡ (decides inst.now (address_of self.old.alu)
-            (seen lane.now.registers.slot (slice_index lane.now.registers.file))).cancels) }
+        ensures state { IfSome result (λ c. MovesBy (lead_of inst.now self.old lane.now) self.old self.new) }
+        ensures cancels { IfSome result (λ c. c ≡ (lead_of inst.now self.old lane.now).cancels) }
         ensures stays { IfSome result (λ c. (pops inst.now && not lane.now.psw.current.user) ≡ false) }
         ensures counts { self.new.counts ≡ self.old.counts }
         ensures missed { self.new.missed ≡ self.old.missed }
@@ -168,13 +155,8 @@ impl Queue {
     // The same of any word in ALU. Most are no transfers.
     #[inline(always)]
     fn step(&mut self, inst: &Inst, lane: &Lane) -> Option<bool>
-        ensures state { IfSome result (λ c. (l : Lane) (b : Contents) (past : List ℕ) (before : Words) (shown : Shown) (counts : Counted)
-            → lane_of (joined self.new l) b (self.new.next.address ∷ past) before shown counts
-            ≡ shifted (plain (decides inst.now (address_of self.old.alu)
-            (seen lane.now.registers.slot (slice_index lane.now.registers.file)))
-            (lane_of (joined self.old l) b past before shown counts))) }
-        ensures cancels { IfSome result (λ c. c ≡ (decides inst.now (address_of self.old.alu)
-            (seen lane.now.registers.slot (slice_index lane.now.registers.file))).cancels) }
+        ensures state { IfSome result (λ c. MovesBy (lead_of inst.now self.old lane.now) self.old self.new) }
+        ensures cancels { IfSome result (λ c. c ≡ (lead_of inst.now self.old lane.now).cancels) }
         ensures stays { IfSome result (λ c. (pops inst.now && not lane.now.psw.current.user) ≡ false) }
         ensures counts { self.new.counts ≡ self.old.counts }
         ensures missed { self.new.missed ≡ self.old.missed }

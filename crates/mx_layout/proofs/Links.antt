@@ -23,7 +23,7 @@ has_not : (t low high : ℕ) → high ≤ t → (leb low t && ltb t high) ≡ fa
 has_not t low high l = grind (arith, nat_tests)
 
 -- no block begins before the first
-first_low :
+pub first_low :
     (source : SourceValue) (i j : ℕ) (list : List Site) (k : ℕ) (d : Site) → BlocksFrom source i j (blocks_in list) → k < length list
     → i ≤ (slice_index_or list k d).block.first
 first_low source i j [] k d h l = absurd (omega arith)

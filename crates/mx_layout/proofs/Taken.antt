@@ -1,6 +1,6 @@
 -- The plans that are taken for proposals. The invariant is `AreTaken`: with these plans the first blocks are kept, for these proposals,
 -- of which n were rejected. It goes across one more block with its proposal (`taken_more`).
-use Rattle.std.proofs.Common.{◌≡◌, ℕ, suc, ◌+◌, ◌<◌, Bool, true, false, cond, List, [], ◌∷◌, ◌++◌, length, take, slice_index_or, refl, sym, ap, ◌∙◌, subst, inl, inr, ⊎_elim, All, arith}
+use Rattle.std.proofs.Common.{◌≡◌, ℕ, ◌+◌, ◌<◌, Bool, true, false, cond, List, [], ◌∷◌, ◌++◌, length, take, slice_index_or, refl, sym, ap, ◌∙◌, subst, inl, inr, ⊎_elim, All, arith}
 use Rattle.std.proofs.lemmas.List.{take_more, take_all, length_push, length-take-le}
 use Rattle.std.proofs.lemmas.List.Elements.{All-nil, All-cons}
 use Rattle.mx_blocks.specs.declared.block.Block.{Block}
@@ -12,34 +12,21 @@ use Rattle.mx_squash.specs.Copies.{Site, sites}
 use Rattle.mx_squash.proofs.Targets.{site}
 use Rattle.mx_layout.specs.Kept.{AreKept}
 
--- a proposal that is taken, and one that is not
+-- one more site with its proposal behind those that are kept
 kept_push :
-    (Proposes : Block → Plan → Type 0) (n : ℕ) (list : List Site) (proposals : List Plan) (s : Site) (proposal : Plan) → Proposes s.block proposal
-    → Valid s.block proposal → s.plan ≡ proposal → AreKept Proposes n list proposals
-    → AreKept Proposes n (list ++ s ∷ []) (proposals ++ proposal ∷ [])
-kept_push Proposes n [] [] s proposal told valid same h = (told, inl (valid, same, h))
-kept_push Proposes n [] (p ∷ proposals) s proposal told valid same h = absurd h
-kept_push Proposes n (r ∷ list) [] s proposal told valid same h = absurd h
-kept_push Proposes n (r ∷ list) (p ∷ proposals) s proposal told valid same h = (
+    (Proposes : Block → Plan → Type 0) (n k total : ℕ) (list : List Site) (proposals : List Plan) (s : Site) (proposal : Plan) → total ≡ n + k
+    → AreKept Proposes k (s ∷ []) (proposal ∷ []) → AreKept Proposes n list proposals
+    → AreKept Proposes total (list ++ s ∷ []) (proposals ++ proposal ∷ [])
+kept_push Proposes n k total [] [] s proposal e last h =
+    let same : k ≡ total = omega (arith, e, h) in
+    subst (λ (m : ℕ). AreKept Proposes m (s ∷ []) (proposal ∷ [])) same last
+kept_push Proposes n k total [] (p ∷ proposals) s proposal e last h = absurd h
+kept_push Proposes n k total (r ∷ list) [] s proposal e last h = absurd h
+kept_push Proposes n k total (r ∷ list) (p ∷ proposals) s proposal e last h = (
   h.0,
   ⊎_elim
-      (λ k. inl (k.0, k.1, kept_push Proposes n list proposals s proposal told valid same k.2))
-      (λ k. inr (k.0, k.1, k.2, k.3, kept_push Proposes k.2 list proposals s proposal told valid same k.4))
-      h.1,
-)
-
-rejected_push :
-    (Proposes : Block → Plan → Type 0) (n : ℕ) (list : List Site) (proposals : List Plan) (s : Site) (proposal : Plan) → Proposes s.block proposal
-    → (¬ Valid s.block proposal) → IsPadded s.block s.plan → AreKept Proposes n list proposals
-    → AreKept Proposes (suc n) (list ++ s ∷ []) (proposals ++ proposal ∷ [])
-rejected_push Proposes n [] [] s proposal told invalid padded h = (told, inr (invalid, padded, n, refl, h))
-rejected_push Proposes n [] (p ∷ proposals) s proposal told invalid padded h = absurd h
-rejected_push Proposes n (r ∷ list) [] s proposal told invalid padded h = absurd h
-rejected_push Proposes n (r ∷ list) (p ∷ proposals) s proposal told invalid padded h = (
-  h.0,
-  ⊎_elim
-      (λ k. inl (k.0, k.1, rejected_push Proposes n list proposals s proposal told invalid padded k.2))
-      (λ k. inr (k.0, k.1, suc k.2, ap (λ m. suc m) k.3, rejected_push Proposes k.2 list proposals s proposal told invalid padded k.4))
+      (λ q. inl (q.0, q.1, kept_push Proposes n k total list proposals s proposal e last q.2))
+      (λ q. inr (q.0, q.1, q.2 + k, omega (arith, e, q.3), kept_push Proposes q.2 k (q.2 + k) list proposals s proposal refl last q.4))
       h.1,
 )
 
@@ -77,22 +64,6 @@ one_more Proposes m blocks plans proposals b p proposal e more starts f =
     (sym (sites_push blocks plans (take k starts) b p at e front) ∙ ap (sites (blocks ++ b ∷ []) (plans ++ p ∷ [])) (sym (split_last starts k all)))
     (more (take k starts) at front)
 
-pub taken_push :
-    (Proposes : Block → Plan → Type 0) (n : ℕ) (blocks : List Block) (plans proposals : List Plan) (b : Block) (p proposal : Plan)
-    → length plans ≡ length blocks → AreTaken Proposes n blocks plans proposals → Proposes b proposal → Valid b proposal → p ≡ proposal
-    → AreTaken Proposes n (blocks ++ b ∷ []) (plans ++ p ∷ []) (proposals ++ proposal ∷ [])
-taken_push Proposes n blocks plans proposals b p proposal e h told valid same =
-    one_more Proposes n blocks plans proposals b p proposal e
-    (λ starts at f. kept_push Proposes n (sites blocks plans starts) proposals (site b p at) proposal told valid same (h starts f))
-
-pub refused_push :
-    (Proposes : Block → Plan → Type 0) (n : ℕ) (blocks : List Block) (plans proposals : List Plan) (b : Block) (p proposal : Plan)
-    → length plans ≡ length blocks → AreTaken Proposes n blocks plans proposals → Proposes b proposal → (¬ Valid b proposal) → IsPadded b p
-    → AreTaken Proposes (suc n) (blocks ++ b ∷ []) (plans ++ p ∷ []) (proposals ++ proposal ∷ [])
-refused_push Proposes n blocks plans proposals b p proposal e h told invalid padded =
-    one_more Proposes (suc n) blocks plans proposals b p proposal e
-    (λ starts at f. rejected_push Proposes n (sites blocks plans starts) proposals (site b p at) proposal told invalid padded (h starts f))
-
 -- a proposal for a block, and the plan that is taken for it
 pub record IsTaken (Proposes : Block → Plan → Type 0) (b : Block) (p proposal : Plan) (rejected : Bool) : Type 0 where
   pub told : Proposes b proposal
@@ -102,15 +73,19 @@ pub record IsTaken (Proposes : Block → Plan → Type 0) (b : Block) (p proposa
   pub valid : Valid b p
 
 module _ (Proposes : Block → Plan → Type 0) (n : ℕ) (blocks : List Block) (plans proposals : List Plan) (b : Block) (p proposal : Plan) where
+  alone : (r : Bool) (at : ℕ) → IsTaken Proposes b p proposal r → AreKept Proposes (cond r 1 0) (site b p at ∷ []) (proposal ∷ [])
+  alone true at is = (is.told, inr (is.invalid refl, is.padded refl, 0, refl, refl))
+  alone false at is = (is.told, inl (subst (λ (x : Plan). Valid b x) (is.kept refl) is.valid, is.kept refl, refl))
+
+  counted : (r : Bool) → cond r (n + 1) n ≡ n + cond r 1 0
+  counted true = refl
+  counted false = omega arith
+
   pushed : (r : Bool) → length plans ≡ length blocks → AreTaken Proposes n blocks plans proposals → IsTaken Proposes b p proposal r
       → AreTaken Proposes (cond r (n + 1) n) (blocks ++ b ∷ []) (plans ++ p ∷ []) (proposals ++ proposal ∷ [])
-  pushed true same taken is =
-      let one : suc n ≡ n + 1 = omega arith in
-      subst (λ (x : ℕ). AreTaken Proposes x (blocks ++ b ∷ []) (plans ++ p ∷ []) (proposals ++ proposal ∷ [])) one
-      (refused_push Proposes n blocks plans proposals b p proposal same taken is.told (is.invalid refl) (is.padded refl))
-  pushed false same taken is =
-      let kept = is.kept refl in
-      taken_push Proposes n blocks plans proposals b p proposal same taken is.told (subst (λ (x : Plan). Valid b x) kept is.valid) kept
+  pushed r same taken is = one_more Proposes (cond r (n + 1) n) blocks plans proposals b p proposal same (λ starts at f.
+      kept_push Proposes n (cond r 1 0) (cond r (n + 1) n) (sites blocks plans starts) proposals (site b p at) proposal (counted r) (alone r at is)
+      (taken starts f))
 
 -- one more of these blocks
 pub taken_more :

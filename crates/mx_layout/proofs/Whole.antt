@@ -8,6 +8,7 @@ use Rattle.mx_blocks.specs.declared.block.Plan.{Plan}
 use Rattle.mx_blocks.specs.Leaders.{AreBlocks, size}
 use Rattle.mx_validate.specs.Validity.{Valid}
 use Rattle.mx_squash.specs.Copies.{Site, sites}
+use Rattle.mx_layout.specs.declared.choosing.Choices.{Choices}
 use Rattle.mx_layout.specs.declared.error.LinkError.{LinkError}
 use Rattle.mx_layout.specs.declared.error.LinkError.TheVariants.{Displacement, Memory}
 use Rattle.mx_layout.specs.Layout.{IsLayout, plan_size, end_of, blocks_in, link_of}
@@ -116,12 +117,23 @@ refusal Proposes source place blocks plans proposals rejected (Displacement line
   is = ap (overlong source place) (blocks_same place.code blocks plans t.count) ∙ h;
 }
 
+-- what was chosen for the blocks, which were given as another list
 pub taken_from :
-    (Proposes : Block → Plan → Type 0) (source : SourceValue) (blocks blocks' : List Block) (plans proposals : List Plan) (rejected : ℕ)
-    → blocks' ≡ blocks → AreBlocks source blocks → length plans ≡ length blocks' → AreTaken Proposes rejected blocks' plans proposals
-    → Taken Proposes source blocks plans proposals rejected
-taken_from Proposes source blocks blocks' plans proposals rejected e all count taken = record {
+    (Proposes : Block → Plan → Type 0) (source : SourceValue) (blocks blocks' : List Block) (chosen : Choices) → blocks' ≡ blocks → AreBlocks source blocks
+    → length chosen.plans.items ≡ length blocks' → AreTaken Proposes chosen.rejected blocks' chosen.plans.items chosen.proposals.items
+    → Taken Proposes source blocks chosen.plans.items chosen.proposals.items chosen.rejected
+taken_from Proposes source blocks blocks' chosen e all count taken = record {
   all = all;
   count = count ∙ ap length e;
-  taken = subst (λ (l : List Block). AreTaken Proposes rejected l plans proposals) e taken;
+  taken = subst (λ (l : List Block). AreTaken Proposes chosen.rejected l chosen.plans.items chosen.proposals.items) e taken;
 }
+
+-- the sizes that were told of such plans have room too
+pub sizes_room :
+    {Proposes : Block → Plan → Type 0} {source : SourceValue} {blocks : List Block} {plans proposals : List Plan} {rejected : ℕ}
+    → Taken Proposes source blocks plans proposals rejected → (at : ℕ) {told : List Plan} {sizes words : List ℕ} → told ≡ plans → sizes ≡ map plan_size told
+    → words ≡ sizes → at + sum words ≤ at + 3 * length source.statements
+sizes_room t at e f h =
+    let room = plans_room _ _ _ _ _ _ at t in
+    let same = ap sum (h ∙ f ∙ ap (map plan_size) e) in
+    omega arith

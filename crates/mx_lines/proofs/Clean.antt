@@ -128,19 +128,21 @@ past_magnitude line at found h = by_prefix (has_base_prefix line at) refl h
         ∙ past_one line at (zero_plain _ bytes.0)
     by_prefix false is h = past_digits line 10 at found (omega arith) h
 
+-- where a token ends that was read, and whether it ends the line
+end_of : Result Token LexFault → ℕ
+end_of (Ok t) = t.end
+end_of (Err fault) = 0
+
+ends_of : Result Token LexFault → Bool
+ends_of (Ok t) = is_end t.kind
+ends_of (Err fault) = false
+
 -- what a token that was found says
 found_number : (negative : Bool) (at : ℕ) (o : Option (ℕ × ℕ)) (t : Token) → number_token negative at o ≡ Ok t
     → (found : ℕ × ℕ) × (o ≡ Some found) × (t.end ≡ found.0) × (is_end t.kind ≡ false)
+unfolding end_of ends_of
 found_number negative at None t h = cc
-found_number negative at (Some found) t h = (found, refl, ap (λ r. end_of r) (sym h), ap (λ r. ends r) (sym h))
-  where
-    end_of : Result Token LexFault → ℕ
-    end_of (Ok t) = t.end
-    end_of (Err fault) = 0
-
-    ends : Result Token LexFault → Bool
-    ends (Ok t) = is_end t.kind
-    ends (Err fault) = false
+found_number negative at (Some found) t h = (found, refl, ap end_of (sym h), ap ends_of (sym h))
 
 mark_bytes : (b : ℕ) → eqb b 44 || eqb b 91 || eqb b 93 || eqb b 35 || eqb b 58 ≡ true → is_plain b ≡ true
 unfolding is_plain
@@ -161,15 +163,6 @@ a_mark false false true hash colon kind h = (refl, ap kind_ends (sym h))
 a_mark false false false true colon kind h = (refl, ap kind_ends (sym h))
 a_mark false false false false true kind h = (refl, ap kind_ends (sym h))
 a_mark false false false false false kind h = cc
-
--- where a token ends that was read, and whether it ends the line
-end_of : Result Token LexFault → ℕ
-end_of (Ok t) = t.end
-end_of (Err fault) = 0
-
-ends_of : Result Token LexFault → Bool
-ends_of (Ok t) = is_end t.kind
-ends_of (Err fault) = false
 
 -- a token leaves no byte behind it that may not stand there, and none is before the end of the line
 pub record Clean (line : List ℕ) (at : ℕ) (t : Token) : Type 0 where

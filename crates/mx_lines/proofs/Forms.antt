@@ -149,23 +149,23 @@ module _ (labels : Labels) (Has : Statement → Type 0) (forms : Forms labels Ha
   mstart_has words =
       after (two_names words) _ (λ names e. named names.0 _ (λ b p. named names.1 _ (λ dest q. forms.compute op.Mstart 0 dest b refl zero_few q p)))
 
+  -- and after the count of a shift
+  counted : (negative : Bool) (value : ℕ) (f : ℕ → Result Statement Fault) → ((n : ℕ) → n ≤ 31 → IfOk (f n) Has) → IfOk (count negative value >>= f) Has
+  counted negative value f h = bind_has Has (count negative value) f (λ n e. h n (was_read (λ i. i ≤ 31) (count negative value) n (count_few negative value) e))
+
   asr_has : (words : List Word) → IfOk (asr words) Has
   unfolding asr
   asr_has words =
       after (name_number_name words) _ (λ operands e.
       named operands.source _ (λ a p. named operands.dest _ (λ dest q.
-      after (count operands.negative operands.value) _ (λ n k.
-      let within = was_read (λ i. i ≤ 31) (count operands.negative operands.value) n (count_few operands.negative operands.value) k in
-      forms.compute (op.Asr n) a dest 0 (within, refl) p q zero_few))))
+      counted operands.negative operands.value _ (λ n within. forms.compute (op.Asr n) a dest 0 (within, refl) p q zero_few))))
 
   sh_has : (words : List Word) → IfOk (sh words) Has
   unfolding sh
   sh_has words =
       after (names_number_name words) _ (λ operands e.
       named operands.first _ (λ a p. named operands.second _ (λ b q. named operands.dest _ (λ dest r.
-      after (count operands.negative operands.value) _ (λ n k.
-      let within = was_read (λ i. i ≤ 31) (count operands.negative operands.value) n (count_few operands.negative operands.value) k in
-      forms.compute (op.Sh n) a dest b within p r q)))))
+      counted operands.negative operands.value _ (λ n within. forms.compute (op.Sh n) a dest b within p r q)))))
 
   addi_has : (words : List Word) → IfOk (addi words) Has
   unfolding addi
@@ -204,19 +204,22 @@ module _ (labels : Labels) (Has : Statement → Type 0) (forms : Forms labels Ha
   unfolding move_to
   move_to_has words = after (two_names words) _ (λ names e. named names.0 _ (λ a p. after (special names.1) _ (λ s e1. to_md s a p)))
 
+  accessed : (make : ℕ → ℕ → ℤ → Statement)
+      → ((word : Word) (base r : ℕ) (o : ℤ) → offset labels word ≡ Ok o → IsRegister base → IsRegister r → Has (make base r o)) → (words : List Word)
+      → IfOk (memory words >>= λ operands. register operands.base >>= λ base. register operands.register >>= λ r.
+      offset labels operands.offset >>= λ o. Ok (make base r o)) Has
+  accessed make has words =
+      after (memory words) _ (λ operands e.
+      named operands.base _ (λ base p. named operands.register _ (λ r q.
+      after (offset labels operands.offset) _ (λ o k. has operands.offset base r o k p q))))
+
   load_has : (words : List Word) → IfOk (load labels words) Has
   unfolding load
-  load_has words =
-      after (memory words) _ (λ operands e.
-      named operands.base _ (λ base p. named operands.register _ (λ dest q.
-      after (offset labels operands.offset) _ (λ o k. forms.load operands.offset base dest o k p q))))
+  load_has words = accessed (λ base dest o. Plain (inst.Load base dest o)) forms.load words
 
   store_has : (words : List Word) → IfOk (store labels words) Has
   unfolding store
-  store_has words =
-      after (memory words) _ (λ operands e.
-      named operands.base _ (λ base p. named operands.register _ (λ value q.
-      after (offset labels operands.offset) _ (λ o k. forms.store operands.offset base value o k p q))))
+  store_has words = accessed (λ base value o. Plain (inst.Store base value o)) forms.store words
 
   load_address_has : (words : List Word) → IfOk (load_address labels words) Has
   unfolding load_address
@@ -224,19 +227,22 @@ module _ (labels : Labels) (Has : Statement → Type 0) (forms : Forms labels Ha
       after (two_names words) _ (λ names e.
       named names.1 _ (λ dest p. after (any_label labels names.0) _ (λ l k. forms.address names.0 l dest k p)))
 
-  branch_has : (c : Cond) (words : List Word) → IfOk (branch labels c words) Has
-  unfolding branch
-  branch_has c words =
+  compared : (make : ℕ → ℕ → ℕ → Statement)
+      → ((name : List ℕ) (a b target : ℕ) → code_label labels name ≡ Ok target → IsRegister a → IsRegister b → Has (make a b target)) → (words : List Word)
+      → IfOk (three_names words >>= λ names. register names.0 >>= λ a. register names.1 >>= λ b.
+      code_label labels names.2 >>= λ target. Ok (make a b target)) Has
+  compared make has words =
       after (three_names words) _ (λ names e.
       named names.0 _ (λ a p. named names.1 _ (λ b q.
-      after (code_label labels names.2) _ (λ target k. forms.branch names.2 a b c target k p q))))
+      after (code_label labels names.2) _ (λ target k. has names.2 a b target k p q))))
+
+  branch_has : (c : Cond) (words : List Word) → IfOk (branch labels c words) Has
+  unfolding branch
+  branch_has c words = compared (λ a b target. Branch a b c target) (λ name a b target k p q. forms.branch name a b c target k p q) words
 
   swapped_has : (c : Cond) (words : List Word) → IfOk (swapped_branch labels c words) Has
   unfolding swapped_branch
-  swapped_has c words =
-      after (three_names words) _ (λ names e.
-      named names.0 _ (λ a p. named names.1 _ (λ b q.
-      after (code_label labels names.2) _ (λ target k. forms.branch names.2 b a c target k q p))))
+  swapped_has c words = compared (λ a b target. Branch b a c target) (λ name a b target k p q. forms.branch name b a c target k q p) words
 
   goto_has : (words : List Word) → IfOk (goto labels words) Has
   unfolding goto

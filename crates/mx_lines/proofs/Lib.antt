@@ -4,5 +4,6 @@ pub mod Fits
 pub mod Forms
 pub mod LineEnds
 pub mod LineWords
+pub mod NextLine
 pub mod Pieces
 pub mod Tables

@@ -1,12 +1,12 @@
 -- Each statement of a source stands in its linked code as it is, so that its registers are those of its word.
-use Rattle.std.proofs.Common.{◌≡◌, ℕ, suc, ◌+◌, ◌-◌, ◌<◌, ◌≤◌, Bool, true, false, cond, eqb, List, [], ◌∷◌, length, Option, Some, None, refl, sym, ap, ◌∙◌, subst, inl, inr, ⊎_elim, arith}
+use Rattle.std.proofs.Common.{◌≡◌, ◌↔◌, ℕ, suc, ◌+◌, ◌-◌, ◌<◌, ◌≤◌, Bool, true, false, cond, eqb, List, [], ◌∷◌, length, Option, Some, None, refl, sym, ap, ◌∙◌, subst, inl, inr, ⊎_elim, arith}
 use Rattle.std.specs.Prelude.{slice_get, slice_index_or, ◌||◌, ◌⊎◌, min}
 use Rattle.std.proofs.lemmas.Bool.{cases_lt, false≢true}
 use Rattle.std.proofs.lemmas.Bool.Decides.{nat_tests}
 use Rattle.std.proofs.lemmas.Option.{same_Some, slice_get-get_or}
 use Rattle.mx_code.specs.Codes.{HasRegisters}
 use Rattle.mx_source.specs.declared.Statement.{Statement}
-use Rattle.mx_source.specs.declared.Statement.TheVariants.{Plain, LaCode, Branch, Call, CallReg, JumpReg, Halt}
+use Rattle.mx_source.specs.declared.Statement.TheVariants.{Halt}
 use Rattle.mx_source.specs.SourceValue.{SourceValue}
 use Rattle.mx_blocks.specs.declared.Item.{Item}
 use Rattle.mx_blocks.specs.declared.Item.TheVariants.{Op, Nop}
@@ -139,14 +139,10 @@ kept slots all s p k stands = by_item (copied_to (filling_of slots all s) s.plan
     by_item Nop e = e
     by_item (Op j) e = absurd (filling_free slots all s p k j stands e)
 
-statement_registers : (link : ℕ → ℕ) (c : Copied) (at : ℕ) (t : Statement) → HasRegisters (linked_inst link c at t) → HasRegisters (inst_of t)
-statement_registers link c at (Plain inst) h = h
-statement_registers link c at (LaCode dest target) h = h
-statement_registers link c at (Branch a b k target) h = h
-statement_registers link c at (Call dest target) h = h
-statement_registers link c at (CallReg a dest) h = h
-statement_registers link c at (JumpReg a) h = h
-statement_registers link c at Halt h = h
+-- the registers of a statement are those of its word, wherever it is linked
+pub linked_registers : (link : ℕ → ℕ) (c : Copied) (at : ℕ) (t : Statement) → HasRegisters (inst_of t) ↔ HasRegisters (linked_inst link c at t)
+linked_registers link c at Halt = (λ h. h, λ h. h)
+linked_registers link c at _ = (λ h. h, λ h. h)
 
 -- the site at which a statement stands
 pub record Covers (all : List Site) (i : ℕ) : Type 0 where
@@ -183,7 +179,7 @@ have_registers source place link slots all h each i d low =
     let t = slice_index_or source.statements i d in
     let is : slice_get source.statements (s.block.first + k) ≡ Some t = ap (slice_get source.statements) place_is
     ∙ slice_get-get_or source.statements i d low in
-    statement_registers link c (s.start + stands.at) t
+    (linked_registers link c (s.start + stands.at) t).1
     (subst (λ (o : Option Statement). HasRegisters (linked_statement link c (s.start + stands.at) o)) is
     (subst (λ (x : Item). HasRegisters (inst_at link source.statements c (s.start + stands.at) (over (goal_of s.block.end) x (own s.block.first (Op k)))))
     (kept slots all s stands.at k stands.stands)

@@ -70,23 +70,24 @@ pub filled_cases :
 filled_cases free n first second k h = ⊎_elim (first_slot free n first second k) (second_slot free n first second k) h
 
 -- as many words as are copyable may be copied
-copyable_first : (plan : Plan) → 1 ≤ copyable plan → may_copy plan 0 ≡ true
-copyable_first plan = by_test (may_copy plan 0) (may_copy plan 1)
-  where
-    by_test : (a b : Bool) → 1 ≤ cond a (cond b 2 1) 0 → a ≡ true
-    by_test true b h = refl
-    by_test false b h = absurd (omega arith)
+copyable_tests : (a b : Bool) → (1 ≤ cond a (cond b 2 1) 0 → a ≡ true) × (2 ≤ cond a (cond b 2 1) 0 → b ≡ true)
+copyable_tests true true = (λ h. refl, λ h. refl)
+copyable_tests true false = (λ h. refl, λ h. absurd (omega (arith, h)))
+copyable_tests false b = (λ h. absurd (omega (arith, h)), λ h. absurd (omega (arith, h)))
 
-copyable_second : (plan : Plan) → 2 ≤ copyable plan → may_copy plan 1 ≡ true
-copyable_second plan = by_test (may_copy plan 0) (may_copy plan 1)
-  where
-    by_test : (a b : Bool) → 2 ≤ cond a (cond b 2 1) 0 → b ≡ true
-    by_test true true h = refl
-    by_test true false h = absurd (omega arith)
-    by_test false b h = absurd (omega arith)
+pub copyable_first : (plan : Plan) → 1 ≤ copyable plan → may_copy plan 0 ≡ true
+copyable_first plan = (copyable_tests (may_copy plan 0) (may_copy plan 1)).0
+
+pub copyable_second : (plan : Plan) → 2 ≤ copyable plan → may_copy plan 1 ≡ true
+copyable_second plan = (copyable_tests (may_copy plan 0) (may_copy plan 1)).1
 
 may_copy_before : (plan : Plan) (k : ℕ) → may_copy plan k ≡ true → k < plan.place
 may_copy_before plan k h = let t = (both (ltb k plan.place) (is_op (slice_get plan.items.items k)) h).0 in grind (arith, nat_tests)
+
+pub at_most_two : (a b : Bool) → cond a (cond b 2 1) 0 ≤ 2
+at_most_two true true = omega arith
+at_most_two true false = omega arith
+at_most_two false b = omega arith
 
 pub copyable_small : (plan : Plan) → copyable plan ≤ plan.place
 copyable_small plan = ⊎_elim
@@ -96,11 +97,6 @@ copyable_small plan = ⊎_elim
     (λ two. let low = may_copy_before plan 1 (copyable_second plan two) in let high = at_most_two (may_copy plan 0) (may_copy plan 1) in omega arith)
     (cases_lt (copyable plan) 2))
     (cases_lt (copyable plan) 1)
-  where
-    at_most_two : (a b : Bool) → cond a (cond b 2 1) 0 ≤ 2
-    at_most_two true true = omega arith
-    at_most_two true false = omega arith
-    at_most_two false b = omega arith
 
 -- either nothing is copied, or the transfer reaches its target moved on by the copies
 pub record Moves (s g : Site) : Type 0 where

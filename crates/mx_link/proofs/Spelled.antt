@@ -1,13 +1,11 @@
 -- Each word of linked code spells its instruction.
-use Rattle.std.proofs.Common.{◌≡◌, ℕ, ◌+◌, ◌≤◌, List, length, Option, Some, None, refl, arith}
+use Rattle.std.proofs.Common.{◌≡◌, ℕ, ◌+◌, List, Option, Some, None, refl, arith}
 use Rattle.std.specs.Prelude.{slice_get}
-use Rattle.mx_isa.specs.declared.Inst.{Inst}
 use Rattle.mx_isa.specs.declared.Place.{Place}
 use Rattle.mx_code.specs.Codes.{HasRegisters, word_of_row}
 use Rattle.mx_code.specs.Decoding.{inst_of as spelled_by}
 use Rattle.mx_code.proofs.Rows.{spelled}
 use Rattle.mx_source.specs.declared.Statement.{Statement}
-use Rattle.mx_source.specs.declared.Statement.TheVariants.{Plain, LaCode, Branch, Call, CallReg, JumpReg, Halt}
 use Rattle.mx_source.specs.SourceValue.{SourceValue, IsSource}
 use Rattle.mx_blocks.specs.Leaders.{inst_of}
 use Rattle.mx_squash.specs.declared.Copied.{Copied}
@@ -16,19 +14,11 @@ use Rattle.mx_layout.specs.Layout.{link_of}
 use Rattle.mx_link.specs.declared.code.Slots.{Slots}
 use Rattle.mx_link.specs.declared.linked.Origin.{Origin}
 use Rattle.mx_link.specs.declared.linked.Origin.TheVariants.{Own, Copy, Pad}
-use Rattle.mx_link.specs.Words.{linked_inst, linked_statement, inst_at}
+use Rattle.mx_link.specs.Words.{linked_statement, inst_at}
 use Rattle.mx_link.specs.Parts.{filling_of, origin_at, EachInst, HaveRegisters}
 use Rattle.mx_link.proofs.Places.{at_place}
+use Rattle.mx_link.proofs.Registers.{linked_registers}
 use Rattle.mx_link.proofs.Linkable.{Laid, all_fit}
-
-linked_registers : (link : ℕ → ℕ) (c : Copied) (at : ℕ) (t : Statement) → HasRegisters (inst_of t) → HasRegisters (linked_inst link c at t)
-linked_registers link c at (Plain inst) h = h
-linked_registers link c at (LaCode dest target) h = h
-linked_registers link c at (Branch a b k target) h = h
-linked_registers link c at (Call dest target) h = h
-linked_registers link c at (CallReg a dest) h = h
-linked_registers link c at (JumpReg a) h = h
-linked_registers link c at Halt h = h
 
 place_registers :
     (link : ℕ → ℕ) (statements : List Statement) (c : Copied) (at i : ℕ) → HaveRegisters statements
@@ -37,7 +27,7 @@ place_registers link statements c at i h = by_place (slice_get statements i) ref
   where
     by_place : (o : Option Statement) → slice_get statements i ≡ o → HasRegisters (linked_statement link c at o)
     by_place None e = (omega arith, omega arith, omega arith)
-    by_place (Some t) e = linked_registers link c at t (at_place (λ (s : Statement). HasRegisters (inst_of s)) statements i t h e)
+    by_place (Some t) e = (linked_registers link c at t).0 (at_place (λ (s : Statement). HasRegisters (inst_of s)) statements i t h e)
 
 -- the registers of each instruction are registers
 pub inst_registers :

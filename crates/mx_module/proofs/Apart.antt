@@ -59,7 +59,8 @@ take_renamed R (e ∷ es) (suc i) = ap (λ xs. R e ∷ xs) (take_renamed R es i)
 pub absent_among : (R : List ℕ × Label → List ℕ × Label) (old es : Labels) (i : ℕ) (e : List ℕ × Label) → AreApart (old ++ map R es) → slice_get es i ≡ Some e
     → label_named (old ++ map R (take i es)) (R e).0 ≡ None
 unfolding IsDistinct
-absent_among R [] es i e h at = ap (λ xs. label_named xs (R e).0) (sym (take_renamed R es i)) ∙ absent_before (map R es) i (R e).0 (R e).1 h (renamed_at R es i e at)
+absent_among R [] es i e h at = ap (λ xs. label_named xs (R e).0) (sym (take_renamed R es i)) ∙ absent_before (map R es) i (R e).0 (R e).1 h
+    (renamed_at R es i e at)
 absent_among R (o ∷ old) es i e h at =
     ap (λ b. cond b (Some o.1) (label_named (old ++ map R (take i es)) (R e).0))
     (swapped o.0 (R e).0 (behind_it o.0 (map R es) i (R e).0 (R e).1 (none_behind o.0 old (map R es) h.0) (renamed_at R es i e at)))

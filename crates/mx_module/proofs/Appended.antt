@@ -58,6 +58,17 @@ pub first_of_three : (x y z : Option ℕ) → first_input (first_input x y) z �
 first_of_three (Some n) y z = refl
 first_of_three None y z = refl
 
+-- what was listed, with what the next module adds
+pub items_more : {A : Type 0} (part : List (ℕ × Effect) → List A) (both : (a b : List (ℕ × Effect)) → part (a ++ b) ≡ part a ++ part b)
+    (was more new all : List A) (own later left : List (ℕ × Effect)) → left ≡ own ++ later
+    → new ≡ was ++ more → more ≡ part own → was ++ part left ≡ all → new ++ part later ≡ all
+items_more part both was more new all own later left parts added is h =
+    ap (λ x. x ++ part later) added
+    ∙ ap (λ x. (was ++ x) ++ part later) is
+    ∙ append_assoc was (part own) (part later)
+    ∙ ap (λ x. was ++ x) (sym (both own later))
+    ∙ ap (λ x. was ++ part x) (sym parts) ∙ h
+
 pub program_refused : (place : ℕ) (found : Option (ℕ × Fault)) (later : Option Refusal) (e : AsmError) → IsRefusal found e
     → IsJoinRefusal (refusal_or (line_of place found) later) (line_refusal place e)
 program_refused place found later (asm.Refused line fault) h = ap (λ f. refusal_or (line_of place f) later) h

@@ -1,5 +1,6 @@
 -- Modules, each of which begins where the one before it ends.
-use Rattle.std.proofs.Common.{◌≡◌, ℕ, suc, length, ◌≤◌, List, [], ◌∷◌, ◌++◌, refl, sym, ap, ◌∙◌, subst, arith}
+use Rattle.std.proofs.Common.{◌≡◌, ℕ, suc, ◌+◌, length, drop, get_or, ◌≤◌, ◌<◌, List, [], ◌∷◌, ◌++◌, refl, sym, ap, ◌∙◌, subst, arith}
+use Rattle.std.proofs.lemmas.List.{at_drop_more}
 use Rattle.mx_asm.specs.declared.Position.{Position}
 use Rattle.mx_asm.specs.Positions.{start, labels_from, position_at_end, after, line_words}
 use Rattle.mx_asm.proofs.LabelBounds.{address_grows}
@@ -72,6 +73,14 @@ module _ (m : ModuleValue) (ms : List ModuleValue) (h : Chained (m ∷ ms)) wher
     near = within;
     low = address_stays m.lines m.start first_low;
   }
+
+-- the modules that a loop has left, by the next one
+module _ (ms : List ModuleValue) (i : ℕ) (m : ModuleValue) (lt : i < length ms) (is : m ≡ get_or ms i m) where
+  pub left_modules : drop i ms ≡ m ∷ drop (i + 1) ms
+  left_modules = at_drop_more (λ xs. xs) ms i m lt ∙ ap (λ x. x ∷ drop (i + 1) ms) (sym is)
+
+  pub left_chained : Chained (drop i ms) → Chained (m ∷ drop (i + 1) ms)
+  left_chained h = subst Chained left_modules h
 
 pub as_many : (p : Position) (texts : List (List ℕ)) → length (modules_from p texts) ≡ length texts
 as_many p [] = refl

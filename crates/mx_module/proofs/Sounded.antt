@@ -92,6 +92,14 @@ module _ (P : Label → Type 0) where
   with_has labels n (Some l) h k = define_fits P labels l n h (λ d. k)
   with_has labels n None h k = h
 
+  -- under new names
+  pub renamed_have : (m : ModuleValue) (place : ℕ) (labels : Labels) → All (λ (p : List ℕ × Label). P p.1) labels
+      → All (λ (p : List ℕ × Label). P p.1) (map (renamed m place) labels)
+  renamed_have m place [] h = All-nil (λ (p : List ℕ × Label). P p.1)
+  renamed_have m place (l ∷ labels) h =
+      All-cons (λ (p : List ℕ × Label). P p.1) (renamed m place l) (map (renamed m place) labels) (All-head (λ (p : List ℕ × Label). P p.1) l labels h)
+      (renamed_have m place labels (All-tail (λ (p : List ℕ × Label). P p.1) l labels h))
+
   module _ (all : List ModuleValue) (place : ℕ) (own : AllLabels P all) where
     import_has : (labels : Labels) (kind : LinkKind) (name : Option (List ℕ)) → All (λ (p : List ℕ × Label). P p.1) labels
         → All (λ (p : List ℕ × Label). P p.1) (with_import all place labels kind name)
@@ -247,16 +255,11 @@ covered J count all place (m ∷ rest) fit named own names = (
   covered J count all (place + 1) rest fit named own.1 names.1,
 )
 
-renamed_fit : (count : ℕ) (m : ModuleValue) (k : ℕ) (es : Labels) → LabelsFit count es → LabelsFit count (map (renamed m k) es)
-renamed_fit count m k [] h = All-nil (λ (p : List ℕ × Label). LabelFits count p.1)
-renamed_fit count m k (e ∷ es) h =
-    All-cons (λ (p : List ℕ × Label). LabelFits count p.1) (renamed m k e) (map (renamed m k) es)
-    (All-head (λ (p : List ℕ × Label). LabelFits count p.1) e es h) (renamed_fit count m k es (All-tail (λ (p : List ℕ × Label). LabelFits count p.1) e es h))
-
 program_labels : (count k : ℕ) (ms : List ModuleValue) → AllLabels (LabelFits count) ms → LabelsFit count (labels_in k ms)
 program_labels count k [] h = All-nil (λ (p : List ℕ × Label). LabelFits count p.1)
 program_labels count k (m ∷ ms) h =
-    All-append (λ (p : List ℕ × Label). LabelFits count p.1) (map (renamed m k) m.labels) (labels_in (k + 1) ms) (renamed_fit count m k m.labels h.0)
+    All-append (λ (p : List ℕ × Label). LabelFits count p.1) (map (renamed m k) m.labels) (labels_in (k + 1) ms) (renamed_have
+    (LabelFits count) m k m.labels h.0)
     (program_labels count (k + 1) ms h.1)
 
 pub program_sound : (ms : List ModuleValue) → IsProgram ms → fault_in_lines ms 0 ms ≡ None → AreApart (labels_in 0 ms) → IsSource (program ms)

@@ -27,6 +27,7 @@ use Rattle.mx_pipe.specs.Made.{allowed}
 use Rattle.mx_pipe.specs.Courses.{told, course_of, target_of, course_aside}
 use Rattle.mx_pipe.specs.Kept.{IsRead, Holds, Leads, LeadsTo}
 use Rattle.mx_pipe.proofs.Makes.{allowed_kept, number_kept, cut_word, cut_read}
+use Rattle.mx_pipe.proofs.Stands.{behind_alike}
 
 -- as the definition decides it, the four parts: where the turn whose fetch was the last leads, and the others
 abbrev IsTold : Decided → Inst → Decision → ℕ → Type 0
@@ -137,15 +138,7 @@ module _ {C : Type 0} (code : Code) (p : Pipe C) (m : Machine) (h : Holds code p
       result = h.alu.result ∙ sym (number_kept i (pops i && not u) (not u) m.psw m.chain (address_of m.alu) (first code m) (second code m) m.core.md);
       md = h.alu.md;
     };
-    behind = record {
-      mem = h.behind.mem;
-      wb = h.behind.wb;
-      to = h.behind.to;
-      within = h.behind.within;
-      file = h.behind.file;
-      regs = h.behind.regs;
-      slot = h.behind.slot;
-    };
+    behind = behind_alike p m _ _ _ _ _ _ _ _ _ _ _ _ _ _ _ _ h.behind;
     rest = record {
       next =
           is

@@ -1,9 +1,9 @@
 -- From the latches into a lane, and back.
-use Rattle.std.proofs.Common.{arith, ◌≡◌, ◌<◌, ◌≤◌, ◌+◌, ℕ, zero, suc, Bool, true, false, not, cond, ◌||◌, List, [], ◌∷◌, ◌++◌, Option, Some, length, option_to_list, append_assoc, append-nil, refl, sym, ap, ◌∙◌, subst}
+use Rattle.std.proofs.Common.{arith, ◌≡◌, ◌<◌, ◌≤◌, ◌+◌, ℕ, zero, suc, Bool, true, false, cond, ◌||◌, List, ◌++◌, Option, Some, length, option_to_list, append_assoc, append-nil, refl, sym, ap, ◌∙◌, subst}
 use Rattle.std.specs.Prelude.{slice_index, nat_lt}
 use Rattle.std.proofs.lemmas.Bool.Decides.{nat_tests}
 use Rattle.std.proofs.lemmas.Bool.{eq-eqb}
-use Rattle.mx_isa.specs.declared.board.TheConstants.{MAX_CODE_WORDS}
+use Rattle.mx_isa.specs.declared.board.TheConstants.{MAX_CODE_WORDS, CODE_BASE}
 use Rattle.mx_isa.specs.Words.{Words, reg, write}
 use Rattle.mx_isa.specs.Views.{sources, dest}
 use Rattle.mx_code.specs.Decoding.{inst_of}
@@ -27,7 +27,7 @@ use Rattle.mx_pipe.specs.declared.pipe.Wait.TheVariants.{NotAsked}
 use Rattle.mx_pipe.specs.Latched.{Latched, does}
 use Rattle.mx_pipe.specs.Kept.{code_of_pipe, IsRead, Holds, Commits, Shows, Waits, KeepsProgram, StandsFor}
 use Rattle.mx_pipe.proofs.Shows.{shows_cycled}
-use Rattle.mx_pipe.proofs.Stands.{waiting, past_ended, same_code}
+use Rattle.mx_pipe.proofs.Stands.{waiting, past_ended, same_code, showing_alike}
 
 -- a lane of these parts is where the pipeline is
 pub lane_is : {C : Type 0} (code : Code) (p : Pipe C) (m : Machine) (l : Lane) → Commits code p m → m.halted ≡ false → m.latch ≡ false → m.stall ≡ 0
@@ -126,41 +126,16 @@ pub shown_anew : {C : Type 0} (code : Code) (p : Pipe C) (m : Machine) → Holds
       b = p.alu.b;
       result = p.alu.result;
     } in let q : Pipe C = record p { shown = shown } in Holds code q (showing code m))
-shown_anew code p m h = record {
-  fetch = h.fetch;
-  rf = h.rf;
-  alu = record { word = h.alu.word; inst = h.alu.inst; a = h.alu.a; b = h.alu.b; result = h.alu.result; md = h.alu.md };
-  behind = record {
-    mem = h.behind.mem;
-    wb = h.behind.wb;
-    to = h.behind.to;
-    within = h.behind.within;
-    file = h.behind.file;
-    regs = h.behind.regs;
-    slot = h.behind.slot;
-  };
-  rest = record {
-    next = h.rest.next;
-    md = h.rest.md;
-    words = h.rest.words;
-    taken = h.rest.taken;
-    chain = h.rest.chain;
-    psw = h.rest.psw;
-    asked = h.rest.asked;
-    halted = h.rest.halted;
-    shown = λ k. record {
-      fetch = stage_of (h.fetch k);
-      rf = stage_of (h.rf.word k);
-      alu = stage_of (h.alu.word k);
-      mem = stage_of (h.behind.mem k);
-      wb = stage_of (h.behind.wb k);
-      a = h.alu.a k;
-      b = h.alu.b k;
-      result = h.alu.result k;
-    };
-    short = h.rest.short;
-  };
-}
+shown_anew code p m h = showing_alike code p m p.wait p.counts _ m.stall m.counts _ (λ k. record {
+  fetch = stage_of (h.fetch k);
+  rf = stage_of (h.rf.word k);
+  alu = stage_of (h.alu.word k);
+  mem = stage_of (h.behind.mem k);
+  wb = stage_of (h.behind.wb k);
+  a = h.alu.a k;
+  b = h.alu.b k;
+  result = h.alu.result k;
+}) h
 
 -- cycles without a request, by the program
 pub quiet_state : (p : Program) (h : List Bool) (n : ℕ) → state_after p (quiet h n) ≡ quietly (code_of p) p.input n (state_after p h)
@@ -228,7 +203,7 @@ module _ {C : Type 0} (holds : C → List ℕ → Type 0) (t t' : Pipe C) (p : P
       let waits : Waits holds t'.cache acts NotAsked = (cache_so, refl) in
       let counts_so : t'.counts ≡ acts.counts = counts ∙ (λ k. after_turn (left.missed k) (squashes code (reaches k)) (takes (reaches k)) (left.counts k)) in
       let program : code_of_pipe t' ≡ code =
-      same_code t t' keeps ∙ (λ k. code_with (code_from inst_of 0 (s.handler k)) (code_from inst_of 4096 (s.code k))) in
+      same_code t t' keeps ∙ (λ k. code_with (code_from inst_of 0 (s.handler k)) (code_from inst_of CODE_BASE (s.code k))) in
       let tied_so : Holds code t' acts = waiting code t' end t'.wait t'.counts (cond (resident end.past end.next.address) 0 2) acts.counts done in
       record {
         code = ap (λ v. v.items) keeps.code ∙ s.code;

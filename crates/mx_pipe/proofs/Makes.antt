@@ -2,11 +2,11 @@
 use Rattle.std.proofs.Common.{◌≡◌, ℕ, Bool, true, false, cond, ◌&&◌, Option, Some, None, refl, ap, ◌∙◌, arith}
 use Rattle.std.specs.Prelude.{slice_index}
 use Rattle.std.proofs.lemmas.Bool.Decides.{nat_tests}
-use Rattle.mx_isa.specs.declared.inst.Special.TheVariants.{Md, Pc1, Pc2, Pc3}
+use Rattle.mx_isa.specs.declared.inst.Special.TheVariants.{Md}
 use Rattle.mx_isa.specs.declared.inst.Op.{Op}
-use Rattle.mx_isa.specs.declared.inst.Op.TheVariants.{Add, Sub, Subnc, And, Or, Xor, Bic, Not, Rotlb, Mstart, Mstep, Dstep, Asr, Sh}
+use Rattle.mx_isa.specs.declared.inst.Op.TheVariants.{Add}
 use Rattle.mx_isa.specs.declared.inst.Inst.{Inst}
-use Rattle.mx_isa.specs.declared.inst.Inst.TheVariants.{Load, Store, Branch, Compute, Addi, MoveFrom, MoveTo, Jspci, Jpc, Jpcrs, Halt}
+use Rattle.mx_isa.specs.declared.inst.Inst.TheVariants.{Compute, MoveFrom, MoveTo, Jpc, Jpcrs}
 use Rattle.mx_isa.specs.Arithmetic.{md_after}
 use Rattle.mx_isa.specs.Words.{Words, reg, write}
 use Rattle.mx_isa.specs.Effect.{Found, Change, op_uses_md, or_kept}
@@ -35,146 +35,41 @@ module _ (user : Bool) (c : Chain) (at : ℕ) (r : Words) (md : ℕ) (find : ℕ
   abbrev pub changed : Inst → Change
   changed i = system_change user c i at r md find
 
-pub written_is : (user : Bool) (c : Chain) (i : Inst) (at : ℕ) (r : Words) (md : ℕ) (find : ℕ → Found) (f : Words)
-    → write f (dest (allowed user i)) (reached (allowed user i) (made user c at r md find i) find)
-    ≡ write f (changed user c at r md find i).dest (changed user c at r md find i).value
-written_is user c (Load base d offset) at r md find f = refl
-written_is user c (Store base value offset) at r md find f = refl
-written_is user c (Branch a b condition s by) at r md find f = refl
-written_is user c (Compute a d b op) at r md find f = refl
-written_is user c (Addi a d imm) at r md find f = refl
-written_is true c (MoveFrom d Md) at r md find f = refl
-written_is true c (MoveFrom d Pc1) at r md find f = refl
-written_is true c (MoveFrom d Pc2) at r md find f = refl
-written_is true c (MoveFrom d Pc3) at r md find f = refl
-written_is false c (MoveFrom d Md) at r md find f = refl
-written_is false c (MoveFrom d Pc1) at r md find f = refl
-written_is false c (MoveFrom d Pc2) at r md find f = refl
-written_is false c (MoveFrom d Pc3) at r md find f = refl
-written_is user c (MoveTo a Md) at r md find f = refl
-written_is user c (MoveTo a Pc1) at r md find f = refl
-written_is user c (MoveTo a Pc2) at r md find f = refl
-written_is user c (MoveTo a Pc3) at r md find f = refl
-written_is user c (Jspci a d imm) at r md find f = refl
-written_is user c Jpc at r md find f = refl
-written_is user c Jpcrs at r md find f = refl
-written_is user c Halt at r md find f = refl
-
 -- an operation that does not use MD keeps it
 op_keeps_md : (op : Op) (a b md : ℕ) → md_after op a b md ≡ or_kept (cond (op_uses_md op) (Some (md_after op a b md)) None) md
 op_keeps_md Add a b md = refl
-op_keeps_md Sub a b md = refl
-op_keeps_md Subnc a b md = refl
-op_keeps_md And a b md = refl
-op_keeps_md Or a b md = refl
-op_keeps_md Xor a b md = refl
-op_keeps_md Bic a b md = refl
-op_keeps_md Not a b md = refl
-op_keeps_md Rotlb a b md = refl
-op_keeps_md Mstart a b md = refl
-op_keeps_md Mstep a b md = refl
-op_keeps_md Dstep a b md = refl
-op_keeps_md (Asr n) a b md = refl
-op_keeps_md (Sh n) a b md = refl
+op_keeps_md _ a b md = refl
 
-pub md_is : (user : Bool) (c : Chain) (i : Inst) (at : ℕ) (r : Words) (md : ℕ) (find : ℕ → Found)
-    → md_behind i (reg r (sources i).0) (reg r (sources i).1) md ≡ or_kept (changed user c at r md find i).new_md md
-md_is user c (Load base d offset) at r md find = refl
-md_is user c (Store base value offset) at r md find = refl
-md_is user c (Branch a b condition s by) at r md find = refl
-md_is user c (Compute a d b op) at r md find = op_keeps_md op (reg r a) (reg r b) md
-md_is user c (Addi a d imm) at r md find = refl
-md_is true c (MoveFrom d Md) at r md find = refl
-md_is true c (MoveFrom d Pc1) at r md find = refl
-md_is true c (MoveFrom d Pc2) at r md find = refl
-md_is true c (MoveFrom d Pc3) at r md find = refl
-md_is false c (MoveFrom d Md) at r md find = refl
-md_is false c (MoveFrom d Pc1) at r md find = refl
-md_is false c (MoveFrom d Pc2) at r md find = refl
-md_is false c (MoveFrom d Pc3) at r md find = refl
-md_is user c (MoveTo a Md) at r md find = refl
-md_is user c (MoveTo a Pc1) at r md find = refl
-md_is user c (MoveTo a Pc2) at r md find = refl
-md_is user c (MoveTo a Pc3) at r md find = refl
-md_is user c (Jspci a d imm) at r md find = refl
-md_is user c Jpc at r md find = refl
-md_is user c Jpcrs at r md find = refl
-md_is user c Halt at r md find = refl
+-- what it writes, leaves in MD, stores, takes of the input and leaves of the chain
+pub record MakesAlike (user : Bool) (c : Chain) (i : Inst) (at : ℕ) (r : Words) (md : ℕ) (find : ℕ → Found) : Type 0 where
+  pub written : (f : Words) → write f (dest (allowed user i)) (reached (allowed user i) (made user c at r md find i) find)
+      ≡ write f (changed user c at r md find i).dest (changed user c at r md find i).value
+  pub leaves : md_behind i (reg r (sources i).0) (reg r (sources i).1) md ≡ or_kept (changed user c at r md find i).new_md md
+  pub stored : sends (allowed user i) (made user c at r md find i) (reg r (sources i).1) ≡ (changed user c at r md find i).stores
+  pub takes : takes_byte (allowed user i) (made user c at r md find i) find ≡ (changed user c at r md find i).takes
+  pub chain : chain_kept user (allowed user i) (made user c at r md find i) c ≡ moved user i r c
 
-pub sends_is : (user : Bool) (c : Chain) (i : Inst) (at : ℕ) (r : Words) (md : ℕ) (find : ℕ → Found)
-    → sends (allowed user i) (made user c at r md find i) (reg r (sources i).1) ≡ (changed user c at r md find i).stores
-sends_is user c (Load base d offset) at r md find = refl
-sends_is user c (Store base value offset) at r md find = refl
-sends_is user c (Branch a b condition s by) at r md find = refl
-sends_is user c (Compute a d b op) at r md find = refl
-sends_is user c (Addi a d imm) at r md find = refl
-sends_is true c (MoveFrom d Md) at r md find = refl
-sends_is true c (MoveFrom d Pc1) at r md find = refl
-sends_is true c (MoveFrom d Pc2) at r md find = refl
-sends_is true c (MoveFrom d Pc3) at r md find = refl
-sends_is false c (MoveFrom d Md) at r md find = refl
-sends_is false c (MoveFrom d Pc1) at r md find = refl
-sends_is false c (MoveFrom d Pc2) at r md find = refl
-sends_is false c (MoveFrom d Pc3) at r md find = refl
-sends_is user c (MoveTo a Md) at r md find = refl
-sends_is user c (MoveTo a Pc1) at r md find = refl
-sends_is user c (MoveTo a Pc2) at r md find = refl
-sends_is user c (MoveTo a Pc3) at r md find = refl
-sends_is user c (Jspci a d imm) at r md find = refl
-sends_is user c Jpc at r md find = refl
-sends_is user c Jpcrs at r md find = refl
-sends_is user c Halt at r md find = refl
-
-pub takes_is : (user : Bool) (c : Chain) (i : Inst) (at : ℕ) (r : Words) (md : ℕ) (find : ℕ → Found)
-    → takes_byte (allowed user i) (made user c at r md find i) find ≡ (changed user c at r md find i).takes
-takes_is user c (Load base d offset) at r md find = refl
-takes_is user c (Store base value offset) at r md find = refl
-takes_is user c (Branch a b condition s by) at r md find = refl
-takes_is user c (Compute a d b op) at r md find = refl
-takes_is user c (Addi a d imm) at r md find = refl
-takes_is true c (MoveFrom d Md) at r md find = refl
-takes_is true c (MoveFrom d Pc1) at r md find = refl
-takes_is true c (MoveFrom d Pc2) at r md find = refl
-takes_is true c (MoveFrom d Pc3) at r md find = refl
-takes_is false c (MoveFrom d Md) at r md find = refl
-takes_is false c (MoveFrom d Pc1) at r md find = refl
-takes_is false c (MoveFrom d Pc2) at r md find = refl
-takes_is false c (MoveFrom d Pc3) at r md find = refl
-takes_is user c (MoveTo a Md) at r md find = refl
-takes_is user c (MoveTo a Pc1) at r md find = refl
-takes_is user c (MoveTo a Pc2) at r md find = refl
-takes_is user c (MoveTo a Pc3) at r md find = refl
-takes_is user c (Jspci a d imm) at r md find = refl
-takes_is user c Jpc at r md find = refl
-takes_is user c Jpcrs at r md find = refl
-takes_is user c Halt at r md find = refl
-
-pub chain_is : (user : Bool) (c : Chain) (i : Inst) (at : ℕ) (r : Words) (md : ℕ) (find : ℕ → Found)
-    → chain_kept user (allowed user i) (made user c at r md find i) c ≡ moved user i r c
-chain_is true c (MoveFrom d Md) at r md find = refl
-chain_is true c (MoveFrom d Pc1) at r md find = refl
-chain_is true c (MoveFrom d Pc2) at r md find = refl
-chain_is true c (MoveFrom d Pc3) at r md find = refl
-chain_is false c (MoveFrom d Md) at r md find = refl
-chain_is false c (MoveFrom d Pc1) at r md find = refl
-chain_is false c (MoveFrom d Pc2) at r md find = refl
-chain_is false c (MoveFrom d Pc3) at r md find = refl
-chain_is user c _ at r md find = refl
+pub is_made : (user : Bool) (c : Chain) (i : Inst) (at : ℕ) (r : Words) (md : ℕ) (find : ℕ → Found) → MakesAlike user c i at r md find
+is_made user c (Compute a d b op) at r md find = record {
+  written = λ f. refl;
+  leaves = op_keeps_md op (reg r a) (reg r b) md;
+  stored = refl;
+  takes = refl;
+  chain = refl;
+}
+is_made true c (MoveFrom d Md) at r md find = record { written = λ f. refl; leaves = refl; stored = refl; takes = refl; chain = refl }
+is_made false c (MoveFrom d Md) at r md find = record { written = λ f. refl; leaves = refl; stored = refl; takes = refl; chain = refl }
+is_made user c (MoveTo a Md) at r md find = record { written = λ f. refl; leaves = refl; stored = refl; takes = refl; chain = refl }
+is_made user c _ at r md find = record { written = λ f. refl; leaves = refl; stored = refl; takes = refl; chain = refl }
 
 -- what is made of an instruction that user code may not do is what is made of the no-op
 pub slot_is : (user : Bool) (i : Inst) (r : Words) → slot_of (allowed user i) r ≡ slot_of i r
 slot_is true (MoveFrom d Md) r = refl
-slot_is true (MoveFrom d Pc1) r = refl
-slot_is true (MoveFrom d Pc2) r = refl
-slot_is true (MoveFrom d Pc3) r = refl
 slot_is false (MoveFrom d s) r = refl
 slot_is user _ r = refl
 
 pub halt_is : (user : Bool) (i : Inst) → is_halt (allowed user i) ≡ is_halt i
 halt_is true (MoveFrom d Md) = refl
-halt_is true (MoveFrom d Pc1) = refl
-halt_is true (MoveFrom d Pc2) = refl
-halt_is true (MoveFrom d Pc3) = refl
 halt_is false (MoveFrom d s) = refl
 halt_is user _ = refl
 
@@ -187,17 +82,8 @@ allowed_kept _ b p = refl
 
 pub number_kept : (i : Inst) (d b : Bool) (p : Psw) (c : Chain) (at x y md : ℕ)
     → number_of (cond (restores i && d) (psw_restored p) p).current.user (cond (pops i && b) (pop c) c) i at x y md ≡ number_of p.current.user c i at x y md
-number_kept (Load base e offset) d b p c at x y md = refl
-number_kept (Store base value offset) d b p c at x y md = refl
-number_kept (Branch a f condition s by) d b p c at x y md = refl
-number_kept (Compute a e f op) d b p c at x y md = refl
-number_kept (Addi a e imm) d b p c at x y md = refl
 number_kept (MoveFrom e s) d b p c at x y md = refl
-number_kept (MoveTo a s) d b p c at x y md = refl
-number_kept (Jspci a e imm) d b p c at x y md = refl
-number_kept Jpc d b p c at x y md = refl
-number_kept Jpcrs d b p c at x y md = refl
-number_kept Halt d b p c at x y md = refl
+number_kept _ d b p c at x y md = refl
 
 -- a latch that is squashed
 pub cut_word : (b : Bool) (l : Latched) (stage : Option Fetch) → l.word ≡ stage → (squashed_if b l).word ≡ squash b stage

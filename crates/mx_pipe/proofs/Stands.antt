@@ -1,8 +1,13 @@
 -- How a cycle keeps what a pipeline stands for.
-use Rattle.std.proofs.Common.{arith, ◌≡◌, ℕ, Bool, true, false, not, cond, List, [], ◌∷◌, ◌++◌, refl, sym, ap, ◌∙◌, subst}
+use Rattle.std.proofs.Common.{arith, ◌≡◌, ℕ, Bool, true, false, not, cond, List, [], ◌∷◌, ◌++◌, refl, sym, ap, ◌∙◌, subst, Option}
+use Rattle.mx_isa.specs.declared.board.TheConstants.{CODE_BASE}
 use Rattle.mx_code.specs.Decoding.{inst_of}
 use Rattle.mx_delay.specs.Delay.{Code, code_from}
 use Rattle.mx_icache.specs.Residency.{resident}
+use Rattle.mx_pcchain.specs.declared.chain.Chain.{Chain}
+use Rattle.mx_pcchain.specs.declared.psw.Psw.{Psw}
+use Rattle.mx_pcchain.specs.Fetch.{Fetch}
+use Rattle.mx_turn.specs.declared.latches.Latches.{Latches}
 use Rattle.mx_turn.specs.declared.machine.Cycled.{Cycled}
 use Rattle.mx_turn.specs.Counted.{Counted}
 use Rattle.mx_turn.specs.Decoded.{code_in}
@@ -12,25 +17,30 @@ use Rattle.mx_turn.proofs.Steps.{after_one_more}
 use Rattle.mx_pipe.specs.declared.pipe.Pipe.{Pipe}
 use Rattle.mx_pipe.specs.declared.pipe.Wait.{Wait}
 use Rattle.mx_pipe.specs.declared.pipe.Wait.TheVariants.{NotAsked, Missed}
-use Rattle.mx_pipe.specs.Kept.{code_of_pipe, Holds, Shows, Waits, has_missed, KeepsProgram, StandsFor}
+use Rattle.mx_pipe.specs.Latched.{Latched}
+use Rattle.mx_pipe.specs.Kept.{code_of_pipe, Holds, Shows, Waits, has_missed, KeepsProgram, StandsFor, IsBehind}
 use Rattle.mx_pipe.proofs.Shows.{shows_cycled}
 
--- neither the wait nor the counts and stalled cycles are in the tie
-pub waiting : {C : Type 0} (code : Code) (p : Pipe C) (m : Machine) (w : Wait) (d : Counted) (stall : ℕ) (counts : Counted) → Holds code p m
-    → (let q : Pipe C = record p { wait = w; counts = d } in let n : Machine = record m { stall = stall; counts = counts } in Holds code q n)
-waiting code p m w d stall counts h = record {
+-- what is behind the word in ALU does not depend on what is before it
+pub behind_alike : {C : Type 0} (p : Pipe C) (m : Machine) (next : Fetch) (fetch rf : Latched) (psw : Psw) (chain : Chain) (wait : Wait) (counts : Counted)
+    (shown : Latches) (next' : Fetch) (fetch' rf' : Option Fetch) (psw' : Psw) (chain' : Chain) (stall : ℕ) (counts' : Counted) (shown' : Latches)
+    → IsBehind p m
+    → (let q : Pipe C = record p { next = next; fetch = fetch; rf = rf; psw = psw; chain = chain; wait = wait; counts = counts; shown = shown } in
+    let n : Machine = record m { next = next'; fetch = fetch'; rf = rf'; psw = psw'; chain = chain'; stall = stall; counts = counts'; shown = shown' } in
+    IsBehind q n)
+behind_alike p m next fetch rf psw chain wait counts shown next' fetch' rf' psw' chain' stall counts' shown' h =
+    record { mem = h.mem; wb = h.wb; to = h.to; within = h.within; file = h.file; regs = h.regs; slot = h.slot }
+
+-- neither the wait nor the counts and stalled cycles are in the tie, and what is shown stands alone
+pub showing_alike : {C : Type 0} (code : Code) (p : Pipe C) (m : Machine) (w : Wait) (d : Counted) (shown : Latches) (stall : ℕ) (counts : Counted)
+    (shown' : Latches) → shown ≡ shown' → Holds code p m
+    → (let q : Pipe C = record p { wait = w; counts = d; shown = shown } in
+    let n : Machine = record m { stall = stall; counts = counts; shown = shown' } in Holds code q n)
+showing_alike code p m w d shown stall counts shown' e h = record {
   fetch = h.fetch;
   rf = h.rf;
   alu = record { word = h.alu.word; inst = h.alu.inst; a = h.alu.a; b = h.alu.b; result = h.alu.result; md = h.alu.md };
-  behind = record {
-    mem = h.behind.mem;
-    wb = h.behind.wb;
-    to = h.behind.to;
-    within = h.behind.within;
-    file = h.behind.file;
-    regs = h.behind.regs;
-    slot = h.behind.slot;
-  };
+  behind = behind_alike p m p.next p.fetch p.rf p.psw p.chain w d shown m.next m.fetch m.rf m.psw m.chain stall counts shown' h.behind;
   rest = record {
     next = h.rest.next;
     md = h.rest.md;
@@ -40,10 +50,14 @@ waiting code p m w d stall counts h = record {
     psw = h.rest.psw;
     asked = h.rest.asked;
     halted = h.rest.halted;
-    shown = h.rest.shown;
+    shown = e;
     short = h.rest.short;
   };
 }
+
+pub waiting : {C : Type 0} (code : Code) (p : Pipe C) (m : Machine) (w : Wait) (d : Counted) (stall : ℕ) (counts : Counted) → Holds code p m
+    → (let q : Pipe C = record p { wait = w; counts = d } in let n : Machine = record m { stall = stall; counts = counts } in Holds code q n)
+waiting code p m w d stall counts h = showing_alike code p m w d p.shown stall counts m.shown h.rest.shown h
 
 past_either : (b : Bool) (x y : Machine) (l : List ℕ) → x.past ≡ l → y.past ≡ l → (cond b x y).past ≡ l
 past_either true x y l e f = e
@@ -54,7 +68,7 @@ pub past_ended : (code : Code) (c : Machine) → (ended code c).past ≡ c.past
 past_ended code c = past_either c.halted c (turned code c) c.past refl (past_either (is_taken c) (entered c) (decided code c) c.past refl refl)
 
 pub same_code : {C : Type 0} (p p' : Pipe C) → KeepsProgram p p' → code_of_pipe p' ≡ code_of_pipe p
-same_code p p' e = λ k. code_with (code_from inst_of 0 (e.handler k).items) (code_from inst_of 4096 (e.code k).items)
+same_code p p' e = λ k. code_with (code_from inst_of 0 (e.handler k).items) (code_from inst_of CODE_BASE (e.code k).items)
 
 pub keeps_both : {C : Type 0} (p p' p'' : Pipe C) → KeepsProgram p p' → KeepsProgram p' p'' → KeepsProgram p p''
 keeps_both p p' p'' e f = record { code = f.code ∙ e.code; handler = f.handler ∙ e.handler; decoded = f.decoded ∙ e.decoded; input = f.input ∙ e.input }
@@ -64,7 +78,7 @@ module _ {C : Type 0} (holds : C → List ℕ → Type 0) (t : Pipe C) (p : Prog
   m = state_after p h
 
   same_program : code_of_pipe t ≡ code_of p
-  same_program = λ k. code_with (code_from inst_of 0 (s.handler k)) (code_from inst_of 4096 (s.code k))
+  same_program = λ k. code_with (code_from inst_of 0 (s.handler k)) (code_from inst_of CODE_BASE (s.code k))
 
   pub answers : (r : Cycled) → r ≡ answer (code_of_pipe t) t.board.input m request → r ≡ answer_after p h request
   answers r e = e ∙ (λ k. answer (same_program k) (s.input k) m request)

@@ -1,5 +1,5 @@
 -- The rules of a valid plan.
-use Rattle.std.proofs.Common.{◌≡◌, ℕ, ◌+◌, ◌<◌, ◌≤◌, List, length, Some, None, refl, sym, ap, subst, arith, ⊎_elim}
+use Rattle.std.proofs.Common.{◌≡◌, ℕ, ◌+◌, ◌<◌, ◌≤◌, List, length, Some, None, refl, sym, ap, ◌∙◌, subst, cond, nat_eq, arith, ⊎_elim}
 use Rattle.std.proofs.lemmas.Bool.{cases_lt}
 use Rattle.mx_blocks.specs.declared.Block.{Block}
 use Rattle.mx_blocks.specs.declared.Plan.{Plan}
@@ -35,56 +35,21 @@ valid_by_rules block plan k = record {
 pub valid_keeps_rules : ValidKeepsRules
 valid_keeps_rules block plan = (keeps_each block plan, valid_by_rules block plan)
 
+abbrev of_rank : ℕ → Rule
+of_rank n =
+    cond (nat_eq n 1) Once
+    (cond (nat_eq n 2) Terminator
+    (cond (nat_eq n 3) Tail
+    (cond (nat_eq n 4) Order
+    (cond (nat_eq n 5) Delay
+    (cond (nat_eq n 6) LastLoad Room)))))
+
+of_its_rank : (rule : Rule) → of_rank (rank rule) ≡ rule
+of_its_rank Once = refl
+of_its_rank _ = refl
+
 same_rule : (rule other : Rule) → rank rule ≡ rank other → rule ≡ other
-same_rule Once Once e = refl
-same_rule Once Terminator e = absurd (omega arith)
-same_rule Once Tail e = absurd (omega arith)
-same_rule Once Order e = absurd (omega arith)
-same_rule Once Delay e = absurd (omega arith)
-same_rule Once LastLoad e = absurd (omega arith)
-same_rule Once Room e = absurd (omega arith)
-same_rule Terminator Once e = absurd (omega arith)
-same_rule Terminator Terminator e = refl
-same_rule Terminator Tail e = absurd (omega arith)
-same_rule Terminator Order e = absurd (omega arith)
-same_rule Terminator Delay e = absurd (omega arith)
-same_rule Terminator LastLoad e = absurd (omega arith)
-same_rule Terminator Room e = absurd (omega arith)
-same_rule Tail Once e = absurd (omega arith)
-same_rule Tail Terminator e = absurd (omega arith)
-same_rule Tail Tail e = refl
-same_rule Tail Order e = absurd (omega arith)
-same_rule Tail Delay e = absurd (omega arith)
-same_rule Tail LastLoad e = absurd (omega arith)
-same_rule Tail Room e = absurd (omega arith)
-same_rule Order Once e = absurd (omega arith)
-same_rule Order Terminator e = absurd (omega arith)
-same_rule Order Tail e = absurd (omega arith)
-same_rule Order Order e = refl
-same_rule Order Delay e = absurd (omega arith)
-same_rule Order LastLoad e = absurd (omega arith)
-same_rule Order Room e = absurd (omega arith)
-same_rule Delay Once e = absurd (omega arith)
-same_rule Delay Terminator e = absurd (omega arith)
-same_rule Delay Tail e = absurd (omega arith)
-same_rule Delay Order e = absurd (omega arith)
-same_rule Delay Delay e = refl
-same_rule Delay LastLoad e = absurd (omega arith)
-same_rule Delay Room e = absurd (omega arith)
-same_rule LastLoad Once e = absurd (omega arith)
-same_rule LastLoad Terminator e = absurd (omega arith)
-same_rule LastLoad Tail e = absurd (omega arith)
-same_rule LastLoad Order e = absurd (omega arith)
-same_rule LastLoad Delay e = absurd (omega arith)
-same_rule LastLoad LastLoad e = refl
-same_rule LastLoad Room e = absurd (omega arith)
-same_rule Room Once e = absurd (omega arith)
-same_rule Room Terminator e = absurd (omega arith)
-same_rule Room Tail e = absurd (omega arith)
-same_rule Room Order e = absurd (omega arith)
-same_rule Room Delay e = absurd (omega arith)
-same_rule Room LastLoad e = absurd (omega arith)
-same_rule Room Room e = refl
+same_rule rule other e = sym (of_its_rank rule) ∙ ap of_rank e ∙ of_its_rank other
 
 pub verdict_is_one : VerdictIsOne
 verdict_is_one block plan None None v w = refl
@@ -100,21 +65,11 @@ verdict_is_one block plan (Some rule) (Some other) v w = ⊎_elim
 
 pub rank_small : (rule : Rule) → rank rule ≤ 7
 rank_small Once = omega arith
-rank_small Terminator = omega arith
-rank_small Tail = omega arith
-rank_small Order = omega arith
-rank_small Delay = omega arith
-rank_small LastLoad = omega arith
-rank_small Room = omega arith
+rank_small _ = omega arith
 
 pub below_first : (rule : Rule) → rank rule < 1 → ⊥
 below_first Once l = omega arith
-below_first Terminator l = omega arith
-below_first Tail l = omega arith
-below_first Order l = omega arith
-below_first Delay l = omega arith
-below_first LastLoad l = omega arith
-below_first Room l = omega arith
+below_first _ l = omega arith
 
 module _ (block : Block) (plan : Plan) (rule : Rule) where
   -- up to a rule that is kept

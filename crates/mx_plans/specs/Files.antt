@@ -1,6 +1,7 @@
 -- What a plan file says: one line a block, in the order of the blocks.
 use Rattle.std.specs.Prelude.{◌≡◌, ℕ, ◌+◌, Bool, cond, ltb, leb, ◌==◌, ◌||◌, ◌&&◌, List, [], ◌∷◌, ◌++◌, length, map, Option, Some, None, Result, Ok, Err}
 use Rattle.std.specs.List.{slice_split, list_any}
+use Rattle.mx_plans.specs.declared.file.TheConstants.{MOST_ITEMS}
 use Rattle.mx_plans.specs.declared.mark.Mark.{Mark}
 use Rattle.mx_plans.specs.declared.file.PlanLine.{PlanLine}
 use Rattle.mx_plans.specs.declared.file.PlanFault.{PlanFault}
@@ -29,7 +30,7 @@ and_then (Err fault) next = Err fault
 abbrev pub after_word : List Mark → Option Mark → Result (List Mark) PlanFault
 after_word marks None = Err BadWord
 after_word marks (Some mark) =
-    cond (leb 131 (length marks)) (Err TooLong)
+    cond (leb MOST_ITEMS (length marks)) (Err TooLong)
     (cond (is_terminator mark && list_any is_terminator marks) (Err TwoPlaces) (Ok (marks ++ mark ∷ [])))
 
 abbrev pub after_piece : List Mark → List ℕ → Result (List Mark) PlanFault

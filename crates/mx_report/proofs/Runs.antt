@@ -1,5 +1,5 @@
 -- Runs that grow by a cycle, and runs that have halted.
-use Rattle.std.proofs.Common.{◌≡◌, ◌≤◌, ℕ, zero, suc, Bool, true, false, cond, List}
+use Rattle.std.proofs.Common.{◌≡◌, ◌≤◌, ◌+◌, ℕ, zero, suc, Bool, true, false, cond, List}
 use Rattle.std.proofs.Common.{[], ◌∷◌, ◌++◌, option_to_list, append_assoc, append-nil, arith, refl, sym, ap, ◌∙◌, subst, ⊎_elim, true≢false}
 use Rattle.std.specs.Prelude.{min, eqb, nat_lt, Option}
 use Rattle.std.proofs.lemmas.Bool.Decides.{nat_tests}
@@ -15,16 +15,16 @@ use Rattle.mx_turn.proofs.Steps.{after_one_more}
 use Rattle.mx_report.specs.Trace.{trace_line}
 use Rattle.mx_report.specs.Driving.{trace_text}
 
-turned_halted : (code : Code) (c : Machine) → (turned code c).halted ≡ c.halted
-turned_halted code c = ⊎_elim
-    (λ t. ap (λ (m : Machine). m.halted) (cond-true (is_taken c) (entered c) (decided code c) t))
-    (λ t. ap (λ (m : Machine). m.halted) (cond-false (is_taken c) (entered c) (decided code c) t))
-    (cases_Bool (is_taken c))
-
-ended_halted : (code : Code) (c : Machine) → (ended code c).halted ≡ c.halted
-ended_halted code c = ⊎_elim
-    (λ h. ap (λ (m : Machine). m.halted) (cond-true c.halted c (turned code c) h))
-    (λ h. ap (λ (m : Machine). m.halted) (cond-false c.halted c (turned code c) h) ∙ turned_halted code c)
+-- the end of a turn keeps what neither an interrupt nor a decision changes
+pub ended_same : {A : Type 0} (field : Machine → A) (code : Code) (c : Machine) → field (entered c) ≡ field c → field (decided code c) ≡ field c
+    → field (ended code c) ≡ field c
+ended_same field code c entering deciding = ⊎_elim
+    (λ h. ap field (cond-true c.halted c (turned code c) h))
+    (λ h. ap field (cond-false c.halted c (turned code c) h)
+    ∙ ⊎_elim
+    (λ t. ap field (cond-true (is_taken c) (entered c) (decided code c) t) ∙ entering)
+    (λ t. ap field (cond-false (is_taken c) (entered c) (decided code c) t) ∙ deciding)
+    (cases_Bool (is_taken c)))
     (cases_Bool c.halted)
 
 -- a cycle answers whether the machine has halted after it
@@ -34,7 +34,7 @@ answer_halted code input m request = ⊎_elim
     (λ h. ap (λ (r : Cycled). r.halted) (cond-true m.halted _ _ h) ∙ sym h ∙ sym (ap (λ (n : Machine). n.halted) (cond-true m.halted m _ h)))
     (λ h. ⊎_elim
     (λ s. ap (λ (r : Cycled). r.halted) (cond-false m.halted _ _ h ∙ cond-true _ (acted_answer code input (latched request m)) _ s)
-    ∙ sym (ended_halted code (reached code input (latched request m)))
+    ∙ sym (ended_same (λ (n : Machine). n.halted) code (reached code input (latched request m)) refl refl)
     ∙ sym (ap (λ (n : Machine). n.halted) (cond-false m.halted m _ h ∙ cond-true _ (acted resident code input (latched request m)) _ s)))
     (λ s. ap (λ (r : Cycled). r.halted) (cond-false m.halted _ _ h ∙ cond-false _ (acted_answer code input (latched request m)) _ s)
     ∙ sym h
@@ -59,6 +59,17 @@ quiet_console p h (suc k) =
     ∙ ap (λ l. l ++ byte) (quiet_console p h k)
     ∙ append_assoc (console_after p h) (quiet_bytes p h k) byte
 
+-- what no step from n on changes is as it was at n
+pub still : {A : Type 0} (f : ℕ → A) (n : ℕ) → ((m : ℕ) → n ≤ m → f m ≡ f n → f (suc m) ≡ f m) → (m : ℕ) → n ≤ m → f m ≡ f n
+still f n same zero le = let e : zero ≡ n = omega (arith, le) in ap f e
+still f n same (suc m) le = ⊎_elim
+    (λ lt.
+    let before : n ≤ m = omega (arith, lt) in
+    let earlier = still f n same m before in
+    same m before earlier ∙ earlier)
+    (λ ge. let e : suc m ≡ n = omega (arith, ge, le) in ap f e)
+    (cases_lt n (suc m))
+
 module _ (p : Program) (requests : List ℕ) where
   -- the machine after the first n cycles
   abbrev pub state_at : ℕ → Machine
@@ -72,6 +83,19 @@ module _ (p : Program) (requests : List ℕ) where
 
   pub next_console : (n : ℕ) → console_after p (bits requests (suc n)) ≡ console_after p (bits requests n) ++ option_to_list (cycled_at n).byte
   next_console n = one_more_byte p (start (memory_of p)) (bits requests n) (is_requested requests n)
+
+  -- what was sent, with the byte of the next cycle, or with the bytes of cycles without a request
+  module _ (n : ℕ) (old new : List ℕ) (before : old ≡ console_after p (bits requests n)) where
+    pub sent_next : (answer : Cycled) → answer ≡ cycled_at n → new ≡ old ++ option_to_list answer.byte → new ≡ console_after p (bits requests (suc n))
+    sent_next answer answered is = is ∙ (λ k. before k ++ option_to_list (answered k).byte) ∙ sym (next_console n)
+
+    pub sent_quiet : (k : ℕ) → bits requests (k + n) ≡ quiet (bits requests n) k → new ≡ old ++ quiet_bytes p (bits requests n) k
+        → new ≡ console_after p (bits requests (k + n))
+    sent_quiet k are is =
+        is
+        ∙ ap (λ l. l ++ quiet_bytes p (bits requests n) k) before
+        ∙ sym (quiet_console p (bits requests n) k)
+        ∙ ap (console_after p) (sym are)
 
   pub next_halted : (n : ℕ) → (cycled_at n).halted ≡ (state_at (suc n)).halted
   next_halted n = answer_halted (code_of p) p.input (state_at n) (is_requested requests n) ∙ ap (λ (m : Machine). m.halted) (sym (next_state n))
@@ -101,40 +125,24 @@ module _ (p : Program) (requests : List ℕ) where
   -- A machine that has halted stays as it is, sends nothing, and shows nothing.
   module _ (n : ℕ) (halted : (state_at n).halted ≡ true) where
     pub state_still : (m : ℕ) → n ≤ m → state_at m ≡ state_at n
-    state_still zero le = let e : zero ≡ n = omega arith in ap state_at e
-    state_still (suc m) le = ⊎_elim
-        (λ lt. next_state m
-        ∙ ap (λ (s : Machine). cycled resident (code_of p) p.input s (is_requested requests m)) (state_still m (omega (arith, lt)))
-        ∙ cond-true (state_at n).halted (state_at n) _ halted)
-        (λ ge. let e : suc m ≡ n = omega (arith, ge, le) in ap state_at e)
-        (cases_lt n (suc m))
+    state_still = still state_at n (λ m le same.
+        next_state m ∙ cond-true (state_at m).halted (state_at m) _ (ap (λ (s : Machine). s.halted) same ∙ halted))
 
     halted_still : (m : ℕ) → n ≤ m → (state_at m).halted ≡ true
     halted_still m le = ap (λ (s : Machine). s.halted) (state_still m le) ∙ halted
 
-    no_byte : (m : ℕ) → n ≤ m → option_to_list (cycled_at m).byte ≡ []
+    pub no_byte : (m : ℕ) → n ≤ m → option_to_list (cycled_at m).byte ≡ []
     no_byte m le = ap (λ (r : Cycled). option_to_list r.byte) (cond-true (state_at m).halted _ _ (halted_still m le))
 
     pub console_still : (m : ℕ) → n ≤ m → console_after p (bits requests m) ≡ console_after p (bits requests n)
-    console_still zero le = let e : zero ≡ n = omega arith in ap (λ k. console_after p (bits requests k)) e
-    console_still (suc m) le = ⊎_elim
-        (λ lt. let before : n ≤ m = omega (arith, lt) in
-        next_console m
-        ∙ ap (λ l. console_after p (bits requests m) ++ l) (no_byte m before)
-        ∙ append-nil (console_after p (bits requests m))
-        ∙ console_still m before)
-        (λ ge. let e : suc m ≡ n = omega (arith, ge, le) in ap (λ k. console_after p (bits requests k)) e)
-        (cases_lt n (suc m))
+    console_still = still (λ k. console_after p (bits requests k)) n (λ m le same.
+        let sent : List ℕ = console_after p (bits requests m) in
+        next_console m ∙ ap (λ l. sent ++ l) (no_byte m le) ∙ append-nil sent)
 
     pub trace_still : (m : ℕ) → n ≤ m → trace_text p requests m ≡ trace_text p requests n
-    trace_still zero le = let e : zero ≡ n = omega arith in ap (trace_text p requests) e
-    trace_still (suc m) le = ⊎_elim
-        (λ lt. let before : n ≤ m = omega (arith, lt) in
-        ap (λ l. trace_text p requests m ++ l) (cond-true (state_at m).halted [] (shown_line m) (halted_still m before))
-        ∙ append-nil (trace_text p requests m)
-        ∙ trace_still m before)
-        (λ ge. let e : suc m ≡ n = omega (arith, ge, le) in ap (trace_text p requests) e)
-        (cases_lt n (suc m))
+    trace_still = still (trace_text p requests) n (λ m le same.
+        let lines : List ℕ = trace_text p requests m in
+        ap (λ l. lines ++ l) (cond-true (state_at m).halted [] (shown_line m) (halted_still m le)) ∙ append-nil lines)
 
     pub trace_within : (t m : ℕ) → n ≤ m → trace_text p requests (min t m) ≡ trace_text p requests (min t n)
     trace_within t m le = ⊎_elim

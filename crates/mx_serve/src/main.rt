@@ -6,15 +6,10 @@ mod programs;
 mod serving;
 
 use crate::serving::{Served, serve};
-use cmd_answer::Status;
+use cmd_answer::{Status, command_words};
 use lab_request::Command;
 use mx_io::{RealShelf, RealSink};
-use std::env;
-use std::io::ErrorKind;
 use std::process::ExitCode;
-
-/// The exit status where a word is not UTF-8.
-const NOT_TEXT: u8 = 10;
 
 /// The exit status where the request is refused.
 const REFUSED: u8 = 1;
@@ -30,25 +25,18 @@ fn number_of(served: Served) -> u8 {
     }
 }
 
+// The command that the first word names.
+fn command_of(words: &[String]) -> Option<Command> {
+    let word = words.first()?;
+    Command::named(word.as_str())
+}
+
 fn main(rt: HostRuntime) -> ExitCode {
-    let args = match env::args(&rt) {
-        Ok(args) => args,
-        Err(error) => {
-            let code = if error.kind() == ErrorKind::OutOfMemory {
-                Status::Memory.number()
-            } else {
-                NOT_TEXT
-            };
-            return ExitCode::from(code);
-        }
+    let words = match command_words(&rt) {
+        Ok(words) => words,
+        Err(number) => return ExitCode::from(number),
     };
-    // the first word is the program's name
-    let mut words = args.skip(1);
-    let command = match words.next() {
-        Some(word) => Command::named(word.as_str()),
-        None => None,
-    };
-    match command {
+    match command_of(words.as_slice()) {
         Some(command) => {
             let mut shelf = RealShelf::new(&rt);
             let mut out = RealSink::new(&rt);

@@ -6,7 +6,6 @@ pub mod InTask
 pub mod Pauses
 pub mod Cycles
 pub mod Runs
-pub mod Two
 pub mod Images
 pub mod Changes
 pub mod Driven

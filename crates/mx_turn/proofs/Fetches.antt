@@ -3,6 +3,7 @@ use Rattle.std.proofs.Common.{◌≡◌, ℕ, zero, suc, ◌-◌, Bool, true, fa
 use Rattle.std.specs.Prelude.{slice_get, drop, is_some, ◌&&◌}
 use Rattle.std.proofs.lemmas.Bool.{cases_Bool, and_parts}
 use Rattle.std.proofs.lemmas.Bool.Decides.{nat_tests}
+use Rattle.mx_isa.specs.declared.board.TheConstants.{CODE_BASE}
 use Rattle.mx_delay.specs.Delay.{Code}
 use Rattle.mx_icache.specs.Residency.{resident}
 use Rattle.mx_icache.proofs.Fetched.{resident_once_fetched}
@@ -238,9 +239,9 @@ pub window_on_fetches : WindowOnFetches
 window_on_fetches p h =
     let code = code_of p in
     let start = fetches_start (memory_of p) in
-    let same = all_cycles code p.input start (fetch_of 4096, [], refl, tt) h in (
+    let same = all_cycles code p.input start (fetch_of CODE_BASE, [], refl, tt) h in (
       same,
       λ request.
           ap (λ m. answer code p.input m request) same
-          ∙ one_answer code p.input (fetches_after p h) (all_begin code p.input start (fetch_of 4096, [], refl, tt) h) request,
+          ∙ one_answer code p.input (fetches_after p h) (all_begin code p.input start (fetch_of CODE_BASE, [], refl, tt) h) request,
     )

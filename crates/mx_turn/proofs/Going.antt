@@ -1,7 +1,7 @@
 -- Words that are no transfers: they lead to the next word.
 use Rattle.std.proofs.Common.{◌≡◌, ℕ, Bool, false, cond, not, ◌&&◌, Option, Some, None, refl, sym, ap, ◌∙◌, true≢false}
 use Rattle.mx_isa.specs.declared.inst.Inst.{Inst}
-use Rattle.mx_isa.specs.declared.inst.Inst.TheVariants.{Load, Store, Branch, Compute, Addi, MoveFrom, MoveTo, Jspci, Jpc, Jpcrs, Halt}
+use Rattle.mx_isa.specs.declared.inst.Inst.TheVariants.{Branch, Jspci, Jpc, Jpcrs}
 use Rattle.mx_isa.specs.Words.{Words}
 use Rattle.mx_isa.specs.Effect.{Decision, decides, falls_through}
 use Rattle.mx_isa.specs.Views.{is_transfer}
@@ -16,43 +16,20 @@ use Rattle.mx_turn.specs.declared.alu_stage.Decided.{Decided}
 use Rattle.mx_turn.specs.Kept.{aside}
 
 pub goes_on_is : (i : Inst) (at : ℕ) (r : Words) → is_transfer i ≡ false → decides i at r ≡ falls_through
-goes_on_is (Load base d offset) at r e = refl
-goes_on_is (Store base value offset) at r e = refl
 goes_on_is (Branch a b condition s by) at r e = absurd (true≢false e)
-goes_on_is (Compute a d b op) at r e = refl
-goes_on_is (Addi a d imm) at r e = refl
-goes_on_is (MoveFrom d special) at r e = refl
-goes_on_is (MoveTo a special) at r e = refl
 goes_on_is (Jspci a d imm) at r e = absurd (true≢false e)
 goes_on_is Jpc at r e = absurd (true≢false e)
 goes_on_is Jpcrs at r e = absurd (true≢false e)
-goes_on_is Halt at r e = refl
+goes_on_is _ at r e = refl
 
 pub pops_not : (i : Inst) → is_transfer i ≡ false → pops i ≡ false
-pops_not (Load base d offset) e = refl
-pops_not (Store base value offset) e = refl
-pops_not (Branch a b condition s by) e = refl
-pops_not (Compute a d b op) e = refl
-pops_not (Addi a d imm) e = refl
-pops_not (MoveFrom d special) e = refl
-pops_not (MoveTo a special) e = refl
-pops_not (Jspci a d imm) e = refl
 pops_not Jpc e = absurd (true≢false e)
 pops_not Jpcrs e = absurd (true≢false e)
-pops_not Halt e = refl
+pops_not _ e = refl
 
 pub restores_not : (i : Inst) → is_transfer i ≡ false → restores i ≡ false
-restores_not (Load base d offset) e = refl
-restores_not (Store base value offset) e = refl
-restores_not (Branch a b condition s by) e = refl
-restores_not (Compute a d b op) e = refl
-restores_not (Addi a d imm) e = refl
-restores_not (MoveFrom d special) e = refl
-restores_not (MoveTo a special) e = refl
-restores_not (Jspci a d imm) e = refl
-restores_not Jpc e = refl
 restores_not Jpcrs e = absurd (true≢false e)
-restores_not Halt e = refl
+restores_not _ e = refl
 
 unsquashed : (f : Option Fetch) → squash false f ≡ f
 unsquashed None = refl

@@ -5,6 +5,7 @@ use Rattle.std.proofs.lemmas.Bool.{cases_lt, cond-true, cond-false}
 use Rattle.std.proofs.lemmas.Bool.Decides.{nat_tests}
 use Rattle.std.proofs.lemmas.Option.{slice_get_past, unwrap_or-slice_get}
 use Rattle.std.proofs.lemmas.List.{length-append, length-map, length-replicate, get_or_append_left, get_or-append_right}
+use Rattle.mx_isa.specs.declared.board.TheConstants.{CODE_BASE}
 use Rattle.mx_isa.specs.declared.inst.Inst.{Inst}
 use Rattle.mx_code.specs.Decoding.{inst_of}
 use Rattle.mx_delay.specs.Delay.{idle, code_from}
@@ -71,14 +72,14 @@ joined_at xs ys k = ⊎_elim
 abbrev spelled : List ℕ → ℕ → Inst
 spelled words k = unwrap_or (option_and_then inst_of (slice_get words k)) idle
 
-module _ (handler user : List ℕ) (padded : List Inst) (full : length padded ≡ 4096)
-    (is : padded ≡ map what_of handler ++ replicate (4096 - length handler) idle) where
+module _ (handler user : List ℕ) (padded : List Inst) (full : length padded ≡ CODE_BASE)
+    (is : padded ≡ map what_of handler ++ replicate (CODE_BASE - length handler) idle) where
   below : (a : ℕ) → unwrap_or (slice_get padded a) idle ≡ code_from inst_of 0 handler a
   below a =
       let same : a ≡ a - 0 = omega arith in
       let any : leb 0 a ≡ true = grind (arith, nat_tests) in
       ap (λ xs. unwrap_or (slice_get xs a) idle) is
-      ∙ padded_at (map what_of handler) (4096 - length handler) a
+      ∙ padded_at (map what_of handler) (CODE_BASE - length handler) a
       ∙ decoded_at handler a
       ∙ ap (spelled handler) same
       ∙ sym (cond-true (leb 0 a) (spelled handler (a - 0)) idle any)
@@ -88,25 +89,25 @@ module _ (handler user : List ℕ) (padded : List Inst) (full : length padded �
   above true x y = refl
   above false x y = refl
 
-  at_each : (a : ℕ) → code_in (padded ++ map what_of user) a ≡ code_with (code_from inst_of 0 handler) (code_from inst_of 4096 user) a
+  at_each : (a : ℕ) → code_in (padded ++ map what_of user) a ≡ code_with (code_from inst_of 0 handler) (code_from inst_of CODE_BASE user) a
   at_each a =
       joined_at padded (map what_of user) a
       ∙ ap (λ n. cond (leb n a) (unwrap_or (slice_get (map what_of user) (a - n)) idle) (unwrap_or (slice_get padded a) idle)) full
-      ∙ ap (λ x. cond (leb 4096 a) x (unwrap_or (slice_get padded a) idle)) (decoded_at user (a - 4096))
-      ∙ ap (cond (leb 4096 a) (spelled user (a - 4096))) (below a)
-      ∙ above (leb 4096 a) (spelled user (a - 4096)) (code_from inst_of 0 handler a)
+      ∙ ap (λ x. cond (leb CODE_BASE a) x (unwrap_or (slice_get padded a) idle)) (decoded_at user (a - CODE_BASE))
+      ∙ ap (cond (leb CODE_BASE a) (spelled user (a - CODE_BASE))) (below a)
+      ∙ above (leb CODE_BASE a) (spelled user (a - CODE_BASE)) (code_from inst_of 0 handler a)
 
-  joined_is : code_in (padded ++ map what_of user) ≡ code_with (code_from inst_of 0 handler) (code_from inst_of 4096 user)
+  joined_is : code_in (padded ++ map what_of user) ≡ code_with (code_from inst_of 0 handler) (code_from inst_of CODE_BASE user)
   joined_is = λ i a. at_each a i
 
 -- the words of a handler, filled up to 4,096 instructions, and those of the user behind them
-pub code_is : (handler user : List ℕ) (insts : List Inst) → length handler ≤ 4096
-    → insts ≡ (map what_of handler ++ replicate (4096 - length handler) idle) ++ map what_of user
-    → code_in insts ≡ code_with (code_from inst_of 0 handler) (code_from inst_of 4096 user)
+pub code_is : (handler user : List ℕ) (insts : List Inst) → length handler ≤ CODE_BASE
+    → insts ≡ (map what_of handler ++ replicate (CODE_BASE - length handler) idle) ++ map what_of user
+    → code_in insts ≡ code_with (code_from inst_of 0 handler) (code_from inst_of CODE_BASE user)
 code_is handler user insts short is =
-    let padded : List Inst = map what_of handler ++ replicate (4096 - length handler) idle in
-    let full : length padded ≡ 4096 =
-    length-append (map what_of handler) (replicate (4096 - length handler) idle)
-    ∙ (λ i. length-map handler what_of i + length-replicate (4096 - length handler) idle i)
+    let padded : List Inst = map what_of handler ++ replicate (CODE_BASE - length handler) idle in
+    let full : length padded ≡ CODE_BASE =
+    length-append (map what_of handler) (replicate (CODE_BASE - length handler) idle)
+    ∙ (λ i. length-map handler what_of i + length-replicate (CODE_BASE - length handler) idle i)
     ∙ omega (arith, short) in
     ap code_in is ∙ joined_is handler user padded full refl

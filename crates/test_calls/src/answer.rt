@@ -1,5 +1,6 @@
 //! Files read, printed and written.
-use cmd_answer::{FileKind, Reply, Status, finish, read_file};
+use crate::same::same;
+use cmd_answer::{FileKind, Reply, Status, finish, read_file, replied};
 use mx_io::{MemoryShelf, MemorySink, Shelf};
 use std::alloc::Global;
 use std::test::Fail;
@@ -14,9 +15,9 @@ fn copied(
     to: &str,
 ) -> Result<Status, Fail> {
     let name = String::from_str(alloc, to)?;
-    let reply = match read_file(alloc, shelf, kind, from)? {
+    let reply = match read_file(alloc, shelf, kind, from) {
         Ok(bytes) => Reply::Writes { name, bytes },
-        Err(reply) => reply,
+        Err(failure) => replied(Err(failure))?,
     };
     Ok(finish(reply, shelf, out))
 }
@@ -62,11 +63,11 @@ fn copies(alloc: Global) -> Result<(Option<usize>, bool, bool), Fail> {
 
 #[test]
 fn reads_prints_and_writes(rt: HostRuntime) -> Result<(), Fail> {
-    assert_eq!(rt; copies(rt.alloc())?, (None, true, true));
+    same(&rt, &copies(rt.alloc())?, &(None, true, true));
     Ok(())
 }
 
 #[test]
 fn a_status_has_its_number(rt: HostRuntime) {
-    assert_eq!(rt; Status::BadEvents.number(), 8);
+    same(&rt, &Status::BadEvents.number(), &8);
 }

@@ -1,4 +1,5 @@
 //! What texts assemble to, and their faults.
+use crate::same::{same, same_for};
 use mx_asm::{assemble, assemble_at};
 use mx_lines::{AsmError, Fault};
 use mx_source::{Source, Value};
@@ -29,8 +30,8 @@ fn counts(alloc: Global, text: &[u8]) -> Result<(usize, usize, Option<u32>), Fai
 
 #[test]
 fn assembles_a_text(rt: HostRuntime) -> Result<(), Fail> {
-    assert_eq!(rt; counts(rt.alloc(), TEXT)?, (3, 2, Some(2)));
-    assert_eq!(rt; counts(rt.alloc(), CANONICAL)?, (3, 2, Some(1)));
+    same(&rt, &counts(rt.alloc(), TEXT)?, &(3, 2, Some(2)));
+    same(&rt, &counts(rt.alloc(), CANONICAL)?, &(3, 2, Some(1)));
     Ok(())
 }
 
@@ -46,7 +47,7 @@ fn lines_and_words(alloc: Global) -> Result<(bool, bool), Fail> {
 
 #[test]
 fn keeps_lines_and_words(rt: HostRuntime) -> Result<(), Fail> {
-    assert_eq!(rt; lines_and_words(rt.alloc())?, (true, true));
+    same(&rt, &lines_and_words(rt.alloc())?, &(true, true));
     Ok(())
 }
 
@@ -54,7 +55,7 @@ fn keeps_lines_and_words(rt: HostRuntime) -> Result<(), Fail> {
 fn assembles_at_an_address(rt: HostRuntime) -> Result<(), Fail> {
     let text = b".data\n.space 2\nhere: .word here\n";
     let source = assemble_at(rt.alloc(), text, 1000, 1003)?;
-    assert_eq!(rt; source.user_data().len(), 3);
+    same(&rt, &source.user_data().len(), &3);
     Ok(())
 }
 
@@ -89,7 +90,12 @@ static FAULTY: [(&[u8], u32, Fault); 13] = [
 #[test]
 fn names_the_first_fault(rt: HostRuntime) {
     for (text, line, fault) in FAULTY.iter() {
-        assert_eq!(rt; assembled(rt.alloc(), text), Err((*line, *fault)));
+        same_for(
+            &rt,
+            text,
+            &assembled(rt.alloc(), text),
+            &Err((*line, *fault)),
+        );
     }
 }
 
@@ -130,7 +136,12 @@ static LONG: [(&[u8], u32, &[u8], Result<usize, (u32, Fault)>); 4] = [
 #[test]
 fn counts_instructions_and_the_bytes_of_a_line(rt: HostRuntime) -> Result<(), Fail> {
     for (piece, count, end, wanted) in LONG.iter() {
-        assert_eq!(rt; assembled_of(rt.alloc(), piece, *count, end)?, *wanted);
+        same_for(
+            &rt,
+            piece,
+            &assembled_of(rt.alloc(), piece, *count, end)?,
+            wanted,
+        );
     }
     Ok(())
 }
@@ -176,7 +187,7 @@ fn printed(alloc: Global, text: &[u8]) -> Result<Vec<u8>, Fail> {
 #[test]
 fn prints_and_reads_back(rt: HostRuntime) -> Result<(), Fail> {
     for (text, wanted) in TEXTS.iter() {
-        assert_eq!(rt; printed(rt.alloc(), text)?.as_slice(), *wanted);
+        same_for(&rt, text, &printed(rt.alloc(), text)?.as_slice(), wanted);
     }
     Ok(())
 }
@@ -195,6 +206,6 @@ fn reads_back(alloc: Global) -> Result<bool, Fail> {
 
 #[test]
 fn reads_back_the_canonical_text(rt: HostRuntime) -> Result<(), Fail> {
-    assert!(rt; reads_back(rt.alloc())?);
+    same(&rt, &reads_back(rt.alloc())?, &true);
     Ok(())
 }

@@ -1,4 +1,5 @@
 //! The data memory.
+use crate::same::same;
 use mx_board::Board;
 use mx_io::Memory;
 
@@ -25,7 +26,17 @@ fn is_right(board: &mut Board, step: Step) -> bool {
     }
 }
 
-const SYSTEM: [Step; 9] = [
+/// The number of the first step that gives anything else.
+fn first_wrong(board: &mut Board, steps: &[Step]) -> Option<usize> {
+    for (number, step) in steps.iter().enumerate() {
+        if !is_right(board, *step) {
+            return Some(number);
+        }
+    }
+    None
+}
+
+static SYSTEM: [Step; 9] = [
     Step::Store(254, 9, false, None),
     Step::Load(254, false, 9),
     Step::Load(254, true, 0),
@@ -40,13 +51,11 @@ const SYSTEM: [Step; 9] = [
 #[test]
 fn system_words_are_the_systems(rt: HostRuntime) -> Result<(), Memory> {
     let mut board = Board::new(rt.alloc(), [5, 6].as_slice(), None)?;
-    for (number, step) in SYSTEM.iter().enumerate() {
-        assert!(rt; is_right(&mut board, *step), "step {number}");
-    }
+    same(&rt, &first_wrong(&mut board, SYSTEM.as_slice()), &None);
     Ok(())
 }
 
-const INPUT: [Step; 5] = [
+static INPUT: [Step; 5] = [
     Step::Load(254, true, 97),
     Step::Load(254, false, 0),
     Step::Load(254, true, 98),
@@ -57,8 +66,6 @@ const INPUT: [Step; 5] = [
 #[test]
 fn the_input_is_taken_byte_by_byte(rt: HostRuntime) -> Result<(), Memory> {
     let mut board = Board::new(rt.alloc(), [].as_slice(), Some(b"ab".as_slice()))?;
-    for (number, step) in INPUT.iter().enumerate() {
-        assert!(rt; is_right(&mut board, *step), "step {number}");
-    }
+    same(&rt, &first_wrong(&mut board, INPUT.as_slice()), &None);
     Ok(())
 }

@@ -1,4 +1,5 @@
 //! Words of instructions, and images.
+use crate::same::same;
 use mx_code::{Image, decode, encode};
 use mx_isa::{Cond, Inst, Op, Reg};
 use std::alloc::Global;
@@ -16,20 +17,20 @@ fn respelled(word: u32) -> Option<u32> {
 
 #[test]
 fn spells_both_ways(rt: HostRuntime) {
-    for word in WORDS {
-        assert_eq!(rt; respelled(word), Some(word));
+    for word in WORDS.iter() {
+        same(&rt, &respelled(*word), &Some(*word));
     }
 }
 
 #[test]
 fn other_words_spell_nothing(rt: HostRuntime) {
     for word in [0x4000_0800, 0xe000_0001] {
-        assert_eq!(rt; decode(word), None);
+        same(&rt, &decode(word), &None);
     }
 }
 
 // The examples of the table, and the words of the interrupt handler.
-const WORDS: [u32; 35] = [
+static WORDS: [u32; 35] = [
     0xc002_0048,
     0x8802_00ff,
     0xe000_0000,
@@ -90,7 +91,7 @@ fn knows_the_table(rt: HostRuntime) -> Result<(), Fail> {
     let (Some(r1), Some(r2)) = (Reg::new(1), Reg::new(2)) else {
         return Err("r1 and r2".into());
     };
-    assert_eq!(rt; table_words(r1, r2), [0x0845_0000, 0x4040_2000]);
+    same(&rt, &table_words(r1, r2), &[0x0845_0000, 0x4040_2000]);
     Ok(())
 }
 
@@ -107,6 +108,6 @@ fn image_of(alloc: Global, count: usize) -> Result<(usize, bool), Fail> {
 
 #[test]
 fn bounds_an_image(rt: HostRuntime) -> Result<(), Fail> {
-    assert_eq!(rt; image_of(rt.alloc(), 60_000)?, (60_000, true));
+    same(&rt, &image_of(rt.alloc(), 60_000)?, &(60_000, true));
     Ok(())
 }

@@ -1,30 +1,40 @@
 //! The caches on given and on drawn fetches.
+use crate::same::same;
 use mx_icache::{FetchCache, LineCache, PlainCache, Set};
 
-/// Nine lines of one set, and then words of them again.
-const FETCHES: [u32; 15] = [
-    0, 64, 128, 192, 256, 320, 384, 448, 512, 0, 128, 129, 130, 64, 128,
+/// Nine lines of one set, and then words of them again, of which only the third line and its neighbour are held.
+static FETCHES: [(u32, bool); 15] = [
+    (0, false),
+    (64, false),
+    (128, false),
+    (192, false),
+    (256, false),
+    (320, false),
+    (384, false),
+    (448, false),
+    (512, false),
+    (0, false),
+    (128, true),
+    (129, true),
+    (130, false),
+    (64, false),
+    (128, false),
 ];
 
-/// Which of them are held: only the third line and its neighbour.
-const HELD: [bool; 15] = [
-    false, false, false, false, false, false, false, false, false, false, true, true, false, false,
-    false,
-];
-
-/// Which of them a cache holds.
-fn held<C: FetchCache>(mut cache: C) -> [bool; 15] {
-    let mut held = [false; 15];
-    for (answer, address) in held.iter_mut().zip(FETCHES) {
-        *answer = cache.fetch(address);
+/// The number of the first of them that a cache answers otherwise.
+fn first_wrong<C: FetchCache>(mut cache: C) -> Option<usize> {
+    for (number, (address, held)) in FETCHES.iter().enumerate() {
+        if cache.fetch(*address) != *held {
+            return Some(number);
+        }
     }
-    held
+    None
 }
 
 #[test]
 fn the_oldest_line_is_replaced(rt: HostRuntime) {
-    assert_eq!(rt; held(PlainCache::new()), HELD);
-    assert_eq!(rt; held(LineCache::new()), HELD);
+    same(&rt, &first_wrong(PlainCache::new()), &None);
+    same(&rt, &first_wrong(LineCache::new()), &None);
 }
 
 /// The first set behind nine lines of it: the tags, the masks, and the way that the next line goes to.
@@ -43,7 +53,7 @@ fn lines_go_round_the_ways(rt: HostRuntime) {
         cache.fetch(64 * i);
     }
     let LineCache { sets } = &cache;
-    assert_eq!(rt; fields(&sets[0]), WAYS);
+    same(&rt, &fields(&sets[0]), &WAYS);
 }
 
 /// The number of the first of so many drawn fetches that the two caches answer otherwise.
@@ -63,5 +73,5 @@ fn first_difference(count: u32) -> Option<u32> {
 
 #[test]
 fn both_caches_answer_alike(rt: HostRuntime) {
-    assert_eq!(rt; first_difference(4000), None);
+    same(&rt, &first_difference(4000), &None);
 }

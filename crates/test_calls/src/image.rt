@@ -1,4 +1,5 @@
 //! Image files of both versions.
+use crate::same::same;
 use mx_image::{ImageError, read_file, read_image, write_file, write_image};
 use std::alloc::{AllocError, Global};
 use std::test::Fail;
@@ -34,8 +35,8 @@ fn rewritten(alloc: Global) -> Result<Vec<u8>, Fail> {
 
 #[test]
 fn reads_and_writes_version_1(rt: HostRuntime) -> Result<(), Fail> {
-    assert_eq!(rt; reads_words(rt.alloc())?, [true; 2]);
-    assert_eq!(rt; rewritten(rt.alloc())?.as_slice(), HELLO.as_slice());
+    same(&rt, &reads_words(rt.alloc())?, &[true; 2]);
+    same(&rt, &rewritten(rt.alloc())?.as_slice(), &HELLO.as_slice());
     Ok(())
 }
 
@@ -43,7 +44,7 @@ fn reads_and_writes_version_1(rt: HostRuntime) -> Result<(), Fail> {
 fn a_cut_image_is_refused(rt: HostRuntime) {
     for n in 0..28 {
         let fault = read_image(rt.alloc(), &HELLO[..n]).err();
-        assert_eq!(rt; fault, Some(ImageError::Truncated { at: n as u64 }));
+        same(&rt, &fault, &Some(ImageError::Truncated { at: n as u64 }));
     }
 }
 
@@ -51,7 +52,7 @@ fn a_cut_image_is_refused(rt: HostRuntime) {
 fn one_byte_more_is_refused_in_version_1(rt: HostRuntime) -> Result<(), Fail> {
     let longer = longer(rt.alloc(), &HELLO)?;
     let fault = read_image(rt.alloc(), &longer).err();
-    assert_eq!(rt; fault, Some(ImageError::Trailing { at: 28 }));
+    same(&rt, &fault, &Some(ImageError::Trailing { at: 28 }));
     Ok(())
 }
 
@@ -76,7 +77,7 @@ fn rewritten_2(alloc: Global) -> Result<(usize, [bool; 2]), Fail> {
 
 #[test]
 fn reads_and_writes_version_2(rt: HostRuntime) -> Result<(), Fail> {
-    assert_eq!(rt; rewritten_2(rt.alloc())?, (36, [true; 2]));
+    same(&rt, &rewritten_2(rt.alloc())?, &(36, [true; 2]));
     Ok(())
 }
 
@@ -95,6 +96,6 @@ fn fault_of_longer_2(alloc: Global) -> Result<Option<ImageError>, Fail> {
 #[test]
 fn one_byte_more_is_refused_in_version_2(rt: HostRuntime) -> Result<(), Fail> {
     let fault = fault_of_longer_2(rt.alloc())?;
-    assert_eq!(rt; fault, Some(ImageError::Trailing { at: 36 }));
+    same(&rt, &fault, &Some(ImageError::Trailing { at: 36 }));
     Ok(())
 }

@@ -1,4 +1,5 @@
 //! The objects in memory, and the edge to the system.
+use crate::same::same;
 use mx_io::{
     MemoryShelf, MemorySink, RealShelf, RealSink, Shelf, ShelfFault, Sink, SinkFault, SliceSink,
     put_all,
@@ -40,6 +41,17 @@ fn is_right(alloc: Global, shelf: &mut MemoryShelf, step: &Step) -> bool {
     }
 }
 
+/// The number of the first step that gives anything else, on an empty shelf.
+fn first_wrong_step(alloc: Global, steps: &[Step]) -> Option<usize> {
+    let mut shelf = MemoryShelf::new(alloc);
+    for (number, step) in steps.iter().enumerate() {
+        if !is_right(alloc, &mut shelf, step) {
+            return Some(number);
+        }
+    }
+    None
+}
+
 static HELD: [Step; 7] = [
     Step::Add("a", b"one"),
     Step::Add("a", b"other"),
@@ -62,18 +74,16 @@ static FAILING: [Step; 7] = [
 
 #[test]
 fn a_shelf_in_memory_reads_what_it_holds(rt: HostRuntime) {
-    let mut shelf = MemoryShelf::new(rt.alloc());
-    for (number, step) in HELD.iter().enumerate() {
-        assert!(rt; is_right(rt.alloc(), &mut shelf, step), "step {number}");
-    }
+    same(&rt, &first_wrong_step(rt.alloc(), HELD.as_slice()), &None);
 }
 
 #[test]
 fn a_shelf_in_memory_fails_where_it_is_told_to(rt: HostRuntime) {
-    let mut shelf = MemoryShelf::new(rt.alloc());
-    for (number, step) in FAILING.iter().enumerate() {
-        assert!(rt; is_right(rt.alloc(), &mut shelf, step), "step {number}");
-    }
+    same(
+        &rt,
+        &first_wrong_step(rt.alloc(), FAILING.as_slice()),
+        &None,
+    );
 }
 
 /// Bytes for a sink, whether they are put until all are taken, and how many are.
@@ -89,7 +99,7 @@ fn put<S: Sink>(sink: &mut S, bytes: &[u8], all: bool) -> Result<usize, SinkFaul
 }
 
 /// The number of the first of the puts that does not end as it should.
-fn first_wrong<S: Sink>(sink: &mut S, puts: &[Piece]) -> Option<usize> {
+fn first_wrong_put<S: Sink>(sink: &mut S, puts: &[Piece]) -> Option<usize> {
     for (number, (bytes, all, wanted)) in puts.iter().enumerate() {
         if put(sink, bytes, *all) != *wanted {
             return Some(number);
@@ -104,16 +114,19 @@ static INTO_MEMORY: [Piece; 3] = [
     (b"fgh", true, Err(SinkFault::Failed)),
 ];
 
+/// The first wrong put into a sink whose fourth one fails, and whether it holds what it should.
+fn put_into_memory(alloc: Global) -> Result<(Option<usize>, bool), Fail> {
+    let mut sink = MemorySink::new(alloc, 2, 7)?;
+    sink.fail_at(4)?;
+    let wrong = first_wrong_put(&mut sink, &INTO_MEMORY);
+    Ok((wrong, sink.written() == b"abcdefg".as_slice()))
+}
+
 #[test]
 fn a_sink_in_memory_takes_pieces_and_fails_where_it_is_told_to(
     rt: HostRuntime,
 ) -> Result<(), Fail> {
-    let mut sink = MemorySink::new(rt.alloc(), 2, 7)?;
-    sink.fail_at(4)?;
-    let wrong = first_wrong(&mut sink, &INTO_MEMORY);
-    let written = sink.written() == b"abcdefg".as_slice();
-    drop(sink);
-    assert_eq!(rt; (wrong, written), (None, true));
+    same(&rt, &put_into_memory(rt.alloc())?, &(None, true));
     Ok(())
 }
 
@@ -127,15 +140,15 @@ static INTO_A_SLICE: [Piece; 4] = [
 #[test]
 fn a_sink_over_a_slice_fills_it(rt: HostRuntime) {
     let mut bytes = [0u8; 4];
-    let wrong = first_wrong(&mut SliceSink::new(&mut bytes), &INTO_A_SLICE);
-    assert_eq!(rt; (wrong, bytes), (None, *b"abcd"));
+    let wrong = first_wrong_put(&mut SliceSink::new(&mut bytes), &INTO_A_SLICE);
+    same(&rt, &(wrong, bytes), &(None, *b"abcd"));
 }
 
 #[test]
 fn a_sink_over_a_slice_leaves_the_rest(rt: HostRuntime) {
     let mut bytes = *b"....";
     let taken = SliceSink::new(&mut bytes).put(b"ab");
-    assert_eq!(rt; (taken, bytes), (Ok(2), *b"ab.."));
+    same(&rt, &(taken, bytes), &(Ok(2), *b"ab.."));
 }
 
 /// Whether a file of the system that gets these bytes is read with them, and is too long for a byte less.
@@ -154,7 +167,7 @@ fn written_and_read(rt: &HostRuntime, name: &str, bytes: &[u8]) -> Result<[bool;
 #[test]
 fn the_files_of_the_system_are_read_and_written(rt: HostRuntime) -> Result<(), Fail> {
     let right = written_and_read(&rt, "mx_io_test_file", b"words")?;
-    assert_eq!(rt; right, [true; 2]);
+    same(&rt, &right, &[true; 2]);
     Ok(())
 }
 
@@ -162,19 +175,30 @@ fn the_files_of_the_system_are_read_and_written(rt: HostRuntime) -> Result<(), F
 fn a_file_that_is_not_there_is_not_read(rt: HostRuntime) {
     let mut shelf = RealShelf::new(&rt);
     let failed = Err(ShelfFault::Failed);
-    assert!(rt; answers(rt.alloc(), &mut shelf, "mx_io_no_such_file", 9, failed));
+    same(
+        &rt,
+        &answers(rt.alloc(), &mut shelf, "mx_io_no_such_file", 9, failed),
+        &true,
+    );
 }
 
-// Its bytes are asked for in pieces.
-#[test]
-fn a_long_file_of_the_system_is_read_whole(rt: HostRuntime) -> Result<(), Fail> {
-    let mut bytes = Vec::new(rt.alloc());
+/// Bytes that are asked for in pieces.
+fn long_bytes(alloc: Global) -> Result<Vec<u8>, Fail> {
+    let mut bytes = Vec::new(alloc);
     for n in 0..10_001u32 {
         bytes.push((n % 251) as u8)?;
     }
-    let right = written_and_read(&rt, "mx_io_long_file", &bytes)?;
-    drop(bytes);
-    assert_eq!(rt; right, [true; 2]);
+    Ok(bytes)
+}
+
+fn long_written_and_read(rt: &HostRuntime) -> Result<[bool; 2], Fail> {
+    let bytes = long_bytes(rt.alloc())?;
+    written_and_read(rt, "mx_io_long_file", &bytes)
+}
+
+#[test]
+fn a_long_file_of_the_system_is_read_whole(rt: HostRuntime) -> Result<(), Fail> {
+    same(&rt, &long_written_and_read(&rt)?, &[true; 2]);
     Ok(())
 }
 

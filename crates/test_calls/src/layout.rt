@@ -1,4 +1,6 @@
 //! The layout, by plans that are kept and by plans that are longer than they may be.
+use crate::programs::COUNTS_DOWN;
+use crate::same::same;
 use arrayvec::ArrayVec;
 use mx_asm::assemble;
 use mx_blocks::{Block, Item, Plan};
@@ -51,9 +53,6 @@ fn laid_out<P: Proposer>(alloc: Global, text: &[u8], proposer: &mut P) -> Result
     Ok(layout?)
 }
 
-const COUNTS_DOWN: &[u8] =
-    b"addi r0,#51,r1\naddi r0,#48,r2\nL: st 255[r0],r1\naddi r1,#-1,r1\nbne r1,r2,L\nhalt\n";
-
 /// Whether blocks and statements have these addresses, and how many proposals were rejected and made.
 fn told(layout: Layout, starts: &[u32], links: &[u32]) -> (bool, u32, usize) {
     let right = layout.starts.as_slice() == starts && layout.links.as_slice() == links;
@@ -65,13 +64,17 @@ fn a_valid_proposal_is_kept(rt: HostRuntime) -> Result<(), Fail> {
     let layout = laid_out(rt.alloc(), COUNTS_DOWN, &mut Swaps)?;
     let starts = [4096, 4098, 4103];
     let links = [4096, 4096, 4098, 4098, 4098, 4103, 4104];
-    assert_eq!(rt; told(layout, &starts, &links), (true, 2, 3));
+    same(&rt, &told(layout, &starts, &links), &(true, 2, 3));
     Ok(())
 }
 
 #[test]
 fn a_plan_longer_than_the_padded_one_is_rejected(rt: HostRuntime) -> Result<(), Fail> {
     let layout = laid_out(rt.alloc(), b"addi r0,#1,r1\nhalt\n", &mut WaitsFirst)?;
-    assert_eq!(rt; told(layout, &[4096], &[4096, 4096, 4098]), (true, 1, 1));
+    same(
+        &rt,
+        &told(layout, &[4096], &[4096, 4096, 4098]),
+        &(true, 1, 1),
+    );
     Ok(())
 }

@@ -1,4 +1,5 @@
 //! The tokens of a line.
+use crate::same::{same, same_for};
 use mx_lex::{Kind, LexFault, Lexer, Token};
 
 /// The token of a line with this number, from 0 on.
@@ -13,7 +14,7 @@ fn token(line: &[u8], number: usize) -> Result<Token, LexFault> {
 const EACH_KIND: &[u8] = b"a.1:\t#-0X1f,[9] ;\xff";
 
 /// The tokens of the line above, and from where to where each stands.
-const KINDS: [(Kind, usize, usize); 10] = [
+static KINDS: [(Kind, usize, usize); 10] = [
     (Kind::Name, 0, 3),
     (Kind::Colon, 3, 4),
     (Kind::Hash, 5, 6),
@@ -48,7 +49,7 @@ fn reads_each_kind(rt: HostRuntime) {
             start: *start,
             end: *end,
         };
-        assert_eq!(rt; token(EACH_KIND, number), Ok(wanted));
+        same(&rt, &token(EACH_KIND, number), &Ok(wanted));
     }
 }
 
@@ -72,7 +73,7 @@ fn caps_numbers(rt: HostRuntime) {
             start: 0,
             end: line.len(),
         };
-        assert_eq!(rt; token(line, 0), Ok(wanted));
+        same_for(&rt, line, &token(line, 0), &Ok(wanted));
     }
 }
 
@@ -92,7 +93,7 @@ static FAULTS: [(&[u8], LexFault); 9] = [
 fn stays_at_a_fault(rt: HostRuntime) {
     for (line, fault) in FAULTS.iter() {
         for number in 0..2 {
-            assert_eq!(rt; token(line, number), Err(*fault));
+            same_for(&rt, line, &token(line, number), &Err(*fault));
         }
     }
 }

@@ -40,7 +40,11 @@ mod names;
 #[cfg(test)]
 mod print;
 #[cfg(test)]
+mod programs;
+#[cfg(test)]
 mod requests;
+#[cfg(test)]
+mod same;
 #[cfg(test)]
 mod soak;
 #[cfg(test)]

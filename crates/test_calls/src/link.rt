@@ -1,4 +1,6 @@
 //! The images of small programs.
+use crate::programs::{COUNTDOWN, COUNTS_DOWN};
+use crate::same::same;
 use crate::turns::console_of;
 use arrayvec::ArrayVec;
 use mx_asm::assemble;
@@ -9,9 +11,6 @@ use mx_reorg::ListProposer;
 use mx_validate::Proposer;
 use std::alloc::Global;
 use std::test::Fail;
-
-const COUNTS_DOWN: &[u8] =
-    b"addi r0,#51,r1\naddi r0,#48,r2\nL: st 255[r0],r1\naddi r1,#-1,r1\nbne r1,r2,L\nhalt\n";
 
 const LOADS: &[u8] = b"ld 256[r0],r1\naddi r1,#1,r1\nhalt\n.data\n.word 41\n";
 
@@ -137,21 +136,7 @@ static CASES: [(&[u8], Way, Part, &[u32]); 23] = [
     ),
     (LOADS_AND_ADDS, Way::Copies, Part::Counts, &[0, 0, 0]),
     // Both words of a target are copied into the slots of a branch,
-    (
-        COUNTS_DOWN,
-        Way::Copies,
-        Part::Code,
-        &[
-            0xc002_0033,
-            0xc004_0030,
-            0x8802_00ff,
-            0xc043_ffff,
-            0x0845_0000,
-            0x8802_00ff,
-            0xc043_ffff,
-            0xe000_0000,
-        ],
-    ),
+    (COUNTS_DOWN, Way::Copies, Part::Code, COUNTDOWN),
     (
         COUNTS_DOWN,
         Way::Copies,
@@ -233,12 +218,19 @@ static CASES: [(&[u8], Way, Part, &[u32]); 23] = [
     (COUNTS_DOWN, Way::ReversedCopies, Part::Counts, &[0, 2, 1]),
 ];
 
+/// The number of the first case whose program has other numbers.
+fn first_wrong(alloc: Global) -> Result<Option<usize>, Fail> {
+    for (number, (text, way, part, numbers)) in CASES.iter().enumerate() {
+        if !links_to(alloc, text, *way, *part, numbers)? {
+            return Ok(Some(number));
+        }
+    }
+    Ok(None)
+}
+
 #[test]
 fn small_programs_are_linked(rt: HostRuntime) -> Result<(), Fail> {
-    for (number, (text, way, part, numbers)) in CASES.iter().enumerate() {
-        let right = links_to(rt.alloc(), text, *way, *part, numbers)?;
-        assert!(rt; right, "case {number}");
-    }
+    same(&rt, &first_wrong(rt.alloc())?, &None);
     Ok(())
 }
 
@@ -266,7 +258,7 @@ static ORIGINS: [(&[u8], &[Origin]); 2] = [
 fn words_tell_where_they_come_from(rt: HostRuntime) -> Result<(), Fail> {
     for (text, origins) in ORIGINS.iter() {
         let program = linked(rt.alloc(), text, Way::Copies)?;
-        assert_eq!(rt; program.origin.as_slice(), *origins);
+        same(&rt, &program.origin.as_slice(), origins);
     }
     Ok(())
 }
@@ -281,7 +273,7 @@ fn sent(alloc: Global, text: &[u8], way: Way) -> Result<String, Fail> {
 fn reversed_blocks_send_the_same(rt: HostRuntime) -> Result<(), Fail> {
     for way in [Way::ReversedPlain, Way::ReversedCopies] {
         let console = sent(rt.alloc(), COUNTS_DOWN, way)?;
-        assert_eq!(rt; console.as_str(), "321");
+        same(&rt, &console.as_str(), &"321");
     }
     Ok(())
 }

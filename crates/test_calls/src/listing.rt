@@ -1,4 +1,6 @@
 //! The listing of a linked source.
+use crate::programs::COUNTS_DOWN;
+use crate::same::same;
 use cmd_list::listing;
 use mx_asm::assemble;
 use mx_isa::BOARD;
@@ -6,9 +8,6 @@ use mx_link::link;
 use mx_reorg::ListProposer;
 use std::alloc::Global;
 use std::test::Fail;
-
-const TEXT: &[u8] =
-    b"addi r0,#51,r1\naddi r0,#48,r2\nL: st 255[r0],r1\naddi r1,#-1,r1\nbne r1,r2,L\nhalt\n";
 
 const LISTING: &[u8] = b"\
 00000000 88020001 h\n\
@@ -49,9 +48,9 @@ noops 0\n\
 copies 2\n\
 rejected 0\n";
 
-/// The listing of the text.
+/// The listing of the program.
 fn listed(alloc: Global) -> Result<Vec<u8>, Fail> {
-    let source = assemble(alloc, TEXT)?;
+    let source = assemble(alloc, COUNTS_DOWN)?;
     let _few = source.statements();
     let linked = link(alloc, &source, BOARD, &mut ListProposer)?;
     Ok(listing(alloc, &source, &linked)?)
@@ -60,6 +59,6 @@ fn listed(alloc: Global) -> Result<Vec<u8>, Fail> {
 #[test]
 fn a_loop_whose_words_are_copied(rt: HostRuntime) -> Result<(), Fail> {
     let text = listed(rt.alloc())?;
-    assert_eq!(rt; text.as_slice(), LISTING);
+    same(&rt, &text.as_slice(), &LISTING);
     Ok(())
 }

@@ -1,4 +1,5 @@
 //! The sequential meaning, step by step and as it is told.
+use crate::same::{same, same_for};
 use cmd_answer::{Reply, Status};
 use cmd_meaning::meaning_reply;
 use mx_asm::assemble;
@@ -44,7 +45,7 @@ fn behind_four_steps(alloc: Global, r: Reg) -> Result<(bool, u32, u32, Value), F
 fn a_byte_goes_through(rt: HostRuntime) -> Result<(), Fail> {
     let one = Reg::new(1).ok_or("r1")?;
     let told = behind_four_steps(rt.alloc(), one)?;
-    assert_eq!(rt; told, (true, 2, 0, Value::Int(72)));
+    same(&rt, &told, &(true, 2, 0, Value::Int(72)));
     Ok(())
 }
 
@@ -71,7 +72,7 @@ static TOLD: [(u32, Status, &[u8]); 3] = [
 fn tells_how_a_run_stands(rt: HostRuntime) -> Result<(), Fail> {
     for (steps, status, text) in TOLD.iter() {
         let told = told(rt.alloc(), *steps, text)?;
-        assert_eq!(rt; told, (*status, true), "{steps} steps");
+        same_for(&rt, steps, &told, &(*status, true));
     }
     Ok(())
 }

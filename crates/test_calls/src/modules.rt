@@ -1,4 +1,5 @@
 //! Texts that import and export labels, joined to one source.
+use crate::same::same;
 use mx_module::Joiner;
 use std::alloc::Global;
 use std::test::Fail;
@@ -20,6 +21,6 @@ fn joined(alloc: Global) -> Result<Vec<u8>, Fail> {
 
 #[test]
 fn joins_two_texts(rt: HostRuntime) -> Result<(), Fail> {
-    assert_eq!(rt; joined(rt.alloc())?.as_slice(), PROGRAM);
+    same(&rt, &joined(rt.alloc())?.as_slice(), &PROGRAM);
     Ok(())
 }

@@ -1,4 +1,5 @@
 //! Names that instructions read and write.
+use crate::same::same;
 use mx_depend::independent;
 use mx_isa::{Inst, Op, Place, Reg};
 use std::test::Fail;
@@ -32,20 +33,20 @@ fn tells_names(rt: HostRuntime) -> Result<(), Fail> {
         b: Reg::ZERO,
         op: Op::Mstep,
     };
-    assert_eq!(rt; kinds(&load), [true, true, false, false]);
+    same(&rt, &kinds(&load), &[true, true, false, false]);
     // r1; r0 is no name; MD
     let names = [
         feeds(&load, &step),
         load.reads().meets(step.writes()),
         feeds(&step, &step),
     ];
-    assert_eq!(rt; names, [true, false, true]);
+    same(&rt, &names, &[true, false, true]);
     Ok(())
 }
 
 #[test]
 fn data_words_begin_at_256(rt: HostRuntime) {
-    assert_eq!(rt; Place::board().user_data, 256);
+    same(&rt, &Place::board().user_data, &256);
 }
 
 #[test]
@@ -55,7 +56,7 @@ fn loads_of_a_source_with_input_keep_their_order(rt: HostRuntime) -> Result<(), 
     };
     let (first, second) = (load(Reg::ZERO, one, 256), load(three, two, 0));
     for (input, wanted) in [(false, true), (true, false)] {
-        assert_eq!(rt; independent(&first, &second, input), wanted);
+        same(&rt, &independent(&first, &second, input), &wanted);
     }
     Ok(())
 }

@@ -1,4 +1,5 @@
 //! Canonical text.
+use crate::same::same;
 use indexmap::IndexMap;
 use mx_isa::{Inst, Op, Reg};
 use mx_source::{Label, Name, Source, Statement, Value};
@@ -30,9 +31,10 @@ fn printed(alloc: Global) -> Result<Vec<u8>, Fail> {
 #[test]
 fn prints_each_part(rt: HostRuntime) -> Result<(), Fail> {
     let text = printed(rt.alloc())?;
-    assert_eq!(rt;
-        text.as_slice(),
-        b".input\nadd r1,r0,r1\nhalt\n.data\nword:\n.word 7\n".as_slice()
+    same(
+        &rt,
+        &text.as_slice(),
+        &b".input\nadd r1,r0,r1\nhalt\n.data\nword:\n.word 7\n".as_slice(),
     );
     Ok(())
 }

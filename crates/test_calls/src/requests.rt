@@ -1,4 +1,5 @@
 //! Files of interrupt cycles, up to as many as there may be, and one more.
+use crate::same::{same, same_for};
 use mx_board::{EventError, Requests};
 use mx_io::Memory;
 use std::alloc::Global;
@@ -19,20 +20,20 @@ fn numbers_stand_one_a_line(rt: HostRuntime) -> Result<(), Fail> {
     let text = b" 7\r\n\t\n\n0012 \t\n4294967295";
     let requests = Requests::parse(rt.alloc(), text.as_slice())?;
     let right = are(&requests, &[7, 12, 4_294_967_295], [7, 4_294_967_295, 11]);
-    assert_eq!(rt; right, [true; 2]);
+    same(&rt, &right, &[true; 2]);
     Ok(())
 }
 
 #[test]
 fn requests_are_those_given(rt: HostRuntime) -> Result<(), Memory> {
     let requests = Requests::of(rt.alloc(), [3, 8].as_slice())?;
-    assert_eq!(rt; are(&requests, &[3, 8], [3, 8, 4]), [true; 2]);
+    same(&rt, &are(&requests, &[3, 8], [3, 8, 4]), &[true; 2]);
     Ok(())
 }
 
 #[test]
 fn there_may_be_no_requests(rt: HostRuntime) {
-    assert!(rt; Requests::none(rt.alloc()).list().is_empty());
+    same(&rt, &Requests::none(rt.alloc()).list().is_empty(), &true);
 }
 
 /// The fault of a file that has these bytes and an end, if it has one.
@@ -55,7 +56,7 @@ static FAULTS: [(&[u8], EventError); 4] = [
 #[test]
 fn the_first_faulty_line_is_named(rt: HostRuntime) -> Result<(), Fail> {
     for (bytes, wanted) in FAULTS.iter() {
-        assert_eq!(rt; fault(rt.alloc(), b"", bytes)?, Some(*wanted), "{bytes:?}");
+        same_for(&rt, bytes, &fault(rt.alloc(), b"", bytes)?, &Some(*wanted));
     }
     Ok(())
 }
@@ -86,7 +87,7 @@ fn fault_behind_most(alloc: Global, end: &[u8]) -> Result<Option<EventError>, Fa
 #[test]
 fn there_are_at_most_65_536_numbers(rt: HostRuntime) -> Result<(), Fail> {
     for (end, wanted) in ENDS.iter() {
-        assert_eq!(rt; fault_behind_most(rt.alloc(), end)?, *wanted, "{end:?}");
+        same_for(&rt, end, &fault_behind_most(rt.alloc(), end)?, wanted);
     }
     Ok(())
 }

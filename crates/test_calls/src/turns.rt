@@ -1,4 +1,6 @@
 //! Worked runs, on images by hand.
+use crate::programs::COUNTDOWN;
+use crate::same::{same, same_for};
 use mx_code::Image;
 use mx_icache::LineCache;
 use mx_isa::Reg;
@@ -8,18 +10,6 @@ use std::test::Fail;
 
 /// `addi r0,#72,r1 / st 255[r0],r1 / halt`
 const HELLO: &[u32] = &[0xc002_0048, 0x8802_00ff, 0xe000_0000];
-
-/// A loop that counts down to `1`, its two words copied into the slots of its squashing branch.
-const COUNTDOWN: &[u32] = &[
-    0xc002_0033,
-    0xc004_0030,
-    0x8802_00ff,
-    0xc043_ffff,
-    0x0845_0000,
-    0x8802_00ff,
-    0xc043_ffff,
-    0xe000_0000,
-];
 
 /// `ld 256[r0],r1 / add r1,r0,r2 / halt`, a reader in the slot of a load.
 const READER: &[u32] = &[0x8002_0100, 0x4040_2000, 0xe000_0000];
@@ -324,7 +314,7 @@ static RUNS: [(Run, [u64; 10], &str); 13] = [
 fn runs_end_as_worked_out(rt: HostRuntime) -> Result<(), Fail> {
     for (run, numbers, console) in RUNS.iter() {
         let told = outcome(rt.alloc(), run, console)?;
-        assert_eq!(rt; told, (*numbers, true));
+        same(&rt, &told, &(*numbers, true));
     }
     Ok(())
 }
@@ -338,7 +328,7 @@ static TAKEN: [(&[u32], Requests, &[u32]); 2] = [
 fn requests_are_taken_one_after_the_other(rt: HostRuntime) -> Result<(), Fail> {
     for (code, requests, cycles) in TAKEN.iter() {
         let ran = run_of(rt.alloc(), code, &[], *requests, 1000)?;
-        assert_eq!(rt; ran.taken.as_slice(), *cycles);
+        same_for(&rt, code, &ran.taken.as_slice(), cycles);
     }
     Ok(())
 }
@@ -376,7 +366,7 @@ fn product(alloc: Global, requests: Requests, cycles: &[u32]) -> Result<([u64; 1
 fn multiplication_steps_survive_interrupts(rt: HostRuntime) -> Result<(), Fail> {
     for (requests, numbers, cycles) in PRODUCTS.iter() {
         let told = product(rt.alloc(), *requests, cycles)?;
-        assert_eq!(rt; told, (*numbers, true));
+        same(&rt, &told, &(*numbers, true));
     }
     Ok(())
 }
@@ -391,6 +381,6 @@ fn latches_show_the_last_turn(rt: HostRuntime) -> Result<(), Fail> {
     }
     let told = (hello.latches(), hello.inputs());
     drop(hello);
-    assert_eq!(rt; told, (SEVENTH, 0));
+    same(&rt, &told, &(SEVENTH, 0));
     Ok(())
 }

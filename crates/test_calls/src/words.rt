@@ -1,4 +1,5 @@
 //! Words of a command with two options and one name, and numbers.
+use crate::same::same_for;
 use cmd_line::{Read, Shape, number_within, read_words};
 use std::alloc::{AllocError, Global};
 use std::test::Fail;
@@ -79,7 +80,7 @@ static OF_RUN: [(&[&str], &str); 11] = [
 #[test]
 fn options_stand_before_or_after_names(rt: HostRuntime) -> Result<(), Fail> {
     for (texts, wanted) in OF_RUN.iter() {
-        assert_eq!(rt; of_run(rt.alloc(), texts)?.as_str(), *wanted, "{texts:?}");
+        same_for(&rt, texts, &of_run(rt.alloc(), texts)?.as_str(), wanted);
     }
     Ok(())
 }
@@ -89,7 +90,7 @@ static NAMES: [(&[&str], &str); 3] = [(&["-"], "/-"), (&[""], "/"), (&["--", "-x
 #[test]
 fn one_dash_the_empty_word_and_all_after_two_dashes_are_names(rt: HostRuntime) -> Result<(), Fail> {
     for (texts, wanted) in NAMES.iter() {
-        assert_eq!(rt; of_bare(rt.alloc(), texts)?.as_str(), *wanted);
+        same_for(&rt, texts, &of_bare(rt.alloc(), texts)?.as_str(), wanted);
     }
     Ok(())
 }
@@ -109,6 +110,6 @@ static NUMBERS: [(&str, Option<u32>); 9] = [
 #[test]
 fn numbers_are_digits_with_at_most_one_plus(rt: HostRuntime) {
     for (text, number) in NUMBERS.iter() {
-        assert_eq!(rt; number_within(text, 0, 12), *number, "{text}");
+        same_for(&rt, text, &number_within(text, 0, 12), number);
     }
 }

@@ -1,5 +1,5 @@
 //! Kinds of cases.
-use crate::{encoded, numbers, texts};
+use crate::{encoded, faulty_lines, numbers, texts};
 use anyhow::Result;
 use test_case_files::Cases;
 
@@ -15,10 +15,11 @@ pub enum Kind {
     Generated,
     Encoded,
     Handler,
+    FaultyLines,
 }
 
 impl Kind {
-    pub const ALL: [Kind; 9] = [
+    pub const ALL: [Kind; 10] = [
         Kind::Words,
         Kind::Compute,
         Kind::Conditions,
@@ -28,6 +29,7 @@ impl Kind {
         Kind::Generated,
         Kind::Encoded,
         Kind::Handler,
+        Kind::FaultyLines,
     ];
 }
 
@@ -43,6 +45,7 @@ impl Cases for Kind {
             Kind::Generated => "generated.txt",
             Kind::Encoded => "encoded.txt",
             Kind::Handler => "handler.txt",
+            Kind::FaultyLines => "faulty_lines.txt",
         }
     }
 
@@ -58,6 +61,7 @@ impl Cases for Kind {
             Kind::Generated => texts::generated(alloc, line),
             Kind::Encoded => encoded::text(alloc, line),
             Kind::Handler => encoded::handler(alloc, line),
+            Kind::FaultyLines => faulty_lines::faulty_lines(alloc, line),
         }
     }
 }

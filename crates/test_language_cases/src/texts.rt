@@ -9,7 +9,7 @@ use mx_lines::AsmError;
 use mx_source::Source;
 use std::alloc::Global;
 use std::fs;
-use test_case_files::{answered, before, behind, halves, number};
+use test_case_files::{answered, before, behind, halves, number, text_of_lines};
 
 /// A text assembles to a source, or is refused with its first faulty line and the fault.
 #[derive(Drop)]
@@ -158,21 +158,17 @@ pub fn statement(alloc: Global, line: &str) -> Result<String> {
 
 fn read_behind_labels(alloc: Global, text: &str) -> Result<String> {
     let whole = behind_labels(alloc, text)?;
-    match assemble_text(alloc, whole.as_bytes())? {
+    match assemble_text(alloc, whole.as_slice())? {
         Assembled::Source(source) => listed(alloc, &source),
         Assembled::Refused { fault, .. } => Ok(fault),
     }
 }
 
-/// The lines of a text behind the two labels.
-fn behind_labels(alloc: Global, text: &str) -> Result<String> {
-    let mut whole = String::from_str(alloc, ".data\nwords: .code\nhere: ")?;
-    for (index, line) in text.split(" / ").enumerate() {
-        if index > 0 {
-            whole.push('\n')?;
-        }
-        whole.push_str(line)?;
-    }
+/// The lines of a text behind the two labels. The last of them has no end.
+fn behind_labels(alloc: Global, text: &str) -> Result<Vec<u8>> {
+    let told = format!(in alloc; ".data / words: .code / here: {text}")?;
+    let mut whole = text_of_lines(alloc, told.as_str())?;
+    whole.pop();
     Ok(whole)
 }
 

@@ -7,7 +7,7 @@ mod shown;
 
 use anyhow::Result;
 use shown::answered;
-use test_case_files::{Cases, compare};
+use test_case_files::{Cases, compare_all};
 
 /// The cases of plans.
 struct Plans;
@@ -23,5 +23,5 @@ impl Cases for Plans {
 }
 
 fn main(rt: HostRuntime) -> Result<()> {
-    compare(&rt, &Plans)
+    compare_all(&rt, [Plans].as_slice())
 }

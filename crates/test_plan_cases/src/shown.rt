@@ -12,7 +12,7 @@ use mx_source::Source;
 use mx_squash::copies;
 use mx_validate::{Proposer, choose, padded};
 use std::alloc::{AllocError, Global};
-use test_case_files::before;
+use test_case_files::{before, text_of_lines};
 
 /// The address of the first block.
 const CODE: u32 = 4096;
@@ -94,21 +94,11 @@ fn push_copies(
     Ok(())
 }
 
-/// The text that a case spells, its lines between slashes.
-fn text_of(alloc: Global, spelled: &str) -> Result<String, AllocError> {
-    let mut text = String::new(alloc);
-    for line in spelled.split(" / ") {
-        text.push_str(line)?;
-        text.push('\n')?;
-    }
-    Ok(text)
-}
-
 /// The source that a case spells.
 fn source_of(alloc: Global, spelled: &str) -> Result<Source> {
-    let text = text_of(alloc, spelled)?;
+    let text = text_of_lines(alloc, spelled)?;
     ensure!(text.len() <= 4_194_304, "the source is too long");
-    match assemble(alloc, text.as_bytes()) {
+    match assemble(alloc, text.as_slice()) {
         Ok(source) => Ok(source),
         Err(_) => bail!("the source has a fault"),
     }

@@ -1,109 +1,148 @@
 //! Comparisons as JSON.
 use super::schedulers::schedulers;
-use super::several::{Compared, sums_of};
-use lab_json::document_text;
+use super::several::{Compared, Sums, sums_of};
+use lab_json::{Value, document_text, write_members, write_object};
 use lab_measures::{Comparison, Figures};
+use lab_terms::TransferSlots;
 use mx_io::Memory;
-use serde::Serialize;
-use std::alloc::{AllocError, Global};
+use serde::{Described, Serialize, Serializer};
+use std::alloc::Global;
 
-/// What stands in the slots behind transfers.
-#[derive(Drop, Serialize)]
-struct SlotsRecord {
-    all: u32,
-    before: u32,
-    target_squashed: u32,
-    target: u32,
-    noops: u32,
-}
-
-/// The places behind loads.
-#[derive(Drop, Serialize)]
-struct LoadsRecord {
-    all: u32,
-    filled: u32,
-}
-
-/// The figures of a scheduler.
-#[derive(Drop, Serialize)]
-struct FiguresRecord {
-    plans: &'static str,
-    words: u64,
-    noops: u32,
-    copies: u32,
-    branch_slots: SlotsRecord,
-    load_slots: LoadsRecord,
-    halted: bool,
-    cycles: u64,
-    misses: u64,
-    squashes: u64,
-}
-
-/// A comparison.
-#[derive(Drop, Serialize)]
+/// A comparison, as it is written.
+#[derive(Clone, Copy)]
 struct Document<'a> {
-    command: &'static str,
     source: &'a str,
-    schedulers: Vec<FiguresRecord>,
+    comparison: &'a Comparison,
 }
 
-/// A source among several.
-#[derive(Drop, Serialize)]
-struct SourceRecord<'a> {
-    source: &'a str,
-    schedulers: Vec<FiguresRecord>,
-}
-
-/// What several sources come to together.
-#[derive(Drop, Serialize)]
-struct SumsRecord {
-    sources: u64,
-    halted: u64,
-    schedulers: Vec<FiguresRecord>,
-}
-
-/// Comparisons of several sources.
-#[derive(Drop, Serialize)]
+/// Comparisons of several sources and what they come to together, as they are written.
+#[derive(Clone, Copy)]
 struct LongDocument<'a> {
-    command: &'static str,
-    sources: Vec<SourceRecord<'a>>,
-    sums: SumsRecord,
+    compared: &'a [Compared<'a>],
+    all: &'a Sums,
 }
 
-fn figures_record(plans: &'static str, figures: &Figures) -> FiguresRecord {
-    let slots = figures.transfers;
-    FiguresRecord {
-        plans,
-        words: figures.words as u64,
-        noops: figures.noops,
-        copies: figures.copies,
-        branch_slots: SlotsRecord {
-            all: slots.all(),
-            before: slots.before,
-            target_squashed: slots.target_squashed,
-            target: slots.target,
-            noops: slots.noops,
-        },
-        load_slots: LoadsRecord {
-            all: figures.loads.all,
-            filled: figures.loads.filled,
-        },
-        halted: figures.halted,
-        cycles: figures.cycles,
-        misses: figures.misses,
-        squashes: figures.squashes,
-    }
+// What stands in the slots behind transfers.
+fn slots_of(slots: TransferSlots) -> [(&'static str, u64); 5] {
+    [
+        ("all", u64::from(slots.all())),
+        ("before", u64::from(slots.before)),
+        ("target_squashed", u64::from(slots.target_squashed)),
+        ("target", u64::from(slots.target)),
+        ("noops", u64::from(slots.noops)),
+    ]
 }
 
-fn figures_records(
-    alloc: Global,
-    comparison: &Comparison,
-) -> Result<Vec<FiguresRecord>, AllocError> {
-    let mut records = Vec::new(alloc);
+// The places behind loads.
+fn loads_of(figures: &Figures) -> [(&'static str, u64); 2] {
+    [
+        ("all", u64::from(figures.loads.all)),
+        ("filled", u64::from(figures.loads.filled)),
+    ]
+}
+
+// Writes what stands in the slots behind transfers, and the places behind loads.
+fn write_slots<S: Serializer>(out: &mut S, figures: &Figures) -> Result<(), S::Error> {
+    write_object(out, "branch_slots", &slots_of(figures.transfers))?;
+    write_object(out, "load_slots", &loads_of(figures))
+}
+
+// Writes what the run comes to.
+fn write_run<S: Serializer>(out: &mut S, figures: &Figures) -> Result<(), S::Error> {
+    let members = [
+        ("halted", Value::Flag(figures.halted)),
+        ("cycles", Value::Number(figures.cycles)),
+        ("misses", Value::Number(figures.misses)),
+        ("squashes", Value::Number(figures.squashes)),
+    ];
+    write_members(out, &members)
+}
+
+// Writes the figures of a scheduler.
+fn write_figures<S: Serializer>(
+    out: &mut S,
+    plans: &str,
+    figures: &Figures,
+) -> Result<(), S::Error> {
+    let members = [
+        ("plans", Value::Text(plans)),
+        ("words", Value::Number(figures.words as u64)),
+        ("noops", Value::Number(u64::from(figures.noops))),
+        ("copies", Value::Number(u64::from(figures.copies))),
+    ];
+    out.begin_map(Some(10))?;
+    write_members(out, &members)?;
+    write_slots(out, figures)?;
+    write_run(out, figures)?;
+    out.end_map()
+}
+
+// Writes the four schedulers.
+fn write_schedulers<S: Serializer>(out: &mut S, comparison: &Comparison) -> Result<(), S::Error> {
+    out.key("schedulers")?;
+    out.begin_seq(Some(4))?;
     for (plans, figures) in schedulers(comparison) {
-        records.push(figures_record(plans, figures))?;
+        write_figures(out, plans, figures)?;
     }
-    Ok(records)
+    out.end_seq()
+}
+
+// Writes a source among several.
+fn write_source<S: Serializer>(out: &mut S, one: &Compared) -> Result<(), S::Error> {
+    out.begin_map(Some(2))?;
+    write_members(out, &[("source", Value::Text(one.source))])?;
+    write_schedulers(out, &one.comparison)?;
+    out.end_map()
+}
+
+// Writes several sources.
+fn write_sources<S: Serializer>(out: &mut S, compared: &[Compared]) -> Result<(), S::Error> {
+    out.key("sources")?;
+    out.begin_seq(Some(compared.len()))?;
+    for one in compared {
+        write_source(out, one)?;
+    }
+    out.end_seq()
+}
+
+// Writes what several sources come to together.
+fn write_sums<S: Serializer>(out: &mut S, all: &Sums) -> Result<(), S::Error> {
+    out.key("sums")?;
+    out.begin_map(Some(3))?;
+    let counts = [
+        ("sources", Value::Number(all.sources as u64)),
+        ("halted", Value::Number(all.halted as u64)),
+    ];
+    write_members(out, &counts)?;
+    write_schedulers(out, &all.figures)?;
+    out.end_map()
+}
+
+impl Described for Document<'_> {}
+
+impl Serialize for Document<'_> {
+    fn serialize<S: Serializer>(&self, out: &mut S) -> Result<(), S::Error> {
+        out.begin_map(Some(3))?;
+        let names = [
+            ("command", Value::Text("compare")),
+            ("source", Value::Text(self.source)),
+        ];
+        write_members(out, &names)?;
+        write_schedulers(out, self.comparison)?;
+        out.end_map()
+    }
+}
+
+impl Described for LongDocument<'_> {}
+
+impl Serialize for LongDocument<'_> {
+    fn serialize<S: Serializer>(&self, out: &mut S) -> Result<(), S::Error> {
+        out.begin_map(Some(3))?;
+        write_members(out, &[("command", Value::Text("compare"))])?;
+        write_sources(out, self.compared)?;
+        write_sums(out, self.all)?;
+        out.end_map()
+    }
 }
 
 /// A comparison as JSON, with the name of its source.
@@ -112,53 +151,11 @@ pub fn comparison_json(
     source: &str,
     comparison: &Comparison,
 ) -> Result<Vec<u8>, Memory> {
-    let Ok(schedulers) = figures_records(alloc, comparison) else {
-        return Err(Memory);
-    };
-    let document = Document {
-        command: "compare",
-        source,
-        schedulers,
-    };
-    document_text(alloc, &document)
-}
-
-// The records of several sources.
-fn source_records<'a>(
-    alloc: Global,
-    compared: &[Compared<'a>],
-) -> Result<Vec<SourceRecord<'a>>, AllocError> {
-    let mut records = Vec::new(alloc);
-    for one in compared {
-        records.push(SourceRecord {
-            source: one.source,
-            schedulers: figures_records(alloc, &one.comparison)?,
-        })?;
-    }
-    Ok(records)
-}
-
-// Comparisons of several sources, with their sums.
-fn long_document<'a>(
-    alloc: Global,
-    compared: &[Compared<'a>],
-) -> Result<LongDocument<'a>, AllocError> {
-    let all = sums_of(compared);
-    Ok(LongDocument {
-        command: "compare",
-        sources: source_records(alloc, compared)?,
-        sums: SumsRecord {
-            sources: all.sources as u64,
-            halted: all.halted as u64,
-            schedulers: figures_records(alloc, &all.figures)?,
-        },
-    })
+    document_text(alloc, &Document { source, comparison })
 }
 
 /// Comparisons of several sources as JSON, with their sums.
 pub fn comparisons_json(alloc: Global, compared: &[Compared]) -> Result<Vec<u8>, Memory> {
-    match long_document(alloc, compared) {
-        Ok(document) => document_text(alloc, &document),
-        Err(_) => Err(Memory),
-    }
+    let all = &sums_of(compared);
+    document_text(alloc, &LongDocument { compared, all })
 }

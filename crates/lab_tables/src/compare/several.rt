@@ -10,7 +10,7 @@ pub struct Compared<'a> {
 }
 
 /// What several sources come to together.
-#[derive(Clone, Copy, Debug, PartialEq, Eq)]
+#[derive(Clone, Copy)]
 pub struct Sums {
     /// How many sources there are, and of how many all four runs halted.
     pub sources: usize,

@@ -6,131 +6,110 @@ use std::alloc::{AllocError, Global};
 const HEAD: &str =
     "                                padded             list           copies             best\n";
 
-/// The name of the row of cycles.
-const CYCLES: &str = "cycles";
+/// What the rows are named by.
+const ROWS: [&str; 13] = [
+    "words",
+    "  no-ops",
+    "  copies",
+    "branch slots",
+    "  from before",
+    "  target, squashed",
+    "  target, always",
+    "  no-op",
+    "load slots",
+    "  filled",
+    "cycles",
+    "  misses",
+    "  squashes",
+];
 
-/// The figures of the four schedulers.
-type Columns<'a> = [&'a Figures; 4];
+/// A number and the whole that it is a part of, 0 where it has none; nothing where there is no number.
+pub(crate) type Cell = Option<(u64, u64)>;
 
-/// A part of a whole in per cent, rounded to a tenth; nothing where there is no whole.
-fn share_text(alloc: Global, part: u64, whole: u64) -> Result<String, AllocError> {
+// The cells of a scheduler, beside the padded plans. A run that has not halted has no cycles.
+fn column_of(figures: &Figures, padded: &Figures) -> [Cell; 13] {
+    let (words, slots, loads) = (figures.words as u64, figures.transfers, figures.loads);
+    let all = u64::from(slots.all());
+    let whole = if padded.halted { padded.cycles } else { 0 };
+    [
+        Some((words, padded.words as u64)),
+        Some((u64::from(figures.noops), words)),
+        Some((u64::from(figures.copies), words)),
+        Some((all, 0)),
+        Some((u64::from(slots.before), all)),
+        Some((u64::from(slots.target_squashed), all)),
+        Some((u64::from(slots.target), all)),
+        Some((u64::from(slots.noops), all)),
+        Some((u64::from(loads.all), 0)),
+        Some((u64::from(loads.filled), u64::from(loads.all))),
+        if figures.halted {
+            Some((figures.cycles, whole))
+        } else {
+            None
+        },
+        Some((figures.misses, 0)),
+        Some((figures.squashes, 0)),
+    ]
+}
+
+// Appends a number and its part of a whole in per cent, rounded to a tenth, which is left out where there is no whole.
+fn push_number(table: &mut String, part: u64, whole: u64) -> Result<(), AllocError> {
     let thousands = part.saturating_mul(1000).saturating_add(whole / 2);
     match thousands.checked_div(whole) {
         Some(tenths) => {
             let (ones, tenth) = (tenths / 10, tenths % 10);
-            format!(in alloc; "{ones}.{tenth}%")
+            write!(table, " {part:>9} {ones:>3}.{tenth}%")
         }
-        None => Ok(String::new(alloc)),
+        None => write!(table, " {part:>9}       "),
     }
 }
 
-/// Appends a number and its part of a whole.
-pub(crate) fn push_cell(
-    alloc: Global,
-    table: &mut String,
-    part: u64,
-    whole: u64,
-) -> Result<(), AllocError> {
-    let share = share_text(alloc, part, whole)?;
-    let cell = format!(in alloc; " {part:>9} {share:>6}")?;
-    table.push_str(cell.as_str())
+/// Appends a cell, or `-`.
+pub(crate) fn push_cell(table: &mut String, cell: Cell) -> Result<(), AllocError> {
+    match cell {
+        Some((part, whole)) => push_number(table, part, whole),
+        None => table.push_str("         -       "),
+    }
 }
 
-/// Appends a row: of each scheduler a number, and its part of a whole.
-fn push_row<F: Fn(&Figures) -> (u64, u64)>(
+// Appends a row.
+fn push_row(
     alloc: Global,
     table: &mut String,
     name: &str,
-    columns: Columns,
-    numbers: F,
-) -> Result<(), AllocError>
-    requires { F.IsAlwaysCallable numbers }
-{
+    cells: &[Cell],
+) -> Result<(), AllocError> {
     let mut row = format!(in alloc; "{name:<21}")?;
-    for figures in columns {
-        let (part, whole) = numbers(figures);
-        push_cell(alloc, &mut row, part, whole)?;
+    for cell in cells {
+        push_cell(&mut row, *cell)?;
     }
-    table.push_str(row.as_str().trim_end())?;
-    table.push_str("\n")
+    let row = row.as_str().trim_end();
+    write!(table, "{row}\n")
 }
 
-/// Appends what stands in the slots.
-fn push_slots(alloc: Global, table: &mut String, columns: Columns) -> Result<(), AllocError> {
-    push_row(alloc, table, "branch slots", columns, |it| {
-        (u64::from(it.transfers.all()), 0)
-    })?;
-    push_row(alloc, table, "  from before", columns, |it| {
-        (
-            u64::from(it.transfers.before),
-            u64::from(it.transfers.all()),
-        )
-    })?;
-    push_row(alloc, table, "  target, squashed", columns, |it| {
-        let part = it.transfers.target_squashed;
-        (u64::from(part), u64::from(it.transfers.all()))
-    })?;
-    push_row(alloc, table, "  target, always", columns, |it| {
-        (
-            u64::from(it.transfers.target),
-            u64::from(it.transfers.all()),
-        )
-    })?;
-    push_row(alloc, table, "  no-op", columns, |it| {
-        (u64::from(it.transfers.noops), u64::from(it.transfers.all()))
-    })?;
-    push_row(alloc, table, "load slots", columns, |it| {
-        (u64::from(it.loads.all), 0)
-    })?;
-    push_row(alloc, table, "  filled", columns, |it| {
-        (u64::from(it.loads.filled), u64::from(it.loads.all))
-    })
+// What a row is named by.
+fn row_name(at: usize) -> &'static str {
+    ROWS.get(at).copied().unwrap_or("")
 }
 
-/// Appends the cycles of each run that halted, in parts of those of the padded plans, or `-`.
-fn push_cycles(alloc: Global, table: &mut String, columns: Columns) -> Result<(), AllocError> {
-    let padded = if columns[0].halted {
-        columns[0].cycles
-    } else {
-        0
-    };
-    let mut row = format!(in alloc; "{CYCLES:<21}")?;
-    for figures in columns {
-        if figures.halted {
-            push_cell(alloc, &mut row, figures.cycles, padded)?;
-        } else {
-            row.push_str("         -       ")?;
-        }
+// Appends the rows.
+fn push_rows(alloc: Global, table: &mut String, comparison: &Comparison) -> Result<(), AllocError> {
+    let padded = &comparison.padded;
+    let first = column_of(padded, padded);
+    let list = column_of(&comparison.list, padded);
+    let copies = column_of(&comparison.copies, padded);
+    let best = column_of(&comparison.best, padded);
+    for at in 0..13usize {
+        let cells = [first[at], list[at], copies[at], best[at]];
+        push_row(alloc, table, row_name(at), &cells)?;
     }
-    table.push_str(row.as_str().trim_end())?;
-    table.push_str("\n")
+    Ok(())
 }
 
 /// A comparison as a table: code words, no-ops, what stands in the slots, and the run. A run that does not halt within the
 /// budget has no cycles.
 pub fn comparison_text(alloc: Global, comparison: &Comparison) -> Result<Vec<u8>, AllocError> {
-    let columns = [
-        &comparison.padded,
-        &comparison.list,
-        &comparison.copies,
-        &comparison.best,
-    ];
-    let padded = comparison.padded.words as u64;
     let mut table = String::from_str(alloc, HEAD)?;
-    push_row(alloc, &mut table, "words", columns, |it| {
-        (it.words as u64, padded)
-    })?;
-    push_row(alloc, &mut table, "  no-ops", columns, |it| {
-        (u64::from(it.noops), it.words as u64)
-    })?;
-    push_row(alloc, &mut table, "  copies", columns, |it| {
-        (u64::from(it.copies), it.words as u64)
-    })?;
-    push_slots(alloc, &mut table, columns)?;
-    push_cycles(alloc, &mut table, columns)?;
-    push_row(alloc, &mut table, "  misses", columns, |it| (it.misses, 0))?;
-    push_row(alloc, &mut table, "  squashes", columns, |it| {
-        (it.squashes, 0)
-    })?;
+    push_rows(alloc, &mut table, comparison)?;
     Ok(table.into_bytes())
 }

@@ -22,21 +22,54 @@ const COLUMNS: [&str; 13] = [
     "same_console",
 ];
 
+// A number of cycles, which is left out where it is too great.
+fn cycles_in(number: u64) -> Option<i64> {
+    i64::try_from(number).ok()
+}
+
+// The cycles in which the last request of a run became an interrupt and in which the handler's first word was fetched.
+fn entry_of(row: &Row) -> (Option<i64>, Option<i64>) {
+    match row.entry {
+        Some(entry) => (cycles_in(entry.taken), cycles_in(entry.fetched)),
+        None => (None, None),
+    }
+}
+
+// The line and the address of the word that was killed, and whether it was squashed.
+fn killed_of(row: &Row, places: &Places) -> (Option<i64>, Option<i64>, Option<i64>) {
+    match row.killed() {
+        Some((address, squashed)) => (
+            Some(i64::from(places.line_at(address))),
+            Some(i64::from(address)),
+            Some(i64::from(squashed)),
+        ),
+        None => (None, None, None),
+    }
+}
+
+// The cycle of the second request, if there is one.
+fn second_of(row: &Row) -> Option<i64> {
+    match row.second {
+        Some(second) => Some(i64::from(second)),
+        None => None,
+    }
+}
+
 // The numbers of a row, in the order of the columns. What is not there is left empty; a truth is 1 or 0.
 fn numbers_of(sweep: &Sweep, row: &Row, places: &Places) -> [Option<i64>; 12] {
-    let killed = row.killed();
-    let of_entry = |number: u64| i64::try_from(number).ok();
+    let (taken, fetched) = entry_of(row);
+    let (line, address, squashed) = killed_of(row, places);
     [
         Some(i64::from(row.first)),
-        row.second.map(i64::from),
-        row.entry.and_then(|entry| of_entry(entry.taken)),
-        row.entry.and_then(|entry| of_entry(entry.fetched)),
+        second_of(row),
+        taken,
+        fetched,
         row.wait(),
-        killed.map(|word| i64::from(places.line_at(word.0))),
-        killed.map(|word| i64::from(word.0)),
-        killed.map(|word| i64::from(word.1)),
+        line,
+        address,
+        squashed,
         Some(i64::from(row.halted)),
-        of_entry(row.cycles),
+        cycles_in(row.cycles),
         sweep.cost(row),
         Some(i64::from(row.same_console)),
     ]

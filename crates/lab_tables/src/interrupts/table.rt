@@ -1,86 +1,90 @@
 //! The runs of a sweep as a table.
 use super::places::Places;
 use lab_measures::{Row, Sweep};
-use std::alloc::{AllocError, Global};
+use std::alloc::AllocError;
 
-/// The head of the table, behind the columns of the requests.
+/// The heads of the columns, behind those of the requests.
 const HEAD: &str = "   taken handler    wait   line  killed         cycles    cost  console\n";
 
-// A number, or `-`.
-fn number_text(alloc: Global, number: Option<i64>) -> Result<String, AllocError> {
+/// What stands in a column where there is no number.
+const NONE: &str = "-";
+
+// Appends a blank, and a number in a column of this width, or `-`.
+fn push_number(table: &mut String, number: Option<i64>, width: usize) -> Result<(), AllocError> {
     match number {
-        Some(number) => format!(in alloc; "{number}"),
-        None => String::from_str(alloc, "-"),
+        Some(number) => write!(table, " {number:>width$}"),
+        None => write!(table, " {NONE:>width$}"),
+    }
+}
+
+// The line of a word, if there is one.
+fn line_of(places: &Places, address: u32) -> Option<i64> {
+    match places.line_at(address) {
+        0 => None,
+        line => Some(i64::from(line)),
     }
 }
 
 // Appends how the last request of a run became an interrupt, or `-` in each column.
-fn push_entry(
-    alloc: Global,
-    table: &mut String,
-    row: &Row,
-    places: &Places,
-) -> Result<(), AllocError> {
+fn push_entry(table: &mut String, row: &Row, places: &Places) -> Result<(), AllocError> {
     let (Some(entry), Some((address, squashed))) = (row.entry, row.killed()) else {
         return table.push_str("       -       -       -      -  -          ");
     };
     let (taken, fetched) = (entry.taken, entry.fetched);
-    let wait = number_text(alloc, row.wait())?;
-    let line = match places.line_at(address) {
-        0 => number_text(alloc, None)?,
-        line => number_text(alloc, Some(i64::from(line)))?,
-    };
     let mark = if squashed { "*" } else { " " };
-    let front = format!(in alloc; " {taken:>7} {fetched:>7} {wait:>7} {line:>6}")?;
-    let back = format!(in alloc; "  {address:#010x}{mark}")?;
-    table.push_str(front.as_str())?;
-    table.push_str(back.as_str())
+    write!(table, " {taken:>7} {fetched:>7}")?;
+    push_number(table, row.wait(), 7)?;
+    push_number(table, line_of(places, address), 6)?;
+    write!(table, "  {address:#010x}{mark}")
+}
+
+// Appends the cycles of the requests of a run.
+fn push_requests(table: &mut String, row: &Row) -> Result<(), AllocError> {
+    let first = row.first;
+    match row.second {
+        Some(second) => write!(table, "{first:>7} {second:>7}"),
+        None => write!(table, "{first:>7}"),
+    }
+}
+
+// How a run ended.
+fn ending_of(row: &Row) -> &'static str {
+    match (row.halted, row.same_console) {
+        (false, _) => "out of budget",
+        (true, true) => "same",
+        (true, false) => "other",
+    }
 }
 
 // Appends a run.
 fn push_row(
-    alloc: Global,
     table: &mut String,
     sweep: &Sweep,
     row: &Row,
     places: &Places,
 ) -> Result<(), AllocError> {
-    let first = row.first;
-    let front = match row.second {
-        Some(second) => format!(in alloc; "{first:>7} {second:>7}")?,
-        None => format!(in alloc; "{first:>7}")?,
-    };
-    table.push_str(front.as_str())?;
-    push_entry(alloc, table, row, places)?;
-    let cycles = row.cycles;
-    let cost = number_text(alloc, sweep.cost(row))?;
-    let console = match (row.halted, row.same_console) {
-        (false, _) => "out of budget",
-        (true, true) => "same",
-        (true, false) => "other",
-    };
-    let back = format!(in alloc; " {cycles:>10} {cost:>7}  {console}\n")?;
-    table.push_str(back.as_str())
+    push_requests(table, row)?;
+    push_entry(table, row, places)?;
+    let (cycles, ending) = (row.cycles, ending_of(row));
+    write!(table, " {cycles:>10}")?;
+    push_number(table, sweep.cost(row), 7)?;
+    write!(table, "  {ending}\n")
 }
 
 /// Appends the runs of a sweep.
 pub(crate) fn push_rows(
-    alloc: Global,
-    text: &mut Vec<u8>,
+    table: &mut String,
     sweep: &Sweep,
     places: &Places,
 ) -> Result<(), AllocError> {
-    let mut table = String::from_str(
-        alloc,
-        if sweep.is_pairs {
-            "\n  first  second"
-        } else {
-            "\nrequest"
-        },
-    )?;
-    table.push_str(HEAD)?;
+    let requests = if sweep.is_pairs {
+        "\n  first  second"
+    } else {
+        "\nrequest"
+    };
+    write!(table, "{requests}{HEAD}")?;
     for row in sweep.rows.iter() {
-        push_row(alloc, &mut table, sweep, row, places)?;
+        push_row(table, sweep, row, places)?;
     }
-    text.extend_from_slice(table.as_bytes())
+    Ok(())
 }

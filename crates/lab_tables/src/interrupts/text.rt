@@ -9,18 +9,13 @@ const MOST_LINES: u32 = 24;
 
 const LONGEST_BAR: u64 = 40;
 
-// Appends a text.
-fn push(text: &mut Vec<u8>, piece: &str) -> Result<(), AllocError> {
-    text.extend_from_slice(piece.as_bytes())
-}
-
 // How a run ended.
 fn ending(halted: bool) -> &'static str {
     if halted { "halted" } else { "out of budget" }
 }
 
 // Appends how the undisturbed run ended, and in which cycles the requests come.
-fn push_head(alloc: Global, text: &mut Vec<u8>, sweep: &Sweep) -> Result<(), AllocError> {
+fn push_head(text: &mut String, sweep: &Sweep) -> Result<(), AllocError> {
     let (cycles, end) = (sweep.cycles, ending(sweep.halted));
     let (from, to, step) = (sweep.span.from, sweep.span.to, sweep.span.step);
     let each = if sweep.is_pairs {
@@ -28,43 +23,35 @@ fn push_head(alloc: Global, text: &mut Vec<u8>, sweep: &Sweep) -> Result<(), All
     } else {
         "in each of the cycles"
     };
-    let head = format!(in alloc; "undisturbed run      {cycles} cycles, {end}\n")?;
-    push(text, head.as_str())?;
-    let requests = format!(in alloc; "requests             {each} {from} to {to}")?;
-    push(text, requests.as_str())?;
+    write!(text, "undisturbed run      {cycles} cycles, {end}\n")?;
+    write!(text, "requests             {each} {from} to {to}")?;
     if step > 1 {
-        let apart = format!(in alloc; ", {step} apart")?;
-        push(text, apart.as_str())?;
+        write!(text, ", {step} apart")?;
     }
-    text.push(b'\n')?;
-    Ok(())
+    text.push_str("\n")
 }
 
 // Appends how many runs there were, and how they ended.
-fn push_counts(alloc: Global, text: &mut Vec<u8>, sums: &Sums) -> Result<(), AllocError> {
-    let (runs, halted) = (sums.runs, sums.halted);
-    let (other, interrupted) = (sums.other_console, sums.interrupted);
-    let counts = format!(in alloc;
-        "runs          {runs:>7}\n  halted      {halted:>7}\n  other console {other:>5}\n  interrupted {interrupted:>7}\n"
-    )?;
-    push(text, counts.as_str())
+fn push_counts(text: &mut String, sums: &Sums) -> Result<(), AllocError> {
+    let told = [
+        ("runs          ", sums.runs, 7),
+        ("  halted      ", sums.halted, 7),
+        ("  other console ", sums.other_console, 5),
+        ("  interrupted ", sums.interrupted, 7),
+    ];
+    for (name, count, width) in told {
+        write!(text, "{name}{count:>width$}\n")?;
+    }
+    Ok(())
 }
 
 // Appends the least of some numbers, that in the middle and the greatest.
-fn push_spread(
-    alloc: Global,
-    text: &mut Vec<u8>,
-    name: &str,
-    spread: &Option<Spread>,
-) -> Result<(), AllocError> {
-    let line = match spread {
-        Some(spread) => {
-            let (least, median, greatest) = (spread.least, spread.median, spread.greatest);
-            format!(in alloc; "{name:<14}{least:>7} {median:>7} {greatest:>8}\n")?
-        }
-        None => format!(in alloc; "{name:<14}      -       -        -\n")?,
+fn push_spread(text: &mut String, name: &str, spread: &Option<Spread>) -> Result<(), AllocError> {
+    let Some(spread) = spread else {
+        return write!(text, "{name:<14}      -       -        -\n");
     };
-    push(text, line.as_str())
+    let (least, median, greatest) = (spread.least, spread.median, spread.greatest);
+    write!(text, "{name:<14}{least:>7} {median:>7} {greatest:>8}\n")
 }
 
 // A line of a text, counted from 1, without the blanks around it.
@@ -79,34 +66,33 @@ fn line_of(text: &[u8], line: u32) -> &[u8] {
     b""
 }
 
-// Appends the run that waits longest, and where its interrupt fell.
-fn push_longest(
-    alloc: Global,
-    text: &mut Vec<u8>,
-    row: &Row,
-    places: &Places,
-    source: &[u8],
-) -> Result<(), AllocError> {
-    let cycle = row.last();
-    let wait = row.wait().unwrap_or(0);
-    let told = format!(in alloc;
-        "longest wait  {wait:>7} cycles, of the request in cycle {cycle}"
-    )?;
-    push(text, told.as_str())?;
+// Appends where the interrupt of a run fell, but for the text of the line, if it is known.
+fn push_place(text: &mut String, row: &Row, places: &Places) -> Result<(), AllocError> {
     let Some((address, _)) = row.killed() else {
-        text.push(b'\n')?;
         return Ok(());
     };
-    let line = places.line_at(address);
-    if line == 0 {
-        let place = format!(in alloc; ", at {address:#010x}\n")?;
-        return push(text, place.as_str());
+    match places.line_at(address) {
+        0 => write!(text, ", at {address:#010x}"),
+        line => write!(text, ", at line {line}: "),
     }
-    let place = format!(in alloc; ", at line {line}: ")?;
-    push(text, place.as_str())?;
-    text.extend_from_slice(line_of(source, line))?;
-    text.push(b'\n')?;
-    Ok(())
+}
+
+// Appends the request that is waited for longest, and where its interrupt fell.
+fn push_longest(text: &mut String, row: &Row, places: &Places) -> Result<(), AllocError> {
+    let (cycle, wait) = (row.last(), row.wait().unwrap_or(0));
+    write!(
+        text,
+        "longest wait  {wait:>7} cycles, of the request in cycle {cycle}"
+    )?;
+    push_place(text, row, places)
+}
+
+// The text of the line in which the interrupt of a run fell; nothing where it is not known.
+fn place_text<'a>(row: &Row, places: &Places, source: &'a [u8]) -> &'a [u8] {
+    match row.killed() {
+        Some((address, _)) => line_of(source, places.line_at(address)),
+        None => b"",
+    }
 }
 
 // How many numbers a line of a histogram takes together: one, unless there are too many.
@@ -119,28 +105,25 @@ fn width_of(spread: &Spread) -> i64 {
     part.saturating_add(1)
 }
 
+// Appends the numbers that a line of a histogram takes together, which begin with one.
+fn push_numbers(text: &mut String, first: i64, width: i64) -> Result<(), AllocError> {
+    if width <= 1 {
+        return write!(text, "{first:>7}");
+    }
+    let last = first.saturating_add(width.saturating_sub(1));
+    write!(text, "{first:>7} to {last:>7}")
+}
+
 // Appends a line of a histogram: numbers from one on, and how many runs have them.
-fn push_bin(
-    alloc: Global,
-    text: &mut Vec<u8>,
-    bin: Bin,
-    width: i64,
-    most: u64,
-) -> Result<(), AllocError> {
-    let (first, runs) = (bin.number, bin.runs);
-    let front = if width > 1 {
-        let last = first.saturating_add(width.saturating_sub(1));
-        format!(in alloc; "{first:>7} to {last:>7} {runs:>9}  ")?
-    } else {
-        format!(in alloc; "{first:>7} {runs:>9}  ")?
-    };
-    push(text, front.as_str())?;
+fn push_bin(text: &mut String, bin: Bin, width: i64, most: u64) -> Result<(), AllocError> {
+    let runs = bin.runs;
+    push_numbers(text, bin.number, width)?;
+    write!(text, " {runs:>9}  ")?;
     let rest = runs.saturating_mul(LONGEST_BAR).saturating_sub(1);
     for _sign in 0..=rest.checked_div(most).unwrap_or(0) {
-        text.push(b'#')?;
+        text.push_str("#")?;
     }
-    text.push(b'\n')?;
-    Ok(())
+    text.push_str("\n")
 }
 
 // The numbers of a spread, so many taken together, with how many runs have them.
@@ -162,10 +145,22 @@ fn together(alloc: Global, spread: &Spread, width: i64) -> Result<Vec<Bin>, Allo
     Ok(lines)
 }
 
+// Appends the lines of a histogram.
+fn push_bins(text: &mut String, bins: &[Bin], width: i64) -> Result<(), AllocError> {
+    let mut most = 0;
+    for bin in bins {
+        most = bin.runs.max(most);
+    }
+    for bin in bins {
+        push_bin(text, *bin, width, most)?;
+    }
+    Ok(())
+}
+
 // Appends a histogram.
 fn push_histogram(
     alloc: Global,
-    text: &mut Vec<u8>,
+    text: &mut String,
     name: &str,
     spread: &Option<Spread>,
 ) -> Result<(), AllocError> {
@@ -173,21 +168,79 @@ fn push_histogram(
         return Ok(());
     };
     let width = width_of(spread);
-    let head = if width > 1 {
-        format!(in alloc; "\n{name:>7}                 runs\n")?
-    } else {
-        format!(in alloc; "\n{name:>7}      runs\n")?
-    };
-    push(text, head.as_str())?;
-    let lines = together(alloc, spread, width)?;
-    let mut most = 0;
-    for line in lines.iter() {
-        most = line.runs.max(most);
+    let gap = if width > 1 { "           " } else { "" };
+    write!(text, "\n{name:>7}{gap}      runs\n")?;
+    let bins = together(alloc, spread, width)?;
+    push_bins(text, bins.as_slice(), width)
+}
+
+// What is told before the text of the line in which the interrupt fell that was waited for longest.
+fn push_front(
+    text: &mut String,
+    sweep: &Sweep,
+    sums: &Sums,
+    places: &Places,
+) -> Result<(), AllocError> {
+    push_head(text, sweep)?;
+    push_counts(text, sums)?;
+    text.push_str("                least  median greatest\n")?;
+    push_spread(text, "cost, cycles", &sums.cost)?;
+    push_spread(text, "wait, cycles", &sums.wait)?;
+    match &sums.longest {
+        Some(row) => push_longest(text, row, places),
+        None => Ok(()),
     }
-    for line in lines.iter() {
-        push_bin(alloc, text, *line, width, most)?;
+}
+
+// The same, as bytes.
+fn front_of(
+    alloc: Global,
+    sweep: &Sweep,
+    sums: &Sums,
+    places: &Places,
+) -> Result<Vec<u8>, AllocError> {
+    let mut front = String::new(alloc);
+    push_front(&mut front, sweep, sums, places)?;
+    Ok(front.into_bytes())
+}
+
+// What is told behind it: the histograms and, where they are asked for, the runs themselves.
+fn push_back(
+    alloc: Global,
+    text: &mut String,
+    sweep: &Sweep,
+    sums: &Sums,
+    rows: Option<&Places>,
+) -> Result<(), AllocError> {
+    if sums.longest.is_some() {
+        text.push_str("\n")?;
     }
-    Ok(())
+    push_histogram(alloc, text, "cost", &sums.cost)?;
+    push_histogram(alloc, text, "wait", &sums.wait)?;
+    match rows {
+        Some(places) => push_rows(text, sweep, places),
+        None => Ok(()),
+    }
+}
+
+// The text of a sweep, of which these are the sums.
+fn text_of(
+    alloc: Global,
+    sweep: &Sweep,
+    sums: &Sums,
+    places: &Places,
+    source: &[u8],
+    with_rows: bool,
+) -> Result<Vec<u8>, AllocError> {
+    let rows = if with_rows { Some(places) } else { None };
+    let mut back = String::new(alloc);
+    push_back(alloc, &mut back, sweep, sums, rows)?;
+    let mut text = front_of(alloc, sweep, sums, places)?;
+    if let Some(row) = &sums.longest {
+        text.extend_from_slice(place_text(row, places, source))?;
+    }
+    text.extend_from_slice(back.as_bytes())?;
+    Ok(text)
 }
 
 /// A sweep as text: how the runs ended, what they cost and how long they wait, each as a histogram, and, where they are asked
@@ -200,19 +253,5 @@ pub fn sweep_text(
     with_rows: bool,
 ) -> Result<Vec<u8>, AllocError> {
     let sums = sums_of(alloc, sweep)?;
-    let mut text = Vec::new(alloc);
-    push_head(alloc, &mut text, sweep)?;
-    push_counts(alloc, &mut text, &sums)?;
-    push(&mut text, "                least  median greatest\n")?;
-    push_spread(alloc, &mut text, "cost, cycles", &sums.cost)?;
-    push_spread(alloc, &mut text, "wait, cycles", &sums.wait)?;
-    if let Some(row) = sums.longest {
-        push_longest(alloc, &mut text, &row, places, source)?;
-    }
-    push_histogram(alloc, &mut text, "cost", &sums.cost)?;
-    push_histogram(alloc, &mut text, "wait", &sums.wait)?;
-    if with_rows {
-        push_rows(alloc, &mut text, sweep, places)?;
-    }
-    Ok(text)
+    text_of(alloc, sweep, &sums, places, source, with_rows)
 }

@@ -1,41 +1,46 @@
-use Rattle.std.proofs.Common.{◌≡◌, IfOk, IfErr, None, subst, sym, ap, ◌∙◌}
-use Rattle.mx_isa.specs.declared.board.TheConstants.{DATA_BASE, DATA_END}
-use Rattle.mx_layout.specs.Overlong.{Overlong, IsOverlong}
-use Rattle.mx_link.specs.Origins.{from_target}
-use Rattle.mx_link.specs.Linked.{IsLinked}
-use Rattle.mx_reorg.specs.Greedy.{IsGreedy}
-use Rattle.mx_asm.specs.Texts.{source_of, text_fault}
-use Rattle.mx_isa.specs.Board.{board}
-use Rattle.cmd_answer.specs.declared.Status.TheVariants.{Refused}
-use Rattle.cmd_answer.specs.Answer.{prints}
+use Rattle.std.proofs.Common.{◌≡◌, inl, sym, ap, ◌∙◌}
+use Rattle.mx_asm.specs.Texts.{source_of}
+use Rattle.cmd_answer.specs.Answer.{Answer}
 use Rattle.cmd_answer.specs.Protocol.{Answers}
-use Rattle.cmd_answer.specs.Replies.{reply_answer}
-use Rattle.cmd_source.specs.Refusals.{overlong_line}
-use Rattle.cmd_source.specs.Protocols.{linked_protocol}
+use Rattle.cmd_answer.proofs.Replies.{step_fails}
+use Rattle.law_schedule.specs.Schedule.{IsScheduler}
+use Rattle.cmd_source.specs.Protocols.{Layouts, AfterLayout, linked_protocol}
+use Rattle.cmd_source.specs.Replied.{IsReplied, is_answered}
 use Rattle.cmd_source.proofs.Laid as laid
+use Rattle.cmd_source.proofs.Laid.{IsFaulty, IsTooLong}
 use Rattle.cmd_source.proofs.sources.linked_text.Goals as goal
 
-pub returns-in-Ok-2-clause-given : goal.returns-in-Ok-2-clause-given
-returns-in-Ok-2-clause-given c = λ layout_of is next.
-    let text = c.as_slice.result.now in
-    let source = c.in-Ok.source in
-    let read =
-    subst (λ r. IfOk r (λ s. (text_fault DATA_BASE DATA_END text ≡ None) × (s ≡ source_of DATA_BASE text)))
-    c.in-Ok.is c.in_ok-source.ensures.source in
-    let linked = subst (λ r. IfOk r (λ l. IsLinked IsGreedy from_target source board l)) c.in-Ok-2.is c.in_ok-linked.ensures.linked in
-    sym (ap (linked_protocol layout_of next) c.as_slice.ensures.value)
-    ∙ laid.linked_text layout_of is source next text read.0 read.1 c.in-Ok-2.linked linked
+pub returns-in_err-source-clause-refused : goal.returns-in_err-source-clause-refused
+returns-in_err-source-clause-refused c =
+    step_fails c.from_residual.result c.in_err-source.field-0.0 (IsFaulty c.as_slice.result.now)
+    (λ answer. (layout_of : Layouts) → IsScheduler layout_of → (next : AfterLayout) → linked_protocol layout_of next c.args.text.items ≡ Answers answer)
+    c.from_residual.ensures.1 c.in_err-source.ensures.refused
+    (λ answer wrong layout_of is next. sym (ap (linked_protocol layout_of next) c.as_slice.ensures.value)
+    ∙ laid.faulty_text layout_of next c.as_slice.result.now answer wrong)
 
-pub returns-in-Err-2-clause-refused : goal.returns-in-Err-2-clause-refused
-returns-in-Err-2-clause-refused c = λ layout_of is next.
+pub returns-in_err-source-clause-replied : goal.returns-in_err-source-clause-replied
+returns-in_err-source-clause-replied c =
+    step_fails c.from_residual.result c.in_err-source.field-0.0 (IsFaulty c.as_slice.result.now) IsReplied
+    c.from_residual.ensures.1 c.in_err-source.ensures.refused (λ answer wrong. inl (ap (λ (a : Answer). is_answered a.status) wrong.3))
+
+pub returns-in_err-linked-clause-refused : goal.returns-in_err-linked-clause-refused
+returns-in_err-linked-clause-refused c =
     let text = c.as_slice.result.now in
-    let source = c.in-Ok.source in
-    let read =
-    subst (λ r. IfOk r (λ s. (text_fault DATA_BASE DATA_END text ≡ None) × (s ≡ source_of DATA_BASE text)))
-    c.in-Ok.is c.in_ok-source.ensures.source in
-    let found = subst
-    (λ r. IfErr r (λ reply. (found : Overlong) × IsOverlong IsGreedy source board found
-    × (reply_answer reply ≡ prints Refused (overlong_line found.line found.from found.to))))
-    c.in-Err-2.is c.in_ok-linked.ensures.refused in
+    let source = c.in_ok-source.source in
+    let read = c.in_ok-source.ensures.source in
+    step_fails c.from_residual-in_err-linked.result c.in_err-linked.field-0.0 (IsTooLong source)
+    (λ answer. (layout_of : Layouts) → IsScheduler layout_of → (next : AfterLayout) → linked_protocol layout_of next c.args.text.items ≡ Answers answer)
+    c.from_residual-in_err-linked.ensures.1 c.in_err-linked.ensures.refused
+    (λ answer far layout_of is next. sym (ap (linked_protocol layout_of next) c.as_slice.ensures.value)
+    ∙ laid.too_long layout_of is source next text read.0 read.1 far.0 far.1 ∙ ap Answers (sym far.2))
+
+pub returns-in_err-linked-clause-replied : goal.returns-in_err-linked-clause-replied
+returns-in_err-linked-clause-replied c =
+    step_fails c.from_residual-in_err-linked.result c.in_err-linked.field-0.0 (IsTooLong c.in_ok-source.source) IsReplied
+    c.from_residual-in_err-linked.ensures.1 c.in_err-linked.ensures.refused (λ answer far. inl (ap (λ (a : Answer). is_answered a.status) far.2))
+
+pub returns-clause-given : goal.returns-clause-given
+returns-clause-given c = λ layout_of is next.
+    let read = c.in_ok-source.ensures.source in
     sym (ap (linked_protocol layout_of next) c.as_slice.ensures.value)
-    ∙ laid.too_long layout_of is source next text read.0 read.1 found.0 found.1 ∙ ap Answers (sym found.2)
+    ∙ laid.linked_text layout_of is c.in_ok-source.source next c.as_slice.result.now read.0 read.1 c.in_ok-linked.linked c.in_ok-linked.ensures.linked

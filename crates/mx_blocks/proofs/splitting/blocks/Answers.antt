@@ -13,7 +13,8 @@ loop-first-preserved c =
     let more : c.push.new.self.items ≡ c.loop-first.found.items ++ block ∷ [] =
     c.push.ensures.items ∙ ap (λ b. cond b (c.loop-first.found.items ++ block ∷ []) c.loop-first.found.items) ok in
     let end : c.loop-first.first + size block ≡ c.end_from-end.result = let s = c.block_of.ensures.size in omega arith in
-    let split = one_more_block source 0 c.loop-first.first c.loop-first.found.items block c.loop-first.invariant.split c.block_of.ensures.first c.block_of.ensures.block in
+    let split = one_more_block source 0 c.loop-first.first c.loop-first.found.items block c.loop-first.invariant.split c.block_of.ensures.first
+    c.block_of.ensures.block in
     record {
       within = c.end_from-end.ensures.within;
       leader = c.end_from-end.ensures.next;

@@ -6,4 +6,5 @@ use Rattle.mx_blocks.proofs.splitting.labelled_places.Given as goal
 abbrev pub invariant-loop-label : goal.invariant-loop-label
 invariant-loop-label l =
     (length l.marks.items ≡ length l.source.statements + 1)
-    × ((i : ℕ) → i ≤ length l.source.statements → (slice_index_or l.marks.items i false || list_any (names_index i) l.label-iterator) ≡ is_labelled l.source.labels i)
+    × ((i : ℕ) → i ≤ length l.source.statements
+    → (slice_index_or l.marks.items i false || list_any (names_index i) l.label-iterator) ≡ is_labelled l.source.labels i)

@@ -1,53 +1,35 @@
 use Rattle.std.proofs.Common.{◌≡◌, ◌+◌, ◌++◌, [], ◌∷◌, length, drop, subst, sym, ap, ◌∙◌, length-append, arith}
 use Rattle.cmd_line.specs.Command.{texts}
-use Rattle.mx_io.specs.Shelves.{Told, Counts}
+use Rattle.cmd_answer.specs.Protocol.{Performed}
+use Rattle.cmd_answer.proofs.Replies.{step_fails}
+use Rattle.mx_command.specs.Protocols.{modules_protocol}
 use Rattle.mx_command.proofs.Modules.{Continues, next_is_read, next_fails}
 use Rattle.mx_command.proofs.join.read_modules.Goals as goal
 
 pub loop-name-preserved : goal.loop-name-preserved
 loop-name-preserved g c =
-    let first = c.args.shelf.now in
-    let here = c.loop-name.shelf in
-    let behind = c.read_named.new.shelf in
-    let told : Told = g.S.Shelf.told first in
-    let told_here : Told = g.S.Shelf.told here in
-    let before : Counts = g.S.Shelf.counts first in
-    let now : Counts = g.S.Shelf.counts here in
-    let later : Counts = g.S.Shelf.counts behind in
     let v = c.loop-name.invariant in
-    let same : told_here ≡ told = v.stays in
-    let names = c.args.names.now in
-    let i = c.loop-name.name-index in
-    let number = c.loop-name.number in
     let found = c.loop-name.joiner in
-    let text = c.in-Ok.text in
-    let counted : number ≡ length found + 1 = let a = v.number in let b = v.count in omega (arith, a, b) in
-    let more : c.add.new.self ≡ found ++ text.items ∷ [] = c.in_ok-add.ensures.added ∙ ap (λ t. found ++ t ∷ []) c.as_slice.ensures.value in
-    let goes = next_is_read told told_here names i _ found number before now later c.loop-name-test.true counted same v.goes c.in_ok-text.field-0 text
-    c.in-Ok.is c.in_ok-text.ensures.given in
-    let b = v.number in
+    let text = c.in_ok-text.text.items in
+    let more : c.add.new.self ≡ found ++ text ∷ [] = c.in_ok-add.ensures.added ∙ ap (λ t. found ++ t ∷ []) c.as_slice.ensures.value in
+    let goes = next_is_read _ _ c.args.names.now c.loop-name.name-index _ found _ _ _ _ c.loop-name-test.true v.behind v.stays v.goes text
+    c.in_ok-text.ensures.given in
+    let number = v.number in
+    let behind = v.behind in
+    let count = ap length more ∙ length-append found (text ∷ []) in
     record {
-      count = ap length more ∙ length-append found (text.items ∷ []) ∙ ap (λ n. n + 1) v.count;
-      number = omega (arith, b);
-      goes = subst (λ f. Continues told (texts names) (texts (drop (i + 1) names)) f before later) (sym more) goes;
+      number = omega (arith, number);
+      behind = omega (arith, behind, count);
+      goes = subst (λ f. Continues (g.S.Shelf.told c.args.shelf.now) (texts c.args.names.now) (texts (drop (c.loop-name.name-index + 1) c.args.names.now)) f
+          (g.S.Shelf.counts c.args.shelf.now) (g.S.Shelf.counts c.read_named.new.shelf)) (sym more) goes;
       stays = c.in_ok-text.ensures.told_stays ∙ v.stays;
       writes = c.in_ok-text.ensures.writes_stay ∙ v.writes;
     }
 
-pub returns-in-Err-clause-refused : goal.returns-in-Err-clause-refused
-returns-in-Err-clause-refused g c =
-    let first = c.args.shelf.now in
-    let here = c.loop-name.shelf in
-    let behind = c.read_named.new.shelf in
-    let told : Told = g.S.Shelf.told first in
-    let told_here : Told = g.S.Shelf.told here in
-    let before : Counts = g.S.Shelf.counts first in
-    let now : Counts = g.S.Shelf.counts here in
-    let later : Counts = g.S.Shelf.counts behind in
+pub returns-in_err-text-clause-refused : goal.returns-in_err-text-clause-refused
+returns-in_err-text-clause-refused g c =
     let v = c.loop-name.invariant in
-    let same : told_here ≡ told = v.stays in
-    let number = c.loop-name.number in
-    let found = c.loop-name.joiner in
-    let counted : number ≡ length found + 1 = let a = v.number in let b = v.count in omega (arith, a, b) in
-    next_fails told told_here c.args.names.now c.loop-name.name-index _ found number before now later c.loop-name-test.true counted same v.goes
-    c.in_ok-text.field-0 c.in-Err.reply c.in-Err.is c.in_ok-text.ensures.refused
+    step_fails c.from_residual.result c.in_err-text.field-0.0 _
+    (Performed (g.S.Shelf.told c.args.shelf.now) (modules_protocol (texts c.args.names.now) []) (g.S.Shelf.counts c.args.shelf.now)
+    (g.S.Shelf.counts c.read_named.new.shelf)) c.from_residual.ensures.1 c.in_err-text.ensures.refused
+    (next_fails _ _ c.args.names.now c.loop-name.name-index _ c.loop-name.joiner _ _ _ _ c.loop-name-test.true v.behind v.stays v.goes)

@@ -6,8 +6,8 @@ use Rattle.mx_command.proofs.join.read_modules.Given as goal
 -- the texts so far are those of the names so far, and what the names that are left perform behind them, all names perform
 abbrev pub invariant-loop-name : goal.invariant-loop-name
 invariant-loop-name g l = record {
-  count : length l.joiner ≡ l.name-index;
   number : l.number ≡ l.name-index + 1;
+  behind : l.number ≡ length l.joiner + 1;
   goes : Continues (g.S.Shelf.told l.fn.shelf) (texts l.names) (texts (drop l.name-index l.names)) l.joiner
       (g.S.Shelf.counts l.fn.shelf)
       (g.S.Shelf.counts l.shelf);

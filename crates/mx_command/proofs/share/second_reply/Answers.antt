@@ -1,39 +1,21 @@
-use Rattle.std.proofs.Common.{◌≡◌, ℕ, List, Option, IfOk, IfErr, option_map, subst}
+use Rattle.std.proofs.Common.{refl, option_map}
 use Rattle.mx_source.specs.SourceValue.{SourceValue}
 use Rattle.cmd_answer.specs.declared.FileKind.TheVariants.{Second}
-use Rattle.cmd_answer.specs.Answer.{Answer}
-use Rattle.mx_io.specs.Shelves.{Told, Counts}
-use Rattle.cmd_answer.specs.Protocol.{Protocol, Performed}
-use Rattle.cmd_answer.specs.Replies.{reply_answer}
+use Rattle.cmd_answer.specs.Protocol.{Protocol, Reads}
+use Rattle.cmd_answer.proofs.Replies.{reply_goes}
 use Rattle.mx_tasks.specs.Places.{upper}
-use Rattle.mx_command.specs.Protocols.{pair_protocol}
-use Rattle.mx_command.proofs.Readings.{SourceGiven, SourceRefused}
+use Rattle.mx_command.specs.Protocols.{assembled_protocol, pair_protocol}
+use Rattle.mx_command.proofs.Readings.{one_fails}
 use Rattle.mx_command.proofs.share.second_reply.Goals as goal
 
-pub returns-in-Err-clause-performed : goal.returns-in-Err-clause-performed
-returns-in-Err-clause-performed g c = λ layout_of is.
-    let told : Told = g.S.Shelf.told c.args.shelf.now in
-    let before : Counts = g.S.Shelf.counts c.args.shelf.now in
-    let between : Counts = g.S.Shelf.counts c.read_assembled.new.shelf in
-    let interrupts : Option (List ℕ) = option_map (λ s. s.now) c.args.interrupts in
-    subst
-    (λ r. IfErr r (SourceRefused told Second c.args.second.now 2 upper before between))
-    c.in-Err.is c.in_ok-source.ensures.refused (pair_protocol layout_of interrupts c.args.budget c.args.first.now)
+pub returns-in_err-source-clause-performed : goal.returns-in_err-source-clause-performed
+returns-in_err-source-clause-performed g c = λ layout_of is.
+    one_fails (g.S.Shelf.told c.args.shelf.now) _ _ _ _ c.from_residual.ensures.1 Second c.args.second.now 2 upper
+    (pair_protocol layout_of (option_map (λ s. s.now) c.args.interrupts) c.args.budget c.args.first.now) c.in_err-source.ensures.refused
 
 pub returns-clause-performed : goal.returns-clause-performed
 returns-clause-performed g c = λ layout_of is.
-    let told : Told = g.S.Shelf.told c.args.shelf.now in
-    let before : Counts = g.S.Shelf.counts c.args.shelf.now in
-    let read = c.read_assembled.new.shelf in
-    let told_between : Told = g.S.Shelf.told read in
-    let between : Counts = g.S.Shelf.counts read in
-    let after : Counts = g.S.Shelf.counts c.pair_reply.new.shelf in
-    let interrupts : Option (List ℕ) = option_map (λ s. s.now) c.args.interrupts in
-    let next : SourceValue → Protocol = (pair_protocol layout_of interrupts c.args.budget c.args.first.now) in
-    let answer : Answer = reply_answer c.in_ok-reply.reply in
-    let same : told_between ≡ told = c.in_ok-source.ensures.told_stays in
-    let given = subst
-    (λ r. IfOk r (SourceGiven told Second c.args.second.now 2 upper before between))
-    c.in-Ok.is c.in_ok-source.ensures.given in
-    given next after answer
-    (subst (λ (t : Told). Performed t (next c.in-Ok.source) between after answer) same (c.in_ok-reply.ensures.performed layout_of is))
+    let next : SourceValue → Protocol = pair_protocol layout_of (option_map (λ s. s.now) c.args.interrupts) c.args.budget c.args.first.now in
+    let source = c.in_ok-source.source in
+    reply_goes _ _ (Reads Second c.args.second.now (assembled_protocol 2 upper next)) (next source) (next source) _ _ _ _
+    c.in_ok-source.ensures.told_stays refl (c.in_ok-source.ensures.given next _) (c.pair_reply.ensures.performed layout_of is)

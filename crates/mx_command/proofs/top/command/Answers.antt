@@ -1,4 +1,4 @@
-use Rattle.std.proofs.Common.{◌≡◌, ◌≢◌, ℕ, List, Bool, true, false, Option, map, string_bytes, refl, sym, ap, ◌∙◌, subst, ⊎_elim, inl, inr}
+use Rattle.std.proofs.Common.{◌≡◌, ◌≢◌, Bool, true, false, Option, map, string_bytes, refl, sym, ap, ◌∙◌, subst, ⊎_elim, inl, inr}
 use Rattle.std.specs.Prelude.{is_some}
 use Rattle.cmd_answer.specs.declared.Status.{Status}
 use Rattle.cmd_answer.specs.declared.Status.TheVariants.{Usage, WriteFault, Memory}
@@ -12,7 +12,7 @@ use Rattle.cmd_table.specs.Asked.{command_of}
 use Rattle.cmd_source.specs.Protocols.{Layouts}
 use Rattle.mx_command.specs.Protocols.{protocol_of}
 use Rattle.cmd_answer.proofs.Commands.{status_cases}
-use Rattle.mx_command.proofs.Own.{own_answers, replied_status, replied_asks}
+use Rattle.mx_command.proofs.Own.{own_answers, replied_status, replied_asks, nothing_to_write}
 use Rattle.cmd_answer.specs.Commands.{Outside, Commanded}
 use Rattle.mx_command.proofs.Ended.{ended, promised}
 use Rattle.mx_command.proofs.Headline.{delivered_is_headline}
@@ -20,7 +20,6 @@ use Rattle.mx_command.proofs.PairHeadline.{delivered_is_pair}
 use Rattle.mx_command.proofs.StopsHeadline.{delivered_is_stops}
 use Rattle.mx_command.proofs.JoinHeadline.{delivered_is_joined}
 use Rattle.mx_command.proofs.BestHeadline.{delivered_is_best}
-use Rattle.mx_command.proofs.Prints.{nothing_to_write}
 use Rattle.mx_command.specs.Writing.{writes_a_file}
 use Rattle.mx_command.specs.Layouts.{greedy_layout, command_protocol}
 use Rattle.mx_command.proofs.GreedyLayouts.{greedy_is}
@@ -88,45 +87,30 @@ returns-clause-sound g c = (whole g c).sound
 
 pub returns-clause-headline : goal.returns-clause-headline
 returns-clause-headline g c = λ tells undisturbed accepted.
-    promised (command_protocol (asked_by g c)) (before g c) (after g c) c.finish.result _ (whole g c)
-    (delivered_is_headline (asked_by g c) (g.S.Shelf.told c.args.shelf.now).held accepted greedy_layout greedy_is c.finish.result
-    (g.S.Shelf.told c.args.shelf.now) (g.S.Shelf.told c.finish.new.shelf) (g.W.Sink.written c.args.out.now) (g.W.Sink.written c.finish.new.out))
-    tells undisturbed
+    promised _ _ _ _ _ (whole g c) (delivered_is_headline _ _ accepted greedy_layout greedy_is _ _ _ _ _) tells undisturbed
 
 pub returns-clause-pair : goal.returns-clause-pair
 returns-clause-pair g c = λ tells undisturbed accepted.
-    promised (command_protocol (asked_by g c)) (before g c) (after g c) c.finish.result _ (whole g c)
-    (delivered_is_pair (asked_by g c) (g.S.Shelf.told c.args.shelf.now).held accepted greedy_layout greedy_is c.finish.result
-    (g.S.Shelf.told c.args.shelf.now) (g.S.Shelf.told c.finish.new.shelf) (g.W.Sink.written c.args.out.now) (g.W.Sink.written c.finish.new.out))
-    tells undisturbed
+    promised _ _ _ _ _ (whole g c) (delivered_is_pair _ _ accepted greedy_layout greedy_is _ _ _ _ _) tells undisturbed
 
 pub returns-clause-stops : goal.returns-clause-stops
 returns-clause-stops g c = λ tells undisturbed accepted.
-    promised (command_protocol (asked_by g c)) (before g c) (after g c) c.finish.result _ (whole g c)
-    (delivered_is_stops (asked_by g c) (g.S.Shelf.told c.args.shelf.now).held accepted c.in-Ok.ensures.within greedy_layout greedy_is c.finish.result
-    (g.S.Shelf.told c.args.shelf.now) (g.S.Shelf.told c.finish.new.shelf) (g.W.Sink.written c.args.out.now) (g.W.Sink.written c.finish.new.out))
-    tells undisturbed
+    promised _ _ _ _ _ (whole g c) (delivered_is_stops _ _ accepted c.in-Ok.ensures.within greedy_layout greedy_is _ _ _ _ _) tells undisturbed
 
 pub returns-clause-modules : goal.returns-clause-modules
 returns-clause-modules g c = λ tells undisturbed accepted.
-    promised (command_protocol (asked_by g c)) (before g c) (after g c) c.finish.result _ (whole g c)
-    (delivered_is_joined (asked_by g c) (g.S.Shelf.told c.args.shelf.now).held accepted c.in-Ok.ensures.within greedy_layout c.finish.result
-    (g.S.Shelf.told c.args.shelf.now) (g.S.Shelf.told c.finish.new.shelf) (g.W.Sink.written c.args.out.now) (g.W.Sink.written c.finish.new.out))
-    tells undisturbed
+    promised _ _ _ _ _ (whole g c) (delivered_is_joined _ _ accepted c.in-Ok.ensures.within greedy_layout _ _ _ _ _) tells undisturbed
 
 pub returns-clause-best : goal.returns-clause-best
 returns-clause-best g c = λ tells undisturbed accepted.
-    promised (command_protocol (asked_by g c)) (before g c) (after g c) c.finish.result _ (whole g c)
-    (delivered_is_best (asked_by g c) (g.S.Shelf.told c.args.shelf.now).held accepted greedy_layout greedy_is c.finish.result
-    (g.S.Shelf.told c.args.shelf.now) (g.S.Shelf.told c.finish.new.shelf) (g.W.Sink.written c.args.out.now) (g.W.Sink.written c.finish.new.out))
-    tells undisturbed
+    promised _ _ _ _ _ (whole g c) (delivered_is_best _ _ accepted greedy_layout greedy_is _ _ _ _ _) tells undisturbed
 
 pub returns-clause-performed : goal.returns-clause-performed
 returns-clause-performed g c = λ w m.
     let answer : Answer = reply_answer c.in-Ok.reply in
     let d = c.finish.ensures.delivered w m in (
       answer,
-      subst (λ (counts : Counts). Performed (g.S.Shelf.told c.args.shelf.now) (command_protocol (asked_by g c)) (g.S.Shelf.counts c.args.shelf.now) counts answer)
+      subst (λ (counts : Counts). Performed (before g c).told (command_protocol (asked_by g c)) (before g c).counts counts answer)
           (sym c.finish.ensures.unread) (c.in-Ok.ensures.performed greedy_layout greedy_is),
       d.status,
       d.output,
@@ -149,22 +133,16 @@ returns-clause-unwrote g c = (whole g c).unwrote
 
 pub returns-clause-promised : goal.returns-clause-promised
 returns-clause-promised g c = λ w m.
-    let asked : Option Command = asked_by g c in
-    let status : Status = c.finish.result in
-    let told : Told = g.S.Shelf.told c.args.shelf.now in
-    let told' : Told = g.S.Shelf.told c.finish.new.shelf in
-    let put : List ℕ = g.W.Sink.written c.args.out.now in
-    let put' : List ℕ = g.W.Sink.written c.finish.new.out in
     let is = (whole g c).exact_held w m in (
       is.0,
       is.1,
       λ held agree. let d = is.2 held agree in record {
         delivered = d;
-        headline = λ a. delivered_is_headline asked held a greedy_layout greedy_is status told told' put put' d;
-        pair = λ a. delivered_is_pair asked held a greedy_layout greedy_is status told told' put put' d;
-        stops = λ a. delivered_is_stops asked held a c.in-Ok.ensures.within greedy_layout greedy_is status told told' put put' d;
-        modules = λ a. delivered_is_joined asked held a c.in-Ok.ensures.within greedy_layout status told told' put put' d;
-        best = λ a. delivered_is_best asked held a greedy_layout greedy_is status told told' put put' d;
+        headline = λ a. delivered_is_headline _ _ a greedy_layout greedy_is _ _ _ _ _ d;
+        pair = λ a. delivered_is_pair _ _ a greedy_layout greedy_is _ _ _ _ _ d;
+        stops = λ a. delivered_is_stops _ _ a c.in-Ok.ensures.within greedy_layout greedy_is _ _ _ _ _ d;
+        modules = λ a. delivered_is_joined _ _ a c.in-Ok.ensures.within greedy_layout _ _ _ _ _ d;
+        best = λ a. delivered_is_best _ _ a greedy_layout greedy_is _ _ _ _ _ d;
       },
     )
 

@@ -10,20 +10,8 @@ use Rattle.std.specs.Prelude.{All}
 use Rattle.std.proofs.lemmas.Result.{IfOk-weaker}
 use Rattle.mx_faults.proofs.walk.found_in.Goals as goal
 
-pub returns-clause-found : goal.returns-clause-found
-returns-clause-found c =
-    let low = c.args.bounds.now.data_start in
-    let text = c.args.text.now in
-    let first : texts c.deref.result.now ≡ lines_of text = ap texts c.deref.ensures.value ∙ c.in_ok-lines.ensures.lines in
-    let second : texts c.deref-2.result.now ≡ lines_of text = ap texts c.deref-2.ensures.value ∙ c.in_ok-lines.ensures.lines in
-    let labels = c.in_ok-definitions.definitions.labels in
-    let defined : labels ≡ labels_from (start low) [] (lines_of text) =
-    c.in_ok-definitions.ensures.labels ∙ ap (λ p. labels_from p [] (texts c.deref.result.now)) c.start.ensures ∙ ap (labels_from (start low) []) first in
-    let found = found_is low c.args.bounds.now.end text labels (texts c.deref-2.result.now) (omega arith) (omega arith) defined second in
-    subst (λ fs. IfOk c.walk.result (λ v. map numbered v.items ≡ take c.args.at_most fs)) found c.walk.ensures.found
-
-pub returns-clause-spans : goal.returns-clause-spans
-returns-clause-spans c =
+pub returns : goal.returns
+returns c =
     let low = c.args.bounds.now.data_start in
     let end = c.args.bounds.now.end in
     let text = c.args.text.now in
@@ -33,6 +21,10 @@ returns-clause-spans c =
     let defined : labels ≡ labels_from (start low) [] (lines_of text) =
     c.in_ok-definitions.ensures.labels ∙ ap (λ p. labels_from p [] (texts c.deref.result.now)) c.start.ensures ∙ ap (labels_from (start low) []) first in
     let lines = texts c.deref-2.result.now in
-    IfOk-weaker c.walk.result (λ v. All (IsShown labels low lines) v.items) (λ v. All (HasSpan low end text) v.items)
-    (λ v h. spans_are low end text labels lines v.items defined second h)
-    c.walk.ensures.spans
+    let found = found_is low end text labels lines (omega arith) (omega arith) defined second in
+    record {
+      found = subst (λ fs. IfOk c.walk.result (λ v. map numbered v.items ≡ take c.args.at_most fs)) found c.walk.ensures.found;
+      spans = IfOk-weaker c.walk.result (λ v. All (IsShown labels low lines) v.items) (λ v. All (HasSpan low end text) v.items)
+          (λ v h. spans_are low end text labels lines v.items defined second h)
+          c.walk.ensures.spans;
+    }

@@ -26,7 +26,8 @@ returns-clause-fault c =
     let kept' = ap (map word) c.deref-3.ensures.value ∙ c.in_ok-words.ensures in
     let again = is_again earlier _ (label_here p) _ _ c.in_ok-repeated.repeated c.in_ok-repeated.ensures.repeated c.label.ensures.label kept in
     let placed = c.place_fault-placed.ensures.fault ∙ ap (place_fault end p (length line)) kept' in
-    settled_by labels low end p earlier line c.settled-fault.result c.in_ok-alone.alone c.place_fault-placed.result c.is_some.result c.settled-fault.ensures c.in_ok-alone.ensures (c.is_some.ensures ∙ again.1) placed
+    settled_by labels low end p earlier line c.settled-fault.result c.in_ok-alone.alone c.place_fault-placed.result c.is_some.result c.settled-fault.ensures
+    c.in_ok-alone.ensures (c.is_some.ensures ∙ again.1) placed
 
 pub shown-requires : goal.shown-requires
 shown-requires c = ap (map word) c.deref-4.ensures.value ∙ c.in_ok-words.ensures

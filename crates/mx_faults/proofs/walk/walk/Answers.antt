@@ -1,6 +1,7 @@
-use Rattle.std.proofs.Common.{ℕ, ◌+◌, ◌++◌, [], List, Bor, drop, get_or, map, ap, sym, ◌∙◌, arith}
+use Rattle.std.proofs.Common.{◌+◌, ◌++◌, drop, get_or, map, ap, sym, ◌∙◌, arith}
 use Rattle.std.specs.List.{cons_option}
 use Rattle.mx_lines.specs.Words.{texts}
+use Rattle.mx_lines.proofs.NextLine.{past}
 use Rattle.mx_asm.specs.Faults.{line_fault}
 use Rattle.mx_asm.specs.Positions.{line_words, after}
 use Rattle.mx_faults.specs.Found.{numbered}
@@ -9,12 +10,7 @@ use Rattle.mx_faults.proofs.Tokens.{one_more_text, before_more, earlier_more, pu
 use Rattle.mx_faults.proofs.Settled.{walked_step, push_option}
 use Rattle.mx_faults.proofs.walk.walk.Goals as goal
 
--- what stands past the end of the lines
-past : Bor (List ℕ)
-past = record { ref_ptr = (0, 0); now = [] }
-
 pub loop-line-preserved : goal.loop-line-preserved
-unfolding past
 loop-line-preserved c =
     let lines = c.args.lines.now in
     let i = c.loop-line.line-index in
@@ -38,7 +34,8 @@ loop-line-preserved c =
           push_shown (IsShown labels low (texts lines))
           c.loop-line.found.items _ number c.in_ok-seen.seen.span c.in_ok-seen.seen.fault c.in_ok-push_fault.ensures.items c.loop-line.invariant.spans
           (shown_here labels earlier low
-          (texts lines) i number line p c.in_ok-seen.seen.span c.in_ok-seen.seen.fault c.loop-line.invariant.number c.loop-line.invariant.before c.loop-line.invariant.earlier
+          (texts lines) i number line p c.in_ok-seen.seen.span c.in_ok-seen.seen.fault c.loop-line.invariant.number c.loop-line.invariant.before
+          c.loop-line.invariant.earlier
           (text_at lines i past (omega arith)) c.in_ok-seen.ensures.span);
       index = omega (arith, c.in_ok-seen.ensures.index, c.loop-line.invariant.index);
       near = c.in_ok-seen.ensures.near;

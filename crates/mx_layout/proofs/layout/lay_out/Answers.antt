@@ -1,4 +1,4 @@
-use Rattle.std.proofs.Common.{◌≡◌, ◌+◌, ◌*◌, ◌≤◌, ℕ, List, true, None, Some, length, map, sum, slice_index, sym, ap, ◌∙◌, subst, All, arith}
+use Rattle.std.proofs.Common.{◌≡◌, ◌+◌, ◌*◌, ◌≤◌, ℕ, List, true, None, Some, length, map, slice_index, sym, ap, ◌∙◌, subst, All, arith}
 use Rattle.std.proofs.lemmas.List.{length-map}
 use Rattle.std.proofs.lemmas.Result.{err_from_is_err_and}
 use Rattle.mx_blocks.specs.declared.block.Block.{Block}
@@ -10,7 +10,7 @@ use Rattle.mx_layout.specs.Overlong.{overlong, branch_target, IsReported}
 use Rattle.mx_layout.specs.Addresses.{starts_from, statement_starts}
 use Rattle.mx_layout.proofs.Sizes.{blocks_few}
 use Rattle.mx_layout.proofs.Reach.{layout_reaches}
-use Rattle.mx_layout.proofs.Whole.{taken_from, starts_at, starts_count, sites_at, kept, blocks_same, layout, short, plans_room, links_count, links_same, refusal}
+use Rattle.mx_layout.proofs.Whole.{taken_from, starts_at, starts_count, sites_at, kept, blocks_same, layout, short, links_count, links_same, refusal, sizes_room}
 use Rattle.mx_layout.proofs.layout.lay_out.Goals as goal
 
 pub choose_all-requires : goal.choose_all-requires
@@ -24,47 +24,30 @@ choose_all-requires g c =
 pub returns-in_err-check_reach-clause-refused : goal.returns-in_err-check_reach-clause-refused
 returns-in_err-check_reach-clause-refused g c =
     let source = c.args.source.now in
-    let place = c.args.place in
     let list = c.in_ok-blocks.blocks.items in
     let chosen = c.in_ok-proposals.field-0 in
     let told = c.in_ok-proposals.ensures in
-    let taken = taken_from g.P.Proposer.proposes source list c.as_slice.result.now chosen.plans.items chosen.proposals.items chosen.rejected
-    c.as_slice.ensures.value c.in_ok-blocks.ensures told.plans told.kept in
+    let taken = taken_from g.P.Proposer.proposes source list c.as_slice.result.now chosen c.as_slice.ensures.value c.in_ok-blocks.ensures told.plans
+    told.kept in
     let error = c.in_err-check_reach.field-0.0 in
-    let found : IsReported (overlong source place list) error =
-    subst (λ (l : List Block). IsReported (overlong source place l) error) c.as_slice-2.ensures.value c.in_err-check_reach.ensures.refused in
+    let found : IsReported (overlong source c.args.place list) error =
+    subst (λ (l : List Block). IsReported (overlong source c.args.place l) error) c.as_slice-2.ensures.value c.in_err-check_reach.ensures.refused in
     let p = err_from_is_err_and c.from_residual-in_err-check_reach.result c.from_residual-in_err-check_reach.ensures.1 in
-    rw (p.1, p.2) (refusal g.P.Proposer.proposes source place list chosen.plans.items chosen.proposals.items chosen.rejected error taken found)
+    rw (p.1, p.2) (refusal g.P.Proposer.proposes source c.args.place list chosen.plans.items chosen.proposals.items chosen.rejected error taken found)
 
 pub starts_of-requires : goal.starts_of-requires
 starts_of-requires g c =
-    let source = c.args.source.now in
-    let place = c.args.place in
-    let list = c.in_ok-blocks.blocks.items in
-    let chosen = c.in_ok-proposals.field-0 in
-    let told = c.in_ok-proposals.ensures in
-    let taken = taken_from g.P.Proposer.proposes source list c.as_slice.result.now chosen.plans.items chosen.proposals.items chosen.rejected
-    c.as_slice.ensures.value c.in_ok-blocks.ensures told.plans told.kept in
-    let sizes : c.in_ok-sizes.sizes.items ≡ map plan_size chosen.plans.items = c.in_ok-sizes.ensures ∙ ap (map plan_size) c.as_slice-3.ensures.value in
-    let room = plans_room g.P.Proposer.proposes source list chosen.plans.items chosen.proposals.items chosen.rejected place.code taken in
-    let same = ap sum (c.as_slice-4.ensures.value ∙ sizes) in
-    let fits = c.requires in
-    omega arith
+    let taken = taken_from g.P.Proposer.proposes c.args.source.now c.in_ok-blocks.blocks.items c.as_slice.result.now c.in_ok-proposals.field-0
+    c.as_slice.ensures.value c.in_ok-blocks.ensures c.in_ok-proposals.ensures.plans c.in_ok-proposals.ensures.kept in
+    let room = sizes_room taken c.args.place.code c.as_slice-3.ensures.value c.in_ok-sizes.ensures c.as_slice-4.ensures.value in
+    omega (arith, c.requires)
 
 pub links_of-requires-clause-room : goal.links_of-requires-clause-room
 links_of-requires-clause-room g c =
-    let source = c.args.source.now in
-    let place = c.args.place in
-    let list = c.in_ok-blocks.blocks.items in
-    let chosen = c.in_ok-proposals.field-0 in
-    let told = c.in_ok-proposals.ensures in
-    let taken = taken_from g.P.Proposer.proposes source list c.as_slice.result.now chosen.plans.items chosen.proposals.items chosen.rejected
-    c.as_slice.ensures.value c.in_ok-blocks.ensures told.plans told.kept in
-    let sizes : c.in_ok-sizes.sizes.items ≡ map plan_size chosen.plans.items = c.in_ok-sizes.ensures ∙ ap (map plan_size) c.as_slice-3.ensures.value in
-    let room = plans_room g.P.Proposer.proposes source list chosen.plans.items chosen.proposals.items chosen.rejected place.code taken in
-    let same = ap sum (c.as_slice-6.ensures.value ∙ sizes) in
-    let fits = c.requires in
-    omega arith
+    let taken = taken_from g.P.Proposer.proposes c.args.source.now c.in_ok-blocks.blocks.items c.as_slice.result.now c.in_ok-proposals.field-0
+    c.as_slice.ensures.value c.in_ok-blocks.ensures c.in_ok-proposals.ensures.plans c.in_ok-proposals.ensures.kept in
+    let room = sizes_room taken c.args.place.code c.as_slice-3.ensures.value c.in_ok-sizes.ensures c.as_slice-6.ensures.value in
+    omega (arith, c.requires)
 
 pub returns : goal.returns
 returns g c =
@@ -73,8 +56,8 @@ returns g c =
     let list = c.in_ok-blocks.blocks.items in
     let chosen = c.in_ok-proposals.field-0 in
     let told = c.in_ok-proposals.ensures in
-    let taken = taken_from g.P.Proposer.proposes source list c.as_slice.result.now chosen.plans.items chosen.proposals.items chosen.rejected
-    c.as_slice.ensures.value c.in_ok-blocks.ensures told.plans told.kept in
+    let taken = taken_from g.P.Proposer.proposes source list c.as_slice.result.now chosen c.as_slice.ensures.value c.in_ok-blocks.ensures told.plans
+    told.kept in
     let sizes : c.in_ok-sizes.sizes.items ≡ map plan_size chosen.plans.items = c.in_ok-sizes.ensures ∙ ap (map plan_size) c.as_slice-3.ensures.value in
     let plan_list = chosen.plans.items in
     let starts : c.in_ok-starts.starts.items ≡ starts_at place.code plan_list =

@@ -51,7 +51,8 @@ push_block-requires c =
     (slice_get_read l.starts.items _ k c.index-in-loop-k-2.result.now refl (omega arith) c.index-in-loop-k-2.ensures) in
     let ready = linkable c.args.source.now l c.args.slots k
     (site c.index.result.now c.index-in-loop-k.result.now c.index-in-loop-k-2.result.now) c.as_slice.result.now
-    c.statements-statements.result.now c.copied_at-copied.result c.statements-statements.ensures.source c.requires at c.as_slice.ensures.value c.statements-statements.ensures.value (c.copied_at-copied.ensures _ at) in
+    c.statements-statements.result.now c.copied_at-copied.result c.statements-statements.ensures.source c.requires at c.as_slice.ensures.value
+    c.statements-statements.ensures.value (c.copied_at-copied.ensures _ at) in
     record {
       fit = search rules;
       short = ready.short;

@@ -17,7 +17,8 @@ add_named-requires c =
     let es = named_labels c.named-labels.result.now.entries in
     let R = renamed c.args.own.now c.args.place in
     let e : List ℕ × Label = (name_bytes c.in-Some.name.now, c.in-Some.label.now) in
-    let there : slice_get es c.loop-i.i ≡ Some e = slice_get-map (λ p. (name_bytes p.0, p.1)) c.named-labels.result.now.entries c.loop-i.i ∙ ap (option_map (λ p. (name_bytes p.0, p.1))) (sym c.in-Some.ensures.entry) in
+    let there : slice_get es c.loop-i.i ≡ Some e = slice_get-map (λ p. (name_bytes p.0, p.1)) c.named-labels.result.now.entries c.loop-i.i
+    ∙ ap (option_map (λ p. (name_bytes p.0, p.1))) (sym c.in-Some.ensures.entry) in
     let name = c.deref.ensures.value ∙ c.in_ok-bytes.ensures ∙ ap (program_name c.args.own.now c.args.place) c.bytes.ensures in
     let apart = subst (λ ls. AreApart (old ++ map R ls)) (sym c.loop-i.invariant.own) c.requires.apart in
     ap (label_named (named_labels c.loop-i.named.entries)) name
@@ -31,7 +32,8 @@ loop-i-preserved c =
     let R = renamed c.args.own.now c.args.place in
     let i = c.loop-i.i in
     let e : List ℕ × Label = (name_bytes c.in-Some.name.now, c.in-Some.label.now) in
-    let there : slice_get es c.loop-i.i ≡ Some e = slice_get-map (λ p. (name_bytes p.0, p.1)) c.named-labels.result.now.entries c.loop-i.i ∙ ap (option_map (λ p. (name_bytes p.0, p.1))) (sym c.in-Some.ensures.entry) in
+    let there : slice_get es c.loop-i.i ≡ Some e = slice_get-map (λ p. (name_bytes p.0, p.1)) c.named-labels.result.now.entries c.loop-i.i
+    ∙ ap (option_map (λ p. (name_bytes p.0, p.1))) (sym c.in-Some.ensures.entry) in
     let name = c.deref.ensures.value ∙ c.in_ok-bytes.ensures ∙ ap (program_name c.args.own.now c.args.place) c.bytes.ensures in
     record {
       own = c.loop-i.invariant.own;

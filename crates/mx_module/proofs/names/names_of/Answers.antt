@@ -14,6 +14,7 @@ add_names-requires-clause-apart c =
     let before = named_labels c.loop-module.named.entries in
     let own = map (renamed m place) m.labels in
     let later = labels_in (place + 1) (drop (i + 1) ms) in
-    let step = at_drop_more (λ xs. before ++ labels_in place xs) ms i m (omega arith) ∙ ap (λ x. before ++ labels_in place (x ∷ drop (i + 1) ms)) (sym c.module-item.is) in
+    let step = at_drop_more (λ xs. before ++ labels_in place xs) ms i m (omega arith) ∙ ap (λ x. before ++ labels_in place (x ∷ drop (i + 1) ms))
+    (sym c.module-item.is) in
     front_apart (before ++ own) later
     (subst AreApart (sym c.loop-module.invariant.named ∙ step ∙ sym (append_assoc before own later)) c.requires.apart)

@@ -1,32 +1,24 @@
-use Rattle.std.proofs.Common.{◌≡◌, ◌+◌, ◌++◌, ◌∷◌, List, length, drop, sym, ap, ◌∙◌, subst, append_assoc, arith}
-use Rattle.std.proofs.lemmas.List.{at_drop_more}
+use Rattle.std.proofs.Common.{◌≡◌, ◌+◌, ◌++◌, ◌∷◌, drop, sym, ap, ◌∙◌, subst, arith}
 use Rattle.mx_asm.specs.Effects.{first_input}
 use Rattle.mx_asm.specs.Listings.{IsListingOf}
 use Rattle.mx_asm.specs.Texts.{effects_from, statements_in, lines_in, values_in, input_in}
 use Rattle.mx_module.specs.LinkFaults.{refusal_or}
-use Rattle.mx_module.specs.Modules.{ModuleValue}
 use Rattle.mx_module.specs.Joined.{seen_in, effects_in, fault_in_lines, line_of}
-use Rattle.mx_module.proofs.Appended.{statements_both, lines_both, values_both, input_both, first_of_three}
-use Rattle.mx_module.proofs.Chained.{Chained, first_room, first_near, next, many}
+use Rattle.mx_module.proofs.Appended.{statements_both, lines_both, values_both, input_both, first_of_three, items_more}
+use Rattle.mx_module.proofs.Chained.{first_room, first_near, next, many, left_modules, left_chained}
 use Rattle.mx_module.proofs.program.read_program.Goals as goal
 
 pub read_lines-requires-clause-room : goal.read_lines-requires-clause-room
 read_lines-requires-clause-room c =
-    let ms = c.args.modules.now in
     let i = c.loop-module.module-index in
     let m = c.module-item.result in
-    let rest = drop (i + 1) ms in
-    let e : drop i ms ≡ m ∷ rest = at_drop_more (λ xs. xs) ms i m (omega arith) ∙ ap (λ x. x ∷ rest) (sym c.module-item.is) in
-    first_room m rest (subst Chained e c.loop-module.invariant.chained)
+    first_room m (drop (i + 1) c.args.modules.now) (left_chained c.args.modules.now i m (omega arith) c.module-item.is c.loop-module.invariant.chained)
 
 pub read_lines-requires-clause-order : goal.read_lines-requires-clause-order
 read_lines-requires-clause-order c =
-    let ms = c.args.modules.now in
     let i = c.loop-module.module-index in
     let m = c.module-item.result in
-    let rest = drop (i + 1) ms in
-    let e : drop i ms ≡ m ∷ rest = at_drop_more (λ xs. xs) ms i m (omega arith) ∙ ap (λ x. x ∷ rest) (sym c.module-item.is) in
-    first_near m rest (subst Chained e c.loop-module.invariant.chained)
+    first_near m (drop (i + 1) c.args.modules.now) (left_chained c.args.modules.now i m (omega arith) c.module-item.is c.loop-module.invariant.chained)
 
 pub refusal-requires : goal.refusal-requires
 refusal-requires c = let few = many c.args.modules.now c.requires.program in omega (arith, few)
@@ -38,42 +30,35 @@ loop-module-preserved c =
     let place = c.loop-module.place in
     let m = c.module-item.result in
     let rest = drop (i + 1) ms in
-    let e : drop i ms ≡ m ∷ rest = at_drop_more (λ xs. xs) ms i m (omega arith) ∙ ap (λ x. x ∷ rest) (sym c.module-item.is) in
-    let here = subst Chained e c.loop-module.invariant.chained in
+    let here = left_chained ms i m (omega arith) c.module-item.is c.loop-module.invariant.chained in
+    let e : drop i ms ≡ m ∷ rest = left_modules ms i m (omega arith) c.module-item.is in
     let seen = seen_in ms place m in
     let h : IsListingOf seen 65536 m.start m.lines c.in-Ok.more =
     subst (λ k. IsListingOf k 65536 m.start m.lines c.in-Ok.more) c.in_ok-seen.ensures c.in-Ok.ensures.read in
     let own = effects_from seen m.start 1 m.lines in
     let later = effects_in ms (place + 1) rest in
+    let left = effects_in ms place (drop i ms) in
+    let parts : left ≡ own ++ later = ap (effects_in ms place) e in
     let was = c.loop-module.listing in
+    let more = c.in-Ok.more in
+    let new = c.append.new.listing in
+    let added = c.in_ok-append.ensures in
     record {
       place = omega arith;
       chained = next m rest here h.few h.within;
       fault =
           sym (ap (λ f. refusal_or (line_of place f) (fault_in_lines ms (place + 1) rest)) h.faultless)
           ∙ ap (fault_in_lines ms place) (sym e) ∙ c.loop-module.invariant.fault;
-      statements =
-          ap (λ x. x ++ statements_in later) c.in_ok-append.ensures.statements
-          ∙ ap (λ x. (was.statements.items ++ x) ++ statements_in later) h.statements
-          ∙ append_assoc was.statements.items (statements_in own) (statements_in later)
-          ∙ ap (λ x. was.statements.items ++ x) (sym (statements_both own later))
-          ∙ ap (λ x. was.statements.items ++ statements_in (effects_in ms place x)) (sym e) ∙ c.loop-module.invariant.statements;
-      lines =
-          ap (λ x. x ++ lines_in later) c.in_ok-append.ensures.lines
-          ∙ ap (λ x. (was.lines.items ++ x) ++ lines_in later) h.lines
-          ∙ append_assoc was.lines.items (lines_in own) (lines_in later)
-          ∙ ap (λ x. was.lines.items ++ x) (sym (lines_both own later))
-          ∙ ap (λ x. was.lines.items ++ lines_in (effects_in ms place x)) (sym e) ∙ c.loop-module.invariant.lines;
-      values =
-          ap (λ x. x ++ values_in later) c.in_ok-append.ensures.user_data
-          ∙ ap (λ x. (was.user_data.items ++ x) ++ values_in later) h.user_data
-          ∙ append_assoc was.user_data.items (values_in own) (values_in later)
-          ∙ ap (λ x. was.user_data.items ++ x) (sym (values_both own later))
-          ∙ ap (λ x. was.user_data.items ++ values_in (effects_in ms place x)) (sym e) ∙ c.loop-module.invariant.values;
+      statements = items_more statements_in statements_both was.statements.items more.statements.items new.statements.items _ own later left
+          parts added.statements h.statements c.loop-module.invariant.statements;
+      lines = items_more lines_in lines_both was.lines.items more.lines.items new.lines.items _ own later left
+          parts added.lines h.lines c.loop-module.invariant.lines;
+      values = items_more values_in values_both was.user_data.items more.user_data.items new.user_data.items _ own later left
+          parts added.user_data h.user_data c.loop-module.invariant.values;
       input =
-          ap (λ x. first_input x (input_in later)) c.in_ok-append.ensures.input
+          ap (λ x. first_input x (input_in later)) added.input
           ∙ ap (λ x. first_input (first_input was.input x) (input_in later)) h.input
           ∙ first_of_three was.input (input_in own) (input_in later)
           ∙ ap (first_input was.input) (sym (input_both own later))
-          ∙ ap (λ x. first_input was.input (input_in (effects_in ms place x))) (sym e) ∙ c.loop-module.invariant.input;
+          ∙ ap (λ x. first_input was.input (input_in x)) (sym parts) ∙ c.loop-module.invariant.input;
     }

@@ -50,7 +50,8 @@ returns-then-left-gt0-clause-next g c = λ p h s.
     let over : Wait = Missed (c.left-left.result - 1) in
     let stalled : Pipe g.row.C.Denot = record q { wait = over; counts = after_stall q.counts } in
     subst (λ x. StandsFor g.C.FetchCache.holds x p (h ++ c.args.request ∷ [])) (sym c.stall.ensures)
-    (stands_on g.C.FetchCache.holds self p h s c.args.request stalled _ (record { code = keeps.code; handler = keeps.handler; decoded = keeps.decoded; input = keeps.input })
+    (stands_on g.C.FetchCache.holds self p h s c.args.request stalled _
+    (record { code = keeps.code; handler = keeps.handler; decoded = keeps.decoded; input = keeps.input })
     (cycled_stalled resident (code_of_pipe self) self.board.input m c.args.request (sym s.tied.rest.halted ∙ c.if-self.false)
     (ne_eqb _ 0 (λ e. absurd (omega (arith, e, left, c.if-left-gt0.true)))))
     (c.left-left.ensures.cache m tied.rest.next waits, ap (λ x. x - 1) (sym left), c.left-left.ensures.missed m tied.rest.next waits c.if-left-gt0.true)

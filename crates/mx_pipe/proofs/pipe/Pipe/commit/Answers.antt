@@ -11,7 +11,7 @@ use Rattle.mx_turn.specs.System.{seen, slot_of}
 use Rattle.mx_pipe.specs.Latched.{Latched, does}
 use Rattle.mx_pipe.specs.Made.{reached, takes_byte, sends, chain_kept, md_kept}
 use Rattle.mx_pipe.specs.Kept.{IsRead}
-use Rattle.mx_pipe.proofs.Makes.{written_is, md_is, sends_is, takes_is, chain_is, slot_is, halt_is}
+use Rattle.mx_pipe.proofs.Makes.{is_made, slot_is, halt_is}
 use Rattle.mx_pipe.proofs.pipe.Pipe.commit.Goals as goal
 
 pub returns-clause-state : goal.returns-clause-state
@@ -22,6 +22,7 @@ returns-clause-state g c = λ code m h.
     let u : Bool = m.psw.current.user in
     let r : Words = seen m.slot m.core.regs in
     let find : ℕ → Found = (board u self.board.input).load m.core.mem m.core.taken in
+    let is = is_made u m.chain i at r m.core.md find in
     let user : self.psw.current.user ≡ u = ap (λ (x : Psw). x.current.user) h.rest.psw in
     let finds : (board self.psw.current.user self.board.input).load (words_of self.board) self.board.taken ≡ find =
     (λ k. (board (user k) self.board.input).load (h.rest.words k) (h.rest.taken k)) in
@@ -40,7 +41,7 @@ returns-clause-state g c = λ code m h.
         regs =
             (λ k. write (file k) (dest (does (c.reach.ensures.result k))) (c.reach.ensures.result k).result)
             ∙ (λ k. write m.core.regs (dest (h.alu.inst k)) (reached (h.alu.inst k) (h.alu.result k) (finds k)))
-            ∙ written_is u m.chain i at r m.core.md find m.core.regs;
+            ∙ is.written m.core.regs;
         slot =
             (λ k. slot_of (does (c.reach.ensures.result k)) (file k))
             ∙ (λ k. slot_of (h.alu.inst k) m.core.regs)
@@ -52,19 +53,19 @@ returns-clause-state g c = λ code m h.
             c.reach.ensures.md
             ∙ (λ k. md_kept self.alu.inst self.alu.result self.alu.md (h.rest.md k))
             ∙ h.alu.md
-            ∙ md_is u m.chain i at r m.core.md find;
+            ∙ is.leaves;
         words =
             c.reach.ensures.words
             ∙ (λ k. stored (board (user k) self.board.input) (sends (h.alu.inst k) (h.alu.result k) (h.alu.b k)) (h.rest.words k))
-            ∙ ap (λ s. stored (board u self.board.input) s m.core.mem) (sends_is u m.chain i at r m.core.md find);
+            ∙ ap (λ s. stored (board u self.board.input) s m.core.mem) is.stored;
         taken =
             c.reach.ensures.taken
             ∙ (λ k. cond (takes_byte (h.alu.inst k) (h.alu.result k) (finds k)) (suc (h.rest.taken k)) (h.rest.taken k))
-            ∙ ap (λ b. cond b (suc m.core.taken) m.core.taken) (takes_is u m.chain i at r m.core.md find);
+            ∙ ap (λ b. cond b (suc m.core.taken) m.core.taken) is.takes;
         chain =
             c.reach.ensures.chain
             ∙ (λ k. chain_kept (user k) (h.alu.inst k) (h.alu.result k) (h.rest.chain k))
-            ∙ chain_is u m.chain i at r m.core.md find;
+            ∙ is.chain;
         psw = h.rest.psw;
         asked = h.rest.asked;
         halted = c.reach.ensures.halted ∙ ap is_halt h.alu.inst ∙ halt_is u i;
@@ -82,4 +83,4 @@ returns-clause-byte g c = λ code m h.
     let user : self.psw.current.user ≡ u = ap (λ (x : Psw). x.current.user) h.rest.psw in
     c.reach.ensures.byte
     ∙ (λ k. sent (board (user k) self.board.input) (sends (h.alu.inst k) (h.alu.result k) (h.alu.b k)))
-    ∙ ap (λ s. sent (board u self.board.input) s) (sends_is u m.chain i (address_of m.alu) (seen m.slot m.core.regs) m.core.md find)
+    ∙ ap (λ s. sent (board u self.board.input) s) (is_made u m.chain i (address_of m.alu) (seen m.slot m.core.regs) m.core.md find).stored

@@ -1,6 +1,6 @@
-use Rattle.std.proofs.Common.{arith, ◌≡◌, ◌≤◌, ◌+◌, ℕ, suc, Bool, true, false, not, cond, List, ◌∷◌, ◌++◌, option_to_list, append_assoc, refl, sym, ap, ◌∙◌, subst}
-use Rattle.std.specs.Prelude.{slice_index}
+use Rattle.std.proofs.Common.{arith, ◌≡◌, ◌+◌, ℕ, suc, Bool, true, false, not, cond, List, ◌∷◌, ◌++◌, option_to_list, append_assoc, refl, sym, ap, ◌∙◌, subst}
 use Rattle.std.proofs.lemmas.Bool.{eq-eqb}
+use Rattle.mx_isa.specs.declared.board.TheConstants.{CODE_BASE}
 use Rattle.mx_isa.specs.Words.{reg}
 use Rattle.mx_isa.specs.Views.{dest}
 use Rattle.mx_code.specs.Decoding.{inst_of}
@@ -18,7 +18,7 @@ use Rattle.mx_lane.specs.Lanes.{lane_of, quietly, later_bytes, InTurn, IsLeft}
 use Rattle.mx_lane.proofs.Leaving.{may_leave}
 use Rattle.mx_pipe.specs.declared.pipe.Pipe.{Pipe}
 use Rattle.mx_pipe.specs.declared.pipe.Wait.TheVariants.{NotAsked}
-use Rattle.mx_pipe.specs.Kept.{code_of_pipe, has_missed, Holds, Commits, Waits, KeepsProgram, StandsFor}
+use Rattle.mx_pipe.specs.Kept.{code_of_pipe, Holds, Commits, Waits, KeepsProgram, StandsFor}
 use Rattle.mx_pipe.proofs.Stands.{same_code, keeps_both}
 use Rattle.mx_pipe.proofs.Lanes.{quiet_state, first_and_later, cut, stands_after, goes_after}
 use Rattle.mx_pipe.proofs.pipe.Pipe.run_lane.Goals as goal
@@ -52,7 +52,7 @@ module _ (g : given.Over) (c : After-finish g) (p : Program) (h : List Bool) (s 
   last = c.run.new.self
 
   same : code_of_pipe self ≡ code
-  same = λ k. code_with (code_from inst_of 0 (s.handler k)) (code_from inst_of 4096 (s.code k))
+  same = λ k. code_with (code_from inst_of 0 (s.handler k)) (code_from inst_of CODE_BASE (s.code k))
 
   tied : Holds code self m
   tied = subst (λ x. Holds x self m) same s.tied

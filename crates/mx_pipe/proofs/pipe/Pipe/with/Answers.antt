@@ -1,4 +1,5 @@
 use Rattle.std.proofs.Common.{◌≡◌, length, arith, true≢false, refl, sym, ap, ◌∙◌, cond}
+use Rattle.mx_isa.specs.declared.board.TheConstants.{CODE_BASE, DATA_BASE}
 use Rattle.mx_isa.specs.Words.{write}
 use Rattle.mx_isa.specs.Views.{dest}
 use Rattle.mx_code.specs.Decoding.{inst_of}
@@ -14,9 +15,9 @@ pub returns : goal.returns
 returns g c = record {
   code = c.in_ok-code.ensures ∙ c.deref-2.ensures.value;
   handler = c.in_ok-handler.ensures;
-  decoded = c.in_ok-decoded.ensures ∙ (λ k. code_with (code_from inst_of 0 c.args.handler.now) (code_from inst_of 4096 (c.deref.ensures.value k)));
+  decoded = c.in_ok-decoded.ensures ∙ (λ k. code_with (code_from inst_of 0 c.args.handler.now) (code_from inst_of CODE_BASE (c.deref.ensures.value k)));
   input = c.in_ok-board.ensures.input;
-  waits = (c.requires.empty, λ k. cond (sym (none_resident 4096) k) 0 2);
+  waits = (c.requires.empty, λ k. cond (sym (none_resident CODE_BASE) k) 0 2);
   counts = c.none.ensures;
   tied = record {
     fetch = λ k. (c.cleared.ensures k).word;
@@ -46,7 +47,7 @@ returns g c = record {
     rest = record {
       next = c.fetch_of.ensures;
       md = refl;
-      words = c.in_ok-board.ensures.words ∙ ap (data_from 256) c.deref-3.ensures.value;
+      words = c.in_ok-board.ensures.words ∙ ap (data_from DATA_BASE) c.deref-3.ensures.value;
       taken = c.in_ok-board.ensures.taken;
       chain = c.new-3.ensures;
       psw = c.start.ensures;

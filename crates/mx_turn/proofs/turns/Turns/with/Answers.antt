@@ -1,5 +1,6 @@
 use Rattle.std.proofs.Common.{◌≡◌, Option, replicate, ◌∷◌, [], not, cond, false, sym, ap, ◌∙◌, subst}
 use Rattle.std.specs.Prelude.{slice_index}
+use Rattle.mx_isa.specs.declared.board.TheConstants.{CODE_BASE, DATA_BASE}
 use Rattle.mx_isa.specs.Words.{reg}
 use Rattle.mx_isa.specs.Views.{sources}
 use Rattle.mx_code.specs.Decoding.{inst_of}
@@ -50,7 +51,7 @@ returns g c = record {
       (c.fetch-hit.ensures.next [] c.requires.empty);
   missed = subst (λ (f : Fetch). not c.fetch-hit.result ≡ not (resident [] f.address)) (sym c.at-next.ensures)
       (ap not (c.fetch-hit.ensures.answer [] c.requires.empty));
-  code = c.in_ok-code.ensures ∙ (λ k. code_with (code_from inst_of 0 c.args.handler.now) (code_from inst_of 4096 (c.deref.ensures.value k)));
+  code = c.in_ok-code.ensures ∙ (λ k. code_with (code_from inst_of 0 c.args.handler.now) (code_from inst_of CODE_BASE (c.deref.ensures.value k)));
   input = c.in_ok-board.ensures.input;
   state = λ k. record {
     next = c.at-next.ensures k;
@@ -60,12 +61,12 @@ returns g c = record {
     mem = c.empty-4.ensures k;
     wb = c.empty-5.ensures k;
     past = [];
-    stall = (c.stall_of.ensures ∙ ap (λ b. cond b 0 2) (c.fetch-hit.ensures.answer [] c.requires.empty ∙ none_resident 4096)) k;
+    stall = (c.stall_of.ensures ∙ ap (λ b. cond b 0 2) (c.fetch-hit.ensures.answer [] c.requires.empty ∙ none_resident CODE_BASE)) k;
     latch = false;
     core = record {
       regs = no_registers k;
       md = 0;
-      mem = (c.in_ok-board.ensures.words ∙ ap (data_from 256) c.deref-2.ensures.value) k;
+      mem = (c.in_ok-board.ensures.words ∙ ap (data_from DATA_BASE) c.deref-2.ensures.value) k;
       taken = c.in_ok-board.ensures.taken k;
     };
     before = λ n. 0;

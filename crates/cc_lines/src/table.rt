@@ -1,0 +1,21 @@
+//! Tables of words.
+
+/// What stands beside a word in a table.
+pub(crate) fn meaning_of<T: Copy>(rows: &[(&str, T)], word: &[u8]) -> Option<T> {
+    for (spelling, meaning) in rows {
+        if word == spelling.as_bytes() {
+            return Some(*meaning);
+        }
+    }
+    None
+}
+
+/// Whether a word is one of these.
+pub(crate) fn is_among(words: &[&str], word: &[u8]) -> bool {
+    for spelling in words {
+        if word == spelling.as_bytes() {
+            return true;
+        }
+    }
+    false
+}

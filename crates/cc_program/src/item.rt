@@ -1,0 +1,98 @@
+//! What functions and data are made of.
+
+use cc_lines::Instruction;
+use std::alloc::{AllocError, Global};
+
+/// The number of what stands behind so many others.
+pub(crate) fn number_behind(count: usize) -> Result<u32, AllocError> {
+    match u32::try_from(count) {
+        Ok(number) => Ok(number),
+        Err(_) => Err(AllocError),
+    }
+}
+
+/// A line of a function that matters: a label, a statement, or where the next statements come from.
+#[derive(Clone, Copy)]
+pub enum Item {
+    /// A label, by the number of its symbol.
+    Label(u32),
+    /// An instruction, the number of the symbol that it names, and its line.
+    Code {
+        instruction: Instruction,
+        symbol: Option<u32>,
+        line: u32,
+    },
+    Location {
+        file: u32,
+        line: u32,
+    },
+}
+
+/// A function: its items are those from `first` to before `end`.
+#[derive(Clone, Copy)]
+pub struct Function {
+    pub symbol: u32,
+    pub unit: u32,
+    pub first: usize,
+    pub end: usize,
+    /// Whether register 30 is its frame pointer.
+    pub points: bool,
+    pub frame: u32,
+    /// Where register 31 is saved, from the stack pointer on.
+    pub saved_link: Option<u32>,
+    pub kept: bool,
+}
+
+impl Function {
+    /// A function without items, which would begin with this one.
+    pub fn new(symbol: u32, unit: u32, first: usize) -> Function {
+        Function {
+            symbol,
+            unit,
+            first,
+            end: first,
+            points: false,
+            frame: 0,
+            saved_link: None,
+            kept: false,
+        }
+    }
+}
+
+/// A word of data that is a symbol and an addend.
+#[derive(Clone, Copy)]
+pub struct Reference {
+    pub at: u32,
+    pub symbol: u32,
+    pub addend: u32,
+    pub line: u32,
+}
+
+/// A datum from one label to the next: `size` bytes, of which those that are not held are 0.
+#[derive(Drop)]
+pub struct Object {
+    pub symbol: u32,
+    pub unit: u32,
+    pub align: u32,
+    pub size: u32,
+    pub bytes: Vec<u8>,
+    pub references: Vec<Reference>,
+    pub address: u32,
+    pub kept: bool,
+}
+
+impl Object {
+    /// A datum of zeros that nothing was found to need.
+    pub fn new(alloc: Global, symbol: u32, unit: u32, size: u32, align: u32) -> Object {
+        Object {
+            symbol,
+            unit,
+            align,
+            size,
+            bytes: Vec::new(alloc),
+            references: Vec::new(alloc),
+            address: 0,
+            kept: false,
+        }
+    }
+}

@@ -1,0 +1,69 @@
+//! A program as it was read.
+
+use crate::item::{Function, Item, Object};
+use crate::symbols::{Meaning, Symbols};
+use indexmap::IndexMap;
+use std::alloc::{AllocError, Global};
+
+/// A program: its symbols, its functions and their items, its data, and the names of source files in quotes.
+#[derive(Drop)]
+pub struct Program<'a> {
+    pub symbols: Symbols<'a>,
+    pub items: Vec<Item>,
+    pub functions: Vec<Function>,
+    pub objects: Vec<Object>,
+    pub files: IndexMap<u64, &'a [u8]>,
+}
+
+impl<'a> Program<'a> {
+    /// A program with nothing in it.
+    pub fn new(alloc: Global) -> Result<Program<'a>, AllocError> {
+        Ok(Program {
+            symbols: Symbols::new(alloc)?,
+            items: Vec::new(alloc),
+            functions: Vec::new(alloc),
+            objects: Vec::new(alloc),
+            files: IndexMap::new(alloc),
+        })
+    }
+
+    /// The function with a number.
+    pub fn function(&self, number: u32) -> Option<Function> {
+        self.functions.get(number as usize).copied()
+    }
+
+    /// The items of a function.
+    pub fn items_of(&self, function: &Function) -> &[Item] {
+        self.items
+            .as_slice()
+            .get(function.first..function.end)
+            .unwrap_or(&[])
+    }
+
+    /// The address of a symbol: of a function that of the word that holds its place. 0 where it has none.
+    pub fn address(&self, symbol: u32) -> u32 {
+        let object = match self.symbols.meaning(symbol) {
+            Meaning::Object(object) => Some(object),
+            Meaning::Function(function) => match self.function(function) {
+                Some(function) => self.descriptor(function.symbol),
+                None => None,
+            },
+            Meaning::Limit => return 4 * 65536,
+            _ => None,
+        };
+        match object {
+            Some(object) => match self.objects.get(object as usize) {
+                Some(object) => object.address,
+                None => 0,
+            },
+            None => 0,
+        }
+    }
+
+    fn descriptor(&self, symbol: u32) -> Option<u32> {
+        match self.symbols.at(symbol) {
+            Some(symbol) => symbol.descriptor,
+            None => None,
+        }
+    }
+}

@@ -1,0 +1,188 @@
+//! What names stand for.
+
+use crate::item::number_behind;
+use indexmap::IndexMap;
+use std::alloc::{AllocError, Global};
+
+/// What a symbol stands for.
+#[derive(Clone, Copy)]
+pub enum Meaning {
+    Unknown,
+    /// The function with this number.
+    Function(u32),
+    /// The item with this number, of this function.
+    Place { item: usize, function: u32 },
+    /// The datum with this number.
+    Object(u32),
+    /// What another symbol stands for.
+    Alias(u32),
+    /// The first byte behind all data.
+    End,
+    /// The first byte behind the memory.
+    Limit,
+}
+
+/// A symbol.
+#[derive(Clone, Copy)]
+pub struct Symbol<'a> {
+    pub name: &'a [u8],
+    /// The text that it belongs to, counted from 1, or 0 where texts share it.
+    pub owner: u32,
+    pub meaning: Meaning,
+    /// It may be defined again, or nowhere.
+    pub weak: bool,
+    /// Something names it.
+    pub used: bool,
+    /// The datum that holds its place.
+    pub descriptor: Option<u32>,
+}
+
+impl<'a> Symbol<'a> {
+    /// Whether it is defined nowhere so far.
+    fn is_unknown(&self) -> bool {
+        matches!(self.meaning, Meaning::Unknown)
+    }
+}
+
+/// All symbols, by number and by name.
+#[derive(Drop)]
+pub struct Symbols<'a> {
+    list: Vec<Symbol<'a>>,
+    shared: IndexMap<&'a [u8], u32>,
+    own: IndexMap<&'a [u8], u32>,
+}
+
+/// How many aliases stand behind one another at most.
+const MOST_ALIASES: u32 = 16;
+
+impl<'a> Symbols<'a> {
+    /// The names that the translation defines, alone.
+    pub fn new(alloc: Global) -> Result<Symbols<'a>, AllocError> {
+        let mut symbols = Symbols {
+            list: Vec::new(alloc),
+            shared: IndexMap::new(alloc),
+            own: IndexMap::new(alloc),
+        };
+        let end = symbols.number(b"_end")?;
+        let _defined = symbols.define(end, Meaning::End, true);
+        let limit = symbols.number(b"_limit")?;
+        let _defined = symbols.define(limit, Meaning::Limit, true);
+        Ok(symbols)
+    }
+
+    /// Begins a text, which has no names of its own yet.
+    pub fn begin_unit(&mut self) {
+        self.own.clear();
+    }
+
+    fn push(&mut self, name: &'a [u8], owner: u32) -> Result<u32, AllocError> {
+        let number = number_behind(self.list.len())?;
+        self.list.push(Symbol {
+            name,
+            owner,
+            meaning: Meaning::Unknown,
+            weak: false,
+            used: false,
+            descriptor: None,
+        })?;
+        Ok(number)
+    }
+
+    /// Makes a name one of the text with this number, counted from 1.
+    pub fn make_own(&mut self, name: &'a [u8], owner: u32) -> Result<(), AllocError> {
+        if self.own.get(name).is_none() {
+            let number = self.push(name, owner)?;
+            self.own.insert(name, number)?;
+        }
+        Ok(())
+    }
+
+    /// The number of a name in the current text.
+    pub fn number(&mut self, name: &'a [u8]) -> Result<u32, AllocError> {
+        if let Some(number) = self.own.get(name) {
+            return Ok(*number);
+        }
+        if let Some(number) = self.shared.get(name) {
+            return Ok(*number);
+        }
+        let number = self.push(name, 0)?;
+        self.shared.insert(name, number)?;
+        Ok(number)
+    }
+
+    /// The symbol with a number.
+    pub fn at(&self, number: u32) -> Option<Symbol<'a>> {
+        self.list.get(number as usize).copied()
+    }
+
+    /// The number of the symbol that a symbol is an alias of, or its own.
+    pub fn resolved(&self, number: u32) -> u32 {
+        let mut at = number;
+        for _ in 0..MOST_ALIASES {
+            match self.list.get(at as usize) {
+                Some(symbol) => match symbol.meaning {
+                    Meaning::Alias(other) => at = other,
+                    _ => return at,
+                },
+                None => return at,
+            }
+        }
+        at
+    }
+
+    /// What a symbol stands for, aliases followed.
+    pub fn meaning(&self, number: u32) -> Meaning {
+        match self.list.get(self.resolved(number) as usize) {
+            Some(symbol) => symbol.meaning,
+            None => Meaning::Unknown,
+        }
+    }
+
+    /// Defines a symbol. Answers false where it is defined already, and neither is weak.
+    pub fn define(&mut self, number: u32, meaning: Meaning, weak: bool) -> bool {
+        match self.list.get_mut(number as usize) {
+            Some(symbol) => {
+                if symbol.is_unknown() || (symbol.weak && !weak) {
+                    symbol.meaning = meaning;
+                    symbol.weak = weak;
+                    true
+                } else {
+                    weak
+                }
+            }
+            None => false,
+        }
+    }
+
+    /// Lets a symbol that is defined nowhere be one that need not be.
+    pub fn weaken(&mut self, number: u32) {
+        if let Some(symbol) = self.list.get_mut(number as usize) {
+            if symbol.is_unknown() {
+                symbol.weak = true;
+            }
+        }
+    }
+
+    /// Marks a symbol as named.
+    pub fn use_it(&mut self, number: u32) {
+        let resolved = self.resolved(number) as usize;
+        if let Some(symbol) = self.list.get_mut(resolved) {
+            symbol.used = true;
+        }
+    }
+
+    /// Whether something names a symbol.
+    pub fn is_used(&self, number: u32) -> bool {
+        match self.list.get(number as usize) {
+            Some(symbol) => symbol.used,
+            None => false,
+        }
+    }
+
+    /// Lets a datum hold the place of a symbol.
+    pub fn describe(&mut self, number: u32, object: u32) {
+        if let Some(symbol) = self.list.get_mut(number as usize) {
+            symbol.descriptor = Some(object);
+        }
+    }
+}
