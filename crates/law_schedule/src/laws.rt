@@ -1,15 +1,6 @@
 //! What the linker keeps of greedy plans.
 ghost use Rattle.std.specs.Prelude.{◌≡◌, ℕ, List};
-ghost use Rattle.mx_isa.specs.declared.Place.{Place};
-ghost use Rattle.mx_source.specs.SourceValue.{SourceValue, IsSource};
-ghost use Rattle.mx_squash.specs.Copies.{Site};
-ghost use Rattle.mx_layout.specs.Layout.{IsLayout};
-ghost use Rattle.mx_layout.specs.Overlong.{Overlong, IsOverlong};
-ghost use Rattle.mx_link.specs.declared.linked.Linked.{Linked};
-ghost use Rattle.mx_link.specs.Origins.{Filling};
-ghost use Rattle.mx_link.specs.Linked.{IsLinked};
-ghost use Rattle.mx_reorg.specs.Greedy.{IsGreedy};
-ghost use Rattle.mx_isa.specs.Board.{board};
+ghost use Rattle.law_schedule.specs.Terms.{Place, SourceValue, IsSource, Site, IsLayout, Overlong, IsOverlong, Linked, Filling, IsLinked, IsGreedy, board};
 ghost use Rattle.law_schedule.specs.Schedule.{IsScheduler};
 
 /// A greedy plan is valid. So where greedy plans are proposed, each block has its greedy plan in the linked program, and no

@@ -1,3 +1,4 @@
+pub mod Terms
 pub mod Directives
 pub mod Positions
 pub mod Faults

@@ -1,17 +1,12 @@
 //! The assembler.
 ghost use Rattle.std.specs.Prelude.{◌≡◌, ◌≤◌, [], length, IfOk, IfErr, OnOk};
-ghost use Rattle.mx_io.specs.declared.limits.TheConstants.{MAX_SOURCE_BYTES};
-ghost use Rattle.mx_isa.specs.declared.board.TheConstants.{DATA_BASE, DATA_END, MAX_STATEMENTS};
-ghost use Rattle.mx_lex.specs.Lines.{lines_of};
+ghost use Rattle.mx_asm.specs.Terms.{MAX_SOURCE_BYTES, DATA_BASE, DATA_END, MAX_STATEMENTS, lines_of, texts, named_labels, AreApart, IsSource, plain_source};
 ghost use Rattle.mx_asm.specs.Faults.{first_fault, first_repeat};
 ghost use Rattle.mx_asm.specs.Faults;
 ghost use Rattle.mx_asm.specs.Listings;
 ghost use Rattle.mx_asm.specs.Listings.{IsListingOf, IsRefusal};
 ghost use Rattle.mx_asm.specs.Printable.{ReadsPrinted};
 ghost use Rattle.mx_asm.specs.Texts.{ReadsAs, text_fault};
-ghost use Rattle.mx_lines.specs.Words.{texts};
-ghost use Rattle.mx_source.specs.Names.{named_labels, AreApart};
-ghost use Rattle.mx_source.specs.SourceValue.{IsSource, plain_source};
 
 use crate::definitions::{Definitions, define_text};
 use crate::line::read_line;

@@ -1,13 +1,10 @@
 //! The labels of a text.
 ghost use Rattle.std.specs.Prelude.{◌≡◌, ◌+◌, ◌^◌, ◌≤◌, ◌<◌, ◌-◌, [], None, map, length, IfOk, OnOk};
-ghost use Rattle.mx_io.specs.declared.limits.TheConstants.{MAX_SOURCE_BYTES};
-ghost use Rattle.mx_lex.specs.Lines.{lines_of};
+ghost use Rattle.mx_asm.specs.Terms.{MAX_SOURCE_BYTES, lines_of, word, texts};
 ghost use Rattle.mx_asm.specs.Faults.{first_repeat};
 ghost use Rattle.mx_asm.specs.Faults;
 ghost use Rattle.mx_asm.specs.Positions.{labels_from, position_at_end};
 ghost use Rattle.mx_asm.specs.Positions;
-ghost use Rattle.mx_lines.specs.Shapes.{word};
-ghost use Rattle.mx_lines.specs.Words.{texts};
 
 use crate::front::{define_front, statement_words};
 use crate::position::Position;

@@ -1,8 +1,7 @@
 //! Directives.
 ghost use Rattle.std.specs.Prelude.{◌≡◌, ◌≤◌, map, IfOk};
-ghost use Rattle.mx_isa.specs.declared.board.TheConstants.{MAX_DATA_WORDS};
+ghost use Rattle.mx_asm.specs.Terms.{MAX_DATA_WORDS, word};
 ghost use Rattle.mx_asm.specs.Directives;
-ghost use Rattle.mx_lines.specs.Shapes.{word};
 
 use mx_isa::MAX_DATA_WORDS;
 use mx_lines::{Fault, Word, spells};

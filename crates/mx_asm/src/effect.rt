@@ -1,15 +1,11 @@
 //! What the statement of a line does.
 ghost use Rattle.std.specs.Prelude.{◌≡◌, ◌≤◌, ℕ, map, IfOk, All, replicate};
-ghost use Rattle.mx_source.specs.Labels.{IsPlace};
-ghost use Rattle.mx_source.specs.Statements.{ValueFits};
 ghost use Rattle.mx_source.specs.declared.statement.Value.TheVariants.{Int};
-ghost use Rattle.mx_lines.specs.Reading.{Gives, seen};
+ghost use Rattle.mx_asm.specs.Terms.{IsPlace, ValueFits, Gives, seen, LabelsFit, word};
 ghost use Rattle.mx_asm.specs.Directives;
 ghost use Rattle.mx_asm.specs.Effects;
 ghost use Rattle.mx_asm.specs.Effects.{effect, EffectFits};
-ghost use Rattle.mx_lines.specs.Fitting.{LabelsFit};
 ghost use Rattle.mx_lines.specs.Shapes;
-ghost use Rattle.mx_lines.specs.Shapes.{word};
 
 use crate::directive::{Directive, directive_named, is_dotted, space_count};
 use crate::position::Section;

@@ -1,8 +1,7 @@
 //! The labels at the front of a line.
 ghost use Rattle.std.specs.Prelude.{◌≡◌, ◌≤◌, true, length, map, OnOk, IfOk};
-ghost use Rattle.mx_lines.specs.LabelTable.{IsNear};
+ghost use Rattle.mx_asm.specs.Terms.{IsNear, word};
 ghost use Rattle.mx_asm.specs.Positions;
-ghost use Rattle.mx_lines.specs.Shapes.{word};
 
 use crate::directive::is_dotted;
 use mx_lines::{Labels, Word};

@@ -1,14 +1,11 @@
 //! What a line does, or its fault.
 ghost use Rattle.std.specs.Prelude.{◌≡◌, ◌≤◌, ◌<◌, ◌-◌, ◌^◌, ℕ, None, Some, Ok, map, length, IfOk, IfErr};
-ghost use Rattle.mx_isa.specs.declared.board.TheConstants.{MAX_STATEMENTS};
+ghost use Rattle.mx_asm.specs.Terms.{MAX_STATEMENTS, LabelsFit, word, words_of};
 ghost use Rattle.mx_asm.specs.Directives.{effect_of};
 ghost use Rattle.mx_asm.specs.Effects.{effect, EffectFits, IsFaultOf};
 ghost use Rattle.mx_asm.specs.Faults;
-ghost use Rattle.mx_lines.specs.Fitting.{LabelsFit};
 ghost use Rattle.mx_asm.specs.Positions.{line_words};
 ghost use Rattle.mx_asm.specs.Positions;
-ghost use Rattle.mx_lines.specs.Shapes.{word};
-ghost use Rattle.mx_lines.specs.Words.{words_of};
 
 use crate::effect::{Effect, effect_of};
 use crate::front::{has_dotted_label, has_label, statement_words};

@@ -1,9 +1,8 @@
 //! Where a line stands.
 ghost use Rattle.std.specs.Prelude.{◌≡◌, ◌+◌, ◌-◌, ◌^◌, ◌≤◌, ◌<◌, map};
 ghost use Rattle.mx_asm.specs.Directives.{directive_named};
-ghost use Rattle.mx_lines.specs.LabelTable.{IsNear};
 ghost use Rattle.mx_asm.specs.Positions;
-ghost use Rattle.mx_lines.specs.Shapes.{word};
+ghost use Rattle.mx_asm.specs.Terms.{IsNear, word};
 
 use crate::directive::{Directive, directive_named, is_dotted, space_count};
 use mx_lines::Word;

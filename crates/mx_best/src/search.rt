@@ -1,13 +1,6 @@
 //! The search for a valid plan of a given length, from its last place to its first.
 ghost use Rattle.std.specs.Prelude.{◌≡◌, ◌↔◌, ◌≤◌, ◌<◌, ◌+◌, ◌==◌, not, true, false, suc, ℕ, IsTrue, [], length, drop, slice_set};
-ghost use Rattle.mx_isa.specs.Views.{is_load};
-ghost use Rattle.mx_depend.specs.Independence.{Independent, feeds};
-ghost use Rattle.mx_depend.specs.Graphs.{inst_at};
-ghost use Rattle.mx_blocks.specs.declared.block.Plan.{Plan};
-ghost use Rattle.mx_blocks.specs.Items.{StandsAt};
-ghost use Rattle.mx_validate.specs.Padded.{insts_of, items_of};
-ghost use Rattle.mx_validate.specs.Validity.{Valid, end_count};
-ghost use Rattle.mx_reorg.specs.Greedy.{Stands};
+ghost use Rattle.mx_best.specs.Terms.{is_load, Independent, feeds, inst_at, Plan, StandsAt, insts_of, items_of, Valid, end_count, Stands};
 ghost use Rattle.mx_best.specs.Visits.{KeepsDelay, IsFollowed, MayPrecede, MayStand, EndsAs, no_ops, is_terminator};
 
 use mx_blocks::{Block, End, Item, Plan};

@@ -1,6 +1,8 @@
 -- The kinds of bytes that a line is made of.
 use Rattle.std.specs.Prelude.{ℕ, Bool, ◌||◌, ◌&&◌, ◌==◌, nat_le}
 use Rattle.std.specs.Char.{is_digit}
+use Rattle.mx_lex.specs.declared.bytes.Run.{Run}
+use Rattle.mx_lex.specs.declared.bytes.Run.TheVariants.{Blanks, Name}
 
 -- a space or a tab
 abbrev pub is_blank : ℕ → Bool
@@ -21,3 +23,8 @@ begins_name b = is_letter b || b == 95 || b == 46
 -- a letter, `_`, `.` or a decimal digit
 abbrev pub continues_name : ℕ → Bool
 continues_name b = begins_name b || is_digit b 10
+
+-- a byte with which a run goes on
+abbrev pub is_in : Run → ℕ → Bool
+is_in Blanks = is_blank
+is_in Name = continues_name

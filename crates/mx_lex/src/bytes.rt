@@ -32,15 +32,32 @@ pub fn continues_name(byte: u8) -> bool
     begins_name(byte) || char::from(byte).is_digit(10)
 }
 
-/// Where the blanks from a place on end.
-pub fn blanks_end(line: &[u8], at: usize) -> usize
+/// What a run of bytes is made of.
+#[derive(Clone, Copy)]
+pub enum Run {
+    Blanks,
+    Name,
+}
+
+/// A run goes on with the byte.
+fn is_in(run: Run, byte: u8) -> bool
+    ensures { result ≡ Bytes.is_in run byte }
+{
+    match run {
+        Run::Blanks => is_blank(byte),
+        Run::Name => continues_name(byte),
+    }
+}
+
+/// Where the run from a place on ends.
+pub fn run_end(line: &[u8], at: usize, run: Run) -> usize
     requires { at ≤ length line.now }
-    ensures end { result ≡ at + prefix_len Bytes.is_blank (drop at line.now) }
+    ensures end { result ≡ at + prefix_len (Bytes.is_in run) (drop at line.now) }
     ensures after { at ≤ result }
     ensures within { result ≤ length line.now }
 {
     let mut end = at;
-    while end < line.len() && is_blank(line[end]) {
+    while end < line.len() && is_in(run, line[end]) {
         end += 1;
     }
     end
@@ -53,9 +70,5 @@ pub fn name_end(line: &[u8], at: usize) -> usize
     ensures after { at ≤ result }
     ensures within { result ≤ length line.now }
 {
-    let mut end = at;
-    while end < line.len() && continues_name(line[end]) {
-        end += 1;
-    }
-    end
+    run_end(line, at, Run::Name)
 }

@@ -4,7 +4,7 @@ ghost use Rattle.mx_lex.specs.Reading.{IsSpan};
 ghost use Rattle.mx_lex.specs.Tokens.{next_token, token_from, mark_of};
 ghost use Rattle.mx_lex.specs.Tokens;
 
-use crate::bytes::{begins_name, blanks_end, is_allowed, name_end};
+use crate::bytes::{Run, begins_name, is_allowed, name_end, run_end};
 use crate::numbers::number;
 use crate::token::{Kind, LexFault, Token};
 use std::marker::Model;
@@ -60,7 +60,7 @@ fn token_after(line: &[u8], at: usize) -> Result<Token, LexFault>
     ensures token { result ≡ next_token line.now at }
     ensures within { IfOk result (IsSpan line.now at) }
 {
-    token_at(line, blanks_end(line, at))
+    token_at(line, run_end(line, at, Run::Blanks))
 }
 
 /// The token that begins at a place.

@@ -1,4 +1,8 @@
 //! The faults of a text.
+ghost use Rattle.std.specs.Prelude.{◌≡◌};
+ghost use Rattle.mx_lines.specs.FaultTexts.{fault_text};
+ghost use Rattle.mx_lines.specs.declared.fault.AsmError.TheVariants as text_errors;
+ghost use Rattle.mx_lines.specs.declared.fault.LineError.TheVariants as line_errors;
 
 use mx_io::Memory;
 use std::alloc::{AllocError, AllocFailed};
@@ -42,9 +46,6 @@ pub enum Fault {
 }
 
 impl Fault {
-    ghost use Rattle.std.specs.Prelude.{◌≡◌};
-    ghost use Rattle.mx_lines.specs.FaultTexts.{fault_text};
-
     /// The number of the fault and its name, as `F1 BadByte`.
     pub fn text(self) -> &'static str
         ensures { result.now ≡ fault_text self }
@@ -89,10 +90,7 @@ pub enum LineError {
 }
 
 impl From<Fault> for LineError {
-    ghost use Rattle.std.specs.Prelude.{◌≡◌};
-    ghost use Rattle.mx_lines.specs.declared.fault.LineError.TheVariants as errors;
-
-    ghost from_gives = { λ fault e. e ≡ errors.Fault fault };
+    ghost from_gives = { λ fault e. e ≡ line_errors.Fault fault };
 
     fn from(fault: Fault) -> LineError {
         LineError::Fault(fault)
@@ -100,10 +98,7 @@ impl From<Fault> for LineError {
 }
 
 impl From<AllocError> for LineError {
-    ghost use Rattle.std.specs.Prelude.{◌≡◌};
-    ghost use Rattle.mx_lines.specs.declared.fault.LineError.TheVariants as errors;
-
-    ghost from_gives = { λ _ e. e ≡ errors.Memory };
+    ghost from_gives = { λ _ e. e ≡ line_errors.Memory };
 
     fn from(_: AllocError) -> LineError {
         LineError::Memory
@@ -111,10 +106,7 @@ impl From<AllocError> for LineError {
 }
 
 impl<T: Drop> From<AllocFailed<T>> for LineError {
-    ghost use Rattle.std.specs.Prelude.{◌≡◌};
-    ghost use Rattle.mx_lines.specs.declared.fault.LineError.TheVariants as errors;
-
-    ghost from_gives = { λ _ e. e ≡ errors.Memory };
+    ghost from_gives = { λ _ e. e ≡ line_errors.Memory };
 
     fn from(_: AllocFailed<T>) -> LineError {
         LineError::Memory
@@ -122,10 +114,7 @@ impl<T: Drop> From<AllocFailed<T>> for LineError {
 }
 
 impl From<Memory> for LineError {
-    ghost use Rattle.std.specs.Prelude.{◌≡◌};
-    ghost use Rattle.mx_lines.specs.declared.fault.LineError.TheVariants as errors;
-
-    ghost from_gives = { λ _ e. e ≡ errors.Memory };
+    ghost from_gives = { λ _ e. e ≡ line_errors.Memory };
 
     fn from(_: Memory) -> LineError {
         LineError::Memory
@@ -133,10 +122,7 @@ impl From<Memory> for LineError {
 }
 
 impl From<AllocError> for AsmError {
-    ghost use Rattle.std.specs.Prelude.{◌≡◌};
-    ghost use Rattle.mx_lines.specs.declared.fault.AsmError.TheVariants as errors;
-
-    ghost from_gives = { λ _ e. e ≡ errors.Memory };
+    ghost from_gives = { λ _ e. e ≡ text_errors.Memory };
 
     fn from(_: AllocError) -> AsmError {
         AsmError::Memory
@@ -144,10 +130,7 @@ impl From<AllocError> for AsmError {
 }
 
 impl From<Memory> for AsmError {
-    ghost use Rattle.std.specs.Prelude.{◌≡◌};
-    ghost use Rattle.mx_lines.specs.declared.fault.AsmError.TheVariants as errors;
-
-    ghost from_gives = { λ _ e. e ≡ errors.Memory };
+    ghost from_gives = { λ _ e. e ≡ text_errors.Memory };
 
     fn from(_: Memory) -> AsmError {
         AsmError::Memory

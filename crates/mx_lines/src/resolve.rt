@@ -1,8 +1,6 @@
 //! What the labels in operands name.
 ghost use Rattle.std.specs.Prelude.{◌≡◌, ◌≤◌, ◌<◌, ℕ, IfOk};
-ghost use Rattle.mx_isa.specs.declared.board.TheConstants.{DATA_END};
-ghost use Rattle.mx_isa.specs.Fields.{IsSignedField};
-ghost use Rattle.mx_source.specs.Labels.{IsPlace};
+ghost use Rattle.mx_lines.specs.Terms.{DATA_END, IsSignedField, IsPlace};
 ghost use Rattle.mx_lines.specs.Fitting.{LabelsFit, NamedFits};
 ghost use Rattle.mx_lines.specs.LabelTable.{IsNear};
 ghost use Rattle.mx_lines.specs.Shapes.{word};

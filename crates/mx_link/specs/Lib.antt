@@ -1,3 +1,4 @@
+pub mod Terms
 pub mod Origins
 pub mod Words
 pub mod Linked

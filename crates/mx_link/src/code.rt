@@ -1,12 +1,6 @@
 //! The code of a source that is laid out.
 ghost use Rattle.std.specs.Prelude.{◌≡◌, ◌<◌, ◌≤◌, ◌+◌, ◌++◌, ◌∷◌, [], ℕ, length, Some, All, IfOk, OnOk, slice_get, slice_index};
-ghost use Rattle.mx_isa.specs.declared.board.TheConstants.{LAST_ADDRESS, MAX_STATEMENTS};
-ghost use Rattle.mx_isa.specs.Fields.{InstFits};
-ghost use Rattle.mx_code.specs.Codes.{word_of_row, HasRegisters};
-ghost use Rattle.mx_source.specs.Statements.{StatementFits};
-ghost use Rattle.mx_validate.specs.Padded.{items_of};
-ghost use Rattle.mx_squash.specs.Copies.{Site};
-ghost use Rattle.mx_squash.specs.Ordered.{AreOfOneSource};
+ghost use Rattle.mx_link.specs.Terms.{LAST_ADDRESS, MAX_STATEMENTS, InstFits, word_of_row, HasRegisters, StatementFits, items_of, Site, AreOfOneSource};
 ghost use Rattle.mx_link.specs.Origins.{goal_of, origins_at, origins_of};
 ghost use Rattle.mx_link.specs.Words.{code_of};
 ghost use Rattle.mx_link.specs.Parts.{filling_of, site, sites_of, link_in, IsLaidOut, EachInst, HasWords, HaveRegisters, site_words};

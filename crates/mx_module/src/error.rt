@@ -1,4 +1,6 @@
 //! Why texts are not joined.
+ghost use Rattle.std.specs.Prelude.{◌≡◌};
+ghost use Rattle.mx_module.specs.declared.error.JoinError.TheVariants as errors;
 
 use mx_io::Memory;
 use mx_lines::Fault;
@@ -44,9 +46,6 @@ pub enum JoinError {
 }
 
 impl From<AllocError> for JoinError {
-    ghost use Rattle.std.specs.Prelude.{◌≡◌};
-    ghost use Rattle.mx_module.specs.declared.error.JoinError.TheVariants as errors;
-
     ghost from_gives = { λ _ e. e ≡ errors.Memory };
 
     fn from(_: AllocError) -> JoinError {

@@ -38,11 +38,7 @@ impl<'a> Model for Module<'a> {
 
 impl<'a> Module<'a> {
     ghost use Rattle.std.specs.Prelude.{◌≡◌, ◌+◌, ◌≤◌, ◌<◌, ◌^◌, [], length, map, replicate, IfOk, IfErr, IfSome, Option};
-    ghost use Rattle.mx_asm.specs.Faults.{first_fault};
-    ghost use Rattle.mx_source.specs.Names.{named_labels};
-    ghost use Rattle.mx_lines.specs.LabelTable.{IsNear};
-    ghost use Rattle.mx_asm.specs.Listings.{IsListingOf, IsRefusal};
-    ghost use Rattle.mx_lines.specs.Operands.{label_named};
+    ghost use Rattle.mx_module.specs.Terms.{first_fault, named_labels, IsNear, IsListingOf, IsRefusal, label_named};
     ghost use Rattle.mx_module.specs.ExportTable.{export_line};
     ghost use Rattle.mx_module.specs.Modules.{module_at, behind_text, exports_of};
     ghost use Rattle.mx_module.specs.ModuleView.{link_value};

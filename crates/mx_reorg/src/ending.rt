@@ -1,9 +1,6 @@
 //! Where the terminator may stand.
 ghost use Rattle.std.specs.Prelude.{◌≡◌, ◌↔◌, ◌<◌, ◌≤◌, ◌+◌, ◌++◌, ◌∷◌, [], ℕ, IsTrue, length};
-ghost use Rattle.mx_depend.specs.Graphs.{IsGraph};
-ghost use Rattle.mx_blocks.specs.Items.{StandsAt};
-ghost use Rattle.mx_validate.specs.Padded.{insts_of};
-ghost use Rattle.mx_validate.specs.Validity.{EndsWithoutLoad};
+ghost use Rattle.mx_reorg.specs.Terms.{IsGraph, StandsAt, insts_of, EndsWithoutLoad};
 ghost use Rattle.mx_reorg.specs.Greedy.{IsReady, MayEnd, RestFits, terminator};
 ghost use Rattle.mx_reorg.specs.Making.{HasSlots};
 

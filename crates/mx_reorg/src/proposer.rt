@@ -1,9 +1,6 @@
 //! The list scheduler.
 ghost use Rattle.std.specs.Prelude.{◌≡◌, ◌≤◌, length};
-ghost use Rattle.mx_blocks.specs.declared.block.Plan.{Plan};
-ghost use Rattle.mx_depend.specs.Graphs.{IsGraph};
-ghost use Rattle.mx_validate.specs.Padded.{insts_of};
-ghost use Rattle.mx_validate.specs.Validity.{Valid};
+ghost use Rattle.mx_reorg.specs.Terms.{Plan, IsGraph, insts_of, Valid};
 ghost use Rattle.mx_reorg.specs.Greedy.{IsGreedy};
 ghost use Rattle.mx_reorg.specs.Making.{IsFront};
 

@@ -1,3 +1,4 @@
+pub mod Terms
 pub mod Lists
 pub mod Programs
 pub mod ProgramView

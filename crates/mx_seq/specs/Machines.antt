@@ -1,7 +1,10 @@
 -- The state that the code keeps of a run of the meaning.
-use Rattle.std.specs.Prelude.{◌≡◌, ℕ, suc, cond, length}
+use Rattle.std.specs.Prelude.{◌≡◌, ℕ, ◌+◌, suc, cond, length, ℤ, Option, Some, None}
+use Rattle.std.specs.Int.{cast_unsigned, w32}
+use Rattle.mx_isa.specs.Arithmetic.{word_of}
 use Rattle.mx_isa.specs.Effect.{Found}
-use Rattle.mx_source.specs.declared.statement.Value.TheVariants.{Int}
+use Rattle.mx_source.specs.declared.statement.Value.{Value}
+use Rattle.mx_source.specs.declared.statement.Value.TheVariants.{Int, Code}
 use Rattle.mx_source.specs.Meaning.{State, Step, goes}
 use Rattle.mx_seq.specs.Lists.{values_of}
 use Rattle.mx_seq.specs.Marks.{mark_of}
@@ -25,6 +28,11 @@ pub record Does (step : Step) (old new : Machine) (result : Stepped) : Type 0 wh
   pub after : machine_state new ≡ step.after
   pub answer : result ≡ answer_of step
   pub room : length new.user_data ≡ length old.user_data
+
+-- the word that a value is and a number, as one word; none where it is a place of code
+abbrev pub sum_from : Value → ℤ → Option ℕ
+sum_from (Int word) imm = Some (word_of (word + cast_unsigned w32 imm))
+sum_from (Code place) imm = None
 
 -- a load of input: what was found is put into a register, and counted where it was a byte
 abbrev pub takes : Found → ℕ → State → Step

@@ -1,7 +1,6 @@
 //! A state of a program, and what statements do to it.
 ghost use Rattle.std.specs.Prelude.{◌≡◌, ◌<◌, suc, length, is_some, true};
-ghost use Rattle.mx_isa.specs.declared.board.TheConstants.{MAX_STATEMENTS};
-ghost use Rattle.mx_isa.specs.Arithmetic.{CountFits};
+ghost use Rattle.mx_seq.specs.Terms.{MAX_STATEMENTS, CountFits};
 
 use crate::program::Program;
 use crate::registers::Registers;
@@ -40,14 +39,10 @@ pub(crate) struct Machine {
 }
 
 impl Machine {
-    ghost use Rattle.mx_isa.specs.UserBus.{from_input};
-    ghost use Rattle.mx_source.specs.Meaning.{goes, stuck, perform, jumps, branches, execute, silent, Halted};
-    ghost use Rattle.mx_isa.specs.Fields.{InstFits};
-    ghost use Rattle.mx_source.specs.Statements.{IsPlain};
+    ghost use Rattle.mx_seq.specs.Terms.{from_input, goes, stuck, perform, jumps, branches, execute, silent, Halted, InstFits, IsPlain, value_in};
     ghost use Rattle.mx_seq.specs.Programs.{Fits};
-    ghost use Rattle.mx_source.specs.Values.{value_in};
     ghost use Rattle.mx_seq.specs.Lists.{values_of};
-    ghost use Rattle.mx_seq.specs.Machines.{Does, machine_state, takes};
+    ghost use Rattle.mx_seq.specs.Machines.{Does, machine_state, sum_from, takes};
 
     /// The run is stuck.
     pub(crate) fn stick(&mut self, why: Why) -> Stepped
@@ -105,6 +100,16 @@ impl Machine {
         self.go(self.index + 1, dest, value)
     }
 
+    /// The word that a register holds and a number, as one word; none where it holds a place of code.
+    fn sum(&self, a: Reg, imm: i32) -> Option<u32>
+        ensures { result ≡ sum_from (value_in (values_of self.now.registers) a) imm }
+    {
+        match self.registers.get(a) {
+            Value::Int(word) => Some(word.wrapping_add(imm.cast_unsigned())),
+            Value::Code(_) => None,
+        }
+    }
+
     /// A load.
     fn load(&mut self, program: &Program, base: Reg, dest: Reg, offset: i32) -> Stepped
         requires going { self.old.mark ≡ Mark.Going }
@@ -112,17 +117,14 @@ impl Machine {
         requires room { length self.old.user_data ≡ program.now.place.end }
         ensures { Does (perform program.now (Inst.Load base dest offset) (machine_state self.old)) self.old self.new result }
     {
-        let Value::Int(base) = self.registers.get(base) else {
-            return self.stick(Why::CodeOperand);
-        };
-        let address = base.wrapping_add(offset.cast_unsigned());
-        if program.is_user(address) {
-            let value = self.user_data.get(address);
-            self.put(dest, value)
-        } else if program.is_input(address) {
-            self.take(program, dest)
-        } else {
-            self.stick(Why::LoadOutside)
+        match self.sum(base, offset) {
+            Some(address) if program.is_user(address) => {
+                let value = self.user_data.get(address);
+                self.put(dest, value)
+            }
+            Some(address) if program.is_input(address) => self.take(program, dest),
+            Some(_) => self.stick(Why::LoadOutside),
+            None => self.stick(Why::CodeOperand),
         }
     }
 
@@ -149,10 +151,9 @@ impl Machine {
         requires room { length self.old.user_data ≡ program.now.place.end }
         ensures { Does (perform program.now (Inst.Store base value offset) (machine_state self.old)) self.old self.new result }
     {
-        let Value::Int(base) = self.registers.get(base) else {
+        let Some(address) = self.sum(base, offset) else {
             return self.stick(Why::CodeOperand);
         };
-        let address = base.wrapping_add(offset.cast_unsigned());
         let value = self.registers.get(value);
         if program.is_console(address) {
             match value {
@@ -197,10 +198,10 @@ impl Machine {
         requires inside { self.old.index < MAX_STATEMENTS }
         ensures { Does (perform program.now (Inst.Addi a dest imm) (machine_state self.old)) self.old self.new result }
     {
-        let Value::Int(x) = self.registers.get(a) else {
-            return self.stick(Why::CodeOperand);
-        };
-        self.put(dest, Value::Int(x.wrapping_add(imm.cast_unsigned())))
+        match self.sum(a, imm) {
+            Some(sum) => self.put(dest, Value::Int(sum)),
+            None => self.stick(Why::CodeOperand),
+        }
     }
 
     /// A move to MD.
