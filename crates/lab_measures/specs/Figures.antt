@@ -8,6 +8,7 @@ use Rattle.mx_validate.specs.Validity.{Valid}
 use Rattle.mx_squash.specs.Copies.{Site}
 use Rattle.mx_layout.specs.Layout.{IsLayout}
 use Rattle.mx_layout.specs.Kept.{AreKept}
+use Rattle.mx_link.specs.declared.Linked.{Linked}
 use Rattle.mx_link.specs.Origins.{Filling}
 use Rattle.mx_code.specs.NoOps.{noops_in}
 use Rattle.mx_link.specs.Linked.{linked_code, linked_data}
@@ -21,6 +22,11 @@ use Rattle.lab_measures.specs.declared.figures.Figures.{Figures}
 abbrev pub run_with : Filling → SourceValue → List Site → List ℕ → List ℕ → ℕ → MachineRun
 run_with filling source sites requests bytes budget =
     run_of (program_of shipped (linked_code filling source board sites) (linked_data source board sites) (given source.input bytes)) requests budget
+
+-- the run of the image of a linked source, under the shipped handler
+abbrev pub linked_run : SourceValue → Linked → List ℕ → List ℕ → ℕ → MachineRun
+linked_run source linked requests bytes budget =
+    run_of (program_of shipped linked.image.code.items linked.image.user_data.items (given source.input bytes)) requests budget
 
 -- the figures are those of the source, laid out by what is proposed, and of its run
 pub record AreFigures (Proposes : Block → Plan → Type 0) (filling : Filling) (source : SourceValue)

@@ -1,3 +1,4 @@
+pub mod Terms
 pub mod Figures
 pub mod Comparisons
 pub mod Within

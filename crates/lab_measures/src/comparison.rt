@@ -1,11 +1,9 @@
 //! The four schedulers.
 ghost use Rattle.std.specs.Prelude.{◌≤◌, IfOk, IfErr, length};
-ghost use Rattle.mx_io.specs.declared.limits.TheConstants.{MAX_FILE_BYTES};
 ghost use Rattle.mx_blocks.specs.declared.block.Block.{Block};
 ghost use Rattle.mx_blocks.specs.declared.block.Plan.{Plan};
 ghost use Rattle.mx_validate.specs.Padded.{IsPadded};
-ghost use Rattle.mx_layout.specs.Overlong.{IsRefusal};
-ghost use Rattle.mx_isa.specs.Board.{board};
+ghost use Rattle.lab_measures.specs.Terms.{MAX_FILE_BYTES, IsRefusal, board};
 ghost use Rattle.lab_measures.specs.Comparisons.{IsComparison, IsRefused};
 
 use crate::{Figures, figures_of};

@@ -9,25 +9,25 @@ use mx_report::{Driven, drive};
 use mx_turn::Machine;
 use std::alloc::Global;
 
-/// Whether a run halted, and its cycles.
-#[derive(Clone, Copy, Debug, PartialEq, Eq)]
-pub struct Ran {
-    pub halted: bool,
-    pub cycles: u64,
-}
-
 /// The cycles of a run.
-fn cycles_in(driven: &Driven) -> u64
+pub(crate) fn cycles_in(driven: &Driven) -> u64
     ensures { result ≡ driven.now.counts.cycles }
 {
     driven.counts.cycles
 }
 
 /// Whether a run halted.
-fn has_halted(driven: &Driven) -> bool
+pub(crate) fn has_halted(driven: &Driven) -> bool
     ensures { result ≡ driven.now.halted }
 {
     driven.halted
+}
+
+/// Whether a run halted, and its cycles.
+#[derive(Clone, Copy, Debug, PartialEq, Eq)]
+pub struct Ran {
+    pub halted: bool,
+    pub cycles: u64,
 }
 
 /// How the run of a machine stands after at most `budget` cycles, under these requests.

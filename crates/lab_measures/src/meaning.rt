@@ -1,7 +1,6 @@
 //! How the meaning of a source stands.
 ghost use Rattle.std.specs.Prelude.{◌≤◌, length, IfOk};
-ghost use Rattle.mx_io.specs.declared.limits.TheConstants.{MAX_FILE_BYTES};
-ghost use Rattle.mx_isa.specs.Board.{board};
+ghost use Rattle.lab_measures.specs.Terms.{MAX_FILE_BYTES, board};
 ghost use Rattle.lab_measures.specs.Standings.{IsStanding};
 
 use cmd_meaning::{Progress, run_steps};

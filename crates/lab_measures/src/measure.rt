@@ -1,38 +1,20 @@
 //! The figures of one scheduler.
 ghost use Rattle.std.specs.Prelude.{◌≡◌, ◌≤◌, ◌+◌, ◌*◌, IfOk, IfErr, cond, length};
-ghost use Rattle.std.specs.Option.{option_copied};
-ghost use Rattle.mx_io.specs.declared.limits.TheConstants.{MAX_FILE_BYTES};
-ghost use Rattle.mx_source.specs.Meaning.{given};
-ghost use Rattle.mx_layout.specs.Overlong.{IsRefusal};
-ghost use Rattle.mx_link.specs.Origins.{from_target, from_nowhere};
-ghost use Rattle.mx_link.specs.Linked.{IsLinked};
-ghost use Rattle.mx_turn.specs.Handler.{shipped};
-ghost use Rattle.mx_turn.specs.Program.{program_of};
-ghost use Rattle.mx_turn.specs.Run.{run_of};
-ghost use Rattle.mx_isa.specs.Board.{board};
-ghost use Rattle.lab_measures.specs.Figures.{AreFigures};
+ghost use Rattle.lab_measures.specs.Terms.{MAX_FILE_BYTES, IsRefusal, from_target, from_nowhere, IsLinked, board};
+ghost use Rattle.lab_measures.specs.Figures.{AreFigures, linked_run};
 
+use crate::machine::{cycles_in, has_halted};
 use crate::{Conditions, Figures};
-use lab_terms::slots_of;
+use lab_terms::{given_to, slots_of};
 use lab_watch::{Watcher, watched_pipe};
 use mx_icache::LineCache;
 use mx_io::Memory;
 use mx_isa::BOARD;
 use mx_link::{LinkError, Linked, link, link_plain};
-use mx_report::{Driven, drive};
+use mx_report::drive;
 use mx_source::Source;
 use mx_validate::Proposer;
 use std::alloc::Global;
-
-/// The input that a source is given, if it has one.
-fn given_to<'a>(source: &Source, bytes: &'a [u8]) -> Option<&'a [u8]>
-    ensures { option_copied result ≡ given source.now.input bytes.entry.now }
-{
-    match source.input() {
-        Some(_) => Some(bytes),
-        None => None,
-    }
-}
 
 /// Links a source at the board's place by what a scheduler proposes, its slots filled from their targets or not.
 fn linked_by<P: Proposer>(
@@ -52,20 +34,6 @@ fn linked_by<P: Proposer>(
     }
 }
 
-/// The cycles of a run.
-fn cycles_in(driven: &Driven) -> u64
-    ensures { result ≡ driven.now.counts.cycles }
-{
-    driven.counts.cycles
-}
-
-/// Whether a run halted.
-fn has_halted(driven: &Driven) -> bool
-    ensures { result ≡ driven.now.halted }
-{
-    driven.halted
-}
-
 /// The figures of a linked source.
 fn measured<W: Watcher>(
     alloc: Global,
@@ -77,12 +45,10 @@ fn measured<W: Watcher>(
     requires { length conditions.now.input.now ≤ MAX_FILE_BYTES }
     ensures words { IfOk result (λ f. f.words ≡ length linked.now.image.code.items) }
     ensures noops { IfOk result (λ f. f.noops ≡ linked.now.noops) }
-    ensures cycles { IfOk result (λ f. f.cycles ≡ (run_of
-        (program_of shipped linked.now.image.code.items linked.now.image.user_data.items (given source.now.input conditions.now.input.now))
-        conditions.now.requests.now conditions.now.budget).counts.cycles) }
-    ensures halted { IfOk result (λ f. f.halted ≡ (run_of
-        (program_of shipped linked.now.image.code.items linked.now.image.user_data.items (given source.now.input conditions.now.input.now))
-        conditions.now.requests.now conditions.now.budget).halted) }
+    ensures cycles { IfOk result (λ f. f.cycles ≡ (linked_run source.now linked.now
+        conditions.now.requests.now conditions.now.input.now conditions.now.budget).counts.cycles) }
+    ensures halted { IfOk result (λ f. f.halted ≡ (linked_run source.now linked.now
+        conditions.now.requests.now conditions.now.input.now conditions.now.budget).halted) }
 {
     let (transfers, loads) = slots_of(
         source.statements(),

@@ -3,6 +3,7 @@ ghost use Rattle.std.specs.Prelude.{◌≡◌, ◌≤◌, ◌<◌, ◌+◌, ◌^
 ghost use Rattle.mx_turn.specs.Program.{Program, answer_after};
 
 use mx_isa::Reg;
+use mx_report::Driven;
 use mx_turn::{Counts, Cycled, Latches, Machine, Stage};
 use std::alloc::AllocError;
 
@@ -15,6 +16,14 @@ pub struct Entry {
     pub fetched: u64,
     /// What ALU held in the cycle in which it was taken, which is the first fetch that the handler brings back.
     pub killed: Stage,
+}
+
+/// What a run gave.
+#[derive(Drop)]
+pub struct Run {
+    pub driven: Driven,
+    /// How its last request became an interrupt, if it did.
+    pub entry: Option<Entry>,
 }
 
 // How far the last request has come.

@@ -1,11 +1,8 @@
 //! Runs with a request in each of some cycles in turn.
-ghost use Rattle.std.specs.Prelude.{◌≡◌, ◌≤◌, ◌<◌, ◌∷◌, All, IfOk, IfSome};
-ghost use Rattle.std.specs.Option.{option_copied, option_to_list};
-ghost use Rattle.mx_io.specs.declared.limits.TheConstants.{MAX_FILE_BYTES};
-ghost use Rattle.mx_board.specs.Contents.{bytes_in};
-ghost use Rattle.mx_turn.specs.Handler.{shipped};
-ghost use Rattle.mx_turn.specs.Program.{program_of};
-ghost use Rattle.lab_measures.specs.Sweeps.{IsRow, firsts};
+ghost use Rattle.std.specs.Prelude.{◌≡◌, ◌<◌, ◌∷◌, All, IfOk, IfSome};
+ghost use Rattle.std.specs.Option.{option_to_list};
+ghost use Rattle.mx_board.specs.Contents.{IsInput};
+ghost use Rattle.lab_measures.specs.Sweeps.{IsRowOf, firsts};
 
 use crate::cycles::Span;
 use crate::row::Row;
@@ -40,6 +37,17 @@ impl Sweep {
             None
         }
     }
+}
+
+/// What a sweep runs again and again: an image with its input, if it has one, for a budget of cycles, with requests in some
+/// cycles, beside the console of the undisturbed run.
+#[derive(Clone, Copy)]
+pub struct Swept<'a> {
+    pub image: &'a Image,
+    pub input: Option<&'a [u8]>,
+    pub budget: u32,
+    pub undisturbed: &'a [u8],
+    pub cycles: &'a [u32],
 }
 
 // Who is told how many cycles all runs together have come.
@@ -82,54 +90,35 @@ fn requests_for(alloc: Global, first: u32, second: Option<u32>) -> Result<Reques
 }
 
 // The run with a request in one cycle, or in two, beside the console of the undisturbed run.
-fn row_of(
-    alloc: Global,
-    image: &Image,
-    input: Option<&[u8]>,
-    budget: u32,
-    undisturbed: &[u8],
-    first: u32,
-    second: Option<u32>,
-) -> Result<Row, Memory>
-    requires bytes { bytes_in (option_copied input) ≤ MAX_FILE_BYTES }
+fn row_of(alloc: Global, swept: &Swept, first: u32, second: Option<u32>) -> Result<Row, Memory>
+    requires bytes { IsInput swept.now.input }
     requires rising { IfSome second (λ s. first < s) }
-    ensures row { IfOk result (IsRow
-        (program_of shipped image.now.code.items image.now.user_data.items (option_copied input.entry)) budget undisturbed.now) }
+    ensures row { IfOk result (IsRowOf swept.now) }
     ensures first { IfOk result (λ row. row.first ≡ first) }
     ensures second { IfOk result (λ row. row.second ≡ second) }
 {
     let requests = requests_for(alloc, first, second)?;
-    let run = run_with(alloc, image, input, &requests, budget)?;
+    let run = run_with(alloc, swept.image, swept.input, &requests, swept.budget)?;
     Ok(Row {
         first,
         second,
-        cycles: run.cycles,
-        halted: run.halted,
-        same_console: run.console.as_slice() == undisturbed,
+        cycles: run.driven.counts.cycles,
+        halted: run.driven.halted,
+        same_console: run.driven.console.as_slice() == swept.undisturbed,
         entry: run.entry,
     })
 }
 
-/// The runs of an image with a request in each of some cycles in turn, under the shipped handler, beside the console of the
-/// undisturbed run. A watcher is told how many cycles they have come together.
-pub fn singles<W: Watcher>(
-    alloc: Global,
-    image: &Image,
-    input: Option<&[u8]>,
-    budget: u32,
-    undisturbed: &[u8],
-    cycles: &[u32],
-    watcher: W,
-) -> Result<Vec<Row>, Memory>
-    requires bytes { bytes_in (option_copied input) ≤ MAX_FILE_BYTES }
-    ensures rows { IfOk result (λ rows. All (IsRow
-        (program_of shipped image.now.code.items image.now.user_data.items (option_copied input.entry)) budget undisturbed.now) rows.items) }
-    ensures firsts { IfOk result (λ rows. firsts rows.items ≡ cycles.now) }
+/// The runs with a request in each of some cycles in turn, under the shipped handler. A watcher is told how many cycles they have come together.
+pub fn singles<W: Watcher>(alloc: Global, swept: &Swept, watcher: W) -> Result<Vec<Row>, Memory>
+    requires bytes { IsInput swept.now.input }
+    ensures rows { IfOk result (λ rows. All (IsRowOf swept.now) rows.items) }
+    ensures firsts { IfOk result (λ rows. firsts rows.items ≡ swept.now.cycles.now) }
 {
     let mut progress = Progress::new(watcher);
     let mut rows = Vec::new(alloc);
-    for first in cycles {
-        let row = row_of(alloc, image, input, budget, undisturbed, *first, None)?;
+    for first in swept.cycles {
+        let row = row_of(alloc, swept, *first, None)?;
         progress.add(row.cycles);
         rows.push(row).map_err(|_| Memory)?;
     }
@@ -138,27 +127,19 @@ pub fn singles<W: Watcher>(
 
 /// The runs of an image with requests in each two of some cycles of which the one behind is the greater; the rest as for
 /// `singles`.
-pub fn pairs<W: Watcher>(
-    alloc: Global,
-    image: &Image,
-    input: Option<&[u8]>,
-    budget: u32,
-    undisturbed: &[u8],
-    cycles: &[u32],
-    watcher: W,
-) -> Result<Vec<Row>, Memory>
-    requires bytes { bytes_in (option_copied input) ≤ MAX_FILE_BYTES }
-    ensures rows { IfOk result (λ rows. All (IsRow
-        (program_of shipped image.now.code.items image.now.user_data.items (option_copied input.entry)) budget undisturbed.now) rows.items) }
+pub fn pairs<W: Watcher>(alloc: Global, swept: &Swept, watcher: W) -> Result<Vec<Row>, Memory>
+    requires bytes { IsInput swept.now.input }
+    ensures rows { IfOk result (λ rows. All (IsRowOf swept.now) rows.items) }
 {
     let mut progress = Progress::new(watcher);
     let mut rows = Vec::new(alloc);
+    let cycles = swept.cycles;
     for at in 0..cycles.len() {
         for behind in at + 1..cycles.len() {
             let (first, second) = (cycles[at], cycles[behind]);
             if first < second {
                 let second = Some(second);
-                let row = row_of(alloc, image, input, budget, undisturbed, first, second)?;
+                let row = row_of(alloc, swept, first, second)?;
                 progress.add(row.cycles);
                 rows.push(row).map_err(|_| Memory)?;
             }

@@ -16,12 +16,12 @@ use Rattle.law_link.specs.Runs.{IsLaid}
 use Rattle.law_end_to_end.specs.EndToEnd.{source_run}
 use Rattle.law_end_to_end.specs.Laws.{MeansItsSource}
 use Rattle.law_end_to_end.proofs.Composed.{run_means}
-use Rattle.lab_plans.specs.Planned.{image_run}
+use Rattle.lab_plans.specs.Planned.{linked_run}
 
 module _
     (P : Block → Plan → Type 0) (source : SourceValue) (linked : Linked) (k : IsLinked P from_target source board linked)
     (requests bytes : List ℕ) (budget : ℕ) where
-  pub runs : image_run source linked requests bytes budget ≡ source_run source k.sites requests bytes budget
+  pub runs : linked_run source linked requests bytes budget ≡ source_run source k.sites requests bytes budget
   runs i = run_of (program_of shipped (k.code i) (k.user_data i) (given source.input bytes)) requests budget
 
   pub means : IsSource source → HaveRegisters source.statements → MeansItsSource source k.sites requests bytes budget

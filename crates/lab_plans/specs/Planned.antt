@@ -20,8 +20,8 @@ use Rattle.mx_plans.specs.Says.{IsProposed}
 use Rattle.lab_plans.specs.Verdicts.{AreTold}
 
 -- the run of the image of a linked source, under the shipped handler, with requests at these cycles and these bytes as its input
-abbrev pub image_run : SourceValue → Linked → List ℕ → List ℕ → ℕ → MachineRun
-image_run source linked requests bytes budget =
+abbrev pub linked_run : SourceValue → Linked → List ℕ → List ℕ → ℕ → MachineRun
+linked_run source linked requests bytes budget =
     run_of (program_of shipped linked.image.code.items linked.image.user_data.items (given source.input bytes)) requests budget
 
 -- the report of a run of an image with these code words
@@ -37,8 +37,8 @@ pub record IsRunByPlans (source : SourceValue) (plans : List (List Mark)) (reque
   pub lines : List ℕ
   pub told : AreTold source (blocks_in is.sites) linked.proposals.items lines
   -- and the report of the run of the image
-  pub answers : answer ≡ prints (cond (image_run source linked requests bytes budget).halted Halted OutOfBudget)
-      (lines ++ run_report linked.image.code.items (image_run source linked requests bytes budget))
+  pub answers : answer ≡ prints (cond (linked_run source linked requests bytes budget).halted Halted OutOfBudget)
+      (lines ++ run_report linked.image.code.items (linked_run source linked requests bytes budget))
   -- that run is the one of the layout, and does what the source means, as far as the meaning is not stuck
-  pub runs : image_run source linked requests bytes budget ≡ source_run source is.sites requests bytes budget
+  pub runs : linked_run source linked requests bytes budget ≡ source_run source is.sites requests bytes budget
   pub means : MeansItsSource source is.sites requests bytes budget

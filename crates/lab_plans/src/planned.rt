@@ -1,31 +1,20 @@
 //! The run of a source by plans.
 ghost use Rattle.std.specs.Prelude.{◌≡◌, ◌≤◌, ◌++◌, None, OnOk, IfOk, IfErr, List, ℕ, length};
-ghost use Rattle.std.specs.Option.{option_copied};
 ghost use Rattle.mx_io.specs.declared.limits.TheConstants.{MAX_FILE_BYTES};
-ghost use Rattle.mx_source.specs.SourceValue.{IsSource};
-ghost use Rattle.mx_source.specs.Meaning.{given};
-ghost use Rattle.mx_layout.specs.Overlong.{IsRefusal};
-ghost use Rattle.mx_link.specs.Linked.{IsLinked};
-ghost use Rattle.mx_link.specs.Origins.{from_target};
-ghost use Rattle.mx_link.specs.Parts.{HaveRegisters};
 ghost use Rattle.cmd_answer.specs.Answer.{prints};
-ghost use Rattle.mx_board.specs.Contents.{bytes_in};
-ghost use Rattle.cmd_simulate.specs.Simulated.{image_answer};
 ghost use Rattle.cmd_answer.specs.Replies.{reply_answer};
 ghost use Rattle.cmd_answer.specs.declared.Status.{Status as HowItEnds};
-ghost use Rattle.mx_isa.specs.Board.{board};
-ghost use Rattle.mx_plans.specs.Files.{marks_of_lines};
-ghost use Rattle.mx_plans.specs.Says.{IsProposed};
+ghost use Rattle.lab_plans.specs.Terms.{IsSource, IsRefusal, IsLinked, from_target, HaveRegisters, board, marks_of_lines, IsProposed};
 ghost use Rattle.lab_plans.specs.Planned.{IsRunByPlans};
 
 use crate::verdicts::told;
 use cmd_answer::Reply;
 use cmd_options::Limits;
 use cmd_simulate::simulate_on;
+use lab_terms::given_to;
 use lab_watch::{Watcher, watched_pipe};
 use mx_blocks::blocks;
 use mx_board::Requests;
-use mx_code::Image;
 use mx_icache::LineCache;
 use mx_io::Memory;
 use mx_isa::BOARD;
@@ -33,16 +22,6 @@ use mx_link::{LinkError, Linked};
 use mx_plans::{PlanLine, link_planned};
 use mx_source::Source;
 use std::alloc::{AllocError, Global};
-
-/// The input that a source is given, if it has one.
-fn given_to<'a>(source: &Source, bytes: &'a [u8]) -> Option<&'a [u8]>
-    ensures { option_copied result ≡ given source.now.input bytes.entry.now }
-{
-    match source.input() {
-        Some(_) => Some(bytes),
-        None => None,
-    }
-}
 
 /// Links a source at the board's place by the plans that the lines of a file say.
 fn linked_by(alloc: Global, source: &Source, plans: &[PlanLine]) -> Result<Linked, LinkError>
@@ -70,30 +49,6 @@ fn behind(mut lines: Vec<u8>, reply: Reply) -> Result<Reply, AllocError>
         }
         Reply::Writes { name, bytes } => Ok(Reply::Writes { name, bytes }),
     }
-}
-
-/// Runs an image under the shipped handler, with an input or none, and reports the run. A watcher is told how far it has come.
-fn report_watched<W: Watcher>(
-    alloc: Global,
-    image: &Image,
-    input: Option<&[u8]>,
-    requests: &Requests,
-    budget: u32,
-    watcher: W,
-) -> Result<Reply, Memory>
-    requires { bytes_in (option_copied input) ≤ MAX_FILE_BYTES }
-    ensures { IfOk result (λ r. reply_answer r
-        ≡ image_answer image.now.code.items image.now.user_data.items (option_copied input.entry) requests.now
-        (record { budget = budget; trace = 0; dump = None; count = 1 })) }
-{
-    let mut machine = watched_pipe(alloc, image, input, LineCache::new(), watcher)?;
-    let limits = Limits {
-        budget,
-        trace: 0,
-        dump: None,
-        count: 1,
-    };
-    simulate_on(alloc, &mut machine, image, requests, &limits)
 }
 
 /// Links a source by the plans that the lines of a file say, and runs it under the shipped handler with these requests:
@@ -124,7 +79,15 @@ pub fn planned_reply<W: Watcher>(
         blocks.as_slice(),
         linked.proposals.as_slice(),
     )?;
+    let image = &linked.image;
     let given = given_to(source, input);
-    let run = report_watched(alloc, &linked.image, given, requests, budget, watcher)?;
+    let mut machine = watched_pipe(alloc, image, given, LineCache::new(), watcher)?;
+    let limits = Limits {
+        budget,
+        trace: 0,
+        dump: None,
+        count: 1,
+    };
+    let run = simulate_on(alloc, &mut machine, image, requests, &limits)?;
     Ok(behind(lines, run)?)
 }

@@ -1,10 +1,7 @@
 //! The profile of an image on the pipeline.
-ghost use Rattle.std.specs.Prelude.{◌≤◌, IfOk, vec_len};
-ghost use Rattle.std.specs.Option.{option_copied};
-ghost use Rattle.mx_io.specs.declared.limits.TheConstants.{MAX_FILE_BYTES};
-ghost use Rattle.mx_board.specs.Contents.{bytes_in};
-ghost use Rattle.mx_turn.specs.Handler.{shipped};
-ghost use Rattle.mx_turn.specs.Program.{program_of};
+ghost use Rattle.std.specs.Prelude.{IfOk, vec_len};
+ghost use Rattle.mx_board.specs.Contents.{IsInput};
+ghost use Rattle.mx_turn.specs.Program.{image_program};
 ghost use Rattle.lab_profile.specs.Tallies.{IsProfile};
 
 use crate::running::profile;
@@ -26,10 +23,8 @@ pub fn profile_of<W: Watcher>(
     budget: u32,
     watcher: W,
 ) -> Result<Profile, Memory>
-    requires { bytes_in (option_copied input) ≤ MAX_FILE_BYTES }
-    ensures { IfOk result (IsProfile
-        (program_of shipped image.now.code.items image.now.user_data.items (option_copied input.entry))
-        requests.now (vec_len image.now.code) budget) }
+    requires { IsInput input }
+    ensures { IfOk result (IsProfile (image_program image.now input.entry) requests.now (vec_len image.now.code) budget) }
 {
     let mut machine = watched_pipe(alloc, image, input, LineCache::new(), watcher)?;
     let profile = profile(alloc, &mut machine, image.code.len(), requests, budget)?;

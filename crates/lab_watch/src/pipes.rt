@@ -1,10 +1,7 @@
 //! The pipeline, watched.
-ghost use Rattle.std.specs.Prelude.{◌≤◌, [], IfOk};
-ghost use Rattle.std.specs.Option.{option_copied};
-ghost use Rattle.mx_io.specs.declared.limits.TheConstants.{MAX_FILE_BYTES};
-ghost use Rattle.mx_board.specs.Contents.{bytes_in};
-ghost use Rattle.mx_turn.specs.Handler.{shipped};
-ghost use Rattle.mx_turn.specs.Program.{program_of};
+ghost use Rattle.std.specs.Prelude.{[], IfOk};
+ghost use Rattle.mx_board.specs.Contents.{IsInput};
+ghost use Rattle.mx_turn.specs.Program.{image_program};
 ghost use Rattle.mx_pipe.specs.Kept.{StandsFor};
 ghost use Rattle.lab_watch.specs.Within.{within};
 
@@ -23,10 +20,9 @@ pub fn watched_pipe<C: FetchCache, W: Watcher>(
     cache: C,
     watcher: W,
 ) -> Result<Watched<Pipe<C>, W>, Memory>
-    requires bytes { bytes_in (option_copied input) ≤ MAX_FILE_BYTES }
+    requires bytes { IsInput input }
     requires empty { C.holds cache [] }
-    ensures { IfOk result (λ t. StandsFor C.holds (within t)
-        (program_of shipped image.now.code.items image.now.user_data.items (option_copied input.entry)) []) }
+    ensures { IfOk result (λ t. StandsFor C.holds (within t) (image_program image.now input.entry) []) }
 {
     let pipe = Pipe::new(alloc, image, input, cache)?;
     Ok(Watched::new(pipe, watcher))

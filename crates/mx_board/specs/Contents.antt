@@ -1,5 +1,7 @@
 -- What a board holds.
 use Rattle.std.specs.Prelude.{◌≡◌, ◌≤◌, ℕ, List, length, slice_index, Option, Some, None}
+use Rattle.std.specs.Borrow.{Bor}
+use Rattle.std.specs.Option.{option_copied}
 use Rattle.mx_isa.specs.declared.board.TheConstants.{DATA_END, CONSOLE}
 use Rattle.mx_io.specs.declared.limits.TheConstants.{MAX_FILE_BYTES}
 
@@ -13,6 +15,10 @@ pub record Contents : Type 0 where
 abbrev pub bytes_in : Option (List ℕ) → ℕ
 bytes_in None = 0
 bytes_in (Some bytes) = length bytes
+
+-- what may be given to a program: no input, or one of at most 1,048,576 bytes
+abbrev pub IsInput : Option (Bor (List ℕ)) → Type 0
+IsInput input = bytes_in (option_copied input) ≤ MAX_FILE_BYTES
 
 -- what holds of every board: 65,536 words, of which the console is 0, and at most 1,048,576 input bytes, of which no more are taken
 pub record IsBoard (b : Contents) : Type 0 where

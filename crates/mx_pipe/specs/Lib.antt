@@ -1,3 +1,4 @@
+pub mod Terms
 pub mod Latched
 pub mod Made
 pub mod Courses

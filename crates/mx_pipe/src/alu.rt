@@ -1,13 +1,7 @@
 //! What the word in ALU makes, and where it leads.
 ghost use Rattle.std.specs.Prelude.{◌≡◌, ◌==◌, ◌<◌, ◌+◌, ◌%◌, ◌^◌, ℕ, None, Some, true, false, unwrap_or, nat_lt, if◌then◌else◌};
 ghost use Rattle.std.specs.Int.{w32, cast_unsigned};
-ghost use Rattle.mx_isa.specs.Words.{Words, reg};
-ghost use Rattle.mx_isa.specs.Arithmetic.{word_of};
-ghost use Rattle.mx_isa.specs.Views.{sources};
-ghost use Rattle.mx_delay.specs.Delay.{idle, next_of};
-ghost use Rattle.mx_turn.specs.Decoded.{ShiftFits};
-ghost use Rattle.mx_turn.specs.Stages.{address_of};
-ghost use Rattle.mx_turn.specs.System.{number_of};
+ghost use Rattle.mx_pipe.specs.Terms.{Words, reg, word_of, sources, idle, next_of, ShiftFits, address_of, number_of};
 ghost use Rattle.mx_pipe.specs.Latched.{does};
 ghost use Rattle.mx_pipe.specs.Made.{allowed, md_behind, md_kept, passed};
 ghost use Rattle.mx_pipe.specs.Courses.{course_of, target_of, course_aside};
@@ -17,7 +11,7 @@ use crate::fetching::address_of;
 use crate::memory::Reached;
 use mx_isa::{Inst, Reg, Special, compute, holds};
 use mx_pcchain::{Chain, Fetched, Psw};
-use mx_turn::{Decided, goes_to, number_of};
+use mx_turn::{Decided, goes_back, goes_on, goes_to, number_of};
 
 /// Code addresses are below it. As where a word leads at once it stands for none: the word cancels or pops.
 // A number for none, since an option would take a register of its own in every cycle.
@@ -45,24 +39,9 @@ impl Course {
     {
         match self {
             Course::To(target) => goes_to(target),
-            Course::Cancels => Decided {
-                target: None,
-                cancels: true,
-                pops: false,
-                restores: false,
-            },
-            Course::Pops => Decided {
-                target: None,
-                cancels: false,
-                pops: true,
-                restores: false,
-            },
-            Course::Returns => Decided {
-                target: None,
-                cancels: false,
-                pops: true,
-                restores: true,
-            },
+            Course::Cancels => goes_on(true),
+            Course::Pops => goes_back(false),
+            Course::Returns => goes_back(true),
         }
     }
 }

@@ -1,11 +1,8 @@
 //! The word that is fetched.
 ghost use Rattle.std.specs.Prelude.{◌≡◌, ◌≤◌, length, None, ◌<◌, ◌^◌, ◌-◌, IfSome, true, is_some, unwrap_or, slice_get, option_and_then, leb, if◌then◌else◌};
 ghost use Rattle.mx_isa.specs.declared.board.TheConstants.{CODE_BASE, MAX_CODE_WORDS};
-ghost use Rattle.mx_code.specs.Decoding.{inst_of};
-ghost use Rattle.mx_delay.specs.Delay.{code_from, idle};
-ghost use Rattle.mx_turn.specs.Decoded.{ShiftFits};
 ghost use Rattle.mx_turn.specs.Program.{code_with};
-ghost use Rattle.mx_turn.specs.Stages.{live, address_of};
+ghost use Rattle.mx_pipe.specs.Terms.{inst_of, code_from, idle, ShiftFits, live, address_of};
 ghost use Rattle.mx_pipe.specs.Kept.{is_live};
 
 use crate::Latch;

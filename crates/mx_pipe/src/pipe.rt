@@ -1,11 +1,8 @@
 //! The pipeline.
 ghost use Rattle.std.specs.Prelude.{◌≡◌, ◌≤◌, IfOk, [], length};
-ghost use Rattle.std.specs.Option.{option_copied};
-ghost use Rattle.mx_io.specs.declared.limits.TheConstants.{MAX_FILE_BYTES};
 ghost use Rattle.mx_isa.specs.declared.board.TheConstants.{CODE_BASE};
-ghost use Rattle.mx_board.specs.Contents.{bytes_in};
-ghost use Rattle.mx_turn.specs.Handler.{shipped};
-ghost use Rattle.mx_turn.specs.Program.{program_of};
+ghost use Rattle.mx_board.specs.Contents.{IsInput};
+ghost use Rattle.mx_turn.specs.Program.{image_program, image_under};
 ghost use Rattle.mx_pipe.specs.Kept.{StandsFor};
 
 use crate::Latch;
@@ -81,10 +78,9 @@ impl<C: FetchCache> Pipe<C> {
         input: Option<&[u8]>,
         cache: C,
     ) -> Result<Pipe<C>, Memory>
-        requires bytes { bytes_in (option_copied input) ≤ MAX_FILE_BYTES }
+        requires bytes { IsInput input }
         requires empty { C.holds cache [] }
-        ensures { IfOk result (λ t. StandsFor C.holds t
-            (program_of shipped image.now.code.items image.now.user_data.items (option_copied input.entry)) []) }
+        ensures { IfOk result (λ t. StandsFor C.holds t (image_program image.now input.entry) []) }
     {
         Pipe::with(alloc, image, &SHIPPED, input, cache)
     }
@@ -99,10 +95,9 @@ impl<C: FetchCache> Pipe<C> {
         cache: C,
     ) -> Result<Pipe<C>, Memory>
         requires words { length handler.now ≤ CODE_BASE }
-        requires bytes { bytes_in (option_copied input) ≤ MAX_FILE_BYTES }
+        requires bytes { IsInput input }
         requires empty { C.holds cache [] }
-        ensures { IfOk result (λ t. StandsFor C.holds t
-            (program_of handler.now image.now.code.items image.now.user_data.items (option_copied input.entry)) []) }
+        ensures { IfOk result (λ t. StandsFor C.holds t (image_under handler.now image.now input.entry) []) }
     {
         let decoded = Decoded::new(alloc, handler, &image.code)?;
         let code = kept(alloc, &image.code)?;

@@ -1,17 +1,10 @@
 //! From the latches into a lane, and back.
 ghost use Rattle.std.specs.Prelude.{◌≡◌, ◌<◌, ◌≤◌, ◌+◌, ◌^◌, ◌∷◌, ◌++◌, ℕ, Bool, List, IfOk, true, false, length, slice_index, if◌then◌else◌};
 ghost use Rattle.mx_isa.specs.declared.board.TheConstants.{MAX_CODE_WORDS};
-ghost use Rattle.mx_isa.specs.Words.{Words, reg};
-ghost use Rattle.mx_isa.specs.Views.{dest, is_load, is_halt};
-ghost use Rattle.mx_delay.specs.Delay.{Code};
-ghost use Rattle.mx_icache.specs.Residency.{resident};
-ghost use Rattle.mx_turn.specs.Counted.{Counted, after_turn};
-ghost use Rattle.mx_turn.specs.Decoded.{code_in};
-ghost use Rattle.mx_turn.specs.Stages.{live};
-ghost use Rattle.mx_turn.specs.System.{slot_of};
 ghost use Rattle.mx_turn.specs.Program.{Program, state_after, quiet, quiet_bytes};
 ghost use Rattle.mx_turn.specs.Cycle.{Machine as State, showing, ended, squashes, takes};
 ghost use Rattle.mx_lane.specs.Lanes.{lane_of, IsLeft};
+ghost use Rattle.mx_pipe.specs.Terms.{Words, reg, dest, is_load, is_halt, Code, resident, Counted, after_turn, code_in, live, slot_of};
 ghost use Rattle.mx_pipe.specs.declared.pipe.Wait.{Wait};
 ghost use Rattle.mx_pipe.specs.Latched.{does};
 ghost use Rattle.mx_pipe.specs.Kept.{code_of_pipe, IsRead, Holds, Commits, Tells, has_missed, KeepsProgram, StandsFor};

@@ -2,7 +2,7 @@
 use Rattle.std.specs.Prelude.{ℕ, zero, suc, cond, List, [], ◌++◌}
 use Rattle.mx_turn.specs.Program.{Program, state_after, answer_after}
 use Rattle.mx_turn.specs.Run.{is_requested, bits}
-use Rattle.mx_report.specs.Trace.{trace_line}
+pub use Rattle.mx_report.specs.Trace.{trace_line}
 
 -- the line of cycle n; none once the machine has halted
 abbrev pub cycle_line : Program → List ℕ → ℕ → List ℕ

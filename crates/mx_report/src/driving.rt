@@ -2,8 +2,7 @@
 ghost use Rattle.std.specs.Prelude.{◌≡◌, ◌≤◌, ◌<◌, ◌+◌, ◌++◌, ◌^◌, [], List, ℕ, Bool, OnOk, IfOk, cond, false, suc, min};
 ghost use Rattle.mx_turn.specs.Program.{Program, state_after};
 ghost use Rattle.mx_turn.specs.Run.{bits, console_after, run_of};
-ghost use Rattle.mx_report.specs.Driving.{trace_text};
-ghost use Rattle.mx_report.specs.Trace.{line_of, trace_line};
+ghost use Rattle.mx_report.specs.Driving.{trace_text, trace_line};
 
 use crate::observing::{Observer, observe};
 use crate::traces::push_trace_line;
@@ -22,24 +21,8 @@ pub struct Driven {
     pub trace: Vec<u8>,
 }
 
-// Appends the line of a cycle. The machine is as the cycle left it.
-// Few cycles have a line: a call of its own keeps the loop over all of them short.
-#[inline(never)]
-fn push_line<M: Machine>(
-    alloc: Global,
-    text: &mut Vec<u8>,
-    cycle: u32,
-    stalled: bool,
-    machine: &M,
-) -> Result<(), AllocError>
-    ensures { OnOk result ((p : Program) (h : List Bool) → M.stands machine.now p h
-        → text.new.items ≡ text.old.items ++ line_of cycle stalled (state_after p h).shown) }
-{
-    push_trace_line(alloc, text, cycle, stalled, &machine.latches())
-}
-
-// Appends the line of a cycle, where it is one of those asked for. The latches are asked for only then, since they cost as
-// much as the cycle.
+// Appends the line of a cycle, where it is one of those asked for. The machine is as the cycle left it. The latches are asked
+// for only then, since they cost as much as the cycle.
 fn push_line_if<M: Machine>(
     alloc: Global,
     text: &mut Vec<u8>,
@@ -52,7 +35,7 @@ fn push_line_if<M: Machine>(
         → text.new.items ≡ text.old.items ++ cond asked (trace_line cycle cycled.now (state_after p h).shown) []) }
 {
     if asked {
-        push_line(alloc, text, cycle, cycled.stalled, machine)
+        push_trace_line(alloc, text, cycle, cycled.stalled, &machine.latches())
     } else {
         Ok(())
     }

@@ -61,6 +61,8 @@ fn push_latches(text: &mut Vec<u8>, latches: &Latches) -> Result<(), AllocError>
 }
 
 /// Appends the line of a cycle, stalled or not.
+// Few cycles have a line: a call of its own keeps the loop over all of them short.
+#[inline(never)]
 pub fn push_trace_line(
     alloc: Global,
     text: &mut Vec<u8>,

@@ -1,11 +1,15 @@
 -- What a machine runs, and its state after a list of request bits.
 use Rattle.std.specs.Prelude.{ℕ, zero, suc, Bool, false, cond, leb, List, [], ◌∷◌, ◌++◌, Option, option_to_list}
+use Rattle.std.specs.Borrow.{Bor}
+use Rattle.std.specs.Option.{option_copied}
 use Rattle.mx_isa.specs.declared.board.TheConstants.{CODE_BASE, DATA_BASE}
 use Rattle.mx_isa.specs.Words.{Words}
 use Rattle.mx_delay.specs.Delay.{Code, code_from, data_from}
+use Rattle.mx_code.specs.declared.image.Image.{Image}
 use Rattle.mx_code.specs.Decoding.{inst_of}
 use Rattle.mx_icache.specs.Residency.{resident}
 use Rattle.mx_turn.specs.declared.machine.Cycled.{Cycled}
+use Rattle.mx_turn.specs.Handler.{shipped}
 use Rattle.mx_turn.specs.Cycle.{Machine, answer, start, after_bits}
 
 -- an image's code words, which stand from 4096 on, the words of a handler, from 0 on, the image's data words, from 256 on, and the input, if there is one
@@ -18,6 +22,14 @@ pub record Program : Type 0 where
 -- the handler's words first
 abbrev pub program_of : List ℕ → List ℕ → List ℕ → Option (List ℕ) → Program
 program_of handler user data_words input = record { user_words = user; handler_words = handler; data_words = data_words; input = input }
+
+-- what an image is with a handler, and with an input or none
+abbrev pub image_under : List ℕ → Image → Option (Bor (List ℕ)) → Program
+image_under handler image input = program_of handler image.code.items image.user_data.items (option_copied input)
+
+-- the same with the shipped handler
+abbrev pub image_program : Image → Option (Bor (List ℕ)) → Program
+image_program image input = image_under shipped image input
 
 -- the handler's code below 4096, and the user's from there on
 abbrev pub code_with : Code → Code → Code

@@ -1,12 +1,14 @@
 -- A run within a budget of cycles, and the bound on a run of compiled code.
 use Rattle.std.specs.Prelude.{ℕ, zero, suc, ◌+◌, ◌*◌, Bool, false, eqb, leb, not, ◌==◌, ◌&&◌, List, [], ◌∷◌, ◌++◌, Option, Some, None, option_to_list}
 use Rattle.std.specs.List.{list_any}
+use Rattle.std.specs.Borrow.{Bor}
 use Rattle.mx_isa.specs.declared.board.TheConstants.{CODE_BASE}
+use Rattle.mx_code.specs.declared.image.Image.{Image}
 use Rattle.mx_pcchain.specs.Fetch.{Fetch}
 use Rattle.mx_icache.specs.Residency.{resident}
 use Rattle.mx_turn.specs.Counted.{Counted, one}
 use Rattle.mx_turn.specs.Cycle.{Machine, cycled, answer, start}
-use Rattle.mx_turn.specs.Program.{Program, code_of, memory_of, state_after}
+use Rattle.mx_turn.specs.Program.{Program, code_of, image_program, memory_of, state_after}
 
 -- a request comes in this cycle
 abbrev pub is_requested : List ℕ → ℕ → Bool
@@ -59,6 +61,10 @@ run_of p requests budget =
       passed = passed_on p (start (memory_of p)) h;
       last = state_after p h;
     }
+
+-- the run of an image with the shipped handler, and with an input or none
+abbrev pub image_run : Image → Option (Bor (List ℕ)) → List ℕ → ℕ → MachineRun
+image_run image input requests budget = run_of (image_program image input) requests budget
 
 -- cycles within which linked code halts under k requests, where its source's meaning halts after n executed statements
 abbrev pub bound : ℕ → ℕ → ℕ

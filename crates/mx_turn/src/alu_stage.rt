@@ -1,5 +1,5 @@
 //! What the word in ALU decides.
-ghost use Rattle.std.specs.Prelude.{◌≡◌, ◌<◌, ◌+◌, ◌%◌, ◌^◌, slice_index, IfSome, false, if◌then◌else◌, Some, None, not, ◌&&◌};
+ghost use Rattle.std.specs.Prelude.{◌≡◌, ◌<◌, ◌+◌, ◌%◌, ◌^◌, slice_index, IfSome, true, false, if◌then◌else◌, Some, None, not, ◌&&◌};
 ghost use Rattle.std.specs.Int.{w32, cast_unsigned};
 ghost use Rattle.mx_isa.specs.Effect.{decides, offset_by};
 ghost use Rattle.mx_turn.specs.System.{pops, restores, seen};
@@ -17,16 +17,23 @@ pub struct Decided {
     pub restores: bool,
 }
 
+/// It leads to the next word, and cancels the two words behind it or not.
+pub fn goes_on(cancels: bool) -> Decided
+    ensures { result ≡ record { target = None; cancels = cancels; pops = false; restores = false } }
+{
+    Decided {
+        target: None,
+        cancels,
+        pops: false,
+        restores: false,
+    }
+}
+
 /// It leads to the next word.
 pub fn falls_through() -> Decided
     ensures { result ≡ record { target = None; cancels = false; pops = false; restores = false } }
 {
-    Decided {
-        target: None,
-        cancels: false,
-        pops: false,
-        restores: false,
-    }
+    goes_on(false)
 }
 
 /// It leads to an address.
@@ -35,9 +42,18 @@ pub fn goes_to(target: u32) -> Decided
 {
     Decided {
         target: Some(target),
-        cancels: false,
-        pops: false,
-        restores: false,
+        ..falls_through()
+    }
+}
+
+/// It pops the chain in system mode, and brings back the other mode or not.
+pub fn goes_back(restores: bool) -> Decided
+    ensures { result ≡ record { target = None; cancels = false; pops = true; restores = restores } }
+{
+    Decided {
+        pops: true,
+        restores,
+        ..falls_through()
     }
 }
 
@@ -58,12 +74,7 @@ pub fn branches(holds: bool, at: u32, squash: bool, by: i32) -> Decided
     if holds {
         goes_to(displaced(at, by))
     } else {
-        Decided {
-            target: None,
-            cancels: squash,
-            pops: false,
-            restores: false,
-        }
+        goes_on(squash)
     }
 }
 
@@ -90,18 +101,8 @@ pub fn decide(inst: &Inst, at: u32, registers: &Registers) -> Decided
         Inst::Jspci { a, dest: _, imm } => {
             goes_to(registers.sees(*a).wrapping_add(imm.cast_unsigned()) % (1 << 31))
         }
-        Inst::Jpc => Decided {
-            target: None,
-            cancels: false,
-            pops: true,
-            restores: false,
-        },
-        Inst::Jpcrs => Decided {
-            target: None,
-            cancels: false,
-            pops: true,
-            restores: true,
-        },
+        Inst::Jpc => goes_back(false),
+        Inst::Jpcrs => goes_back(true),
         _ => falls_through(),
     }
 }

@@ -15,7 +15,7 @@ mod shown;
 mod stages;
 mod turns;
 
-pub use alu_stage::{Decided, branches, decide, falls_through, goes_to};
+pub use alu_stage::{Decided, branches, decide, falls_through, goes_back, goes_on, goes_to};
 pub use counts::Counts;
 pub use decoded::Decoded;
 pub use handler::SHIPPED;

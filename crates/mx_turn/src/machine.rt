@@ -37,10 +37,9 @@ impl Cycled {
         ensures { result ≡ record { byte = None; taken = false; halted = false; stalled = true } }
     {
         Cycled {
-            byte: None,
-            taken: false,
             halted: false,
             stalled: true,
+            ..Cycled::after_halt()
         }
     }
 }

@@ -1,18 +1,15 @@
 //! The machine that commits each word as a whole.
 ghost use Rattle.std.specs.Prelude.{◌≡◌, ◌<◌, IfSome, ◌≤◌, ◌+◌, ◌^◌, ℕ, Bool, not, ◌&&◌, ◌||◌, length, slice_index, IfOk, Some, None, List, if◌then◌else◌, [], ◌∷◌};
-ghost use Rattle.std.specs.Option.{option_copied};
-ghost use Rattle.mx_io.specs.declared.limits.TheConstants.{MAX_FILE_BYTES};
 ghost use Rattle.mx_isa.specs.declared.board.TheConstants.{CODE_BASE};
 ghost use Rattle.mx_isa.specs.Words.{Words};
-ghost use Rattle.mx_board.specs.Contents.{bytes_in};
+ghost use Rattle.mx_board.specs.Contents.{IsInput};
 ghost use Rattle.mx_icache.specs.Residency.{resident};
 ghost use Rattle.mx_turn.specs.declared.latches.Latches.{Latches};
 ghost use Rattle.mx_turn.specs.Decoded.{ShiftFits};
 ghost use Rattle.mx_delay.specs.Delay.{next_of};
 ghost use Rattle.mx_turn.specs.Stages.{fetch_of, live};
-ghost use Rattle.mx_turn.specs.Handler.{shipped};
 ghost use Rattle.mx_turn.specs.Cycle.{shifted, committed, commit_byte, showing, is_taken, entered, decision, decided, ended, takes, squashes, waited, acted, acted_answer};
-ghost use Rattle.mx_turn.specs.Program.{Program, program_of};
+ghost use Rattle.mx_turn.specs.Program.{Program, image_program, image_under};
 ghost use Rattle.mx_turn.specs.Kept.{code_of_turns, machine_of, shown_of, looked_of, shown_by, aside, KeepsProgram, StandsFor, Does, Tells, Commits, Shows, Waits, FetchesNext, KnowsMiss, Acts};
 
 use crate::alu_stage::{Decided, decide};
@@ -361,10 +358,9 @@ impl<C: FetchCache> Turns<C> {
         input: Option<&[u8]>,
         cache: C,
     ) -> Result<Turns<C>, Memory>
-        requires bytes { bytes_in (option_copied input) ≤ MAX_FILE_BYTES }
+        requires bytes { IsInput input }
         requires empty { C.holds cache [] }
-        ensures { IfOk result (λ t. StandsFor C.holds t
-            (program_of shipped image.now.code.items image.now.user_data.items (option_copied input.entry)) []) }
+        ensures { IfOk result (λ t. StandsFor C.holds t (image_program image.now input.entry) []) }
     {
         Turns::with(alloc, image, &SHIPPED, input, cache)
     }
@@ -379,10 +375,9 @@ impl<C: FetchCache> Turns<C> {
         cache: C,
     ) -> Result<Turns<C>, Memory>
         requires words { length handler.now ≤ CODE_BASE }
-        requires bytes { bytes_in (option_copied input) ≤ MAX_FILE_BYTES }
+        requires bytes { IsInput input }
         requires empty { C.holds cache [] }
-        ensures { IfOk result (λ t. StandsFor C.holds t
-            (program_of handler.now image.now.code.items image.now.user_data.items (option_copied input.entry)) []) }
+        ensures { IfOk result (λ t. StandsFor C.holds t (image_under handler.now image.now input.entry) []) }
     {
         let code = Decoded::new(alloc, handler, &image.code)?;
         let board = Board::new(alloc, &image.user_data, input)?;

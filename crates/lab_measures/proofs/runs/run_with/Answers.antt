@@ -1,4 +1,4 @@
-use Rattle.std.proofs.Common.{List, ap, ◌∙◌}
+use Rattle.std.proofs.Common.{List, ap}
 use Rattle.std.specs.Option.{option_copied}
 use Rattle.mx_turn.specs.Counted.{Counted}
 use Rattle.mx_turn.specs.Handler.{shipped}
@@ -9,16 +9,16 @@ pub returns-clause-cycles : goal.returns-clause-cycles
 returns-clause-cycles c =
     let image = c.args.image.now in
     let p : Program = program_of shipped image.code.items image.user_data.items (option_copied c.args.input) in
-    c.run_in.ensures.cycles ∙ ap (λ (x : Counted). x.cycles) (c.in_ok-driven.ensures.counts p c.in_ok-machine.ensures)
+    ap (λ (x : Counted). x.cycles) (c.in_ok-driven.ensures.counts p c.in_ok-machine.ensures)
 
 pub returns-clause-halted : goal.returns-clause-halted
 returns-clause-halted c =
     let image = c.args.image.now in
     let p : Program = program_of shipped image.code.items image.user_data.items (option_copied c.args.input) in
-    c.run_in.ensures.halted ∙ c.in_ok-driven.ensures.halted p c.in_ok-machine.ensures
+    c.in_ok-driven.ensures.halted p c.in_ok-machine.ensures
 
 pub returns-clause-console : goal.returns-clause-console
 returns-clause-console c =
     let image = c.args.image.now in
     let p : Program = program_of shipped image.code.items image.user_data.items (option_copied c.args.input) in
-    c.run_in.ensures.console ∙ c.in_ok-driven.ensures.console p c.in_ok-machine.ensures
+    c.in_ok-driven.ensures.console p c.in_ok-machine.ensures

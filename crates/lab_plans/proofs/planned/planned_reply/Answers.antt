@@ -1,13 +1,16 @@
 use Rattle.std.proofs.Common.{◌≡◌, List, length, None, ap, sym, subst, ◌∙◌}
+use Rattle.std.specs.Option.{option_copied}
 use Rattle.mx_blocks.specs.declared.Block.{Block}
 use Rattle.mx_blocks.specs.declared.Plan.{Plan}
 use Rattle.mx_blocks.proofs.UniqueBlocks.{blocks_unique}
 use Rattle.mx_layout.specs.Layout.{blocks_in}
 use Rattle.mx_source.specs.Meaning.{given}
+use Rattle.mx_turn.specs.Handler.{shipped}
+use Rattle.mx_turn.specs.Program.{program_of}
 use Rattle.cmd_simulate.specs.Simulated.{image_answer}
 use Rattle.mx_plans.specs.Files.{marks_of_lines}
 use Rattle.mx_plans.specs.Says.{IsProposed}
-use Rattle.lab_plans.specs.Planned.{image_run, run_report}
+use Rattle.lab_plans.specs.Planned.{linked_run, run_report}
 use Rattle.lab_plans.specs.Verdicts.{AreTold}
 use Rattle.lab_plans.proofs.Counts.{kept_count}
 use Rattle.lab_plans.proofs.Means.{runs, means}
@@ -47,8 +50,8 @@ returns-clause-planned g c =
       is = k;
       lines = lines;
       told = told;
-      answers = c.in_ok-behind.ensures _ (run_report code (image_run source linked requests bytes budget))
-          (c.in_ok-run.ensures
+      answers = c.in_ok-behind.ensures _ (run_report code (linked_run source linked requests bytes budget))
+          (c.in_ok-run.ensures (program_of shipped code user_data (option_copied c.given_to-given.result)) c.in_ok-machine.ensures
           ∙ ap (λ o. image_answer code user_data o requests (record { budget = budget; trace = 0; dump = None; count = 1 })) c.given_to-given.ensures
           ∙ report_is code user_data (given source.input bytes) requests budget);
       runs = runs proposes source linked k requests bytes budget;
