@@ -30,84 +30,61 @@ pub(crate) enum Mnemonic {
     Nop,
 }
 
-const MNEMONICS: [(&str, Mnemonic); 69] = [
-    ("lw", Mnemonic::Load(Width::Word)),
-    ("sw", Mnemonic::Store(Width::Word)),
-    ("move", Mnemonic::Move),
-    ("addiu", Mnemonic::Compute(Operation::Add)),
-    ("li", Mnemonic::Number),
-    ("beq", Mnemonic::Branch(Condition::Equal)),
-    ("bne", Mnemonic::Branch(Condition::NotEqual)),
-    ("sll", Mnemonic::Shift(Shift::Left)),
-    ("b", Mnemonic::Goto),
-    ("jal", Mnemonic::Call),
-    ("jr", Mnemonic::Jump),
-    ("j", Mnemonic::Jump),
-    ("jalr", Mnemonic::Call),
-    ("addu", Mnemonic::Compute(Operation::Add)),
-    ("srl", Mnemonic::Shift(Shift::Right)),
-    ("or", Mnemonic::Compute(Operation::Or)),
-    ("sltu", Mnemonic::Compute(Operation::Lower)),
-    ("subu", Mnemonic::Compute(Operation::Sub)),
-    ("andi", Mnemonic::Compute(Operation::And)),
-    ("la", Mnemonic::Address),
-    ("lb", Mnemonic::Load(Width::Byte { signed: true })),
-    ("lbu", Mnemonic::Load(Width::Byte { signed: false })),
-    ("sb", Mnemonic::Store(Width::Byte { signed: false })),
-    ("slt", Mnemonic::Compute(Operation::Less)),
-    ("slti", Mnemonic::Compute(Operation::Less)),
-    ("sltiu", Mnemonic::Compute(Operation::Lower)),
-    ("ori", Mnemonic::Compute(Operation::Or)),
-    ("and", Mnemonic::Compute(Operation::And)),
-    ("xor", Mnemonic::Compute(Operation::Xor)),
-    ("xori", Mnemonic::Compute(Operation::Xor)),
-    ("nor", Mnemonic::Compute(Operation::Nor)),
-    ("sra", Mnemonic::Shift(Shift::Arithmetic)),
-    ("mult", Mnemonic::Long(Long::Product { signed: true })),
-    ("multu", Mnemonic::Long(Long::Product { signed: false })),
-    ("div", Mnemonic::Long(Long::Quotient { signed: true })),
-    ("divu", Mnemonic::Long(Long::Quotient { signed: false })),
-    ("mflo", Mnemonic::FromSpecial(Special::Lo)),
-    ("mfhi", Mnemonic::FromSpecial(Special::Hi)),
-    ("mtlo", Mnemonic::ToSpecial(Special::Lo)),
-    ("mthi", Mnemonic::ToSpecial(Special::Hi)),
-    ("bgez", Mnemonic::BranchZero(Condition::NotLess)),
-    ("bltz", Mnemonic::BranchZero(Condition::Less)),
-    ("blez", Mnemonic::BranchZero(Condition::NotGreater)),
-    ("bgtz", Mnemonic::BranchZero(Condition::Greater)),
-    ("beqz", Mnemonic::BranchZero(Condition::Equal)),
-    ("bnez", Mnemonic::BranchZero(Condition::NotEqual)),
-    ("blt", Mnemonic::Branch(Condition::Less)),
-    ("bge", Mnemonic::Branch(Condition::NotLess)),
-    ("bgt", Mnemonic::Branch(Condition::Greater)),
-    ("ble", Mnemonic::Branch(Condition::NotGreater)),
-    ("bltu", Mnemonic::Branch(Condition::Lower)),
-    ("bgeu", Mnemonic::Branch(Condition::NotLower)),
-    ("bgtu", Mnemonic::Branch(Condition::Higher)),
-    ("bleu", Mnemonic::Branch(Condition::NotHigher)),
-    ("lh", Mnemonic::Load(Width::Half { signed: true })),
-    ("lhu", Mnemonic::Load(Width::Half { signed: false })),
-    ("sh", Mnemonic::Store(Width::Half { signed: false })),
-    ("lwl", Mnemonic::Load(Width::Left)),
-    ("lwr", Mnemonic::Load(Width::Right)),
-    ("swl", Mnemonic::Store(Width::Left)),
-    ("swr", Mnemonic::Store(Width::Right)),
-    ("lui", Mnemonic::Upper),
-    ("not", Mnemonic::Not),
-    ("negu", Mnemonic::Negate),
-    ("break", Mnemonic::Break),
-    ("nop", Mnemonic::Nop),
-    ("sllv", Mnemonic::Shift(Shift::Left)),
-    ("srlv", Mnemonic::Shift(Shift::Right)),
-    ("srav", Mnemonic::Shift(Shift::Arithmetic)),
+/// The mnemonics of each meaning, but for branches on a condition.
+const MNEMONICS: [(&[&str], Mnemonic); 42] = [
+    (&["lw"], Mnemonic::Load(Width::Word)),
+    (&["lb"], Mnemonic::Load(Width::Byte { signed: true })),
+    (&["lbu"], Mnemonic::Load(Width::Byte { signed: false })),
+    (&["lh"], Mnemonic::Load(Width::Half { signed: true })),
+    (&["lhu"], Mnemonic::Load(Width::Half { signed: false })),
+    (&["lwl"], Mnemonic::Load(Width::Left)),
+    (&["lwr"], Mnemonic::Load(Width::Right)),
+    (&["sw"], Mnemonic::Store(Width::Word)),
+    (&["sb"], Mnemonic::Store(Width::Byte { signed: false })),
+    (&["sh"], Mnemonic::Store(Width::Half { signed: false })),
+    (&["swl"], Mnemonic::Store(Width::Left)),
+    (&["swr"], Mnemonic::Store(Width::Right)),
+    (
+        &["addiu", "addu", "addi", "add"],
+        Mnemonic::Compute(Operation::Add),
+    ),
+    (&["subu", "sub"], Mnemonic::Compute(Operation::Sub)),
+    (&["and", "andi"], Mnemonic::Compute(Operation::And)),
+    (&["or", "ori"], Mnemonic::Compute(Operation::Or)),
+    (&["xor", "xori"], Mnemonic::Compute(Operation::Xor)),
+    (&["nor"], Mnemonic::Compute(Operation::Nor)),
+    (&["slt", "slti"], Mnemonic::Compute(Operation::Less)),
+    (&["sltu", "sltiu"], Mnemonic::Compute(Operation::Lower)),
+    (&["move"], Mnemonic::Move),
+    (&["negu", "neg"], Mnemonic::Negate),
+    (&["not"], Mnemonic::Not),
+    (&["sll", "sllv"], Mnemonic::Shift(Shift::Left)),
+    (&["srl", "srlv"], Mnemonic::Shift(Shift::Right)),
+    (&["sra", "srav"], Mnemonic::Shift(Shift::Arithmetic)),
+    (&["li"], Mnemonic::Number),
+    (&["lui"], Mnemonic::Upper),
+    (&["la"], Mnemonic::Address),
+    (&["mflo"], Mnemonic::FromSpecial(Special::Lo)),
+    (&["mfhi"], Mnemonic::FromSpecial(Special::Hi)),
+    (&["mtlo"], Mnemonic::ToSpecial(Special::Lo)),
+    (&["mthi"], Mnemonic::ToSpecial(Special::Hi)),
+    (&["mult"], Mnemonic::Long(Long::Product { signed: true })),
+    (&["multu"], Mnemonic::Long(Long::Product { signed: false })),
+    (&["div"], Mnemonic::Long(Long::Quotient { signed: true })),
+    (&["divu"], Mnemonic::Long(Long::Quotient { signed: false })),
+    (&["b"], Mnemonic::Goto),
+    (&["j", "jr"], Mnemonic::Jump),
+    (&["jal", "jalr"], Mnemonic::Call),
+    (&["break"], Mnemonic::Break),
+    (&["nop"], Mnemonic::Nop),
 ];
 
-/// Others for the same.
-const MORE: [(&str, Mnemonic); 4] = [
-    ("add", Mnemonic::Compute(Operation::Add)),
-    ("addi", Mnemonic::Compute(Operation::Add)),
-    ("sub", Mnemonic::Compute(Operation::Sub)),
-    ("neg", Mnemonic::Negate),
+/// Behind the `b` of a branch on an order: the condition, and that of the same order without signs, which a `u` asks for.
+const ORDERS: [(&str, Condition, Condition); 4] = [
+    ("lt", Condition::Less, Condition::Lower),
+    ("ge", Condition::NotLess, Condition::NotLower),
+    ("gt", Condition::Greater, Condition::Higher),
+    ("le", Condition::NotGreater, Condition::NotHigher),
 ];
 
 /// Instructions of the system.
@@ -120,12 +97,36 @@ const FLOATING: [&str; 10] = [
     "lwc1", "swc1", "ldc1", "sdc1", "mfc1", "mtc1", "cfc1", "ctc1", "bc1t", "bc1f",
 ];
 
+/// The condition that a branch names, without signs or with them.
+fn condition_named(name: &[u8], signed: bool) -> Option<Condition> {
+    for (spelling, with_signs, without) in &ORDERS {
+        if name == spelling.as_bytes() {
+            return Some(if signed { *with_signs } else { *without });
+        }
+    }
+    match name {
+        b"eq" if signed => Some(Condition::Equal),
+        b"ne" if signed => Some(Condition::NotEqual),
+        _ => None,
+    }
+}
+
+/// The branch on a condition that a name spells: `b`, the condition, and `u` for one without signs, or `z` for one with 0.
+fn branch_named(name: &[u8]) -> Option<Mnemonic> {
+    match name {
+        [b'b', condition @ .., b'u'] => condition_named(condition, false).map(Mnemonic::Branch),
+        [b'b', condition @ .., b'z'] => condition_named(condition, true).map(Mnemonic::BranchZero),
+        [b'b', condition @ ..] => condition_named(condition, true).map(Mnemonic::Branch),
+        _ => None,
+    }
+}
+
 /// The mnemonic that a name spells.
 pub(crate) fn mnemonic_named(name: &[u8]) -> Result<Mnemonic, Refusal> {
     if let Some(mnemonic) = meaning_of(&MNEMONICS, name) {
         return Ok(mnemonic);
     }
-    if let Some(mnemonic) = meaning_of(&MORE, name) {
+    if let Some(mnemonic) = branch_named(name) {
         return Ok(mnemonic);
     }
     if is_among(&SYSTEM, name) {

@@ -1,9 +1,9 @@
 //! Tables of words.
 
-/// What stands beside a word in a table.
-pub(crate) fn meaning_of<T: Copy>(rows: &[(&str, T)], word: &[u8]) -> Option<T> {
-    for (spelling, meaning) in rows {
-        if word == spelling.as_bytes() {
+/// What stands beside a word in a table of words that mean the same.
+pub(crate) fn meaning_of<T: Copy>(rows: &[(&[&str], T)], word: &[u8]) -> Option<T> {
+    for (spellings, meaning) in rows {
+        if is_among(spellings, word) {
             return Some(*meaning);
         }
     }

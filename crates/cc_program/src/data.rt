@@ -1,6 +1,6 @@
 //! Reading data.
 
-use crate::item::{Object, Reference, number_behind};
+use crate::item::{Content, Object, Reference, number_behind};
 use crate::reading::Reader;
 use crate::symbols::Meaning;
 use cc_lines::{Directive, LineError, Refusal, Section, Values, Word, push_quoted};
@@ -9,19 +9,19 @@ use cc_lines::{Directive, LineError, Refusal, Section, Values, Word, push_quoted
 const MOST_BYTES: u32 = 1_048_576;
 
 /// Brings the bytes that a datum holds to its size.
-fn fill(object: &mut Object) -> Result<(), LineError> {
-    if object.size > MOST_BYTES {
+fn fill(content: &mut Content) -> Result<(), LineError> {
+    if content.size > MOST_BYTES {
         return Err(LineError::Refused(Refusal::BadNumber));
     }
-    object.bytes.resize(object.size as usize, 0)?;
+    content.bytes.resize(content.size as usize, 0)?;
     Ok(())
 }
 
 /// Tells the size of a datum after bytes were added.
-fn measure(object: &mut Object) -> Result<(), LineError> {
-    match u32::try_from(object.bytes.len()) {
+fn measure(content: &mut Content) -> Result<(), LineError> {
+    match u32::try_from(content.bytes.len()) {
         Ok(size) => {
-            object.size = size;
+            content.size = size;
             Ok(())
         }
         Err(_) => Err(LineError::Refused(Refusal::BadNumber)),
@@ -29,41 +29,41 @@ fn measure(object: &mut Object) -> Result<(), LineError> {
 }
 
 /// Adds a word's low bytes, most significant first.
-fn push_number(object: &mut Object, bytes: u8, value: u32) -> Result<(), LineError> {
+fn push_number(content: &mut Content, bytes: u8, value: u32) -> Result<(), LineError> {
     let word = value.to_be_bytes();
     if bytes == 8 {
         let high = if value >= 0x8000_0000 { 255 } else { 0 };
-        object.bytes.extend_from_slice(&[high; 4])?;
+        content.bytes.extend_from_slice(&[high; 4])?;
     }
     let skipped = match bytes {
         1 => 3,
         2 => 2,
         _ => 0,
     };
-    object
+    content
         .bytes
         .extend_from_slice(word.as_slice().get(skipped..).unwrap_or(&[]))?;
-    measure(object)
+    measure(content)
 }
 
 /// Adds a symbol's word.
 fn push_symbol(
-    object: &mut Object,
+    content: &mut Content,
     bytes: u8,
     symbol: u32,
     addend: u32,
     line: u32,
 ) -> Result<(), LineError> {
-    if bytes != 4 || object.size % 4 != 0 {
+    if bytes != 4 || content.size % 4 != 0 {
         return Err(LineError::Refused(Refusal::UnalignedSymbol));
     }
-    object.references.push(Reference {
-        at: object.size,
+    content.references.push(Reference {
+        at: content.size,
         symbol,
         addend,
         line,
     })?;
-    push_number(object, 4, 0)
+    push_number(content, 4, 0)
 }
 
 impl<'a> Reader<'a> {
@@ -87,44 +87,43 @@ impl<'a> Reader<'a> {
     pub(crate) fn begin_object(&mut self, name: &'a [u8]) -> Result<(), LineError> {
         let number = self.program.objects.len();
         let weak = self.is_weak(name);
-        let align = self.position.align;
-        self.position.align = 1;
+        let align = self.position.data.align;
+        self.position.data.align = 1;
         self.add_object(name, weak, 0, align)?;
-        self.position.object = Some(number);
+        self.position.data.object = Some(number);
         Ok(())
     }
 
-    /// The datum that a line of data adds to.
-    fn object(&mut self) -> Result<&mut Object, LineError> {
+    /// What a line of data adds to.
+    fn content(&mut self) -> Result<&mut Content, LineError> {
         let outside = LineError::Refused(Refusal::OutsideObject);
-        if self.position.section != Section::Data {
+        if self.position.sections.now != Section::Data {
             return Err(outside);
         }
-        let Some(number) = self.position.object else {
+        let Some(number) = self.position.data.object else {
             return Err(outside);
         };
-        self.program
-            .objects
-            .as_mut_slice()
-            .get_mut(number)
-            .ok_or(outside)
+        match self.program.objects.as_mut_slice().get_mut(number) {
+            Some(object) => Ok(&mut object.content),
+            None => Err(outside),
+        }
     }
 
     /// Adds one value.
     fn push_value(&mut self, bytes: u8, value: Word<'a>) -> Result<(), LineError> {
         let line = self.position.line;
         match value {
-            Word::Number(value) => push_number(self.object()?, bytes, value),
+            Word::Number(value) => push_number(self.content()?, bytes, value),
             Word::Symbol(name, addend) => {
                 let symbol = self.program.symbols.number(name)?;
-                push_symbol(self.object()?, bytes, symbol, addend, line)
+                push_symbol(self.content()?, bytes, symbol, addend, line)
             }
         }
     }
 
     /// Adds values.
     fn push_values(&mut self, bytes: u8, text: &'a [u8]) -> Result<(), LineError> {
-        fill(self.object()?)?;
+        fill(self.content()?)?;
         let mut values = Values::new(text);
         for _ in 0..values.most() {
             match values.next_value()? {
@@ -137,23 +136,23 @@ impl<'a> Reader<'a> {
 
     /// Adds bytes of 0.
     fn add_space(&mut self, size: u32) -> Result<(), LineError> {
-        let object = self.object()?;
-        object.size = object.size.saturating_add(size);
+        let content = self.content()?;
+        content.size = content.size.saturating_add(size);
         Ok(())
     }
 
     /// Adds quoted texts.
     fn push_text(&mut self, quoted: &[u8], ended: bool) -> Result<(), LineError> {
-        let object = self.object()?;
-        fill(object)?;
-        push_quoted(&mut object.bytes, quoted, ended)?;
-        measure(object)
+        let content = self.content()?;
+        fill(content)?;
+        push_quoted(&mut content.bytes, quoted, ended)?;
+        measure(content)
     }
 
     /// Lets the next datum stand at a multiple of so many bytes.
     fn align(&mut self, align: u32) {
-        if self.position.section == Section::Data {
-            self.position.align = self.position.align.max(align);
+        if self.position.sections.now == Section::Data {
+            self.position.data.align = self.position.data.align.max(align);
         }
     }
 
@@ -163,7 +162,7 @@ impl<'a> Reader<'a> {
         directive: Directive,
         text: &'a [u8],
     ) -> Result<(), LineError> {
-        if self.position.section == Section::Notes {
+        if self.position.sections.now == Section::Notes {
             return Ok(());
         }
         match directive {

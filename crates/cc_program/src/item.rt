@@ -45,7 +45,7 @@ pub struct Function {
 
 impl Function {
     /// A function without items, which would begin with this one.
-    pub fn new(symbol: u32, unit: u32, first: usize) -> Function {
+    pub(crate) fn new(symbol: u32, unit: u32, first: usize) -> Function {
         Function {
             symbol,
             unit,
@@ -68,30 +68,43 @@ pub struct Reference {
     pub line: u32,
 }
 
-/// A datum from one label to the next: `size` bytes, of which those that are not held are 0.
+/// What a datum is made of: `size` bytes, of which those that are not held are 0.
+#[derive(Drop)]
+pub struct Content {
+    pub size: u32,
+    pub bytes: Vec<u8>,
+    pub references: Vec<Reference>,
+}
+
+/// Where a datum stands: at a multiple of so many bytes.
+#[derive(Clone, Copy)]
+pub struct Standing {
+    pub align: u32,
+    pub address: u32,
+}
+
+/// A datum from one label to the next.
 #[derive(Drop)]
 pub struct Object {
     pub symbol: u32,
     pub unit: u32,
-    pub align: u32,
-    pub size: u32,
-    pub bytes: Vec<u8>,
-    pub references: Vec<Reference>,
-    pub address: u32,
+    pub content: Content,
+    pub standing: Standing,
     pub kept: bool,
 }
 
 impl Object {
     /// A datum of zeros that nothing was found to need.
-    pub fn new(alloc: Global, symbol: u32, unit: u32, size: u32, align: u32) -> Object {
+    pub(crate) fn new(alloc: Global, symbol: u32, unit: u32, size: u32, align: u32) -> Object {
         Object {
             symbol,
             unit,
-            align,
-            size,
-            bytes: Vec::new(alloc),
-            references: Vec::new(alloc),
-            address: 0,
+            content: Content {
+                size,
+                bytes: Vec::new(alloc),
+                references: Vec::new(alloc),
+            },
+            standing: Standing { align, address: 0 },
             kept: false,
         }
     }

@@ -12,16 +12,16 @@ pub(crate) fn lay_out(program: &mut Program) -> u64 {
     let mut least = 0u32;
     for most in SMALL {
         for object in program.objects.iter_mut() {
-            let size = object.size;
+            let size = object.content.size;
             let fits = size <= most && (least == 0 || size > least);
             if object.kept && fits {
                 let align = if size >= 4 {
-                    object.align.max(4)
+                    object.standing.align.max(4)
                 } else {
-                    object.align
+                    object.standing.align
                 };
                 at = aligned(at, align);
-                object.address = u32::try_from(at).unwrap_or(u32::MAX);
+                object.standing.address = u32::try_from(at).unwrap_or(u32::MAX);
                 at = at.saturating_add(u64::from(size));
             }
         }

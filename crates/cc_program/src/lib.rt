@@ -12,7 +12,7 @@ mod reading;
 mod symbols;
 
 pub use error::{Fault, ReadError};
-pub use item::{Function, Item, Object, Reference};
+pub use item::{Content, Function, Item, Object, Reference, Standing};
 pub use program::Program;
 pub use reading::Reader;
 pub use symbols::{Meaning, Symbol, Symbols};

@@ -17,7 +17,7 @@ pub struct Program<'a> {
 
 impl<'a> Program<'a> {
     /// A program with nothing in it.
-    pub fn new(alloc: Global) -> Result<Program<'a>, AllocError> {
+    pub(crate) fn new(alloc: Global) -> Result<Program<'a>, AllocError> {
         Ok(Program {
             symbols: Symbols::new(alloc)?,
             items: Vec::new(alloc),
@@ -28,7 +28,7 @@ impl<'a> Program<'a> {
     }
 
     /// The function with a number.
-    pub fn function(&self, number: u32) -> Option<Function> {
+    pub(crate) fn function(&self, number: u32) -> Option<Function> {
         self.functions.get(number as usize).copied()
     }
 
@@ -53,7 +53,7 @@ impl<'a> Program<'a> {
         };
         match object {
             Some(object) => match self.objects.get(object as usize) {
-                Some(object) => object.address,
+                Some(object) => object.standing.address,
                 None => 0,
             },
             None => 0,

@@ -120,18 +120,12 @@ fn keep_function(
 }
 
 /// Keeps a datum.
-fn keep_object(
-    program: &mut Program,
-    named: &mut Vec<Named>,
-    number: u32,
-) -> Result<(), AllocError> {
-    if let Some(object) = program.objects.as_mut_slice().get_mut(number as usize) {
-        if !object.kept {
-            object.kept = true;
-            note_references(named, object.unit, &object.references)?;
-        }
+fn keep_object(named: &mut Vec<Named>, object: &mut Object) -> Result<(), AllocError> {
+    if object.kept {
+        return Ok(());
     }
-    Ok(())
+    object.kept = true;
+    note_references(named, object.unit, &object.content.references)
 }
 
 /// Gives a function a word of data that holds its place, if it has none.
@@ -187,7 +181,12 @@ fn keep(
             keep_function(program, named, number)
         }
         Meaning::Place { function, .. } => keep_function(program, named, function),
-        Meaning::Object(number) => keep_object(program, named, number),
+        Meaning::Object(number) => {
+            match program.objects.as_mut_slice().get_mut(number as usize) {
+                Some(object) => keep_object(named, object),
+                None => Ok(()),
+            }
+        }
         _ => Ok(()),
     }
 }

@@ -14,18 +14,50 @@ use cc_rules::{file_key, has_slot};
 use indexmap::IndexMap;
 use std::alloc::{AllocError, Global};
 
+/// The section that lines stand in, and the one before.
+#[derive(Clone, Copy)]
+pub(crate) struct Sections {
+    pub now: Section,
+    before: Section,
+}
+
+impl Sections {
+    /// Goes to a section.
+    fn go_to(&mut self, section: Section) {
+        self.before = self.now;
+        self.now = section;
+    }
+
+    /// Goes back to the section before.
+    fn go_back(&mut self) {
+        let before = self.before;
+        self.go_to(before);
+    }
+}
+
+/// The datum that lines of data add to, and the next one: at a multiple of so many bytes.
+#[derive(Clone, Copy)]
+pub(crate) struct InData {
+    pub object: Option<usize>,
+    pub align: u32,
+}
+
+/// The function that statements stand in.
+#[derive(Clone, Copy)]
+pub(crate) struct InCode {
+    pub function: Option<usize>,
+    /// Whether jumps have no delay slots.
+    pub reorder: bool,
+}
+
 /// How far a text was read.
 #[derive(Clone, Copy)]
 pub(crate) struct Position {
     pub unit: u32,
     pub line: u32,
-    pub section: Section,
-    pub before: Section,
-    pub function: Option<usize>,
-    pub object: Option<usize>,
-    pub align: u32,
-    /// Whether jumps have no delay slots.
-    pub reorder: bool,
+    pub sections: Sections,
+    pub code: InCode,
+    pub data: InData,
 }
 
 impl Position {
@@ -34,30 +66,24 @@ impl Position {
         Position {
             unit,
             line: 0,
-            section: Section::Code,
-            before: Section::Code,
-            function: None,
-            object: None,
-            align: 1,
-            reorder: true,
+            sections: Sections {
+                now: Section::Code,
+                before: Section::Code,
+            },
+            code: InCode {
+                function: None,
+                reorder: true,
+            },
+            data: InData {
+                object: None,
+                align: 1,
+            },
         }
-    }
-
-    /// Goes to a section.
-    fn go_to(&mut self, section: Section) {
-        self.before = self.section;
-        self.section = section;
-    }
-
-    /// Goes back to the section before.
-    fn go_back(&mut self) {
-        let before = self.before;
-        self.go_to(before);
     }
 
     /// Whether it is in a function.
     fn is_in_function(&self) -> bool {
-        self.section == Section::Code && self.function.is_some()
+        self.sections.now == Section::Code && self.code.function.is_some()
     }
 }
 
@@ -211,12 +237,12 @@ impl<'a> Reader<'a> {
     /// Ends the function that stands last.
     fn end_function(&mut self) {
         let end = self.program.items.len();
-        if let Some(number) = self.position.function {
+        if let Some(number) = self.position.code.function {
             if let Some(function) = self.program.functions.as_mut_slice().get_mut(number) {
                 function.end = end;
             }
         }
-        self.position.function = None;
+        self.position.code.function = None;
     }
 
     /// Begins a function at its label.
@@ -231,14 +257,14 @@ impl<'a> Reader<'a> {
         self.program
             .functions
             .push(Function::new(symbol, self.position.unit, first))?;
-        self.position.function = Some(number);
+        self.position.code.function = Some(number);
         Ok(())
     }
 
     /// A label in code that is local to its function.
     fn place_label(&mut self, name: &'a [u8]) -> Result<(), LineError> {
         let symbol = self.program.symbols.number(name)?;
-        let Some(function) = self.position.function else {
+        let Some(function) = self.position.code.function else {
             return Ok(());
         };
         let item = self.program.items.len();
@@ -250,7 +276,7 @@ impl<'a> Reader<'a> {
 
     /// A label.
     fn label(&mut self, name: &'a [u8]) -> Result<(), LineError> {
-        match self.position.section {
+        match self.position.sections.now {
             Section::Code if name.starts_with(b"$") => self.place_label(name),
             Section::Code => self.begin_function(name),
             Section::Data => self.begin_object(name),
@@ -263,7 +289,7 @@ impl<'a> Reader<'a> {
         if !self.position.is_in_function() {
             return Some(Refusal::OutsideFunction);
         }
-        if !self.position.reorder && has_slot(&read.instruction) {
+        if !self.position.code.reorder && has_slot(&read.instruction) {
             return Some(Refusal::DelaySlots);
         }
         None
@@ -288,7 +314,7 @@ impl<'a> Reader<'a> {
 
     /// `.frame` and `.mask`.
     fn note_frame(&mut self, directive: Directive) {
-        let Some(number) = self.position.function else {
+        let Some(number) = self.position.code.function else {
             return;
         };
         if let Some(function) = self.program.functions.as_mut_slice().get_mut(number) {
@@ -339,9 +365,9 @@ impl<'a> Reader<'a> {
     /// A directive.
     fn directive(&mut self, read: DirectiveLine<'a>) -> Result<(), LineError> {
         match read.directive {
-            Directive::Section(section) => self.position.go_to(section),
-            Directive::Previous => self.position.go_back(),
-            Directive::Reorder(reorder) => self.position.reorder = reorder,
+            Directive::Section(section) => self.position.sections.go_to(section),
+            Directive::Previous => self.position.sections.go_back(),
+            Directive::Reorder(reorder) => self.position.code.reorder = reorder,
             Directive::Frame { .. } | Directive::Mask { .. } => self.note_frame(read.directive),
             Directive::Weak => return self.weaken(read.name),
             Directive::Alias => return self.alias(read.name, read.text),
@@ -361,7 +387,7 @@ impl<'a> Reader<'a> {
             Ok(Line::Nothing) => Ok(()),
             Ok(Line::Statement(read)) => self.statement(read),
             Ok(Line::Directive(read)) => self.directive(read),
-            Err(_) if self.position.section == Section::Notes => Ok(()),
+            Err(_) if self.position.sections.now == Section::Notes => Ok(()),
             Err(refusal) => Err(LineError::Refused(refusal)),
         }
     }
@@ -378,7 +404,7 @@ impl<'a> Reader<'a> {
         }
         // What only debuggers read may be of any shape.
         let matters = rest.starts_with(b".") && !rest.starts_with(b".u");
-        if self.position.section == Section::Notes && !matters {
+        if self.position.sections.now == Section::Notes && !matters {
             return Ok(());
         }
         self.behind_labels(rest)

@@ -57,7 +57,7 @@ const MOST_ALIASES: u32 = 16;
 
 impl<'a> Symbols<'a> {
     /// The names that the translation defines, alone.
-    pub fn new(alloc: Global) -> Result<Symbols<'a>, AllocError> {
+    pub(crate) fn new(alloc: Global) -> Result<Symbols<'a>, AllocError> {
         let mut symbols = Symbols {
             list: Vec::new(alloc),
             shared: IndexMap::new(alloc),
@@ -71,7 +71,7 @@ impl<'a> Symbols<'a> {
     }
 
     /// Begins a text, which has no names of its own yet.
-    pub fn begin_unit(&mut self) {
+    pub(crate) fn begin_unit(&mut self) {
         self.own.clear();
     }
 
@@ -89,7 +89,7 @@ impl<'a> Symbols<'a> {
     }
 
     /// Makes a name one of the text with this number, counted from 1.
-    pub fn make_own(&mut self, name: &'a [u8], owner: u32) -> Result<(), AllocError> {
+    pub(crate) fn make_own(&mut self, name: &'a [u8], owner: u32) -> Result<(), AllocError> {
         if self.own.get(name).is_none() {
             let number = self.push(name, owner)?;
             self.own.insert(name, number)?;
@@ -98,7 +98,7 @@ impl<'a> Symbols<'a> {
     }
 
     /// The number of a name in the current text.
-    pub fn number(&mut self, name: &'a [u8]) -> Result<u32, AllocError> {
+    pub(crate) fn number(&mut self, name: &'a [u8]) -> Result<u32, AllocError> {
         if let Some(number) = self.own.get(name) {
             return Ok(*number);
         }
@@ -139,7 +139,7 @@ impl<'a> Symbols<'a> {
     }
 
     /// Defines a symbol. Answers false where it is defined already, and neither is weak.
-    pub fn define(&mut self, number: u32, meaning: Meaning, weak: bool) -> bool {
+    pub(crate) fn define(&mut self, number: u32, meaning: Meaning, weak: bool) -> bool {
         match self.list.get_mut(number as usize) {
             Some(symbol) => {
                 if symbol.is_unknown() || (symbol.weak && !weak) {
@@ -155,7 +155,7 @@ impl<'a> Symbols<'a> {
     }
 
     /// Lets a symbol that is defined nowhere be one that need not be.
-    pub fn weaken(&mut self, number: u32) {
+    pub(crate) fn weaken(&mut self, number: u32) {
         if let Some(symbol) = self.list.get_mut(number as usize) {
             if symbol.is_unknown() {
                 symbol.weak = true;
@@ -164,7 +164,7 @@ impl<'a> Symbols<'a> {
     }
 
     /// Marks a symbol as named.
-    pub fn use_it(&mut self, number: u32) {
+    pub(crate) fn use_it(&mut self, number: u32) {
         let resolved = self.resolved(number) as usize;
         if let Some(symbol) = self.list.get_mut(resolved) {
             symbol.used = true;
@@ -180,7 +180,7 @@ impl<'a> Symbols<'a> {
     }
 
     /// Lets a datum hold the place of a symbol.
-    pub fn describe(&mut self, number: u32, object: u32) {
+    pub(crate) fn describe(&mut self, number: u32, object: u32) {
         if let Some(symbol) = self.list.get_mut(number as usize) {
             symbol.descriptor = Some(object);
         }

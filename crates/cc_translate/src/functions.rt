@@ -5,7 +5,7 @@ use crate::liveness::live_after;
 use crate::output::Output;
 use crate::places::find_places;
 use crate::plan::{Plan, Step};
-use crate::statements::translate_statement;
+use crate::statements::{Planned, translate_statement};
 use cc_program::{Function, Item, Program};
 use cc_rules::file_key;
 use std::alloc::{AllocError, Global};
@@ -91,7 +91,12 @@ fn put_items(
                 symbol,
                 ..
             } => {
-                translate_statement(out, program, function, instruction, *symbol, plan)?;
+                let planned = Planned {
+                    instruction,
+                    symbol: *symbol,
+                    plan,
+                };
+                translate_statement(out, program, function, &planned)?;
             }
         }
     }

@@ -18,6 +18,9 @@ pub(crate) const THIRD: u8 = 27;
 /// One more, where three are not enough.
 const FOURTH: u8 = 22;
 
+/// The first three, as they stand in statements.
+const SCRATCH: [i64; 3] = [FIRST as i64, SECOND as i64, THIRD as i64];
+
 /// The word of the input.
 const INPUT_WORD: u32 = 254;
 
@@ -154,13 +157,14 @@ fn part_register(spot: &Spot, rd: u8) -> u8 {
 fn load_part(
     out: &mut Output,
     rd: u8,
-    spot: &Spot,
+    place: Place,
     bits: u8,
     extended: bool,
 ) -> Result<(), AllocError> {
-    let t = part_register(spot, rd);
+    let spot = spot_of(out, place)?;
+    let t = part_register(&spot, rd);
     let word = i64::from(t);
-    load(out, spot, t)?;
+    load(out, &spot, t)?;
     match spot.part {
         Part::Byte(0) => {}
         Part::Byte(byte) => out.statement(
@@ -229,20 +233,21 @@ fn insert_by(out: &mut Output, word: i64, rs: i64, by: i64, bits: u8) -> Result<
 }
 
 /// Stores so many low bits of a register.
-fn store_part(out: &mut Output, rs: u8, spot: &Spot, bits: u8) -> Result<(), AllocError> {
+fn store_part(out: &mut Output, rs: u8, place: Place, bits: u8) -> Result<(), AllocError> {
+    let spot = spot_of(out, place)?;
     let t = if spot.base == SECOND { THIRD } else { SECOND };
     let from = i64::from(rs);
-    load(out, spot, t)?;
+    load(out, &spot, t)?;
     match spot.part {
         Part::Byte(byte) => insert_at(out, t, from, byte, bits)?,
         Part::By(by) => insert_by(out, i64::from(t), from, i64::from(by), bits)?,
     }
-    store(out, spot, t)
+    store(out, &spot, t)
 }
 
 /// The number of a byte in its word, to the third register, and the table's word for it.
 fn mask_for(out: &mut Output, mask: Mask) -> Result<(), AllocError> {
-    let (a, m) = (i64::from(FIRST), i64::from(THIRD));
+    let [a, _, m] = SCRATCH;
     out.need_mask(mask)?;
     out.lines(
         "        sh r0,r%,#2,r%
@@ -264,12 +269,8 @@ fn far_address(out: &mut Output, place: Place) -> Result<(), AllocError> {
 
 /// `lwl` and `lwr`.
 fn load_unaligned(out: &mut Output, rd: u8, place: Place, mask: Mask) -> Result<(), AllocError> {
-    let (a, x, m, d) = (
-        i64::from(FIRST),
-        i64::from(SECOND),
-        i64::from(THIRD),
-        i64::from(rd),
-    );
+    let [a, x, m] = SCRATCH;
+    let d = i64::from(rd);
     far_address(out, place)?;
     out.lines(
         "        asr r%,#2,r%
@@ -299,12 +300,8 @@ fn load_unaligned(out: &mut Output, rd: u8, place: Place, mask: Mask) -> Result<
 
 /// `swl` and `swr`.
 fn store_unaligned(out: &mut Output, rs: u8, place: Place, mask: Mask) -> Result<(), AllocError> {
-    let (a, t, m, w) = (
-        i64::from(FIRST),
-        i64::from(SECOND),
-        i64::from(THIRD),
-        i64::from(FOURTH),
-    );
+    let [a, t, m] = SCRATCH;
+    let w = i64::from(FOURTH);
     far_address(out, place)?;
     let turned = if mask == Mask::StoreLeft {
         "sub r0,r%,r%"
@@ -337,15 +334,14 @@ pub(crate) fn load_statement(
     place: Place,
 ) -> Result<(), AllocError> {
     match width {
-        Width::Left => return load_unaligned(out, rd.0, place, Mask::LoadLeft),
-        Width::Right => return load_unaligned(out, rd.0, place, Mask::LoadRight),
-        _ => {}
-    }
-    let spot = spot_of(out, place)?;
-    match width {
-        Width::Byte { signed } => load_part(out, rd.0, &spot, 8, signed),
-        Width::Half { signed } => load_part(out, rd.0, &spot, 16, signed),
-        _ => load_word(out, function, rd, base, offset, &spot),
+        Width::Byte { signed } => load_part(out, rd.0, place, 8, signed),
+        Width::Half { signed } => load_part(out, rd.0, place, 16, signed),
+        Width::Word => {
+            let spot = spot_of(out, place)?;
+            load_word(out, function, rd, base, offset, &spot)
+        }
+        Width::Left => load_unaligned(out, rd.0, place, Mask::LoadLeft),
+        Width::Right => load_unaligned(out, rd.0, place, Mask::LoadRight),
     }
 }
 
@@ -357,15 +353,14 @@ pub(crate) fn store_statement(
     place: Place,
 ) -> Result<(), AllocError> {
     match width {
-        Width::Left => return store_unaligned(out, rs.0, place, Mask::StoreLeft),
-        Width::Right => return store_unaligned(out, rs.0, place, Mask::StoreRight),
-        _ => {}
-    }
-    let spot = spot_of(out, place)?;
-    match width {
-        Width::Byte { .. } => store_part(out, rs.0, &spot, 8),
-        Width::Half { .. } => store_part(out, rs.0, &spot, 16),
-        _ => store(out, &spot, rs.0),
+        Width::Byte { .. } => store_part(out, rs.0, place, 8),
+        Width::Half { .. } => store_part(out, rs.0, place, 16),
+        Width::Word => {
+            let spot = spot_of(out, place)?;
+            store(out, &spot, rs.0)
+        }
+        Width::Left => store_unaligned(out, rs.0, place, Mask::StoreLeft),
+        Width::Right => store_unaligned(out, rs.0, place, Mask::StoreRight),
     }
 }
 

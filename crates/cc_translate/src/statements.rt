@@ -448,15 +448,26 @@ fn registers_alone(
     }
 }
 
+/// A statement of a function: its instruction, the symbol that this names, and what is planned for it.
+#[derive(Clone, Copy)]
+pub(crate) struct Planned<'a> {
+    pub(crate) instruction: &'a Instruction,
+    pub(crate) symbol: Option<u32>,
+    pub(crate) plan: &'a Plan,
+}
+
 /// Translates an instruction.
 fn kept(
     out: &mut Output,
     program: &Program,
     function: &Function,
-    instruction: &Instruction,
-    symbol: Option<u32>,
-    plan: &Plan,
+    planned: &Planned,
 ) -> Result<(), AllocError> {
+    let Planned {
+        instruction,
+        symbol,
+        plan,
+    } = *planned;
     match *instruction {
         Instruction::Address { rd, base, offset } => address(
             out, program, rd, base, offset, symbol,
@@ -502,16 +513,14 @@ pub(crate) fn translate_statement(
     out: &mut Output,
     program: &Program,
     function: &Function,
-    instruction: &Instruction,
-    symbol: Option<u32>,
-    plan: &Plan,
+    planned: &Planned,
 ) -> Result<(), AllocError> {
-    if let Some((from, into)) = plan.divided {
+    if let Some((from, into)) = planned.plan.divided {
         out.statement("asr r%,#2,r%", &[i64::from(from), i64::from(into)])?;
     }
-    match (plan.step, symbol) {
+    match (planned.plan.step, planned.symbol) {
         (Step::Gone, _) => Ok(()),
         (Step::Fused(found), Some(symbol)) => branch(out, program, &found, symbol),
-        _ => kept(out, program, function, instruction, symbol, plan),
+        _ => kept(out, program, function, planned),
     }
 }

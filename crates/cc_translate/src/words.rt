@@ -27,8 +27,8 @@ fn write_byte(image: &mut Image, at: usize, byte: u8) {
 
 /// Writes a datum's bytes.
 fn write_bytes(image: &mut Image, object: &Object) {
-    let start = place_in(object.address);
-    for (i, byte) in object.bytes.iter().enumerate() {
+    let start = place_in(object.standing.address);
+    for (i, byte) in object.content.bytes.iter().enumerate() {
         write_byte(image, start.saturating_add(i), *byte);
     }
 }
@@ -49,8 +49,8 @@ fn write_place(image: &mut Image, at: usize, symbol: u32) {
 
 /// Writes the words of a datum that are symbols.
 fn write_references(image: &mut Image, program: &Program, object: &Object, end: u32) {
-    let start = place_in(object.address);
-    for one in &object.references {
+    let start = place_in(object.standing.address);
+    for one in &object.content.references {
         let at = start.saturating_add(one.at as usize);
         match program.symbols.meaning(one.symbol) {
             Meaning::Place { .. } => write_place(image, at, one.symbol),
@@ -71,8 +71,8 @@ fn is_descriptor(program: &Program, object: &Object) -> bool {
 
 /// Writes a datum.
 fn write_object(image: &mut Image, program: &Program, number: u32, object: &Object, end: u32) {
-    let start = place_in(object.address);
-    if object.address % 4 == 0 {
+    let start = place_in(object.standing.address);
+    if object.standing.address % 4 == 0 {
         if let Some(place) = image.begins.as_mut_slice().get_mut(start / 4) {
             *place = number.saturating_add(1);
         }
