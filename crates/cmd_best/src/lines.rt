@@ -50,10 +50,7 @@ fn push_searched(
 {
     match searched {
         Some(n) => push_decimal(alloc, text, n as u64),
-        None => {
-            text.push(b'-')?;
-            Ok(())
-        }
+        None => text.extend_from_slice(b"-"),
     }
 }
 

@@ -6,30 +6,19 @@ ghost use Rattle.mx_board.specs.Contents.{bytes_in};
 ghost use Rattle.cmd_answer.specs.Protocol.{Performed};
 ghost use Rattle.cmd_answer.specs.Replies.{reply_answer, OnAnswer};
 ghost use Rattle.cmd_options.specs.Options.{seen_files, IsAsked};
-ghost use Rattle.cmd_debug.specs.Sessions.{status_of, image_answer, session_protocol};
+ghost use Rattle.cmd_debug.specs.Sessions.{image_answer, session_protocol};
 
-use crate::texts::session_text;
-use cmd_answer::{Failure, Reply, Status};
+use crate::texts::{ended, session_text};
+use cmd_answer::{Failure, Reply};
 use cmd_options::{RunFiles, SessionLimits};
 use cmd_simulate::{if_asked, read_run_files};
 use mx_board::Requests;
 use mx_code::Image;
-use mx_debug::{Ending, stops};
+use mx_debug::stops;
 use mx_icache::LineCache;
 use mx_io::{Memory, Shelf};
 use mx_pipe::Pipe;
 use std::alloc::Global;
-
-// How a session ended.
-fn status_of(ending: Ending) -> Status
-    ensures { result ≡ status_of ending }
-{
-    match ending {
-        Ending::Stopped => Status::Done,
-        Ending::Halted => Status::Halted,
-        Ending::OutOfBudget => Status::OutOfBudget,
-    }
-}
 
 // Runs an image with an input or none, under the shipped handler and with these requests, and tells its stops at an address.
 fn debug(
@@ -59,7 +48,7 @@ fn debug(
     let Ok(output) = session_text(alloc, limits.watch, &stopped) else {
         return Err(Memory);
     };
-    let status = status_of(stopped.ending);
+    let status = ended(stopped.ending).0;
     Ok(Reply::Prints { status, output })
 }
 

@@ -2,8 +2,10 @@
 ghost use Rattle.std.specs.Prelude.{◌≡◌, ◌≤◌, ◌+◌, ◌++◌, codes, length, OnOk, IfOk, slice_index, string_bytes};
 ghost use Rattle.std.specs.Fmt.{decimal};
 ghost use Rattle.mx_text.specs.Text.{word_text, line, named_line, count_line, register_line, lines_from, word_line, console_lines};
+ghost use Rattle.cmd_debug.specs.Sessions.{status_of};
 ghost use Rattle.cmd_debug.specs.Texts.{stop_line, file_text, stop_text, stops_text, ending_text, session_text};
 
+use cmd_answer::Status;
 use mx_debug::{Ending, Stop, Stopped};
 use mx_text::{
     push_console, push_count, push_line, push_named, push_register, push_word, push_word_line,
@@ -94,14 +96,15 @@ fn push_stops(
     Ok(())
 }
 
-// The word for how a session ended.
-fn ending_text(ending: Ending) -> &'static str
-    ensures { result.now ≡ ending_text ending }
+/// How a session ended: the status, and the words for it.
+pub fn ended(ending: Ending) -> (Status, &'static str)
+    ensures status { result.0 ≡ status_of ending }
+    ensures text { result.1.now ≡ ending_text ending }
 {
     match ending {
-        Ending::Stopped => "stopped",
-        Ending::Halted => "halted",
-        Ending::OutOfBudget => "out of budget",
+        Ending::Stopped => (Status::Done, "stopped"),
+        Ending::Halted => (Status::Halted, "halted"),
+        Ending::OutOfBudget => (Status::OutOfBudget, "out of budget"),
     }
 }
 
@@ -113,7 +116,7 @@ pub fn session_text(alloc: Global, watch: u32, stopped: &Stopped) -> Result<Vec<
     let mut text = Vec::new(alloc);
     let stops = stopped.stops.as_slice();
     push_stops(alloc, &mut text, watch, stops)?;
-    push_line(&mut text, ending_text(stopped.ending))?;
+    push_line(&mut text, ended(stopped.ending).1)?;
     push_count(alloc, &mut text, "stops", stops.len() as u64)?;
     push_console(alloc, &mut text, stopped.console.as_slice())?;
     Ok(text)

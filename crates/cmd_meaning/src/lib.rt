@@ -5,4 +5,4 @@ mod steps;
 mod told;
 
 pub use steps::{Ending, Progress, run_steps};
-pub use told::meaning_reply;
+pub use told::{line_at, meaning_reply, why_text};

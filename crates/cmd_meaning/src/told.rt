@@ -23,7 +23,8 @@ use mx_text::{
 };
 use std::alloc::{AllocError, Global};
 
-fn why_text(why: Why) -> &'static str
+/// The word for why a run is stuck.
+pub fn why_text(why: Why) -> &'static str
     ensures { result.now ≡ why_text why }
 {
     match why {
@@ -36,8 +37,8 @@ fn why_text(why: Why) -> &'static str
     }
 }
 
-// The line of a statement, 0 past the last one.
-fn line_at(lines: &[u32], index: u32) -> u32
+/// The line of a statement, 0 past the last one.
+pub fn line_at(lines: &[u32], index: u32) -> u32
     ensures { result ≡ slice_index lines.now index }
 {
     match lines.get(index as usize) {
@@ -115,15 +116,10 @@ fn push_file(alloc: Global, text: &mut Vec<u8>, seq: &Seq) -> Result<(), AllocEr
 }
 
 // Appends what a halt adds.
-fn push_last(
-    alloc: Global,
-    text: &mut Vec<u8>,
-    seq: &Seq,
-    ending: &Ending,
-) -> Result<(), AllocError>
-    ensures { OnOk result (text.new.items ≡ text.old.items ++ last_text (mark_of ending.now) (state_of seq.now)) }
+fn push_last(alloc: Global, text: &mut Vec<u8>, seq: &Seq, ending: Ending) -> Result<(), AllocError>
+    ensures { OnOk result (text.new.items ≡ text.old.items ++ last_text (mark_of ending) (state_of seq.now)) }
 {
-    match *ending {
+    match ending {
         Ending::Halted => push_file(alloc, text, seq),
         _ => Ok(()),
     }
@@ -160,7 +156,7 @@ fn text_of(
 {
     let mut text = Vec::new(alloc);
     push_head(alloc, &mut text, lines, seq.index(), progress, console)?;
-    push_last(alloc, &mut text, seq, &progress.ending)?;
+    push_last(alloc, &mut text, seq, progress.ending)?;
     Ok(text)
 }
 

@@ -5,8 +5,8 @@ ghost use Rattle.cmd_answer.specs.Replies.{reply_answer, OnAnswer};
 ghost use Rattle.mx_tasks.specs.Sharing.{shared};
 ghost use Rattle.cmd_share.specs.Runs.{console_of, shared_text, shared_answer, sharing_protocol};
 
-use cmd_answer::{Failure, Reply, Status};
-use cmd_simulate::read_requests;
+use cmd_answer::{Failure, Reply};
+use cmd_simulate::{read_requests, status_of};
 use mx_board::Requests;
 use mx_code::Image;
 use mx_icache::LineCache;
@@ -49,17 +49,6 @@ fn text_of(alloc: Global, run: &SharedRun) -> Result<Vec<u8>, AllocError>
     push_console_of(alloc, &mut text, "first", run.first.as_slice())?;
     push_console_of(alloc, &mut text, "second", run.second.as_slice())?;
     Ok(text)
-}
-
-// How a run ended.
-fn status_of(halted: bool) -> Status
-    ensures { result ≡ cond halted Status.Halted Status.OutOfBudget }
-{
-    if halted {
-        Status::Halted
-    } else {
-        Status::OutOfBudget
-    }
 }
 
 // Runs an image of two programs under the switching handler, with these requests and no input, and reports the run.

@@ -8,6 +8,7 @@ ghost use Rattle.cmd_answer.specs.declared.Status.TheVariants.{BadEvents};
 ghost use Rattle.cmd_answer.specs.Answer.{Answer, prints};
 ghost use Rattle.mx_io.specs.Shelves.{Told, Counts};
 ghost use Rattle.cmd_answer.specs.Protocol.{Protocol, Performed};
+ghost use Rattle.cmd_answer.specs.Readings.{Gives, Refuses};
 ghost use Rattle.cmd_answer.specs.Replies.{reply_answer, IfAnswered};
 ghost use Rattle.cmd_options.specs.Options.{seen_files};
 ghost use Rattle.cmd_simulate.specs.Machines.{event_text, event_line, requests_protocol, input_protocol, files_protocol};
@@ -67,25 +68,19 @@ pub fn read_requests<S: Shelf>(
     shelf: &mut S,
     name: Option<&str>,
 ) -> Result<Requests, Failure>
-    ensures given { IfOk result (λ requests. (next : List ℕ → Protocol) (after : Counts) (answer : Answer)
-        → Performed (S.told shelf.old) (next requests)
-        (S.counts shelf.new) after answer
-        → Performed (S.told shelf.old) (requests_protocol (option_map (λ s. s.now) name.entry) next)
-        (S.counts shelf.old) after answer) }
-    ensures refused { IfAnswered result (λ answer. (next : List ℕ → Protocol)
-        → Performed (S.told shelf.old) (requests_protocol (option_map (λ s. s.now) name.entry) next)
-        (S.counts shelf.old) (S.counts shelf.new) answer) }
+    ensures given { IfOk result (λ requests. Gives (requests_protocol (option_map (λ s. s.now) name.entry))
+        (S.told shelf.old) (S.counts shelf.old) (S.counts shelf.new) requests) }
+    ensures refused { IfAnswered result (Refuses (requests_protocol (option_map (λ s. s.now) name.entry))
+        (S.told shelf.old) (S.counts shelf.old) (S.counts shelf.new)) }
     ensures told_stays { S.told shelf.new ≡ S.told shelf.old }
     ensures writes_stay { S.write_faults shelf.new ≡ S.write_faults shelf.old }
 {
-    match name {
-        Some(name) => {
-            let bytes = read_file(alloc, shelf, FileKind::Interrupts, name)?;
-            let requests = parse_requests(alloc, bytes.as_slice())?;
-            Ok(requests)
-        }
-        None => Ok(Requests::none(alloc)),
-    }
+    let Some(name) = name else {
+        return Ok(Requests::none(alloc));
+    };
+    let bytes = read_file(alloc, shelf, FileKind::Interrupts, name)?;
+    let requests = parse_requests(alloc, bytes.as_slice())?;
+    Ok(requests)
 }
 
 /// The bytes of the input of this name, no bytes where none is named, or the reply to a fault.
@@ -95,14 +90,10 @@ pub fn read_input<S: Shelf>(
     name: Option<&str>,
 ) -> Result<Vec<u8>, Failure>
     ensures within { IfOk result (λ bytes. length bytes.items ≤ MAX_FILE_BYTES) }
-    ensures given { IfOk result (λ bytes. (next : List ℕ → Protocol) (after : Counts) (answer : Answer)
-        → Performed (S.told shelf.old) (next bytes.items)
-        (S.counts shelf.new) after answer
-        → Performed (S.told shelf.old) (input_protocol (option_map (λ s. s.now) name.entry) next)
-        (S.counts shelf.old) after answer) }
-    ensures refused { IfAnswered result (λ answer. (next : List ℕ → Protocol)
-        → Performed (S.told shelf.old) (input_protocol (option_map (λ s. s.now) name.entry) next)
-        (S.counts shelf.old) (S.counts shelf.new) answer) }
+    ensures given { IfOk result (λ bytes. Gives (input_protocol (option_map (λ s. s.now) name.entry))
+        (S.told shelf.old) (S.counts shelf.old) (S.counts shelf.new) bytes.items) }
+    ensures refused { IfAnswered result (Refuses (input_protocol (option_map (λ s. s.now) name.entry))
+        (S.told shelf.old) (S.counts shelf.old) (S.counts shelf.new)) }
     ensures told_stays { S.told shelf.new ≡ S.told shelf.old }
     ensures writes_stay { S.write_faults shelf.new ≡ S.write_faults shelf.old }
 {

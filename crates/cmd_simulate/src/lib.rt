@@ -7,4 +7,4 @@ mod simulated;
 
 pub use files::{RunInputs, read_input, read_requests, read_run_files};
 pub use runs::{if_asked, run_image};
-pub use simulated::{simulate, simulate_on};
+pub use simulated::{simulate, simulate_on, status_of};

@@ -31,8 +31,8 @@ fn dump_of(limits: &Limits) -> Option<Dump>
     }
 }
 
-// How a run ended.
-fn status_of(halted: bool) -> Status
+/// How a run ended.
+pub fn status_of(halted: bool) -> Status
     ensures { result ≡ cond halted Status.Halted Status.OutOfBudget }
 {
     if halted {

@@ -1,17 +1,7 @@
 //! Runs of generated sources.
 ghost use Rattle.std.specs.Prelude.{◌≡◌, ◌≤◌, ◌<◌, ◌+◌, ◌*◌, ◌^◌, None, List, IfOk, length};
-ghost use Rattle.mx_source.specs.SourceValue.{SourceValue};
-ghost use Rattle.mx_gen.specs.Near.{AllNear};
-ghost use Rattle.mx_squash.specs.Copies.{Site};
-ghost use Rattle.mx_link.specs.Origins.{from_target};
-ghost use Rattle.mx_link.specs.Linked.{IsLinked};
-ghost use Rattle.mx_reorg.specs.Greedy.{IsGreedy};
-ghost use Rattle.mx_turn.specs.Handler.{shipped};
-ghost use Rattle.mx_turn.specs.Program.{program_of};
-ghost use Rattle.mx_turn.specs.Run.{run_of};
-ghost use Rattle.mx_isa.specs.Board.{board};
-ghost use Rattle.law_schedule.specs.Schedule.{IsScheduler};
-ghost use Rattle.cmd_soak.specs.Soak.{multiples, steps_within, soak_text};
+ghost use Rattle.cmd_soak.specs.Terms.{SourceValue, AllNear, Site, from_target, IsLinked, IsGreedy, shipped, program_of, run_of, board, IsScheduler, multiples};
+ghost use Rattle.cmd_soak.specs.Terms.{steps_within, soak_text};
 
 use crate::told::text_of;
 use cmd_meaning::run_steps;

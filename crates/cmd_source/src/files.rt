@@ -4,6 +4,7 @@ ghost use Rattle.cmd_answer.specs.Files.{limit_of};
 ghost use Rattle.cmd_answer.specs.Answer.{Answer};
 ghost use Rattle.mx_io.specs.Shelves.{Counts};
 ghost use Rattle.cmd_answer.specs.Protocol.{Protocol, Reads, Performed};
+ghost use Rattle.cmd_answer.specs.Readings.{Gives, Refuses};
 ghost use Rattle.cmd_answer.specs.Replies.{IfAnswered};
 ghost use Rattle.cmd_source.specs.Replied.{IsReplied};
 
@@ -19,14 +20,8 @@ pub fn read_named<S: Shelf>(
     name: &str,
 ) -> Result<Vec<u8>, Failure>
     ensures within { IfOk result (λ bytes. length bytes.items ≤ limit_of kind) }
-    ensures given { IfOk result (λ bytes. (next : List ℕ → Protocol) (after : Counts) (answer : Answer)
-        → Performed (S.told shelf.old) (next bytes.items)
-        (S.counts shelf.new) after answer
-        → Performed (S.told shelf.old) (Reads kind name.now next)
-        (S.counts shelf.old) after answer) }
-    ensures refused { IfAnswered result (λ answer. (next : List ℕ → Protocol)
-        → Performed (S.told shelf.old) (Reads kind name.now next)
-        (S.counts shelf.old) (S.counts shelf.new) answer) }
+    ensures given { IfOk result (λ bytes. Gives (Reads kind name.now) (S.told shelf.old) (S.counts shelf.old) (S.counts shelf.new) bytes.items) }
+    ensures refused { IfAnswered result (Refuses (Reads kind name.now) (S.told shelf.old) (S.counts shelf.old) (S.counts shelf.new)) }
     ensures replied { IfAnswered result IsReplied }
     ensures told_stays { S.told shelf.new ≡ S.told shelf.old }
     ensures writes_stay { S.write_faults shelf.new ≡ S.write_faults shelf.old }

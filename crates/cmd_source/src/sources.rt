@@ -13,6 +13,7 @@ ghost use Rattle.mx_isa.specs.Board.{board};
 ghost use Rattle.cmd_answer.specs.Answer.{Answer, prints};
 ghost use Rattle.mx_io.specs.Shelves.{Counts};
 ghost use Rattle.cmd_answer.specs.Protocol.{Protocol, Answers, Reads, Performed};
+ghost use Rattle.cmd_answer.specs.Readings.{Gives, Refuses};
 ghost use Rattle.cmd_answer.specs.Replies.{reply_answer, IfAnswered};
 ghost use Rattle.law_schedule.specs.Schedule.{IsScheduler};
 ghost use Rattle.cmd_source.specs.Refusals.{fault_line, displacement_text, span_text, overlong_text, overlong_line};
@@ -151,14 +152,10 @@ pub fn linked_text(alloc: Global, text: Vec<u8>) -> Result<Program, Failure>
 /// The source of this name, or the reply to the fault of its file, or to what is wrong with its text.
 pub fn read_source<S: Shelf>(alloc: Global, shelf: &mut S, name: &str) -> Result<Source, Failure>
     ensures source { IfOk result (λ source. (text : List ℕ) × (text_fault DATA_BASE DATA_END text ≡ None) × (source ≡ source_of DATA_BASE text)) }
-    ensures given { IfOk result (λ source. (next : SourceValue → Protocol) (after : Counts) (answer : Answer)
-        → Performed (S.told shelf.old) (next source)
-        (S.counts shelf.new) after answer
-        → Performed (S.told shelf.old) (Reads FileKind.Source name.now (source_protocol next))
-        (S.counts shelf.old) after answer) }
-    ensures refused { IfAnswered result (λ answer. (next : SourceValue → Protocol)
-        → Performed (S.told shelf.old) (Reads FileKind.Source name.now (source_protocol next))
-        (S.counts shelf.old) (S.counts shelf.new) answer) }
+    ensures given { IfOk result (λ source. Gives (λ next. Reads FileKind.Source name.now (source_protocol next))
+        (S.told shelf.old) (S.counts shelf.old) (S.counts shelf.new) source) }
+    ensures refused { IfAnswered result (Refuses (λ next. Reads FileKind.Source name.now (source_protocol next))
+        (S.told shelf.old) (S.counts shelf.old) (S.counts shelf.new)) }
     ensures replied { IfAnswered result IsReplied }
     ensures told_stays { S.told shelf.new ≡ S.told shelf.old }
     ensures writes_stay { S.write_faults shelf.new ≡ S.write_faults shelf.old }

@@ -3,3 +3,4 @@ pub mod Commands
 pub mod Asked
 pub mod Seen
 pub mod Rows
+pub mod Terms

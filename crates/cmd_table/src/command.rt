@@ -1,12 +1,7 @@
 //! The command that words ask for.
 ghost use Rattle.std.specs.Prelude.{◌≡◌, IfOk, IfSome, IsTrue, not, find, map, option_map, string_bytes};
 ghost use Rattle.std.specs.Str.{bytes_eq};
-ghost use Rattle.cmd_line.specs.Command.{names_id, texts};
-ghost use Rattle.cmd_line.specs.Reading.{is_known};
-ghost use Rattle.cmd_line.specs.Read.{seen};
-ghost use Rattle.cmd_table.specs.Asked.{row_of, command_of};
-ghost use Rattle.cmd_table.specs.Rows.{seen_row, reads_of};
-ghost use Rattle.cmd_table.specs.Seen.{seen_command, IsAllowed};
+ghost use Rattle.cmd_table.specs.Terms.{names_id, texts, is_known, seen, row_of, command_of, seen_row, reads_of, seen_command, IsAllowed};
 
 use crate::readers::{
     best_read, build_read, debug_read, exec_read, gen_read, join_read, list_read, meaning_read,

@@ -23,15 +23,18 @@ pub struct Answer {
     pub document: Vec<u8>,
 }
 
-// The answer to a body with which nothing is wrong.
-fn answer_request<C: Commands>(
-    alloc: Global,
-    commands: &C,
+// The command that is asked for, and the value that its body is.
+#[derive(Clone, Copy)]
+struct Asked<'a> {
     command: Command,
-    value: &Value,
-) -> Result<Answer, Memory>
-    ensures { IfOk result (Ran C.ends command (view value.now)) }
+    value: &'a Value,
+}
+
+// The answer to a body with which nothing is wrong.
+fn answer_request<C: Commands>(alloc: Global, commands: &C, asked: Asked) -> Result<Answer, Memory>
+    ensures { IfOk result (Ran C.ends asked.entry.command (view asked.entry.value.now)) }
 {
+    let Asked { command, value } = asked;
     let Ok(words) = words_of(alloc, command, value) else {
         return Err(Memory);
     };
@@ -57,14 +60,10 @@ fn or_memory(answer: Result<Answer, AllocError>) -> Result<Answer, Memory>
 }
 
 // The answer to a value.
-fn answer_value<C: Commands>(
-    alloc: Global,
-    commands: &C,
-    command: Command,
-    value: &Value,
-) -> Result<Answer, Memory>
-    ensures { IfOk result (Comes C.ends command (view value.now) (refusal_of command (view value.now))) }
+fn answer_value<C: Commands>(alloc: Global, commands: &C, asked: Asked) -> Result<Answer, Memory>
+    ensures { IfOk result (Comes C.ends asked.entry.command (view asked.entry.value.now) (refusal_of asked.entry.command (view asked.entry.value.now))) }
 {
+    let Asked { command, value } = asked;
     let Some(members) = value.as_object() else {
         return or_memory(refuse_body(alloc, "no JSON object"));
     };
@@ -73,7 +72,7 @@ fn answer_value<C: Commands>(
     }
     match first_wrong(command.fields(), value) {
         Some(wrong) => or_memory(refuse_wrong(alloc, wrong)),
-        None => answer_request(alloc, commands, command, value),
+        None => answer_request(alloc, commands, asked),
     }
 }
 
@@ -89,7 +88,13 @@ pub fn answer_body<C: Commands>(
     ensures comes { IfOk result (λ a. (d : Data) → Reads body.now d → Comes C.ends command d (refusal_of command d) a) }
 {
     match Value::from_slice(alloc, body) {
-        Ok(value) => answer_value(alloc, commands, command, &value),
+        Ok(value) => {
+            let asked = Asked {
+                command,
+                value: &value,
+            };
+            answer_value(alloc, commands, asked)
+        }
         Err(error) if error.is_memory() => Err(Memory),
         Err(_) => or_memory(refuse_body(alloc, "no JSON")),
     }

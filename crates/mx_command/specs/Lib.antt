@@ -11,3 +11,5 @@ pub mod Layouts
 pub mod Promised
 pub mod OnSystem
 pub mod Measures
+pub mod Replying
+pub mod Terms

@@ -1,14 +1,8 @@
 //! Of which texts the headline speaks.
 ghost use Rattle.std.specs.Prelude.{◌≡◌, ◌≤◌, length, true, IfOk, List, ℕ, None, Some, Ok};
 ghost use Rattle.mx_io.specs.declared.limits.TheConstants.{MAX_SOURCE_BYTES, MAX_FILE_BYTES};
-ghost use Rattle.mx_board.specs.RequestFile.{requests_of};
-ghost use Rattle.mx_squash.specs.Copies.{Site};
-ghost use Rattle.mx_layout.specs.Layout.{IsLayout, blocks_in};
-ghost use Rattle.mx_layout.specs.Overlong.{overlong};
-ghost use Rattle.mx_reorg.specs.Greedy.{IsGreedy};
-ghost use Rattle.mx_isa.specs.Board.{board};
 ghost use Rattle.cmd_options.specs.declared.Limits.{Limits};
-ghost use Rattle.mx_command.specs.Accepted.{Held, CanBeRun};
+ghost use Rattle.mx_command.specs.Terms.{requests_of, Site, IsLayout, blocks_in, overlong, IsGreedy, board, CanBeRun, Held};
 
 use cmd_answer::Failure;
 use cmd_source::{assembled, linked_source};

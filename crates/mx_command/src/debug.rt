@@ -1,19 +1,8 @@
 //! The reply of the command that tells a source's stops.
 ghost use Rattle.std.specs.Prelude.{◌≡◌, ◌<◌, ◌^◌, length, IfOk, IfSome, List, ℕ, Option, Some, None};
-ghost use Rattle.mx_layout.specs.Overlong.{Overlong, IsOverlong};
-ghost use Rattle.mx_link.specs.Origins.{from_nowhere};
-ghost use Rattle.mx_link.specs.Linked.{IsLinked, link_map};
-ghost use Rattle.mx_reorg.specs.Greedy.{IsGreedy};
-ghost use Rattle.mx_isa.specs.Board.{board};
-ghost use Rattle.cmd_answer.specs.Answer.{prints};
-ghost use Rattle.mx_io.specs.Shelves.{Counts};
-ghost use Rattle.cmd_answer.specs.Protocol.{Reads, Performed};
-ghost use Rattle.cmd_answer.specs.Replies.{reply_answer, IfAnswered, OnAnswer};
-ghost use Rattle.cmd_options.specs.Options.{seen_files, IsAsked};
-ghost use Rattle.law_schedule.specs.Schedule.{IsScheduler};
-ghost use Rattle.cmd_source.specs.Refusals.{overlong_line};
-ghost use Rattle.cmd_source.specs.Protocols.{Layouts};
-ghost use Rattle.mx_command.specs.Protocols.{statement_at, statement_named, no_label_line, labelled_protocol, debug_protocol};
+ghost use Rattle.mx_command.specs.Terms.{Overlong, IsOverlong, from_nowhere, IsLinked, link_map, IsGreedy, board, prints, Reads, reply_answer, IfAnswered};
+ghost use Rattle.mx_command.specs.Terms.{seen_files, IsAsked, overlong_line, statement_at, statement_named, no_label_line, labelled_protocol, debug_protocol};
+ghost use Rattle.mx_command.specs.Terms.{Performs, Counts, Performed, OnAnswer, IsScheduler, Layouts};
 
 use cmd_answer::{Failure, FileKind, Reply, Status, line_reply};
 use cmd_debug::debug_image;
@@ -109,9 +98,8 @@ fn labelled_reply<S: Shelf>(
     limits: &SessionLimits,
 ) -> Result<Reply, Failure>
     requires { IsAsked limits.now }
-    ensures performed { (layout_of : Layouts) → IsScheduler layout_of → OnAnswer result (Performed (S.told shelf.old)
-        (labelled_protocol layout_of label.now (seen_files files.now) limits.now source.now)
-        (S.counts shelf.old) (S.counts shelf.new)) }
+    ensures performed { Performs (λ layout_of. labelled_protocol layout_of label.now (seen_files files.now) limits.now source.now)
+        result (S.told shelf.old) (S.counts shelf.old) (S.counts shelf.new) }
     ensures told_stays { S.told shelf.new ≡ S.told shelf.old }
     ensures writes_stay { S.write_faults shelf.new ≡ S.write_faults shelf.old }
 {
@@ -135,9 +123,8 @@ pub fn debug_reply<S: Shelf>(
     limits: &SessionLimits,
 ) -> Result<Reply, Failure>
     requires { IsAsked limits.now }
-    ensures performed { (layout_of : Layouts) → IsScheduler layout_of → OnAnswer result (Performed (S.told shelf.old)
-        (Reads FileKind.Source source.now (debug_protocol layout_of label.now (seen_files files.now) limits.now))
-        (S.counts shelf.old) (S.counts shelf.new)) }
+    ensures performed { Performs (λ layout_of. Reads FileKind.Source source.now (debug_protocol layout_of label.now (seen_files files.now) limits.now))
+        result (S.told shelf.old) (S.counts shelf.old) (S.counts shelf.new) }
     ensures told_stays { S.told shelf.new ≡ S.told shelf.old }
     ensures writes_stay { S.write_faults shelf.new ≡ S.write_faults shelf.old }
 {

@@ -1,13 +1,7 @@
 //! The replies of the commands that read an image file.
 ghost use Rattle.std.specs.Prelude.{◌≡◌, ◌≢◌, ◌++◌, codes, IfOk, List, ℕ, Some, None};
-ghost use Rattle.mx_image.specs.Contents.{contents_of};
-ghost use Rattle.mx_image.specs.Files.{file_refusal, file_in, file_bytes};
-ghost use Rattle.cmd_answer.specs.Answer.{prints, writes};
-ghost use Rattle.mx_io.specs.Shelves.{Counts};
-ghost use Rattle.cmd_answer.specs.Protocol.{Answers, Reads, Performed};
-ghost use Rattle.cmd_answer.specs.Replies.{reply_answer, OnAnswer};
-ghost use Rattle.cmd_options.specs.Options.{seen_files};
-ghost use Rattle.mx_command.specs.Protocols.{image_text, image_line, unless_refused, exec_protocol, migrate_answer};
+ghost use Rattle.mx_command.specs.Terms.{prints, Answers, Reads, Performed, reply_answer, OnAnswer, seen_files, image_text, image_line, exec_protocol};
+ghost use Rattle.mx_command.specs.Terms.{migrate_answer, contents_of, file_refusal, file_in, file_bytes, writes, Counts, unless_refused};
 
 use cmd_answer::{Failure, FileKind, Reply, Status, line_reply};
 use cmd_options::{Limits, RunFiles};

@@ -1,20 +1,8 @@
 //! The replies of the commands that read a source.
 ghost use Rattle.std.specs.Prelude.{◌≡◌, IfOk, List, ℕ, option_map, is_some};
-ghost use Rattle.cmd_best.specs.Lengths.{lengths_text};
-ghost use Rattle.mx_layout.specs.Layout.{blocks_in};
-ghost use Rattle.mx_link.specs.Origins.{from_target};
-ghost use Rattle.mx_link.specs.Linked.{IsLinked};
-ghost use Rattle.mx_reorg.specs.Greedy.{IsGreedy};
-ghost use Rattle.mx_isa.specs.Board.{board};
-ghost use Rattle.mx_image.specs.Files.{file_bytes};
-ghost use Rattle.cmd_answer.specs.Answer.{prints, writes};
-ghost use Rattle.mx_io.specs.Shelves.{Counts};
-ghost use Rattle.cmd_answer.specs.Protocol.{Answers, Reads, Performed};
-ghost use Rattle.cmd_answer.specs.Replies.{reply_answer, OnAnswer};
-ghost use Rattle.cmd_options.specs.Options.{seen_files};
-ghost use Rattle.law_schedule.specs.Schedule.{IsScheduler};
-ghost use Rattle.cmd_source.specs.Protocols.{Layouts, linked_protocol};
-ghost use Rattle.mx_command.specs.Protocols.{run_protocol, meaning_protocol, build_protocol, list_protocol, best_answer};
+ghost use Rattle.mx_command.specs.Terms.{lengths_text, blocks_in, from_target, IsLinked, IsGreedy, board, file_bytes, prints, writes, Answers, Reads};
+ghost use Rattle.mx_command.specs.Terms.{Performed, reply_answer, OnAnswer, seen_files, IsScheduler, Layouts, linked_protocol, run_protocol, meaning_protocol};
+ghost use Rattle.mx_command.specs.Terms.{build_protocol, list_protocol, best_answer, Performs, Counts};
 
 use cmd_answer::{Failure, FileKind, Reply, Status};
 use cmd_best::lengths_text;
@@ -37,9 +25,8 @@ pub fn run_reply<S: Shelf>(
     files: &RunFiles,
     limits: &Limits,
 ) -> Result<Reply, Failure>
-    ensures performed { (layout_of : Layouts) → IsScheduler layout_of → OnAnswer result (Performed (S.told shelf.old)
-        (Reads FileKind.Source source.now (linked_protocol layout_of (run_protocol (seen_files files.now) limits.now)))
-        (S.counts shelf.old) (S.counts shelf.new)) }
+    ensures performed { Performs (λ layout_of. Reads FileKind.Source source.now (linked_protocol layout_of (run_protocol (seen_files files.now) limits.now)))
+        result (S.told shelf.old) (S.counts shelf.old) (S.counts shelf.new) }
     ensures told_stays { S.told shelf.new ≡ S.told shelf.old }
     ensures writes_stay { S.write_faults shelf.new ≡ S.write_faults shelf.old }
 {
@@ -101,9 +88,8 @@ pub fn build_reply<S: Shelf>(
     source: &str,
     target: &str,
 ) -> Result<Reply, Failure>
-    ensures performed { (layout_of : Layouts) → IsScheduler layout_of → OnAnswer result (Performed (S.told shelf.old)
-        (Reads FileKind.Source source.now (linked_protocol layout_of (build_protocol target.now)))
-        (S.counts shelf.old) (S.counts shelf.new)) }
+    ensures performed { Performs (λ layout_of. Reads FileKind.Source source.now (linked_protocol layout_of (build_protocol target.now)))
+        result (S.told shelf.old) (S.counts shelf.old) (S.counts shelf.new) }
     ensures told_stays { S.told shelf.new ≡ S.told shelf.old }
     ensures writes_stay { S.write_faults shelf.new ≡ S.write_faults shelf.old }
 {
@@ -115,9 +101,8 @@ pub fn build_reply<S: Shelf>(
 
 /// The reply to `list SOURCE`.
 pub fn list_reply<S: Shelf>(alloc: Global, shelf: &mut S, source: &str) -> Result<Reply, Failure>
-    ensures performed { (layout_of : Layouts) → IsScheduler layout_of → OnAnswer result (Performed (S.told shelf.old)
-        (Reads FileKind.Source source.now (linked_protocol layout_of list_protocol))
-        (S.counts shelf.old) (S.counts shelf.new)) }
+    ensures performed { Performs (λ layout_of. Reads FileKind.Source source.now (linked_protocol layout_of list_protocol))
+        result (S.told shelf.old) (S.counts shelf.old) (S.counts shelf.new) }
     ensures told_stays { S.told shelf.new ≡ S.told shelf.old }
     ensures writes_stay { S.write_faults shelf.new ≡ S.write_faults shelf.old }
 {
@@ -140,9 +125,8 @@ fn lengths_reply(alloc: Global, source: &Source) -> Result<Reply, Memory>
 
 /// The reply to `best SOURCE`.
 pub fn best_reply<S: Shelf>(alloc: Global, shelf: &mut S, source: &str) -> Result<Reply, Failure>
-    ensures performed { (layout_of : Layouts) → IsScheduler layout_of → OnAnswer result (Performed (S.told shelf.old)
-        (Reads FileKind.Source source.now (λ text. Answers (best_answer layout_of text)))
-        (S.counts shelf.old) (S.counts shelf.new)) }
+    ensures performed { Performs (λ layout_of. Reads FileKind.Source source.now (λ text. Answers (best_answer layout_of text)))
+        result (S.told shelf.old) (S.counts shelf.old) (S.counts shelf.new) }
     ensures told_stays { S.told shelf.new ≡ S.told shelf.old }
     ensures writes_stay { S.write_faults shelf.new ≡ S.write_faults shelf.old }
 {

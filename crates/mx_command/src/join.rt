@@ -1,11 +1,7 @@
 //! The reply of the command that joins modules to one source.
 ghost use Rattle.std.specs.Prelude.{◌≡◌, ◌≤◌, [], length, IfOk, List, ℕ};
-ghost use Rattle.cmd_answer.specs.Answer.{prints};
-ghost use Rattle.mx_io.specs.Shelves.{Counts};
-ghost use Rattle.cmd_answer.specs.Protocol.{Performed};
-ghost use Rattle.cmd_answer.specs.Replies.{reply_answer, IfAnswered, OnAnswer};
-ghost use Rattle.cmd_line.specs.Command.{texts};
-ghost use Rattle.mx_command.specs.Protocols.{join_fault_text, refusal_line, join_answer, modules_protocol};
+ghost use Rattle.mx_command.specs.Terms.{prints, Performed, reply_answer, IfAnswered, OnAnswer, texts, join_fault_text, refusal_line, join_answer};
+ghost use Rattle.mx_command.specs.Terms.{modules_protocol, Counts};
 
 use cmd_answer::{Failure, FileKind, Reply, Status, line_reply};
 use cmd_source::read_named;

@@ -1,19 +1,7 @@
 //! The reply of each command, before anything is put out.
 ghost use Rattle.std.specs.Prelude.{◌≡◌, ◌≤◌, ◌⊎◌, IfOk, OnOk, List, ℕ, Some, None, map, string_bytes};
-ghost use Rattle.mx_source.specs.Printed.{printed};
-ghost use Rattle.mx_gen.specs.Generated.{generated};
-ghost use Rattle.cmd_soak.specs.Soak.{soak_text};
-ghost use Rattle.cmd_answer.specs.Answer.{prints, usage};
-ghost use Rattle.mx_io.specs.Shelves.{Counts};
-ghost use Rattle.cmd_answer.specs.Protocol.{Performed};
-ghost use Rattle.cmd_answer.specs.Replies.{reply_answer, OnAnswer};
-ghost use Rattle.cmd_table.specs.Seen.{seen_command, IsAllowed};
-ghost use Rattle.cmd_table.specs.Asked.{command_of};
-ghost use Rattle.law_schedule.specs.Schedule.{IsScheduler};
-ghost use Rattle.cmd_source.specs.Protocols.{Layouts};
-ghost use Rattle.mx_command.specs.Protocols.{protocol_of};
-ghost use Rattle.cmd_source.specs.Replied.{IsReplied};
-ghost use Rattle.mx_command.specs.Within.{IsWithin};
+ghost use Rattle.mx_command.specs.Terms.{printed, generated, soak_text, prints, usage, Performed, reply_answer, seen_command, IsAllowed, command_of};
+ghost use Rattle.mx_command.specs.Terms.{IsScheduler, Layouts, protocol_of, IsReplied, IsWithin, Performs, Counts, OnAnswer};
 
 use crate::debug::debug_reply;
 use crate::from_image::{exec_reply, migrate_reply};
@@ -51,9 +39,8 @@ fn soak_reply(alloc: Global, seed: u32, count: u32) -> Result<Reply, Memory>
 /// The reply to a command.
 fn command_reply<S: Shelf>(alloc: Global, shelf: &mut S, asked: &Command) -> Result<Reply, Failure>
     requires { IsAllowed asked.now }
-    ensures performed { (layout_of : Layouts) → IsScheduler layout_of → OnAnswer result (Performed (S.told shelf.old)
-        (protocol_of layout_of (Some (seen_command asked.now)))
-        (S.counts shelf.old) (S.counts shelf.new)) }
+    ensures performed { Performs (λ layout_of. protocol_of layout_of (Some (seen_command asked.now)))
+        result (S.told shelf.old) (S.counts shelf.old) (S.counts shelf.new) }
     ensures told_stays { S.told shelf.new ≡ S.told shelf.old }
     ensures writes_stay { S.write_faults shelf.new ≡ S.write_faults shelf.old }
 {

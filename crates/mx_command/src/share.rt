@@ -1,19 +1,9 @@
 //! The reply of the command that runs two sources on one machine.
 ghost use Rattle.std.specs.Prelude.{◌≡◌, ◌≤◌, ◌++◌, length, IfOk, List, ℕ, Option, Some, option_map, pos, ◌-ℤ◌};
 ghost use Rattle.mx_io.specs.declared.limits.TheConstants.{MAX_SOURCE_BYTES};
-ghost use Rattle.mx_source.specs.SourceValue.{SourceValue};
-ghost use Rattle.mx_tasks.specs.Places.{lower, upper};
-ghost use Rattle.cmd_share.specs.Runs.{sharing_protocol};
-ghost use Rattle.cmd_answer.specs.Files.{limit_of};
-ghost use Rattle.cmd_answer.specs.Answer.{Answer, prints, text_line};
-ghost use Rattle.mx_io.specs.Shelves.{Counts};
-ghost use Rattle.cmd_answer.specs.Protocol.{Protocol, Answers, Reads, Performed};
-ghost use Rattle.cmd_answer.specs.Replies.{reply_answer, IfAnswered, OnAnswer};
-ghost use Rattle.law_schedule.specs.Schedule.{IsScheduler};
-ghost use Rattle.cmd_source.specs.Refusals.{overlong_text};
-ghost use Rattle.cmd_source.specs.Protocols.{Layouts};
-ghost use Rattle.mx_command.specs.Protocols.{of_program, line_cause, wrong_with, assembled_protocol, pair_protocol, share_protocol};
-ghost use Rattle.mx_command.specs.Sharing.{IsFitting};
+ghost use Rattle.mx_command.specs.Terms.{SourceValue, lower, upper, sharing_protocol, limit_of, Answer, prints, text_line, Counts, Protocol, Answers, Reads};
+ghost use Rattle.mx_command.specs.Terms.{Performed, reply_answer, IfAnswered, IsScheduler, overlong_text, Layouts, of_program, line_cause, wrong_with};
+ghost use Rattle.mx_command.specs.Terms.{assembled_protocol, pair_protocol, share_protocol, IsFitting, Performs, OnAnswer, Gives, Refuses};
 
 use cmd_answer::{Failure, FileKind, Reply, Status, line_reply};
 use cmd_share::run_shared;
@@ -102,14 +92,10 @@ fn read_assembled<S: Shelf>(
     requires short { limit_of kind ≤ MAX_SOURCE_BYTES }
     requires least { 256 ≤ place.user_data }
     ensures source { IfOk result (λ source. (text : List ℕ) × IsFitting place text source) }
-    ensures given { IfOk result (λ source. (next : SourceValue → Protocol) (after : Counts) (answer : Answer)
-        → Performed (S.told shelf.old) (next source)
-        (S.counts shelf.new) after answer
-        → Performed (S.told shelf.old) (Reads kind name.now (assembled_protocol program place next))
-        (S.counts shelf.old) after answer) }
-    ensures refused { IfAnswered result (λ answer. (next : SourceValue → Protocol)
-        → Performed (S.told shelf.old) (Reads kind name.now (assembled_protocol program place next))
-        (S.counts shelf.old) (S.counts shelf.new) answer) }
+    ensures given { IfOk result (λ source. Gives (λ next. Reads kind name.now (assembled_protocol program place next))
+        (S.told shelf.old) (S.counts shelf.old) (S.counts shelf.new) source) }
+    ensures refused { IfAnswered result (Refuses (λ next. Reads kind name.now (assembled_protocol program place next))
+        (S.told shelf.old) (S.counts shelf.old) (S.counts shelf.new)) }
     ensures told_stays { S.told shelf.new ≡ S.told shelf.old }
     ensures writes_stay { S.write_faults shelf.new ≡ S.write_faults shelf.old }
 {
@@ -158,9 +144,8 @@ fn pair_reply<S: Shelf>(
 ) -> Result<Reply, Failure>
     requires first { (text : List ℕ) × IsFitting lower text first.now }
     requires second { (text : List ℕ) × IsFitting upper text second.now }
-    ensures performed { (layout_of : Layouts) → IsScheduler layout_of → OnAnswer result (Performed (S.told shelf.old)
-        (pair_protocol layout_of (option_map (λ s. s.now) interrupts.entry) budget first.now second.now)
-        (S.counts shelf.old) (S.counts shelf.new)) }
+    ensures performed { Performs (λ layout_of. pair_protocol layout_of (option_map (λ s. s.now) interrupts.entry) budget first.now second.now)
+        result (S.told shelf.old) (S.counts shelf.old) (S.counts shelf.new) }
     ensures told_stays { S.told shelf.new ≡ S.told shelf.old }
     ensures writes_stay { S.write_faults shelf.new ≡ S.write_faults shelf.old }
 {
@@ -178,10 +163,9 @@ fn second_reply<S: Shelf>(
     budget: u32,
 ) -> Result<Reply, Failure>
     requires first { (text : List ℕ) × IsFitting lower text first.now }
-    ensures performed { (layout_of : Layouts) → IsScheduler layout_of → OnAnswer result (Performed (S.told shelf.old)
-        (Reads FileKind.Second second.now (assembled_protocol 2 upper
+    ensures performed { Performs (λ layout_of. Reads FileKind.Second second.now (assembled_protocol 2 upper
         (pair_protocol layout_of (option_map (λ s. s.now) interrupts.entry) budget first.now)))
-        (S.counts shelf.old) (S.counts shelf.new)) }
+        result (S.told shelf.old) (S.counts shelf.old) (S.counts shelf.new) }
     ensures told_stays { S.told shelf.new ≡ S.told shelf.old }
     ensures writes_stay { S.write_faults shelf.new ≡ S.write_faults shelf.old }
 {
@@ -198,9 +182,8 @@ pub fn share_reply<S: Shelf>(
     interrupts: Option<&str>,
     budget: u32,
 ) -> Result<Reply, Failure>
-    ensures performed { (layout_of : Layouts) → IsScheduler layout_of → OnAnswer result (Performed (S.told shelf.old)
-        (share_protocol layout_of first.now second.now (option_map (λ s. s.now) interrupts.entry) budget)
-        (S.counts shelf.old) (S.counts shelf.new)) }
+    ensures performed { Performs (λ layout_of. share_protocol layout_of first.now second.now (option_map (λ s. s.now) interrupts.entry) budget)
+        result (S.told shelf.old) (S.counts shelf.old) (S.counts shelf.new) }
     ensures told_stays { S.told shelf.new ≡ S.told shelf.old }
     ensures writes_stay { S.write_faults shelf.new ≡ S.write_faults shelf.old }
 {

@@ -1,15 +1,7 @@
 //! The top call on the files and the standard output of the system: the theorem of the program as it is shipped.
 ghost use Rattle.std.specs.Prelude.{◌≡◌, ◌≢◌, [], map, string_bytes};
-ghost use Rattle.mx_io.specs.RealShelf.{log_of, wrote_of, told_of};
-ghost use Rattle.mx_io.specs.RealSink.{handed_to};
-ghost use Rattle.cmd_answer.specs.Answer.{files_of};
-ghost use Rattle.cmd_answer.specs.Delivery.{PutsPrefix};
-ghost use Rattle.cmd_answer.specs.Logged.{AreAsked, Agree};
-ghost use Rattle.cmd_table.specs.Asked.{command_of};
-ghost use Rattle.mx_command.specs.Accepted.{Held};
-ghost use Rattle.mx_command.specs.Layouts.{command_protocol};
-ghost use Rattle.mx_command.specs.Promised.{Promised};
-ghost use Rattle.mx_command.specs.OnSystem.{IsTaken, answer_on};
+ghost use Rattle.mx_command.specs.Terms.{log_of, wrote_of, told_of, handed_to, files_of, PutsPrefix, AreAsked, Agree, command_of, Held, command_protocol};
+ghost use Rattle.mx_command.specs.Terms.{Promised, IsTaken, answer_on};
 
 use crate::command;
 use cmd_answer::Status;

@@ -1,23 +1,8 @@
 //! The top call.
 ghost use Rattle.std.specs.Prelude.{◌≡◌, ◌≢◌, ◌++◌, ◌⊎◌, true, false, map, string_bytes, List, ℕ, None};
-ghost use Rattle.mx_io.specs.Counts.{Rose};
 ghost use Rattle.cmd_answer.specs.declared.FileKind.{FileKind};
-ghost use Rattle.cmd_answer.specs.Answer.{Answer, failed_answer};
-ghost use Rattle.cmd_answer.specs.Protocol.{resolved, Performed, Faulted};
-ghost use Rattle.mx_io.specs.Reads.{Read};
-ghost use Rattle.cmd_answer.specs.Logged.{answer_by, Agree};
-ghost use Rattle.cmd_answer.specs.Commands.{Made};
-ghost use Rattle.mx_command.specs.Promised.{Promised};
-ghost use Rattle.cmd_answer.specs.Delivery.{Delivered, PutsPrefix};
-ghost use Rattle.cmd_table.specs.Asked.{command_of};
-ghost use Rattle.mx_command.specs.Layouts.{command_protocol};
-ghost use Rattle.mx_command.specs.Accepted.{Held, Accepted};
-ghost use Rattle.mx_command.specs.Headline.{AreQuiet, IsNoFault, Headline};
-ghost use Rattle.mx_command.specs.Pairs.{AcceptedPair, PairHeadline};
-ghost use Rattle.mx_command.specs.Stops.{AcceptedStops, StopsHeadline};
-ghost use Rattle.mx_command.specs.Joins.{AcceptedModules, JoinHeadline};
-ghost use Rattle.mx_command.specs.Measures.{AcceptedBest, BestHeadline};
-ghost use Rattle.mx_command.specs.Writing.{writes_a_file};
+ghost use Rattle.mx_command.specs.Terms.{Rose, Answer, failed_answer, resolved, Performed, Faulted, Read, answer_by, Agree, Made, Promised, Delivered};
+ghost use Rattle.mx_command.specs.Terms.{PutsPrefix, command_of, command_protocol, Held, Accepted, AreQuiet, IsNoFault, Headline, writes_a_file};
 
 use crate::reply::reply_to;
 use cmd_answer::{Status, finish};
@@ -64,37 +49,14 @@ pub fn command<S: Shelf, W: Sink>(
         → (result ≡ Status.Memory)
         ⊎ Headline (command_of (map string_bytes words.now)) (S.told shelf.old).held accepted result (W.written out.old) (W.written out.new) }
 
-    // Where they ask so for two sources that share the machine: all that `PairHeadline` says, or memory ran out.
-    ensures pair { (S.told shelf.old).tells ≡ true
+    // So, where the shelf tells what it holds, all is promised of that: of a run as above, and of two sources that share the machine, of
+    // the stops of a source at a label, of the join of modules and of the lengths of plans what their headlines say.
+    ensures promised_held { (S.told shelf.old).tells ≡ true
         → AreQuiet (S.counts shelf.old) (S.counts shelf.new) (S.write_faults shelf.old) (S.write_faults shelf.new)
         (W.faults out.old) (W.faults out.new) ⊎ IsNoFault result
-        → (accepted : AcceptedPair (command_of (map string_bytes words.now)) (S.told shelf.old).held)
         → (result ≡ Status.Memory)
-        ⊎ PairHeadline (command_of (map string_bytes words.now)) (S.told shelf.old).held accepted result (W.written out.old) (W.written out.new) }
-
-    // Where they ask so for the stops of a source at a label: all that `StopsHeadline` says, or memory ran out.
-    ensures stops { (S.told shelf.old).tells ≡ true
-        → AreQuiet (S.counts shelf.old) (S.counts shelf.new) (S.write_faults shelf.old) (S.write_faults shelf.new)
-        (W.faults out.old) (W.faults out.new) ⊎ IsNoFault result
-        → (accepted : AcceptedStops (command_of (map string_bytes words.now)) (S.told shelf.old).held)
-        → (result ≡ Status.Memory)
-        ⊎ StopsHeadline (command_of (map string_bytes words.now)) (S.told shelf.old).held accepted result (W.written out.old) (W.written out.new) }
-
-    // Where they ask for the join of modules without faults: all that `JoinHeadline` says, or memory ran out.
-    ensures modules { (S.told shelf.old).tells ≡ true
-        → AreQuiet (S.counts shelf.old) (S.counts shelf.new) (S.write_faults shelf.old) (S.write_faults shelf.new)
-        (W.faults out.old) (W.faults out.new) ⊎ IsNoFault result
-        → (accepted : AcceptedModules (command_of (map string_bytes words.now)) (S.told shelf.old).held)
-        → (result ≡ Status.Memory)
-        ⊎ JoinHeadline (command_of (map string_bytes words.now)) (S.told shelf.old).held accepted result (W.written out.old) (W.written out.new) }
-
-    // Where they ask for the lengths of the plans of a text without faults: all that `BestHeadline` says, or memory ran out.
-    ensures best { (S.told shelf.old).tells ≡ true
-        → AreQuiet (S.counts shelf.old) (S.counts shelf.new) (S.write_faults shelf.old) (S.write_faults shelf.new)
-        (W.faults out.old) (W.faults out.new) ⊎ IsNoFault result
-        → (accepted : AcceptedBest (command_of (map string_bytes words.now)) (S.told shelf.old).held)
-        → (result ≡ Status.Memory)
-        ⊎ BestHeadline (command_of (map string_bytes words.now)) (S.told shelf.old).held accepted result (W.written out.old) (W.written out.new) }
+        ⊎ Promised (command_of (map string_bytes words.now)) (S.told shelf.old).held result
+        (S.told shelf.old) (S.told shelf.new) (W.written out.old) (W.written out.new) }
 
     // ANSWERS, of every command. Where the shelf tells what it holds and no count of faults rises, the answer is that
     // of the words and of what is held, or memory ran out.

@@ -40,13 +40,11 @@ fn main(rt: HostRuntime) -> ExitCode {
         Ok(words) => words,
         Err(number) => return ExitCode::from(number),
     };
-    let mut shelf = RealShelf::new(&rt);
-    let mut out = RealSink::new(&rt);
     let ended = lab(
         rt.alloc(),
         words.as_slice(),
-        &mut shelf,
-        &mut out,
+        &mut RealShelf::new(&rt),
+        &mut RealSink::new(&rt),
         OnTerminal::new(&rt),
         OnSystem { rt: &rt },
     );

@@ -29,5 +29,5 @@ returns c =
     let start = c.in_ok-machine.ensures in
     let stopped = c.in_ok-stopped.ensures in
     let text = c.in-Ok.ensures ∙ (λ k. session_text limits.watch (stopped.stops p start k) (stopped.ending p start k) (stopped.console p start k)) in
-    let status = c.status_of-status.ensures ∙ ap status_of (stopped.ending p start) in
+    let status = c.ended-status.ensures.status ∙ ap status_of (stopped.ending p start) in
     λ k. prints (status k) (text k)

@@ -8,6 +8,6 @@ unfolding session_text
 returns c =
     let watch = c.args.watch in
     let stops = c.in_ok-push_stops.ensures ∙ (λ k. c.new-text.ensures.items k ++ stops_text watch 1 (c.as_slice-stops.ensures.value k)) in
-    let ended = c.in_ok-push_line.ensures.ok ∙ (λ k. stops k ++ line (c.ending_text.ensures k)) in
+    let ended = c.in_ok-push_line.ensures.ok ∙ (λ k. stops k ++ line (c.ended.ensures.text k)) in
     let counted = c.in_ok-push_count.ensures.ok ∙ (λ k. ended k ++ count_line (codes "stops") (length (c.as_slice-stops.ensures.value k))) in
     c.in_ok-push_console.ensures.ok ∙ (λ k. counted k ++ console_lines (c.as_slice.ensures.value k))

@@ -12,34 +12,34 @@ use Rattle.cmd_simulate.specs.Machines.{event_line, by_requests, requests_protoc
 use Rattle.cmd_simulate.proofs.Readings.{RequestsRefused}
 use Rattle.cmd_simulate.proofs.files.read_requests.Goals as goal
 
-pub returns-in_err-bytes-in-Some-clause-refused : goal.returns-in_err-bytes-in-Some-clause-refused
-returns-in_err-bytes-in-Some-clause-refused g c =
+pub returns-in_err-bytes-clause-refused : goal.returns-in_err-bytes-clause-refused
+returns-in_err-bytes-clause-refused g c =
     let told : Told = g.S.Shelf.told c.args.shelf.now in
     let before : Counts = g.S.Shelf.counts c.args.shelf.now in
     let between : Counts = g.S.Shelf.counts c.read_file.new.shelf in
-    step_fails c.from_residual.result c.in_err-bytes-in-Some.field-0.0 (IsFault told Interrupts c.in-Some.name.now before between)
-    (RequestsRefused told (option_map (λ s. s.now) c.args.name) before between) c.from_residual.ensures.1 c.in_err-bytes-in-Some.ensures.fault
+    step_fails c.from_residual.result c.in_err-bytes.field-0.0 (IsFault told Interrupts c.in-Some.name.now before between)
+    (RequestsRefused told (option_map (λ s. s.now) c.args.name) before between) c.from_residual.ensures.1 c.in_err-bytes.ensures.fault
     (λ answer fault next. subst
     (λ (n : Option (Bor (List ℕ))). Performed told (requests_protocol (option_map (λ s. s.now) n) next) before between answer) (sym c.in-Some.is)
-    (between, c.in_err-bytes-in-Some.ensures.read, inl (refl, fault)))
+    (between, c.in_err-bytes.ensures.read, inl (refl, fault)))
 
-pub returns-in_err-requests-in-Some-clause-refused : goal.returns-in_err-requests-in-Some-clause-refused
-returns-in_err-requests-in-Some-clause-refused g c =
+pub returns-in_err-requests-clause-refused : goal.returns-in_err-requests-clause-refused
+returns-in_err-requests-clause-refused g c =
     let told : Told = g.S.Shelf.told c.args.shelf.now in
     let before : Counts = g.S.Shelf.counts c.args.shelf.now in
     let between : Counts = g.S.Shelf.counts c.read_file.new.shelf in
-    let bytes : List ℕ = c.in_ok-bytes-in-Some.bytes.items in
-    step_fails c.from_residual-in_err-requests-in-Some.result c.in_err-requests-in-Some.field-0.0
+    let bytes : List ℕ = c.in_ok-bytes.bytes.items in
+    step_fails c.from_residual-in_err-requests.result c.in_err-requests.field-0.0
     (λ answer. (fault : EventError) × (requests_of c.as_slice.result.now ≡ Err fault) × (answer ≡ prints BadEvents (event_line fault)))
     (RequestsRefused told (option_map (λ s. s.now) c.args.name) before between)
-    c.from_residual-in_err-requests-in-Some.ensures.1 c.in_err-requests-in-Some.ensures.refused
+    c.from_residual-in_err-requests.ensures.1 c.in_err-requests.ensures.refused
     (λ answer wrong next. subst
     (λ (n : Option (Bor (List ℕ))). Performed told (requests_protocol (option_map (λ s. s.now) n) next) before between answer) (sym c.in-Some.is) (
       between,
-      c.in_ok-bytes-in-Some.ensures.read,
+      c.in_ok-bytes.ensures.read,
       inr (
         bytes,
-        c.in_ok-bytes-in-Some.ensures.given,
+        c.in_ok-bytes.ensures.given,
         subst
             (λ (r : Result (List ℕ) EventError). Performed told (by_requests r next) between between answer)
             (sym (sym (ap requests_of c.as_slice.ensures.value) ∙ wrong.1)) (refl, wrong.2),

@@ -2,7 +2,6 @@ use Rattle.std.proofs.Common.{◌≡◌, ◌≢◌, ℕ, ◌++◌, List, [], Opt
 use Rattle.mx_io.specs.Counts.{Rose}
 use Rattle.cmd_answer.specs.declared.Status.{Status}
 use Rattle.cmd_answer.specs.declared.Status.TheVariants.{Memory}
-use Rattle.cmd_answer.specs.Delivery.{Delivered}
 use Rattle.cmd_answer.specs.Protocol.{resolved}
 use Rattle.cmd_table.specs.Asked.{command_of}
 use Rattle.cmd_table.specs.Commands.{Command}
@@ -11,6 +10,7 @@ use Rattle.mx_command.specs.Pairs.{PairHeadline}
 use Rattle.mx_command.specs.Stops.{StopsHeadline}
 use Rattle.mx_command.specs.Joins.{JoinHeadline}
 use Rattle.mx_command.specs.Measures.{BestHeadline}
+use Rattle.mx_command.specs.Promised.{Promised}
 use Rattle.mx_command.specs.Layouts.{command_protocol}
 use Rattle.embed_call.specs.Targets.{target_bytes}
 use Rattle.embed_call.specs.QuietShelf.{held_in, told_of, counts_of}
@@ -39,9 +39,9 @@ returns c =
     let quiet : AreQuiet (counts_of before) (counts_of after) 0 0 (faults_of out) (faults_of out') =
     record { reading = calm; writing = calm; putting = putting } in
     let not_memory : status ≢ Memory = c.is_memory.ensures c.if-is_memory.false in
-    let delivered : Delivered (resolved (command_protocol asked) (held_in before)) status
-    (told_of before) (told_of after) (written_in out) (written_in out') =
-    ⊎_elim (λ m. absurd (not_memory m)) (λ d. d) (told.complete refl calm calm putting) in
+    let promised : Promised asked (held_in before) status (told_of before) (told_of after) (written_in out) (written_in out') =
+    ⊎_elim (λ m. absurd (not_memory m)) (λ p. p) (told.promised_held refl (inl quiet)) in
+    let delivered = promised.delivered in
     let got = c.in_ok-file.ensures ∙ ap (λ t. target_bytes (held_in after) t status) c.in_ok-target.ensures in
     record {
       status = delivered.status;
@@ -55,19 +55,19 @@ returns c =
       no_file = λ only. got ∙ ap (λ t. target_bytes (held_in after) t status) (no_target asked only);
       headline = λ accepted. from_told
           (λ w w'. Headline asked (held_in before) accepted status w w') _ _ text c.new-out.ensures.written c.in-Some.ensures.0
-          (⊎_elim (λ m. absurd (not_memory m)) (λ h. h) (told.headline refl (inl quiet) accepted));
+          (promised.headline accepted);
       pair = λ accepted. from_told
           (λ w w'. PairHeadline asked (held_in before) accepted status w w') _ _ text c.new-out.ensures.written c.in-Some.ensures.0
-          (⊎_elim (λ m. absurd (not_memory m)) (λ h. h) (told.pair refl (inl quiet) accepted));
+          (promised.pair accepted);
       stops = λ accepted. from_told
           (λ w w'. StopsHeadline asked (held_in before) accepted status w w') _ _ text c.new-out.ensures.written c.in-Some.ensures.0
-          (⊎_elim (λ m. absurd (not_memory m)) (λ h. h) (told.stops refl (inl quiet) accepted));
+          (promised.stops accepted);
       modules = λ accepted. from_told
           (λ w w'. JoinHeadline asked (held_in before) accepted status w w') _ _ text c.new-out.ensures.written c.in-Some.ensures.0
-          (⊎_elim (λ m. absurd (not_memory m)) (λ h. h) (told.modules refl (inl quiet) accepted));
+          (promised.modules accepted);
       best = λ accepted. from_told
           (λ w w'. BestHeadline asked (held_in before) accepted status w w') _ _ text c.new-out.ensures.written c.in-Some.ensures.0
-          (⊎_elim (λ m. absurd (not_memory m)) (λ h. h) (told.best refl (inl quiet) accepted));
+          (promised.best accepted);
       no_write_fault = λ e. ⊎_elim putting (λ f. calm f.1) (told.write_fault e);
       no_memory = not_memory;
       no_read_fault = λ finds e.

@@ -3,9 +3,9 @@ use Rattle.std.specs.Prelude.{is_some}
 use Rattle.cmd_answer.specs.declared.Status.{Status}
 use Rattle.cmd_answer.specs.declared.Status.TheVariants.{Usage, WriteFault, Memory}
 use Rattle.cmd_answer.specs.Answer.{Answer}
-use Rattle.cmd_answer.specs.Delivery.{HasStatus}
+use Rattle.cmd_answer.specs.Delivery.{Delivered, HasStatus}
 use Rattle.mx_io.specs.Shelves.{Told, Counts}
-use Rattle.cmd_answer.specs.Protocol.{Performed}
+use Rattle.cmd_answer.specs.Protocol.{Performed, resolved}
 use Rattle.cmd_answer.specs.Replies.{reply_answer}
 use Rattle.cmd_table.specs.Commands.{Command}
 use Rattle.cmd_table.specs.Asked.{command_of}
@@ -20,6 +20,8 @@ use Rattle.mx_command.proofs.PairHeadline.{delivered_is_pair}
 use Rattle.mx_command.proofs.StopsHeadline.{delivered_is_stops}
 use Rattle.mx_command.proofs.JoinHeadline.{delivered_is_joined}
 use Rattle.mx_command.proofs.BestHeadline.{delivered_is_best}
+use Rattle.mx_command.specs.Accepted.{Held}
+use Rattle.mx_command.specs.Promised.{Promised}
 use Rattle.mx_command.specs.Writing.{writes_a_file}
 use Rattle.mx_command.specs.Layouts.{greedy_layout, command_protocol}
 use Rattle.mx_command.proofs.GreedyLayouts.{greedy_is}
@@ -79,6 +81,19 @@ whole g c =
     c.in-Ok.ensures.told_stays c.in-Ok.ensures.writes_stay c.finish.ensures.unread
     c.finish.ensures.delivered c.finish.ensures.write_fault c.finish.ensures.prefix c.finish.ensures.memory c.finish.ensures.unwrote c.finish.ensures.kept
 
+-- all is promised where the answer by what is held came out
+all_promised : (g : _) (c : goal.After-finish g) (held : Held)
+    → Delivered (resolved (command_protocol (asked_by g c)) held) c.finish.result (before g c).told (after g c).told (before g c).written (after g c).written
+    → Promised (asked_by g c) held c.finish.result (before g c).told (after g c).told (before g c).written (after g c).written
+all_promised g c held d = record {
+  delivered = d;
+  headline = λ a. delivered_is_headline _ _ a greedy_layout greedy_is _ _ _ _ _ d;
+  pair = λ a. delivered_is_pair _ _ a greedy_layout greedy_is _ _ _ _ _ d;
+  stops = λ a. delivered_is_stops _ _ a c.in-Ok.ensures.within greedy_layout greedy_is _ _ _ _ _ d;
+  modules = λ a. delivered_is_joined _ _ a c.in-Ok.ensures.within greedy_layout _ _ _ _ _ d;
+  best = λ a. delivered_is_best _ _ a greedy_layout greedy_is _ _ _ _ _ d;
+}
+
 pub returns-clause-complete : goal.returns-clause-complete
 returns-clause-complete g c = (whole g c).complete
 
@@ -89,21 +104,8 @@ pub returns-clause-headline : goal.returns-clause-headline
 returns-clause-headline g c = λ tells undisturbed accepted.
     promised _ _ _ _ _ (whole g c) (delivered_is_headline _ _ accepted greedy_layout greedy_is _ _ _ _ _) tells undisturbed
 
-pub returns-clause-pair : goal.returns-clause-pair
-returns-clause-pair g c = λ tells undisturbed accepted.
-    promised _ _ _ _ _ (whole g c) (delivered_is_pair _ _ accepted greedy_layout greedy_is _ _ _ _ _) tells undisturbed
-
-pub returns-clause-stops : goal.returns-clause-stops
-returns-clause-stops g c = λ tells undisturbed accepted.
-    promised _ _ _ _ _ (whole g c) (delivered_is_stops _ _ accepted c.in-Ok.ensures.within greedy_layout greedy_is _ _ _ _ _) tells undisturbed
-
-pub returns-clause-modules : goal.returns-clause-modules
-returns-clause-modules g c = λ tells undisturbed accepted.
-    promised _ _ _ _ _ (whole g c) (delivered_is_joined _ _ accepted c.in-Ok.ensures.within greedy_layout _ _ _ _ _) tells undisturbed
-
-pub returns-clause-best : goal.returns-clause-best
-returns-clause-best g c = λ tells undisturbed accepted.
-    promised _ _ _ _ _ (whole g c) (delivered_is_best _ _ accepted greedy_layout greedy_is _ _ _ _ _) tells undisturbed
+pub returns-clause-promised_held : goal.returns-clause-promised_held
+returns-clause-promised_held g c = λ tells undisturbed. promised _ _ _ _ _ (whole g c) (all_promised g c (before g c).told.held) tells undisturbed
 
 pub returns-clause-performed : goal.returns-clause-performed
 returns-clause-performed g c = λ w m.
@@ -133,18 +135,7 @@ returns-clause-unwrote g c = (whole g c).unwrote
 
 pub returns-clause-promised : goal.returns-clause-promised
 returns-clause-promised g c = λ w m.
-    let is = (whole g c).exact_held w m in (
-      is.0,
-      is.1,
-      λ held agree. let d = is.2 held agree in record {
-        delivered = d;
-        headline = λ a. delivered_is_headline _ _ a greedy_layout greedy_is _ _ _ _ _ d;
-        pair = λ a. delivered_is_pair _ _ a greedy_layout greedy_is _ _ _ _ _ d;
-        stops = λ a. delivered_is_stops _ _ a c.in-Ok.ensures.within greedy_layout greedy_is _ _ _ _ _ d;
-        modules = λ a. delivered_is_joined _ _ a c.in-Ok.ensures.within greedy_layout _ _ _ _ _ d;
-        best = λ a. delivered_is_best _ _ a greedy_layout greedy_is _ _ _ _ _ d;
-      },
-    )
+    let is = (whole g c).exact_held w m in (is.0, is.1, λ held agree. all_promised g c held (is.2 held agree))
 
 pub returns-clause-usage : goal.returns-clause-usage
 returns-clause-usage g c = λ is.
