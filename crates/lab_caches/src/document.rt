@@ -1,6 +1,6 @@
 //! Caches as JSON.
 use super::study::{CacheRow, Study};
-use lab_json::{Value, document_text, write_members, write_record};
+use lab_json::{Value, document_text, write_list, write_members, write_record};
 use lab_terms::SHIPPED_CACHE;
 use mx_io::Memory;
 use serde::{Described, Serialize, Serializer};
@@ -13,31 +13,24 @@ struct Document<'a> {
     study: &'a Study,
 }
 
-// Writes what a cache makes of a run.
-fn write_row<S: Serializer>(out: &mut S, row: &CacheRow) -> Result<(), S::Error> {
-    let geometry = row.geometry;
-    let members = [
-        ("words", Value::Number(geometry.words())),
-        ("sets", Value::Number(u64::from(geometry.sets))),
-        ("ways", Value::Number(u64::from(geometry.ways))),
-        ("line", Value::Number(u64::from(geometry.line))),
-        ("brings", Value::Number(u64::from(geometry.brings))),
-        ("penalty", Value::Number(u64::from(geometry.penalty))),
-        ("shipped", Value::Flag(geometry == SHIPPED_CACHE)),
-        ("misses", Value::Number(row.misses)),
-        ("cycles", Value::Number(row.cycles)),
-    ];
-    write_record(out, &members)
-}
+impl Described for CacheRow {}
 
-// Writes the caches.
-fn write_rows<S: Serializer>(out: &mut S, rows: &[CacheRow]) -> Result<(), S::Error> {
-    out.key("caches")?;
-    out.begin_seq(Some(rows.len()))?;
-    for row in rows {
-        write_row(out, row)?;
+impl Serialize for CacheRow {
+    fn serialize<S: Serializer>(&self, out: &mut S) -> Result<(), S::Error> {
+        let geometry = self.geometry;
+        let members = [
+            ("words", Value::Number(geometry.words())),
+            ("sets", Value::Number(u64::from(geometry.sets))),
+            ("ways", Value::Number(u64::from(geometry.ways))),
+            ("line", Value::Number(u64::from(geometry.line))),
+            ("brings", Value::Number(u64::from(geometry.brings))),
+            ("penalty", Value::Number(u64::from(geometry.penalty))),
+            ("shipped", Value::Flag(geometry == SHIPPED_CACHE)),
+            ("misses", Value::Number(self.misses)),
+            ("cycles", Value::Number(self.cycles)),
+        ];
+        write_record(out, &members)
     }
-    out.end_seq()
 }
 
 impl Described for Document<'_> {}
@@ -55,7 +48,7 @@ impl Serialize for Document<'_> {
         ];
         out.begin_map(Some(7))?;
         write_members(out, &members)?;
-        write_rows(out, self.study.rows.as_slice())?;
+        write_list(out, "caches", self.study.rows.as_slice())?;
         out.end_map()
     }
 }

@@ -1,5 +1,6 @@
 //! Caches as a table.
 use super::study::{CacheRow, Study};
+use lab_json::{Ratio, push_ratio};
 use lab_terms::{Geometry, SHIPPED_CACHE};
 use std::alloc::{AllocError, Global};
 
@@ -23,28 +24,10 @@ fn push_numbers(table: &mut String, numbers: &[(u64, usize)]) -> Result<(), Allo
     Ok(())
 }
 
-// Appends a column with a part of a whole in per cent, rounded to a hundredth; `-` where there is no whole.
+// Appends a column with a part of a whole in per cent; `-` where there is no whole.
 fn push_share(table: &mut String, part: u64, whole: u64) -> Result<(), AllocError> {
-    let parts = part.saturating_mul(10_000).saturating_add(whole / 2);
-    match parts.checked_div(whole) {
-        Some(hundredths) => {
-            let (ones, rest) = (hundredths / 100, hundredths % 100);
-            write!(table, " {ones:>7}.{rest:02}%")
-        }
-        None => write!(table, " {NONE:>11}"),
-    }
-}
-
-// Appends a column with the cycles a fetch, rounded to a hundredth; `-` where there is no fetch.
-fn push_ratio(table: &mut String, cycles: u64, fetches: u64) -> Result<(), AllocError> {
-    let parts = cycles.saturating_mul(100).saturating_add(fetches / 2);
-    match parts.checked_div(fetches) {
-        Some(hundredths) => {
-            let (ones, rest) = (hundredths / 100, hundredths % 100);
-            write!(table, " {ones:>4}.{rest:02}")
-        }
-        None => write!(table, " {NONE:>7}"),
-    }
+    push_ratio(table, Ratio::FinePercent(part, whole), 10, "")?;
+    table.push_str(if whole == 0 { NONE } else { "%" })
 }
 
 // Appends what a cache is. That of the machine has a mark.
@@ -67,7 +50,7 @@ fn push_row(table: &mut String, row: &CacheRow, fetches: u64) -> Result<(), Allo
     push_number(table, row.misses, 10)?;
     push_share(table, row.misses, fetches)?;
     push_number(table, row.cycles, 11)?;
-    push_ratio(table, row.cycles, fetches)?;
+    push_ratio(table, Ratio::Plain(row.cycles, fetches), 7, NONE)?;
     table.push('\n')
 }
 

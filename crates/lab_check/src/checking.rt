@@ -112,22 +112,34 @@ fn told_source<'a>(
     })
 }
 
+// What is found in a text of these lines, of which these are the faulty ones.
+fn check_lines<'a>(
+    alloc: Global,
+    lines: &[&'a [u8]],
+    text: &[u8],
+    faulty: Findings<'a>,
+    at_most: usize,
+) -> Result<Checked<'a>, AllocError>
+    requires { length text.now ≤ MAX_SOURCE_BYTES }
+{
+    match assemble(alloc, text) {
+        Ok(source) => told_source(alloc, lines, &source, at_most),
+        Err(AsmError::Refused { .. }) => told_faults(alloc, lines, faulty),
+        Err(AsmError::Memory) => Err(AllocError),
+    }
+}
+
 /// What is found in a text: its faulty lines, up to so many, or, where it has none, a branch that does not reach its target,
 /// and warnings, up to so many.
 pub fn check(alloc: Global, text: &[u8], at_most: usize) -> Result<Checked<'_>, Memory>
     requires short { length text.now ≤ MAX_SOURCE_BYTES }
     requires most { at_most ≤ MAX_SOURCE_BYTES }
 {
-    let found = check_text(alloc, text, at_most)?;
+    let faulty = check_text(alloc, text, at_most)?;
     let Ok(lines) = lines_of(alloc, text) else {
         return Err(Memory);
     };
-    let told = match assemble(alloc, text) {
-        Ok(source) => told_source(alloc, &lines, &source, at_most),
-        Err(AsmError::Refused { .. }) => told_faults(alloc, &lines, found),
-        Err(AsmError::Memory) => return Err(Memory),
-    };
-    match told {
+    match check_lines(alloc, &lines, text, faulty, at_most) {
         Ok(checked) => Ok(checked),
         Err(_) => Err(Memory),
     }

@@ -16,4 +16,4 @@ mod warning;
 pub use checking::{Checked, check};
 pub use finding::{Finding, Severity};
 pub use lab_faults::MOST_LINES;
-pub use report::{Form, push_findings};
+pub use report::{Form, findings_text};

@@ -34,77 +34,100 @@ fn colour_of(severity: Severity) -> &'static str {
     }
 }
 
-// Puts down a text, in a colour where the form has colours.
-fn push_in(output: &mut Vec<u8>, form: Form, colour: &str, text: &[u8]) -> Result<(), AllocError> {
-    if form != Form::Coloured {
-        return output.extend_from_slice(text);
-    }
-    output.extend_from_slice(colour.as_bytes())?;
-    output.extend_from_slice(text)?;
-    output.extend_from_slice(PLAIN.as_bytes())
-}
-
-// Puts down where and what a finding is.
-fn push_head(
+// What is printed, as far as it is.
+#[derive(Drop)]
+struct Report {
     alloc: Global,
-    output: &mut Vec<u8>,
-    told: &Told,
     form: Form,
-) -> Result<(), AllocError> {
-    let (file, finding) = (told.file, told.finding);
-    let (line, column) = (finding.line, finding.column());
-    let severity = finding.severity.word();
-    let (code, name, message) = (finding.code, finding.name, finding.message.as_str());
-    let place = format!(in alloc; "{file}:{line}:{column}:")?;
-    let grave = format!(in alloc; "{severity}:")?;
-    let rest = format!(in alloc; " {code} {name}: {message}\n")?;
-    push_in(output, form, BOLD, place.as_bytes())?;
-    output.push(b' ')?;
-    push_in(output, form, colour_of(finding.severity), grave.as_bytes())?;
-    output.extend_from_slice(rest.as_bytes())
+    output: Vec<u8>,
 }
 
-// Puts down a finding: where and what it is, the line, the marks under it, and what may have been meant.
-fn push_finding(
-    alloc: Global,
-    output: &mut Vec<u8>,
-    told: &Told,
-    form: Form,
-) -> Result<(), AllocError> {
-    let finding = told.finding;
-    push_head(alloc, output, told, form)?;
-    output.extend_from_slice(b"    ")?;
-    output.extend_from_slice(finding.text)?;
-    output.push(b'\n')?;
-    if !finding.marks.is_empty() {
-        output.extend_from_slice(b"    ")?;
-        push_in(output, form, colour_of(finding.severity), &finding.marks)?;
-        output.push(b'\n')?;
+impl Report {
+    // Puts down bytes.
+    fn push(&mut self, bytes: &[u8]) -> Result<(), AllocError> {
+        self.output.extend_from_slice(bytes)
     }
-    if let Some(hint) = &finding.hint {
-        output.extend_from_slice(b"    ")?;
-        push_in(output, form, CYAN, b"hint:")?;
-        output.push(b' ')?;
-        output.extend_from_slice(hint.as_bytes())?;
-        output.push(b'\n')?;
+
+    // Puts down a text, in a colour where the form has colours.
+    fn push_in(&mut self, colour: &str, text: &[u8]) -> Result<(), AllocError> {
+        if self.form != Form::Coloured {
+            return self.push(text);
+        }
+        self.push(colour.as_bytes())?;
+        self.push(text)?;
+        self.push(PLAIN.as_bytes())
     }
-    Ok(())
+
+    // Puts down where a finding is, and how grave.
+    fn push_place(&mut self, told: &Told) -> Result<(), AllocError> {
+        let (file, finding) = (told.file, told.finding);
+        let (line, column) = (finding.line, finding.column());
+        let place = format!(in self.alloc; "{file}:{line}:{column}:")?;
+        let severity = finding.severity.word();
+        let grave = format!(in self.alloc; "{severity}:")?;
+        self.push_in(BOLD, place.as_bytes())?;
+        self.push(b" ")?;
+        self.push_in(colour_of(finding.severity), grave.as_bytes())
+    }
+
+    // Puts down what a finding is, and the line.
+    fn push_message(&mut self, finding: &Finding) -> Result<(), AllocError> {
+        let (code, name, message) = (finding.code, finding.name, finding.message.as_str());
+        let rest = format!(in self.alloc; " {code} {name}: {message}\n    ")?;
+        self.push(rest.as_bytes())?;
+        self.push(finding.text)?;
+        self.push(b"\n")
+    }
+
+    // Puts down the marks under a line, where there are some.
+    fn push_marks(&mut self, finding: &Finding) -> Result<(), AllocError> {
+        if finding.marks.is_empty() {
+            return Ok(());
+        }
+        self.push(b"    ")?;
+        self.push_in(colour_of(finding.severity), &finding.marks)?;
+        self.push(b"\n")
+    }
+
+    // Puts down what may have been meant, where that is known.
+    fn push_hint(&mut self, finding: &Finding) -> Result<(), AllocError> {
+        let Some(hint) = &finding.hint else {
+            return Ok(());
+        };
+        self.push(b"    ")?;
+        self.push_in(CYAN, b"hint:")?;
+        self.push(b" ")?;
+        self.push(hint.as_bytes())?;
+        self.push(b"\n")
+    }
+
+    // Puts down a finding.
+    fn push_finding(&mut self, told: &Told) -> Result<(), AllocError> {
+        if self.form == Form::Json {
+            return push_record(self.alloc, &mut self.output, told);
+        }
+        self.push_place(told)?;
+        self.push_message(told.finding)?;
+        self.push_marks(told.finding)?;
+        self.push_hint(told.finding)
+    }
 }
 
-/// Appends what is printed of findings in a file.
-pub fn push_findings(
+/// What is printed of findings in a file.
+pub fn findings_text(
     alloc: Global,
-    output: &mut Vec<u8>,
     file: &str,
     findings: &[Finding],
     form: Form,
-) -> Result<(), AllocError> {
+) -> Result<Vec<u8>, AllocError> {
+    let output = Vec::new(alloc);
+    let mut report = Report {
+        alloc,
+        form,
+        output,
+    };
     for finding in findings {
-        let told = Told { file, finding };
-        match form {
-            Form::Text | Form::Coloured => push_finding(alloc, output, &told, form)?,
-            Form::Json => push_record(alloc, output, &told)?,
-        }
+        report.push_finding(&Told { file, finding })?;
     }
-    Ok(())
+    Ok(report.output)
 }

@@ -23,23 +23,13 @@ enum Kind {
 }
 
 impl Kind {
-    // Its number.
-    fn code(self) -> &'static str {
+    // Its number and its name.
+    fn named(self) -> (&'static str, &'static str) {
         match self {
-            Kind::NoStatement | Kind::RunsPastEnd => "W1",
-            Kind::Unreached => "W2",
-            Kind::UnusedLabel => "W3",
-            Kind::UnreadInput => "W4",
-        }
-    }
-
-    // Its name.
-    fn name(self) -> &'static str {
-        match self {
-            Kind::NoStatement | Kind::RunsPastEnd => "RunsPastEnd",
-            Kind::Unreached => "Unreached",
-            Kind::UnusedLabel => "UnusedLabel",
-            Kind::UnreadInput => "UnreadInput",
+            Kind::NoStatement | Kind::RunsPastEnd => ("W1", "RunsPastEnd"),
+            Kind::Unreached => ("W2", "Unreached"),
+            Kind::UnusedLabel => ("W3", "UnusedLabel"),
+            Kind::UnreadInput => ("W4", "UnreadInput"),
         }
     }
 
@@ -98,6 +88,7 @@ pub fn warning_finding<'a>(
     warning: Warning,
 ) -> Result<Finding<'a>, AllocError> {
     let Warning { kind, line, place } = warning;
+    let (code, name) = kind.named();
     let text = line_at(lines, line);
     let span = span_at(text, place);
     let marks = marks_under(alloc, text, span)?;
@@ -109,8 +100,8 @@ pub fn warning_finding<'a>(
         marks,
         span,
         severity: Severity::Warning,
-        code: kind.code(),
-        name: kind.name(),
+        code,
+        name,
         message,
         hint,
     })

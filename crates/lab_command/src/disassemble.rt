@@ -2,9 +2,8 @@
 ghost use Rattle.std.specs.Prelude.{◌≤◌, vec_len};
 ghost use Rattle.mx_io.specs.declared.limits.TheConstants.{MAX_SOURCE_BYTES};
 
-use crate::given::{file_given, word_given};
+use crate::given::Asked;
 use crate::printed::{printed, refused};
-use clap::ArgMatches;
 use cmd_answer::{Failure, FileKind, Reply, Status, read_file};
 use cmd_source::linked_text;
 use lab_disassemble::{Listing, image_listing, listing_json, listing_text, source_listing};
@@ -46,19 +45,15 @@ fn read_listing<S: Shelf>(alloc: Global, shelf: &mut S, name: &str) -> Result<Li
 }
 
 // A listing in the form that the words ask for.
-fn text_of(alloc: Global, matches: &ArgMatches, listing: &Listing) -> Result<Vec<u8>, Memory> {
-    match word_given(matches, "as") {
-        "json" => listing_json(alloc, word_given(matches, "FILE"), listing),
-        _ => listing_text(alloc, listing).map_err(|_| Memory),
+fn text_of(asked: &Asked, listing: &Listing) -> Result<Vec<u8>, Memory> {
+    match asked.word("as") {
+        "json" => listing_json(asked.alloc, asked.word("FILE"), listing),
+        _ => listing_text(asked.alloc, listing).map_err(|_| Memory),
     }
 }
 
 /// The reply to `disassemble FILE`.
-pub fn disassemble_reply<S: Shelf>(
-    alloc: Global,
-    shelf: &mut S,
-    matches: &ArgMatches,
-) -> Result<Reply, Failure> {
-    let listing = read_listing(alloc, shelf, file_given(matches, "FILE"))?;
-    printed(Status::Done, text_of(alloc, matches, &listing))
+pub fn disassemble_reply<S: Shelf>(asked: &Asked, shelf: &mut S) -> Result<Reply, Failure> {
+    let listing = read_listing(asked.alloc, shelf, asked.file("FILE"))?;
+    printed(Status::Done, text_of(asked, &listing))
 }

@@ -1,19 +1,15 @@
 //! The reply of `explain`.
 ghost use Rattle.std.specs.Prelude.{◌≡◌, IfOk};
-ghost use Rattle.mx_source.specs.Meaning.{given};
-ghost use Rattle.mx_turn.specs.Handler.{shipped};
-ghost use Rattle.mx_turn.specs.Program.{program_of};
 ghost use Rattle.mx_turn.specs.Run.{run_of};
+ghost use Rattle.lab_command.specs.Runs.{loaded};
 
-use crate::given::word_given;
+use crate::given::Asked;
 use crate::printed::printed;
 use crate::runs::GivenRun;
-use clap::ArgMatches;
 use cmd_answer::{Failure, Reply, Status};
 use lab_explain::{Explained, explained_json, explained_text};
 use lab_measures::{Ran, Standing, run_machine, stand};
-use lab_watch::{Watcher, watched_pipe};
-use mx_icache::LineCache;
+use lab_watch::Watcher;
 use mx_io::Memory;
 use mx_lines::lines_of;
 use std::alloc::{AllocError, Global};
@@ -23,18 +19,17 @@ const STATEMENTS_AHEAD: u32 = 64;
 
 // What is told of a run and a meaning, in a form.
 fn told(
-    alloc: Global,
+    asked: &Asked,
     run: &GivenRun,
     standing: Standing,
     ran: Ran,
-    matches: &ArgMatches,
 ) -> Result<Vec<u8>, AllocError> {
-    let lines = lines_of(alloc, &run.program.text)?;
+    let lines = lines_of(asked.alloc, &run.program.text)?;
     let index = standing.index as usize;
     let line = run.program.source.lines().get(index).copied().unwrap_or(0);
     let place = line.saturating_sub(1) as usize;
     let explained = Explained {
-        file: word_given(matches, "SOURCE"),
+        file: asked.word("SOURCE"),
         standing,
         steps: run.budget.saturating_add(STATEMENTS_AHEAD),
         ran,
@@ -43,9 +38,9 @@ fn told(
         line,
         text: lines.get(place).copied().unwrap_or(&[]),
     };
-    match word_given(matches, "as") {
-        "json" => explained_json(alloc, &explained),
-        _ => explained_text(alloc, &explained),
+    match asked.word("as") {
+        "json" => explained_json(asked.alloc, &explained),
+        _ => explained_text(asked.alloc, &explained),
     }
 }
 
@@ -60,30 +55,23 @@ fn status_of(ran: &Ran) -> Status {
 
 // How the run of a linked source stands after its budget, under the shipped handler. A watcher is told how far it has come.
 fn source_run<W: Watcher>(alloc: Global, run: &GivenRun, watcher: W) -> Result<Ran, Memory>
-    ensures halted { IfOk result (λ r. r.halted ≡ (run_of
-        (program_of shipped run.now.program.linked.image.code.items run.now.program.linked.image.user_data.items
-        (given run.now.program.source.input run.now.stimulus.input.items)) run.now.stimulus.requests run.now.budget).halted) }
-    ensures cycles { IfOk result (λ r. r.cycles ≡ (run_of
-        (program_of shipped run.now.program.linked.image.code.items run.now.program.linked.image.user_data.items
-        (given run.now.program.source.input run.now.stimulus.input.items)) run.now.stimulus.requests run.now.budget).counts.cycles) }
+    ensures halted { IfOk result (λ r. r.halted ≡ (run_of (loaded run.now) run.now.stimulus.requests run.now.budget).halted) }
+    ensures cycles { IfOk result (λ r. r.cycles ≡ (run_of (loaded run.now) run.now.stimulus.requests run.now.budget).counts.cycles) }
 {
-    let image = &run.program.linked.image;
-    let input = run.asked_input();
-    let mut machine = watched_pipe(alloc, image, input, LineCache::new(), watcher)?;
+    let mut machine = run.pipe(alloc, watcher)?;
     let ran = run_machine(alloc, &mut machine, &run.stimulus.requests, run.budget)?;
     Ok(ran)
 }
 
 /// The reply to `explain SOURCE`.
 pub fn explain_reply<W: Watcher>(
-    alloc: Global,
-    matches: &ArgMatches,
+    asked: &Asked,
     run: &GivenRun,
     watcher: W,
 ) -> Result<Reply, Failure> {
     let steps = run.budget.saturating_add(STATEMENTS_AHEAD);
     let input = run.stimulus.input.as_slice();
-    let standing = stand(alloc, &run.program.source, input, steps)?;
-    let ran = source_run(alloc, run, watcher)?;
-    printed(status_of(&ran), told(alloc, run, standing, ran, matches))
+    let standing = stand(asked.alloc, &run.program.source, input, steps)?;
+    let ran = source_run(asked.alloc, run, watcher)?;
+    printed(status_of(&ran), told(asked, run, standing, ran))
 }

@@ -1,14 +1,18 @@
 //! What the words give.
 use clap::ArgMatches;
+use std::alloc::Global;
 
 /// The name of standard input, as a word and as a file.
 const STANDARD_INPUT: &str = "-";
 
 const STANDARD_INPUT_FILE: &str = "/dev/stdin";
 
-/// The number of an option that has a default.
-pub fn number_given(matches: &ArgMatches, name: &str) -> u32 {
-    matches.get_one::<u32>(name).unwrap_or(0)
+/// What is asked: a command by its name, its words, and memory for the reply.
+#[derive(Clone, Copy)]
+pub struct Asked<'a> {
+    pub alloc: Global,
+    pub name: &'a str,
+    pub matches: &'a ArgMatches<'a>,
 }
 
 /// The word of an option or a name; empty where there is none, which is the name of no file.
@@ -24,15 +28,37 @@ pub fn file_by<'a>(word: &'a str) -> &'a str {
     }
 }
 
-/// The file that a word names, if there is one.
-pub fn file_if_given<'a>(matches: &ArgMatches<'a>, name: &str) -> Option<&'a str> {
-    match matches.get_str(name) {
-        Some(word) => Some(file_by(word)),
-        None => None,
+impl<'a> Asked<'a> {
+    /// The number of an option that has a default.
+    pub fn number(&self, name: &str) -> u32 {
+        self.matches.get_one::<u32>(name).unwrap_or(0)
     }
-}
 
-/// The file that a word names; an empty name, which no file has, where there is none.
-pub fn file_given<'a>(matches: &ArgMatches<'a>, name: &str) -> &'a str {
-    file_if_given(matches, name).unwrap_or("")
+    /// The word of an option or a name; empty where there is none.
+    pub fn word(&self, name: &str) -> &'a str {
+        word_given(self.matches, name)
+    }
+
+    /// The names of sources, where a command takes several.
+    pub fn names(&self) -> &'a [&'a str] {
+        self.matches.get_strs("SOURCE").unwrap_or(&[])
+    }
+
+    /// Whether an option without a value is there.
+    pub fn flag(&self, name: &str) -> bool {
+        self.matches.get_flag(name)
+    }
+
+    /// The file that a word names, if there is one.
+    pub fn file_if_any(&self, name: &str) -> Option<&'a str> {
+        match self.matches.get_str(name) {
+            Some(word) => Some(file_by(word)),
+            None => None,
+        }
+    }
+
+    /// The file that a word names; an empty name, which no file has, where there is none.
+    pub fn file(&self, name: &str) -> &'a str {
+        self.file_if_any(name).unwrap_or("")
+    }
 }

@@ -14,6 +14,7 @@ mod plans;
 mod printed;
 mod profile;
 mod runs;
+mod stimulus;
 mod table;
 mod top;
 mod trace;

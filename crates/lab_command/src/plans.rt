@@ -2,10 +2,9 @@
 ghost use Rattle.std.specs.Prelude.{◌≤◌, length, IfOk};
 ghost use Rattle.mx_io.specs.declared.limits.TheConstants.{MAX_FILE_BYTES};
 
-use crate::given::{file_given, number_given};
+use crate::given::Asked;
 use crate::printed::{answered, printed, refused, unlinked};
-use crate::runs::{Stimulus, read_stimulus};
-use clap::ArgMatches;
+use crate::stimulus::{Stimulus, read_stimulus};
 use cmd_answer::{Failure, Reply, Status, line_reply};
 use cmd_source::read_source;
 use lab_plans::planned_reply;
@@ -77,40 +76,37 @@ fn run_by_plans<W: Watcher>(
 
 // The same with what the words give its run.
 fn run_given<S: Shelf, W: Watcher>(
-    alloc: Global,
+    asked: &Asked,
     shelf: &mut S,
-    matches: &ArgMatches,
     source: &Source,
     plans: &[PlanLine],
     watcher: W,
 ) -> Result<Reply, Failure> {
-    let stimulus = read_stimulus(alloc, shelf, matches)?;
-    let budget = number_given(matches, "budget");
-    run_by_plans(alloc, source, plans, &stimulus, budget, watcher)
+    let stimulus = read_stimulus(asked, shelf)?;
+    let budget = asked.number("budget");
+    run_by_plans(asked.alloc, source, plans, &stimulus, budget, watcher)
 }
 
 // The reply that runs a source by the plans of a file, or prints them.
 fn source_reply<S: Shelf, W: Watcher>(
-    alloc: Global,
+    asked: &Asked,
     shelf: &mut S,
-    matches: &ArgMatches,
     source: &Source,
     watcher: W,
 ) -> Result<Reply, Failure> {
-    if matches.get_flag("print") {
-        return printed(Status::Done, print_plans(alloc, source));
+    if asked.flag("print") {
+        return printed(Status::Done, print_plans(asked.alloc, source));
     }
-    let plans = plans_of(alloc, shelf, source, file_given(matches, "FILE"))?;
-    run_given(alloc, shelf, matches, source, plans.as_slice(), watcher)
+    let plans = plans_of(asked.alloc, shelf, source, asked.file("FILE"))?;
+    run_given(asked, shelf, source, plans.as_slice(), watcher)
 }
 
 /// The reply to `plans SOURCE FILE`, or to `plans SOURCE --print`.
 pub fn plans_reply<S: Shelf, W: Watcher>(
-    alloc: Global,
+    asked: &Asked,
     shelf: &mut S,
-    matches: &ArgMatches,
     watcher: W,
 ) -> Result<Reply, Failure> {
-    let source = read_source(alloc, shelf, file_given(matches, "SOURCE"))?;
-    source_reply(alloc, shelf, matches, &source, watcher)
+    let source = read_source(asked.alloc, shelf, asked.file("SOURCE"))?;
+    source_reply(asked, shelf, &source, watcher)
 }

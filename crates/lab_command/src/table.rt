@@ -318,7 +318,7 @@ const TRACE: [OptionRow; 4] = [
 const PLANS: [OptionRow; 3] = [BUDGET, INTERRUPTS, INPUT];
 
 /// The commands, in the order in which help tells them. Another one is added here and in `top.rt`.
-pub const COMMANDS: &[CommandRow] = &[
+pub static COMMANDS: [CommandRow; 10] = [
     CommandRow {
         name: "draw",
         about: "draws the instructions of a run by its cycles",

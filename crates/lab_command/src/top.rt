@@ -6,6 +6,7 @@ use crate::disassemble::disassemble_reply;
 use crate::draw::draw_reply;
 use crate::explain::explain_reply;
 use crate::failure::{Causes, error_text};
+use crate::given::Asked;
 use crate::interrupts::interrupts_reply;
 use crate::plans::plans_reply;
 use crate::profile::profile_reply;
@@ -29,40 +30,32 @@ fn status_of(kind: ErrorKind) -> Status {
 }
 
 // The reply of a command that tells of the run of a source.
-fn run_reply<W: Watcher>(
-    alloc: Global,
-    name: &str,
-    matches: &ArgMatches,
-    run: &GivenRun,
-    watcher: W,
-) -> Result<Reply, Failure> {
-    match name {
-        "draw" => draw_reply(alloc, matches, run, watcher),
-        "explain" => explain_reply(alloc, matches, run, watcher),
-        "profile" => profile_reply(alloc, matches, run, watcher),
-        "interrupts" => interrupts_reply(alloc, matches, run, watcher),
-        "trace" => trace_reply(alloc, matches, run, watcher),
+fn run_reply<W: Watcher>(asked: &Asked, run: &GivenRun, watcher: W) -> Result<Reply, Failure> {
+    match asked.name {
+        "draw" => draw_reply(asked, run, watcher),
+        "explain" => explain_reply(asked, run, watcher),
+        "profile" => profile_reply(asked, run, watcher),
+        "interrupts" => interrupts_reply(asked, run, watcher),
+        "trace" => trace_reply(asked, run, watcher),
         _ => Err(Failure::Memory),
     }
 }
 
 // The reply of a command. Another one is added here, or above, and in the table of commands.
 fn answered_by<S: Shelf, W: Watcher>(
-    alloc: Global,
-    name: &str,
-    matches: &ArgMatches,
+    asked: &Asked,
     shelf: &mut S,
     watcher: W,
 ) -> Result<Reply, Failure> {
-    match name {
-        "check" => check_reply(alloc, shelf, matches),
-        "compare" => compare_reply(alloc, shelf, matches, watcher),
-        "disassemble" => disassemble_reply(alloc, shelf, matches),
-        "caches" => caches_reply(alloc, shelf, matches, watcher),
-        "plans" => plans_reply(alloc, shelf, matches, watcher),
+    match asked.name {
+        "check" => check_reply(asked, shelf),
+        "compare" => compare_reply(asked, shelf, watcher),
+        "disassemble" => disassemble_reply(asked, shelf),
+        "caches" => caches_reply(asked, shelf, watcher),
+        "plans" => plans_reply(asked, shelf, watcher),
         _ => {
-            let run = read_run(alloc, shelf, matches)?;
-            run_reply(alloc, name, matches, &run, watcher)
+            let run = read_run(asked, shelf)?;
+            run_reply(asked, &run, watcher)
         }
     }
 }
@@ -128,6 +121,24 @@ fn words_answer<'a>(alloc: Global, error: &Error) -> Result<Answer<'a>, Memory> 
     }
 }
 
+// The answer of a command, where it has these words.
+fn command_answer<'a, S: Shelf, T: Watcher, C: Causes>(
+    alloc: Global,
+    name: &str,
+    matches: &ArgMatches<'a>,
+    shelf: &mut S,
+    watcher: T,
+    causes: C,
+) -> Result<Answer<'a>, Memory> {
+    let asked = Asked {
+        alloc,
+        name,
+        matches,
+    };
+    let reply = replied(answered_by(&asked, shelf, watcher))?;
+    answer_of(alloc, name, matches, reply, causes)
+}
+
 // The answer to the words.
 fn answer_to<'a, S: Shelf, T: Watcher, C: Causes>(
     alloc: Global,
@@ -138,10 +149,7 @@ fn answer_to<'a, S: Shelf, T: Watcher, C: Causes>(
 ) -> Result<Answer<'a>, Memory> {
     match parse_words(alloc, words) {
         Ok(matches) => match matches.subcommand() {
-            Some((name, found)) => {
-                let reply = replied(answered_by(alloc, name, found, shelf, watcher))?;
-                answer_of(alloc, name, found, reply, causes)
-            }
+            Some((name, found)) => command_answer(alloc, name, found, shelf, watcher, causes),
             None => Err(Memory),
         },
         Err(error) => words_answer(alloc, &error),

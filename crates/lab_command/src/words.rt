@@ -107,13 +107,21 @@ fn output_option<'a>(alloc: Global) -> Arg<'a> {
         .help("writes what is printed to a file")
 }
 
+// A command with one argument more, where there was memory for that.
+fn with_arg<'a>(
+    command: Command<'a>,
+    arg: Result<Arg<'a>, AllocError>,
+) -> Result<Command<'a>, AllocError> {
+    command.arg(arg?)
+}
+
 // A command with what stands behind it, before its options.
 fn named_command<'a>(alloc: Global, row: &CommandRow) -> Result<Command<'a>, AllocError> {
     let bare = Command::new(alloc, row.name)
         .about(row.about)
         .arg(first_arg(alloc, row.names))?;
     if row.names == Names::Plans {
-        return bare.arg(plans_arg(alloc)?)?.arg(print_flag(alloc)?);
+        return with_arg(with_arg(bare, plans_arg(alloc))?, print_flag(alloc));
     }
     Ok(bare)
 }
@@ -142,7 +150,7 @@ fn command_line<'a>(alloc: Global, rows: &[CommandRow]) -> Result<Command<'a>, A
 
 /// What the words say.
 pub fn parse_words<'a>(alloc: Global, words: &'a [String]) -> Result<ArgMatches<'a>, clap::Error> {
-    command_line(alloc, COMMANDS)?
+    command_line(alloc, &COMMANDS)?
         .no_binary_name(true)
         .try_get_matches_from(words)
 }

@@ -1,6 +1,7 @@
 //! What a run cost, in the format of callgrind.
 use crate::grouping::{By, Grouping, grouping_by};
 use crate::positions::{Positions, positions_of};
+use crate::shown::Text;
 use crate::subject::Subject;
 use lab_profile::{Called, Calls, LineCost};
 use mx_isa::CODE_BASE;
@@ -120,27 +121,24 @@ impl<'a> Names<'a> {
 }
 
 // Appends a file or a function that what follows belongs to.
-fn push_name(text: &mut Vec<u8>, word: &[u8], name: &[u8]) -> Result<(), AllocError> {
-    text.extend_from_slice(word)?;
-    text.extend_from_slice(name)?;
-    text.push(b'\n')?;
-    Ok(())
+fn push_name(text: &mut Text, word: &[u8], name: &[u8]) -> Result<(), AllocError> {
+    text.push(word)?;
+    text.push_last(name)
 }
 
 // Appends numbers, a blank before each, and the end of the line.
-fn push_numbers(alloc: Global, text: &mut Vec<u8>, numbers: &[u64]) -> Result<(), AllocError> {
+fn push_numbers(text: &mut Text, numbers: &[u64]) -> Result<(), AllocError> {
     for number in numbers {
-        text.push(b' ')?;
-        push_decimal(alloc, text, *number)?;
+        text.push(b" ")?;
+        push_decimal(text.alloc, &mut text.bytes, *number)?;
     }
-    text.push(b'\n')?;
-    Ok(())
+    text.push(b"\n")
 }
 
 // Appends a line of numbers.
-fn push_row(alloc: Global, text: &mut Vec<u8>, first: u64, rest: &[u64]) -> Result<(), AllocError> {
-    push_decimal(alloc, text, first)?;
-    push_numbers(alloc, text, rest)
+fn push_row(text: &mut Text, first: u64, rest: &[u64]) -> Result<(), AllocError> {
+    push_decimal(text.alloc, &mut text.bytes, first)?;
+    push_numbers(text, rest)
 }
 
 // The numbers of a cost, by columns.
@@ -156,45 +154,34 @@ fn columns_of(cost: &LineCost) -> [u64; 6] {
 }
 
 // Appends a cost.
-fn push_cost(
-    alloc: Global,
-    text: &mut Vec<u8>,
-    line: u32,
-    cost: &LineCost,
-) -> Result<(), AllocError> {
-    push_row(alloc, text, u64::from(line), &columns_of(cost))
+fn push_cost(text: &mut Text, line: u32, cost: &LineCost) -> Result<(), AllocError> {
+    push_row(text, u64::from(line), &columns_of(cost))
 }
 
 // Appends the file and the function of what follows.
-fn push_place(text: &mut Vec<u8>, file: &[u8], function: &[u8]) -> Result<(), AllocError> {
+fn push_place(text: &mut Text, file: &[u8], function: &[u8]) -> Result<(), AllocError> {
     push_name(text, b"fl=", file)?;
     push_name(text, b"fn=", function)
 }
 
 // Appends what a statement cost by itself.
 fn push_own_cost(
-    alloc: Global,
-    text: &mut Vec<u8>,
+    text: &mut Text,
     names: &Names,
     statement: u32,
     cost: &LineCost,
 ) -> Result<(), AllocError> {
     let place = names.place(statement);
     push_place(text, place.file, names.function(statement))?;
-    push_cost(alloc, text, place.line, cost)
+    push_cost(text, place.line, cost)
 }
 
 // Appends what the statements cost by themselves.
-fn push_own_costs(
-    alloc: Global,
-    text: &mut Vec<u8>,
-    names: &Names,
-    costs: &[LineCost],
-) -> Result<(), AllocError> {
+fn push_own_costs(text: &mut Text, names: &Names, costs: &[LineCost]) -> Result<(), AllocError> {
     let mut statement = 0u32;
     for cost in costs {
         if cost.cycles > 0 {
-            push_own_cost(alloc, text, names, statement, cost)?;
+            push_own_cost(text, names, statement, cost)?;
         }
         statement = statement.saturating_add(1);
     }
@@ -202,23 +189,16 @@ fn push_own_costs(
 }
 
 // Appends how often a line calls another, and what that cost.
-fn push_called(
-    alloc: Global,
-    text: &mut Vec<u8>,
-    site: u32,
-    target: u32,
-    called: Called,
-) -> Result<(), AllocError> {
-    text.extend_from_slice(b"calls=")?;
-    push_row(alloc, text, called.count, &[u64::from(target)])?;
+fn push_called(text: &mut Text, site: u32, target: u32, called: Called) -> Result<(), AllocError> {
+    text.push(b"calls=")?;
+    push_row(text, called.count, &[u64::from(target)])?;
     let costs = [called.cycles, called.executed];
-    push_row(alloc, text, u64::from(site), &costs)
+    push_row(text, u64::from(site), &costs)
 }
 
 // Appends what calls from one statement to another cost.
 fn push_call(
-    alloc: Global,
-    text: &mut Vec<u8>,
+    text: &mut Text,
     names: &Names,
     from: u32,
     to: u32,
@@ -228,16 +208,11 @@ fn push_call(
     push_place(text, site.file, names.function(from))?;
     push_name(text, b"cfl=", names.file(to))?;
     push_name(text, b"cfn=", names.function(to))?;
-    push_called(alloc, text, site.line, names.place(to).line, called)
+    push_called(text, site.line, names.place(to).line, called)
 }
 
 // Appends what the calls cost.
-fn push_calls(
-    alloc: Global,
-    text: &mut Vec<u8>,
-    names: &Names,
-    calls: &Calls,
-) -> Result<(), AllocError> {
+fn push_calls(text: &mut Text, names: &Names, calls: &Calls) -> Result<(), AllocError> {
     for index in 0..calls.costs.len() {
         let Some((ends, called)) = calls.costs.get_index(index) else {
             continue;
@@ -245,46 +220,41 @@ fn push_calls(
         let from = names.statement_at(ends.0);
         let to = names.statement_at(ends.1);
         if let (Some(from), Some(to)) = (from, to) {
-            push_call(alloc, text, names, from, to, *called)?;
+            push_call(text, names, from, to, *called)?;
         }
     }
     Ok(())
 }
 
 // Appends a cost that comes from no statement.
-fn push_rest(
-    alloc: Global,
-    text: &mut Vec<u8>,
-    name: &[u8],
-    cost: &LineCost,
-) -> Result<(), AllocError> {
+fn push_rest(text: &mut Text, name: &[u8], cost: &LineCost) -> Result<(), AllocError> {
     if cost.cycles == 0 {
         return Ok(());
     }
     push_place(text, b"???", name)?;
-    push_cost(alloc, text, 0, cost)
+    push_cost(text, 0, cost)
 }
 
 // Appends what stands before the costs.
-fn push_head(
-    alloc: Global,
-    text: &mut Vec<u8>,
-    file: &str,
-    together: &LineCost,
-) -> Result<(), AllocError> {
-    text.extend_from_slice(HEAD.as_bytes())?;
-    push_named(text, b"cmd:", file.as_bytes())?;
-    text.extend_from_slice(EVENTS.as_bytes())?;
-    text.extend_from_slice(b"summary:")?;
-    push_numbers(alloc, text, &columns_of(together))
+fn push_head(text: &mut Text, file: &str, together: &LineCost) -> Result<(), AllocError> {
+    text.push(HEAD.as_bytes())?;
+    push_named(&mut text.bytes, b"cmd:", file.as_bytes())?;
+    text.push(EVENTS.as_bytes())?;
+    text.push(b"summary:")?;
+    push_numbers(text, &columns_of(together))
+}
+
+// The lines of C, if it is by these that costs are told.
+fn positions_by(alloc: Global, text: &[u8], by: By) -> Result<Positions, AllocError> {
+    match by {
+        By::C => positions_of(alloc, text),
+        _ => Ok(Positions::new(alloc)),
+    }
 }
 
 // What places and functions are found by, with the lines of C if it is by these that costs are told.
 fn names_of<'a>(alloc: Global, subject: &Subject<'a>, by: By) -> Result<Names<'a>, AllocError> {
-    let positions = match by {
-        By::C => positions_of(alloc, subject.text)?,
-        _ => Positions::new(alloc),
-    };
+    let positions = positions_by(alloc, subject.text, by)?;
     let functions = grouping_by(alloc, subject, By::Function)?;
     let files = files_of(alloc, subject.source.lines(), &functions, &positions)?;
     Ok(Names {
@@ -297,18 +267,29 @@ fn names_of<'a>(alloc: Global, subject: &Subject<'a>, by: By) -> Result<Names<'a
 
 // Appends all of it, where these are the costs of the statements.
 fn push_profile(
-    alloc: Global,
-    text: &mut Vec<u8>,
+    text: &mut Text,
     names: &Names,
     calls: &Calls,
     costs: &[LineCost],
 ) -> Result<(), AllocError> {
     let subject = &names.subject;
-    push_head(alloc, text, subject.file, &subject.together(costs))?;
-    push_own_costs(alloc, text, names, costs)?;
-    push_calls(alloc, text, names, calls)?;
-    push_rest(alloc, text, b"the handler", &subject.handler())?;
-    push_rest(alloc, text, b"behind the code", &subject.behind())
+    push_head(text, subject.file, &subject.together(costs))?;
+    push_own_costs(text, names, costs)?;
+    push_calls(text, names, calls)?;
+    push_rest(text, b"the handler", &subject.handler())?;
+    push_rest(text, b"behind the code", &subject.behind())
+}
+
+// The same as a text.
+fn text_of(
+    alloc: Global,
+    names: &Names,
+    calls: &Calls,
+    costs: &[LineCost],
+) -> Result<Vec<u8>, AllocError> {
+    let mut text = Text::new(alloc);
+    push_profile(&mut text, names, calls, costs)?;
+    Ok(text.bytes)
 }
 
 /// What a run cost and which calls it made, in the format of callgrind, by the lines of the source or by those of C. A function
@@ -321,7 +302,5 @@ pub fn callgrind(
 ) -> Result<Vec<u8>, AllocError> {
     let costs = subject.statement_costs(alloc)?;
     let names = names_of(alloc, subject, by)?;
-    let mut text = Vec::new(alloc);
-    push_profile(alloc, &mut text, &names, calls, costs.as_slice())?;
-    Ok(text)
+    text_of(alloc, &names, calls, costs.as_slice())
 }

@@ -1,8 +1,35 @@
 //! Numbers and bytes as they are shown.
+use lab_json::{Ratio, push_ratio};
 use std::alloc::{AllocError, Global};
 
-/// What stands in a column where there is no number, as wide as the shares and the ratios.
-const NONE: &str = "      -";
+/// What stands in a column where there is no number.
+const NONE: &str = "-";
+
+/// A text that grows, and memory for it.
+#[derive(Drop)]
+pub(crate) struct Text {
+    pub alloc: Global,
+    pub bytes: Vec<u8>,
+}
+
+impl Text {
+    /// An empty text.
+    pub(crate) fn new(alloc: Global) -> Text {
+        let bytes = Vec::new(alloc);
+        Text { alloc, bytes }
+    }
+
+    /// Appends bytes.
+    pub(crate) fn push(&mut self, bytes: &[u8]) -> Result<(), AllocError> {
+        self.bytes.extend_from_slice(bytes)
+    }
+
+    /// Appends the last bytes of a line, and its end.
+    pub(crate) fn push_last(&mut self, bytes: &[u8]) -> Result<(), AllocError> {
+        self.push(bytes)?;
+        self.push(b"\n")
+    }
+}
 
 /// Appends numbers, a blank before each, in columns of these widths.
 pub(crate) fn push_columns(cells: &mut String, columns: &[(u64, usize)]) -> Result<(), AllocError> {
@@ -17,28 +44,10 @@ fn push_column(cells: &mut String, number: u64, width: usize) -> Result<(), Allo
     write!(cells, " {number:>width$}")
 }
 
-/// Appends a column with a part of a whole in per cent, rounded to a tenth; `-` where there is no whole.
-pub(crate) fn push_share(cells: &mut String, part: u64, whole: u64) -> Result<(), AllocError> {
-    let thousands = part.saturating_mul(1000).saturating_add(whole / 2);
-    match thousands.checked_div(whole) {
-        Some(tenths) => {
-            let (ones, tenth) = (tenths / 10, tenths % 10);
-            write!(cells, " {ones:>4}.{tenth}")
-        }
-        None => cells.push_str(NONE),
-    }
-}
-
-/// Appends a column with the cycles for each of so many executed statements, rounded to a hundredth; `-` where there are none.
-pub(crate) fn push_ratio(cells: &mut String, cycles: u64, count: u64) -> Result<(), AllocError> {
-    let hundreds = cycles.saturating_mul(100).saturating_add(count / 2);
-    match hundreds.checked_div(count) {
-        Some(hundredths) => {
-            let (ones, rest) = (hundredths / 100, hundredths % 100);
-            write!(cells, " {ones:>3}.{rest:02}")
-        }
-        None => cells.push_str(NONE),
-    }
+/// Appends a column with a part of a whole in per cent, or with the cycles for each of so many executed statements; `-` where there
+/// is no whole.
+pub(crate) fn push_quotient(cells: &mut String, quotient: Ratio) -> Result<(), AllocError> {
+    push_ratio(cells, quotient, 6, NONE)
 }
 
 /// Bytes as a text: as UTF-8, or where they are none, each as the character of its number.

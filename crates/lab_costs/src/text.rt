@@ -1,10 +1,11 @@
 //! What a run cost, as a text.
 use crate::grouping::By;
 use crate::rows::{Row, rows_by};
-use crate::shown::{push_columns, push_ratio, push_share};
+use crate::shown::{Text, push_columns, push_quotient};
 use crate::spans::lines_of;
 use crate::spent::spent_in;
 use crate::subject::Subject;
+use lab_json::Ratio;
 use lab_profile::{Column, LineCost, Profile, Spent};
 use mx_isa::CODE_BASE;
 use mx_link::Origin;
@@ -39,8 +40,8 @@ fn push_line_column(cells: &mut String, line: u32) -> Result<(), AllocError> {
 fn push_cells(cells: &mut String, line: u32, cost: &LineCost, all: u64) -> Result<(), AllocError> {
     push_line_column(cells, line)?;
     push_columns(cells, &[(cost.executed, 9), (cost.cycles, 9)])?;
-    push_share(cells, cost.cycles, all)?;
-    push_ratio(cells, cost.cycles, cost.executed)?;
+    push_quotient(cells, Ratio::Percent(cost.cycles, all))?;
+    push_quotient(cells, Ratio::Plain(cost.cycles, cost.executed))?;
     let rest = [
         (cost.stalls, 8),
         (cost.noops, 7),
@@ -51,44 +52,28 @@ fn push_cells(cells: &mut String, line: u32, cost: &LineCost, all: u64) -> Resul
     cells.push_str("  ")
 }
 
-// Appends the last bytes of a line, and its end.
-fn push_last(text: &mut Vec<u8>, bytes: &[u8]) -> Result<(), AllocError> {
-    text.extend_from_slice(bytes)?;
-    text.push(b'\n')?;
-    Ok(())
-}
-
 // Appends the columns of a row, and what it is named by.
 fn push_row(
-    alloc: Global,
-    text: &mut Vec<u8>,
+    text: &mut Text,
     line: u32,
     cost: &LineCost,
     all: u64,
     name: &[u8],
 ) -> Result<(), AllocError> {
-    let mut cells = String::new(alloc);
+    let mut cells = String::new(text.alloc);
     push_cells(&mut cells, line, cost, all)?;
-    text.extend_from_slice(cells.as_bytes())?;
-    push_last(text, name)
+    text.push(cells.as_bytes())?;
+    text.push_last(name)
 }
 
 // Appends the row of a part of the source.
 fn push_part_row(
-    alloc: Global,
-    text: &mut Vec<u8>,
+    text: &mut Text,
     subject: &Subject,
     row: &Row,
     all: u64,
 ) -> Result<(), AllocError> {
-    push_row(
-        alloc,
-        text,
-        row.line,
-        &row.cost,
-        all,
-        row.name.bytes(subject),
-    )
+    push_row(text, row.line, &row.cost, all, row.name.bytes(subject))
 }
 
 // The copies of the code, by their statements: a statement and the address of a copy of it.
@@ -127,7 +112,7 @@ fn copies_to(copies: &[(u32, u32)], from: usize, statement: usize) -> usize {
 
 // Appends the addresses of the copies from one index up to another.
 fn push_copies(
-    text: &mut Vec<u8>,
+    text: &mut Text,
     copies: &[(u32, u32)],
     from: usize,
     to: usize,
@@ -138,28 +123,26 @@ fn push_copies(
     if copies.is_empty() {
         return Ok(());
     }
-    text.extend_from_slice(GAP)?;
-    text.extend_from_slice(b"copies at")?;
+    text.push(GAP)?;
+    text.push(b"copies at")?;
     for (_, address) in copies {
-        text.extend_from_slice(b" 0x")?;
-        push_word(text, *address)?;
+        text.push(b" 0x")?;
+        push_word(&mut text.bytes, *address)?;
     }
-    text.push(b'\n')?;
-    Ok(())
+    text.push(b"\n")
 }
 
 // Appends a line of the source that has no statement; an empty one is left empty.
-fn push_bare_line(text: &mut Vec<u8>, line: &[u8]) -> Result<(), AllocError> {
+fn push_bare_line(text: &mut Text, line: &[u8]) -> Result<(), AllocError> {
     if !line.is_empty() {
-        text.extend_from_slice(GAP)?;
+        text.push(GAP)?;
     }
-    push_last(text, line)
+    text.push_last(line)
 }
 
 // Appends all lines of the source, with the rows of those that have statements, and the addresses of the copies of them.
 fn push_lines(
-    alloc: Global,
-    text: &mut Vec<u8>,
+    text: &mut Text,
     subject: &Subject,
     rows: &[Row],
     copies: &[(u32, u32)],
@@ -173,7 +156,7 @@ fn push_lines(
         let next = statements_to(lines, statement, number);
         let row = if statement < next { rows.next() } else { None };
         match row {
-            Some(row) => push_part_row(alloc, text, subject, row, all)?,
+            Some(row) => push_part_row(text, subject, row, all)?,
             None => push_bare_line(text, line)?,
         }
         let next_copy = copies_to(copies, copy, next);
@@ -186,14 +169,13 @@ fn push_lines(
 
 // Appends the source, with the rows and the copies of its statements.
 fn push_source(
-    alloc: Global,
-    text: &mut Vec<u8>,
+    text: &mut Text,
     subject: &Subject,
     rows: &[Row],
     all: u64,
 ) -> Result<(), AllocError> {
-    let copies = copies_in(alloc, subject.origin())?;
-    push_lines(alloc, text, subject, rows, copies.as_slice(), all)
+    let copies = copies_in(text.alloc, subject.origin())?;
+    push_lines(text, subject, rows, copies.as_slice(), all)
 }
 
 // What stands at the head of the last column.
@@ -209,12 +191,12 @@ fn named_by(by: By) -> &'static str {
 // Appends one line of what cycles were spent on.
 fn push_part(parts: &mut String, part: u64, all: u64, on: &str) -> Result<(), AllocError> {
     write!(parts, "{part:>16}")?;
-    push_share(parts, part, all)?;
+    push_quotient(parts, Ratio::Percent(part, all))?;
     write!(parts, "  {on}\n")
 }
 
 // Appends what the cycles were spent on.
-fn push_spent(alloc: Global, text: &mut Vec<u8>, on: Spent) -> Result<(), AllocError> {
+fn push_spent(text: &mut Text, on: Spent) -> Result<(), AllocError> {
     let all = on.together();
     let told = [
         (on.instructions, "instructions"),
@@ -225,53 +207,43 @@ fn push_spent(alloc: Global, text: &mut Vec<u8>, on: Spent) -> Result<(), AllocE
         (on.misses, "waiting for a miss"),
         (all, "together"),
     ];
-    let mut parts = String::from_str(alloc, SPENT)?;
+    let mut parts = String::from_str(text.alloc, SPENT)?;
     for (part, words) in told {
         push_part(&mut parts, part, all, words)?;
     }
-    text.extend_from_slice(parts.as_bytes())
+    text.push(parts.as_bytes())
 }
 
 // Appends the counts of the run.
-fn push_sums(
-    alloc: Global,
-    text: &mut Vec<u8>,
-    profile: &Profile,
-    noops: u64,
-) -> Result<(), AllocError> {
+fn push_sums(text: &mut Text, profile: &Profile, noops: u64) -> Result<(), AllocError> {
     let end = if profile.halted {
         "halted\n"
     } else {
         "out of budget\n"
     };
-    text.extend_from_slice(end.as_bytes())?;
-    push_counts(alloc, text, &profile.counts)?;
-    push_count(alloc, text, "waiting", profile.waiting)?;
-    push_count(alloc, text, "noops passed", noops)
+    text.push(end.as_bytes())?;
+    push_counts(text.alloc, &mut text.bytes, &profile.counts)?;
+    push_count(text.alloc, &mut text.bytes, "waiting", profile.waiting)?;
+    push_count(text.alloc, &mut text.bytes, "noops passed", noops)
 }
 
 // Appends the rows of what comes from no statement, and that of all.
-fn push_rest(
-    alloc: Global,
-    text: &mut Vec<u8>,
-    subject: &Subject,
-    together: LineCost,
-) -> Result<(), AllocError> {
+fn push_rest(text: &mut Text, subject: &Subject, together: LineCost) -> Result<(), AllocError> {
     let rest = [
         (subject.handler(), "the handler"),
         (subject.behind(), "behind the code"),
         (together, "together"),
     ];
     for (cost, name) in rest {
-        push_row(alloc, text, 0, &cost, together.cycles, name.as_bytes())?;
+        push_row(text, 0, &cost, together.cycles, name.as_bytes())?;
     }
     Ok(())
 }
 
 // Appends the head of the table.
-fn push_head(text: &mut Vec<u8>, by: By) -> Result<(), AllocError> {
-    text.extend_from_slice(HEAD.as_bytes())?;
-    text.extend_from_slice(named_by(by).as_bytes())
+fn push_head(text: &mut Text, by: By) -> Result<(), AllocError> {
+    text.push(HEAD.as_bytes())?;
+    text.push(named_by(by).as_bytes())
 }
 
 /// What a run cost, and how that is printed.
@@ -285,33 +257,33 @@ struct Table<'a> {
 }
 
 // Appends the rows of the parts of the source.
-fn push_table(alloc: Global, text: &mut Vec<u8>, table: &Table) -> Result<(), AllocError> {
+fn push_table(text: &mut Text, table: &Table) -> Result<(), AllocError> {
     let (subject, costs) = (table.subject, table.costs);
     let all = subject.together(costs).cycles;
-    let rows = rows_by(alloc, subject, costs, table.by, table.column)?;
+    let rows = rows_by(text.alloc, subject, costs, table.by, table.column)?;
     if table.by == By::Line && table.column == Column::Line {
-        return push_source(alloc, text, subject, rows.as_slice(), all);
+        return push_source(text, subject, rows.as_slice(), all);
     }
     for row in rows.iter() {
-        push_part_row(alloc, text, subject, row, all)?;
+        push_part_row(text, subject, row, all)?;
     }
     Ok(())
 }
 
 // Appends what stands behind the table.
-fn push_end(alloc: Global, text: &mut Vec<u8>, table: &Table) -> Result<(), AllocError> {
+fn push_end(text: &mut Text, table: &Table) -> Result<(), AllocError> {
     let (subject, costs) = (table.subject, table.costs);
     let together = subject.together(costs);
-    push_rest(alloc, text, subject, together)?;
-    push_spent(alloc, text, spent_in(subject, costs))?;
-    push_sums(alloc, text, subject.profile, together.noops)
+    push_rest(text, subject, together)?;
+    push_spent(text, spent_in(subject, costs))?;
+    push_sums(text, subject.profile, together.noops)
 }
 
 // Appends all of it.
-fn push_profile(alloc: Global, text: &mut Vec<u8>, table: &Table) -> Result<(), AllocError> {
+fn push_profile(text: &mut Text, table: &Table) -> Result<(), AllocError> {
     push_head(text, table.by)?;
-    push_table(alloc, text, table)?;
-    push_end(alloc, text, table)
+    push_table(text, table)?;
+    push_end(text, table)
 }
 
 /// What a run cost, by parts of its source in the order of a column, and the sums.
@@ -322,13 +294,13 @@ pub fn profile_text(
     column: Column,
 ) -> Result<Vec<u8>, AllocError> {
     let costs = subject.statement_costs(alloc)?;
-    let mut text = Vec::new(alloc);
+    let mut text = Text::new(alloc);
     let table = Table {
         subject,
         costs: costs.as_slice(),
         by,
         column,
     };
-    push_profile(alloc, &mut text, &table)?;
-    Ok(text)
+    push_profile(&mut text, &table)?;
+    Ok(text.bytes)
 }

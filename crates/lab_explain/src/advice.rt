@@ -1,17 +1,11 @@
 //! Why a meaning is stuck, and what helps.
 
+use cmd_meaning::why_text;
 use mx_source::Why;
 
 /// The name of a reason, as `meaning` prints it.
 pub fn name_of(why: Why) -> &'static str {
-    match why {
-        Why::PastEnd => "PastEnd",
-        Why::CodeOperand => "CodeOperand",
-        Why::LoadOutside => "LoadOutside",
-        Why::StoreOutside => "StoreOutside",
-        Why::CodeToConsole => "CodeToConsole",
-        Why::JumpNotCode => "JumpNotCode",
-    }
+    why_text(why)
 }
 
 /// The reason, in a sentence.

@@ -1,5 +1,5 @@
 //! Members of objects, as they are written.
-use serde::Serializer;
+use serde::{Serialize, Serializer};
 
 /// What a member is.
 #[derive(Clone, Copy)]
@@ -26,7 +26,7 @@ impl Value<'_> {
 }
 
 // Writes a list of numbers.
-fn write_list<S: Serializer>(out: &mut S, numbers: &[u64]) -> Result<(), S::Error> {
+fn write_counted<S: Serializer>(out: &mut S, numbers: &[u64]) -> Result<(), S::Error> {
     out.begin_seq(Some(numbers.len()))?;
     for number in numbers {
         out.u64(*number)?;
@@ -49,7 +49,7 @@ fn write_value<S: Serializer>(out: &mut S, value: Value) -> Result<(), S::Error>
         Value::Number(number) => out.u64(number),
         Value::Signed(number) => out.i64(number),
         Value::Text(text) => out.str(text),
-        Value::Numbers(numbers) => write_list(out, numbers),
+        Value::Numbers(numbers) => write_counted(out, numbers),
         Value::Object(numbers) => write_numbered(out, numbers),
     }
 }
@@ -71,6 +71,20 @@ pub fn write_record<S: Serializer>(out: &mut S, members: &[(&str, Value)]) -> Re
     out.begin_map(Some(members.len()))?;
     write_members(out, members)?;
     out.end_map()
+}
+
+/// Writes a member that is a list.
+pub fn write_list<S: Serializer, T: Serialize>(
+    out: &mut S,
+    name: &str,
+    list: &[T],
+) -> Result<(), S::Error> {
+    out.key(name)?;
+    out.begin_seq(Some(list.len()))?;
+    for one in list {
+        one.serialize(out)?;
+    }
+    out.end_seq()
 }
 
 /// Writes a member that is a text.

@@ -1,6 +1,6 @@
 //! A drawing as a text of 100 columns, in bands of sixteen cycles.
 use crate::ending::push_ending;
-use crate::label::{push_address, push_fitted_word, push_origin};
+use crate::label::{push_address, push_fitted_word};
 use crate::marks::{cell_of, end_of, stage_name, without};
 use crate::subject::Subject;
 use crate::whole::bytes_of;
@@ -48,68 +48,14 @@ fn end_line(text: &mut String, line: &str) -> Result<(), AllocError> {
 }
 
 // Whether a row shows something in a band.
-fn is_seen(row: &Row, begins: usize, count: usize) -> bool {
+fn is_seen(row: &Row, begins: usize, end: usize) -> bool {
     let mut seen = false;
-    for place in begins..begins.saturating_add(count) {
+    for place in begins..end {
         if cell_of(row, place) != Cell::Nothing {
             seen = true;
         }
     }
     seen
-}
-
-// Appends the word at an address, and blanks up to the next column.
-fn push_word_column(
-    alloc: Global,
-    line: &mut String,
-    subject: &Subject,
-    address: Option<u32>,
-) -> Result<(), AllocError> {
-    let mut word = String::new(alloc);
-    push_fitted_word(alloc, &mut word, subject, address, WORD)?;
-    write!(line, " {word:<20} ")
-}
-
-// Appends where the word at an address comes from, behind blanks.
-fn push_origin_column(
-    alloc: Global,
-    line: &mut String,
-    subject: &Subject,
-    address: Option<u32>,
-) -> Result<(), AllocError> {
-    let mut origin = String::new(alloc);
-    push_origin(&mut origin, subject, address)?;
-    write!(line, "{origin:>5} ")
-}
-
-// Appends the label of a row, and its cells in a band.
-fn push_columns(
-    alloc: Global,
-    line: &mut String,
-    subject: &Subject,
-    row: &Row,
-    band: Range<usize>,
-) -> Result<(), AllocError> {
-    push_address(line, row.address)?;
-    push_word_column(alloc, line, subject, row.address)?;
-    push_origin_column(alloc, line, subject, row.address)?;
-    for place in band {
-        push_cell(line, cell_of(row, place))?;
-    }
-    Ok(())
-}
-
-// Appends the line of a row in a band.
-fn push_row(
-    alloc: Global,
-    text: &mut String,
-    subject: &Subject,
-    row: &Row,
-    band: Range<usize>,
-) -> Result<(), AllocError> {
-    let mut line = String::new(alloc);
-    push_columns(alloc, &mut line, subject, row, band)?;
-    end_line(text, line.as_str())
 }
 
 // Appends what stands before the cycles' numbers.
@@ -209,52 +155,101 @@ fn push_bytes(alloc: Global, text: &mut String, frames: &[Frame]) -> Result<(), 
     end_line(text, line.as_str())
 }
 
-// Appends the lines of the rows in a band.
-fn push_rows(
-    alloc: Global,
-    text: &mut String,
-    subject: &Subject,
-    rows: &[Row],
-    begins: usize,
-    count: usize,
-) -> Result<(), AllocError> {
-    let end = begins.saturating_add(count);
-    for row in rows {
-        if row.begins >= end {
-            return Ok(());
-        }
-        if is_seen(row, begins, count) {
-            push_row(alloc, text, subject, row, begins..end)?;
-        }
-    }
-    Ok(())
-}
-
 // How many rows at the front end before a place.
 fn ended_before(rows: &[Row], place: usize) -> usize {
     rows.iter().take_while(|row| end_of(row) <= place).count()
 }
 
-// Appends the bands.
-fn push_bands(
+/// A drawing that is told in bands, and memory for its lines.
+#[derive(Clone, Copy)]
+struct Bands<'a> {
     alloc: Global,
-    text: &mut String,
-    subject: &Subject,
-    rows: &[Row],
-) -> Result<(), AllocError> {
-    let frames = subject.drawing.frames.as_slice();
-    let mut left = rows;
-    for (band, shown) in frames.chunks(COLUMNS).enumerate() {
-        let begins = band.saturating_mul(COLUMNS);
-        left = without(left, ended_before(left, begins));
-        let first = u64::from(subject.from).saturating_add(begins as u64);
-        push_numbers(alloc, text, first, shown.len())?;
-        push_events(alloc, text, shown)?;
-        push_bytes(alloc, text, shown)?;
-        push_rows(alloc, text, subject, left, begins, shown.len())?;
-        text.push('\n')?;
+    subject: &'a Subject<'a>,
+}
+
+impl Bands<'_> {
+    // Appends the word at an address, and blanks up to the next column.
+    fn push_word(&self, line: &mut String, address: Option<u32>) -> Result<(), AllocError> {
+        let mut word = String::new(self.alloc);
+        push_fitted_word(self.alloc, &mut word, self.subject, address, WORD)?;
+        write!(line, " {word:<20} ")
     }
-    Ok(())
+
+    // Appends where the word at an address comes from, behind blanks.
+    fn push_origin(&self, line: &mut String, address: Option<u32>) -> Result<(), AllocError> {
+        let mut origin = String::new(self.alloc);
+        self.subject.push_origin(&mut origin, address)?;
+        write!(line, "{origin:>5} ")
+    }
+
+    // Appends the label of a row, and its cells in a band.
+    fn push_columns(
+        &self,
+        line: &mut String,
+        row: &Row,
+        band: Range<usize>,
+    ) -> Result<(), AllocError> {
+        push_address(line, row.address)?;
+        self.push_word(line, row.address)?;
+        self.push_origin(line, row.address)?;
+        for place in band {
+            push_cell(line, cell_of(row, place))?;
+        }
+        Ok(())
+    }
+
+    // Appends the line of a row in a band.
+    fn push_row(&self, text: &mut String, row: &Row, band: Range<usize>) -> Result<(), AllocError> {
+        let mut line = String::new(self.alloc);
+        self.push_columns(&mut line, row, band)?;
+        end_line(text, line.as_str())
+    }
+
+    // Appends the lines of the rows in a band.
+    fn push_rows(
+        &self,
+        text: &mut String,
+        rows: &[Row],
+        band: Range<usize>,
+    ) -> Result<(), AllocError> {
+        for row in rows {
+            if row.begins >= band.end {
+                return Ok(());
+            }
+            if is_seen(row, band.start, band.end) {
+                self.push_row(text, row, band.start..band.end)?;
+            }
+        }
+        Ok(())
+    }
+
+    // Appends the band from a place on, with the rows that have not ended before it.
+    fn push_band(
+        &self,
+        text: &mut String,
+        rows: &[Row],
+        begins: usize,
+        shown: &[Frame],
+    ) -> Result<(), AllocError> {
+        let first = u64::from(self.subject.from).saturating_add(begins as u64);
+        push_numbers(self.alloc, text, first, shown.len())?;
+        push_events(self.alloc, text, shown)?;
+        push_bytes(self.alloc, text, shown)?;
+        self.push_rows(text, rows, begins..begins.saturating_add(shown.len()))?;
+        text.push('\n')
+    }
+
+    // Appends the bands.
+    fn push_bands(&self, text: &mut String, rows: &[Row]) -> Result<(), AllocError> {
+        let frames = self.subject.drawing.frames.as_slice();
+        let mut left = rows;
+        for (band, shown) in frames.chunks(COLUMNS).enumerate() {
+            let begins = band.saturating_mul(COLUMNS);
+            left = without(left, ended_before(left, begins));
+            self.push_band(text, left, begins, shown)?;
+        }
+        Ok(())
+    }
 }
 
 // Appends the whole text.
@@ -264,7 +259,7 @@ fn push_text(
     subject: &Subject,
     rows: &[Row],
 ) -> Result<(), AllocError> {
-    push_bands(alloc, text, subject, rows)?;
+    Bands { alloc, subject }.push_bands(text, rows)?;
     text.push_str(
         "IF RF ALU MEM WB: the stages; .. waits for the cache; * squashed; ! killed by an interrupt\n",
     )?;

@@ -1,5 +1,5 @@
 //! A drawing in the format Kanata 0004, which the Konata viewer reads.
-use crate::label::{push_address, push_origin, push_word};
+use crate::label::push_address;
 use crate::marks::{cell_of, end_of, is_shown, stage_name, without};
 use crate::subject::Subject;
 use crate::whole::bytes_of;
@@ -18,9 +18,9 @@ fn push_begin(
     write!(text, "I\t{number}\t{fetch}\t0\nL\t{number}\t0\t")?;
     push_address(text, row.address)?;
     text.push_str(": ")?;
-    push_word(text, subject, row.address)?;
+    subject.push_word(text, row.address)?;
     write!(text, "\nL\t{number}\t1\tline ")?;
-    push_origin(text, subject, row.address)?;
+    subject.push_origin(text, row.address)?;
     text.push('\n')
 }
 

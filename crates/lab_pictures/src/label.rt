@@ -41,37 +41,31 @@ pub fn push_address(text: &mut String, address: Option<u32>) -> Result<(), Alloc
     }
 }
 
-/// Appends the word at an address, in assembly language.
-pub fn push_word(
-    text: &mut String,
-    subject: &Subject,
-    address: Option<u32>,
-) -> Result<(), AllocError> {
-    let Some(address) = address else {
-        return Ok(());
-    };
-    match subject.standing(address) {
-        Standing::Handler(word) | Standing::Code(word, _) => {
-            push_code_word(text, subject, address, word)
+impl Subject<'_> {
+    /// Appends the word at an address, in assembly language.
+    pub fn push_word(&self, text: &mut String, address: Option<u32>) -> Result<(), AllocError> {
+        let Some(address) = address else {
+            return Ok(());
+        };
+        match self.standing(address) {
+            Standing::Handler(word) | Standing::Code(word, _) => {
+                push_code_word(text, self, address, word)
+            }
+            Standing::Outside => Ok(()),
         }
-        Standing::Outside => Ok(()),
     }
-}
 
-/// Appends where the word at an address comes from: a line, `+` and a line for a copy, `-` for a no-op that was put in, `h`
-/// for the handler.
-pub fn push_origin(
-    text: &mut String,
-    subject: &Subject,
-    address: Option<u32>,
-) -> Result<(), AllocError> {
-    let Some(address) = address else {
-        return Ok(());
-    };
-    match subject.standing(address) {
-        Standing::Handler(_) => text.push_str("h"),
-        Standing::Code(_, origin) => push_from(text, subject, origin),
-        Standing::Outside => Ok(()),
+    /// Appends where the word at an address comes from: a line, `+` and a line for a copy, `-` for a no-op that was put in, `h`
+    /// for the handler.
+    pub fn push_origin(&self, text: &mut String, address: Option<u32>) -> Result<(), AllocError> {
+        let Some(address) = address else {
+            return Ok(());
+        };
+        match self.standing(address) {
+            Standing::Handler(_) => text.push_str("h"),
+            Standing::Code(_, origin) => push_from(text, self, origin),
+            Standing::Outside => Ok(()),
+        }
     }
 }
 
@@ -94,6 +88,6 @@ pub fn push_fitted_word(
     room: usize,
 ) -> Result<(), AllocError> {
     let mut word = String::new(alloc);
-    push_word(&mut word, subject, address)?;
+    subject.push_word(&mut word, address)?;
     push_fitted(text, word.as_str(), room)
 }

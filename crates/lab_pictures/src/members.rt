@@ -1,6 +1,5 @@
 //! The data of a drawing as JSON, which the page of HTML holds and `json` hands out.
 use crate::ending::push_ending;
-use crate::label::{push_origin, push_word};
 use crate::subject::{Standing, Subject};
 use lab_draw::{Cell, Frame, Row, Way, way_of};
 use lab_words::{NamedPlace, PlaceNames};
@@ -63,9 +62,9 @@ fn push_listed(
 ) -> Result<(), AllocError> {
     let line = line_at(subject, address);
     write!(text, "[{address},{word},\"")?;
-    push_word(text, subject, Some(address))?;
+    subject.push_word(text, Some(address))?;
     text.push_str("\",\"")?;
-    push_origin(text, subject, Some(address))?;
+    subject.push_origin(text, Some(address))?;
     write!(text, "\",{line},")?;
     push_reads(text, subject.inst_at(address))?;
     text.push(']')
@@ -216,23 +215,38 @@ fn ways_of(subject: &Subject, shown: &Latches) -> u8 {
     way_number(way_of(&mem, &wb, a)) | (way_number(way_of(&mem, &wb, b)) << 2)
 }
 
+// Appends numbers, a comma behind each.
+fn push_numbers(text: &mut String, numbers: &[u64]) -> Result<(), AllocError> {
+    for number in numbers {
+        let number = *number;
+        write!(text, "{number},")?;
+    }
+    Ok(())
+}
+
 // Appends what the word in ALU reads and makes, and which way its operands came.
 fn push_alu(text: &mut String, subject: &Subject, shown: &Latches) -> Result<(), AllocError> {
-    let (a, b, result) = (shown.a, shown.b, shown.result);
-    let ways = ways_of(subject, shown);
-    write!(text, "{a},{b},{result},{ways},")
+    let numbers = [
+        u64::from(shown.a),
+        u64::from(shown.b),
+        u64::from(shown.result),
+        u64::from(ways_of(subject, shown)),
+    ];
+    push_numbers(text, &numbers)
 }
 
 // Appends MD, the bytes taken and the counts.
 fn push_counts(text: &mut String, frame: &Frame) -> Result<(), AllocError> {
-    let (md, inputs) = (frame.md, frame.inputs);
     let counts = &frame.counts;
-    let (fetches, misses) = (counts.fetches, counts.misses);
-    let (squashes, interrupts) = (counts.squashes, counts.interrupts);
-    write!(
-        text,
-        "{md},{inputs},{fetches},{misses},{squashes},{interrupts},"
-    )?;
+    let numbers = [
+        u64::from(frame.md),
+        u64::from(frame.inputs),
+        counts.fetches,
+        counts.misses,
+        counts.squashes,
+        counts.interrupts,
+    ];
+    push_numbers(text, &numbers)?;
     match frame.cycled.byte {
         Some(byte) => write!(text, "{byte},"),
         None => text.push_str("-1,"),

@@ -1,7 +1,7 @@
 //! A drawing as SVG.
 use crate::ending::push_ending;
 use crate::escape::push_escaped;
-use crate::label::{push_address, push_fitted_word, push_origin};
+use crate::label::{push_address, push_fitted_word};
 use crate::marks::{cell_of, is_shown, stage_name};
 use crate::subject::Subject;
 use crate::whole::bytes_of;
@@ -44,17 +44,26 @@ fn down(number: u64) -> u64 {
     HEAD.saturating_add(number.saturating_mul(ROW))
 }
 
+// Appends attributes that are numbers.
+fn push_numbers(text: &mut String, numbers: &[(&str, u64)]) -> Result<(), AllocError> {
+    for (name, number) in numbers {
+        let (name, number) = (*name, *number);
+        write!(text, " {name}=\"{number}\"")?;
+    }
+    Ok(())
+}
+
 // Appends a cell with a look and a word in it.
 fn push_box(text: &mut String, x: u64, y: u64, look: &str, word: &str) -> Result<(), AllocError> {
-    let width = COLUMN - 2;
-    let height = ROW - 2;
-    let middle = x.saturating_add(COLUMN / 2);
-    let base = y.saturating_add(12);
-    write!(
+    let (width, height) = (COLUMN - 2, ROW - 2);
+    text.push_str("<rect")?;
+    push_numbers(
         text,
-        "<rect x=\"{x}\" y=\"{y}\" width=\"{width}\" height=\"{height}\" class=\"{look}\"/>"
+        &[("x", x), ("y", y), ("width", width), ("height", height)],
     )?;
-    write!(text, "<text x=\"{middle}\" y=\"{base}\">{word}</text>")
+    write!(text, " class=\"{look}\"/>")?;
+    let middle = x.saturating_add(COLUMN / 2);
+    push_word(text, middle, y.saturating_add(12), word)
 }
 
 // Appends a cell.
@@ -70,7 +79,9 @@ fn push_cell(text: &mut String, x: u64, y: u64, cell: Cell) -> Result<(), AllocE
 
 // Appends a word of the head or of a label.
 fn push_word(text: &mut String, x: u64, y: u64, word: &str) -> Result<(), AllocError> {
-    write!(text, "<text x=\"{x}\" y=\"{y}\">{word}</text>")
+    push_open(text, x, y)?;
+    text.push_str(word)?;
+    text.push_str(END)
 }
 
 // Appends what stands before a word.
@@ -98,7 +109,7 @@ fn push_label(
     push_next(text, 76, base)?;
     push_fitted_word(alloc, text, subject, row.address, WORD)?;
     push_next(text, 272, base)?;
-    push_origin(text, subject, row.address)?;
+    subject.push_origin(text, row.address)?;
     text.push_str(END)
 }
 
@@ -112,10 +123,12 @@ fn push_track(text: &mut String, row: &Row, y: u64) -> Result<(), AllocError> {
     }
     let (from, to) = (across(row.begins), across(last));
     let middle = y.saturating_add(8);
-    write!(
+    text.push_str("<line class=\"l\"")?;
+    push_numbers(
         text,
-        "<line class=\"l\" x1=\"{from}\" y1=\"{middle}\" x2=\"{to}\" y2=\"{middle}\"/>"
-    )
+        &[("x1", from), ("y1", middle), ("x2", to), ("y2", middle)],
+    )?;
+    text.push_str("/>")
 }
 
 // Appends a row.
@@ -149,6 +162,17 @@ fn push_sent_byte(text: &mut String, x: u64, byte: u8) -> Result<(), AllocError>
     }
 }
 
+// Appends the column of a cycle in which an interrupt was taken.
+fn push_taken(text: &mut String, x: u64, height: u64) -> Result<(), AllocError> {
+    text.push_str("<rect class=\"i\"")?;
+    push_numbers(
+        text,
+        &[("x", x), ("y", 20), ("width", COLUMN), ("height", height)],
+    )?;
+    text.push_str("/>")?;
+    push_word(text, x, 32, "int")
+}
+
 // Appends the head of a column: the number of its cycle, whether an interrupt was requested or taken, the byte that was sent.
 fn push_head(
     text: &mut String,
@@ -162,11 +186,7 @@ fn push_head(
         write!(text, "<text x=\"{x}\" y=\"16\">{cycle}</text>")?;
     }
     if frame.cycled.taken {
-        write!(
-            text,
-            "<rect class=\"i\" x=\"{x}\" y=\"20\" width=\"{COLUMN}\" height=\"{height}\"/>"
-        )?;
-        push_word(text, x, 32, "int")?;
+        push_taken(text, x, height)?;
     } else if frame.requested {
         push_word(text, x, 32, "req")?;
     }
@@ -216,25 +236,25 @@ fn push_foot(text: &mut String, subject: &Subject, bottom: u64) -> Result<(), Al
     text.push_str(END)
 }
 
-// Appends the picture.
-fn push_svg(
+// Appends what stands before the columns: the size of the picture, what it shows, and the looks of its cells.
+fn push_front(text: &mut String, subject: &Subject, height: u64) -> Result<(), AllocError> {
+    let width = across(subject.drawing.frames.len()).saturating_add(10);
+    text.push_str("<svg xmlns=\"http://www.w3.org/2000/svg\"")?;
+    push_numbers(text, &[("width", width), ("height", height)])?;
+    write!(text, " viewBox=\"0 0 {width} {height}\" ")?;
+    text.push_str("role=\"img\" aria-labelledby=\"title desc\">\n")?;
+    push_told(text, subject)?;
+    text.push_str(style())?;
+    text.push_str("<rect width=\"100%\" height=\"100%\" fill=\"#fff\"/>")
+}
+
+// Appends the rows that show something.
+fn push_rows(
     alloc: Global,
     text: &mut String,
     subject: &Subject,
     rows: &[Row],
 ) -> Result<(), AllocError> {
-    let width = across(subject.drawing.frames.len()).saturating_add(10);
-    let bottom = down(count_shown(rows));
-    let height = bottom.saturating_add(FOOT);
-    write!(
-        text,
-        "<svg xmlns=\"http://www.w3.org/2000/svg\" width=\"{width}\" height=\"{height}\" viewBox=\"0 0 {width} {height}\" "
-    )?;
-    text.push_str("role=\"img\" aria-labelledby=\"title desc\">\n")?;
-    push_told(text, subject)?;
-    text.push_str(style())?;
-    text.push_str("<rect width=\"100%\" height=\"100%\" fill=\"#fff\"/>")?;
-    push_heads(text, subject, bottom.saturating_sub(24))?;
     let mut number = 0u64;
     for row in rows {
         if is_shown(row) {
@@ -242,6 +262,20 @@ fn push_svg(
             number = number.saturating_add(1);
         }
     }
+    Ok(())
+}
+
+// Appends the picture.
+fn push_svg(
+    alloc: Global,
+    text: &mut String,
+    subject: &Subject,
+    rows: &[Row],
+) -> Result<(), AllocError> {
+    let bottom = down(count_shown(rows));
+    push_front(text, subject, bottom.saturating_add(FOOT))?;
+    push_heads(text, subject, bottom.saturating_sub(24))?;
+    push_rows(alloc, text, subject, rows)?;
     push_foot(text, subject, bottom)?;
     text.push_str("\n</svg>\n")
 }

@@ -7,7 +7,7 @@ use mx_turn::Stage;
 use std::alloc::{AllocError, Global};
 
 /// The signals: their names, their widths and their letters. Each stage has its address and two marks.
-const SIGNALS: [(&str, u32, &str); 25] = [
+static SIGNALS: [(&str, u32, &str); 25] = [
     ("fetch", 32, "a"),
     ("fetch_live", 1, "b"),
     ("fetch_squashed", 1, "c"),
@@ -89,39 +89,41 @@ fn push_value(text: &mut String, width: u32, value: u32, letter: &str) -> Result
     }
 }
 
-// Appends the signals that differ from what they were, or all of them.
-fn push_changes(
-    text: &mut String,
-    all: bool,
-    before: &[u32; 25],
-    now: &[u32; 25],
-) -> Result<(), AllocError> {
-    for k in 0..25usize {
-        if let Some(signal) = SIGNALS.get(k) {
-            let (_, width, letter) = *signal;
-            let value = now[k];
-            if all || before[k] != value {
-                push_value(text, width, value, letter)?;
-            }
+// Appends the signals that differ from what they were, or all of them where nothing was before.
+fn push_changes(text: &mut String, before: &[u32], now: &[u32]) -> Result<(), AllocError> {
+    for (k, (signal, value)) in SIGNALS.iter().zip(now).enumerate() {
+        let (_, width, letter) = *signal;
+        if before.get(k) != Some(value) {
+            push_value(text, width, *value, letter)?;
         }
     }
     Ok(())
 }
 
-// Appends the registers that differ from what they were, or all of them. r0 is none of them.
-fn push_registers(
-    text: &mut String,
-    all: bool,
-    before: &[u32; 32],
-    now: &[u32; 32],
-) -> Result<(), AllocError> {
-    for n in 1..32usize {
-        let value = now[n];
-        if all || before[n] != value {
+// Appends the registers that differ from what they were, or all of them where nothing was before. r0 is none of them.
+fn push_registers(text: &mut String, before: &[u32], now: &[u32]) -> Result<(), AllocError> {
+    for (n, value) in now.iter().enumerate().skip(1) {
+        if before.get(n) != Some(value) {
+            let value = *value;
             write!(text, "b{value:b} R{n}\n")?;
         }
     }
     Ok(())
+}
+
+// Appends what a frame shows that differs from the one before it, or all of it where there is none.
+fn push_frame(text: &mut String, before: Option<&Frame>, frame: &Frame) -> Result<(), AllocError> {
+    let now = values_of(frame);
+    match before {
+        Some(before) => {
+            push_changes(text, &values_of(before), &now)?;
+            push_registers(text, &before.registers, &frame.registers)
+        }
+        None => {
+            push_changes(text, &[], &now)?;
+            push_registers(text, &[], &frame.registers)
+        }
+    }
 }
 
 // Appends the head, which declares the signals.
@@ -142,18 +144,12 @@ fn push_head(text: &mut String) -> Result<(), AllocError> {
 // Appends the whole text.
 fn push_vcd(text: &mut String, subject: &Subject) -> Result<(), AllocError> {
     push_head(text)?;
-    let mut before = [0u32; 25];
-    let mut registers = [0u32; 32];
-    let mut all = true;
+    let mut before = None;
     let mut cycle = u64::from(subject.from);
     for frame in subject.drawing.frames.iter() {
-        let now = values_of(frame);
         write!(text, "#{cycle}\n")?;
-        push_changes(text, all, &before, &now)?;
-        push_registers(text, all, &registers, &frame.registers)?;
-        before = now;
-        registers = frame.registers;
-        all = false;
+        push_frame(text, before, frame)?;
+        before = Some(frame);
         cycle = cycle.saturating_add(1);
     }
     write!(text, "#{cycle}\n")

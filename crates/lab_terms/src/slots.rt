@@ -48,26 +48,19 @@ fn filling_of(from: Origin, squashing: bool) -> Filling
     }
 }
 
+/// A count, one more where that is so.
+fn count_if(count: u32, is_so: bool) -> u32 {
+    count.saturating_add(u32::from(is_so))
+}
+
 impl TransferSlots {
     /// The same with one slot more.
     fn with(self, filling: Filling) -> TransferSlots {
-        match filling {
-            Filling::Before => TransferSlots {
-                before: self.before.saturating_add(1),
-                ..self
-            },
-            Filling::TargetSquashed => TransferSlots {
-                target_squashed: self.target_squashed.saturating_add(1),
-                ..self
-            },
-            Filling::Target => TransferSlots {
-                target: self.target.saturating_add(1),
-                ..self
-            },
-            Filling::NoOp => TransferSlots {
-                noops: self.noops.saturating_add(1),
-                ..self
-            },
+        TransferSlots {
+            before: count_if(self.before, filling == Filling::Before),
+            target_squashed: count_if(self.target_squashed, filling == Filling::TargetSquashed),
+            target: count_if(self.target, filling == Filling::Target),
+            noops: count_if(self.noops, filling == Filling::NoOp),
         }
     }
 
@@ -92,7 +85,7 @@ impl Slots {
     /// The same with one slot more.
     fn with(self, filled: bool) -> Slots {
         Slots {
-            filled: self.filled.saturating_add(u32::from(filled)),
+            filled: count_if(self.filled, filled),
             all: self.all.saturating_add(1),
         }
     }

@@ -5,4 +5,4 @@ mod committing;
 mod running;
 mod turn;
 
-pub use running::{Traced, trace_of};
+pub use running::{Given, Traced, trace_of};

@@ -23,27 +23,36 @@ fn push_line<T: Serialize>(alloc: Global, text: &mut Vec<u8>, record: &T) -> Res
     push_record(alloc, text, record).map_err(|_| Memory)
 }
 
+/// What a run is given.
+#[derive(Clone, Copy)]
+pub struct Given<'a> {
+    /// The name of the source.
+    pub source: &'a str,
+    pub image: &'a Image,
+    pub input: Option<&'a [u8]>,
+    pub requests: &'a Requests,
+    pub budget: u32,
+}
+
 // Appends the lines of the turns until the machine halts or the budget is spent; answers whether it halted.
 fn push_turns<M: Machine>(
     alloc: Global,
     text: &mut Vec<u8>,
     machine: &mut M,
-    code: &[u32],
-    requests: &Requests,
-    budget: u32,
+    given: &Given,
 ) -> Result<bool, Memory>
     requires { M.cycles machine.old ≡ 0 }
 {
     let mut stalls = 0u32;
     let mut before = machine.latches();
-    for cycle in 0..budget {
-        let cycled = machine.cycle(requests.wants(cycle));
+    for cycle in 0..given.budget {
+        let cycled = machine.cycle(given.requests.wants(cycle));
         if cycled.stalled {
             stalls = stalls.saturating_add(1);
             continue;
         }
         let shown = machine.latches();
-        let does = committed_in(code, shown.mem);
+        let does = committed_in(given.image.code.as_slice(), shown.mem);
         let record = turn_record(machine, &cycled, does, &before, cycle, stalls);
         push_line(alloc, text, &record)?;
         before = shown;
@@ -55,31 +64,27 @@ fn push_turns<M: Machine>(
     Ok(false)
 }
 
+// Appends what a run is given.
+fn push_begin(alloc: Global, text: &mut Vec<u8>, given: &Given) -> Result<(), Memory> {
+    let begin = BeginRecord {
+        source: given.source,
+        code: given.image.code.as_slice(),
+        user_data: given.image.user_data.as_slice(),
+        handler: SHIPPED.as_slice(),
+        input: given.input,
+        requests: given.requests.list(),
+    };
+    push_line(alloc, text, &begin)
+}
+
 /// The trace of the run of a machine from its start, until it halts or the budget is spent: what it is given, a line for each
 /// turn, and how it ends.
-pub fn trace_of<M: Machine>(
-    alloc: Global,
-    machine: &mut M,
-    source: &str,
-    image: &Image,
-    input: Option<&[u8]>,
-    requests: &Requests,
-    budget: u32,
-) -> Result<Traced, Memory>
+pub fn trace_of<M: Machine>(alloc: Global, machine: &mut M, given: &Given) -> Result<Traced, Memory>
     requires { M.cycles machine.old ≡ 0 }
 {
     let mut text = Vec::new(alloc);
-    let code = image.code.as_slice();
-    let begin = BeginRecord {
-        source,
-        code,
-        user_data: image.user_data.as_slice(),
-        handler: SHIPPED.as_slice(),
-        input,
-        requests: requests.list(),
-    };
-    push_line(alloc, &mut text, &begin)?;
-    let halted = push_turns(alloc, &mut text, machine, code, requests, budget)?;
+    push_begin(alloc, &mut text, given)?;
+    let halted = push_turns(alloc, &mut text, machine, given)?;
     let end = EndRecord {
         halted,
         counts: machine.counts(),

@@ -10,15 +10,15 @@ use mx_isa::{Cond, Inst, Op, Reg, Special};
 use mx_source::{branch_name, operation_name};
 use std::alloc::AllocError;
 
-/// A special word.
-fn special_word(special: Special) -> &'static str
-    ensures { result.now ≡ special_text special }
+/// Appends a special word.
+fn push_special(text: &mut String, special: Special) -> Result<(), AllocError>
+    ensures { OnOk result (string_bytes text.new ≡ string_bytes text.old ++ special_text special) }
 {
     match special {
-        Special::Md => "md",
-        Special::Pc1 => "pc1",
-        Special::Pc2 => "pc2",
-        Special::Pc3 => "pc3",
+        Special::Md => text.push_str("md"),
+        Special::Pc1 => text.push_str("pc1"),
+        Special::Pc2 => text.push_str("pc2"),
+        Special::Pc3 => text.push_str("pc3"),
     }
 }
 
@@ -78,16 +78,7 @@ fn push_compute(text: &mut String, op: Op, a: Reg, b: Reg, dest: Reg) -> Result<
         Op::Mstart => push_two(text, word, b, dest),
         Op::Asr(n) => push_count(text, word, a, n, dest),
         Op::Sh(n) => push_two_and_count(text, word, (a, b), n, dest),
-        Op::Add
-        | Op::Sub
-        | Op::Subnc
-        | Op::And
-        | Op::Or
-        | Op::Xor
-        | Op::Bic
-        | Op::Rotlb
-        | Op::Mstep
-        | Op::Dstep => push_three(text, word, a, b, dest),
+        _ => push_three(text, word, a, b, dest),
     }
 }
 
@@ -204,16 +195,19 @@ fn push_immediate(
 fn push_move_from(text: &mut String, special: Special, dest: Reg) -> Result<(), AllocError>
     ensures { OnOk result (string_bytes text.new ≡ string_bytes text.old ++ spelled (codes "movfrs") (special_text special ∷ register dest ∷ [])) }
 {
-    let (word, dest) = (special_word(special), dest.number());
-    write!(text, "movfrs {word},r{dest}")
+    let dest = dest.number();
+    text.push_str("movfrs ")?;
+    push_special(text, special)?;
+    write!(text, ",r{dest}")
 }
 
 /// Appends a move to a special word.
 fn push_move_to(text: &mut String, a: Reg, special: Special) -> Result<(), AllocError>
     ensures { OnOk result (string_bytes text.new ≡ string_bytes text.old ++ spelled (codes "movtos") (register a ∷ special_text special ∷ [])) }
 {
-    let (word, a) = (special_word(special), a.number());
-    write!(text, "movtos r{a},{word}")
+    let a = a.number();
+    write!(text, "movtos r{a},")?;
+    push_special(text, special)
 }
 
 /// Appends an instruction that stands at an address, in assembly language.

@@ -1,13 +1,6 @@
 //! Laws of the texts of words.
 ghost use Rattle.std.specs.Prelude.{◌≡◌, ◌<◌, ◌^◌, ℕ, ℤ, true, false, Some};
-ghost use Rattle.mx_isa.specs.declared.inst.Cond.{Cond};
-ghost use Rattle.mx_isa.specs.declared.inst.Inst.{Inst};
-ghost use Rattle.mx_code.specs.Decoding.{inst_of};
-ghost use Rattle.mx_source.specs.declared.statement.Statement.{Statement};
-ghost use Rattle.mx_source.specs.Statements.{IsPlain};
-ghost use Rattle.mx_source.specs.Printed.{statement_text, place_name};
-ghost use Rattle.mx_lines.specs.Instructions.{Labels};
-ghost use Rattle.mx_asm.specs.Printable.{is_name};
+ghost use Rattle.lab_words.specs.Terms.{Cond, Inst, Statement, Labels, inst_of, IsPlain, statement_text, place_name, is_name};
 ghost use Rattle.lab_words.specs.Naming.{Naming, names_of};
 ghost use Rattle.lab_words.specs.Texts.{instruction_text, target};
 ghost use Rattle.lab_words.specs.Assembling.{AreLabels, HasLine, AssemblesTo, is_numbered};

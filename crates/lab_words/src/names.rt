@@ -81,22 +81,14 @@ fn places_of(
 fn code_offsets(alloc: Global, places: &[NamedPlace]) -> Result<Vec<Option<u32>>, AllocError>
     ensures { IfOk result (λ offsets. offsets.items ≡ map code_offset places.now) }
 {
-    let mut offsets = Vec::new(alloc);
-    for place in places {
-        offsets.push(place.code_offset())?;
-    }
-    Ok(offsets)
+    places.iter().map(|at| at.code_offset()).collect(alloc)
 }
 
 /// How far the places of data stand behind the first word of user data.
 fn data_offsets(alloc: Global, places: &[NamedPlace]) -> Result<Vec<Option<u32>>, AllocError>
     ensures { IfOk result (λ offsets. offsets.items ≡ map data_offset places.now) }
 {
-    let mut offsets = Vec::new(alloc);
-    for place in places {
-        offsets.push(place.data_offset())?;
-    }
-    Ok(offsets)
+    places.iter().map(|at| at.data_offset()).collect(alloc)
 }
 
 /// A table without an index.

@@ -1,7 +1,9 @@
 //! Comparisons as JSON.
 use super::schedulers::schedulers;
 use super::several::{Compared, Sums, sums_of};
-use lab_json::{Value, document_text, write_members, write_object};
+use lab_json::{
+    Value, document_text, write_flag, write_list, write_members, write_numbers, write_object,
+};
 use lab_measures::{Comparison, Figures};
 use lab_terms::TransferSlots;
 use mx_io::Memory;
@@ -49,13 +51,13 @@ fn write_slots<S: Serializer>(out: &mut S, figures: &Figures) -> Result<(), S::E
 
 // Writes what the run comes to.
 fn write_run<S: Serializer>(out: &mut S, figures: &Figures) -> Result<(), S::Error> {
-    let members = [
-        ("halted", Value::Flag(figures.halted)),
-        ("cycles", Value::Number(figures.cycles)),
-        ("misses", Value::Number(figures.misses)),
-        ("squashes", Value::Number(figures.squashes)),
+    let numbers = [
+        ("cycles", figures.cycles),
+        ("misses", figures.misses),
+        ("squashes", figures.squashes),
     ];
-    write_members(out, &members)
+    write_flag(out, "halted", figures.halted)?;
+    write_numbers(out, &numbers)
 }
 
 // Writes the figures of a scheduler.
@@ -87,22 +89,15 @@ fn write_schedulers<S: Serializer>(out: &mut S, comparison: &Comparison) -> Resu
     out.end_seq()
 }
 
-// Writes a source among several.
-fn write_source<S: Serializer>(out: &mut S, one: &Compared) -> Result<(), S::Error> {
-    out.begin_map(Some(2))?;
-    write_members(out, &[("source", Value::Text(one.source))])?;
-    write_schedulers(out, &one.comparison)?;
-    out.end_map()
-}
+impl Described for Compared<'_> {}
 
-// Writes several sources.
-fn write_sources<S: Serializer>(out: &mut S, compared: &[Compared]) -> Result<(), S::Error> {
-    out.key("sources")?;
-    out.begin_seq(Some(compared.len()))?;
-    for one in compared {
-        write_source(out, one)?;
+impl Serialize for Compared<'_> {
+    fn serialize<S: Serializer>(&self, out: &mut S) -> Result<(), S::Error> {
+        out.begin_map(Some(2))?;
+        write_members(out, &[("source", Value::Text(self.source))])?;
+        write_schedulers(out, &self.comparison)?;
+        out.end_map()
     }
-    out.end_seq()
 }
 
 // Writes what several sources come to together.
@@ -139,7 +134,7 @@ impl Serialize for LongDocument<'_> {
     fn serialize<S: Serializer>(&self, out: &mut S) -> Result<(), S::Error> {
         out.begin_map(Some(3))?;
         write_members(out, &[("command", Value::Text("compare"))])?;
-        write_sources(out, self.compared)?;
+        write_list(out, "sources", self.compared)?;
         write_sums(out, self.all)?;
         out.end_map()
     }

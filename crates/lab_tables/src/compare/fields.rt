@@ -49,15 +49,21 @@ fn numbers_of(figures: &Figures) -> [Option<u64>; 13] {
     ]
 }
 
+// Appends a row for each scheduler of a source.
+fn push_source(rows: &mut Rows, one: &Compared) -> Result<(), Memory> {
+    for (plans, figures) in schedulers(&one.comparison) {
+        rows.push_name(one.source)?;
+        rows.push_name(plans)?;
+        rows.end_with(&numbers_of(figures))?;
+    }
+    Ok(())
+}
+
 /// Comparisons as CSV: a row of names, and a row for each source and scheduler.
 pub fn comparisons_csv(alloc: Global, compared: &[Compared]) -> Result<Vec<u8>, Memory> {
     let mut rows = Rows::new(alloc, &COLUMNS)?;
     for one in compared {
-        for (plans, figures) in schedulers(&one.comparison) {
-            rows.push_name(one.source)?;
-            rows.push_name(plans)?;
-            rows.end_with(&numbers_of(figures))?;
-        }
+        push_source(&mut rows, one)?;
     }
     rows.text()
 }

@@ -1,4 +1,5 @@
 //! A comparison as a table.
+use lab_json::{Ratio, push_ratio};
 use lab_measures::{Comparison, Figures};
 use std::alloc::{AllocError, Global};
 
@@ -54,14 +55,9 @@ fn column_of(figures: &Figures, padded: &Figures) -> [Cell; 13] {
 
 // Appends a number and its part of a whole in per cent, rounded to a tenth, which is left out where there is no whole.
 fn push_number(table: &mut String, part: u64, whole: u64) -> Result<(), AllocError> {
-    let thousands = part.saturating_mul(1000).saturating_add(whole / 2);
-    match thousands.checked_div(whole) {
-        Some(tenths) => {
-            let (ones, tenth) = (tenths / 10, tenths % 10);
-            write!(table, " {part:>9} {ones:>3}.{tenth}%")
-        }
-        None => write!(table, " {part:>9}       "),
-    }
+    write!(table, " {part:>9}")?;
+    push_ratio(table, Ratio::Percent(part, whole), 5, "")?;
+    table.push_str(if whole == 0 { " " } else { "%" })
 }
 
 /// Appends a cell, or `-`.

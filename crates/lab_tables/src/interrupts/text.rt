@@ -174,33 +174,32 @@ fn push_histogram(
     push_bins(text, bins.as_slice(), width)
 }
 
+/// A sweep with its sums and the places of its code.
+#[derive(Clone, Copy)]
+struct Told<'a> {
+    sweep: &'a Sweep,
+    sums: &'a Sums,
+    places: &'a Places,
+}
+
 // What is told before the text of the line in which the interrupt fell that was waited for longest.
-fn push_front(
-    text: &mut String,
-    sweep: &Sweep,
-    sums: &Sums,
-    places: &Places,
-) -> Result<(), AllocError> {
-    push_head(text, sweep)?;
+fn push_front(text: &mut String, told: &Told) -> Result<(), AllocError> {
+    let sums = told.sums;
+    push_head(text, told.sweep)?;
     push_counts(text, sums)?;
     text.push_str("                least  median greatest\n")?;
     push_spread(text, "cost, cycles", &sums.cost)?;
     push_spread(text, "wait, cycles", &sums.wait)?;
     match &sums.longest {
-        Some(row) => push_longest(text, row, places),
+        Some(row) => push_longest(text, row, told.places),
         None => Ok(()),
     }
 }
 
 // The same, as bytes.
-fn front_of(
-    alloc: Global,
-    sweep: &Sweep,
-    sums: &Sums,
-    places: &Places,
-) -> Result<Vec<u8>, AllocError> {
+fn front_of(alloc: Global, told: &Told) -> Result<Vec<u8>, AllocError> {
     let mut front = String::new(alloc);
-    push_front(&mut front, sweep, sums, places)?;
+    push_front(&mut front, told)?;
     Ok(front.into_bytes())
 }
 
@@ -208,38 +207,45 @@ fn front_of(
 fn push_back(
     alloc: Global,
     text: &mut String,
-    sweep: &Sweep,
-    sums: &Sums,
-    rows: Option<&Places>,
+    told: &Told,
+    with_rows: bool,
 ) -> Result<(), AllocError> {
+    let sums = told.sums;
     if sums.longest.is_some() {
         text.push_str("\n")?;
     }
     push_histogram(alloc, text, "cost", &sums.cost)?;
     push_histogram(alloc, text, "wait", &sums.wait)?;
-    match rows {
-        Some(places) => push_rows(text, sweep, places),
-        None => Ok(()),
+    if with_rows {
+        push_rows(text, told.sweep, told.places)?;
     }
+    Ok(())
 }
 
-// The text of a sweep, of which these are the sums.
+// The same, to bytes.
+fn push_end(
+    alloc: Global,
+    text: &mut Vec<u8>,
+    told: &Told,
+    with_rows: bool,
+) -> Result<(), AllocError> {
+    let mut back = String::new(alloc);
+    push_back(alloc, &mut back, told, with_rows)?;
+    text.extend_from_slice(back.as_bytes())
+}
+
+// The text of a sweep.
 fn text_of(
     alloc: Global,
-    sweep: &Sweep,
-    sums: &Sums,
-    places: &Places,
+    told: &Told,
     source: &[u8],
     with_rows: bool,
 ) -> Result<Vec<u8>, AllocError> {
-    let rows = if with_rows { Some(places) } else { None };
-    let mut back = String::new(alloc);
-    push_back(alloc, &mut back, sweep, sums, rows)?;
-    let mut text = front_of(alloc, sweep, sums, places)?;
-    if let Some(row) = &sums.longest {
-        text.extend_from_slice(place_text(row, places, source))?;
+    let mut text = front_of(alloc, told)?;
+    if let Some(row) = &told.sums.longest {
+        text.extend_from_slice(place_text(row, told.places, source))?;
     }
-    text.extend_from_slice(back.as_bytes())?;
+    push_end(alloc, &mut text, told, with_rows)?;
     Ok(text)
 }
 
@@ -253,5 +259,10 @@ pub fn sweep_text(
     with_rows: bool,
 ) -> Result<Vec<u8>, AllocError> {
     let sums = sums_of(alloc, sweep)?;
-    text_of(alloc, sweep, &sums, places, source, with_rows)
+    let told = Told {
+        sweep,
+        sums: &sums,
+        places,
+    };
+    text_of(alloc, &told, source, with_rows)
 }
