@@ -71,34 +71,6 @@ fn assembled(alloc: Global, text: &[u8]) -> Result<usize, (u32, Fault)> {
     }
 }
 
-static FAULTY: [(&[u8], u32, Fault); 13] = [
-    (b"nop\n\x80nop", 2, Fault::BadByte),
-    (b"add r1,r2,5x", 1, Fault::BadToken),
-    (b"frob", 1, Fault::UnknownMnemonic),
-    (b"add r1,r2", 1, Fault::BadOperands),
-    (b"add r1,r2,r32", 1, Fault::BadRegister),
-    (b"addi r0,#65536,r1", 1, Fault::NumberOutOfRange),
-    (b"x: nop\nx: halt", 2, Fault::DuplicateLabel),
-    (b"nop\nb away\nadd r1,r2,r32", 2, Fault::UndefinedLabel),
-    (b"x: ld x[r0],r1", 1, Fault::WrongLabelKind),
-    (b"nop\njpc\nfrob", 2, Fault::SystemInstruction),
-    (b".word 1", 1, Fault::BadDirective),
-    (b".data\n.space 65280\n.word 1", 3, Fault::DataFull),
-    (b".data\n.space 65280\nx:", 3, Fault::DataFull),
-];
-
-#[test]
-fn names_the_first_fault(rt: HostRuntime) {
-    for (text, line, fault) in FAULTY.iter() {
-        same_for(
-            &rt,
-            text,
-            &assembled(rt.alloc(), text),
-            &Err((*line, *fault)),
-        );
-    }
-}
-
 /// A piece so many times, and an end.
 fn repeated(alloc: Global, piece: &[u8], count: u32, end: &[u8]) -> Result<Vec<u8>, AllocError> {
     let mut text = Vec::new(alloc);

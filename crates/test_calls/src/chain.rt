@@ -1,88 +1,42 @@
 //! The chain of saved fetches and the modes.
+ghost use Rattle.std.specs.Prelude.{◌<◌, ◌^◌};
+
 use crate::same::same;
 use mx_isa::Special;
 use mx_pcchain::{Chain, Fetched, Mode, Psw};
 
-/// What is done with a chain, and what it gives.
-#[derive(Clone, Copy)]
-enum Step {
-    /// Three fetches are saved.
-    Enter(Fetched, Fetched, Fetched),
-    Pc1(u32),
-    Pc2(u32),
-    Pc3(u32),
-    WritePc3(u32),
-    Pop(Fetched),
-    /// The address of what is popped.
-    PopAddress(u32),
+fn fetched(address: u32, squashed: bool) -> Fetched
+    requires { address < 2 ^ 31 }
+{
+    Fetched { address, squashed }
 }
 
-/// Whether a step gives what it should.
-fn is_right(chain: &mut Chain, step: Step) -> bool {
-    match step {
-        Step::Enter(alu, rf, fetch) => chain.enter(alu, rf, fetch),
-        Step::WritePc3(word) => chain.write(Special::Pc3, word),
-        Step::Pc1(word) => return chain.read(Special::Pc1) == word,
-        Step::Pc2(word) => return chain.read(Special::Pc2) == word,
-        Step::Pc3(word) => return chain.read(Special::Pc3) == word,
-        Step::Pop(fetched) => return chain.pop() == fetched,
-        Step::PopAddress(address) => return chain.pop().address == address,
-    }
-    true
+/// What PC1, PC2 and PC3 give behind saved fetches and a write of PC3, and the fetches that come back.
+fn told(chain: &mut Chain) -> ([u32; 3], [Fetched; 2], u32) {
+    chain.enter(
+        fetched(4101, true),
+        fetched(4107, false),
+        fetched(4101, true),
+    );
+    let pc1 = chain.read(Special::Pc1);
+    chain.write(Special::Pc3, 4096);
+    let saved = [chain.pop(), chain.pop()];
+    let third = chain.pop().address;
+    let pc2 = chain.read(Special::Pc2);
+    chain.enter(
+        fetched(4096, false),
+        fetched(4097, false),
+        fetched(4098, true),
+    );
+    ([pc1, pc2, chain.read(Special::Pc3)], saved, third)
 }
 
-/// The number of the first step that gives anything else.
-fn first_wrong(chain: &mut Chain, steps: &[Step]) -> Option<usize> {
-    for (number, step) in steps.iter().enumerate() {
-        if !is_right(chain, *step) {
-            return Some(number);
-        }
-    }
-    None
-}
-
-const SQUASHED: Fetched = Fetched {
-    address: 4101,
-    squashed: true,
-};
-
-const PLAIN: Fetched = Fetched {
-    address: 4107,
-    squashed: false,
-};
-
-const FIRST: Fetched = Fetched {
-    address: 4096,
-    squashed: false,
-};
-
-const SECOND: Fetched = Fetched {
-    address: 4097,
-    squashed: false,
-};
-
-const THIRD: Fetched = Fetched {
-    address: 4098,
-    squashed: true,
-};
-
-/// Saved fetches come back, each with its mark, also the third of others.
-const STEPS: [Step; 9] = [
-    Step::Enter(SQUASHED, PLAIN, SQUASHED),
-    Step::Pc1(0x8000_1005),
-    Step::WritePc3(4096),
-    Step::Pop(SQUASHED),
-    Step::Pop(PLAIN),
-    Step::PopAddress(4096),
-    Step::Pc2(4096),
-    Step::Enter(FIRST, SECOND, THIRD),
-    Step::Pc3(0x8000_1002),
-];
-
+/// Each comes back with its mark, also the third of others.
 #[test]
 fn saved_fetches_come_back_with_their_marks(rt: HostRuntime) {
-    let mut chain = Chain::new();
-    same(&rt, &first_wrong(&mut chain, STEPS.as_slice()), &None);
+    let told = told(&mut Chain::new());
+    let saved = [fetched(4101, true), fetched(4107, false)];
+    same(&rt, &told, &([0x8000_1005, 4096, 0x8000_1002], saved, 4096));
 }
 
 #[test]

@@ -38,7 +38,7 @@ fn the_oldest_line_is_replaced(rt: HostRuntime) {
 }
 
 /// The first set behind nine lines of it: the tags, the masks, and the way that the next line goes to.
-const WAYS: ([u32; 8], [u16; 8], u8) = ([32, 4, 8, 12, 16, 20, 24, 28], [3; 8], 1);
+static WAYS: ([u32; 8], [u16; 8], u8) = ([32, 4, 8, 12, 16, 20, 24, 28], [3; 8], 1);
 
 /// The fields of a set, which are these and no other.
 fn fields(set: &Set) -> ([u32; 8], [u16; 8], u8) {

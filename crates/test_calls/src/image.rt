@@ -5,7 +5,7 @@ use std::alloc::{AllocError, Global};
 use std::test::Fail;
 
 // An image of three words and no data, in version 1.
-const HELLO: [u8; 28] = [
+static HELLO: [u8; 28] = [
     0x4d, 0x58, 0x49, 0x4d, 0, 0, 0, 1, 0, 0, 0, 3, 0, 0, 0, 0, 0xc0, 0x02, 0x00, 0x48, 0x88, 0x02,
     0x00, 0xff, 0xe0, 0x00, 0x00, 0x00,
 ];

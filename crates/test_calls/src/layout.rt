@@ -10,45 +10,36 @@ use mx_validate::Proposer;
 use std::alloc::Global;
 use std::test::Fail;
 
-/// Proposes the first two instructions in the opposite order, whatever the block is.
-#[derive(Drop)]
-struct Swaps;
+/// Proposes these items and the terminator behind two of them, whatever the block is.
+#[derive(Clone, Copy)]
+struct Proposes(&'static [Item]);
 
-impl Proposer for Swaps {
+impl Proposer for Proposes {
     ghost proposes = { λ _ _. Unit {0} };
 
     fn propose(&mut self, _block: &Block) -> Plan {
         let mut items = ArrayVec::new();
-        items.push(Item::Op(1));
-        items.push(Item::Op(0));
+        for item in self.0 {
+            let _ = items.try_push(*item);
+        }
         Plan { items, place: 2 }
     }
 }
 
-/// Proposes a no-op, and behind it the first two instructions, whatever the block is.
-#[derive(Drop)]
-struct WaitsFirst;
+/// The first two instructions in the opposite order.
+static SWAPPED: [Item; 2] = [Item::Op(1), Item::Op(0)];
 
-impl Proposer for WaitsFirst {
-    ghost proposes = { λ _ _. Unit {0} };
-
-    fn propose(&mut self, _block: &Block) -> Plan {
-        let mut items = ArrayVec::new();
-        items.push(Item::Nop);
-        items.push(Item::Op(0));
-        items.push(Item::Op(1));
-        Plan { items, place: 2 }
-    }
-}
+/// A no-op, and behind it the first two instructions.
+static WAITING: [Item; 3] = [Item::Nop, Item::Op(0), Item::Op(1)];
 
 /// The layout of a text at the board's place.
-fn laid_out<P: Proposer>(alloc: Global, text: &[u8], proposer: &mut P) -> Result<Layout, Fail> {
+fn laid_out(alloc: Global, text: &[u8], items: &'static [Item]) -> Result<Layout, Fail> {
     if text.len() > 1000 {
         return Err("too long".into());
     }
     let source = assemble(alloc, text)?;
     let _few = source.statements();
-    let layout = lay_out(alloc, &source, Place::board(), proposer);
+    let layout = lay_out(alloc, &source, Place::board(), &mut Proposes(items));
     drop(source);
     Ok(layout?)
 }
@@ -61,7 +52,7 @@ fn told(layout: Layout, starts: &[u32], links: &[u32]) -> (bool, u32, usize) {
 
 #[test]
 fn a_valid_proposal_is_kept(rt: HostRuntime) -> Result<(), Fail> {
-    let layout = laid_out(rt.alloc(), COUNTS_DOWN, &mut Swaps)?;
+    let layout = laid_out(rt.alloc(), COUNTS_DOWN, &SWAPPED)?;
     let starts = [4096, 4098, 4103];
     let links = [4096, 4096, 4098, 4098, 4098, 4103, 4104];
     same(&rt, &told(layout, &starts, &links), &(true, 2, 3));
@@ -70,7 +61,7 @@ fn a_valid_proposal_is_kept(rt: HostRuntime) -> Result<(), Fail> {
 
 #[test]
 fn a_plan_longer_than_the_padded_one_is_rejected(rt: HostRuntime) -> Result<(), Fail> {
-    let layout = laid_out(rt.alloc(), b"addi r0,#1,r1\nhalt\n", &mut WaitsFirst)?;
+    let layout = laid_out(rt.alloc(), b"addi r0,#1,r1\nhalt\n", &WAITING)?;
     same(
         &rt,
         &told(layout, &[4096], &[4096, 4096, 4098]),

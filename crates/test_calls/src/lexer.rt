@@ -13,29 +13,25 @@ fn token(line: &[u8], number: usize) -> Result<Token, LexFault> {
 
 const EACH_KIND: &[u8] = b"a.1:\t#-0X1f,[9] ;\xff";
 
+const MINUS_31: Kind = Kind::Number {
+    negative: true,
+    value: 31,
+};
+
+const NINE: Kind = Kind::Number {
+    negative: false,
+    value: 9,
+};
+
 /// The tokens of the line above, and from where to where each stands.
 static KINDS: [(Kind, usize, usize); 10] = [
     (Kind::Name, 0, 3),
     (Kind::Colon, 3, 4),
     (Kind::Hash, 5, 6),
-    (
-        Kind::Number {
-            negative: true,
-            value: 31,
-        },
-        6,
-        11,
-    ),
+    (MINUS_31, 6, 11),
     (Kind::Comma, 11, 12),
     (Kind::Open, 12, 13),
-    (
-        Kind::Number {
-            negative: false,
-            value: 9,
-        },
-        13,
-        14,
-    ),
+    (NINE, 13, 14),
     (Kind::Close, 14, 15),
     (Kind::End, 16, 16),
     (Kind::End, 16, 16),

@@ -78,7 +78,10 @@ fn linked(alloc: Global, text: &[u8], way: Way) -> Result<Linked, Fail> {
 #[derive(Clone, Copy)]
 enum Part {
     Code,
-    FirstWord,
+    /// The first words.
+    Front,
+    /// The words from this one on.
+    CodeFrom(usize),
     Data,
     Links,
     /// The no-ops, the copies and the rejected proposals.
@@ -92,7 +95,8 @@ fn has(program: &Linked, part: Part, numbers: &[u32]) -> bool {
     let code = program.image.code.as_slice();
     match part {
         Part::Code => code == numbers,
-        Part::FirstWord => code.first() == numbers.first(),
+        Part::Front => code.starts_with(numbers),
+        Part::CodeFrom(first) => code.get(first..) == Some(numbers),
         Part::Data => program.image.user_data.as_slice() == numbers,
         Part::Links => program.links.as_slice() == numbers,
         Part::Counts => [program.noops, program.copies, program.rejected].as_slice() == numbers,
@@ -116,7 +120,17 @@ fn links_to(
     Ok(has(&linked(alloc, text, way)?, part, numbers))
 }
 
-static CASES: [(&[u8], Way, Part, &[u32]); 23] = [
+/// The loop that counts down, with no-ops in the slots of its branch.
+const PLAIN_LOOP: &[u32] = &[
+    0x8802_00ff,
+    0xc043_ffff,
+    0x0844_fffe,
+    0x4000_0000,
+    0x4000_0000,
+    0xe000_0000,
+];
+
+static CASES: [(&[u8], Way, Part, &[u32]); 25] = [
     // A no-op stands behind a load whose register is read next.
     (
         LOADS,
@@ -148,22 +162,14 @@ static CASES: [(&[u8], Way, Part, &[u32]); 23] = [
     (
         COUNTS_DOWN,
         Way::Plain,
-        Part::Code,
-        &[
-            0xc002_0033,
-            0xc004_0030,
-            0x8802_00ff,
-            0xc043_ffff,
-            0x0844_fffe,
-            0x4000_0000,
-            0x4000_0000,
-            0xe000_0000,
-        ],
+        Part::Front,
+        &[0xc002_0033, 0xc004_0030],
     ),
+    (COUNTS_DOWN, Way::Plain, Part::CodeFrom(2), PLAIN_LOOP),
     (COUNTS_DOWN, Way::Plain, Part::Counts, &[2, 0, 0]),
     // They are copied into a call,
     (CALLS, Way::Copies, Part::Lengths, &[10, 3]),
-    (CALLS, Way::Copies, Part::FirstWord, &[0xc83e_1006]),
+    (CALLS, Way::Copies, Part::Front, &[0xc83e_1006]),
     (
         CALLS,
         Way::Copies,
@@ -195,23 +201,20 @@ static CASES: [(&[u8], Way, Part, &[u32]); 23] = [
     (
         COUNTS_DOWN,
         Way::ReversedPlain,
-        Part::Code,
-        &[
-            0xc004_0030,
-            0xc002_0033,
-            0x8802_00ff,
-            0xc043_ffff,
-            0x0844_fffe,
-            0x4000_0000,
-            0x4000_0000,
-            0xe000_0000,
-        ],
+        Part::Front,
+        &[0xc004_0030, 0xc002_0033],
+    ),
+    (
+        COUNTS_DOWN,
+        Way::ReversedPlain,
+        Part::CodeFrom(2),
+        PLAIN_LOOP,
     ),
     (COUNTS_DOWN, Way::ReversedPlain, Part::Counts, &[2, 0, 1]),
     (
         COUNTS_DOWN,
         Way::ReversedCopies,
-        Part::FirstWord,
+        Part::Front,
         &[0xc004_0030],
     ),
     (COUNTS_DOWN, Way::ReversedCopies, Part::Lengths, &[8, 3]),

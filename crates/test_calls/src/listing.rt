@@ -9,7 +9,7 @@ use mx_reorg::ListProposer;
 use std::alloc::Global;
 use std::test::Fail;
 
-const LISTING: &[u8] = b"\
+static LISTING: &[u8] = b"\
 00000000 88020001 h\n\
 00000001 88040002 h\n\
 00000002 50001001 h\n\

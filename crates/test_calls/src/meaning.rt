@@ -16,7 +16,7 @@ const SENDS_ONE: &[u8] = b".input\nld 254[r0],r1\nst 255[r0],r1\nhalt\n.data\n.w
 const SENDS_AND_JUMPS: &[u8] = b".input\nld 254[r0],r1\nst 255[r0],r1\njr r1\n";
 
 /// What each step does, behind which one byte is taken.
-const STEPS: [(Stepped, u32); 4] = [
+static STEPS: [(Stepped, u32); 4] = [
     (Stepped::Went(None), 1),
     (Stepped::Went(Some(72)), 1),
     (Stepped::Halted, 1),

@@ -8,7 +8,7 @@ const FIRST: &[u8] = b".import emit\naddi r0,#72,r1\ncall emit,r31\nhalt";
 
 const SECOND: &[u8] = b".export emit\nemit: st 255[r0],r1\nx: jr r31";
 
-const PROGRAM: &[u8] =
+static PROGRAM: &[u8] =
     b"addi r0,#72,r1\ncall emit,r31\nhalt\nemit:\nst 255[r0],r1\nx..2:\njr r31\n";
 
 /// The text of both, joined.

@@ -21,7 +21,7 @@ const INTO_HANDLER: &[u32] = &[0xc802_0000];
 const INTO_ITS_MIDDLE: &[u32] = &[0xc800_0008];
 
 /// `addi r0,#-1,r1 / movtos r1,md / addi r0,#7,r2 / mstart r2,r3`, before `mstep r3,r2,r3`
-const MULTIPLY: &[u32] = &[0xc003_ffff, 0x5840_0000, 0xc004_0007, 0x4004_3009];
+static MULTIPLY: &[u32] = &[0xc003_ffff, 0x5840_0000, 0xc004_0007, 0x4004_3009];
 
 /// What the latches hold after eight turns of the first image.
 pub const SEVENTH: Latches = Latches {

@@ -6,8 +6,7 @@ use cmd_meaning::meaning_reply;
 use mx_asm::assemble;
 use mx_io::{MemoryShelf, MemorySink};
 use std::alloc::Global;
-use std::fs;
-use test_case_files::{before, behind, halves};
+use test_case_files::{before, behind, halves, stored, stored_shelf, wanted_text, words_of};
 
 /// The most bytes of a translation.
 const ROOM: usize = 1_048_576;
@@ -18,35 +17,9 @@ const PIECE: usize = 4096;
 /// How many statements of a program are executed at most.
 const STEPS: u32 = 3_000_000;
 
-/// The words of a line, between single spaces.
-fn words_of(alloc: Global, line: &str) -> Result<Vec<String>> {
-    let mut words = Vec::new(alloc);
-    for word in line.split(" ") {
-        words.push(String::from_str(alloc, word)?)?;
-    }
-    Ok(words)
-}
-
-/// Puts the file that a word names on the shelf, where it is stored.
-fn add_stored(rt: &HostRuntime, shelf: &mut MemoryShelf, word: &str) -> Result<()> {
-    if let Ok(bytes) = fs::read(rt, format!(in rt.alloc(); "files/{word}")?) {
-        shelf.add(word, bytes.as_slice())?;
-    }
-    Ok(())
-}
-
-/// The files that a line names.
-fn files_of(rt: &HostRuntime, line: &str) -> Result<MemoryShelf> {
-    let mut shelf = MemoryShelf::new(rt.alloc());
-    for word in line.split(" ") {
-        add_stored(rt, &mut shelf, word)?;
-    }
-    Ok(shelf)
-}
-
 /// How the command ended on the files that a line names, and what it printed.
 fn translated(rt: &HostRuntime, line: &str) -> Result<(Status, MemorySink)> {
-    let mut shelf = files_of(rt, line)?;
+    let mut shelf = stored_shelf(rt, line)?;
     translated_from(rt.alloc(), line, &mut shelf)
 }
 
@@ -79,9 +52,10 @@ fn meaning_of(alloc: Global, text: &[u8], input: &[u8]) -> Result<String> {
 
 /// The input of a program, of which there may be none.
 fn input_of(rt: &HostRuntime, name: &str) -> Result<Vec<u8>> {
-    match fs::read(rt, format!(in rt.alloc(); "files/{name}.in")?) {
-        Ok(bytes) => Ok(bytes),
-        Err(_) => Ok(Vec::new(rt.alloc())),
+    let name = format!(in rt.alloc(); "{name}.in")?;
+    match stored(rt, name.as_str())? {
+        Some(bytes) => Ok(bytes),
+        None => Ok(Vec::new(rt.alloc())),
     }
 }
 
@@ -94,7 +68,7 @@ fn told_of(rt: &HostRuntime, name: &str, program: &[u8]) -> Result<String> {
 /// What is told of a console that is `wanted/NAME`.
 fn console_of(rt: &HostRuntime, name: &str) -> Result<String> {
     let alloc = rt.alloc();
-    let wanted = fs::read_to_string(rt, format!(in alloc; "wanted/{name}")?)?;
+    let wanted = wanted_text(rt, name)?;
     let count = wanted.len();
     Ok(format!(in alloc; "console {count}\n{wanted}")?)
 }

@@ -1,9 +1,9 @@
 //! Texts of which the headline speaks: `can_be_run` tells by running whether there is such a run, and its contract that it is one.
-use crate::case::stored;
-use anyhow::{Context, Result};
+use crate::case::Case;
+use anyhow::Result;
 use mx_command::can_be_run;
 use std::alloc::Global;
-use test_case_files::{answered, before, halves};
+use test_case_files::{answered, before};
 
 /// The most bytes of a text, and of an interrupt file.
 const MOST_TEXT: usize = 4_194_304;
@@ -13,18 +13,13 @@ const MOST_REQUESTS: usize = 1_048_576;
 /// Whether the headline speaks of the run of a text under the interrupts of a file, for the case `TEXT INTERRUPTS -> yes`.
 pub fn accepted(rt: &HostRuntime, line: &str) -> Result<String> {
     let words = before(line, " -> ")?;
-    let (text, interrupts) = halves(words, " ")?;
-    answered(rt.alloc(), words, speaks_of_stored(rt, text, interrupts)?)
+    let answer = speaks_of_stored(rt, words)?;
+    answered(rt.alloc(), words, answer)
 }
 
-fn speaks_of_stored(rt: &HostRuntime, text: &str, interrupts: &str) -> Result<&'static str> {
-    let text = stored(rt, text)?.context("no such text")?;
-    speaks_under(rt, text.as_slice(), interrupts)
-}
-
-fn speaks_under(rt: &HostRuntime, text: &[u8], interrupts: &str) -> Result<&'static str> {
-    let interrupts = stored(rt, interrupts)?.context("no such interrupt file")?;
-    speaks_of(rt.alloc(), text, interrupts.as_slice())
+fn speaks_of_stored(rt: &HostRuntime, words: &str) -> Result<&'static str> {
+    let case = Case::stored(rt, words)?;
+    speaks_of(rt.alloc(), case.file(0)?, case.file(1)?)
 }
 
 /// Whether the headline speaks of the run of a text under these interrupts.

@@ -4,6 +4,7 @@ use mx_command::{Status, command};
 use mx_io::{MemoryShelf, MemorySink, Shelf};
 use std::alloc::Global;
 use std::fs;
+use test_case_files::words_of;
 
 /// How many bytes the sink takes at most in one put.
 const PIECE: usize = 64;
@@ -28,17 +29,6 @@ pub struct Case {
     files: Vec<File>,
     shelf: MemoryShelf,
     output: MemorySink,
-}
-
-/// The words of a command, between single spaces. Of an empty line there are none.
-fn words_of(alloc: Global, line: &str) -> Result<Vec<String>> {
-    let mut words = Vec::new(alloc);
-    for word in line.split(" ") {
-        if !word.is_empty() {
-            words.push(String::from_str(alloc, word)?)?;
-        }
-    }
-    Ok(words)
 }
 
 impl Case {
@@ -70,18 +60,23 @@ impl Case {
 
     fn add_stored(&mut self, rt: &HostRuntime, name: &str) -> Result<()> {
         match stored(rt, name)? {
-            Some(bytes) => self.add(rt.alloc(), name, bytes.as_slice()),
+            Some(bytes) => self.add(rt.alloc(), name, bytes),
             None => Ok(()),
         }
     }
 
     /// Makes a name hold the bytes when the command begins.
-    pub fn add(&mut self, alloc: Global, name: &str, bytes: &[u8]) -> Result<()> {
-        self.shelf.add(name, bytes)?;
+    pub fn add(&mut self, alloc: Global, name: &str, bytes: Vec<u8>) -> Result<()> {
+        self.shelf.add(name, bytes.as_slice())?;
         let name = String::from_str(alloc, name)?;
-        let bytes = Vec::from_slice(alloc, bytes)?;
         self.files.push(File { name, bytes })?;
         Ok(())
+    }
+
+    /// The bytes of the file that was added with this number, from 0 on.
+    pub fn file(&self, number: usize) -> Result<&[u8]> {
+        let file = self.files.get(number).context("no such file")?;
+        Ok(file.bytes.as_slice())
     }
 
     /// Lets a read or write fail, the first of them as 1.
@@ -178,15 +173,13 @@ pub fn spelled(rt: &HostRuntime, path: String) -> Result<Option<Vec<u8>>> {
 
 /// The bytes of `files/NAME`, or those that `files/NAME.hex` spells, where one of these is there.
 pub fn stored(rt: &HostRuntime, name: &str) -> Result<Option<Vec<u8>>> {
-    let alloc = rt.alloc();
-    if let Ok(bytes) = fs::read(rt, format!(in alloc; "files/{name}")?) {
-        return Ok(Some(bytes));
+    match test_case_files::stored(rt, name)? {
+        Some(bytes) => Ok(Some(bytes)),
+        None => spelled(rt, format!(in rt.alloc(); "files/{name}.hex")?),
     }
-    spelled(rt, format!(in alloc; "files/{name}.hex")?)
 }
 
-/// The bytes of `wanted/NAME`.
-pub fn wanted(rt: &HostRuntime, name: &str) -> Result<Vec<u8>> {
-    let bytes = fs::read(rt, format!(in rt.alloc(); "wanted/{name}")?)?;
-    Ok(bytes)
+/// The bytes of a stored file that has to be there.
+pub fn needed(rt: &HostRuntime, name: &str) -> Result<Vec<u8>> {
+    stored(rt, name)?.context("no such file")
 }

@@ -1,33 +1,28 @@
 //! Cases of image files.
-use crate::case::{Case, bytes_of, stored};
-use anyhow::{Context, Result};
+use crate::case::{Case, bytes_of};
+use anyhow::Result;
 use mx_command::Status;
 use std::alloc::Global;
 use test_case_files::{answered, before, number};
 
 /// How the run of an image file within few cycles ends, and the first line that it prints.
-fn exec(alloc: Global, bytes: &[u8]) -> Result<String> {
+fn exec(alloc: Global, bytes: Vec<u8>) -> Result<String> {
     let mut case = Case::new(alloc, "exec image --budget 100")?;
     case.add(alloc, "image", bytes)?;
     case.beginning(alloc)
 }
 
-fn exec_spelled(alloc: Global, text: &str) -> Result<String> {
-    let bytes = bytes_of(alloc, text)?;
-    exec(alloc, bytes.as_slice())
-}
-
 /// How `exec` ends on the bytes that a text spells in hexadecimal, for the case `HEX -> STATUS LINE`.
 pub fn image(alloc: Global, line: &str) -> Result<String> {
     let text = before(line, " -> ")?;
-    let answer = exec_spelled(alloc, text)?;
+    let answer = exec(alloc, bytes_of(alloc, text)?)?;
     answered(alloc, text, answer.as_str())
 }
 
 /// A command refuses the front of an image file as one that is cut there, and it stays.
 fn refuses(alloc: Global, words: &str, front: &[u8]) -> Result<bool> {
     let mut case = Case::new(alloc, words)?;
-    case.add(alloc, "front", front)?;
+    case.add(alloc, "front", Vec::from_slice(alloc, front)?)?;
     let status = case.run(alloc);
     let is_refused = status == Status::BadImage && is_truncated(alloc, &case, front.len())?;
     Ok(is_refused && case.keeps_files(alloc)?)
@@ -55,8 +50,8 @@ fn refused_fronts(alloc: Global, bytes: &[u8]) -> Result<u64> {
 }
 
 fn refused_fronts_of_stored(rt: &HostRuntime, name: &str) -> Result<u64> {
-    let bytes = stored(rt, name)?.context("no such file")?;
-    refused_fronts(rt.alloc(), bytes.as_slice())
+    let case = Case::stored(rt, name)?;
+    refused_fronts(rt.alloc(), case.file(0)?)
 }
 
 /// How many fronts of a stored image file are refused, for the case `NAME COUNT`.
@@ -78,14 +73,9 @@ fn noise(alloc: Global, count: u32) -> Result<Vec<u8>> {
     Ok(bytes)
 }
 
-fn exec_noise(alloc: Global, count: u32) -> Result<String> {
-    let bytes = noise(alloc, count)?;
-    exec(alloc, bytes.as_slice())
-}
-
 /// How `exec` ends on so many bytes of no image, for the case `COUNT -> STATUS LINE`.
 pub fn long(alloc: Global, line: &str) -> Result<String> {
     let count = before(line, " -> ")?;
-    let answer = exec_noise(alloc, number(count)?)?;
+    let answer = exec(alloc, noise(alloc, number(count)?)?)?;
     answered(alloc, count, answer.as_str())
 }

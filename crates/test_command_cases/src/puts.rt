@@ -1,10 +1,10 @@
 //! Cases of commands whose output is not taken whole.
-use crate::case::{Case, wanted};
+use crate::case::Case;
 use anyhow::Result;
 use mx_command::Status;
 use mx_io::MemorySink;
 use std::alloc::Global;
-use test_case_files::{behind, halves};
+use test_case_files::{behind, halves, wanted};
 
 /// How many bytes the sink takes at most in one put.
 const PIECE: usize = 16;

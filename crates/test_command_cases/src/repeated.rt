@@ -2,23 +2,7 @@
 use crate::case::Case;
 use anyhow::Result;
 use std::alloc::Global;
-use test_case_files::{answered, before, halves, number};
-
-/// The text of a source that is told as `LINE / COUNT * LINE / ..`.
-fn text_of(alloc: Global, told: &str) -> Result<Vec<u8>> {
-    let mut text = Vec::new(alloc);
-    for part in told.split(" / ") {
-        let (count, line) = match part.split_once(" * ") {
-            Some((count, line)) => (number(count)?, line),
-            None => (1, part),
-        };
-        for _ in 0..count {
-            text.extend_from_slice(line.as_bytes())?;
-            text.push(b'\n')?;
-        }
-    }
-    Ok(text)
-}
+use test_case_files::{answered, before, halves, text_of_lines};
 
 /// A command on the name `source`, which comes last, where the command does not have it.
 fn naming_source(alloc: Global, command: &str) -> Result<Case> {
@@ -29,16 +13,11 @@ fn naming_source(alloc: Global, command: &str) -> Result<Case> {
     Case::new(alloc, words.as_str())
 }
 
-fn on_text(alloc: Global, command: &str, text: &[u8]) -> Result<Case> {
-    let mut case = naming_source(alloc, command)?;
-    case.add(alloc, "source", text)?;
-    Ok(case)
-}
-
 /// A command on a source that is told by lines.
 fn on_lines(alloc: Global, command: &str, lines: &str) -> Result<Case> {
-    let text = text_of(alloc, lines)?;
-    on_text(alloc, command, text.as_slice())
+    let mut case = naming_source(alloc, command)?;
+    case.add(alloc, "source", text_of_lines(alloc, lines)?)?;
+    Ok(case)
 }
 
 fn beginning(alloc: Global, command: &str, lines: &str) -> Result<String> {

@@ -1,9 +1,9 @@
 //! Cases of whole commands over stored files.
-use crate::case::{Case, spelled, wanted};
+use crate::case::{Case, spelled};
 use anyhow::Result;
 use mx_command::Status;
 use std::alloc::Global;
-use test_case_files::{answered, before, behind, halves, number};
+use test_case_files::{answered, before, behind, halves, number, wanted};
 
 /// What is said of a command that changes a file.
 const CHANGES: &str = ", which changes a file";
@@ -97,7 +97,7 @@ fn sent_by_joined(rt: &HostRuntime, modules: &str) -> Result<String> {
 /// What the run of a program sends.
 fn sent_by(alloc: Global, program: &[u8]) -> Result<String> {
     let mut run = Case::new(alloc, "run program")?;
-    run.add(alloc, "program", program)?;
+    run.add(alloc, "program", Vec::from_slice(alloc, program)?)?;
     sent(alloc, run.run_for_text(alloc)?)
 }
 
@@ -129,7 +129,7 @@ fn is_built(rt: &HostRuntime, line: &str) -> Result<bool> {
 fn is_executed(rt: &HostRuntime, line: &str, status: Status, printed: &[u8]) -> Result<bool> {
     let (source, options) = line.split_once(" ").unwrap_or((line, ""));
     let image = image_of(rt, source)?;
-    let mut exec = executing(rt, options, image.as_slice())?;
+    let mut exec = executing(rt, options, image)?;
     Ok(exec.run(rt.alloc()) == status && exec.printed() == printed)
 }
 
@@ -140,7 +140,7 @@ fn image_of(rt: &HostRuntime, source: &str) -> Result<Vec<u8>> {
     build.written(alloc)
 }
 
-fn executing(rt: &HostRuntime, options: &str, image: &[u8]) -> Result<Case> {
+fn executing(rt: &HostRuntime, options: &str, image: Vec<u8>) -> Result<Case> {
     let mut exec = Case::stored_between(rt, "exec image", options, "")?;
     exec.add(rt.alloc(), "image", image)?;
     Ok(exec)

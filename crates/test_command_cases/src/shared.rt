@@ -1,6 +1,6 @@
 //! Cases of two programs that share the machine: each prints what its own meaning does, as far as it comes.
-use crate::case::{Case, stored};
-use anyhow::{Context, Result};
+use crate::case::{Case, needed};
+use anyhow::Result;
 use std::alloc::Global;
 use test_case_files::{answered, before, behind, halves, number};
 
@@ -53,7 +53,7 @@ fn meanings(rt: &HostRuntime, sources: &str) -> Result<Consoles> {
 }
 
 /// What they print when they share the machine, with these requests.
-fn shared_run(rt: &HostRuntime, sources: &str, requests: &[u8]) -> Result<Consoles> {
+fn shared_run(rt: &HostRuntime, sources: &str, requests: Vec<u8>) -> Result<Consoles> {
     let alloc = rt.alloc();
     let options = "--budget 20000 --interrupts requests";
     let mut case = Case::stored_between(rt, "share", sources, options)?;
@@ -73,16 +73,11 @@ fn both_consoles(alloc: Global, text: &str) -> Result<Consoles> {
 pub fn shared(rt: &HostRuntime, line: &str) -> Result<String> {
     let case = before(line, " -> ")?;
     let (requests, sources) = halves(case, ": ")?;
-    answered(rt.alloc(), case, who_under_stored(rt, requests, sources)?)
+    answered(rt.alloc(), case, who_under(rt, requests, sources)?)
 }
 
-fn who_under_stored(rt: &HostRuntime, requests: &str, sources: &str) -> Result<&'static str> {
-    let requests = stored(rt, requests)?.context("no such file")?;
-    who_under(rt, requests.as_slice(), sources)
-}
-
-fn who_under(rt: &HostRuntime, requests: &[u8], sources: &str) -> Result<&'static str> {
-    let run = shared_run(rt, sources, requests)?;
+fn who_under(rt: &HostRuntime, requests: &str, sources: &str) -> Result<&'static str> {
+    let run = shared_run(rt, sources, needed(rt, requests)?)?;
     let meant = meanings(rt, sources)?;
     if run.begin(&meant) {
         Ok(run.who_prints())
@@ -113,6 +108,6 @@ fn begin_at_each(rt: &HostRuntime, sources: &str, cycles: u32) -> Result<u64> {
 /// Whether the consoles are fronts of those that are meant, with a request in this cycle alone.
 fn begin_at(rt: &HostRuntime, sources: &str, cycle: u32, meant: &Consoles) -> Result<bool> {
     let request = format!(in rt.alloc(); "{cycle}")?;
-    let run = shared_run(rt, sources, request.as_bytes())?;
+    let run = shared_run(rt, sources, request.into_bytes())?;
     Ok(run.begin(meant))
 }

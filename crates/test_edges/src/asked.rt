@@ -44,7 +44,7 @@ impl Commands for Echo {
 
 // The name of a command, a body, and the answer to it.
 #[rattlefmt::skip]
-static ANSWERS: [(&str, &str, &str); 14] = [
+static RUN: [(&str, &str, &str); 4] = [
     ("run", "{\"interrupts\": [2, 30], \"budget\": 7, \"source\": \"halt\", \"name\": \"a.s\"}",
         "{\"command\":\"run\",\"status\":3,\"errors\":\"2\\n30\\n\",\"text\":\"run a.s --interrupts .interrupts --budget 7 \"}\n"),
     ("check", "{\"source\": \"\"}", "{\"command\":\"check\",\"status\":3,\"text\":\"check source --as json --all \"}\n"),
@@ -52,26 +52,67 @@ static ANSWERS: [(&str, &str, &str); 14] = [
         "{\"command\":\"draw\",\"status\":3,\"text\":\"draw source --cycles 9 --as svg \"}\n"),
     ("draw", "{\"source\": \"\", \"input\": []}",
         "{\"command\":\"draw\",\"status\":3,\"text\":\"draw source --input .input --as json \"}\n"),
-    ("run", "{\"source\": \"\", \"budget\": 0}", "{\"error\":\"budget: no number from 1 to 100000000\",\"field\":\"budget\"}\n"),
-    ("run", "{\"source\": \"\", \"trace\": true}", "{\"error\":\"trace: no number from 0 to 10000\",\"field\":\"trace\"}\n"),
-    ("check", "{\"source\": \"\", \"budget\": 1}", "{\"error\":\"budget: no field of check\",\"field\":\"budget\"}\n"),
-    ("explain", "{\"budget\": 1}", "{\"error\":\"source: left out\",\"field\":\"source\"}\n"),
-    ("profile", "{\"source\": \"\", \"input\": [256]}",
-        "{\"error\":\"input: no string, and no list of numbers from 0 to 255\",\"field\":\"input\"}\n"),
-    ("compare", "{\"source\": \"\", \"interrupts\": [5, 5]}",
-        "{\"error\":\"interrupts: no list of at most 65536 ascending numbers from 0 to 4294967295\",\"field\":\"interrupts\"}\n"),
-    ("draw", "{\"source\": \"\", \"as\": \"png\"}", "{\"error\":\"as: none of json, text, svg, html, kanata, vcd\",\"field\":\"as\"}\n"),
-    ("check", "{\"source\": \"\", \"\\n\": 1}", "{\"error\":\"\\n: no field of check\",\"field\":\"\\n\"}\n"),
-    ("run", "[1]", "{\"error\":\"no JSON object\"}\n"),
-    ("run", "{\"source\": halt}", "{\"error\":\"no JSON\"}\n"),
 ];
 
+// The name of a command, a body, the field that is refused, and what is said of it.
+#[rattlefmt::skip]
+static REFUSED: [(&str, &str, &str, &str); 8] = [
+    ("run", "{\"source\": \"\", \"budget\": 0}", "budget", "no number from 1 to 100000000"),
+    ("run", "{\"source\": \"\", \"trace\": true}", "trace", "no number from 0 to 10000"),
+    ("check", "{\"source\": \"\", \"budget\": 1}", "budget", "no field of check"),
+    ("explain", "{\"budget\": 1}", "source", "left out"),
+    ("profile", "{\"source\": \"\", \"input\": [256]}", "input", "no string, and no list of numbers from 0 to 255"),
+    ("compare", "{\"source\": \"\", \"interrupts\": [5, 5]}", "interrupts",
+        "no list of at most 65536 ascending numbers from 0 to 4294967295"),
+    ("draw", "{\"source\": \"\", \"as\": \"png\"}", "as", "none of json, text, svg, html, kanata, vcd"),
+    ("check", "{\"source\": \"\", \"\\n\": 1}", "\\n", "no field of check"),
+];
+
+// A body that is no request, and the answer to it.
+static NONE: [(&str, &str); 2] = [
+    ("[1]", "{\"error\":\"no JSON object\"}\n"),
+    ("{\"source\": halt}", "{\"error\":\"no JSON\"}\n"),
+];
+
+// Whether the answer to a body is this document.
+fn is_answered(alloc: Global, name: &str, body: &str, wanted: &str) -> Result<bool, Fail> {
+    let command = Command::named(name).unwrap_or(Command::Run);
+    let answer = answer_body(alloc, &Echo, command, body.as_bytes())?;
+    Ok(answer.document.as_slice() == wanted.as_bytes())
+}
+
+// Whether a field is refused so.
+fn is_refused(
+    alloc: Global,
+    name: &str,
+    body: &str,
+    field: &str,
+    fault: &str,
+) -> Result<bool, Fail> {
+    let wanted = format!(in alloc; "{{\"error\":\"{field}: {fault}\",\"field\":\"{field}\"}}\n")?;
+    is_answered(alloc, name, body, wanted.as_str())
+}
+
 #[test]
-fn requests_are_answered(rt: HostRuntime) -> Result<(), Fail> {
-    for (name, body, wanted) in &ANSWERS {
-        let command = Command::named(*name).unwrap_or(Command::Run);
-        let answer = answer_body(rt.alloc(), &Echo, command, body.as_bytes())?;
-        assert!(rt; answer.document.as_slice() == wanted.as_bytes());
+fn requests_are_run(rt: HostRuntime) -> Result<(), Fail> {
+    for (name, body, wanted) in &RUN {
+        assert!(rt; is_answered(rt.alloc(), name, body, wanted)?);
+    }
+    Ok(())
+}
+
+#[test]
+fn a_field_is_refused(rt: HostRuntime) -> Result<(), Fail> {
+    for (name, body, field, fault) in &REFUSED {
+        assert!(rt; is_refused(rt.alloc(), name, body, field, fault)?);
+    }
+    Ok(())
+}
+
+#[test]
+fn other_bodies_are_no_requests(rt: HostRuntime) -> Result<(), Fail> {
+    for (body, wanted) in &NONE {
+        assert!(rt; is_answered(rt.alloc(), "run", body, wanted)?);
     }
     Ok(())
 }

@@ -7,7 +7,7 @@ use std::cell::Cell;
 use std::test::Fail;
 
 /// `halt`: the cycles behind it cost little time, and are told like any other.
-const HALTS: [u32; 1] = [0xe000_0000];
+static HALTS: [u32; 1] = [0xe000_0000];
 
 /// Keeps how often it was told, and what it was told last.
 #[derive(Clone, Copy)]

@@ -4,7 +4,7 @@ use lab_command::{Unknown, lab};
 use lab_watch::Unwatched;
 use mx_io::{MemoryShelf, MemorySink};
 use std::alloc::Global;
-use std::fs;
+use test_case_files::{stored_shelf, words_of};
 
 /// The most bytes that a case prints.
 const ROOM: usize = 1_048_576;
@@ -48,41 +48,15 @@ impl Ended {
     }
 }
 
-// The words of a line, between single spaces.
-fn words_of(alloc: Global, line: &str) -> Result<Vec<String>> {
-    let mut words = Vec::new(alloc);
-    for word in line.split(" ") {
-        words.push(String::from_str(alloc, word)?)?;
-    }
-    Ok(words)
-}
-
-// Puts the file that a word names on the shelf, where it is stored.
-fn add_stored(rt: &HostRuntime, shelf: &mut MemoryShelf, word: &str) -> Result<()> {
-    if let Ok(bytes) = fs::read(rt, format!(in rt.alloc(); "files/{word}")?) {
-        shelf.add(word, bytes.as_slice())?;
-    }
-    Ok(())
-}
-
-// The stored files that the words of a line name.
-fn files_of(rt: &HostRuntime, line: &str) -> Result<MemoryShelf> {
-    let mut shelf = MemoryShelf::new(rt.alloc());
-    for word in line.split(" ") {
-        add_stored(rt, &mut shelf, word)?;
-    }
-    Ok(shelf)
-}
-
 /// Runs the command that the words of a line ask for, over the stored files that they name.
 pub fn run(rt: &HostRuntime, line: &str) -> Result<Ended> {
-    let mut shelf = files_of(rt, line)?;
+    let mut shelf = stored_shelf(rt, line)?;
     run_over(rt.alloc(), line, &mut shelf)
 }
 
 /// The same, where a file of this name holds these bytes.
 pub fn run_with(rt: &HostRuntime, line: &str, name: &str, bytes: &[u8]) -> Result<Ended> {
-    let mut shelf = files_of(rt, line)?;
+    let mut shelf = stored_shelf(rt, line)?;
     shelf.add(name, bytes)?;
     run_over(rt.alloc(), line, &mut shelf)
 }
@@ -104,10 +78,4 @@ fn run_over(alloc: Global, line: &str, shelf: &mut MemoryShelf) -> Result<Ended>
         output,
         errors: ended.errors,
     })
-}
-
-/// What a case has to print, as far as it is stored.
-pub fn wanted(rt: &HostRuntime, name: &str) -> Result<String> {
-    let text = fs::read_to_string(rt, format!(in rt.alloc(); "wanted/{name}")?)?;
-    Ok(text)
 }

@@ -2,29 +2,13 @@
 use crate::case::{Ended, run_with};
 use anyhow::Result;
 use std::alloc::Global;
-use test_case_files::{answered, before, halves, number};
+use test_case_files::{answered, before, halves, text_of_lines};
 
 /// The file that holds the source.
 const SOURCE: &str = "source";
 
 /// What stands between two lines.
 const BETWEEN: &str = " / ";
-
-// The text that is told as `LINE / COUNT * LINE / ..`.
-fn text_of(alloc: Global, told: &str) -> Result<Vec<u8>> {
-    let mut text = Vec::new(alloc);
-    for part in told.split(BETWEEN) {
-        let (count, line) = match part.split_once(" * ") {
-            Some((count, line)) => (number(count)?, line),
-            None => (1, part),
-        };
-        for _ in 0..count {
-            text.extend_from_slice(line.as_bytes())?;
-            text.push(b'\n')?;
-        }
-    }
-    Ok(text)
-}
 
 // The lines of a text on one line.
 fn on_one_line(alloc: Global, text: &str) -> Result<String> {
@@ -50,7 +34,7 @@ fn told_on_one_line(alloc: Global, ended: &Ended) -> Result<String> {
 // The same of a command on a source with these lines.
 fn told_on_lines(rt: &HostRuntime, words: &str, lines: &str) -> Result<String> {
     let alloc = rt.alloc();
-    let text = text_of(alloc, lines)?;
+    let text = text_of_lines(alloc, lines)?;
     let ended = run_with(rt, words, SOURCE, text.as_slice())?;
     told_on_one_line(alloc, &ended)
 }

@@ -1,7 +1,7 @@
 //! Cases by the text that a command prints.
-use crate::case::{run, wanted};
+use crate::case::run;
 use anyhow::Result;
-use test_case_files::{behind, halves};
+use test_case_files::{behind, halves, wanted, wanted_text};
 
 /// How a command ends, for the case `STATUS NAME: WORDS`. What it prints, or what goes to standard error, is `wanted/NAME`.
 pub fn whole(rt: &HostRuntime, line: &str) -> Result<String> {
@@ -20,7 +20,7 @@ fn outcome(rt: &HostRuntime, name: &str, words: &str) -> Result<(String, &'stati
 
 fn note_on(rt: &HostRuntime, name: &str, said: &[u8]) -> Result<&'static str> {
     let wanted = wanted(rt, name)?;
-    if said == wanted.as_bytes() {
+    if said == wanted.as_slice() {
         Ok("")
     } else {
         Ok(", of another output")
@@ -40,7 +40,7 @@ fn missing(text: &str, wanted: &str) -> u64 {
 }
 
 fn missing_of_wanted(rt: &HostRuntime, name: &str, text: &str) -> Result<u64> {
-    let wanted = wanted(rt, name)?;
+    let wanted = wanted_text(rt, name)?;
     Ok(missing(text, wanted.as_str()))
 }
 

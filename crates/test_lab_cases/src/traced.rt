@@ -1,7 +1,7 @@
 //! Cases by traces, which come from outside: each cell of a drawing against the stages of that cycle.
-use crate::case::{run, wanted};
+use crate::case::run;
 use anyhow::Result;
-use test_case_files::{behind, halves};
+use test_case_files::{behind, halves, wanted_text};
 
 /// Where the cells of a row begin, how wide one is, and how many a band has.
 const LABEL: usize = 36;
@@ -109,7 +109,7 @@ fn agreeing(text: &str, trace: &str) -> u64 {
 }
 
 fn agreeing_with_wanted(rt: &HostRuntime, name: &str, text: &str) -> Result<u64> {
-    let trace = wanted(rt, name)?;
+    let trace = wanted_text(rt, name)?;
     Ok(agreeing(text, trace.as_str()))
 }
 

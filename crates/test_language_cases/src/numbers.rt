@@ -7,41 +7,39 @@ use anyhow::{Context, Result, bail, ensure};
 use mx_code::decode;
 use mx_isa::{Cond, Op, compute, holds};
 use std::alloc::{AllocError, Global};
+use std::fmt::Debug;
 
-/// The conditions by their names.
-static CONDITIONS: [(&str, Cond); 6] = [
-    ("Eq", Cond::Eq),
-    ("Ne", Cond::Ne),
-    ("Lt", Cond::Lt),
-    ("Ge", Cond::Ge),
-    ("Lo", Cond::Lo),
-    ("Hs", Cond::Hs),
+static CONDITIONS: [Cond; 6] = [Cond::Eq, Cond::Ne, Cond::Lt, Cond::Ge, Cond::Lo, Cond::Hs];
+
+/// The operations that have no count.
+static OPERATIONS: [Op; 12] = [
+    Op::Add,
+    Op::Sub,
+    Op::Subnc,
+    Op::And,
+    Op::Or,
+    Op::Xor,
+    Op::Bic,
+    Op::Not,
+    Op::Rotlb,
+    Op::Mstart,
+    Op::Mstep,
+    Op::Dstep,
 ];
 
-/// The operations that have no count, by their names.
-static OPERATIONS: [(&str, Op); 12] = [
-    ("Add", Op::Add),
-    ("Sub", Op::Sub),
-    ("Subnc", Op::Subnc),
-    ("And", Op::And),
-    ("Or", Op::Or),
-    ("Xor", Op::Xor),
-    ("Bic", Op::Bic),
-    ("Not", Op::Not),
-    ("Rotlb", Op::Rotlb),
-    ("Mstart", Op::Mstart),
-    ("Mstep", Op::Mstep),
-    ("Dstep", Op::Dstep),
-];
-
-/// What a table has under a name.
-fn named<T: Copy>(table: &[(&str, T)], name: &str) -> Option<T> {
-    for (other, value) in table {
-        if *other == name {
-            return Some(*value);
+/// The one of these that has a name, which is as `Debug` prints it.
+fn named<T: Copy + Debug>(
+    alloc: Global,
+    values: &[T],
+    name: &str,
+) -> Result<Option<T>, AllocError> {
+    for value in values {
+        let text = format!(in alloc; "{value:?}")?;
+        if text.as_str() == name {
+            return Ok(Some(*value));
         }
     }
-    None
+    Ok(None)
 }
 
 /// A number in hexadecimal.
@@ -61,7 +59,7 @@ fn count(text: &str) -> Result<u8>
 }
 
 /// An operation.
-fn operation(text: &str) -> Result<Op>
+fn operation(alloc: Global, text: &str) -> Result<Op>
     ensures { IfOk result CountFits }
 {
     if let Some(rest) = text.strip_prefix("Asr(") {
@@ -70,7 +68,7 @@ fn operation(text: &str) -> Result<Op>
     if let Some(rest) = text.strip_prefix("Sh(") {
         return Ok(Op::Sh(count(rest)?));
     }
-    match named(OPERATIONS.as_slice(), text) {
+    match named(alloc, OPERATIONS.as_slice(), text)? {
         Some(op) => counted(op),
         None => bail!("no operation"),
     }
@@ -106,7 +104,7 @@ pub fn word(alloc: Global, line: &str) -> Result<String> {
 pub fn computed(alloc: Global, line: &str) -> Result<String> {
     let mut words = line.split(" ");
     let name = words.next().context("an operation is missing")?;
-    let op = operation(name)?;
+    let op = operation(alloc, name)?;
     let a = number(words.next())?;
     let b = number(words.next())?;
     let md = number(words.next())?;
@@ -118,7 +116,7 @@ pub fn computed(alloc: Global, line: &str) -> Result<String> {
 pub fn held(alloc: Global, line: &str) -> Result<String> {
     let mut words = line.split(" ");
     let name = words.next().context("a condition is missing")?;
-    let cond = named(CONDITIONS.as_slice(), name).context("no condition")?;
+    let cond = named(alloc, CONDITIONS.as_slice(), name)?.context("no condition")?;
     let a = number(words.next())?;
     let b = number(words.next())?;
     let held = u8::from(holds(cond, a, b));

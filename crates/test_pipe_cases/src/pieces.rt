@@ -1,15 +1,12 @@
 //! Cycles of the pipeline many at once, against the same cycles one by one.
 use crate::drawn::{Asked, Draw, DrawnProgram, asked_of, drawn_program, told_of_images};
-use crate::sides::tell_alike;
+use crate::sides::{MOST_CYCLES, tell_alike};
 use anyhow::{Result, bail};
 use mx_icache::{LineCache, Set};
 use mx_pipe::Pipe;
 use mx_turn::Machine;
 use std::alloc::Global;
 use test_case_files::before;
-
-/// No run has more cycles.
-const MOST_CYCLES: u64 = 1_000_000;
 
 /// The longest piece that is tried from each place where it may begin.
 const MOST_SHIFTED: u32 = 16;

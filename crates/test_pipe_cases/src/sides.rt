@@ -11,7 +11,7 @@ use std::alloc::Global;
 use test_case_files::{before, halves, number};
 
 /// No case has more cycles.
-const MOST_CYCLES: u64 = 1_000_000;
+pub const MOST_CYCLES: u64 = 1_000_000;
 
 /// The data words that are compared, the system's and the first of the user's.
 const WORDS: u32 = 512;
@@ -82,32 +82,25 @@ pub fn differ(
     input: Option<&[u8]>,
     cycles: u32,
 ) -> Result<Option<u32>> {
-    if program.handler.len() > 4_096 {
+    let Program {
+        image,
+        handler,
+        requests,
+    } = *program;
+    if handler.len() > 4_096 {
         bail!("the handler is too long")
     }
     let input = match input {
         Some(bytes) if bytes.len() > 1_048_576 => bail!("the input is too long"),
         input => input,
     };
-    let Ok(mut turns) = Turns::with(
-        alloc,
-        program.image,
-        program.handler,
-        input,
-        LineCache::new(),
-    ) else {
+    let Ok(mut turns) = Turns::with(alloc, image, handler, input, LineCache::new()) else {
         bail!("out of memory")
     };
-    let Ok(mut pipe) = Pipe::with(
-        alloc,
-        program.image,
-        program.handler,
-        input,
-        LineCache::new(),
-    ) else {
+    let Ok(mut pipe) = Pipe::with(alloc, image, handler, input, LineCache::new()) else {
         bail!("out of memory")
     };
-    Ok(first_difference(&mut turns, &mut pipe, program.requests, cycles))
+    Ok(first_difference(&mut turns, &mut pipe, requests, cycles))
 }
 
 // The numbers of a text.

@@ -9,7 +9,7 @@ use mx_best::{MOST_SEARCHED, best};
 use mx_blocks::{Block, Item, Plan, blocks};
 use mx_reorg::ListProposer;
 use mx_source::Source;
-use mx_squash::copies;
+use mx_squash::{Copied, copies};
 use mx_validate::{Proposer, choose, padded};
 use std::alloc::{AllocError, Global};
 use test_case_files::{before, text_of_lines};
@@ -72,19 +72,7 @@ fn starts_of(alloc: Global, plans: &[Plan]) -> Result<Vec<u32>, AllocError> {
 }
 
 /// Appends the copies of a block.
-fn push_copies(
-    text: &mut String,
-    blocks: &[Block],
-    plans: &[Plan],
-    starts: &[u32],
-    branch: u32,
-) -> Result<(), AllocError>
-    requires blocks { AreOfOneSource blocks.now }
-    requires plans { length plans.now ≡ length blocks.now }
-    requires starts { length starts.now ≡ length blocks.now }
-    requires within { branch < length blocks.now }
-{
-    let copied = copies(blocks, plans, starts, branch);
+fn push_copies(text: &mut String, copied: Copied) -> Result<(), AllocError> {
     push_item(text, copied.from[0])?;
     push_item(text, copied.from[1])?;
     write!(text, "{}", copied.count)?;
@@ -115,23 +103,16 @@ fn push_plans(text: &mut String, block: &Block, greedy: &Plan) -> Result<(), All
     write!(text, ", backwards {}", verdict(block, &mut Backwards))
 }
 
-/// Appends what becomes of one block of several.
+/// Appends what becomes of a block.
 fn push_block(
     text: &mut String,
-    blocks: &[Block],
-    plans: &[Plan],
-    starts: &[u32],
-    branch: usize,
-) -> Result<(), AllocError>
-    requires blocks { AreOfOneSource blocks.now }
-    requires plans { length plans.now ≡ length blocks.now }
-    requires starts { length starts.now ≡ length blocks.now }
-    requires within { branch < length blocks.now }
-    requires few { length blocks.now < 2 ^ 32 }
-{
-    push_plans(text, &blocks[branch], &plans[branch])?;
+    block: &Block,
+    greedy: &Plan,
+    copied: Copied,
+) -> Result<(), AllocError> {
+    push_plans(text, block, greedy)?;
     text.push_str(", copies ")?;
-    push_copies(text, blocks, plans, starts, branch as u32)
+    push_copies(text, copied)
 }
 
 /// What becomes of each block.
@@ -151,7 +132,8 @@ fn all_text(
         if branch > 0 {
             text.push_str(" | ")?;
         }
-        push_block(&mut text, blocks, plans, starts, branch)?;
+        let copied = copies(blocks, plans, starts, branch as u32);
+        push_block(&mut text, &blocks[branch], &plans[branch], copied)?;
     }
     Ok(text)
 }

@@ -1,0 +1,3 @@
+nop
+jpc
+frob

@@ -1,0 +1,3 @@
+nop
+b away
+add r1,r2,r32

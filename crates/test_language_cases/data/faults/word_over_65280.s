@@ -1,0 +1,3 @@
+.data
+.space 65280
+.word 1
