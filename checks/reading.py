@@ -27,7 +27,7 @@ PARTS = {
     "C": ("mx_blocks", "mx_depend", "mx_validate", "mx_reorg", "mx_squash", "mx_layout", "mx_link", "law_schedule", "mx_delay", "mx_code"),
 }
 SHOWN = "ABCD"
-IMPORT = re.compile(r"(?:ghost )?use Rattle\.(\w+)\.specs\.([\w.]+?)\.\{(.*)\};?$")
+IMPORT = re.compile(r"(?:ghost |pub )?use Rattle\.(\w+)\.specs\.([\w.]+?)\.\{(.*)\};?$")
 RECORD = re.compile(r"^ *(?:pub )?(?:record|data) (\S+).* where$")
 DEFINED = re.compile(r"^(?:  (?=abbrev))?(?:(?:abbrev|unfoldable|pub) )*([^\s:(){}]+) : ")
 NAME = re.compile(r"[^\s(){},;.]+")
@@ -51,13 +51,14 @@ class File:
         lines = path.read_text().splitlines()
         self.path = path
         self.imports = imports_of(lines)
+        self.passed_on = imports_of([line for line in lines if line.startswith("pub use ")])
         self.says = next((line[3:] for line in lines if line.startswith("-- ")), "")
         self.defined = {}
         self.lengths = {}
         current = None
         comments = 0
         for line in lines:
-            if not line or line.startswith("use "):
+            if not line or line.startswith(("use ", "pub use ")):
                 continue
             text = line.partition("--")[0]
             if not text.strip():
@@ -112,6 +113,9 @@ def reached():
                 types.setdefault((crate, path), {})[own] = lines
             continue
         file = files.get((crate, module))
+        if file and name in file.passed_on:
+            left.append(file.imports[name])
+            continue
         name = file and file.where(name)
         if name is None or name in found.setdefault((crate, module), set()):
             continue
