@@ -76,15 +76,16 @@ fn compare_one<'a, W: Watcher>(
 }
 
 // The comparison of each source.
-fn compare_each<'a, W: Watcher>(
-    asked: &Asked<'a>,
+fn compare_each<'w, W: Watcher>(
+    asked: &Asked<'_, 'w>,
     programs: &[Program],
     conditions: &Conditions,
     watcher: W,
-) -> Result<Vec<Compared<'a>>, Failure>
+) -> Result<Vec<Compared<'w>>, Failure>
     requires { length conditions.now.input.now ≤ MAX_FILE_BYTES }
 {
-    let (alloc, names) = (asked.alloc, asked.names());
+    let alloc = asked.alloc;
+    let names = asked.matches.get_strs("SOURCE").unwrap_or(&[]);
     let mut compared = Vec::new(alloc);
     for (name, program) in names.iter().zip(programs) {
         let is_one = names.len() == 1;
@@ -145,6 +146,7 @@ pub fn compare_reply<S: Shelf, W: Watcher>(
     shelf: &mut S,
     watcher: W,
 ) -> Result<Reply, Failure> {
-    let programs = read_sources(asked.alloc, shelf, asked.names())?;
+    let names = asked.matches.get_strs("SOURCE").unwrap_or(&[]);
+    let programs = read_sources(asked.alloc, shelf, names)?;
     sources_reply(asked, shelf, programs.as_slice(), watcher)
 }

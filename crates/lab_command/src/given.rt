@@ -9,10 +9,10 @@ const STANDARD_INPUT_FILE: &str = "/dev/stdin";
 
 /// What is asked: a command by its name, its words, and memory for the reply.
 #[derive(Clone, Copy)]
-pub struct Asked<'a> {
+pub struct Asked<'a, 'w> {
     pub alloc: Global,
     pub name: &'a str,
-    pub matches: &'a ArgMatches<'a>,
+    pub matches: &'a ArgMatches<'w>,
 }
 
 /// The word of an option or a name; empty where there is none, which is the name of no file.
@@ -28,20 +28,15 @@ pub fn file_by<'a>(word: &'a str) -> &'a str {
     }
 }
 
-impl<'a> Asked<'a> {
+impl<'a, 'w> Asked<'a, 'w> {
     /// The number of an option that has a default.
     pub fn number(&self, name: &str) -> u32 {
         self.matches.get_one::<u32>(name).unwrap_or(0)
     }
 
     /// The word of an option or a name; empty where there is none.
-    pub fn word(&self, name: &str) -> &'a str {
+    pub fn word(&self, name: &str) -> &'w str {
         word_given(self.matches, name)
-    }
-
-    /// The names of sources, where a command takes several.
-    pub fn names(&self) -> &'a [&'a str] {
-        self.matches.get_strs("SOURCE").unwrap_or(&[])
     }
 
     /// Whether an option without a value is there.
@@ -50,7 +45,7 @@ impl<'a> Asked<'a> {
     }
 
     /// The file that a word names, if there is one.
-    pub fn file_if_any(&self, name: &str) -> Option<&'a str> {
+    pub fn file_if_any(&self, name: &str) -> Option<&'w str> {
         match self.matches.get_str(name) {
             Some(word) => Some(file_by(word)),
             None => None,
@@ -58,7 +53,7 @@ impl<'a> Asked<'a> {
     }
 
     /// The file that a word names; an empty name, which no file has, where there is none.
-    pub fn file(&self, name: &str) -> &'a str {
+    pub fn file(&self, name: &str) -> &'w str {
         self.file_if_any(name).unwrap_or("")
     }
 }

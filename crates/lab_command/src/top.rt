@@ -121,6 +121,22 @@ fn words_answer<'a>(alloc: Global, error: &Error) -> Result<Answer<'a>, Memory> 
     }
 }
 
+// The reply of a command, where it has these words.
+fn reply_of<'x, S: Shelf, T: Watcher>(
+    alloc: Global,
+    name: &'x str,
+    matches: &'x ArgMatches,
+    shelf: &mut S,
+    watcher: T,
+) -> Result<Reply, Memory> {
+    let asked = Asked {
+        alloc,
+        name,
+        matches,
+    };
+    replied(answered_by(&asked, shelf, watcher))
+}
+
 // The answer of a command, where it has these words.
 fn command_answer<'a, S: Shelf, T: Watcher, C: Causes>(
     alloc: Global,
@@ -130,12 +146,7 @@ fn command_answer<'a, S: Shelf, T: Watcher, C: Causes>(
     watcher: T,
     causes: C,
 ) -> Result<Answer<'a>, Memory> {
-    let asked = Asked {
-        alloc,
-        name,
-        matches,
-    };
-    let reply = replied(answered_by(&asked, shelf, watcher))?;
+    let reply = reply_of(alloc, name, matches, shelf, watcher)?;
     answer_of(alloc, name, matches, reply, causes)
 }
 
