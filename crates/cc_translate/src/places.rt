@@ -35,6 +35,57 @@ struct Knowledge {
     points: bool,
 }
 
+/// The place of what is too far from all that is known: so many bytes from a register.
+fn far(base: Register, bytes: u32) -> Place {
+    Place::Far {
+        base: base.0,
+        bytes,
+    }
+}
+
+/// The place at an offset from a base that holds a number.
+fn place_at_number(base: Register, value: u32, offset: u32) -> Place {
+    let address = value.wrapping_add(offset);
+    let words = quarter(address);
+    if in_reach(words) {
+        Place::Byte {
+            base: 0,
+            words,
+            byte: byte_of(address),
+        }
+    } else {
+        far(base, offset)
+    }
+}
+
+/// The place at an offset from a base that is a multiple of 4, so many words from four times what the register `from` holds.
+fn place_of_byte(base: Register, from: u8, words: u32, offset: u32) -> Place {
+    let words = words.wrapping_add(quarter(offset));
+    if in_reach(words) {
+        Place::Byte {
+            base: from,
+            words,
+            byte: byte_of(offset),
+        }
+    } else {
+        far(base, offset)
+    }
+}
+
+/// The same from a base that may be no multiple of 4.
+fn place_of_word(base: Register, from: u8, words: u32, offset: u32) -> Place {
+    let words = words.wrapping_add(quarter(offset));
+    if in_reach(words) && offset % 4 == 0 {
+        Place::Turned {
+            base: from,
+            words,
+            by: base.0,
+        }
+    } else {
+        far(base, offset)
+    }
+}
+
 impl Knowledge {
     /// What is known where control may come from anywhere.
     fn new(points: bool, turn: u8) -> Knowledge {
@@ -111,82 +162,42 @@ impl Knowledge {
         register
     }
 
+    /// Where the datum at an offset from a base is of which nothing is known, and the division that is needed before.
+    fn place_by_quotient(&mut self, base: Register, offset: u32) -> (Place, Option<(u8, u8)>) {
+        let words = quarter(offset);
+        if offset % 4 != 0 || !in_reach(words) {
+            return (far(base, offset), None);
+        }
+        let into = self.next_quotient();
+        let known = Known::Words {
+            base: into,
+            words: 0,
+            whole: false,
+        };
+        self.note(base, known);
+        let place = Place::Turned {
+            base: into,
+            words,
+            by: base.0,
+        };
+        (place, Some((base.0, into)))
+    }
+
     /// Where the datum at an offset from a base is, and the division that is needed before.
     fn place(&mut self, base: Register, offset: u32) -> (Place, Option<(u8, u8)>) {
-        let far = (
-            Place::Far {
-                base: base.0,
-                bytes: offset,
-            },
-            None,
-        );
         match self.of(base) {
-            Known::Number(value) => {
-                let address = value.wrapping_add(offset);
-                let words = quarter(address);
-                if in_reach(words) {
-                    return (
-                        Place::Byte {
-                            base: 0,
-                            words,
-                            byte: byte_of(address),
-                        },
-                        None,
-                    );
-                }
-                far
-            }
+            Known::Number(value) => (place_at_number(base, value, offset), None),
             Known::Words {
                 base: from,
                 words,
-                whole,
-            } => {
-                let sum = words.wrapping_add(quarter(offset));
-                if !in_reach(sum) || (!whole && offset % 4 != 0) {
-                    return far;
-                }
-                if whole {
-                    return (
-                        Place::Byte {
-                            base: from,
-                            words: sum,
-                            byte: byte_of(offset),
-                        },
-                        None,
-                    );
-                }
-                (
-                    Place::Turned {
-                        base: from,
-                        words: sum,
-                        by: base.0,
-                    },
-                    None,
-                )
-            }
-            Known::Nothing => {
-                let words = quarter(offset);
-                if offset % 4 != 0 || !in_reach(words) {
-                    return far;
-                }
-                let into = self.next_quotient();
-                self.note(
-                    base,
-                    Known::Words {
-                        base: into,
-                        words: 0,
-                        whole: false,
-                    },
-                );
-                (
-                    Place::Turned {
-                        base: into,
-                        words,
-                        by: base.0,
-                    },
-                    Some((base.0, into)),
-                )
-            }
+                whole: true,
+            } => (place_of_byte(base, from, words, offset), None),
+            Known::Words {
+                base: from,
+                words,
+                whole: false,
+            } => (place_of_word(base, from, words, offset), None),
+            Known::Nothing => self.place_by_quotient(base, offset),
         }
     }
 
@@ -203,6 +214,25 @@ impl Knowledge {
         }
     }
 
+    /// What is known of what an operation makes of a register and a second operand.
+    fn computed_from(&self, op: Operation, rs: Register, second: Source) -> Known {
+        match (op, second) {
+            (Operation::Add, Source::Number(n)) => self.sum(rs, n),
+            (Operation::Sub, Source::Number(n)) => self.sum(rs, n.wrapping_neg()),
+            (Operation::Add, Source::Register(rt)) => match (self.of(rs), self.of(rt)) {
+                (Known::Number(value), _) => self.sum(rt, value),
+                (_, Known::Number(value)) => self.sum(rs, value),
+                _ => Known::Nothing,
+            },
+            (Operation::Or, Source::Number(n)) => match self.of(rs) {
+                Known::Number(value) => Known::Number(value | n),
+                _ => Known::Nothing,
+            },
+            (Operation::Or, Source::Register(Register(0))) => self.of(rs),
+            _ => Known::Nothing,
+        }
+    }
+
     /// What is known of what an instruction computes.
     fn computed(&self, instruction: &Instruction, address: Option<u32>) -> Known {
         match *instruction {
@@ -212,45 +242,7 @@ impl Knowledge {
                 None => Known::Nothing,
             },
             Instruction::Move { rs, .. } => self.of(rs),
-            Instruction::Compute {
-                op: Operation::Add,
-                rs,
-                second: Source::Number(n),
-                ..
-            } => self.sum(rs, n),
-            Instruction::Compute {
-                op: Operation::Sub,
-                rs,
-                second: Source::Number(n),
-                ..
-            } => { self.sum(rs, n.wrapping_neg()) }
-            Instruction::Compute {
-                op: Operation::Add,
-                rs,
-                second: Source::Register(rt),
-                ..
-            } => {
-                match (self.of(rs), self.of(rt)) {
-                    (Known::Number(value), _) => self.sum(rt, value),
-                    (_, Known::Number(value)) => self.sum(rs, value),
-                    _ => Known::Nothing,
-                }
-            }
-            Instruction::Compute {
-                op: Operation::Or,
-                rs,
-                second: Source::Number(n),
-                ..
-            } => match self.of(rs) {
-                Known::Number(value) => Known::Number(value | n),
-                _ => Known::Nothing,
-            },
-            Instruction::Compute {
-                op: Operation::Or,
-                rs,
-                second: Source::Register(Register(0)),
-                ..
-            } => self.of(rs),
+            Instruction::Compute { op, rs, second, .. } => self.computed_from(op, rs, second),
             _ => Known::Nothing,
         }
     }

@@ -397,6 +397,40 @@ fn jump(
     }
 }
 
+/// Translates an operation on a register and a second operand.
+fn operation(
+    out: &mut Output,
+    function: &Function,
+    op: Operation,
+    rd: Register,
+    rs: Register,
+    second: Source,
+) -> Result<(), AllocError> {
+    match (op, rd, second) {
+        (_, Register(29), _) => move_stack(out, function, op, rs, second),
+        (_, Register(0), _) => Ok(()),
+        (Operation::Add | Operation::Or, _, Source::Register(Register(0))) => {
+            move_statement(out, function, rd, rs)
+        }
+        _ => compute(out, op, rd, rs, second),
+    }
+}
+
+/// Translates a shift.
+fn shift(
+    out: &mut Output,
+    op: Shift,
+    rd: Register,
+    rs: Register,
+    by: Source,
+) -> Result<(), AllocError> {
+    match (rd, by) {
+        (Register(0), _) => Ok(()),
+        (_, Source::Number(count)) => shift_by(out, op, rd.0, rs.0, count),
+        (_, Source::Register(by)) => shift_by_register(out, op, rd.0, rs.0, by.0),
+    }
+}
+
 /// Translates an instruction over registers alone.
 fn registers_alone(
     out: &mut Output,
@@ -405,39 +439,8 @@ fn registers_alone(
     live: u64,
 ) -> Result<(), AllocError> {
     match *instruction {
-        Instruction::Compute {
-            op,
-            rd: Register(29),
-            rs,
-            second,
-        } => move_stack(out, function, op, rs, second),
-        Instruction::Compute {
-            rd: Register(0),
-            ..
-        }
-        | Instruction::Shift {
-            rd: Register(0),
-            ..
-        } => Ok(()),
-        Instruction::Compute {
-            op: Operation::Add | Operation::Or,
-            rd,
-            rs,
-            second: Source::Register(Register(0)),
-        } => { move_statement(out, function, rd, rs) }
-        Instruction::Compute { op, rd, rs, second } => compute(out, op, rd, rs, second),
-        Instruction::Shift {
-            op,
-            rd,
-            rs,
-            by: Source::Number(count),
-        } => shift_by(out, op, rd.0, rs.0, count),
-        Instruction::Shift {
-            op,
-            rd,
-            rs,
-            by: Source::Register(by),
-        } => { shift_by_register(out, op, rd.0, rs.0, by.0) }
+        Instruction::Compute { op, rd, rs, second } => operation(out, function, op, rd, rs, second),
+        Instruction::Shift { op, rd, rs, by } => shift(out, op, rd, rs, by),
         Instruction::Move { rd, rs } => move_statement(out, function, rd, rs),
         Instruction::Number { rd, value } => constant(out, value, rd.0),
         Instruction::Long { op, rs, rt } => long(out, op, rs, rt, live),
@@ -445,6 +448,19 @@ fn registers_alone(
         Instruction::ToSpecial { special, rs } => copy(out, rs.0, special_register(special)),
         Instruction::Break => out.statement("halt", &[]),
         _ => Ok(()),
+    }
+}
+
+/// Translates a branch to the label that it names.
+fn branch_if_named(
+    out: &mut Output,
+    program: &Program,
+    found: &Comparison,
+    symbol: Option<u32>,
+) -> Result<(), AllocError> {
+    match symbol {
+        Some(symbol) => branch(out, program, found, symbol),
+        None => Ok(()),
     }
 }
 
@@ -489,19 +505,14 @@ fn kept(
             condition,
             rs,
             second,
-        } => match symbol {
-            Some(symbol) => branch(
-                out,
-                program,
-                &Comparison {
-                    condition,
-                    rs,
-                    second,
-                },
-                symbol,
-            ),
-            None => Ok(()),
-        },
+        } => {
+            let found = Comparison {
+                condition,
+                rs,
+                second,
+            };
+            branch_if_named(out, program, &found, symbol)
+        }
         Instruction::Jump(to) => jump(out, program, to, symbol),
         Instruction::Call(_) => call(out, program, function, plan, symbol),
         _ => registers_alone(out, function, instruction, plan.live),
