@@ -13,7 +13,8 @@ use Rattle.cmd_answer.specs.Logged.{answer_by, reading_by, GoesOn, AreAsked, Agr
 use Rattle.cmd_answer.proofs.Protocols.{given_is, absent_is, long_is, CountedFault, rose_before, rose_after}
 
 -- one read, and then others
-and_then : (start between after : List Read) (read : Read) (rest : List Read) → between ≡ start ++ read ∷ [] → after ≡ between ++ rest → after ≡ start ++ read ∷ rest
+and_then : (start between after : List Read) (read : Read) (rest : List Read)
+    → between ≡ start ++ read ∷ [] → after ≡ between ++ rest → after ≡ start ++ read ∷ rest
 and_then start between after read rest one more = more ∙ ap (λ l. l ++ rest) one ∙ append_assoc start (read ∷ []) rest
 
 -- the reads of a performed command
@@ -52,7 +53,8 @@ module _ (held : List ℕ → Option (List ℕ)) where
   after_read : (kind : FileKind) (name : List ℕ) (next : List ℕ → Protocol) (n : List ℕ) (l : ℕ) (gave : Result (List ℕ) ShelfFault) (rest : List Read)
       → n ≡ name → l ≡ limit_of kind → GoesOn gave (limit_of kind) rest (λ bytes. AreAsked (next bytes) rest) → AgreesAt held n l gave
       → ((bytes : List ℕ) → AreAsked (next bytes) rest → answer_by (next bytes) rest ≡ resolved (next bytes) held)
-      → answered kind (reading_by gave) (λ bytes. answer_by (next bytes) rest) ≡ answered kind (reading_of kind (held name)) (λ bytes. resolved (next bytes) held)
+      → answered kind (reading_by gave) (λ bytes. answer_by (next bytes) rest)
+      ≡ answered kind (reading_of kind (held name)) (λ bytes. resolved (next bytes) held)
   after_read kind name next n l (Ok bytes) rest is most (within, more) at next_is =
       next_is bytes more ∙ sym (given_is kind (held name) bytes (λ b. resolved (next b) held) (subst (λ m. held m ≡ Some bytes) is at) within)
   after_read kind name next n l (Err Failed) rest is most ends at next_is =

@@ -76,7 +76,8 @@ abbrev pub Faulted : Told → Protocol → Counts → Counts → Answer → Type
 Faulted shelf (Answers answer) before after given = ⊥
 Faulted shelf (Reads kind name next) before after given =
     (IsRead before after × IsFault shelf kind name before after given)
-    ⊎ ((between : Counts) × IsRead before between × (bytes : List ℕ) × IsGiven shelf kind name bytes before between × Faulted shelf (next bytes) between after given)
+    ⊎ ((between : Counts) × IsRead before between × (bytes : List ℕ) × IsGiven shelf kind name bytes before between
+    × Faulted shelf (next bytes) between after given)
 
 -- no answer of its own is a fault outside or want of memory, and one that writes a file is done
 pub record IsOwnAnswer (answer : Answer) : Type 0 where

@@ -1,7 +1,7 @@
 -- What a frame records, over the list of all fetches.
 use Rattle.std.proofs.Common.{◌≡◌, ℕ, suc, ◌-◌, Bool, false, ◌∷◌, List, [], ◌++◌, refl, sym, ap, ◌∙◌, subst, arith}
 use Rattle.mx_turn.specs.declared.machine.Cycled.{Cycled}
-use Rattle.mx_turn.specs.Cycle.{Machine}
+use Rattle.mx_turn.specs.Cycle.{MachineState}
 use Rattle.mx_turn.specs.Program.{Program, code_of, memory_of}
 use Rattle.mx_turn.specs.Run.{is_requested, bits}
 use Rattle.mx_turn.specs.Fetches.{FetchState, fetches_start, fetches_after, cycle_of}
@@ -26,13 +26,13 @@ module _ (p : Program) (requests : List ℕ) (n : ℕ) (f : Frame) (is : IsFrame
   request = is_requested requests n
 
   going : (before p requests n).halted ≡ false
-  going = sym (ap (λ (m : Machine). m.halted) (window_on_fetches p h).0) ∙ is.going
+  going = sym (ap (λ (m : MachineState). m.halted) (window_on_fetches p h).0) ∙ is.going
 
   answered : f.cycled ≡ answer_at p requests n
   answered = is.frame.cycled ∙ (window_on_fetches p h).1 request
 
   counted : f.turn ≡ (before p requests n).counts.fetches
-  counted = is.frame.turn ∙ ap (λ (m : Machine). m.counts.fetches) (window_on_fetches p h).0
+  counted = is.frame.turn ∙ ap (λ (m : MachineState). m.counts.fetches) (window_on_fetches p h).0
 
   before_end : (k t c : ℕ) → t ≡ c → k ≡ suc c → t ≡ k - 1
   before_end k t c e d = omega (arith, e, d)
@@ -46,7 +46,7 @@ module _ (p : Program) (requests : List ℕ) (n : ℕ) (f : Frame) (is : IsFrame
   shows : (answer_at p requests n).stalled ≡ false → Shows (before p requests n) f.shown
   shows acts =
       subst (Shows (before p requests n))
-      (sym (is.frame.shown ∙ ap (λ (m : Machine). m.shown) (window_on_fetches p (h ++ request ∷ [])).0 ∙ ap (λ (s : FetchState). s.shown) after))
+      (sym (is.frame.shown ∙ ap (λ (m : MachineState). m.shown) (window_on_fetches p (h ++ request ∷ [])).0 ∙ ap (λ (s : FetchState). s.shown) after))
       (shows_stages (code_of p) p.input (before p requests n) request going acts)
 
   pub frame_sees : Sees (before p requests n) (answer_at p requests n) f

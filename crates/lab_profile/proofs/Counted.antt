@@ -7,7 +7,7 @@ use Rattle.mx_delay.specs.Delay.{Code}
 use Rattle.mx_icache.specs.Residency.{resident}
 use Rattle.mx_turn.specs.Counted.{Counted, one, after_stall, after_turn}
 use Rattle.mx_turn.specs.declared.machine.Cycled.{Cycled}
-use Rattle.mx_turn.specs.Cycle.{Machine, cycled, answer}
+use Rattle.mx_turn.specs.Cycle.{MachineState, cycled, answer}
 use Rattle.mx_turn.proofs.Steps.{cycled_halted, cycled_acted, cycled_stalled, answer_acted, answer_stalled}
 use Rattle.mx_turn.specs.Program.{Program, code_of, state_after}
 use Rattle.mx_turn.specs.Run.{is_requested, bits}
@@ -42,7 +42,7 @@ stalled c = record { cycles = inr refl; fetches = inl refl; squashes = inl refl 
 turned : (missed squashed taken : Bool) (c : Counted) → Steps c (after_turn missed squashed taken c)
 turned missed squashed taken c = record { cycles = inr refl; fetches = inr refl; squashes = one_step c.squashes squashed }
 
-pub counts_step : (code : Code) (input : Option (List ℕ)) (m : Machine) (request : Bool) → Steps m.counts (cycled resident code input m request).counts
+pub counts_step : (code : Code) (input : Option (List ℕ)) (m : MachineState) (request : Bool) → Steps m.counts (cycled resident code input m request).counts
 counts_step code input m request = ⊎_elim
     (λ h. along (cycled_halted resident code input m request h) (still m.counts))
     (λ h. ⊎_elim
@@ -51,12 +51,12 @@ counts_step code input m request = ⊎_elim
     (cases_Bool (eqb m.stall 0)))
     (cases_Bool m.halted)
   where
-    along : {n n' : Machine} → n ≡ n' → Steps m.counts n.counts → Steps m.counts n'.counts
-    along e h = subst (λ (x : Machine). Steps m.counts x.counts) e h
+    along : {n n' : MachineState} → n ≡ n' → Steps m.counts n.counts → Steps m.counts n'.counts
+    along e h = subst (λ (x : MachineState). Steps m.counts x.counts) e h
 
 -- from one cycle of a run to the next
 pub run_step : (p : Program) (requests : List ℕ) (n : ℕ) → Steps (state_after p (bits requests n)).counts (state_after p (bits requests (suc n))).counts
-run_step p requests n = subst (λ (m : Machine). Steps (state_after p (bits requests n)).counts m.counts) (sym (next_state p requests n))
+run_step p requests n = subst (λ (m : MachineState). Steps (state_after p (bits requests n)).counts m.counts) (sym (next_state p requests n))
     (counts_step (code_of p) p.input (state_after p (bits requests n)) (is_requested requests n))
 
 more : (a : ℕ) → ltb a (a + 1) ≡ true
@@ -86,21 +86,21 @@ told_stalled c = record { cycle = sym (more c.cycles); fetch = sym (not_more c.f
 told_turned : (missed squashed taken : Bool) (c : Counted) → Told false c (after_turn missed squashed taken c)
 told_turned missed squashed taken c = record { cycle = sym (more c.cycles); fetch = sym (more c.fetches) }
 
-counts_told : (code : Code) (input : Option (List ℕ)) (m : Machine) (request : Bool) → m.halted ≡ false
+counts_told : (code : Code) (input : Option (List ℕ)) (m : MachineState) (request : Bool) → m.halted ≡ false
     → Told (answer code input m request).stalled m.counts (cycled resident code input m request).counts
 counts_told code input m request h = ⊎_elim
     (λ s. along (answer_acted resident code input m request h s) (cycled_acted resident code input m request h s) (told_turned _ _ _ m.counts))
     (λ s. along (answer_stalled resident code input m request h s) (cycled_stalled resident code input m request h s) (told_stalled m.counts))
     (cases_Bool (eqb m.stall 0))
   where
-    along : {r r' : Cycled} {n n' : Machine} → r ≡ r' → n ≡ n' → Told r.stalled m.counts n.counts → Told r'.stalled m.counts n'.counts
+    along : {r r' : Cycled} {n n' : MachineState} → r ≡ r' → n ≡ n' → Told r.stalled m.counts n.counts → Told r'.stalled m.counts n'.counts
     along {r} {r'} {n} {n'} e f t =
-        subst (λ (x : Cycled). Told x.stalled m.counts n'.counts) e (subst (λ (x : Machine). Told r.stalled m.counts x.counts) f t)
+        subst (λ (x : Cycled). Told x.stalled m.counts n'.counts) e (subst (λ (x : MachineState). Told r.stalled m.counts x.counts) f t)
 
 run_told : (p : Program) (requests : List ℕ) (n : ℕ) → (state_after p (bits requests n)).halted ≡ false
     → Told (cycled_at p requests n).stalled (state_after p (bits requests n)).counts (state_after p (bits requests (suc n))).counts
 run_told p requests n h =
-    subst (λ (m : Machine). Told (cycled_at p requests n).stalled (state_after p (bits requests n)).counts m.counts) (sym (next_state p requests n))
+    subst (λ (m : MachineState). Told (cycled_at p requests n).stalled (state_after p (bits requests n)).counts m.counts) (sym (next_state p requests n))
     (counts_told (code_of p) p.input (state_after p (bits requests n)) (is_requested requests n) h)
 
 -- while a run goes on, the answer of a cycle tells what it counts

@@ -4,7 +4,7 @@ use Rattle.std.specs.Prelude.{eqb, ltb, ◌&&◌, slice_index}
 use Rattle.std.proofs.lemmas.Bool.{cases_lt}
 use Rattle.std.proofs.lemmas.Bool.Decides.{nat_tests}
 use Rattle.mx_turn.specs.Counted.{Counted, one}
-use Rattle.mx_turn.specs.Cycle.{Machine}
+use Rattle.mx_turn.specs.Cycle.{MachineState}
 use Rattle.mx_turn.specs.Program.{Program}
 use Rattle.mx_report.proofs.Runs.{state_still, at_end}
 use Rattle.lab_profile.specs.declared.tally.Tally.{Tally}
@@ -28,7 +28,7 @@ sum_still f n none (suc m) l = ⊎_elim
 module _ (p : Program) (requests : List ℕ) (words n : ℕ) (halted : (before p requests words n).halted ≡ true) where
   none : (field : Counted → ℕ) (m : ℕ) → n ≤ m → counts_one p requests words field m ≡ false
   none field m l =
-      ap (λ (s : Machine). ltb (field (before p requests words m).counts) (field s.counts))
+      ap (λ (s : MachineState). ltb (field (before p requests words m).counts) (field s.counts))
       (state_still p requests n halted (suc m) (omega arith) ∙ sym (state_still p requests n halted m l))
       ∙ not_more (field (before p requests words m).counts)
 

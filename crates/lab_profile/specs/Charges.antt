@@ -3,7 +3,7 @@ use Rattle.std.specs.Prelude.{◌≡◌, ℕ, zero, suc, ◌+◌, ◌-◌, Bool,
 use Rattle.mx_turn.specs.declared.latches.Stage.{Stage}
 use Rattle.mx_turn.specs.declared.latches.Stage.TheVariants.{Empty, Live, Squashed}
 use Rattle.mx_turn.specs.Counted.{Counted, one}
-use Rattle.mx_turn.specs.Cycle.{Machine}
+use Rattle.mx_turn.specs.Cycle.{MachineState}
 use Rattle.mx_turn.specs.Program.{Program, state_after}
 use Rattle.mx_turn.specs.Run.{bits, run_of}
 
@@ -35,7 +35,7 @@ is_squashed _ = false
 
 module _ (p : Program) (requests : List ℕ) (words : ℕ) where
   -- the machine before cycle n
-  abbrev pub before : ℕ → Machine
+  abbrev pub before : ℕ → MachineState
   before n = state_after p (bits requests n)
 
   -- the machine counts one in cycle n

@@ -192,7 +192,8 @@ module _ (names : Naming) (labels : Labels) (count : ℕ) (link : ℕ → ℕ) (
   load_reads address base d z None e f hb hd = numbered_reads address (inst.Load base d z) tt f (hb, hd) (ap is_none e)
   load_reads address base d (pos n) (Some name) e f hb hd =
       let k = named.user_data n name e in
-      subst (λ t. ReadsAs labels (spelled (codes "ld") ((t ++ codes "[" ++ text.register base ++ codes "]") ∷ text.register d ∷ [])) (Plain (inst.Load base d (pos n))))
+      subst (λ t. ReadsAs labels (spelled (codes "ld") ((t ++ codes "[" ++ text.register base ++ codes "]") ∷ text.register d ∷ []))
+      (Plain (inst.Load base d (pos n))))
       (sym (ap (λ o. or_number o (pos n)) e ∙ own_text name k.letters.spelled)) (named_load labels name n base d k.letters.spelled k.found hb hd)
   load_reads address base d (negsuc n) (Some name) e f hb hd = cc
 
@@ -201,7 +202,8 @@ module _ (names : Naming) (labels : Labels) (count : ℕ) (link : ℕ → ℕ) (
   store_reads address base v z None e f hb hv = numbered_reads address (inst.Store base v z) tt f (hb, hv) (ap is_none e)
   store_reads address base v (pos n) (Some name) e f hb hv =
       let k = named.user_data n name e in
-      subst (λ t. ReadsAs labels (spelled (codes "st") ((t ++ codes "[" ++ text.register base ++ codes "]") ∷ text.register v ∷ [])) (Plain (inst.Store base v (pos n))))
+      subst (λ t. ReadsAs labels (spelled (codes "st") ((t ++ codes "[" ++ text.register base ++ codes "]") ∷ text.register v ∷ []))
+      (Plain (inst.Store base v (pos n))))
       (sym (ap (λ o. or_number o (pos n)) e ∙ own_text name k.letters.spelled)) (named_store labels name n base v k.letters.spelled k.found hb hv)
   store_reads address base v (negsuc n) (Some name) e f hb hv = cc
 

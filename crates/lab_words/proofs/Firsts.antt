@@ -26,7 +26,8 @@ abbrev offsets_of : (Label → Option ℕ) → List (Name × Label) → List (Op
 offsets_of f [] = []
 offsets_of f (e ∷ entries) = f e.1 ∷ offsets_of f entries
 
-behind : (e : Name × Label) (entries : List (Name × Label)) (o : Option ℕ) → option_and_then (name_at (e ∷ entries)) (option_map suc o) ≡ option_and_then (name_at entries) o
+behind : (e : Name × Label) (entries : List (Name × Label)) (o : Option ℕ)
+    → option_and_then (name_at (e ∷ entries)) (option_map suc o) ≡ option_and_then (name_at entries) o
 behind e entries None = refl
 behind e entries (Some i) = refl
 
@@ -67,8 +68,10 @@ within : (table : List (Option ℕ)) (k : ℕ) → k < length table → option_a
 within table k h = ap (option_and_then (λ o. o)) (slice_get-get_or table k None h)
 
 module _ (entries : List (Name × Label)) (f : Label → Option ℕ) (passes : ℕ → Label → Bool) (base : ℕ)
-    (same : (a : ℕ) (l : Label) → base ≤ a → offset_is (f l) (a - base) ≡ passes a l) (table : List (Option ℕ)) (firsts : HasFirsts table (offsets_of f entries)) where
-  pub named_at : (a : ℕ) → from_base entries table base a ≡ cond (nat_le base a && nat_lt (a - base) (length table)) (first_named (passes a) (named_labels entries)) None
+    (same : (a : ℕ) (l : Label) → base ≤ a → offset_is (f l) (a - base) ≡ passes a l)
+    (table : List (Option ℕ)) (firsts : HasFirsts table (offsets_of f entries)) where
+  pub named_at : (a : ℕ) → from_base entries table base a
+      ≡ cond (nat_le base a && nat_lt (a - base) (length table)) (first_named (passes a) (named_labels entries)) None
   named_at a = by_tests (nat_le base a) (nat_lt (a - base) (length table)) refl refl
     where
       by_tests : (b c : Bool) → nat_le base a ≡ b → nat_lt (a - base) (length table) ≡ c
@@ -142,7 +145,8 @@ pub names_alike : (entries : List (Name × Label)) (link : ℕ → ℕ) (words d
     → code_offsets ≡ map code_offset places → data_offsets ≡ map data_offset places → count ≡ min (words + 1) (2 ^ 64 - 1)
     → length code ≡ count → ((k : ℕ) → k < count → entry code k ≡ first_from k 0 code_offsets)
     → length user_data ≡ data_words → ((k : ℕ) → k < data_words → entry user_data k ≡ first_from k 0 data_offsets)
-    → NameAlike (record { code = from_base entries code 4096; user_data = from_base entries user_data 256 }) (names_of (named_labels entries) link words data_words)
+    → NameAlike (record { code = from_base entries code 4096; user_data = from_base entries user_data 256 })
+    (names_of (named_labels entries) link words data_words)
 names_alike entries link words data_words count places code_offsets data_offsets code user_data e e1 e2 few long first data_long data_first = record {
   code = λ a h.
       named_at entries (λ l. code_offset (place_of link l)) (is_at link) 4096 (code_same link) code

@@ -26,7 +26,7 @@ use Rattle.law_link.proofs.Layouts.{Standing, setting}
 use Rattle.law_link.proofs.Placing.{lay}
 use Rattle.law_link.proofs.OneBlock.{Entered, GoesOn, StopsAt, MovesOn, Transfers, did_of, body_done, front_plain, standing as stand_there}
 use Rattle.law_link.proofs.Transfers.{Lay, inner_of, front_of, ender_of, at_of, StandBehind}
-use Rattle.law_link.proofs.Setting.{Machine, Setting, machine_of}
+use Rattle.law_link.proofs.Setting.{StepSetting, Setting, machine_of}
 use Rattle.mx_link.specs.Gathered.{is_of}
 use Rattle.law_counts.proofs.Tally.{one, span, span_last, tally, tally_same, first_there, stretch, stretch_more, ends_tally}
 use Rattle.law_counts.proofs.Marks.{Marked, marked_left, marked_right, marked_span, weigh}
@@ -42,7 +42,7 @@ module _ (counting : Counting) where
   abbrev pub here : Setting
   here = setting known
 
-  abbrev pub machine : Machine
+  abbrev pub machine : StepSetting
   machine = machine_of here
 
   -- a site whose words are marked, and what is behind it

@@ -12,14 +12,14 @@ use Rattle.law_link.proofs.OneBlock.{LeadsAt}
 use Rattle.law_link.proofs.Transfers.{inner_of, front_of, front_stands}
 use Rattle.law_link.proofs.Layouts.{place_in, Facts, facts, setting}
 use Rattle.law_link.proofs.Placing.{placed}
-use Rattle.law_link.proofs.Setting.{Known, Machine, machine_of}
+use Rattle.law_link.proofs.Setting.{Known, StepSetting, machine_of}
 use Rattle.law_counts.proofs.Tally.{span, tally, first_there, stretch}
 
 module _ (known : Known) (T : ℕ → Bool) where
   open known use {linking.{source, place, sites as all}, bare}
   open setting known use {program as p, link, code as cd, inside as ins, leader, place_of, small, low}
 
-  abbrev machine : Machine
+  abbrev machine : StepSetting
   machine = machine_of (setting known)
 
   -- where words stand before a terminator, a block begins

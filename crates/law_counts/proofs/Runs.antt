@@ -23,7 +23,7 @@ use Rattle.law_link.proofs.OneBlock.{nowhere, LeadsAt, did_of}
 use Rattle.law_link.proofs.Transfers.{CodesLead, inner_of}
 use Rattle.law_link.proofs.Layouts.{begins, place_in, setting}
 use Rattle.law_link.proofs.Placing.{next_links, ended}
-use Rattle.law_link.proofs.Setting.{Machine, Setting, machine_of, short}
+use Rattle.law_link.proofs.Setting.{StepSetting, Setting, machine_of, short}
 use Rattle.law_counts.specs.Counts.{goes_on_with, visits}
 use Rattle.law_counts.proofs.Tally.{one, span, tally, tally_same, tally_add, tally_kept, tally_halted}
 use Rattle.law_counts.proofs.Weights.{weight, weight_once, passed, passed_is}
@@ -42,7 +42,7 @@ module _ (counting : Counting) where
   abbrev pub here : Setting
   here = setting known
 
-  abbrev pub machine : Machine
+  abbrev pub machine : StepSetting
   machine = machine_of here
 
   abbrev pub r0 : Run

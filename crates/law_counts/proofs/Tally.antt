@@ -8,7 +8,7 @@ use Rattle.mx_delay.specs.Delay.{Delay, queued, squash, next_of}
 use Rattle.mx_delay.specs.Clean.{Watched}
 use Rattle.law_link.proofs.Going.{Did, ArePlain, Stands, stands_left, stands_right, did, did_all, starts, for, for_same, for_add, once, cancelled, goes, Keeps, keeps_for, halted_for}
 use Rattle.law_link.proofs.Ends.{Ended, past_transfer, one_taken}
-use Rattle.law_link.proofs.Setting.{Machine}
+use Rattle.law_link.proofs.Setting.{StepSetting}
 
 abbrev pub one : Bool → ℕ
 one b = cond b 1 0
@@ -53,7 +53,7 @@ module _ (T : ℕ → Bool) where
       let f = ap (span n) on in
       omega arith
 
-  module _ (machine : Machine) where
+  module _ (machine : StepSetting) where
     open machine use {code, inside, place as p, input}
 
     abbrev steps : ℕ → Watched → Watched

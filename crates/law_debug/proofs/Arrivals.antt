@@ -13,7 +13,7 @@ use Rattle.mx_turn.specs.declared.Stage.TheVariants.{Live, Squashed}
 use Rattle.mx_turn.specs.declared.Cycled.{Cycled}
 use Rattle.mx_turn.specs.Counted.{one}
 use Rattle.mx_turn.specs.Stages.{stage_of}
-use Rattle.mx_turn.specs.Cycle.{Machine, is_taken, entered, decided, turned, reached, ended, takes, latched, acted, acted_answer, cycled, answer, start}
+use Rattle.mx_turn.specs.Cycle.{MachineState, is_taken, entered, decided, turned, reached, ended, takes, latched, acted, acted_answer, cycled, answer, start}
 use Rattle.mx_turn.specs.Handler.{shipped}
 use Rattle.mx_turn.specs.Program.{Program, code_of, program_of}
 use Rattle.mx_turn.specs.Run.{is_requested, bits, console_after, is_users, passes}
@@ -38,7 +38,7 @@ at_fetch a None = false
 at_fetch a (Some f) = not f.squashed && eqb f.address a
 
 -- the machine goes on, with that fetch in ALU
-abbrev pub is_here : ℕ → Machine → Bool
+abbrev pub is_here : ℕ → MachineState → Bool
 is_here a m = not m.halted && at_fetch a m.alu
 
 -- the next step of the machine with delay slots is that of the address
@@ -70,7 +70,7 @@ nowhere : (x : Bool) → x && false ≡ false
 nowhere x = grind arith
 
 -- after a turn in which this machine was reached: a stop is one where the machine goes on with the fetch in ALU
-ended_stop : (code : Code) (a : ℕ) (c : Machine) → c.shown.alu ≡ stage_of c.alu
+ended_stop : (code : Code) (a : ℕ) (c : MachineState) → c.shown.alu ≡ stage_of c.alu
     → (not false && (not (takes c) && not c.halted)) && shows_live a (ended code c).shown.alu ≡ is_here a (ended code c)
 ended_stop code a c shown = ⊎_elim
     (λ h.
@@ -121,8 +121,8 @@ waits_more : (stop : ℕ → Bool) (n h h' : ℕ) (here here' : Bool)
     → count_below stop n ≡ h + one here → stop n ≡ false → here' ≡ here → h' ≡ h → count_below stop (suc n) ≡ h' + one here'
 waits_more stop n h h' here here' e f g i = let k : one (stop n) ≡ 0 = ap one f in let l : one here' ≡ one here = ap one g in omega (arith, e, k, l, i)
 
-module _ (code : Code) (input : Option (List ℕ)) (a : ℕ) (m : Machine) (b : Bool) where
-  abbrev next : Machine
+module _ (code : Code) (input : Option (List ℕ)) (a : ℕ) (m : MachineState) (b : Bool) where
+  abbrev next : MachineState
   next = cycled resident code input m b
 
   -- whether the cycle is a stop
@@ -174,7 +174,7 @@ module _ (user_words data_words : List ℕ) (p : Place) (input : Option (List �
   abbrev program : Program
   program = q user_words data_words p input at_board at_code requests budget clean
 
-  abbrev state : ℕ → Machine
+  abbrev state : ℕ → MachineState
   state n = before_cycle program requests n
 
   -- how many words of the user have passed before a cycle, and the machine with delay slots after as many steps
@@ -218,18 +218,18 @@ module _ (user_words data_words : List ℕ) (p : Place) (input : Option (List �
       let f = g.in_user.in_user.follows in
       let e = is_delay n in
       inl (record {
-        halted = ap (λ (x : Machine). x.halted) g.is ∙ ap (λ (x : Machine). x.halted) d ∙ f.halted ∙ ap (λ (x : Delay). x.halted) e;
-        alu = ap (λ (x : Machine). x.alu) g.is ∙ ap (λ (x : Machine). x.alu) d ∙ f.alu ∙ ap (λ (x : Delay). Some (as_fetch x.first)) e;
-        regs = ap (λ (x : Machine). x.core.regs) g.is ∙ ap (λ (x : Machine). x.core.regs) d ∙ f.regs ∙ ap (λ (x : Delay). x.core.regs) e;
-        md = ap (λ (x : Machine). x.core.md) g.is ∙ ap (λ (x : Machine). x.core.md) d ∙ f.md ∙ ap (λ (x : Delay). x.core.md) e;
-        mem = λ b u. ap (λ (x : Machine). x.core.mem b) g.is ∙ ap (λ (x : Machine). x.core.mem b) d ∙ f.mem b u ∙ ap (λ (x : Delay). x.core.mem b) e;
+        halted = ap (λ (x : MachineState). x.halted) g.is ∙ ap (λ (x : MachineState). x.halted) d ∙ f.halted ∙ ap (λ (x : Delay). x.halted) e;
+        alu = ap (λ (x : MachineState). x.alu) g.is ∙ ap (λ (x : MachineState). x.alu) d ∙ f.alu ∙ ap (λ (x : Delay). Some (as_fetch x.first)) e;
+        regs = ap (λ (x : MachineState). x.core.regs) g.is ∙ ap (λ (x : MachineState). x.core.regs) d ∙ f.regs ∙ ap (λ (x : Delay). x.core.regs) e;
+        md = ap (λ (x : MachineState). x.core.md) g.is ∙ ap (λ (x : MachineState). x.core.md) d ∙ f.md ∙ ap (λ (x : Delay). x.core.md) e;
+        mem = λ b u. ap (λ (x : MachineState). x.core.mem b) g.is ∙ ap (λ (x : MachineState). x.core.mem b) d ∙ f.mem b u ∙ ap (λ (x : Delay). x.core.mem b) e;
         users =
-            ap (λ (x : Machine). is_users x.alu) g.is ∙ ap (λ (x : Machine). is_users x.alu) d ∙ ap is_users f.alu
+            ap (λ (x : MachineState). is_users x.alu) g.is ∙ ap (λ (x : MachineState). is_users x.alu) d ∙ ap is_users f.alu
             ∙ le-leb 4096 (watched n).at.first.address g.in_user.in_user.queue.first.0;
       })
   phase n rest (pausing h) =
       let silent = h.pause.silent h.j (let e = h.sum in let f = h.some in omega (arith, e, f)) in
-      inr (inl (ap (λ (x : Machine). is_users x.alu) h.is ∙ silent.system))
+      inr (inl (ap (λ (x : MachineState). is_users x.alu) h.is ∙ silent.system))
   phase n rest (over o) = inr (inr o.ends)
 
   phase_at : (n : ℕ) → n ≤ budget → InStep n ⊎ ((is_users (state n).alu ≡ false) ⊎ ((state n).halted ≡ true))
@@ -242,7 +242,7 @@ module _ (user_words data_words : List ℕ) (p : Place) (input : Option (List �
   past_next n = passed_more program (bits requests n) (is_requested requests n) (start words)
 
   stop_is : (n : ℕ) → stopping n ≡ stops (code_of program) input a (state n) (is_requested requests n)
-  stop_is n = ap (λ (x : Machine). goes_on (answer (code_of program) input (state n) (is_requested requests n)) && shows_live a x.shown.alu) (next_is n)
+  stop_is n = ap (λ (x : MachineState). goes_on (answer (code_of program) input (state n) (is_requested requests n)) && shows_live a x.shown.alu) (next_is n)
 
   module _ (n : ℕ) (within : n ≤ budget) where
     here_in_step : InStep n → is_here a (state n) ≡ at_step (past n)

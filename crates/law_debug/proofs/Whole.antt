@@ -14,7 +14,7 @@ use Rattle.mx_source.specs.Meaning.{given}
 use Rattle.mx_layout.proofs.Links.{link_within}
 use Rattle.mx_link.specs.Origins.{from_nowhere}
 use Rattle.mx_link.specs.Linked.{linked_code, linked_data}
-use Rattle.mx_turn.specs.Cycle.{Machine}
+use Rattle.mx_turn.specs.Cycle.{MachineState}
 use Rattle.mx_turn.specs.Program.{Program, program_of, state_after}
 use Rattle.mx_turn.specs.Handler.{shipped}
 use Rattle.mx_turn.specs.Run.{bits, console_after, run_of, bound}
@@ -84,7 +84,7 @@ module _ (d : Debugged) (known : AtLeader d) (user : is_user board d.watch ≡ t
   at_stop n early s = arrived code_words data_words board input on_board refl d.requests d.budget clean a high n early s
 
   -- the machine after the cycle of a stop, and how many steps were done by then
-  abbrev state : ℕ → Machine
+  abbrev state : ℕ → MachineState
   state n = state_after program (bits d.requests (suc n))
 
   abbrev steps : ℕ → ℕ

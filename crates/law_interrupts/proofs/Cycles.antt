@@ -11,7 +11,7 @@ use Rattle.mx_delay.specs.Clean.{Watched, watch_start}
 use Rattle.mx_icache.specs.Residency.{resident}
 use Rattle.mx_turn.specs.declared.machine.Cycled.{Cycled as Answer}
 use Rattle.mx_turn.specs.Counted.{one, after_stall}
-use Rattle.mx_turn.specs.Cycle.{Machine, is_taken, entered, decided, turned, reached, ended, takes, latched, acted, cycled, answer, acted_answer, start}
+use Rattle.mx_turn.specs.Cycle.{MachineState, is_taken, entered, decided, turned, reached, ended, takes, latched, acted, cycled, answer, acted_answer, start}
 use Rattle.mx_turn.specs.Run.{is_users, passes}
 use Rattle.mx_turn.specs.OneTurn.{IsOnBoard}
 use Rattle.mx_turn.specs.Program.{code_with}
@@ -21,7 +21,7 @@ use Rattle.mx_delay.proofs.Watched.{past}
 use Rattle.law_interrupts.proofs.Pauses.{done_after, setting, lawful, begins}
 
 -- a latched request is taken once
-taken_once : (code : Code) (c : Machine) → one (takes c) + one (ended code c).latch ≤ one c.latch
+taken_once : (code : Code) (c : MachineState) → one (takes c) + one (ended code c).latch ≤ one c.latch
 taken_once code c = ⊎_elim
     (λ h. let e : takes c ≡ false = (λ k. not (h k) && is_taken c) in
     at_most (takes c) (ended code c).latch false c.latch e (ap latch_of (cond-true _ c _ h)) (omega arith))
@@ -37,7 +37,7 @@ taken_once code c = ⊎_elim
     (cases_Bool (is_taken c)))
     (cases_Bool c.halted)
   where
-    latch_of : Machine → Bool
+    latch_of : MachineState → Bool
     latch_of m = m.latch
 
     at_most : (a b x y : Bool) → a ≡ x → b ≡ y → one x + one y ≤ one c.latch → one a + one b ≤ one c.latch
@@ -58,7 +58,7 @@ short_wait false = omega arith
 
 module _ (handler user : Code) (inside : ℕ → Bool) (p : Place) (input : Option (List ℕ)) where
   -- a machine after so many cycles and requests, when w words of the user have passed and these steps are done
-  pub record Stands (m : Machine) (s : Watched) (w cycles asked : ℕ) : Type 0 where
+  pub record Stands (m : MachineState) (s : Watched) (w cycles asked : ℕ) : Type 0 where
     pub rest : ℕ
     pub state : State (setting handler user inside p input) (erased m) (done_after s m.counts.interrupts) rest
     pub turns : m.counts.fetches + rest ≡ w + 3 + 26 * m.counts.interrupts
@@ -77,11 +77,11 @@ module _ (handler user : Code) (inside : ℕ → Bool) (p : Place) (input : Opti
   }
 
   -- a cycle: its byte, and where the machine is then
-  pub record Cycled (m n : Machine) (byte : Option ℕ) (passed : Bool) (request : Bool) (s : Watched) (w cycles asked : ℕ) : Type 0 where
+  pub record Cycled (m n : MachineState) (byte : Option ℕ) (passed : Bool) (request : Bool) (s : Watched) (w cycles asked : ℕ) : Type 0 where
     pub sends : s.at.console ++ option_to_list byte ≡ (past user inside p input passed s).at.console
     pub stands : Stands n (past user inside p input passed s) (w + one passed) (cycles + 1) (asked + one request)
 
-  module _ (at_board : IsOnBoard p) (at_code : p.code ≡ CODE_BASE) (m : Machine) (request : Bool) (s : Watched) (w cycles asked : ℕ)
+  module _ (at_board : IsOnBoard p) (at_code : p.code ≡ CODE_BASE) (m : MachineState) (request : Bool) (s : Watched) (w cycles asked : ℕ)
       (handled : 1 ≤ asked + one request → Handled (setting handler user inside p input)) (st : Stands m s w cycles asked) where
     abbrev code : Code
     code = code_with handler user
@@ -99,8 +99,8 @@ module _ (handler user : Code) (inside : ℕ → Bool) (p : Place) (input : Opti
       };
     }
 
-    abbrev stalled : Machine
-    stalled = let l : Machine = latched request m in record l { stall = m.stall - 1; counts = after_stall m.counts }
+    abbrev stalled : MachineState
+    stalled = let l : MachineState = latched request m in record l { stall = m.stall - 1; counts = after_stall m.counts }
 
     stalled_cycle : m.halted ≡ false → eqb m.stall 0 ≡ false → Cycled m stalled None false request s w cycles asked
     stalled_cycle on h = record {
@@ -119,7 +119,7 @@ module _ (handler user : Code) (inside : ℕ → Bool) (p : Place) (input : Opti
         waits = grind (arith, nat_tests)
 
     -- the machine that is reached in a cycle that acts
-    abbrev c : Machine
+    abbrev c : MachineState
     c = reached code input (latched request m)
 
     acted_cycle : m.halted ≡ false → eqb m.stall 0 ≡ true → (past user inside p input (is_users m.alu) s).clean ≡ true
@@ -166,7 +166,7 @@ module _ (handler user : Code) (inside : ℕ → Bool) (p : Place) (input : Opti
         (cases_Bool (eqb m.stall 0)))
         (cases_Bool m.halted)
       where
-        moved : (n : Machine) (byte : Option ℕ) (passed : Bool) → n ≡ cycled resident code input m request → byte ≡ (answer code input m request).byte
+        moved : (n : MachineState) (byte : Option ℕ) (passed : Bool) → n ≡ cycled resident code input m request → byte ≡ (answer code input m request).byte
             → passed ≡ passes m
             → Cycled m n byte passed request s w cycles asked
             → Cycled m (cycled resident code input m request) (answer code input m request).byte (passes m) request s w cycles asked

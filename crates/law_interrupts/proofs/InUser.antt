@@ -17,7 +17,7 @@ use Rattle.mx_pcchain.specs.Modes.{psw_restored}
 use Rattle.mx_turn.specs.Counted.{Counted}
 use Rattle.mx_turn.specs.Stages.{live}
 use Rattle.mx_turn.specs.System.{Slot, slot_of, pops, restores}
-use Rattle.mx_turn.specs.Cycle.{Machine, shifted, commit_byte, is_taken, decided, reached, ended}
+use Rattle.mx_turn.specs.Cycle.{MachineState, shifted, commit_byte, is_taken, decided, reached, ended}
 use Rattle.mx_turn.specs.OneTurn.{Follows, IsOnBoard, before_turn}
 use Rattle.mx_turn.proofs.OneTurn.{one_turn, nor_restored}
 use Rattle.mx_handler.proofs.Pauses.{goes_on}
@@ -51,14 +51,14 @@ slot_register true d v = refl
 slot_register false d v = refl
 
 -- once the word in MEM has committed in a turn of user code: the machine follows, and no load is seen late but the last word's
-pub record InUser (p : Place) (c : Machine) (s : Watched) : Type 0 where
+pub record InUser (p : Place) (c : MachineState) (s : Watched) : Type 0 where
   pub follows : Follows p c s.at
   pub queue : IsQueue s.at
   pub slot : (c.slot.register ≡ 0) ⊎ (c.slot.register ≡ s.loaded)
   pub on : c.psw.current.interrupts ≡ true
 
 -- the wait, requests and counts do not matter
-pub in_user_alike : (p : Place) (c : Machine) (s : Watched) (stall : ℕ) (latch : Bool) (counts : Counted) → InUser p c s
+pub in_user_alike : (p : Place) (c : MachineState) (s : Watched) (stall : ℕ) (latch : Bool) (counts : Counted) → InUser p c s
     → InUser p (before_turn stall latch counts c) s
 in_user_alike p c s stall latch counts u =
     let f = u.follows in
@@ -81,7 +81,7 @@ in_user_alike p c s stall latch counts u =
     }
 
 -- the coming turn of user code is clean, and takes no interrupt
-pub record IsReady (code own : Code) (inside : ℕ → Bool) (p : Place) (input : Option (List ℕ)) (c : Machine) (s : Watched) : Type 0 where
+pub record IsReady (code own : Code) (inside : ℕ → Bool) (p : Place) (input : Option (List ℕ)) (c : MachineState) (s : Watched) : Type 0 where
   pub at_board : IsOnBoard p
   pub from : CODE_BASE ≤ p.code
   pub words : (a : ℕ) → CODE_BASE ≤ a → inside a ≡ true → code a ≡ own a
@@ -89,13 +89,14 @@ pub record IsReady (code own : Code) (inside : ℕ → Bool) (p : Place) (input 
   pub quiet : is_taken c ≡ false
   pub clean : (next own inside p input s).clean ≡ true
 
-module _ (code own : Code) (inside : ℕ → Bool) (p : Place) (input : Option (List ℕ)) (c : Machine) (s : Watched) (stall : ℕ) (latch : Bool) (counts : Counted)
+module _ (code own : Code) (inside : ℕ → Bool) (p : Place) (input : Option (List ℕ)) (c : MachineState) (s : Watched)
+    (stall : ℕ) (latch : Bool) (counts : Counted)
     (u : InUser p c s) (ready : IsReady code own inside p input c s) where
   abbrev i : Inst
   i = does own s.at.first
 
   -- the machine before that turn
-  abbrev pub x : Machine
+  abbrev pub x : MachineState
   x = before_turn stall latch counts (ended code c)
 
   pub goes' : s.at.halted ≡ false
@@ -145,14 +146,14 @@ module _ (code own : Code) (inside : ℕ → Bool) (p : Place) (input : Option (
 
   slot_is : (reached code input x).slot.register ≡ (next own inside p input s).loaded
   slot_is =
-      ap (λ (m : Machine). (slot_of (live code m.alu) m.core.regs).register) ends
+      ap (λ (m : MachineState). (slot_of (live code m.alu) m.core.regs).register) ends
       ∙ slot_register (is_load (live code c.alu)) (dest (live code c.alu)) (reg c.core.regs (dest (live code c.alu)))
       ∙ ap loads_to alu
       ∙ sym step.loaded
 
   still_on : (reached code input x).psw.current.interrupts ≡ true
   still_on =
-      ap (λ (m : Machine). m.psw.current.interrupts) ends
+      ap (λ (m : MachineState). m.psw.current.interrupts) ends
       ∙ ap (λ b. (cond b (psw_restored c.psw) c.psw).current.interrupts)
       (nor_restored (restores (live code c.alu)) (pops (live code c.alu)) c.psw.current.user u.follows.user)
       ∙ u.on

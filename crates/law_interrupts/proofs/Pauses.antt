@@ -16,7 +16,7 @@ use Rattle.mx_pcchain.specs.Fetch.{Fetch}
 use Rattle.mx_board.specs.Data.{board}
 use Rattle.mx_turn.specs.Counted.{Counted, one}
 use Rattle.mx_turn.specs.Stages.{fetch_of}
-use Rattle.mx_turn.specs.Cycle.{Machine, shifted, mem_change, commit_byte, is_taken, entered, reached, ended, start}
+use Rattle.mx_turn.specs.Cycle.{MachineState, shifted, mem_change, commit_byte, is_taken, entered, reached, ended, start}
 use Rattle.mx_turn.specs.Run.{is_users}
 use Rattle.mx_turn.specs.OneTurn.{IsOnBoard, as_fetch, before_turn}
 use Rattle.mx_turn.specs.Program.{code_with}
@@ -34,7 +34,7 @@ stored_low input None m = refl
 stored_low input (Some s) m = grind (arith, nat_tests)
 
 -- in user code after n interrupts
-pub record InUserAfter (p : Place) (c : Machine) (s : Watched) (n : ℕ) : Type 0 where
+pub record InUserAfter (p : Place) (c : MachineState) (s : Watched) (n : ℕ) : Type 0 where
   pub in_user : InUser p c s
   pub counted : c.core.mem 0 ≡ n % 2 ^ 32
 
@@ -60,9 +60,9 @@ module _ (handler user : Code) (inside : ℕ → Bool) (p : Place) (input : Opti
   }
 
   module _ (at_board : IsOnBoard p) (at_code : p.code ≡ CODE_BASE) where
-    module _ (c : Machine) (k : Steps) (stall : ℕ) (latch : Bool) (counts : Counted) (u : InUserAfter p c k.done k.interrupts)
+    module _ (c : MachineState) (k : Steps) (stall : ℕ) (latch : Bool) (counts : Counted) (u : InUserAfter p c k.done k.interrupts)
         (goes : c.halted ≡ false) (untaken : is_taken c ≡ false) (clean : (next user inside p input k.done).clean ≡ true) where
-      abbrev x : Machine
+      abbrev x : MachineState
       x = before_turn stall latch counts (ended (code_with handler user) c)
 
       ready : IsReady (code_with handler user) user inside p input c k.done
@@ -82,7 +82,7 @@ module _ (handler user : Code) (inside : ℕ → Bool) (p : Place) (input : Opti
       counted =
           (λ i. stored (board (user_mode i) input) (mem_change (code_with handler user) input (shifted x)).stores x.core.mem 0)
           ∙ stored_low input (mem_change (code_with handler user) input (shifted x)).stores x.core.mem
-          ∙ ap (λ (m : Machine). m.core.mem 0) (ends (code_with handler user) user inside p input c k.done stall latch counts u.in_user ready)
+          ∙ ap (λ (m : MachineState). m.core.mem 0) (ends (code_with handler user) user inside p input c k.done stall latch counts u.in_user ready)
           ∙ u.counted
         where
           user_mode : (reached (code_with handler user) input x).psw.current.user ≡ true
@@ -140,11 +140,11 @@ module _ (user : Code) (inside : ℕ → Bool) (p : Place) (input : Option (List
   with_handler = setting shipped_code user inside p input
 
   -- the handler's turns, and user code as it was
-  module _ (at_board : IsOnBoard p) (c : Machine) (s : Watched) (n : ℕ) (u : InUserAfter p c s n) (goes : c.halted ≡ false) where
-    abbrev turn_of : ℕ → Machine
+  module _ (at_board : IsOnBoard p) (c : MachineState) (s : Watched) (n : ℕ) (u : InUserAfter p c s n) (goes : c.halted ≡ false) where
+    abbrev turn_of : ℕ → MachineState
     turn_of j = later with_handler j (entered c)
 
-    abbrev e : Machine
+    abbrev e : MachineState
     e = reached (with_shipped user) input (turn_of 25)
 
     b : IsBack c e

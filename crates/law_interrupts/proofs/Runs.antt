@@ -9,7 +9,7 @@ use Rattle.mx_delay.specs.Delay.{Code, code_from}
 use Rattle.mx_delay.specs.Clean.{Watched, watch_for}
 use Rattle.mx_icache.specs.Residency.{resident}
 use Rattle.mx_turn.specs.Counted.{one}
-use Rattle.mx_turn.specs.Cycle.{Machine, cycled, answer, after_bits}
+use Rattle.mx_turn.specs.Cycle.{MachineState, cycled, answer, after_bits}
 use Rattle.mx_turn.specs.Program.{Program, code_of, code_with, program_of}
 use Rattle.mx_turn.specs.Run.{is_requested, bits, bytes_on, passes, passed_on}
 use Rattle.mx_turn.specs.OneTurn.{IsOnBoard}
@@ -62,7 +62,7 @@ length_bits requests zero = refl
 length_bits requests (suc n) = length-append (bits requests n) (is_requested requests n ∷ []) ∙ (let e = length_bits requests n in omega (arith, e))
 
 -- a word needs a cycle
-pub passed_few : (q : Program) (h : List Bool) (m : Machine) → passed_on q m h ≤ length h
+pub passed_few : (q : Program) (h : List Bool) (m : MachineState) → passed_on q m h ≤ length h
 passed_few q [] m = omega arith
 passed_few q (b ∷ h) m = let e = passed_few q h (cycled resident (code_of q) q.input m b) in let f = small (passes m) in omega (arith, e, f)
   where
@@ -86,18 +86,18 @@ module _ (handler_words user_words : List ℕ) (inside : ℕ → Bool) (p : Plac
   abbrev pub steps : ℕ → Watched → Watched
   steps n s = watch_for user inside p input n s
 
-  abbrev Standing : Machine → Watched → ℕ → ℕ → ℕ → Type 0
+  abbrev Standing : MachineState → Watched → ℕ → ℕ → ℕ → Type 0
   Standing m s w cycles asked = Stands handler user inside p input m s w cycles asked
 
   -- the machine after some bits, and after one
-  abbrev after : Machine → List Bool → Machine
+  abbrev after : MachineState → List Bool → MachineState
   after m h = after_bits resident (code_with handler user) input m h
 
-  abbrev after_one : Machine → Bool → Machine
+  abbrev after_one : MachineState → Bool → MachineState
   after_one m b = cycled resident (code_with handler user) input m b
 
   -- the machine after these bits, and what it sent
-  pub record Ran (h : List Bool) (m : Machine) (s : Watched) (w cycles asked : ℕ) : Type 0 where
+  pub record Ran (h : List Bool) (m : MachineState) (s : Watched) (w cycles asked : ℕ) : Type 0 where
     pub console : s.at.console ++ bytes_on program m h ≡ (steps (passed_on program m h) s).at.console
     pub stands : Standing (after m h) (steps (passed_on program m h) s) (w + passed_on program m h) (cycles + length h) (asked + asked_in h)
 
@@ -106,7 +106,7 @@ module _ (handler_words user_words : List ℕ) (inside : ℕ → Bool) (p : Plac
   steps_past true n s = ap (λ k. steps k s) (let e : 1 + n ≡ suc n = omega arith in e)
   steps_past false n s = ap (λ k. steps k s) (let e : 0 + n ≡ n = omega arith in e)
 
-  stands_at : (m : Machine) (s : Watched) (w w' cycles cycles' asked asked' : ℕ) → w ≡ w' → cycles ≡ cycles' → asked ≡ asked'
+  stands_at : (m : MachineState) (s : Watched) (w w' cycles cycles' asked asked' : ℕ) → w ≡ w' → cycles ≡ cycles' → asked ≡ asked'
       → Standing m s w cycles asked → Standing m s w' cycles' asked'
   stands_at m s w w' cycles cycles' asked asked' e f g x =
       subst (λ y. Standing m s y cycles' asked') e
@@ -116,8 +116,8 @@ module _ (handler_words user_words : List ℕ) (inside : ℕ → Bool) (p : Plac
   -- where so many requests come at most
   module _ (at_board : IsOnBoard p) (at_code : p.code ≡ CODE_BASE) (most : ℕ) (handled : 1 ≤ most → Handled (setting handler user inside p input)) where
     -- one more bit in front
-    module _ (b : Bool) (h : List Bool) (m : Machine) (s : Watched) (w cycles asked : ℕ) where
-      abbrev n : Machine
+    module _ (b : Bool) (h : List Bool) (m : MachineState) (s : Watched) (w cycles asked : ℕ) where
+      abbrev n : MachineState
       n = after_one m b
 
       abbrev s' : Watched
@@ -155,7 +155,7 @@ module _ (handler_words user_words : List ℕ) (inside : ℕ → Bool) (p : Plac
           rest : Ran h n s' (w + one (passes m)) (cycles + 1) (asked + one b)
           rest = more one_cycle.stands clean'
 
-    pub runs : (h : List Bool) (m : Machine) (s : Watched) (w cycles asked : ℕ) → asked + asked_in h ≤ most
+    pub runs : (h : List Bool) (m : MachineState) (s : Watched) (w cycles asked : ℕ) → asked + asked_in h ≤ most
         → Standing m s w cycles asked
         → (steps (passed_on program m h) s).clean ≡ true → Ran h m s w cycles asked
     runs [] m s w cycles asked few st clean = record {

@@ -10,7 +10,7 @@ use Rattle.mx_icache.specs.Residency.{resident}
 use Rattle.mx_pcchain.specs.Chain.{chain_of}
 use Rattle.mx_turn.specs.Counted.{one}
 use Rattle.mx_turn.specs.Stages.{saved}
-use Rattle.mx_turn.specs.Cycle.{Machine, entered, start, cycled, after_bits}
+use Rattle.mx_turn.specs.Cycle.{MachineState, entered, start, cycled, after_bits}
 use Rattle.mx_turn.specs.Program.{Program, code_of, program_of, memory_of}
 use Rattle.mx_turn.specs.Handler.{shipped}
 use Rattle.mx_turn.specs.Run.{is_requested, bits, passes, passed_on, run_of}
@@ -26,7 +26,7 @@ use Rattle.law_interrupts.proofs.Pauses.{InUserAfter, Steps, done_after, with_ha
 use Rattle.law_interrupts.proofs.Cycles.{stands_start}
 use Rattle.law_interrupts.proofs.Runs.{program, steps, Ran, runs, passed_few, length_bits, asked_few}
 
-pub passed_more : (q : Program) (g : List Bool) (b : Bool) (m : Machine)
+pub passed_more : (q : Program) (g : List Bool) (b : Bool) (m : MachineState)
     → passed_on q m (g ++ b ∷ []) ≡ passed_on q m g + one (passes (after_bits resident (code_of q) q.input m g))
 passed_more q [] b m = omega arith
 passed_more q (a ∷ g) b m = let e = passed_more q g b (cycled resident (code_of q) q.input m a) in omega (arith, e)
@@ -92,10 +92,10 @@ module _ (user_words data_words : List ℕ) (p : Place) (input : Option (List �
     laws : IsLawful x
     laws = lawful shipped_code user inside p input at_board at_code
 
-    abbrev m : Machine
+    abbrev m : MachineState
     m = before_cycle q requests n
 
-    abbrev m' : Machine
+    abbrev m' : MachineState
     m' = before_cycle q requests (suc n)
 
     -- what is known before the cycle, in it, and once the handler has ended
@@ -118,18 +118,18 @@ module _ (user_words data_words : List ℕ) (p : Place) (input : Option (List �
 
     saves : Saved p m' (done (suc n)).at
     saves = let f = was.in_user.in_user.follows in record {
-      chain = ap (λ (y : Machine). y.chain) was.is ∙ (λ k. chain_of (saved (f.alu k)) (saved (f.rf k)) (saved (f.fetch k)));
-      regs = ap (λ (y : Machine). y.core.regs) was.is ∙ f.regs;
-      md = ap (λ (y : Machine). y.core.md) was.is ∙ f.md;
-      mem = λ a u. ap (λ (y : Machine). y.core.mem a) was.is ∙ f.mem a u;
-      taken = ap (λ (y : Machine). y.core.taken) was.is ∙ f.taken;
+      chain = ap (λ (y : MachineState). y.chain) was.is ∙ (λ k. chain_of (saved (f.alu k)) (saved (f.rf k)) (saved (f.fetch k)));
+      regs = ap (λ (y : MachineState). y.core.regs) was.is ∙ f.regs;
+      md = ap (λ (y : MachineState). y.core.md) was.is ∙ f.md;
+      mem = λ a u. ap (λ (y : MachineState). y.core.mem a) was.is ∙ f.mem a u;
+      taken = ap (λ (y : MachineState). y.core.taken) was.is ∙ f.taken;
     }
 
     pause : Pause x (entered was.c) 25 known_then
     pause = handler_pause user inside p input at_board was.c (done (suc n)) m.counts.interrupts was.in_user was.goes
 
     begins : InPause x (entered was.c) 25 known_then pause m' 0
-    begins = record { goes = ap (λ (y : Machine). y.halted) was.is ∙ was.goes; is = was.is }
+    begins = record { goes = ap (λ (y : MachineState). y.halted) was.is ∙ was.goes; is = was.is }
 
     module _ (j : ℕ) (after : n < j) (turn : IsTurn26 m' (before_cycle q requests j)) where
       abbrev g : List Bool
@@ -144,7 +144,8 @@ module _ (user_words data_words : List ℕ) (p : Place) (input : Option (List �
       at_end : InPause x (entered was.c) 25 known_then pause (before_cycle q requests j) 25
       at_end =
           subst (λ y. InPause x (entered was.c) 25 known_then pause y 25) (sym reaches)
-          (pause_goes x (entered was.c) 25 known_then pause g m' 0 25 begins (sym (ap (λ (y : Machine). y.counts.fetches) reaches) ∙ turn.turns) (omega arith))
+          (pause_goes x (entered was.c) 25 known_then pause g m' 0 25 begins
+          (sym (ap (λ (y : MachineState). y.counts.fetches) reaches) ∙ turn.turns) (omega arith))
 
       again : InUserAfter p (in_cycle q requests j) (done (suc n)) (m.counts.interrupts + 1)
       again = pause_ends x (entered was.c) 25 known_then pause laws (before_cycle q requests j) (is_requested requests j) at_end
@@ -153,7 +154,7 @@ module _ (user_words data_words : List ℕ) (p : Place) (input : Option (List �
       counted =
           again.counted
           ∙ (let e : (m.counts.interrupts + 1) % 2 ^ 32 ≡ (m.counts.interrupts % 2 ^ 32 + 1) % 2 ^ 32 = omega arith in e)
-          ∙ ap (λ w. (w + 1) % 2 ^ 32) (sym (ap (λ (y : Machine). y.core.mem 0) was.is ∙ was.in_user.counted))
+          ∙ ap (λ w. (w + 1) % 2 ^ 32) (sym (ap (λ (y : MachineState). y.core.mem 0) was.is ∙ was.in_user.counted))
 
     is_delay : (done (suc n)).at ≡ delay user p input words (passed (suc n))
     is_delay = watched_at user inside p input (passed (suc n)) (watch_start p words)

@@ -4,7 +4,7 @@ use Rattle.mx_isa.specs.declared.board.TheConstants.{CODE_BASE}
 use Rattle.mx_isa.specs.declared.place.Place.{Place}
 use Rattle.mx_delay.specs.Delay.{Delay}
 use Rattle.mx_pcchain.specs.Chain.{chain_of}
-use Rattle.mx_turn.specs.Cycle.{Machine, reached, latched}
+use Rattle.mx_turn.specs.Cycle.{MachineState, reached, latched}
 use Rattle.mx_turn.specs.OneTurn.{as_fetch, UserSame, Follows, IsOnBoard}
 use Rattle.mx_turn.specs.Program.{Program, program_of, code_of, state_after, answer_after}
 use Rattle.mx_turn.specs.Run.{is_requested, bits, run_of}
@@ -12,18 +12,18 @@ use Rattle.mx_turn.specs.Handler.{shipped}
 use Rattle.law_interrupts.specs.Laws.{IsCleanImage, delay_of}
 
 -- the machine before a cycle, and an interrupt that is taken in it
-abbrev pub before_cycle : Program → List ℕ → ℕ → Machine
+abbrev pub before_cycle : Program → List ℕ → ℕ → MachineState
 before_cycle q requests n = state_after q (bits requests n)
 
 abbrev pub takes_in : Program → List ℕ → ℕ → Bool
 takes_in q requests n = (answer_after q (bits requests n) (is_requested requests n)).taken
 
 -- the machine in a cycle in which a turn acts, once the word in MEM has committed
-abbrev pub in_cycle : Program → List ℕ → ℕ → Machine
+abbrev pub in_cycle : Program → List ℕ → ℕ → MachineState
 in_cycle q requests n = reached (code_of q) q.input (latched (is_requested requests n) (before_cycle q requests n))
 
 -- after an interrupt: the chain is the queue with its marks; registers, MD, user data and the number of input bytes taken are equal
-pub record Saved (p : Place) (m : Machine) (d : Delay) : Type 0 where
+pub record Saved (p : Place) (m : MachineState) (d : Delay) : Type 0 where
   pub chain : m.chain ≡ chain_of (as_fetch d.first) (as_fetch d.second) (as_fetch d.third)
   pub regs : m.core.regs ≡ d.core.regs
   pub md : m.core.md ≡ d.core.md
@@ -31,7 +31,7 @@ pub record Saved (p : Place) (m : Machine) (d : Delay) : Type 0 where
   pub taken : m.core.taken ≡ d.core.taken
 
 -- x is a machine that has not halted, and its coming cycle is the last one of the 26th turn after m
-pub record IsTurn26 (m x : Machine) : Type 0 where
+pub record IsTurn26 (m x : MachineState) : Type 0 where
   pub goes : x.halted ≡ false
   pub acts : x.stall ≡ 0
   pub turns : x.counts.fetches ≡ m.counts.fetches + 25

@@ -12,10 +12,10 @@ use Rattle.mx_isa.specs.Views.{reads, access, is_halt}
 use Rattle.mx_delay.specs.Delay.{idle, Queued, queued, squash, next_of, stepped}
 use Rattle.mx_delay.specs.Clean.{is_lawful, loads_to, Watched}
 use Rattle.law_link.proofs.Going.{Did, IsPlain, ArePlain, Stands, stands_left, stands_right, still_inside, did, did_all, did_anywhere, queue, starts, for, for_add, word, plain_word, cancelled, goes, Keeps}
-use Rattle.law_link.proofs.Setting.{Machine}
+use Rattle.law_link.proofs.Setting.{StepSetting}
 use Rattle.law_link.proofs.Going.{once}
 
-module _ (machine : Machine) where
+module _ (machine : StepSetting) where
   open machine use {code, inside, place as p, input}
 
   abbrev doing : ℕ → Inst → Did → Did

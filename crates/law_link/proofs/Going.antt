@@ -13,7 +13,7 @@ use Rattle.mx_isa.specs.UserBus.{user_bus}
 use Rattle.mx_isa.proofs.Frame.{decides_anywhere, change_anywhere}
 use Rattle.mx_delay.specs.Delay.{Code, idle, Queued, queued, squash, does, next_of, Delay, user_byte, stepped, delay_step}
 use Rattle.mx_delay.specs.Clean.{is_lawful, is_clean_step, loads_to, Watched, watch, watch_for}
-use Rattle.law_link.proofs.Setting.{Machine}
+use Rattle.law_link.proofs.Setting.{StepSetting}
 
 -- what the words so far did
 pub record Did : Type 0 where
@@ -54,7 +54,7 @@ did_same d e f g h k = λ j. record { core = f j; console = g j; clean = h j; lo
 pub still_inside : (x y b l r : Bool) → b ≡ true → l ≡ true → (x && (y && not r)) ≡ (x && ((b && (y && l)) && not r))
 still_inside x y b l r e f = grind arith
 
-module _ (machine : Machine) where
+module _ (machine : StepSetting) where
   open machine use {code, inside, place as p, input}
 
   abbrev pub once : Watched → Watched

@@ -31,7 +31,7 @@ use Rattle.law_link.proofs.Ends.{Ended, append_did, past_transfer, slots_taken, 
 use Rattle.law_link.proofs.Matching.{core_of}
 use Rattle.law_link.proofs.Saying.{said, step_is, not_stuck_before, run_same, run_add, run_one_more, AreBody, all_plain, ran_at, BodyRun, body_run}
 use Rattle.law_link.proofs.Planned.{ran_of, all_ran, all_loaded, bodies, pre, last, bodies_length, pre_length, plain_body, plain_pre, size_ends, falls_run, words_are, ends_run, decides_there, apart_all, apart_pre, end_loaded}
-use Rattle.law_link.proofs.Setting.{Machine, PlannedBlock, Setting, machine_of, short}
+use Rattle.law_link.proofs.Setting.{StepSetting, PlannedBlock, Setting, machine_of, short}
 use Rattle.law_link.proofs.Going.{once}
 use Rattle.law_order.proofs.Split.{below_left, below_right}
 
@@ -68,7 +68,7 @@ away z = record { target = Some z; cancels = false }
 module _ (setting : Setting) where
   open setting use {link, program as p, code, inside, leader, place_of, small, low}
 
-  abbrev machine : Machine
+  abbrev machine : StepSetting
   machine = machine_of setting
 
   abbrev shorts : (i : ℕ) → link i < 2 ^ 32

@@ -21,7 +21,7 @@ use Rattle.law_order.proofs.Order.{same_length, keeps_effect}
 use Rattle.law_order.proofs.Split.{body_within, run_source_append, decides_alike, body_stays}
 use Rattle.law_order.proofs.Words.{item_inst, words, run_words, run_along, AllStay, run_along_stays, run_along_once, words_stay, AreApart, last_loaded, words_apart, words_end}
 use Rattle.law_link.proofs.Going.{Did, IsPlain, ArePlain, idle_plain, did, did_all}
-use Rattle.law_link.proofs.Setting.{Machine, PlannedBlock}
+use Rattle.law_link.proofs.Setting.{StepSetting, PlannedBlock}
 
 pub apart_left : (l : ℕ) (is js : List Inst) → AreApart l (is ++ js) → AreApart l is
 apart_left l [] js h = tt
@@ -46,7 +46,7 @@ and_not a b c e = grind arith
 abbrev pub ran_of : Did → Decision → Ran
 ran_of d l = record { core = d.core; bytes = d.console; clean = d.clean; leads = l }
 
-module _ (machine : Machine) where
+module _ (machine : StepSetting) where
   open machine use {place as p, input}
 
   one_ran :

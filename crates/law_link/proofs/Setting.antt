@@ -1,5 +1,5 @@
 -- The setting of the laws on words, blocks and runs, over variables: what stands where, and which statement has which address.
--- `Machine` is what a step of linked code depends on. `Setting` adds the program, the address of each of its statements, which
+-- `StepSetting` is what a step of linked code depends on. `Setting` adds the program, the address of each of its statements, which
 -- of them are leaders, and of the block that begins at a leader how many words its plan has and how many others may copy.
 use Rattle.std.proofs.Common.{◌≡◌, ◌⊎◌, ℕ, ◌+◌, ◌^◌, ◌<◌, ◌≤◌, Bool, false, List, length, Option, None, arith}
 use Rattle.mx_isa.specs.declared.place.Place.{Place}
@@ -25,7 +25,7 @@ FillsSo l bare s =
     (l.filling l.sites s ≡ copied s None)
     ⊎ ((bare ≡ false) × (l.filling l.sites s ≡ copied s (site_of (is_target s.block.end) l.sites)))
 
-pub record Machine : Type 0 where
+pub record StepSetting : Type 0 where
   pub code : Code
   pub inside : ℕ → Bool
   pub place : Place
@@ -43,7 +43,7 @@ pub record Setting : Type 0 where
   pub small : (i : ℕ) → link i + 8 < 2 ^ 31
   pub low : (i : ℕ) → program.place.code ≤ link i
 
-abbrev pub machine_of : Setting → Machine
+abbrev pub machine_of : Setting → StepSetting
 machine_of s = record { code = s.code; inside = s.inside; place = s.program.place; input = s.program.input }
 
 -- a site that is linked, with what is copied to its slots

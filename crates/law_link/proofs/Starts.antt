@@ -22,7 +22,7 @@ use Rattle.law_link.proofs.Saying.{all_plain}
 use Rattle.law_link.proofs.OneBlock.{did_of, begins as beginning}
 use Rattle.law_link.proofs.Planned.{pre_length, plain_pre}
 use Rattle.law_link.proofs.Transfers.{inner_of, front_of, front_stands, back_short}
-use Rattle.law_link.proofs.Setting.{Machine, Setting}
+use Rattle.law_link.proofs.Setting.{StepSetting, Setting}
 use Rattle.law_link.proofs.Whole.{Placed, Begun}
 use Rattle.law_link.proofs.Whole as whole
 
@@ -35,7 +35,7 @@ module _ (setting : Setting) (begun : Begun setting) where
   open setting use {program as p, code, inside, link, leader, place_of, len_of, small, low}
   open begun use {placed}
 
-  abbrev machine : Machine
+  abbrev machine : StepSetting
   machine = whole.machine setting begun
 
   abbrev M : ℕ → Run

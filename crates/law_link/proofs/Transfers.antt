@@ -31,7 +31,7 @@ use Rattle.law_link.proofs.Saying.{said, step_is, ran_at}
 use Rattle.law_link.proofs.Planned.{bodies, pre, last}
 use Rattle.law_link.proofs.OneBlock.{Leads, Slots, Filled, Own, InSecond, InFirst, InBoth, StandsAt, GoesOn, StopsAt, Laid, Entered, MovesOn, nowhere, onward, away, falls_on, stops, run_b, to_end, behind_it, behind_slots, Landed, takes, passes}
 use Rattle.law_link.proofs.OneBlock.{Transfers}
-use Rattle.law_link.proofs.Setting.{Machine, Setting, machine_of, short}
+use Rattle.law_link.proofs.Setting.{StepSetting, Setting, machine_of, short}
 
 no_place_of_code : (b : Bool) (s : State) (t : Step) → is_stuck (cond b (stuck CodeOperand s) t).after.mark ≡ false → b ≡ false
 no_place_of_code true s t h = absurd (false≢true (sym h))
@@ -40,7 +40,7 @@ no_place_of_code false s t h = refl
 module _ (setting : Setting) where
   open setting use {link, program as p, code, inside, leader, place_of, small, low}
 
-  abbrev machine : Machine
+  abbrev machine : StepSetting
   machine = machine_of setting
 
   abbrev pub Lay : ℕ → Type 0

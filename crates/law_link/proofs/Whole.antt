@@ -17,7 +17,7 @@ use Rattle.law_link.proofs.Saying.{Prefix, prefix_then, prefix_same, is_going, s
 use Rattle.law_link.proofs.OneBlock.{nowhere, LeadsAt, did_of, begins as beginning, steps, Keeping, IsAt, GoesOn, StopsAt}
 use Rattle.law_link.proofs.Planned.{bodies_length}
 use Rattle.law_link.proofs.Transfers.{Lay, EndOf, CodesLead, inner_of, one_block}
-use Rattle.law_link.proofs.Setting.{Machine, Setting, machine_of, short}
+use Rattle.law_link.proofs.Setting.{StepSetting, Setting, machine_of, short}
 
 pub body_most : (b : Block) → 1 ≤ length (insts_of b) → length (insts_of b) ≤ suc (body_count b)
 body_most b some = by_end (falls b.end)
@@ -49,7 +49,7 @@ module _ (setting : Setting) (begun : Begun setting) where
   open setting use {program as p, code, inside, link, leader, place_of, len_of, small, low}
   open begun use {placed, r0, codes}
 
-  abbrev pub machine : Machine
+  abbrev pub machine : StepSetting
   machine = machine_of setting
 
   -- the meaning after m steps

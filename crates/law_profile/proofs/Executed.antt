@@ -15,7 +15,7 @@ use Rattle.mx_turn.specs.declared.latches.Stage.TheVariants.{Live, Squashed}
 use Rattle.mx_turn.specs.declared.latches.Latches.{Latches}
 use Rattle.mx_turn.specs.Counted.{one, after_stall}
 use Rattle.mx_turn.specs.Stages.{stage_of}
-use Rattle.mx_turn.specs.Cycle.{Machine, is_taken, entered, decided, turned, reached, ended, latched, acted, cycled, start}
+use Rattle.mx_turn.specs.Cycle.{MachineState, is_taken, entered, decided, turned, reached, ended, latched, acted, cycled, start}
 use Rattle.mx_turn.specs.Handler.{shipped}
 use Rattle.mx_turn.specs.Program.{Program, program_of, memory_of}
 use Rattle.mx_turn.specs.Run.{is_requested, bits, is_users, passes, run_of}
@@ -55,16 +55,16 @@ not_users words k None l e = refl
 not_users words k (Some f) l e = marked_word words k f.address f.squashed l ∙ none_below k f.address f.squashed e
 
 -- a turn shows what is shown once the word in MEM has committed
-turned_shown : (code : Code) (c : Machine) → (turned code c).shown ≡ c.shown
+turned_shown : (code : Code) (c : MachineState) → (turned code c).shown ≡ c.shown
 turned_shown code c = ⊎_elim
-    (λ t. ap (λ (m : Machine). m.shown) (cond-true (is_taken c) (entered c) (decided code c) t))
-    (λ t. ap (λ (m : Machine). m.shown) (cond-false (is_taken c) (entered c) (decided code c) t))
+    (λ t. ap (λ (m : MachineState). m.shown) (cond-true (is_taken c) (entered c) (decided code c) t))
+    (λ t. ap (λ (m : MachineState). m.shown) (cond-false (is_taken c) (entered c) (decided code c) t))
     (cases_Bool (is_taken c))
 
-ended_shown : (code : Code) (c : Machine) → (ended code c).shown ≡ c.shown
+ended_shown : (code : Code) (c : MachineState) → (ended code c).shown ≡ c.shown
 ended_shown code c = ⊎_elim
-    (λ h. ap (λ (m : Machine). m.shown) (cond-true c.halted c (turned code c) h))
-    (λ h. ap (λ (m : Machine). m.shown) (cond-false c.halted c (turned code c) h) ∙ turned_shown code c)
+    (λ h. ap (λ (m : MachineState). m.shown) (cond-true c.halted c (turned code c) h))
+    (λ h. ap (λ (m : MachineState). m.shown) (cond-false c.halted c (turned code c) h) ∙ turned_shown code c)
     (cases_Bool c.halted)
 
 no_more : (n : ℕ) → ltb n n ≡ false
@@ -74,15 +74,15 @@ one_more : (n : ℕ) → ltb n (n + 1) ≡ true
 one_more n = grind (arith, nat_tests)
 
 -- the machine counts a fetch in a cycle that leads from m to n, and then MEM shows a word of place k, not squashed
-abbrev charges : ℕ → ℕ → Machine → Machine → Bool
+abbrev charges : ℕ → ℕ → MachineState → MachineState → Bool
 charges words k m n = (ltb m.counts.fetches n.counts.fetches && is_live n.shown.mem) && eqb (place_in words n.shown.mem) k
 
-uncounted : (words k : ℕ) (m n : Machine) → n.counts.fetches ≡ m.counts.fetches → charges words k m n ≡ false
+uncounted : (words k : ℕ) (m n : MachineState) → n.counts.fetches ≡ m.counts.fetches → charges words k m n ≡ false
 uncounted words k m n e =
     ap (λ f. (ltb m.counts.fetches f && is_live n.shown.mem) && eqb (place_in words n.shown.mem) k) e
     ∙ ap (λ b. (b && is_live n.shown.mem) && eqb (place_in words n.shown.mem) k) (no_more m.counts.fetches)
 
-counted : (words k : ℕ) (m n : Machine) (stage : Stage) → n.counts.fetches ≡ m.counts.fetches + 1 → n.shown.mem ≡ stage
+counted : (words k : ℕ) (m n : MachineState) (stage : Stage) → n.counts.fetches ≡ m.counts.fetches + 1 → n.shown.mem ≡ stage
     → charges words k m n ≡ is_word words k stage
 counted words k m n stage e f =
     ap (λ c. (ltb m.counts.fetches c && is_live n.shown.mem) && eqb (place_in words n.shown.mem) k) e
@@ -94,29 +94,29 @@ module _ (handler user : Code) (inside : ℕ → Bool) (p : Place) (input : Opti
   x = setting handler user inside p input
 
   -- a fetch of user code in ALU is the first one of the queue, and the machine with delay slots has not halted
-  users_first : (m : Machine) (k : Steps) (rest : ℕ) → State x m k rest → m.halted ≡ false → is_users m.alu ≡ true
+  users_first : (m : MachineState) (k : Steps) (rest : ℕ) → State x m k rest → m.halted ≡ false → is_users m.alu ≡ true
       → (m.alu ≡ Some (as_fetch k.done.at.first)) × (k.done.at.halted ≡ false)
   users_first m k rest (going g) on u =
       let f = g.in_user.in_user.follows in (
-        ap (λ (y : Machine). y.alu) g.is ∙ ap (λ (y : Machine). y.alu) (goes_on x.code g.c g.goes g.quiet) ∙ f.alu,
+        ap (λ (y : MachineState). y.alu) g.is ∙ ap (λ (y : MachineState). y.alu) (goes_on x.code g.c g.goes g.quiet) ∙ f.alu,
         sym f.halted ∙ g.goes,
       )
-  users_first m k rest (pausing h) on u = absurd (false≢true (sym (ap (λ (y : Machine). is_users y.alu) h.is ∙ (h.pause.silent h.j early).system) ∙ u))
+  users_first m k rest (pausing h) on u = absurd (false≢true (sym (ap (λ (y : MachineState). is_users y.alu) h.is ∙ (h.pause.silent h.j early).system) ∙ u))
     where
       early : h.j ≤ h.last
       early = let e = h.sum in let f = h.some in omega (arith, e, f)
   users_first m k rest (over o) on u = absurd (false≢true (sym on ∙ o.ends))
 
-  module _ (words k : ℕ) (l : k < words) (m : Machine) (request : Bool) (s : Watched) (n rest : ℕ)
+  module _ (words k : ℕ) (l : k < words) (m : MachineState) (request : Bool) (s : Watched) (n rest : ℕ)
       (st : State x (erased m) (done_after s n) rest) where
-    abbrev next : Machine
+    abbrev next : MachineState
     next = cycled resident x.code input m request
 
-    abbrev then : Machine
+    abbrev then : MachineState
     then = acted resident x.code input (latched request m)
 
-    abbrev stalled : Machine
-    stalled = let y : Machine = latched request m in record y { stall = m.stall - 1; counts = after_stall m.counts }
+    abbrev stalled : MachineState
+    stalled = let y : MachineState = latched request m in record y { stall = m.stall - 1; counts = after_stall m.counts }
 
     -- a word of user code comes to MEM
     users_cycle : m.halted ≡ false → is_users m.alu ≡ true → charges words k m then ≡ executes (4096 + k) s.at
@@ -177,7 +177,7 @@ module _ (code_words data_words : List ℕ) (p : Place) (input : Option (List �
   program = program_of shipped code_words data_words input
 
   -- the machine before a cycle, the words that passed by then, and the steps that are done
-  abbrev at : ℕ → Machine
+  abbrev at : ℕ → MachineState
   at n = before program requests (length code_words) n
 
   abbrev steps : ℕ → ℕ

@@ -5,7 +5,7 @@ use Rattle.std.proofs.lemmas.Bool.{cond-true, cond-false, le-leb}
 use Rattle.std.proofs.lemmas.Bool.Decides.{nat_tests}
 use Rattle.std.proofs.lemmas.List.{append-nil, length-append, length-map, take_at, get_or_at, get_or_append_left, take_all}
 use Rattle.mx_turn.specs.declared.Cycled.{Cycled}
-use Rattle.mx_turn.specs.Cycle.{Machine}
+use Rattle.mx_turn.specs.Cycle.{MachineState}
 use Rattle.mx_turn.specs.Program.{state_after}
 use Rattle.mx_turn.specs.Run.{bits, console_after}
 use Rattle.mx_report.proofs.Runs.{still, cycled_at, state_at, next_halted, state_still, console_still}
@@ -44,7 +44,7 @@ module _ (s : Session) where
   abbrev stopping : ℕ → Bool
   stopping n = is_stop s.program s.requests s.address n
 
-  abbrev state : ℕ → Machine
+  abbrev state : ℕ → MachineState
   state n = state_at s.program s.requests n
 
   -- later cycles add stops behind those before them
@@ -72,7 +72,7 @@ module _ (s : Session) where
   stops_still n halted = still C n (λ m le same.
       let later : n ≤ suc m = omega (arith, le) in
       ap (λ b. C m ++ cond b (m ∷ []) [])
-      (no_stop m (ap (λ (x : Machine). x.halted) (state_still s.program s.requests n halted (suc m) later) ∙ halted))
+      (no_stop m (ap (λ (x : MachineState). x.halted) (state_still s.program s.requests n halted (suc m) later) ∙ halted))
       ∙ append-nil (C m))
 
   -- not as many stops came
@@ -97,7 +97,7 @@ module _ (s : Session) where
       let all : all_stops s ≡ C (suc n) = stops_still (suc n) halted s.budget within in
       let last = state_still s.program s.requests (suc n) halted s.budget within in
       ends_later (subst (λ l. length l < s.limit) (sym (all ∙ same)) few) (suc n) true
-      (ap (λ (x : Machine). x.halted) last ∙ halted) (sym all) (sym last) (sym (console_still s.program s.requests (suc n) halted s.budget within))
+      (ap (λ (x : MachineState). x.halted) last ∙ halted) (sym all) (sym last) (sym (console_still s.program s.requests (suc n) halted s.budget within))
 
   pub ends_spent : length (all_stops s) < s.limit → (state s.budget).halted ≡ false → EndsSo s s.budget OutOfBudget
   ends_spent few going = ends_later few s.budget false going refl refl refl

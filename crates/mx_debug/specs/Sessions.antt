@@ -1,6 +1,6 @@
 -- Sessions: the stops of a run up to a number of them, a halt, or the end of its budget.
 use Rattle.std.specs.Prelude.{ℕ, suc, ◌-◌, leb, Bool, cond, List, length, map, take, slice_index}
-use Rattle.mx_turn.specs.Cycle.{Machine}
+use Rattle.mx_turn.specs.Cycle.{MachineState}
 use Rattle.mx_turn.specs.Program.{Program, state_after}
 use Rattle.mx_turn.specs.Run.{bits, console_after}
 use Rattle.mx_debug.specs.declared.stop.Stop.{Stop}
@@ -54,5 +54,5 @@ abbrev pub console_of : Session → List ℕ
 console_of s = console_after s.program (bits s.requests (cycles_of s))
 
 -- the machine at its end
-abbrev pub last_of : Session → Machine
+abbrev pub last_of : Session → MachineState
 last_of s = state_after s.program (bits s.requests (cycles_of s))

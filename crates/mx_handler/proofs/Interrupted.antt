@@ -4,32 +4,32 @@ use Rattle.std.proofs.lemmas.Bool.{cond-true, cond-false, cases_Bool, false≢tr
 use Rattle.mx_delay.specs.Delay.{Code}
 use Rattle.mx_icache.specs.Residency.{resident}
 use Rattle.mx_turn.specs.declared.machine.Cycled.{Cycled as Answer}
-use Rattle.mx_turn.specs.Cycle.{Machine, is_taken, entered, decided, turned, reached, ended, takes, latched, acted, cycled, answer, after_bits}
+use Rattle.mx_turn.specs.Cycle.{MachineState, is_taken, entered, decided, turned, reached, ended, takes, latched, acted, cycled, answer, after_bits}
 use Rattle.mx_turn.specs.Run.{is_users, passes}
 use Rattle.mx_turn.specs.OneTurn.{before_turn}
 use Rattle.mx_handler.proofs.Pauses.{erased, goes_on, Setting, later, Still, still_turn, Pause, Handled, IsLawful, reached_alike}
 use Rattle.mx_handler.proofs.Phases.{State, Turned, turn}
 
-pub after_append : (code : Code) (input : Option (List ℕ)) (g h : List Bool) (m : Machine)
+pub after_append : (code : Code) (input : Option (List ℕ)) (g h : List Bool) (m : MachineState)
     → after_bits resident code input m (g ++ h) ≡ after_bits resident code input (after_bits resident code input m g) h
 after_append code input [] h m = refl
 after_append code input (b ∷ g) h m = after_append code input g h (cycled resident code input m b)
 
 module _ (x : Setting) where
   -- the interrupt was taken in user code
-  pub record Interrupted (m : Machine) (k : x.Known) : Type 0 where
-    pub c : Machine
+  pub record Interrupted (m : MachineState) (k : x.Known) : Type 0 where
+    pub c : MachineState
     pub in_user : x.In c k
     pub goes : c.halted ≡ false
     pub is : erased m ≡ erased (entered c)
 
-  abbrev advance : Machine → Bool → Machine
+  abbrev advance : MachineState → Bool → MachineState
   advance m b = cycled resident x.code x.input m b
 
   -- it is taken in this cycle
-  module _ (laws : IsLawful x) (handled : Handled x) (m : Machine) (request : Bool) (k : x.Known) (rest : ℕ) (st : State x (erased m) k rest)
+  module _ (laws : IsLawful x) (handled : Handled x) (m : MachineState) (request : Bool) (k : x.Known) (rest : ℕ) (st : State x (erased m) k rest)
       (taken : (answer x.code x.input m request).taken ≡ true) (clean : (x.runs (x.past (passes m) k)).clean ≡ true) where
-    abbrev c : Machine
+    abbrev c : MachineState
     c = reached x.code x.input (latched request m)
 
     acts : m.halted ≡ false → eqb m.stall 0 ≡ true → Interrupted (advance m request) (x.past (passes m) k)
@@ -68,7 +68,7 @@ module _ (x : Setting) where
         (cases_Bool m.halted)
 
   -- turns are counted
-  grow : (m : Machine) (b : Bool) → m.counts.fetches ≤ (advance m b).counts.fetches
+  grow : (m : MachineState) (b : Bool) → m.counts.fetches ≤ (advance m b).counts.fetches
   grow m b = ⊎_elim
       (λ h. same m (sym (cond-true _ m _ h)) (omega arith))
       (λ h. ⊎_elim
@@ -77,36 +77,36 @@ module _ (x : Setting) where
       (cases_Bool (eqb m.stall 0)))
       (cases_Bool m.halted)
     where
-      same : (n : Machine) → n ≡ advance m b → m.counts.fetches ≤ n.counts.fetches → m.counts.fetches ≤ (advance m b).counts.fetches
-      same n e h = subst (λ (y : Machine). m.counts.fetches ≤ y.counts.fetches) e h
+      same : (n : MachineState) → n ≡ advance m b → m.counts.fetches ≤ n.counts.fetches → m.counts.fetches ≤ (advance m b).counts.fetches
+      same n e h = subst (λ (y : MachineState). m.counts.fetches ≤ y.counts.fetches) e h
 
-  grows : (g : List Bool) (m : Machine) → m.counts.fetches ≤ (after_bits resident x.code x.input m g).counts.fetches
+  grows : (g : List Bool) (m : MachineState) → m.counts.fetches ≤ (after_bits resident x.code x.input m g).counts.fetches
   grows [] m = omega arith
   grows (b ∷ g) m = let e = grow m b in let f = grows g (advance m b) in omega (arith, e, f)
 
   -- a pause, from its beginning on
-  module _ (base : Machine) (last : ℕ) (k : x.Known) (pause : Pause x base last k) where
+  module _ (base : MachineState) (last : ℕ) (k : x.Known) (pause : Pause x base last k) where
     -- a machine j turns into it
-    pub record InPause (m : Machine) (j : ℕ) : Type 0 where
+    pub record InPause (m : MachineState) (j : ℕ) : Type 0 where
       pub goes : m.halted ≡ false
       pub is : erased m ≡ erased (later x j base)
 
-    stalled_on : (m : Machine) (b : Bool) (j : ℕ) → InPause m j → eqb m.stall 0 ≡ false → InPause (advance m b) j
+    stalled_on : (m : MachineState) (b : Bool) (j : ℕ) → InPause m j → eqb m.stall 0 ≡ false → InPause (advance m b) j
     stalled_on m b j h z =
         let e : advance m b ≡ _ = cond-false _ m _ h.goes ∙ cond-false _ _ _ z in
-        record { goes = ap (λ (y : Machine). y.halted) e ∙ h.goes; is = ap (λ y. erased y) e ∙ h.is }
+        record { goes = ap (λ (y : MachineState). y.halted) e ∙ h.goes; is = ap (λ y. erased y) e ∙ h.is }
 
-    stalled_count : (m : Machine) (b : Bool) → m.halted ≡ false → eqb m.stall 0 ≡ false → (advance m b).counts.fetches ≡ m.counts.fetches
-    stalled_count m b h z = ap (λ (y : Machine). y.counts.fetches) (cond-false _ m _ h ∙ cond-false _ _ _ z)
+    stalled_count : (m : MachineState) (b : Bool) → m.halted ≡ false → eqb m.stall 0 ≡ false → (advance m b).counts.fetches ≡ m.counts.fetches
+    stalled_count m b h z = ap (λ (y : MachineState). y.counts.fetches) (cond-false _ m _ h ∙ cond-false _ _ _ z)
 
-    acted_count : (m : Machine) (b : Bool) → m.halted ≡ false → eqb m.stall 0 ≡ true → (advance m b).counts.fetches ≡ m.counts.fetches + 1
-    acted_count m b h z = ap (λ (y : Machine). y.counts.fetches) (cond-false _ m _ h ∙ cond-true _ _ _ z)
+    acted_count : (m : MachineState) (b : Bool) → m.halted ≡ false → eqb m.stall 0 ≡ true → (advance m b).counts.fetches ≡ m.counts.fetches + 1
+    acted_count m b h z = ap (λ (y : MachineState). y.counts.fetches) (cond-false _ m _ h ∙ cond-true _ _ _ z)
 
-    acted_on : (m : Machine) (b : Bool) (j : ℕ) → InPause m j → eqb m.stall 0 ≡ true → j < last → InPause (advance m b) (suc j)
+    acted_on : (m : MachineState) (b : Bool) (j : ℕ) → InPause m j → eqb m.stall 0 ≡ true → j < last → InPause (advance m b) (suc j)
     acted_on m b j h z early = record {
       goes =
-          ap (λ (y : Machine). y.halted) e
-          ∙ ap (λ (y : Machine). y.halted) (goes_on x.code c goes quiet)
+          ap (λ (y : MachineState). y.halted) e
+          ∙ ap (λ (y : MachineState). y.halted) (goes_on x.code c goes quiet)
           ∙ goes;
       is =
           ap (λ y. erased y) e
@@ -114,10 +114,10 @@ module _ (x : Setting) where
           ∙ still_turn x t m.stall (m.latch || b) m.counts still;
     }
       where
-        t : Machine
+        t : MachineState
         t = later x j base
 
-        c : Machine
+        c : MachineState
         c = reached x.code x.input (latched b m)
 
         still : Still x t
@@ -130,13 +130,13 @@ module _ (x : Setting) where
         same = ap (λ y. reached x.code x.input (before_turn m.stall (m.latch || b) m.counts y)) h.is
 
         goes : c.halted ≡ false
-        goes = ap (λ (y : Machine). y.halted) same ∙ still.goes
+        goes = ap (λ (y : MachineState). y.halted) same ∙ still.goes
 
         quiet : is_taken c ≡ false
         quiet = ap (λ y. is_taken y) same ∙ still.nothing (m.latch || b)
 
     -- so many turns later
-    pub pause_goes : (g : List Bool) (m : Machine) (j n : ℕ) → InPause m j
+    pub pause_goes : (g : List Bool) (m : MachineState) (j n : ℕ) → InPause m j
         → (after_bits resident x.code x.input m g).counts.fetches ≡ m.counts.fetches + n → j + n ≤ last
         → InPause (after_bits resident x.code x.input m g) (j + n)
     pause_goes [] m j n h count early = subst (InPause m) (let e : j ≡ j + n = omega (arith, count) in e) h
@@ -151,7 +151,7 @@ module _ (x : Setting) where
         (cases_Bool (eqb m.stall 0))
 
     -- at its end the machine is in user code
-    pub pause_ends : IsLawful x → (m : Machine) (b : Bool) → InPause m last → x.In (reached x.code x.input (latched b m)) k
+    pub pause_ends : IsLawful x → (m : MachineState) (b : Bool) → InPause m last → x.In (reached x.code x.input (latched b m)) k
     pause_ends laws m b h =
         subst (λ y. x.In (reached x.code x.input (before_turn m.stall (m.latch || b) m.counts y)) k) (sym h.is)
         (reached_alike x laws (later x last base) k m.stall (m.latch || b) m.counts pause.back)

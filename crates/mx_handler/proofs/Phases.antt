@@ -4,15 +4,15 @@ use Rattle.std.specs.Prelude.{option_to_list}
 use Rattle.std.proofs.lemmas.Bool.{cond-true, cond-false, cases_Bool, cases_lt, false≢true, and_parts}
 use Rattle.mx_isa.specs.Words.{Words}
 use Rattle.mx_turn.specs.Counted.{Counted, one}
-use Rattle.mx_turn.specs.Cycle.{Machine, shifted, commit_byte, is_taken, entered, decided, turned, reached, ended, takes, start}
+use Rattle.mx_turn.specs.Cycle.{MachineState, shifted, commit_byte, is_taken, entered, decided, turned, reached, ended, takes, start}
 use Rattle.mx_turn.specs.Run.{is_users}
 use Rattle.mx_turn.specs.OneTurn.{before_turn}
 use Rattle.mx_handler.proofs.Pauses.{erased, goes_on, Setting, later, Still, still_turn, Silent, Pause, Handled, Stepped, IsLawful, reached_alike}
 
 module _ (x : Setting) where
   -- in user code: the coming turn is the next step
-  pub record Going (m : Machine) (k : x.Known) (rest : ℕ) : Type 0 where
-    pub c : Machine
+  pub record Going (m : MachineState) (k : x.Known) (rest : ℕ) : Type 0 where
+    pub c : MachineState
     pub in_user : x.In c k
     pub goes : c.halted ≡ false
     pub quiet : is_taken c ≡ false
@@ -20,8 +20,8 @@ module _ (x : Setting) where
     pub none : rest ≡ 0
 
   -- j turns into a pause, with some turns left
-  pub record Pausing (m : Machine) (k : x.Known) (rest : ℕ) : Type 0 where
-    pub base : Machine
+  pub record Pausing (m : MachineState) (k : x.Known) (rest : ℕ) : Type 0 where
+    pub base : MachineState
     pub last : ℕ
     pub pause : Pause x base last k
     pub j : ℕ
@@ -31,13 +31,13 @@ module _ (x : Setting) where
     pub goes : m.halted ≡ false
 
   -- halted
-  pub record Over (m : Machine) (k : x.Known) (rest : ℕ) : Type 0 where
+  pub record Over (m : MachineState) (k : x.Known) (rest : ℕ) : Type 0 where
     pub in_user : x.In m k
     pub ends : m.halted ≡ true
     pub none : rest ≡ 0
 
   -- a machine of which this is known, with so many turns left of a pause
-  pub data State (m : Machine) (k : x.Known) (rest : ℕ) : Type 0 where
+  pub data State (m : MachineState) (k : x.Known) (rest : ℕ) : Type 0 where
     going : Going m k rest → State m k rest
     pausing : Pausing m k rest → State m k rest
     over : Over m k rest → State m k rest
@@ -47,7 +47,7 @@ module _ (x : Setting) where
   pause_of taken = cond taken (x.last + 1) 0
 
   -- a turn in which c is reached: its byte, whether a word passes, and where the machine is then
-  pub record Turned (m c : Machine) (k : x.Known) (rest : ℕ) : Type 0 where
+  pub record Turned (m c : MachineState) (k : x.Known) (rest : ℕ) : Type 0 where
     pub byte : (x.runs k).at.console ++ option_to_list (commit_byte x.code x.input (shifted m)) ≡ (x.runs (x.past (is_users m.alu) k)).at.console
     pub rest_after : ℕ
     pub left : rest_after + 1 ≡ rest + one (is_users m.alu) + pause_of (takes c)
@@ -68,26 +68,26 @@ module _ (x : Setting) where
   })
 
   module _ (laws : IsLawful x) where
-    pub halted_alike : (m : Machine) (k : x.Known) (rest : ℕ) → State m k rest → m.halted ≡ (x.runs k).at.halted
+    pub halted_alike : (m : MachineState) (k : x.Known) (rest : ℕ) → State m k rest → m.halted ≡ (x.runs k).at.halted
     halted_alike m k rest (going g) =
-        ap (λ (y : Machine). y.halted) g.is ∙ ap (λ (y : Machine). y.halted) (goes_on x.code g.c g.goes g.quiet) ∙ laws.halted g.c k g.in_user
+        ap (λ (y : MachineState). y.halted) g.is ∙ ap (λ (y : MachineState). y.halted) (goes_on x.code g.c g.goes g.quiet) ∙ laws.halted g.c k g.in_user
     halted_alike m k rest (pausing h) = h.goes ∙ sym h.pause.waits
     halted_alike m k rest (over o) = laws.halted m k o.in_user
 
     -- where it halted, it did so in user code
-    pub ended_in_user : (m : Machine) (k : x.Known) (rest : ℕ) → State m k rest → m.halted ≡ true → x.In m k
+    pub ended_in_user : (m : MachineState) (k : x.Known) (rest : ℕ) → State m k rest → m.halted ≡ true → x.In m k
     ended_in_user m k rest (going g) h = absurd (false≢true (sym g.goes ∙ laws.halted g.c k g.in_user ∙ sym (halted_alike m k rest (going g)) ∙ h))
     ended_in_user m k rest (pausing q) h = absurd (false≢true (sym q.goes ∙ h))
     ended_in_user m k rest (over o) h = o.in_user
 
     -- what is reached in user code, after the turn
-    ended_user : (c : Machine) (k : x.Known) → (is_taken c ≡ true → Handled x) → x.In c k
+    ended_user : (c : MachineState) (k : x.Known) → (is_taken c ≡ true → Handled x) → x.In c k
         → State (erased (ended x.code c)) (x.after (takes c) k) (pause_of (takes c))
     ended_user c k handled u = ⊎_elim
         (λ h. untaken (λ i. not (h i) && is_taken c)
         (over (record {
           in_user = subst (λ y. x.In (erased y) k) (sym (cond-true _ c _ h)) (laws.alike c k 0 false _ u);
-          ends = ap (λ (y : Machine). y.halted) (cond-true _ c (turned x.code c) h) ∙ h;
+          ends = ap (λ (y : MachineState). y.halted) (cond-true _ c (turned x.code c) h) ∙ h;
           none = refl;
         })))
         (λ h. ⊎_elim
@@ -102,7 +102,7 @@ module _ (x : Setting) where
           sum = omega arith;
           some = omega arith;
           is = ap erased same;
-          goes = ap (λ (y : Machine). y.halted) same ∙ h;
+          goes = ap (λ (y : MachineState). y.halted) same ∙ h;
         })))
         (λ t. untaken (λ i. not (h i) && t i) (going (record { c = c; in_user = u; goes = h; quiet = t; is = refl; none = refl })))
         (cases_Bool (is_taken c)))
@@ -113,9 +113,9 @@ module _ (x : Setting) where
             subst (λ b. State (erased (ended x.code c)) (x.after b k) (pause_of b)) (sym e)
             (subst (λ y. State (erased (ended x.code c)) y 0) (sym (laws.no_interrupt k)) s)
 
-    module _ (m : Machine) (k : x.Known) (rest stall : ℕ) (latch : Bool) (counts : Counted) (handled : latch ≡ true → Handled x) where
+    module _ (m : MachineState) (k : x.Known) (rest stall : ℕ) (latch : Bool) (counts : Counted) (handled : latch ≡ true → Handled x) where
       -- what is reached in the turn
-      abbrev pub c : Machine
+      abbrev pub c : MachineState
       c = reached x.code x.input (before_turn stall latch counts m)
 
       -- where one is taken a request is latched
@@ -137,8 +137,8 @@ module _ (x : Setting) where
         where
           passes : is_users m.alu ≡ true
           passes =
-              ap (λ (y : Machine). is_users y.alu) g.is
-              ∙ ap (λ (y : Machine). is_users y.alu) (goes_on x.code g.c g.goes g.quiet)
+              ap (λ (y : MachineState). is_users y.alu) g.is
+              ∙ ap (λ (y : MachineState). is_users y.alu) (goes_on x.code g.c g.goes g.quiet)
               ∙ laws.users g.c k g.in_user
 
           step : Stepped x (before_turn stall latch counts (ended x.code g.c)) k
@@ -150,7 +150,7 @@ module _ (x : Setting) where
 
       -- a turn of a pause
       module _ (h : Pausing m k rest) where
-        abbrev t : Machine
+        abbrev t : MachineState
         t = later x h.j h.base
 
         early : h.j ≤ h.last
@@ -160,7 +160,7 @@ module _ (x : Setting) where
         silent = h.pause.silent h.j early
 
         system : is_users m.alu ≡ false
-        system = ap (λ (y : Machine). is_users y.alu) h.is ∙ silent.system
+        system = ap (λ (y : MachineState). is_users y.alu) h.is ∙ silent.system
 
         stays : x.past (is_users m.alu) k ≡ k
         stays = ap (λ b. x.past b k) system ∙ laws.no_word k
@@ -192,7 +192,7 @@ module _ (x : Setting) where
                 sum = (let e = h.sum in omega (arith, e, l));
                 some = (let e = h.sum in omega (arith, e, l));
                 is = ap (λ y. erased (ended x.code (reached x.code x.input (before_turn stall latch counts y)))) h.is ∙ still_turn x t stall latch counts still;
-                goes = ap (λ (y : Machine). y.halted) (goes_on x.code c goes quiet) ∙ goes;
+                goes = ap (λ (y : MachineState). y.halted) (goes_on x.code c goes quiet) ∙ goes;
               }));
           taken = λ e. absurd (false≢true (sym not_taken ∙ e));
         }
@@ -201,7 +201,7 @@ module _ (x : Setting) where
             still = h.pause.still h.j l
 
             goes : c.halted ≡ false
-            goes = ap (λ (y : Machine). y.halted) same ∙ still.goes
+            goes = ap (λ (y : MachineState). y.halted) same ∙ still.goes
 
             quiet : is_taken c ≡ false
             quiet = ap (λ y. is_taken y) same ∙ still.nothing latch

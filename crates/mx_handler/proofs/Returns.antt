@@ -12,7 +12,7 @@ use Rattle.mx_turn.specs.declared.latches.Latches.{Latches}
 use Rattle.mx_turn.specs.Counted.{Counted}
 use Rattle.mx_turn.specs.Stages.{fetch_of, saved}
 use Rattle.mx_turn.specs.System.{Slot}
-use Rattle.mx_turn.specs.Cycle.{Machine, entered, reached}
+use Rattle.mx_turn.specs.Cycle.{MachineState, entered, reached}
 use Rattle.mx_handler.specs.Returns.{with_shipped, turns, IsBack, HoldsFetch}
 
 -- the registers after the handler's loads, which end with those of 2 and 1
@@ -23,7 +23,7 @@ loads_of r a b c d e f g h =
 
 module _ (user : Code) (input : Option (List ℕ)) (latch : ℕ → Bool) (mem wb : Option Fetch) (past : List ℕ) (stall : ℕ) (r before m : Words)
     (md taken : ℕ) (slot : Slot) (p1 p2 p3 : ℕ) (other : Mode) (halted : Bool) (shown : Latches) (counts : Counted) where
-  abbrev pub entry : Machine
+  abbrev pub entry : MachineState
   entry = record {
     next = fetch_of 0;
     fetch = None;
@@ -44,7 +44,7 @@ module _ (user : Code) (input : Option (List ℕ)) (latch : ℕ → Bool) (mem w
     counts = counts;
   }
 
-  abbrev pub end : Machine
+  abbrev pub end : MachineState
   end = reached (with_shipped user) input (record (turns (with_shipped user) input latch 25 entry) { latch = latch 25 })
 
   end_current : end.psw.current ≡ other
@@ -154,14 +154,14 @@ from_entry f h = back f.squashed
         b : leb (2 ^ 31) f.address ≡ false
         b = lt-leb _ _ (omega arith)
 
-module _ (user : Code) (input : Option (List ℕ)) (latch : ℕ → Bool) (m : Machine) (alu rf fetch : Fetch) (is_alu : HoldsFetch m.alu alu)
+module _ (user : Code) (input : Option (List ℕ)) (latch : ℕ → Bool) (m : MachineState) (alu rf fetch : Fetch) (is_alu : HoldsFetch m.alu alu)
     (is_rf : HoldsFetch m.rf rf) (is_fetch : HoldsFetch m.fetch fetch) where
   -- the state in which the handler's first word is fetched, when the chain holds these words
-  abbrev at : ℕ → ℕ → ℕ → Machine
+  abbrev at : ℕ → ℕ → ℕ → MachineState
   at p1 p2 p3 = entry user input latch m.mem m.wb m.past m.stall m.core.regs m.before m.core.mem m.core.md m.core.taken m.slot
       p1 p2 p3 m.psw.current m.halted m.shown m.counts
 
-  abbrev e : Machine
+  abbrev e : MachineState
   e = end user input latch m.mem m.wb m.past m.stall m.core.regs m.before m.core.mem m.core.md m.core.taken m.slot
       (entry_of alu) (entry_of rf) (entry_of fetch) m.psw.current m.halted m.shown m.counts
 
@@ -186,7 +186,7 @@ module _ (user : Code) (input : Option (List ℕ)) (latch : ℕ → Bool) (m : M
   }
 
   -- the machine before the 26th turn
-  abbrev before_last : Machine → Machine
+  abbrev before_last : MachineState → MachineState
   before_last x = record (turns (with_shipped user) input latch 25 x) { latch = latch 25 }
 
   pub returns : IsBack m (reached (with_shipped user) input (before_last (entered m)))

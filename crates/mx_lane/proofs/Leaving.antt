@@ -13,7 +13,7 @@ use Rattle.mx_board.specs.Contents.{Contents}
 use Rattle.mx_pcchain.specs.declared.chain.Chain.{Chain}
 use Rattle.mx_turn.specs.Stages.{live}
 use Rattle.mx_turn.specs.System.{system_change, slot_of}
-use Rattle.mx_turn.specs.Cycle.{Machine, shifted, mem_change}
+use Rattle.mx_turn.specs.Cycle.{MachineState, shifted, mem_change}
 use Rattle.mx_lane.specs.declared.lane.Lane.{Lane}
 use Rattle.mx_lane.specs.Lanes.{InTurn, IsLeft}
 
@@ -57,16 +57,16 @@ module _ (c : Chain) (at : ℕ) (r : Words) (md : ℕ) (find : ℕ → Found) (f
   goes_back user _ = record { undone = refl; redone = refl }
 
 -- the lane may be left in any turn
-pub may_leave : {C : Type 0} (holds : C → List ℕ → Type 0) (code : Code) (m : Machine) (l : Lane) (b : Contents) (cache : C)
+pub may_leave : {C : Type 0} (holds : C → List ℕ → Type 0) (code : Code) (m : MachineState) (l : Lane) (b : Contents) (cache : C)
     → (h : InTurn holds code m l b cache) → IsLeft code l h.before
 may_leave holds code m l b cache h =
     let i : Inst = live code m.alu in
-    let s : Machine = shifted m in
+    let s : MachineState = shifted m in
     let f : Words = m.core.regs in
     let x : Change = mem_change code b.input s in
-    let mem : m.alu ≡ l.mem = ap (λ (y : Machine). y.mem) h.state in
-    let before : f ≡ h.before = ap (λ (y : Machine). y.before) h.state in
-    let file : write f x.dest x.value ≡ slice_index l.registers.file = ap (λ (y : Machine). y.core.regs) h.state in
+    let mem : m.alu ≡ l.mem = ap (λ (y : MachineState). y.mem) h.state in
+    let before : f ≡ h.before = ap (λ (y : MachineState). y.before) h.state in
+    let file : write f x.dest x.value ≡ slice_index l.registers.file = ap (λ (y : MachineState). y.core.regs) h.state in
     let replaced : reg f (dest i) ≡ l.replaced = (λ k. reg (before k) (dest (live code (mem k)))) ∙ sym h.replaced in
     let back = goes_back m.chain _ _ m.core.md _ f m.psw.current.user i in
     record {
@@ -78,5 +78,5 @@ may_leave holds code m l b cache h =
           sym (λ k. write (before k) (dest (live code (mem k))) (reg (file k) (dest (live code (mem k)))))
           ∙ back.redone
           ∙ file;
-      slot = sym (λ k. slot_of (live code (mem k)) (before k)) ∙ ap (λ (y : Machine). y.slot) h.state;
+      slot = sym (λ k. slot_of (live code (mem k)) (before k)) ∙ ap (λ (y : MachineState). y.slot) h.state;
     }

@@ -16,7 +16,7 @@ use Rattle.mx_turn.specs.declared.latches.Latches.{Latches}
 use Rattle.mx_turn.specs.Counted.{Counted, after_turn}
 use Rattle.mx_turn.specs.Stages.{live, squash}
 use Rattle.mx_turn.specs.System.{pops, restores}
-use Rattle.mx_turn.specs.Cycle.{Machine, shifted, committed, commit_byte, showing, is_taken, decision, decided, led, waited, latched, acted, cycled, answer}
+use Rattle.mx_turn.specs.Cycle.{MachineState, shifted, committed, commit_byte, showing, is_taken, decision, decided, led, waited, latched, acted, cycled, answer}
 use Rattle.mx_turn.proofs.Steps.{acted_is, ended_on, squashes_on, not_taken, cycled_acted}
 use Rattle.mx_lane.specs.declared.lane.Lane.{Lane}
 use Rattle.mx_lane.specs.Lanes.{lane_of, plain, turn_cycles, turn_counts, quietly, later_bytes, InTurn}
@@ -35,7 +35,7 @@ and_false false = refl
 
 module _ (code : Code) (input : Option (List ℕ)) where
   -- where the word in ALU goes back to no saved fetch
-  decided_plain : (m : Machine) → (pops (live code m.alu) && not m.psw.current.user) ≡ false → decided code m ≡ plain (decision code m) m
+  decided_plain : (m : MachineState) → (pops (live code m.alu) && not m.psw.current.user) ≡ false → decided code m ≡ plain (decision code m) m
   decided_plain m stays =
       let i : Inst = live code m.alu in
       let d : Decision = decision code m in
@@ -49,36 +49,36 @@ module _ (code : Code) (input : Option (List ℕ)) where
       }
 
   -- cycles in two parts
-  pub quietly_more : (d n : ℕ) (m : Machine) → quietly code input (d + n) m ≡ quietly code input n (quietly code input d m)
+  pub quietly_more : (d n : ℕ) (m : MachineState) → quietly code input (d + n) m ≡ quietly code input n (quietly code input d m)
   quietly_more d zero m = let none : d + zero ≡ d = omega arith in ap (λ k. quietly code input k m) none
   quietly_more d (suc n) m =
       let more : d + suc n ≡ suc (d + n) = omega arith in
       ap (λ k. quietly code input k m) more ∙ ap (λ x. cycled resident code input x false) (quietly_more d n m)
 
-  pub bytes_more : (d n : ℕ) (m : Machine)
+  pub bytes_more : (d n : ℕ) (m : MachineState)
       → later_bytes code input (d + n) m ≡ later_bytes code input d m ++ later_bytes code input n (quietly code input d m)
   bytes_more d zero m =
       let none : d + zero ≡ d = omega arith in
       ap (λ k. later_bytes code input k m) none ∙ sym (append-nil (later_bytes code input d m))
   bytes_more d (suc n) m =
       let more : d + suc n ≡ suc (d + n) = omega arith in
-      let x : Machine = quietly code input d m in
-      let byte : Machine → List ℕ = λ y. option_to_list (answer code input y false).byte in
+      let x : MachineState = quietly code input d m in
+      let byte : MachineState → List ℕ = λ y. option_to_list (answer code input y false).byte in
       ap (λ k. later_bytes code input k m) more
       ∙ (λ k. bytes_more d n m k ++ byte (cycled resident code input (quietly_more d n m k) false))
       ∙ append_assoc (later_bytes code input d m) (later_bytes code input n x) (byte (quietly code input (suc n) x))
 
   -- the lane in the turn that the machine m is before
-  module _ (m : Machine) (l : Lane) (b : Contents) (past : List ℕ) (before : Words)
+  module _ (m : MachineState) (l : Lane) (b : Contents) (past : List ℕ) (before : Words)
       (state : committed code input (shifted m) ≡ lane_of l b past before m.shown m.counts) (on : m.halted ≡ false)
       (stays : (pops (live code l.alu) && not l.psw.current.user) ≡ false) (is_missed : l.missed ≡ not (resident m.past m.next.address)) where
-    abbrev c : Machine
+    abbrev c : MachineState
     c = lane_of l b past before m.shown m.counts
 
     abbrev pub lead : Decision
     lead = decision code c
 
-    abbrev pub following : Machine
+    abbrev pub following : MachineState
     following = plain lead c
 
     abbrev pub counted : Counted
@@ -88,25 +88,25 @@ module _ (code : Code) (input : Option (List ℕ)) where
     shows = (showing code c).shown
 
     -- before the next turn, with so many stalled cycles
-    abbrev pub turned : ℕ → Counted → Machine
-    turned stall counts = let n : Machine = following in record n { shown = shows; stall = stall; counts = counts }
+    abbrev pub turned : ℕ → Counted → MachineState
+    turned stall counts = let n : MachineState = following in record n { shown = shows; stall = stall; counts = counts }
 
     once : quietly code input 1 m ≡ turned (cond (resident past following.next.address) 0 2) counted
     once =
-        let r : Machine = showing code c in
-        let latch : m.latch ≡ false = ap (λ (x : Machine). x.latch) state in
+        let r : MachineState = showing code c in
+        let latch : m.latch ≡ false = ap (λ (x : MachineState). x.latch) state in
         let same : latched false m ≡ m = λ k. record m { latch = ((λ j. latch j || false) ∙ sym latch) k } in
         let none : is_taken r ≡ false = no_request r.psw.current.interrupts (is_some r.alu) in
-        let e : Machine = decided code r in
-        let w : Machine = waited resident (record e { counts = counted }) in
+        let e : MachineState = decided code r in
+        let w : MachineState = waited resident (record e { counts = counted }) in
         let acts : w ≡ acted resident code input m =
         acted_is resident code input m r e w l.missed lead.cancels false
         (sym (ap (showing code) state)) (ended_on code r e refl none refl) is_missed
         (squashes_on code r lead.cancels refl none refl) (not_taken r refl none) refl in
-        sym (cycled_acted resident code input m false on (eq-eqb m.stall 0 (ap (λ (x : Machine). x.stall) state)))
+        sym (cycled_acted resident code input m false on (eq-eqb m.stall 0 (ap (λ (x : MachineState). x.stall) state)))
         ∙ ap (acted resident code input) same
         ∙ sym acts
-        ∙ (λ k. let x : Machine = decided_plain r stays k in let n : Machine = record x { counts = counted } in waited resident n)
+        ∙ (λ k. let x : MachineState = decided_plain r stays k in let n : MachineState = record x { counts = counted } in waited resident n)
 
     pub whole : (r : Bool) → resident past following.next.address ≡ r → quietly code input (turn_cycles r) m ≡ turned 0 (turn_counts r counted)
     whole true e = once ∙ (λ k. turned (cond (e k) 0 2) counted)
@@ -123,7 +123,8 @@ module _ (code : Code) (input : Option (List ℕ)) where
         ++ option_to_list (answer code input (cycled resident code input (cycled resident code input (first k) false) false) false).byte
 
 -- a turn by its steps: where the word in ALU leads, the stages, the commit, the counts and the next fetch
-module _ {C : Type 0} (holds : C → List ℕ → Type 0) (code : Code) (m : Machine) (l l1 l2 l3 : Lane) (b b' : Contents) (cache cache' : C) (d : Decision) (n : ℕ)
+module _ {C : Type 0} (holds : C → List ℕ → Type 0) (code : Code) (m : MachineState) (l l1 l2 l3 : Lane)
+    (b b' : Contents) (cache cache' : C) (d : Decision) (n : ℕ)
     (h : InTurn holds code m l b cache)
     (stays : (pops (live code l.alu) && not l.psw.current.user) ≡ false)
     (leads : d ≡ lead code b.input m l b h.past h.before h.state h.on stays h.missed)
@@ -132,14 +133,14 @@ module _ {C : Type 0} (holds : C → List ℕ → Type 0) (code : Code) (m : Mac
     (commits : (past : List ℕ) (before : Words) (shown : Latches) (counts : Counted)
     → lane_of l2 b' past (slice_index l1.registers.file) shown counts ≡ committed code b.input (lane_of l1 b past before shown counts))
     (takes : n ≡ turn_cycles (resident h.past l2.next.address)) where
-  abbrev from : Machine
+  abbrev from : MachineState
   from = lane_of l b h.past h.before m.shown m.counts
 
   same_next : l2.next.address ≡ l1.next.address
-  same_next = ap (λ (x : Machine). x.next.address) (commits h.past h.before m.shown m.counts)
+  same_next = ap (λ (x : MachineState). x.next.address) (commits h.past h.before m.shown m.counts)
 
   next_is : l2.next.address ≡ (following code b.input m l b h.past h.before h.state h.on stays h.missed).next.address
-  next_is = same_next ∙ ap (λ (x : Machine). x.next.address) (moves h.past h.before m.shown m.counts) ∙ ap (λ e. (plain e from).next.address) leads
+  next_is = same_next ∙ ap (λ (x : MachineState). x.next.address) (moves h.past h.before m.shown m.counts) ∙ ap (λ e. (plain e from).next.address) leads
 
   abbrev r : Bool
   r = resident h.past l2.next.address
@@ -150,7 +151,7 @@ module _ {C : Type 0} (holds : C → List ℕ → Type 0) (code : Code) (m : Mac
   abbrev shown_is : Latches
   shown_is = shows code b.input m l b h.past h.before h.state h.on stays h.missed
 
-  abbrev after : Machine
+  abbrev after : MachineState
   after = turned code b.input m l b h.past h.before h.state h.on stays h.missed 0 counts_are
 
   same_resident : resident h.past (following code b.input m l b h.past h.before h.state h.on stays h.missed).next.address ≡ r
@@ -185,19 +186,19 @@ module _ {C : Type 0} (holds : C → List ℕ → Type 0) (code : Code) (m : Mac
         ∙ ap (committed code b.input) (sym reaches)
         ∙ sym (commits (l1.next.address ∷ h.past) h.before shown_is counts_are)
         ∙ (λ k. lane_of (sym rest k) b' (l1.next.address ∷ h.past) (slice_index l1.registers.file) (sym goes_to k).shown (sym goes_to k).counts);
-    on = ap (λ (x : Machine). x.halted) goes_to;
+    on = ap (λ (x : MachineState). x.halted) goes_to;
     counts =
         counted_so
         ∙ (λ k. turn_counts r (after_turn (missed k) (leads k).cancels false ((counts ∙ h.counts) k)))
-        ∙ sym (ap (λ (x : Machine). x.counts) goes_to);
+        ∙ sym (ap (λ (x : MachineState). x.counts) goes_to);
     missed =
         missed_so
         ∙ ap (λ a. not (resident h.past a)) next_is
-        ∙ sym (ap (λ (x : Machine). not (resident x.past x.next.address)) goes_to);
+        ∙ sym (ap (λ (x : MachineState). not (resident x.past x.next.address)) goes_to);
     replaced =
         (λ k. (rest k).replaced)
         ∙ replaced
         ∙ ap (λ s. reg (slice_index l1.registers.file) (dest (live code s)))
-        (sym (ap (λ (x : Machine). x.mem) (commits h.past h.before m.shown m.counts)) ∙ sym (λ k. (rest k).mem));
+        (sym (ap (λ (x : MachineState). x.mem) (commits h.past h.before m.shown m.counts)) ∙ sym (λ k. (rest k).mem));
     held = subst (λ a. holds cache' (a ∷ h.past)) same_next cache_so;
   }

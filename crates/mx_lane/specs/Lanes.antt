@@ -12,13 +12,13 @@ use Rattle.mx_turn.specs.declared.latches.Latches.{Latches}
 use Rattle.mx_turn.specs.Counted.{Counted, after_stall}
 use Rattle.mx_turn.specs.Stages.{address_of, fetch_of, live, squash}
 use Rattle.mx_turn.specs.System.{slot_of, seen}
-use Rattle.mx_turn.specs.Cycle.{Machine, shifted, committed, cycled, answer}
+use Rattle.mx_turn.specs.Cycle.{MachineState, shifted, committed, cycled, answer}
 use Rattle.mx_lane.specs.declared.lane.Lane.{Lane}
 use Rattle.mx_lane.specs.declared.queue.Queue.{Queue}
 use Rattle.mx_lane.specs.declared.queue.Window.{Window}
 
 -- the state that it keeps, with what it does not keep
-abbrev pub lane_of : Lane → Contents → List ℕ → Words → Latches → Counted → Machine
+abbrev pub lane_of : Lane → Contents → List ℕ → Words → Latches → Counted → MachineState
 lane_of l b past before shown counts = record {
   next = l.next;
   fetch = Some l.next;
@@ -49,7 +49,7 @@ pub record IsKnown {C : Type 0} (holds : C → List ℕ → Type 0) (w : Window)
   pub kept : (past : List ℕ) → holds cache past → (j : ℕ) → j < w.words → holds cache ((w.low + j) ∷ past)
 
 -- what a decision does that goes back to no saved fetch
-abbrev pub plain : Decision → Machine → Machine
+abbrev pub plain : Decision → MachineState → MachineState
 plain d m = record m {
   next = fetch_of (next_of d.target m.next.address);
   fetch = squash d.cancels m.fetch;
@@ -74,17 +74,17 @@ abbrev pub turn_counts : Bool → Counted → Counted
 turn_counts resident counts = cond resident counts (after_stall (after_stall counts))
 
 -- the machine after n cycles without a request
-abbrev pub quietly : Code → Option (List ℕ) → ℕ → Machine → Machine
+abbrev pub quietly : Code → Option (List ℕ) → ℕ → MachineState → MachineState
 quietly code input zero m = m
 quietly code input (suc n) m = cycled resident code input (quietly code input n m) false
 
 -- the bytes of the n cycles behind the next one
-abbrev pub later_bytes : Code → Option (List ℕ) → ℕ → Machine → List ℕ
+abbrev pub later_bytes : Code → Option (List ℕ) → ℕ → MachineState → List ℕ
 later_bytes code input zero m = []
 later_bytes code input (suc n) m = later_bytes code input n m ++ option_to_list (answer code input (quietly code input (suc n) m) false).byte
 
 -- the lane is in the turn that the machine is before, and the cache was asked for its fetch
-pub record InTurn {C : Type 0} (holds : C → List ℕ → Type 0) (code : Code) (m : Machine) (l : Lane) (b : Contents) (cache : C) : Type 0 where
+pub record InTurn {C : Type 0} (holds : C → List ℕ → Type 0) (code : Code) (m : MachineState) (l : Lane) (b : Contents) (cache : C) : Type 0 where
   pub past : List ℕ
   pub before : Words
   pub state : committed code b.input (shifted m) ≡ lane_of l b past before m.shown m.counts

@@ -1,7 +1,7 @@
 //! Turns without a request, many at once.
 ghost use Rattle.std.specs.Prelude.{◌≡◌, ◌≤◌, ◌+◌, ◌^◌, ◌++◌, List, IfOk, OnOk};
 ghost use Rattle.mx_turn.specs.Decoded.{code_in};
-ghost use Rattle.mx_turn.specs.Cycle.{Machine as State};
+ghost use Rattle.mx_turn.specs.Cycle.{MachineState as State};
 ghost use Rattle.mx_lane.specs.declared.queue.Queue.{Queue};
 ghost use Rattle.mx_lane.specs.Lanes.{joined, quietly, later_bytes, InTurn};
 

@@ -9,7 +9,7 @@ ghost use Rattle.mx_turn.specs.Counted.{Counted, after_turn};
 ghost use Rattle.mx_turn.specs.Decoded.{ShiftFits, code_in};
 ghost use Rattle.mx_turn.specs.Stages.{fetch_of, live, squash};
 ghost use Rattle.mx_turn.specs.System.{pops};
-ghost use Rattle.mx_turn.specs.Cycle.{Machine as State, committed, commit_byte};
+ghost use Rattle.mx_turn.specs.Cycle.{MachineState as State, committed, commit_byte};
 ghost use Rattle.mx_lane.specs.Lanes.{lane_of, joined, lead_of, MovesBy, turn_cycles, turn_counts, quietly, later_bytes, InTurn, IsKnown};
 
 use crate::Lane;

@@ -17,7 +17,7 @@ use Rattle.mx_turn.specs.declared.alu_stage.Decided.{Decided}
 use Rattle.mx_turn.specs.Counted.{Counted}
 use Rattle.mx_turn.specs.Stages.{live, address_of, squash, fetch_of}
 use Rattle.mx_turn.specs.System.{seen, pops, restores}
-use Rattle.mx_turn.specs.Cycle.{Machine, first, second, decision, decided}
+use Rattle.mx_turn.specs.Cycle.{MachineState, first, second, decision, decided}
 use Rattle.mx_pipe.specs.declared.alu.Course.{Course}
 use Rattle.mx_pipe.specs.declared.alu.Course.TheVariants.{To, Cancels}
 use Rattle.mx_pipe.specs.declared.pipe.Pipe.{Pipe}
@@ -73,24 +73,24 @@ course_anew user Jpc at last r = refl
 course_anew user Jpcrs at last r = refl
 course_anew user i at last r = to_anew (last + 1) (course_aside (allowed user i))
 
-pub leads_anew : {C : Type 0} (code : Code) (p : Pipe C) (m : Machine) → Holds code p m → (target : ℕ) → LeadsTo code m target → (course : Course)
+pub leads_anew : {C : Type 0} (code : Code) (p : Pipe C) (m : MachineState) → Holds code p m → (target : ℕ) → LeadsTo code m target → (course : Course)
     → course ≡ cond (nat_lt target (2 ^ 31)) (To target) (course_aside (does p.alu)) → Leads code m course
 leads_anew code p m h target leads course is =
     is
     ∙ (λ k. cond (nat_lt (leads k) (2 ^ 31)) (To (leads k)) (course_aside (h.alu.inst k)))
     ∙ course_anew m.psw.current.user (live code m.alu) (address_of m.alu) m.next.address (seen m.slot m.core.regs)
 
-pub leads_on : {C : Type 0} (code : Code) (p : Pipe C) (m : Machine) → Holds code p m → (target : ℕ) → target < 2 ^ 31 → LeadsTo code m target
+pub leads_on : {C : Type 0} (code : Code) (p : Pipe C) (m : MachineState) → Holds code p m → (target : ℕ) → target < 2 ^ 31 → LeadsTo code m target
     → Leads code m (To target)
 leads_on code p m h target below leads =
     let is : nat_lt target (2 ^ 31) ≡ true = grind (arith, nat_tests, below) in
     leads_anew code p m h target leads (To target) (sym (cond-true (nat_lt target (2 ^ 31)) (To target) (course_aside (does p.alu)) is))
 
-pub tells_cancels : (code : Code) (m : Machine) (course : Course) → Leads code m course → (told course).cancels ≡ (decision code m).cancels
+pub tells_cancels : (code : Code) (m : MachineState) (course : Course) → Leads code m course → (told course).cancels ≡ (decision code m).cancels
 tells_cancels code m course leads =
     ap (λ x. (told x).cancels) leads ∙ (is_told (live code m.alu) (address_of m.alu) m.next.address (seen m.slot m.core.regs)).1
 
-module _ {C : Type 0} (code : Code) (p : Pipe C) (m : Machine) (h : Holds code p m) (course : Course) (leads : Leads code m course) where
+module _ {C : Type 0} (code : Code) (p : Pipe C) (m : MachineState) (h : Holds code p m) (course : Course) (leads : Leads code m course) where
   abbrev i : Inst
   i = live code m.alu
 

@@ -17,7 +17,7 @@ use Rattle.mx_turn.specs.Counted.{Counted, after_turn}
 use Rattle.mx_turn.specs.Decoded.{code_in}
 use Rattle.mx_turn.specs.Stages.{stage_of, live}
 use Rattle.mx_turn.specs.System.{slot_of}
-use Rattle.mx_turn.specs.Cycle.{Machine, shifted, committed, showing, reached, is_taken, entered, decided, turned, ended, squashes, takes, latched, acted, cycled, answer}
+use Rattle.mx_turn.specs.Cycle.{MachineState, shifted, committed, showing, reached, is_taken, entered, decided, turned, ended, squashes, takes, latched, acted, cycled, answer}
 use Rattle.mx_turn.specs.Program.{Program, code_with, code_of, state_after, answer_after, quiet, quiet_bytes}
 use Rattle.mx_turn.proofs.Steps.{after_one_more, cycled_acted}
 use Rattle.mx_lane.specs.declared.lane.Lane.{Lane}
@@ -30,7 +30,7 @@ use Rattle.mx_pipe.proofs.Shows.{shows_cycled}
 use Rattle.mx_pipe.proofs.Stands.{waiting, past_ended, same_code, showing_alike}
 
 -- a lane of these parts is where the pipeline is
-pub lane_is : {C : Type 0} (code : Code) (p : Pipe C) (m : Machine) (l : Lane) → Commits code p m → m.halted ≡ false → m.latch ≡ false → m.stall ≡ 0
+pub lane_is : {C : Type 0} (code : Code) (p : Pipe C) (m : MachineState) (l : Lane) → Commits code p m → m.halted ≡ false → m.latch ≡ false → m.stall ≡ 0
     → l.next ≡ p.next → l.rf ≡ p.fetch.word → l.alu ≡ p.rf.word → l.mem ≡ p.mem.word → l.wb ≡ p.wb.word
     → slice_index l.registers.file ≡ write (slice_index p.file) p.mem.b p.mem.result
     → l.registers.slot ≡ slot_of (does p.mem) (slice_index p.file) → l.registers.md ≡ p.md → l.registers.chain ≡ p.chain → l.psw ≡ p.psw
@@ -115,7 +115,7 @@ commits_back code p l b past before shown counts left fetch rf mem inst to withi
 }
 
 -- what a turn shows is told by the latches
-pub shown_anew : {C : Type 0} (code : Code) (p : Pipe C) (m : Machine) → Holds code p m
+pub shown_anew : {C : Type 0} (code : Code) (p : Pipe C) (m : MachineState) → Holds code p m
     → (let shown : Latches = record {
       fetch = stage_of p.fetch.word;
       rf = stage_of p.rf.word;
@@ -142,7 +142,7 @@ pub quiet_state : (p : Program) (h : List Bool) (n : ℕ) → state_after p (qui
 quiet_state p h zero = refl
 quiet_state p h (suc n) =
     after_one_more resident (code_of p) p.input _ (quiet h n) false
-    ∙ ap (λ (m : Machine). cycled resident (code_of p) p.input m false) (quiet_state p h n)
+    ∙ ap (λ (m : MachineState). cycled resident (code_of p) p.input m false) (quiet_state p h n)
 
 -- their bytes: those of the first, and of the others
 pub first_and_later : (p : Program) (h : List Bool) (n : ℕ)
@@ -153,15 +153,15 @@ first_and_later p h (suc n) =
     ∙ append_assoc (option_to_list (answer_after p h false).byte) (later_bytes (code_of p) p.input n (state_after p h)) _
 
 -- what is shown stays told
-pub shows_quietly : (code : Code) (input : Option (List ℕ)) (n : ℕ) (m : Machine) → Shows m → Shows (quietly code input n m)
+pub shows_quietly : (code : Code) (input : Option (List ℕ)) (n : ℕ) (m : MachineState) → Shows m → Shows (quietly code input n m)
 shows_quietly code input zero m s = s
 shows_quietly code input (suc n) m s = shows_cycled resident code input (quietly code input n m) false (shows_quietly code input n m s)
 
-halted_either : (b : Bool) (x y : Machine) → x.halted ≡ false → y.halted ≡ false → (cond b x y).halted ≡ false
+halted_either : (b : Bool) (x y : MachineState) → x.halted ≡ false → y.halted ≡ false → (cond b x y).halted ≡ false
 halted_either true x y e f = e
 halted_either false x y e f = f
 
-ended_off : (code : Code) (c : Machine) → c.halted ≡ false → (ended code c).halted ≡ false
+ended_off : (code : Code) (c : MachineState) → c.halted ≡ false → (ended code c).halted ≡ false
 ended_off code c e = halted_either c.halted c (turned code c) e (halted_either (is_taken c) (entered c) (decided code c) e e)
 
 -- what the pipeline stands for once the last turn of a lane has ended
@@ -171,34 +171,34 @@ module _ {C : Type 0} (holds : C → List ℕ → Type 0) (t t' : Pipe C) (p : P
   abbrev code : Code
   code = code_of p
 
-  abbrev m : Machine
+  abbrev m : MachineState
   m = state_after p (quiet h n)
 
   -- where the lane was left
-  abbrev pub cut : Machine
+  abbrev pub cut : MachineState
   cut = lane_of l b left.past left.before shown m.counts
 
   reaches : showing code cut ≡ reached code p.input m
   reaches = ap (showing code) (sym left.state) ∙ (λ k. showing code (committed code (input k) (shifted m)))
 
-  abbrev acts : Machine
+  abbrev acts : MachineState
   acts = acted resident code p.input m
 
   one_more : state_after p (quiet h (suc n)) ≡ acts
   one_more =
-      let latch : m.latch ≡ false = ap (λ (x : Machine). x.latch) left.state in
+      let latch : m.latch ≡ false = ap (λ (x : MachineState). x.latch) left.state in
       let same : latched false m ≡ m = λ k. record m { latch = ((λ j. latch j || false) ∙ sym latch) k } in
       after_one_more resident code p.input _ (quiet h n) false
-      ∙ sym (cycled_acted resident code p.input m false left.on (eq-eqb m.stall 0 (ap (λ (x : Machine). x.stall) left.state)))
+      ∙ sym (cycled_acted resident code p.input m false left.on (eq-eqb m.stall 0 (ap (λ (x : MachineState). x.stall) left.state)))
       ∙ ap (acted resident code p.input) same
 
   pub stands_after : KeepsProgram t t' → Holds code t' (ended code (showing code cut))
       → t'.counts ≡ after_turn l.missed (squashes code (showing code cut)) (takes (showing code cut)) l.counts → t'.wait ≡ NotAsked → t'.cache ≡ cache
       → StandsFor holds t' p (quiet h (suc n))
   stands_after keeps tied counts wait same_cache =
-      let end : Machine = ended code (reached code p.input m) in
+      let end : MachineState = ended code (reached code p.input m) in
       let done : Holds code t' end = subst (λ x. Holds code t' (ended code x)) reaches tied in
-      let past : end.past ≡ left.past = past_ended code (reached code p.input m) ∙ ap (λ (x : Machine). x.past) left.state in
+      let past : end.past ≡ left.past = past_ended code (reached code p.input m) ∙ ap (λ (x : MachineState). x.past) left.state in
       let cache_so : holds t'.cache end.past = subst (λ x. holds t'.cache x) (sym past) (subst (λ x. holds x left.past) (sym same_cache) left.held) in
       let waits : Waits holds t'.cache acts NotAsked = (cache_so, refl) in
       let counts_so : t'.counts ≡ acts.counts = counts ∙ (λ k. after_turn (left.missed k) (squashes code (reaches k)) (takes (reaches k)) (left.counts k)) in
@@ -211,13 +211,13 @@ module _ {C : Type 0} (holds : C → List ℕ → Type 0) (t t' : Pipe C) (p : P
         decoded = ap code_in keeps.decoded ∙ s.decoded;
         input = keeps.input ∙ s.input;
         waits = subst (λ x. Waits holds t'.cache x t'.wait) (sym one_more) (subst (λ w. Waits holds t'.cache acts w) (sym wait) waits);
-        counts = counts_so ∙ ap (λ (x : Machine). x.counts) (sym one_more);
+        counts = counts_so ∙ ap (λ (x : MachineState). x.counts) (sym one_more);
         tied = subst (λ x. Holds (code_of_pipe t') t' x) (sym one_more) (subst (λ x. Holds x t' acts) (sym program) tied_so);
         shows = subst Shows (sym (quiet_state p h (suc n))) (shows_quietly code p.input (suc n) (state_after p h) s.shows);
       }
 
   pub goes_after : (state_after p (quiet h (suc n))).halted ≡ false
   goes_after =
-      ap (λ (x : Machine). x.halted) one_more
+      ap (λ (x : MachineState). x.halted) one_more
       ∙ ap (λ x. (ended code x).halted) (sym reaches)
       ∙ ended_off code (showing code cut) refl

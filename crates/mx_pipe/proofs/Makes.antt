@@ -19,7 +19,7 @@ use Rattle.mx_pcchain.specs.Chain.{pop}
 use Rattle.mx_pcchain.specs.Modes.{psw_restored}
 use Rattle.mx_turn.specs.Stages.{squash}
 use Rattle.mx_turn.specs.System.{system_change, moved, slot_of, no_slot, seen, pops, restores, number_of}
-use Rattle.mx_turn.specs.Cycle.{Machine}
+use Rattle.mx_turn.specs.Cycle.{MachineState}
 use Rattle.mx_pipe.specs.declared.memory.Reached.{Reached}
 use Rattle.mx_pipe.specs.declared.pipe.Pipe.{Pipe}
 use Rattle.mx_pipe.specs.Latched.{Latched, does, squashed_if}
@@ -104,7 +104,7 @@ pub passes_is : (loads : Bool) (to word r : ℕ) (f : Words)
 passes_is true to word r f = grind (arith, nat_tests)
 passes_is false to word r f = grind (arith, nat_tests)
 
-pub newest_is : {C : Type 0} (code : Code) (p : Pipe C) (m : Machine) → Commits code p m → (told : Reached) → Tells told p.mem → (r : ℕ)
+pub newest_is : {C : Type 0} (code : Code) (p : Pipe C) (m : MachineState) → Commits code p m → (told : Reached) → Tells told p.mem → (r : ℕ)
     → passed told.passes told.word r (reg (slice_index p.file) r) ≡ reg (seen m.slot m.core.regs) r
 newest_is code p m h told tells r =
     (λ k. passed (tells.passes k) (tells.word k) r (reg (slice_index p.file) r))

@@ -4,10 +4,10 @@ use Rattle.mx_delay.specs.Delay.{Code}
 use Rattle.mx_pcchain.specs.Fetch.{Fetch}
 use Rattle.mx_turn.specs.Counted.{after_stall}
 use Rattle.mx_turn.specs.Stages.{squash, stage_of}
-use Rattle.mx_turn.specs.Cycle.{Machine, shifted, committed, showing, is_taken, entered, decision, decided, turned, ended, acted, latched, cycled}
+use Rattle.mx_turn.specs.Cycle.{MachineState, shifted, committed, showing, is_taken, entered, decision, decided, turned, ended, acted, latched, cycled}
 use Rattle.mx_pipe.specs.Kept.{is_live, Shows}
 
-either : (b : Bool) (m n : Machine) → Shows m → Shows n → Shows (cond b m n)
+either : (b : Bool) (m n : MachineState) → Shows m → Shows n → Shows (cond b m n)
 either true m n s t = s
 either false m n s t = t
 
@@ -19,9 +19,9 @@ unmarked true (Some f) rf e = absurd (true≢false (sym e))
 unmarked false (Some f) None e = (refl, refl)
 unmarked false (Some f) (Some g) e = (refl, refl)
 
-pub shows_ended : (code : Code) (m : Machine) → Shows (ended code (showing code m))
+pub shows_ended : (code : Code) (m : MachineState) → Shows (ended code (showing code m))
 shows_ended code m =
-    let c : Machine = showing code m in
+    let c : MachineState = showing code m in
     let decides : Shows (decided code c) = record {
       older = refl;
       younger = λ e. let same = unmarked (decision code c).cancels m.fetch m.rf e in (same.0, same.1, refl);
@@ -29,12 +29,12 @@ shows_ended code m =
     either c.halted c (turned code c) (record { older = refl; younger = λ e. (refl, refl, refl) })
     (either (is_taken c) (entered c) (decided code c) (record { older = refl; younger = λ e. absurd (true≢false (sym e)) }) decides)
 
-pub shows_cycled : (resident : List ℕ → ℕ → Bool) (code : Code) (input : Option (List ℕ)) (m : Machine) (request : Bool) → Shows m
+pub shows_cycled : (resident : List ℕ → ℕ → Bool) (code : Code) (input : Option (List ℕ)) (m : MachineState) (request : Bool) → Shows m
     → Shows (cycled resident code input m request)
 shows_cycled resident code input m request s =
-    let l : Machine = latched request m in
+    let l : MachineState = latched request m in
     let e = shows_ended code (committed code input (shifted l)) in
     let acts : Shows (acted resident code input l) = record { older = e.older; younger = e.younger } in
-    let waits : Machine = record l { stall = m.stall - 1; counts = after_stall m.counts } in
+    let waits : MachineState = record l { stall = m.stall - 1; counts = after_stall m.counts } in
     either m.halted m (cond (eqb m.stall 0) (acted resident code input l) waits) s
     (either (eqb m.stall 0) (acted resident code input l) waits acts (record { older = s.older; younger = s.younger }))

@@ -1,14 +1,14 @@
 -- What the fields of a pipeline are.
 use Rattle.std.specs.Prelude.{◌≡◌, List, ℕ, slice_index}
 use Rattle.mx_board.specs.Data.{words_of}
-use Rattle.mx_turn.specs.Cycle.{Machine}
+use Rattle.mx_turn.specs.Cycle.{MachineState}
 use Rattle.mx_turn.specs.Decoded.{code_in}
 use Rattle.mx_turn.specs.Program.{Program, code_of}
 use Rattle.mx_pipe.specs.declared.pipe.Pipe.{Pipe}
 use Rattle.mx_pipe.specs.Kept.{Waits}
 
 -- by the state of the definition after the same request bits
-pub record HasFields {C : Type 0} (holds : C → List ℕ → Type 0) (t : Pipe C) (p : Program) (m : Machine) : Type 0 where
+pub record HasFields {C : Type 0} (holds : C → List ℕ → Type 0) (t : Pipe C) (p : Program) (m : MachineState) : Type 0 where
   -- the five fetches of the last completed turn with their marks as they now stand, None where there is none or it was killed
   pub fetch : t.fetch.word ≡ m.fetch
   pub rf : t.rf.word ≡ m.rf

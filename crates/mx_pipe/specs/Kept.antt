@@ -12,7 +12,7 @@ use Rattle.mx_turn.specs.declared.latches.Latches.{Latches}
 use Rattle.mx_turn.specs.Decoded.{code_in}
 use Rattle.mx_turn.specs.Stages.{live, address_of, stage_of}
 use Rattle.mx_turn.specs.System.{slot_of, seen}
-use Rattle.mx_turn.specs.Cycle.{Machine, first, second, number}
+use Rattle.mx_turn.specs.Cycle.{MachineState, first, second, number}
 use Rattle.mx_turn.specs.Program.{Program, code_with, code_of, state_after}
 use Rattle.mx_pipe.specs.declared.pipe.Pipe.{Pipe}
 use Rattle.mx_pipe.specs.declared.pipe.Wait.{Wait}
@@ -35,7 +35,7 @@ pub record IsRead (code : Code) (l : Latched) (stage : Option Fetch) (regs : Wor
   pub b : l.b ≡ reg regs (sources (live code stage)).1
 
 -- a latch with what its word, which is in ALU, makes
-pub record IsMade (code : Code) (l : Latched) (m : Machine) : Type 0 where
+pub record IsMade (code : Code) (l : Latched) (m : MachineState) : Type 0 where
   pub word : l.word ≡ m.alu
   pub inst : does l ≡ allowed m.psw.current.user (live code m.alu)
   pub a : l.a ≡ first code m
@@ -44,7 +44,7 @@ pub record IsMade (code : Code) (l : Latched) (m : Machine) : Type 0 where
   pub md : md_kept l.inst l.result l.md m.core.md ≡ md_behind (live code m.alu) (first code m) (second code m) m.core.md
 
 -- the register file is one turn behind: the number of the word in MEM is written next
-pub record IsBehind {C : Type 0} (p : Pipe C) (m : Machine) : Type 0 where
+pub record IsBehind {C : Type 0} (p : Pipe C) (m : MachineState) : Type 0 where
   pub mem : p.mem.word ≡ m.mem
   pub wb : p.wb.word ≡ m.wb
   pub to : p.mem.b ≡ dest (does p.mem)
@@ -54,7 +54,7 @@ pub record IsBehind {C : Type 0} (p : Pipe C) (m : Machine) : Type 0 where
   pub slot : slot_of (does p.mem) (slice_index p.file) ≡ m.slot
 
 -- what does not pass through latches, and that the user's words end where those of an image do
-pub record SameRest {C : Type 0} (p : Pipe C) (m : Machine) : Type 0 where
+pub record SameRest {C : Type 0} (p : Pipe C) (m : MachineState) : Type 0 where
   pub next : p.next ≡ m.next
   pub md : p.md ≡ m.core.md
   pub words : words_of p.board ≡ m.core.mem
@@ -67,7 +67,7 @@ pub record SameRest {C : Type 0} (p : Pipe C) (m : Machine) : Type 0 where
   pub short : length p.code.items ≤ MAX_CODE_WORDS
 
 -- between turns, and once the words of a turn have moved on and the one in MEM has committed
-pub record Holds {C : Type 0} (code : Code) (p : Pipe C) (m : Machine) : Type 0 where
+pub record Holds {C : Type 0} (code : Code) (p : Pipe C) (m : MachineState) : Type 0 where
   pub fetch : p.fetch.word ≡ m.fetch
   pub rf : IsRead code p.rf m.rf m.core.regs
   pub alu : IsMade code p.alu m
@@ -75,7 +75,7 @@ pub record Holds {C : Type 0} (code : Code) (p : Pipe C) (m : Machine) : Type 0 
   pub rest : SameRest p m
 
 -- once the word in MEM has committed, and before the others move on
-pub record Commits {C : Type 0} (code : Code) (p : Pipe C) (m : Machine) : Type 0 where
+pub record Commits {C : Type 0} (code : Code) (p : Pipe C) (m : MachineState) : Type 0 where
   pub fetch : m.fetch ≡ Some m.next
   pub rf : p.fetch.word ≡ m.rf
   pub alu : IsRead code p.rf m.alu (slice_index p.file)
@@ -90,14 +90,14 @@ pub record Tells (learned : Reached) (mem : Latched) : Type 0 where
   pub passed : learned.passed ≡ cond (eqb learned.passes 0) 0 learned.word
 
 -- where the word in ALU leads
-abbrev pub course_in : Code → Machine → Course
+abbrev pub course_in : Code → MachineState → Course
 course_in code m = course_of (live code m.alu) (address_of m.alu) m.next.address (seen m.slot m.core.regs)
 
-abbrev pub Leads : Code → Machine → Course → Type 0
+abbrev pub Leads : Code → MachineState → Course → Type 0
 Leads code m course = course ≡ course_in code m
 
 -- the same by the address that it leads to at once
-abbrev pub LeadsTo : Code → Machine → ℕ → Type 0
+abbrev pub LeadsTo : Code → MachineState → ℕ → Type 0
 LeadsTo code m target = target ≡ target_of (course_in code m)
 
 -- whether a stage holds a fetch that is not squashed
@@ -112,11 +112,11 @@ pub record StillShown (shown : Latches) (fetch rf alu mem : Option Fetch) : Type
   pub younger : is_live fetch ≡ true → (shown.fetch ≡ stage_of fetch) × (shown.rf ≡ stage_of rf) × (shown.alu ≡ stage_of alu)
 
 -- between turns
-abbrev pub Shows : Machine → Type 0
+abbrev pub Shows : MachineState → Type 0
 Shows m = StillShown m.shown m.fetch m.rf m.alu m.mem
 
 -- whether the cache was asked for the fetch of the coming turn, and the stalled cycles left
-abbrev pub Waits : {C : Type 0} → (C → List ℕ → Type 0) → C → Machine → Wait → Type 0
+abbrev pub Waits : {C : Type 0} → (C → List ℕ → Type 0) → C → MachineState → Wait → Type 0
 Waits holds c m NotAsked = holds c m.past × m.stall ≡ cond (resident m.past m.next.address) 0 2
 Waits holds c m (Missed n) = holds c (m.next.address ∷ m.past) × m.stall ≡ n × resident m.past m.next.address ≡ false
 

@@ -2,7 +2,7 @@
 ghost use Rattle.std.specs.Prelude.{◌≡◌, ◌<◌, ◌+◌, ◌^◌, ℕ, Bool, true, false, not, ◌&&◌, List, [], ◌∷◌, None, is_some, slice_index, if◌then◌else◌};
 ghost use Rattle.mx_pcchain.specs.Chain.{fetch_from, pop};
 ghost use Rattle.mx_pcchain.specs.Modes.{psw_restored};
-ghost use Rattle.mx_turn.specs.Cycle.{Machine as State, shifted, committed, commit_byte, showing, entered, decided};
+ghost use Rattle.mx_turn.specs.Cycle.{MachineState as State, shifted, committed, commit_byte, showing, entered, decided};
 ghost use Rattle.mx_turn.specs.Cycle.{decision, turned, latched, is_taken, reached, ended, counts_after, acted_answer};
 ghost use Rattle.mx_pipe.specs.Terms.{Words, Code, next_of, resident, after_turn, after_stall, fetch_of, stage_of, is_halt};
 ghost use Rattle.mx_pipe.specs.declared.pipe.Wait.{Wait};

@@ -2,7 +2,7 @@
 ghost use Rattle.std.specs.Prelude.{◌≡◌, ◌<◌, ◌≤◌, ◌+◌, ◌^◌, ◌∷◌, ◌++◌, ℕ, Bool, List, IfOk, true, false, length, slice_index, if◌then◌else◌};
 ghost use Rattle.mx_isa.specs.declared.board.TheConstants.{MAX_CODE_WORDS};
 ghost use Rattle.mx_turn.specs.Program.{Program, state_after, quiet, quiet_bytes};
-ghost use Rattle.mx_turn.specs.Cycle.{Machine as State, showing, ended, squashes, takes};
+ghost use Rattle.mx_turn.specs.Cycle.{MachineState as State, showing, ended, squashes, takes};
 ghost use Rattle.mx_lane.specs.Lanes.{lane_of, IsLeft};
 ghost use Rattle.mx_pipe.specs.Terms.{Words, reg, dest, is_load, is_halt, Code, resident, Counted, after_turn, code_in, live, slot_of};
 ghost use Rattle.mx_pipe.specs.declared.pipe.Wait.{Wait};

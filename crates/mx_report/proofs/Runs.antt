@@ -8,7 +8,7 @@ use Rattle.std.proofs.lemmas.Bool.{cases_Bool, cases_lt, cond-true, cond-false}
 use Rattle.mx_delay.specs.Delay.{Code}
 use Rattle.mx_icache.specs.Residency.{resident}
 use Rattle.mx_turn.specs.declared.Cycled.{Cycled}
-use Rattle.mx_turn.specs.Cycle.{Machine, start, is_taken, entered, decided, turned, ended, reached, latched, acted, cycled, answer, acted_answer, after_bits}
+use Rattle.mx_turn.specs.Cycle.{MachineState, start, is_taken, entered, decided, turned, ended, reached, latched, acted, cycled, answer, acted_answer, after_bits}
 use Rattle.mx_turn.specs.Program.{Program, code_of, memory_of, state_after, answer_after, quiet, quiet_bytes}
 use Rattle.mx_turn.specs.Run.{is_requested, bits, bytes_on, console_after}
 use Rattle.mx_turn.proofs.Steps.{after_one_more}
@@ -16,7 +16,7 @@ use Rattle.mx_report.specs.Trace.{trace_line}
 use Rattle.mx_report.specs.Driving.{trace_text}
 
 -- the end of a turn keeps what neither an interrupt nor a decision changes
-pub ended_same : {A : Type 0} (field : Machine → A) (code : Code) (c : Machine) → field (entered c) ≡ field c → field (decided code c) ≡ field c
+pub ended_same : {A : Type 0} (field : MachineState → A) (code : Code) (c : MachineState) → field (entered c) ≡ field c → field (decided code c) ≡ field c
     → field (ended code c) ≡ field c
 ended_same field code c entering deciding = ⊎_elim
     (λ h. ap field (cond-true c.halted c (turned code c) h))
@@ -28,21 +28,21 @@ ended_same field code c entering deciding = ⊎_elim
     (cases_Bool c.halted)
 
 -- a cycle answers whether the machine has halted after it
-pub answer_halted : (code : Code) (input : Option (List ℕ)) (m : Machine) (request : Bool)
+pub answer_halted : (code : Code) (input : Option (List ℕ)) (m : MachineState) (request : Bool)
     → (answer code input m request).halted ≡ (cycled resident code input m request).halted
 answer_halted code input m request = ⊎_elim
-    (λ h. ap (λ (r : Cycled). r.halted) (cond-true m.halted _ _ h) ∙ sym h ∙ sym (ap (λ (n : Machine). n.halted) (cond-true m.halted m _ h)))
+    (λ h. ap (λ (r : Cycled). r.halted) (cond-true m.halted _ _ h) ∙ sym h ∙ sym (ap (λ (n : MachineState). n.halted) (cond-true m.halted m _ h)))
     (λ h. ⊎_elim
     (λ s. ap (λ (r : Cycled). r.halted) (cond-false m.halted _ _ h ∙ cond-true _ (acted_answer code input (latched request m)) _ s)
-    ∙ sym (ended_same (λ (n : Machine). n.halted) code (reached code input (latched request m)) refl refl)
-    ∙ sym (ap (λ (n : Machine). n.halted) (cond-false m.halted m _ h ∙ cond-true _ (acted resident code input (latched request m)) _ s)))
+    ∙ sym (ended_same (λ (n : MachineState). n.halted) code (reached code input (latched request m)) refl refl)
+    ∙ sym (ap (λ (n : MachineState). n.halted) (cond-false m.halted m _ h ∙ cond-true _ (acted resident code input (latched request m)) _ s)))
     (λ s. ap (λ (r : Cycled). r.halted) (cond-false m.halted _ _ h ∙ cond-false _ (acted_answer code input (latched request m)) _ s)
     ∙ sym h
-    ∙ sym (ap (λ (n : Machine). n.halted) (cond-false m.halted m _ h ∙ cond-false _ (acted resident code input (latched request m)) _ s)))
+    ∙ sym (ap (λ (n : MachineState). n.halted) (cond-false m.halted m _ h ∙ cond-false _ (acted resident code input (latched request m)) _ s)))
     (cases_Bool (eqb m.stall 0)))
     (cases_Bool m.halted)
 
-pub one_more_byte : (p : Program) (m : Machine) (h : List Bool) (request : Bool)
+pub one_more_byte : (p : Program) (m : MachineState) (h : List Bool) (request : Bool)
     → bytes_on p m (h ++ request ∷ []) ≡ bytes_on p m h
     ++ option_to_list (answer (code_of p) p.input (after_bits resident (code_of p) p.input m h) request).byte
 one_more_byte p m [] request = grind (arith, common_steps)
@@ -72,7 +72,7 @@ still f n same (suc m) le = ⊎_elim
 
 module _ (p : Program) (requests : List ℕ) where
   -- the machine after the first n cycles
-  abbrev pub state_at : ℕ → Machine
+  abbrev pub state_at : ℕ → MachineState
   state_at n = state_after p (bits requests n)
 
   abbrev pub cycled_at : ℕ → Cycled
@@ -98,7 +98,7 @@ module _ (p : Program) (requests : List ℕ) where
         ∙ ap (console_after p) (sym are)
 
   pub next_halted : (n : ℕ) → (cycled_at n).halted ≡ (state_at (suc n)).halted
-  next_halted n = answer_halted (code_of p) p.input (state_at n) (is_requested requests n) ∙ ap (λ (m : Machine). m.halted) (sym (next_state n))
+  next_halted n = answer_halted (code_of p) p.input (state_at n) (is_requested requests n) ∙ ap (λ (m : MachineState). m.halted) (sym (next_state n))
 
   abbrev pub shown_line : ℕ → List ℕ
   shown_line n = trace_line n (cycled_at n) (state_at (suc n)).shown
@@ -126,10 +126,10 @@ module _ (p : Program) (requests : List ℕ) where
   module _ (n : ℕ) (halted : (state_at n).halted ≡ true) where
     pub state_still : (m : ℕ) → n ≤ m → state_at m ≡ state_at n
     state_still = still state_at n (λ m le same.
-        next_state m ∙ cond-true (state_at m).halted (state_at m) _ (ap (λ (s : Machine). s.halted) same ∙ halted))
+        next_state m ∙ cond-true (state_at m).halted (state_at m) _ (ap (λ (s : MachineState). s.halted) same ∙ halted))
 
     halted_still : (m : ℕ) → n ≤ m → (state_at m).halted ≡ true
-    halted_still m le = ap (λ (s : Machine). s.halted) (state_still m le) ∙ halted
+    halted_still m le = ap (λ (s : MachineState). s.halted) (state_still m le) ∙ halted
 
     pub no_byte : (m : ℕ) → n ≤ m → option_to_list (cycled_at m).byte ≡ []
     no_byte m le = ap (λ (r : Cycled). option_to_list r.byte) (cond-true (state_at m).halted _ _ (halted_still m le))

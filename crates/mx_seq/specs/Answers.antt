@@ -1,8 +1,8 @@
 -- What a step of the meaning answers.
 use Rattle.std.specs.Prelude.{ℕ, Option}
 use Rattle.mx_source.specs.Meaning.{Mark, Going, Halted, Stuck, Step}
-use Rattle.mx_seq.specs.declared.machine.Stepped.{Stepped}
-use Rattle.mx_seq.specs.declared.machine.Stepped.TheVariants as stepped
+use Rattle.mx_seq.specs.declared.execution.Stepped.{Stepped}
+use Rattle.mx_seq.specs.declared.execution.Stepped.TheVariants as stepped
 
 abbrev pub answer_by : Mark → Option ℕ → Stepped
 answer_by Going byte = stepped.Went byte

@@ -4,5 +4,5 @@ pub mod Programs
 pub mod ProgramView
 pub mod Marks
 pub mod Answers
-pub mod Machines
+pub mod Executions
 pub mod Seqs

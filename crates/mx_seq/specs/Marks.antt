@@ -1,7 +1,7 @@
 -- How a run of the meaning stands, as the code keeps it.
 use Rattle.mx_source.specs.Meaning as meant
-use Rattle.mx_seq.specs.declared.machine.Mark.{Mark}
-use Rattle.mx_seq.specs.declared.machine.Mark.TheVariants.{Going, Halted, Stuck}
+use Rattle.mx_seq.specs.declared.execution.Mark.{Mark}
+use Rattle.mx_seq.specs.declared.execution.Mark.TheVariants.{Going, Halted, Stuck}
 
 -- how the run stands
 abbrev pub mark_of : Mark → meant.Mark

@@ -3,7 +3,7 @@ ghost use Rattle.std.specs.Prelude.{◌≡◌, ◌+◌, ◌≤◌, length, IfOk,
 ghost use Rattle.mx_io.specs.declared.limits.TheConstants.{MAX_FILE_BYTES};
 ghost use Rattle.mx_isa.specs.UserBus.{is_user};
 
-use crate::machine::{Machine, Mark, Stepped};
+use crate::execution::{Execution, Mark, Stepped};
 use crate::program::Program;
 use crate::registers::Registers;
 use crate::user_data::UserData;
@@ -15,8 +15,8 @@ use std::alloc::Global;
 #[derive(Drop)]
 pub struct Seq {
     program: Program,
-    machine: Machine,
-    ghost room: { length machine.user_data ≡ program.place.end },
+    execution: Execution,
+    ghost room: { length execution.user_data ≡ program.place.end },
 }
 
 impl Seq {
@@ -39,7 +39,7 @@ impl Seq {
     {
         let program = Program::new(alloc, source, place, input)?;
         let user_data = UserData::new(alloc, place, source.user_data())?;
-        let machine = Machine {
+        let execution = Execution {
             index: 0,
             registers: Registers::new(),
             md: 0,
@@ -47,7 +47,7 @@ impl Seq {
             taken: 0,
             mark: Mark::Going,
         };
-        Ok(Seq { program, machine })
+        Ok(Seq { program, execution })
     }
 
     /// Executes one statement. After `Halted` or `Stuck` nothing changes, and the same answer
@@ -57,14 +57,14 @@ impl Seq {
         ensures answer { result ≡ answer_of (step (program_of self.old) (state_of self.old)) }
         ensures program { program_of self.new ≡ program_of self.old }
     {
-        match self.machine.mark {
+        match self.execution.mark {
             Mark::Going => {}
             Mark::Halted => return Stepped::Halted,
             Mark::Stuck(why) => return Stepped::Stuck(why),
         }
-        match self.program.statement(self.machine.index) {
-            Some(statement) => self.machine.execute(&self.program, statement),
-            None => self.machine.stick(Why::PastEnd),
+        match self.program.statement(self.execution.index) {
+            Some(statement) => self.execution.execute(&self.program, statement),
+            None => self.execution.stick(Why::PastEnd),
         }
     }
 
@@ -72,21 +72,21 @@ impl Seq {
     pub fn index(&self) -> u32
         ensures { result ≡ (state_of self.now).index }
     {
-        self.machine.index
+        self.execution.index
     }
 
     /// What a register holds.
     pub fn register(&self, r: Reg) -> Value
         ensures { result ≡ value_in (state_of self.now).regs r }
     {
-        self.machine.registers.get(r)
+        self.execution.registers.get(r)
     }
 
     /// What MD holds.
     pub fn md(&self) -> u32
         ensures { result ≡ (state_of self.now).md }
     {
-        self.machine.md
+        self.execution.md
     }
 
     /// What an address of user data holds.
@@ -94,13 +94,13 @@ impl Seq {
         requires { is_user (program_of self.now).place address ≡ true }
         ensures { result ≡ (state_of self.now).mem address }
     {
-        self.machine.user_data.get(address)
+        self.execution.user_data.get(address)
     }
 
     /// The number of input bytes taken.
     pub fn taken(&self) -> u32
         ensures { result ≡ (state_of self.now).taken }
     {
-        self.machine.taken
+        self.execution.taken
     }
 }

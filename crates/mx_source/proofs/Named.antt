@@ -25,7 +25,8 @@ keys_apart [] h = tt
 keys_apart (e ∷ es) h = (apart_from e.0 es h.0, keys_apart es h.1)
 
 -- a look-up by the bytes of the names
-pub lookup_named : (es : List (Name × Label)) (name : List ℕ) → lookup (λ (k : Name). bytes_eq name (name_bytes k)) es ≡ lookup (bytes_eq name) (named_labels es)
+pub lookup_named : (es : List (Name × Label)) (name : List ℕ)
+    → lookup (λ (k : Name). bytes_eq name (name_bytes k)) es ≡ lookup (bytes_eq name) (named_labels es)
 lookup_named [] name = refl
 lookup_named (e ∷ es) name = ap (cond (bytes_eq name (name_bytes e.0)) (Some e.1)) (lookup_named es name)
 

@@ -43,12 +43,16 @@ code_step labels statements i s text e =
 
 -- one more data word
 pub words_step : (labels : Labels) (words : List Value) (i : ℕ) (v : Value) (text : List ℕ) → slice_get words i ≡ Some v →
-    (((text ++ label_lines (names_address (256 + i)) labels) ++ spelled (codes ".word") (value_text labels v ∷ [])) ++ 10 ∷ []) ++ words_text labels (256 + (i + 1)) (drop (i + 1) words)
+    (((text ++ label_lines (names_address (256 + i)) labels) ++ spelled (codes ".word") (value_text labels v ∷ [])) ++ 10 ∷ [])
+    ++ words_text labels (256 + (i + 1)) (drop (i + 1) words)
     ≡ text ++ words_text labels (256 + i) (drop i words)
 words_step labels words i v text e =
-    ap (λ n. (((text ++ label_lines (names_address (256 + i)) labels) ++ spelled (codes ".word") (value_text labels v ∷ [])) ++ 10 ∷ []) ++ words_text labels n (drop (i + 1) words)) next
-    ∙ (ap (λ n. (((text ++ label_lines (names_address (256 + i)) labels) ++ spelled (codes ".word") (value_text labels v ∷ [])) ++ 10 ∷ []) ++ words_text labels (suc (256 + i)) (drop n words)) (add-one i)
-    ∙ (regroup text (label_lines (names_address (256 + i)) labels) (spelled (codes ".word") (value_text labels v ∷ [])) (10 ∷ []) (words_text labels (suc (256 + i)) (drop (suc i) words))
+    ap (λ n. (((text ++ label_lines (names_address (256 + i)) labels) ++ spelled (codes ".word") (value_text labels v ∷ [])) ++ 10 ∷ [])
+    ++ words_text labels n (drop (i + 1) words)) next
+    ∙ (ap (λ n. (((text ++ label_lines (names_address (256 + i)) labels) ++ spelled (codes ".word") (value_text labels v ∷ [])) ++ 10 ∷ [])
+    ++ words_text labels (suc (256 + i)) (drop n words)) (add-one i)
+    ∙ (regroup text (label_lines (names_address (256 + i)) labels) (spelled (codes ".word") (value_text labels v ∷ []))
+    (10 ∷ []) (words_text labels (suc (256 + i)) (drop (suc i) words))
     ∙ ap (λ xs. text ++ words_text labels (256 + i) xs) (sym (drop-slice_get words i v e))))
   where
     next : 256 + (i + 1) ≡ suc (256 + i)
@@ -57,7 +61,8 @@ words_step labels words i v text e =
 -- the end of the statements
 pub code_end : (labels : Labels) (statements : List Statement) (i : ℕ) → i ≡ length statements
     → code_text labels i (drop i statements) ≡ label_lines (names_index (length statements)) labels
-code_end labels statements i e = ap (λ n. code_text labels n (drop n statements)) e ∙ ap (λ xs. code_text labels (length statements) xs) (drop-length statements)
+code_end labels statements i e = ap (λ n. code_text labels n (drop n statements)) e
+    ∙ ap (λ xs. code_text labels (length statements) xs) (drop-length statements)
 
 -- the end of the data words
 pub words_end : (labels : Labels) (words : List Value) (i : ℕ) → i ≡ length words
@@ -80,7 +85,8 @@ pub section_text : (labels : Labels) (entries : List (Name × Label)) (words : L
     put ≡ old ++ codes ".data\n" → new ≡ put ++ words_text labels 256 words → new ≡ old ++ data_text labels words
 section_text labels entries words old put new l some e1 e2 =
     e2 ∙ (ap (λ t. t ++ words_text labels 256 words) e1 ∙ (append_assoc old (codes ".data\n") (words_text labels 256 words)
-    ∙ ap (λ t. old ++ t) (sym (cond-true (has_words words || list_any (λ p. is_data_label p.1) labels) (ended (codes ".data") ++ words_text labels 256 words) [] found))))
+    ∙ ap (λ t. old ++ t) (sym (cond-true (has_words words || list_any (λ p. is_data_label p.1) labels)
+    (ended (codes ".data") ++ words_text labels 256 words) [] found))))
   where
     found : (has_words words || list_any (λ p. is_data_label p.1) labels) ≡ true
     found = ap (λ ls. has_words words || list_any (λ p. is_data_label p.1) ls) l ∙ (ap (λ b. has_words words || b) (sym (data_labels entries)) ∙ some)
@@ -89,7 +95,8 @@ section_text labels entries words old put new l some e1 e2 =
 pub no_section : (labels : Labels) (entries : List (Name × Label)) (words : List Value) (old : List ℕ) →
     labels ≡ named_labels entries → (has_words words || list_any is_data_label (map (λ p. p.1) entries)) ≡ false → old ≡ old ++ data_text labels words
 no_section labels entries words old l none =
-    sym (append-nil old) ∙ ap (λ t. old ++ t) (sym (cond-false (has_words words || list_any (λ p. is_data_label p.1) labels) (ended (codes ".data") ++ words_text labels 256 words) [] found))
+    sym (append-nil old) ∙ ap (λ t. old ++ t) (sym (cond-false (has_words words || list_any (λ p. is_data_label p.1) labels)
+    (ended (codes ".data") ++ words_text labels 256 words) [] found))
   where
     found : (has_words words || list_any (λ p. is_data_label p.1) labels) ≡ false
     found = ap (λ ls. has_words words || list_any (λ p. is_data_label p.1) ls) l ∙ (ap (λ b. has_words words || b) (sym (data_labels entries)) ∙ none)

@@ -13,7 +13,7 @@ use Rattle.mx_pcchain.specs.Chain.{chain_of}
 use Rattle.mx_turn.specs.Counted.{Counted, after_stall}
 use Rattle.mx_turn.specs.Stages.{fetch_of, live, squash, saved}
 use Rattle.mx_turn.specs.System.{slot_of}
-use Rattle.mx_turn.specs.Cycle.{Machine, entered, decided, waited, acted, cycled, answer, after_bits}
+use Rattle.mx_turn.specs.Cycle.{MachineState, entered, decided, waited, acted, cycled, answer, after_bits}
 use Rattle.mx_turn.specs.Program.{code_of, memory_of}
 use Rattle.mx_turn.specs.Fetches.{Marked, FetchState, unkilled, addresses, mark_first, kill, squash_if, held, stage, newest, asked, begun, interrupted, decided_in, finish, turn_of, stalled, cycle_of, cycle_answer, fetches_start, fetches_from, fetches_after, window_at, window, WindowOnFetches}
 
@@ -99,11 +99,11 @@ module _ (code : Code) (input : Option (List ℕ)) where
     abbrev after_commit : Bool → FetchState
     after_commit halted = record c { fetches = unkilled f ∷ rest; stall = 0; halted = halted }
 
-    abbrev m : Bool → Machine
+    abbrev m : Bool → MachineState
     m halted = window_at 0 code (after_commit halted)
 
     -- the window in the turn after it, by the stages and the addresses that marks may change
-    abbrev onto : FetchState → Chain → Option Fetch → Option Fetch → Option Fetch → Option Fetch → Option Fetch → List ℕ → Machine
+    abbrev onto : FetchState → Chain → Option Fetch → Option Fetch → Option Fetch → Option Fetch → Option Fetch → List ℕ → MachineState
     onto s chain fetch rf alu mem wb past =
         let n = window_at 1 code s in
         record n {
@@ -118,7 +118,7 @@ module _ (code : Code) (input : Option (List ℕ)) where
           stall = cond (resident past n.next.address) 0 2;
         }
 
-    abbrev counted : Machine → Machine
+    abbrev counted : MachineState → MachineState
     counted n = record n { counts = counts }
 
     -- the interrupt's chain
@@ -143,7 +143,7 @@ module _ (code : Code) (input : Option (List ℕ)) where
         (f.address ∷ same_addresses (squash_if b) (λ x. refl) 1 rest k))
 
     over : waited resident (counted (m true)) ≡ window code (finish true false code counts (after_commit true))
-    over = λ k. let n : Machine = counted (m true) in record n { stall = cond (resident_once_fetched (addresses rest) f.address k) 0 2 }
+    over = λ k. let n : MachineState = counted (m true) in record n { stall = cond (resident_once_fetched (addresses rest) f.address k) 0 2 }
 
     finished : (halted taken : Bool) → Chained taken
         → waited resident (counted (cond halted (m halted) (cond taken (entered (m halted)) (decided code (m halted)))))
@@ -177,7 +177,7 @@ module _ (code : Code) (input : Option (List ℕ)) where
 
     -- a stalled cycle is left
     waits : (stall : ℕ) (e : Bool) → e ≡ false
-        → (let s : FetchState = asked request (at false stall) in let m : Machine = window code s in
+        → (let s : FetchState = asked request (at false stall) in let m : MachineState = window code s in
         cond e (acted resident code input m) (record m { stall = stall - 1; counts = after_stall m.counts })
         ≡ window code (cond e (turn_of code input s) (stalled s)))
     waits stall true h = absurd (true≢false h)

@@ -11,7 +11,7 @@ use Rattle.mx_pcchain.specs.Chain.{pop}
 use Rattle.mx_pcchain.specs.Modes.{psw_restored}
 use Rattle.mx_turn.specs.Stages.{live, fetch_of, squash, address_of}
 use Rattle.mx_turn.specs.System.{pops, restores, seen}
-use Rattle.mx_turn.specs.Cycle.{Machine, decision, decided_by, decided, led}
+use Rattle.mx_turn.specs.Cycle.{MachineState, decision, decided_by, decided, led}
 use Rattle.mx_turn.specs.declared.alu_stage.Decided.{Decided}
 use Rattle.mx_turn.specs.Kept.{aside}
 
@@ -36,8 +36,8 @@ unsquashed None = refl
 unsquashed (Some f) = refl
 
 -- the machine after such a word in ALU
-pub decided_goes_on : (code : Code) (m : Machine) → is_transfer (live code m.alu) ≡ false
-    → (let n : Machine = record m { next = fetch_of (next_of None m.next.address) } in n ≡ decided code m)
+pub decided_goes_on : (code : Code) (m : MachineState) → is_transfer (live code m.alu) ≡ false
+    → (let n : MachineState = record m { next = fetch_of (next_of None m.next.address) } in n ≡ decided code m)
 decided_goes_on code m e =
     let i = live code m.alu in
     let d = goes_on_is i (address_of m.alu) (seen m.slot m.core.regs) e in
@@ -46,7 +46,7 @@ decided_goes_on code m e =
     ∙ (λ k. by_parts false (restores_not i e k) falls_through)
     ∙ (λ k. record m { next = fetch_of (next_of None m.next.address); fetch = unsquashed m.fetch k; rf = unsquashed m.rf k }))
   where
-    by_parts : Bool → Bool → Decision → Machine
+    by_parts : Bool → Bool → Decision → MachineState
     by_parts popping restoring d =
         let back = popping && not m.psw.current.user in
         record m {
@@ -57,7 +57,7 @@ decided_goes_on code m e =
           psw = cond (restoring && back) (psw_restored m.psw) m.psw;
         }
 
-pub cancels_not : (code : Code) (m : Machine) → is_transfer (live code m.alu) ≡ false → false ≡ (decision code m).cancels
+pub cancels_not : (code : Code) (m : MachineState) → is_transfer (live code m.alu) ≡ false → false ≡ (decision code m).cancels
 cancels_not code m e = λ k. (sym (goes_on_is (live code m.alu) (address_of m.alu) (seen m.slot m.core.regs) e) k).cancels
 
 -- a test that failed
@@ -65,7 +65,7 @@ pub tested : (r : Bool) (i j : Inst) → i ≡ j → r ≡ is_transfer i → r �
 tested r i j e f n = ap is_transfer (sym e) ∙ sym f ∙ n
 
 -- what the parts of a decision do is what the word in ALU decides
-pub aside_is : (code : Code) (m : Machine) (i : Inst) (at : ℕ) (d : Decided) (back : Bool) → i ≡ live code m.alu → at ≡ address_of m.alu
+pub aside_is : (code : Code) (m : MachineState) (i : Inst) (at : ℕ) (d : Decided) (back : Bool) → i ≡ live code m.alu → at ≡ address_of m.alu
     → d.target ≡ (decides i at (seen m.slot m.core.regs)).target → d.cancels ≡ (decides i at (seen m.slot m.core.regs)).cancels
     → d.pops ≡ pops i → d.restores ≡ restores i → back ≡ (d.pops && not m.psw.current.user) → aside d back m ≡ decided code m
 aside_is code m i at d back is here target cancels pop restore leads =

@@ -22,7 +22,7 @@ use Rattle.mx_turn.specs.Counted.{Counted}
 use Rattle.mx_turn.specs.Stages.{fetch_of, live, address_of}
 use Rattle.mx_turn.specs.Stages.{squash as squash_stage}
 use Rattle.mx_turn.specs.System.{system_change, seen, pops, restores}
-use Rattle.mx_turn.specs.Cycle.{Machine, shifted, commit_byte, mem_change, is_taken, entered, decision, decided, led, turned, reached, ended}
+use Rattle.mx_turn.specs.Cycle.{MachineState, shifted, commit_byte, mem_change, is_taken, entered, decision, decided, led, turned, reached, ended}
 use Rattle.mx_turn.specs.OneTurn.{as_fetch, UserSame, Follows, IsOnBoard, before_turn}
 
 system_user : (user : Bool) (c : Chain) (i : Inst) (at : ℕ) (r : Words) (md : ℕ) (find : ℕ → Found) → user ≡ true
@@ -88,7 +88,7 @@ apart_from : (i : Inst) (r : ℕ) → reads i r ≡ false → (n : ℕ) → read
 apart_from i r h n k e = absurd (false≢true (sym h ∙ ap (reads i) (sym e) ∙ k))
 
 module _ (code code' : Code) (inside : ℕ → Bool) (p : Place) (input : Option (List ℕ))
-    (m : Machine) (d : Delay) (stall : ℕ) (latch : Bool) (counts : Counted) (at_board : IsOnBoard p)
+    (m : MachineState) (d : Delay) (stall : ℕ) (latch : Bool) (counts : Counted) (at_board : IsOnBoard p)
     (f : Follows p m d) (goes : m.halted ≡ false) (quiet : is_taken m ≡ false) (apart : reads (does code' d.first) m.slot.register ≡ false)
     (clean : is_clean_step code' inside p input d ≡ true) (same_word : code d.first.address ≡ code' d.first.address) where
   -- the word that acts, and what it decides in the machine with delay slots
@@ -107,7 +107,7 @@ module _ (code code' : Code) (inside : ℕ → Bool) (p : Place) (input : Option
   r = seen m.slot m.core.regs
 
   -- the machine before the next turn acts, once its stages have moved on
-  abbrev n : Machine
+  abbrev n : MachineState
   n = shifted (before_turn stall latch counts (decided code m))
 
   sees : SeesAlike i m.core.regs r

@@ -6,14 +6,14 @@ use Rattle.mx_icache.specs.Residency.{resident, allocated}
 use Rattle.mx_turn.specs.declared.machine.Cycled.{Cycled}
 use Rattle.mx_turn.specs.declared.turns.Turns.{Turns}
 use Rattle.mx_turn.specs.Decoded.{code_in}
-use Rattle.mx_turn.specs.Cycle.{Machine, cycled, answer}
+use Rattle.mx_turn.specs.Cycle.{MachineState, cycled, answer}
 use Rattle.mx_turn.specs.Program.{Program, code_of, answer_after}
 use Rattle.mx_turn.specs.Kept.{code_of_turns, machine_of, shown_of, KeepsProgram, StandsFor}
 use Rattle.mx_turn.proofs.Steps.{after_one_more}
 
 module _ {C : Type 0} (holds : C → List ℕ → Type 0) (t : Turns C) (p : Program) (h : List Bool) (s : StandsFor holds t p h) (request : Bool) where
   -- the machine that it stands for
-  abbrev pub now : Machine
+  abbrev pub now : MachineState
   now = machine_of t s.past s.before (shown_of t)
 
   pub answers : (r : Cycled) → r ≡ answer (code_of_turns t) t.board.input now request → r ≡ answer_after p h request

@@ -19,7 +19,7 @@ use Rattle.mx_turn.specs.Counted.{Counted, no_counts, after_stall, after_turn}
 use Rattle.mx_turn.specs.Stages.{fetch_of, live, address_of, squash, saved, stage_of}
 use Rattle.mx_turn.specs.System.{Slot, no_slot, system_change, moved, pops, restores, slot_of, seen, number_of}
 
-pub record Machine : Type 0 where
+pub record MachineState : Type 0 where
   -- what the coming turn fetches
   pub next : Fetch
   -- the fetches in the stages of the last completed turn, with their marks as they now stand; a killed one is gone
@@ -46,21 +46,21 @@ pub record Machine : Type 0 where
   pub counts : Counted
 
 -- a turn begins: the stages move on
-abbrev pub shifted : Machine → Machine
+abbrev pub shifted : MachineState → MachineState
 shifted m = record m { fetch = Some m.next; rf = m.fetch; alu = m.rf; mem = m.alu; wb = m.mem; past = m.next.address ∷ m.past }
 
 -- what the data words answer in the current mode
-abbrev pub bus_of : Option (List ℕ) → Machine → Bus
+abbrev pub bus_of : Option (List ℕ) → MachineState → Bus
 bus_of input m = board m.psw.current.user input
 
 -- what the word in MEM changes
-abbrev pub mem_change : Code → Option (List ℕ) → Machine → Change
+abbrev pub mem_change : Code → Option (List ℕ) → MachineState → Change
 mem_change code input m =
     system_change m.psw.current.user m.chain (live code m.mem) (address_of m.mem) (seen m.slot m.core.regs) m.core.md
     ((bus_of input m).load m.core.mem m.core.taken)
 
 -- the word in MEM commits as a whole
-abbrev pub committed : Code → Option (List ℕ) → Machine → Machine
+abbrev pub committed : Code → Option (List ℕ) → MachineState → MachineState
 committed code input m =
     let i = live code m.mem in
     record m {
@@ -72,21 +72,21 @@ committed code input m =
     }
 
 -- the byte that it sends
-abbrev pub commit_byte : Code → Option (List ℕ) → Machine → Option ℕ
+abbrev pub commit_byte : Code → Option (List ℕ) → MachineState → Option ℕ
 commit_byte code input m = sent (bus_of input m) (mem_change code input m).stores
 
 -- the operands of the word in ALU, and the number that it makes
-abbrev pub first : Code → Machine → ℕ
+abbrev pub first : Code → MachineState → ℕ
 first code m = reg (seen m.slot m.core.regs) (sources (live code m.alu)).0
 
-abbrev pub second : Code → Machine → ℕ
+abbrev pub second : Code → MachineState → ℕ
 second code m = reg (seen m.slot m.core.regs) (sources (live code m.alu)).1
 
-abbrev pub number : Code → Machine → ℕ
+abbrev pub number : Code → MachineState → ℕ
 number code m = number_of m.psw.current.user m.chain (live code m.alu) (address_of m.alu) (first code m) (second code m) m.core.md
 
 -- what a trace shows of the turn, before anything is squashed or killed in it
-abbrev pub showing : Code → Machine → Machine
+abbrev pub showing : Code → MachineState → MachineState
 showing code m = record m {
   shown = record {
     fetch = stage_of m.fetch;
@@ -101,11 +101,11 @@ showing code m = record m {
 }
 
 -- an interrupt is taken in this turn: one is latched, interrupts are on, and ALU holds a fetch
-abbrev pub is_taken : Machine → Bool
+abbrev pub is_taken : MachineState → Bool
 is_taken m = m.psw.current.interrupts && (m.latch && is_some m.alu)
 
 -- the interrupt kills the fetches in ALU, RF and IF, and the chain keeps them
-abbrev pub entered : Machine → Machine
+abbrev pub entered : MachineState → MachineState
 entered m = record m {
   next = fetch_of 0;
   fetch = None;
@@ -117,7 +117,7 @@ entered m = record m {
 }
 
 -- what the word in ALU decides
-abbrev pub decision : Code → Machine → Decision
+abbrev pub decision : Code → MachineState → Decision
 decision code m = decides (live code m.alu) (address_of m.alu) (seen m.slot m.core.regs)
 
 -- where the next fetch goes: back to a saved one, or by the decision
@@ -125,7 +125,7 @@ abbrev pub led : Bool → Chain → Decision → Fetch → Fetch
 led back c d last = cond back (fetch_from c.pc1) (fetch_of (next_of d.target last.address))
 
 -- an instruction decides in ALU; in system mode it may pop the chain and bring back the other mode
-abbrev pub decided_by : Inst → Decision → Machine → Machine
+abbrev pub decided_by : Inst → Decision → MachineState → MachineState
 decided_by i d m =
     let back = pops i && not m.psw.current.user in
     record m {
@@ -136,57 +136,57 @@ decided_by i d m =
       psw = cond (restores i && back) (psw_restored m.psw) m.psw;
     }
 
-abbrev pub decided : Code → Machine → Machine
+abbrev pub decided : Code → MachineState → MachineState
 decided code m = decided_by (live code m.alu) (decision code m) m
 
-abbrev pub turned : Code → Machine → Machine
+abbrev pub turned : Code → MachineState → MachineState
 turned code m = cond (is_taken m) (entered m) (decided code m)
 
 -- two stalled cycles come before a fetch that is not resident
-abbrev pub waited : (List ℕ → ℕ → Bool) → Machine → Machine
+abbrev pub waited : (List ℕ → ℕ → Bool) → MachineState → MachineState
 waited resident m = record m { stall = cond (resident m.past m.next.address) 0 2 }
 
-abbrev pub latched : Bool → Machine → Machine
+abbrev pub latched : Bool → MachineState → MachineState
 latched request m = record m { latch = m.latch || request }
 
 -- the turn up to its commit, with what it shows
-abbrev pub reached : Code → Option (List ℕ) → Machine → Machine
+abbrev pub reached : Code → Option (List ℕ) → MachineState → MachineState
 reached code input m = showing code (committed code input (shifted m))
 
 -- where the word in MEM is a halt, nothing behind it takes effect
-abbrev pub ended : Code → Machine → Machine
+abbrev pub ended : Code → MachineState → MachineState
 ended code c = cond c.halted c (turned code c)
 
-abbrev pub takes : Machine → Bool
+abbrev pub takes : MachineState → Bool
 takes c = not c.halted && is_taken c
 
 -- a squashing branch did not hold
-abbrev pub squashes : Code → Machine → Bool
+abbrev pub squashes : Code → MachineState → Bool
 squashes code c = not c.halted && (not (is_taken c) && (decision code c).cancels)
 
-abbrev pub counts_after : Code → Option (List ℕ) → Bool → Machine → Counted
+abbrev pub counts_after : Code → Option (List ℕ) → Bool → MachineState → Counted
 counts_after code input missed m = let c = reached code input m in after_turn missed (squashes code c) (takes c) m.counts
 
 -- a cycle in which a turn acts
-abbrev pub acted : (List ℕ → ℕ → Bool) → Code → Option (List ℕ) → Machine → Machine
+abbrev pub acted : (List ℕ → ℕ → Bool) → Code → Option (List ℕ) → MachineState → MachineState
 acted resident code input m =
     waited resident (record (ended code (reached code input m)) { counts = counts_after code input (not (resident m.past m.next.address)) m })
 
 -- one cycle, with a request or not, by the fetches that are resident after others, the code words and the input
-abbrev pub cycled : (List ℕ → ℕ → Bool) → Code → Option (List ℕ) → Machine → Bool → Machine
+abbrev pub cycled : (List ℕ → ℕ → Bool) → Code → Option (List ℕ) → MachineState → Bool → MachineState
 cycled resident code input m request =
     cond m.halted m
     (cond (eqb m.stall 0)
     (acted resident code input (latched request m))
     (record (latched request m) { stall = m.stall - 1; counts = after_stall m.counts }))
 
-abbrev pub acted_answer : Code → Option (List ℕ) → Machine → Cycled
+abbrev pub acted_answer : Code → Option (List ℕ) → MachineState → Cycled
 acted_answer code input m =
     let c = reached code input m in
     record { byte = commit_byte code input (shifted m); taken = takes c; halted = c.halted; stalled = false }
 
 -- what the cycle answers
-abbrev pub answer : Code → Option (List ℕ) → Machine → Bool → Cycled
+abbrev pub answer : Code → Option (List ℕ) → MachineState → Bool → Cycled
 answer code input m request =
     cond m.halted (record { byte = None; taken = false; halted = true; stalled = false })
     (cond (eqb m.stall 0)
@@ -194,7 +194,7 @@ answer code input m request =
     (record { byte = None; taken = false; halted = false; stalled = true }))
 
 -- before the first cycle, with these data words: user mode, interrupts on, and nothing in the cache
-abbrev pub start : Words → Machine
+abbrev pub start : Words → MachineState
 start data_words = record {
   next = fetch_of CODE_BASE;
   fetch = None;
@@ -216,6 +216,6 @@ start data_words = record {
 }
 
 -- after these request bits
-abbrev pub after_bits : (List ℕ → ℕ → Bool) → Code → Option (List ℕ) → Machine → List Bool → Machine
+abbrev pub after_bits : (List ℕ → ℕ → Bool) → Code → Option (List ℕ) → MachineState → List Bool → MachineState
 after_bits resident code input m [] = m
 after_bits resident code input m (request ∷ requests) = after_bits resident code input (cycled resident code input m request) requests

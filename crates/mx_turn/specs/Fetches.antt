@@ -19,7 +19,7 @@ use Rattle.mx_turn.specs.declared.machine.Cycled.{Cycled}
 use Rattle.mx_turn.specs.Counted.{Counted, no_counts, after_stall, after_turn}
 use Rattle.mx_turn.specs.Stages.{fetch_of, live, address_of, stage_of}
 use Rattle.mx_turn.specs.System.{system_change, moved, pops, restores, slot_of, seen, number_of}
-use Rattle.mx_turn.specs.Cycle.{Machine, led}
+use Rattle.mx_turn.specs.Cycle.{MachineState, led}
 use Rattle.mx_turn.specs.Program.{Program, code_of, memory_of, state_after, answer_after}
 
 -- a fetch: a branch may have squashed it, and an interrupt killed it
@@ -246,7 +246,7 @@ abbrev pub fetches_after : Program → List Bool → FetchState
 fetches_after p h = fetches_from (code_of p) p.input (fetches_start (memory_of p)) h
 
 -- The stages of a turn as a window onto F: those of turn t for n = 0, and of the one before it for n = 1.
-abbrev pub window_at : ℕ → Code → FetchState → Machine
+abbrev pub window_at : ℕ → Code → FetchState → MachineState
 window_at n code s = record {
   next = ago 0 s;
   fetch = stage n s;
@@ -268,7 +268,7 @@ window_at n code s = record {
 }
 
 -- the last completed turn is t once the run has ended, and the one before it until then
-abbrev pub window : Code → FetchState → Machine
+abbrev pub window : Code → FetchState → MachineState
 window code s = window_at (cond s.halted 0 1) code s
 
 -- After every list of request bits the machine with the stages of the last turn is the window onto that with all fetches, and the two answer alike.

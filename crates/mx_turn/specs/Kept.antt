@@ -14,14 +14,14 @@ use Rattle.mx_turn.specs.declared.turns.Turns.{Turns}
 use Rattle.mx_turn.specs.Decoded.{code_in}
 use Rattle.mx_turn.specs.Stages.{fetch_of, live, address_of, squash, stage_of}
 use Rattle.mx_turn.specs.System.{seen, number_of}
-use Rattle.mx_turn.specs.Cycle.{Machine, shifted, committed, showing, waited, acted}
+use Rattle.mx_turn.specs.Cycle.{MachineState, shifted, committed, showing, waited, acted}
 use Rattle.mx_turn.specs.Program.{Program, code_of, state_after}
 
 abbrev pub code_of_turns : {C : Type 0} → Turns C → Code
 code_of_turns t = code_in t.code
 
 -- what it keeps, with what it does not keep: the addresses of completed turns, the registers as the last one began, and what that one showed
-abbrev pub machine_of : {C : Type 0} → Turns C → List ℕ → Words → Latches → Machine
+abbrev pub machine_of : {C : Type 0} → Turns C → List ℕ → Words → Latches → MachineState
 machine_of t past before shown = record {
   next = t.next;
   fetch = t.fetch;
@@ -83,12 +83,12 @@ pub record KeepsProgram {C : Type 0} (t t' : Turns C) : Type 0 where
   pub input : t'.board.input ≡ t.board.input
 
 -- what a step of `Turns` does to the state that it keeps, whatever it does not keep
-abbrev pub Does : {C : Type 0} → (Machine → Machine) → Turns C → Turns C → Type 0
+abbrev pub Does : {C : Type 0} → (MachineState → MachineState) → Turns C → Turns C → Type 0
 Does step t t' =
     (past : List ℕ) (before : Words) (shown : Latches) → machine_of t' past before shown ≡ step (machine_of t past before shown)
 
 -- what a decision does, back to a saved fetch or not
-abbrev pub aside : Decided → Bool → Machine → Machine
+abbrev pub aside : Decided → Bool → MachineState → MachineState
 aside d back m = record m {
   next = cond back (fetch_from m.chain.pc1) (fetch_of (next_of d.target m.next.address));
   fetch = squash d.cancels m.fetch;
@@ -98,7 +98,7 @@ aside d back m = record m {
 }
 
 -- what a method of `Turns` tells of that state
-abbrev pub Tells : {C T : Type 0} → (Machine → T) → Turns C → T → Type 0
+abbrev pub Tells : {C T : Type 0} → (MachineState → T) → Turns C → T → Type 0
 Tells answers t result = (past : List ℕ) (before : Words) (shown : Latches) → result ≡ answers (machine_of t past before shown)
 
 -- the stages move on and the word in MEM commits; the fetch has joined the others, and the file is the registers as the turn began

@@ -9,7 +9,7 @@ use Rattle.mx_delay.specs.Delay.{Code, Queued, does, Delay, delay_step, delay_by
 use Rattle.mx_delay.specs.Clean.{is_clean_step}
 use Rattle.mx_pcchain.specs.Fetch.{Fetch}
 use Rattle.mx_turn.specs.Counted.{Counted}
-use Rattle.mx_turn.specs.Cycle.{Machine, shifted, commit_byte, is_taken, reached, ended}
+use Rattle.mx_turn.specs.Cycle.{MachineState, shifted, commit_byte, is_taken, reached, ended}
 
 abbrev pub as_fetch : Queued → Fetch
 as_fetch q = record { address = q.address; squashed = q.squashed }
@@ -19,7 +19,7 @@ abbrev pub UserSame : Place → Words → Words → Type 0
 UserSame p m m' = (a : ℕ) → is_user p a ≡ true → m a ≡ m' a
 
 -- once the word in MEM has committed in a turn: the mode is user, the fetches in ALU, RF and IF are the queue, and the other parts are equal
-pub record Follows (p : Place) (m : Machine) (d : Delay) : Type 0 where
+pub record Follows (p : Place) (m : MachineState) (d : Delay) : Type 0 where
   pub user : m.psw.current.user ≡ true
   pub alu : m.alu ≡ Some (as_fetch d.first)
   pub rf : m.rf ≡ Some (as_fetch d.second)
@@ -37,14 +37,14 @@ pub record IsOnBoard (p : Place) : Type 0 where
   pub input : p.input ≡ INPUT
 
 -- the machine before the next turn acts: only the wait, requests and counts come between
-abbrev pub before_turn : ℕ → Bool → Counted → Machine → Machine
+abbrev pub before_turn : ℕ → Bool → Counted → MachineState → MachineState
 before_turn stall latch counts m = record m { stall = stall; latch = latch; counts = counts }
 
 -- One user turn, which takes no interrupt and does not end the run, makes the next one follow one step later, and the two give the same byte,
 -- where the word that the step takes is the same for both and does not read the register of a load in MEM, and the step is clean.
 abbrev pub OneUserTurn : Type 0
 OneUserTurn =
-    (code code' : Code) (inside : ℕ → Bool) (p : Place) (input : Option (List ℕ)) (m : Machine) (d : Delay) (stall : ℕ) (latch : Bool) (counts : Counted)
+    (code code' : Code) (inside : ℕ → Bool) (p : Place) (input : Option (List ℕ)) (m : MachineState) (d : Delay) (stall : ℕ) (latch : Bool) (counts : Counted)
     → IsOnBoard p
     → Follows p m d
     → m.halted ≡ false

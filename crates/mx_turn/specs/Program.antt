@@ -10,7 +10,7 @@ use Rattle.mx_code.specs.Decoding.{inst_of}
 use Rattle.mx_icache.specs.Residency.{resident}
 use Rattle.mx_turn.specs.declared.machine.Cycled.{Cycled}
 use Rattle.mx_turn.specs.Handler.{shipped}
-use Rattle.mx_turn.specs.Cycle.{Machine, answer, start, after_bits}
+use Rattle.mx_turn.specs.Cycle.{MachineState, answer, start, after_bits}
 
 -- an image's code words, which stand from 4096 on, the words of a handler, from 0 on, the image's data words, from 256 on, and the input, if there is one
 pub record Program : Type 0 where
@@ -44,7 +44,7 @@ abbrev pub memory_of : Program → Words
 memory_of p = data_from DATA_BASE p.data_words
 
 -- the machine after these request bits
-abbrev pub state_after : Program → List Bool → Machine
+abbrev pub state_after : Program → List Bool → MachineState
 state_after p h = after_bits resident (code_of p) p.input (start (memory_of p)) h
 
 -- what the next cycle answers

@@ -7,7 +7,7 @@ use Rattle.mx_code.specs.declared.image.Image.{Image}
 use Rattle.mx_pcchain.specs.Fetch.{Fetch}
 use Rattle.mx_icache.specs.Residency.{resident}
 use Rattle.mx_turn.specs.Counted.{Counted, one}
-use Rattle.mx_turn.specs.Cycle.{Machine, cycled, answer, start}
+use Rattle.mx_turn.specs.Cycle.{MachineState, cycled, answer, start}
 use Rattle.mx_turn.specs.Program.{Program, code_of, image_program, memory_of, state_after}
 
 -- a request comes in this cycle
@@ -20,7 +20,7 @@ bits requests zero = []
 bits requests (suc n) = bits requests n ++ is_requested requests n ∷ []
 
 -- the bytes that a machine sends over these request bits
-abbrev pub bytes_on : Program → Machine → List Bool → List ℕ
+abbrev pub bytes_on : Program → MachineState → List Bool → List ℕ
 bytes_on p m [] = []
 bytes_on p m (request ∷ requests) =
     option_to_list (answer (code_of p) p.input m request).byte ++ bytes_on p (cycled resident (code_of p) p.input m request) requests
@@ -35,11 +35,11 @@ is_users None = false
 is_users (Some f) = leb CODE_BASE f.address
 
 -- the coming cycle acts, and a fetch of user code then reaches MEM
-abbrev pub passes : Machine → Bool
+abbrev pub passes : MachineState → Bool
 passes m = not m.halted && (eqb m.stall 0 && is_users m.alu)
 
 -- how many fetches of user code reach MEM over these request bits
-abbrev pub passed_on : Program → Machine → List Bool → ℕ
+abbrev pub passed_on : Program → MachineState → List Bool → ℕ
 passed_on p m [] = 0
 passed_on p m (request ∷ requests) = one (passes m) + passed_on p (cycled resident (code_of p) p.input m request) requests
 
@@ -48,7 +48,7 @@ pub record MachineRun : Type 0 where
   pub counts : Counted
   pub console : List ℕ
   pub passed : ℕ
-  pub last : Machine
+  pub last : MachineState
 
 -- what a program does with requests at these cycles, until it halts or the budget of cycles is spent; a machine that has halted stays as it is
 abbrev pub run_of : Program → List ℕ → ℕ → MachineRun

@@ -1,6 +1,6 @@
 use Rattle.std.proofs.Common.{◌≡◌, ◌<◌, ◌≤◌, ◌+◌, ◌-◌, ℕ, List, true, false, inr, length, refl, sym, ap, ◌∙◌, subst, arith}
 use Rattle.std.specs.Prelude.{min, Option}
-use Rattle.mx_turn.specs.Cycle.{Machine}
+use Rattle.mx_turn.specs.Cycle.{MachineState}
 use Rattle.mx_turn.specs.Program.{state_after}
 use Rattle.mx_turn.specs.Run.{bits}
 use Rattle.mx_report.proofs.Runs.{state_at, console_end}
@@ -25,10 +25,10 @@ returns-then-passed g c = λ p s.
     let going = e.going p s refl in
     record {
       console = e.saw p s refl c.no_bytes-console.ensures ∙ console_end p reqs r.cycles from r.halted is within (λ h. e.whole h refl);
-      words = λ k lt. c.in_ok-words.ensures p (bits reqs r.cycles) (e.stands p s refl) k lt ∙ ap (λ (m : Machine). m.core.mem k) last;
+      words = λ k lt. c.in_ok-words.ensures p (bits reqs r.cycles) (e.stands p s refl) k lt ∙ ap (λ (m : MachineState). m.core.mem k) last;
       frames = subst (AreFrames p reqs from) (sym none) tt;
       within = omega (arith, empty);
-      whole = inr (ap (λ (k : ℕ). (state_at p reqs k).halted) here ∙ sym (ap (λ (m : Machine). m.halted) last) ∙ halted);
+      whole = inr (ap (λ (k : ℕ). (state_at p reqs k).halted) here ∙ sym (ap (λ (m : MachineState). m.halted) last) ∙ halted);
       end = (
         omega (arith, room, within),
         record { before = λ k next. going k (let less : k < r.cycles = omega (arith, next) in less); halted = halted },
@@ -59,7 +59,7 @@ returns g c = λ p s.
       console = before.saw p s refl c.no_bytes-console.ensures
           ∙ console_end p reqs first.cycles from first.halted (before.halted p s refl) before.within (λ h. before.whole h refl);
       words = λ k lt. c.in_ok-words.ensures p (bits reqs first.cycles) (before.stands p s refl) k lt
-          ∙ ap (λ (m : Machine). m.core.mem k) (before.last refl p s refl);
+          ∙ ap (λ (m : MachineState). m.core.mem k) (before.last refl p s refl);
       frames = e.saw p stands going (subst (AreFrames p reqs from) (sym c.no_frames-frames.ensures) tt);
       within = omega (arith, many);
       whole = whole_is p reqs from count budget r.cycles (length c.observe-2.new.notes.items) r.halted c.requires.cycles e.onward many is

@@ -9,5 +9,6 @@ pub returns-in-Ok-shown_of-clause-shown : goal.returns-in-Ok-shown_of-clause-sho
 returns-in-Ok-shown_of-clause-shown c =
     let lines = ap texts c.deref.ensures.value ∙ c.in-Ok.ensures.lines in
     let first = c.first_of.ensures ∙ ap (take c.args.at_most) c.deref-2.ensures.value in
-    shown_are c.args.at_most c.args.text.now (texts c.deref.result.now) c.in_ok-found.found.items c.first_of.result.now (map as_shown c.in-Ok-shown_of.shown.items) c.requires.most lines
+    shown_are c.args.at_most c.args.text.now (texts c.deref.result.now) c.in_ok-found.found.items
+    c.first_of.result.now (map as_shown c.in-Ok-shown_of.shown.items) c.requires.most lines
     c.in_ok-found.ensures.faults c.in_ok-found.ensures.spans first c.in-Ok-shown_of.ensures

@@ -1,5 +1,5 @@
 use Rattle.std.proofs.Common.{◌≡◌, refl, ap, ◌∙◌, arith}
-use Rattle.mx_turn.specs.Cycle.{Machine}
+use Rattle.mx_turn.specs.Cycle.{MachineState}
 use Rattle.mx_turn.specs.Run.{bits}
 use Rattle.lab_profile.proofs.Still.{no_tally, tally_end, waiting_end}
 use Rattle.lab_profile.proofs.running.profile.Goals as goal
@@ -22,6 +22,6 @@ returns-clause-profile g c = λ p s.
     record {
       tally = tally_end p reqs words r.cycles budget r.halted is e.within (λ h. e.whole h refl) _ saw.0;
       waiting = saw.1 ∙ waiting_end p reqs words r.cycles budget r.halted is e.within (λ h. e.whole h refl);
-      counts = c.counts.ensures.counts p (bits reqs r.cycles) (e.stands p s refl) ∙ ap (λ (m : Machine). m.counts) (e.last refl p s refl);
-      halted = is ∙ ap (λ (m : Machine). m.halted) (e.last refl p s refl);
+      counts = c.counts.ensures.counts p (bits reqs r.cycles) (e.stands p s refl) ∙ ap (λ (m : MachineState). m.counts) (e.last refl p s refl);
+      halted = is ∙ ap (λ (m : MachineState). m.halted) (e.last refl p s refl);
     }

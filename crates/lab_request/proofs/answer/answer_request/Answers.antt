@@ -16,8 +16,10 @@ returns-in-Ok-document g c =
       output = ended.output.items;
       errors = ended.errors.items;
       ended =
-          subst (λ (h : Held). g.C.Commands.ends c.args.asked.command (words_of c.args.asked.command d) h ended.status ended.output.items ended.errors.items) files
-          (subst (λ (w : List (List ℕ)). g.C.Commands.ends c.args.asked.command w (held_in c.in_ok-files.files) ended.status ended.output.items ended.errors.items)
+          subst (λ (h : Held). g.C.Commands.ends c.args.asked.command (words_of c.args.asked.command d) h
+          ended.status ended.output.items ended.errors.items) files
+          (subst (λ (w : List (List ℕ)). g.C.Commands.ends c.args.asked.command w (held_in c.in_ok-files.files)
+          ended.status ended.output.items ended.errors.items)
           words c.in_ok-ended.ensures);
       printed = c.in-Ok-document.ensures;
     }

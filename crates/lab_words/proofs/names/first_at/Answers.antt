@@ -19,7 +19,8 @@ loop-index-preserved c =
       first = λ k h.
           let within : c.loop-index.index < length c.args.offsets.now = omega arith in
           one_kept c.args.offsets.now c.loop-index.index k _ (entry c.loop-index.table.items k) _ within refl
-          (ap (λ t. entry t k) written ∙ (c.keep.ensures k (omega arith) ∙ ap (λ t. option_or (entry t k) (cond (offset_is (get_or c.args.offsets.now c.loop-index.index None) k) (Some c.loop-index.index) None))
+          (ap (λ t. entry t k) written ∙ (c.keep.ensures k (omega arith)
+          ∙ ap (λ t. option_or (entry t k) (cond (offset_is (get_or c.args.offsets.now c.loop-index.index None) k) (Some c.loop-index.index) None))
           c.as_mut_slice.ensures.value))
           (c.loop-index.invariant.first k h);
     }

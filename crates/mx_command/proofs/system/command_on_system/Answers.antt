@@ -38,7 +38,8 @@ pub returns-clause-output : goal.returns-clause-output
 returns-clause-output g c = λ taken. (whole g c taken).output
 
 pub returns-clause-files : goal.returns-clause-files
-returns-clause-files g c = λ taken. (whole g c taken).wrote ∙ ap (λ l. l ++ files_of (answer_on (map string_bytes c.args.words.now) (log_of c.command.new.shelf)).file) c.requires.unwritten
+returns-clause-files g c = λ taken. (whole g c taken).wrote
+    ∙ ap (λ l. l ++ files_of (answer_on (map string_bytes c.args.words.now) (log_of c.command.new.shelf)).file) c.requires.unwritten
 
 pub returns-clause-promised : goal.returns-clause-promised
 returns-clause-promised g c = λ taken held agree.

@@ -27,8 +27,10 @@ returns-in_ok-add-clause-groups c = λ labels was k g e.
     let here : slice_get groups j ≡ Some old = slice_get_read groups (length groups) j old refl short value in
     ⊎_elim
     (λ h. let named : names label ≡ true = sym (c.in-Some.ensures k) ∙ same j k h.0 in
-    let bytes : c.add.new.self.lines.items ≡ old.lines.items ++ (name ++ codes ":\n") = c.in_ok-add.ensures.lines ∙ ap (λ t. old.lines.items ++ (t ++ codes ":\n")) c.bytes.ensures in
-    let first : c.add.new.self.first ≡ cond (length old.lines.items == 0) (length name) old.first = c.in_ok-add.ensures.first ∙ ap (λ t. cond (length old.lines.items == 0) (length t) old.first) c.bytes.ensures in
+    let bytes : c.add.new.self.lines.items ≡ old.lines.items ++ (name ++ codes ":\n") =
+    c.in_ok-add.ensures.lines ∙ ap (λ t. old.lines.items ++ (t ++ codes ":\n")) c.bytes.ensures in
+    let first : c.add.new.self.first ≡ cond (length old.lines.items == 0) (length name) old.first =
+    c.in_ok-add.ensures.first ∙ ap (λ t. cond (length old.lines.items == 0) (length t) old.first) c.bytes.ensures in
     subst (IsGroup names (labels ++ (name, label) ∷ [])) h.1
     (group_added names labels name label old c.add.new.self named (was k old (ap (slice_get groups) h.0 ∙ here)) bytes first))
     (λ h. group_kept names labels name label g (sym (c.in-Some.ensures k) ∙ other j k h.0) (was k g h.1))

@@ -17,11 +17,15 @@ loop-i-preserved c =
     slice_get-map (λ p. (name_bytes p.0, p.1)) entries i ∙ ap (option_map (λ p. (name_bytes p.0, p.1))) (sym c.in-Some.ensures.entry) in
     record {
       len = grind (arith, common_steps);
-      groups = subst (λ ls. AreGroups c.args.section ls c.add_label.new.groups.items) (sym (take-one_more (named_labels entries) i (name_bytes c.in-Some.name.now, c.in-Some.label.now) there))
+      groups = subst (λ ls. AreGroups c.args.section ls c.add_label.new.groups.items)
+          (sym (take-one_more (named_labels entries) i (name_bytes c.in-Some.name.now, c.in-Some.label.now) there))
           (c.in_ok-add_label.ensures.groups (take i (named_labels entries)) c.loop-i.invariant.groups);
     }
 
 pub returns-clause-groups : goal.returns-clause-groups
 returns-clause-groups c = let e : take c.loop-i.i (named_labels c.args.labels.now.entries) ≡ named_labels c.args.labels.now.entries =
-    take_all c.loop-i.i (named_labels c.args.labels.now.entries) (let n : length (named_labels c.args.labels.now.entries) ≡ length c.args.labels.now.entries = length-map c.args.labels.now.entries (λ p. (name_bytes p.0, p.1)) in omega (arith, c.len-i-end.ensures.len, c.loop-i-test.false)) in
+    take_all c.loop-i.i (named_labels c.args.labels.now.entries)
+    (let n : length (named_labels c.args.labels.now.entries) ≡ length c.args.labels.now.entries =
+    length-map c.args.labels.now.entries (λ p. (name_bytes p.0, p.1))
+    in omega (arith, c.len-i-end.ensures.len, c.loop-i-test.false)) in
     subst (λ ls. AreGroups c.args.section ls c.loop-i.groups.items) e c.loop-i.invariant.groups

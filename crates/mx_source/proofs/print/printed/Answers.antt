@@ -7,7 +7,8 @@ use Rattle.mx_source.proofs.Printing.{whole}
 use Rattle.mx_source.proofs.print.printed.Goals as goal
 
 pub data_section-requires-clause-groups : goal.data_section-requires-clause-groups
-data_section-requires-clause-groups c = subst (λ gs. AreGroups Code (named_labels c.labels-labels.result.now.entries) gs) (sym c.as_slice-2.ensures.value) c.in_ok-places.ensures.groups
+data_section-requires-clause-groups c =
+    subst (λ gs. AreGroups Code (named_labels c.labels-labels.result.now.entries) gs) (sym c.as_slice-2.ensures.value) c.in_ok-places.ensures.groups
 
 pub returns : goal.returns
 returns c = let labels = named_labels c.labels-labels.result.now.entries in

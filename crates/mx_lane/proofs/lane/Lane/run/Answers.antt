@@ -1,6 +1,6 @@
 use Rattle.std.proofs.Common.{◌+◌, sym, ap, ◌∙◌, subst}
 use Rattle.mx_turn.specs.Decoded.{code_in}
-use Rattle.mx_turn.specs.Cycle.{Machine}
+use Rattle.mx_turn.specs.Cycle.{MachineState}
 use Rattle.mx_lane.specs.declared.lane.Lane.{Lane}
 use Rattle.mx_lane.specs.Lanes.{joined, quietly, InTurn}
 use Rattle.mx_lane.proofs.lane.Lane.run.Goals as goal
@@ -8,7 +8,7 @@ use Rattle.mx_lane.proofs.lane.Lane.run.Goals.{After-take}
 use Rattle.mx_lane.proofs.lane.Lane.run.Given as given
 
 -- the lane with its queue apart is in the turn that the lane is in
-apart : (g : given.Over) (c : After-take g) (m : Machine)
+apart : (g : given.Over) (c : After-take g) (m : MachineState)
     → InTurn g.C.FetchCache.holds (code_in c.args.code.now) m c.args.self.now c.args.board.now c.args.cache.now
     → InTurn g.C.FetchCache.holds (code_in c.args.code.now) m (joined c.queue-queue.result c.args.self.now) c.args.board.now c.args.cache.now
 apart g c m h =

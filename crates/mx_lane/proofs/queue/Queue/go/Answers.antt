@@ -1,6 +1,6 @@
 use Rattle.std.proofs.Common.{◌≡◌, ◌+◌, ◌-◌, ◌++◌, arith, append_assoc, sym, ap, ◌∙◌, subst}
 use Rattle.mx_turn.specs.Decoded.{code_in}
-use Rattle.mx_turn.specs.Cycle.{Machine}
+use Rattle.mx_turn.specs.Cycle.{MachineState}
 use Rattle.mx_lane.specs.Lanes.{joined, quietly, later_bytes, InTurn}
 use Rattle.mx_lane.proofs.Turning.{quietly_more, bytes_more}
 use Rattle.mx_lane.proofs.queue.Queue.go.Goals as goal
@@ -27,13 +27,13 @@ loop-left-preserved g c = record {
       let left = c.loop-left.left in
       let n = c.in_ok-cycles.cycles in
       let before = c.loop-left.invariant.turns m h in
-      let x : Machine = quietly code input (most - left) m in
+      let x : MachineState = quietly code input (most - left) m in
       let same = c.loop-left.invariant.input in
       let few = c.in_ok-cycles.ensures.few in
       let room = c.loop-left-test.true in
       let within = c.loop-left.invariant.within in
       let more : (most - left) + n ≡ most - (left - n) = omega (arith, few, room, within) in (
-        subst (λ (y : Machine). InTurn g.C.FetchCache.holds code y (joined c.turn.new.self c.turn.new.lane) c.turn.new.board c.turn.new.cache)
+        subst (λ (y : MachineState). InTurn g.C.FetchCache.holds code y (joined c.turn.new.self c.turn.new.lane) c.turn.new.board c.turn.new.cache)
             ((λ k. quietly code (same k) n x) ∙ sym (quietly_more code input (most - left) n m) ∙ ap (λ k. quietly code input k m) more)
             (c.in_ok-cycles.ensures.next x before.0),
         c.in_ok-cycles.ensures.console x before.0

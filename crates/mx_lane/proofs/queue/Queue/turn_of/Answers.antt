@@ -9,7 +9,7 @@ use Rattle.mx_icache.specs.Residency.{resident}
 use Rattle.mx_turn.specs.Counted.{after_turn}
 use Rattle.mx_turn.specs.Stages.{address_of, live}
 use Rattle.mx_turn.specs.System.{pops, seen}
-use Rattle.mx_turn.specs.Cycle.{Machine, decision}
+use Rattle.mx_turn.specs.Cycle.{MachineState, decision}
 use Rattle.mx_lane.specs.declared.lane.Lane.{Lane}
 use Rattle.mx_lane.specs.Lanes.{lane_of, joined, turn_counts, InTurn}
 use Rattle.mx_lane.proofs.Turning.{goes_on, sends}
@@ -17,7 +17,7 @@ use Rattle.mx_lane.proofs.queue.Queue.turn_of.Goals as goal
 use Rattle.mx_lane.proofs.queue.Queue.turn_of.Goals.{After-count}
 use Rattle.mx_lane.proofs.queue.Queue.turn_of.Given as given
 
-module _ (g : given.Over) (c : After-count g) (code : Code) (m : Machine) (does : c.args.inst.now ≡ live code c.args.self.now.alu)
+module _ (g : given.Over) (c : After-count g) (code : Code) (m : MachineState) (does : c.args.inst.now ≡ live code c.args.self.now.alu)
     (h : InTurn g.C.FetchCache.holds code m (joined c.args.self.now c.args.lane.now) c.args.board.now c.args.cache.now) where
   abbrev from : Lane
   from = joined c.args.self.now c.args.lane.now
@@ -49,7 +49,7 @@ module _ (g : given.Over) (c : After-count g) (code : Code) (m : Machine) (does 
   comes =
       does
       ∙ ap (live code)
-      (sym (ap (λ (x : Machine). x.mem) (c.in-Some.ensures.state c.args.lane.now c.args.board.now h.past h.before m.shown m.counts)))
+      (sym (ap (λ (x : MachineState). x.mem) (c.in-Some.ensures.state c.args.lane.now c.args.board.now h.past h.before m.shown m.counts)))
 
   rest : counted ≡ record committed { counts = counted.counts; missed = counted.missed }
   rest = ap (λ q. joined q c.commit-byte.new.lane) c.count.ensures.rest

@@ -3,7 +3,7 @@ use Rattle.std.proofs.lemmas.Bool.{ne_eqb, eq-eqb}
 use Rattle.mx_delay.specs.Delay.{Code}
 use Rattle.mx_icache.specs.Residency.{resident}
 use Rattle.mx_turn.specs.Counted.{after_stall}
-use Rattle.mx_turn.specs.Cycle.{counts_after, Machine, latched, ended, reached, acted, acted_answer}
+use Rattle.mx_turn.specs.Cycle.{counts_after, MachineState, latched, ended, reached, acted, acted_answer}
 use Rattle.mx_turn.specs.Program.{state_after}
 use Rattle.mx_turn.proofs.Steps.{cycled_halted, cycled_acted, cycled_stalled, answer_acted, answer_stalled}
 use Rattle.mx_pipe.specs.declared.pipe.Pipe.{Pipe}
@@ -24,7 +24,7 @@ pub returns-then-left-gt0-clause-answer : goal.returns-then-left-gt0-clause-answ
 returns-then-left-gt0-clause-answer g c = λ p h s.
     let self = c.args.self.now in
     let u = c.latch_request.new.self in
-    let m : Machine = state_after p h in
+    let m : MachineState = state_after p h in
     let e = c.latch_request.ensures in
     let tied = tied_latched g.C.FetchCache.holds self u p h s c.args.request e.state e.wait e.cache in
     let left : c.left-left.result ≡ m.stall =
@@ -39,8 +39,8 @@ returns-then-left-gt0-clause-next g c = λ p h s.
     let self = c.args.self.now in
     let u = c.latch_request.new.self in
     let q = c.left-left.new.self in
-    let m : Machine = state_after p h in
-    let l : Machine = latched c.args.request m in
+    let m : MachineState = state_after p h in
+    let l : MachineState = latched c.args.request m in
     let e = c.latch_request.ensures in
     let tied = tied_latched g.C.FetchCache.holds self u p h s c.args.request e.state e.wait e.cache in
     let waits = waits_latched g.C.FetchCache.holds self u p h s c.args.request e.state e.wait e.cache in
@@ -63,8 +63,8 @@ returns-clause-answer g c = λ p h s.
     let self = c.args.self.now in
     let u = c.latch_request.new.self in
     let q = c.left-left.new.self in
-    let m : Machine = state_after p h in
-    let l : Machine = latched c.args.request m in
+    let m : MachineState = state_after p h in
+    let l : MachineState = latched c.args.request m in
     let e = c.latch_request.ensures in
     let tied = tied_latched g.C.FetchCache.holds self u p h s c.args.request e.state e.wait e.cache in
     let left : c.left-left.result ≡ m.stall =
@@ -84,8 +84,8 @@ returns-clause-next g c = λ p h s.
     let self = c.args.self.now in
     let u = c.latch_request.new.self in
     let q = c.left-left.new.self in
-    let m : Machine = state_after p h in
-    let l : Machine = latched c.args.request m in
+    let m : MachineState = state_after p h in
+    let l : MachineState = latched c.args.request m in
     let e = c.latch_request.ensures in
     let code : Code = code_of_pipe self in
     let tied = tied_latched g.C.FetchCache.holds self u p h s c.args.request e.state e.wait e.cache in
@@ -96,7 +96,7 @@ returns-clause-next g c = λ p h s.
     let same : code_of_pipe q ≡ code = same_code self q keeps in
     let asked : Holds (code_of_pipe q) q l = subst (λ x. Holds x q l) (sym same) (c.left-left.ensures.state code l tied) in
     let shows : StillShown l.shown l.fetch l.rf l.alu l.mem = record { older = s.shows.older; younger = s.shows.younger } in
-    let end : Machine = ended code (reached code self.board.input l) in
+    let end : MachineState = ended code (reached code self.board.input l) in
     let done : Holds code c.act.new.self end =
     subst (λ x. Holds code c.act.new.self x) (λ k. ended (same k) (reached (same k) (keeps.input k) l))
     (subst (λ x. Holds x c.act.new.self (ended (code_of_pipe q) (reached (code_of_pipe q) q.board.input l))) same (c.act.ensures.state l asked shows)) in

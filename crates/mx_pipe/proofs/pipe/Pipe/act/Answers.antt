@@ -1,7 +1,7 @@
 use Rattle.std.proofs.Common.{◌≡◌, Bool, false, cond, not, ◌&&◌, None, sym, ap, ◌∙◌, subst}
 use Rattle.mx_delay.specs.Delay.{Code}
 use Rattle.mx_turn.specs.Counted.{after_turn}
-use Rattle.mx_turn.specs.Cycle.{Machine, shifted, commit_byte, reached, turned, is_taken, decision}
+use Rattle.mx_turn.specs.Cycle.{MachineState, shifted, commit_byte, reached, turned, is_taken, decision}
 use Rattle.mx_pipe.specs.declared.alu.Course.TheVariants.{To}
 use Rattle.mx_pipe.specs.declared.memory.Signal.TheVariants.{Nothing}
 use Rattle.mx_pipe.specs.declared.pipe.Pipe.{Pipe}
@@ -13,14 +13,14 @@ use Rattle.mx_pipe.proofs.pipe.Pipe.act.Goals.{After-end-taken, After-halts}
 use Rattle.mx_pipe.proofs.pipe.Pipe.act.Given as given
 
 -- where the turn ends as most do
-module _ (g : given.Over) (c : After-end-taken g) (m : Machine) (h : Holds (code_of_pipe c.args.self.now) c.args.self.now m) (s : Shows m) where
+module _ (g : given.Over) (c : After-end-taken g) (m : MachineState) (h : Holds (code_of_pipe c.args.self.now) c.args.self.now m) (s : Shows m) where
   abbrev before : Pipe g.row.C.Denot
   before = c.args.self.now
 
   abbrev code : Code
   code = code_of_pipe before
 
-  abbrev r : Machine
+  abbrev r : MachineState
   r = reached code before.board.input m
 
   shown : Holds code c.step-signal.new.self r
@@ -64,14 +64,14 @@ returns-then-ends_plainly-clause-counts g c = λ m h s d.
     ∙ (λ k. after_turn (missed k) (not (on g c m h s k) && (not taken && cancels)) (not (on g c m h s k) && taken) (same k))
 
 -- where it ends otherwise
-module _ (g : given.Over) (c : After-halts g) (m : Machine) (h : Holds (code_of_pipe c.args.self.now) c.args.self.now m) (s : Shows m) where
+module _ (g : given.Over) (c : After-halts g) (m : MachineState) (h : Holds (code_of_pipe c.args.self.now) c.args.self.now m) (s : Shows m) where
   abbrev before' : Pipe g.row.C.Denot
   before' = c.args.self.now
 
   abbrev code' : Code
   code' = code_of_pipe before'
 
-  abbrev r' : Machine
+  abbrev r' : MachineState
   r' = reached code' before'.board.input m
 
   shown' : Holds code' c.step-signal.new.self r'

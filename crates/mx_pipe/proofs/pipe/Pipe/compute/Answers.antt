@@ -5,7 +5,7 @@ use Rattle.mx_isa.specs.Words.{reg}
 use Rattle.mx_delay.specs.Delay.{Code}
 use Rattle.mx_turn.specs.Stages.{live, address_of}
 use Rattle.mx_turn.specs.System.{seen, number_of}
-use Rattle.mx_turn.specs.Cycle.{Machine, first, second}
+use Rattle.mx_turn.specs.Cycle.{MachineState, first, second}
 use Rattle.mx_pipe.specs.Made.{allowed, passed, md_behind, md_kept}
 use Rattle.mx_pipe.specs.Courses.{course_of, target_of}
 use Rattle.mx_pipe.specs.Kept.{Commits}
@@ -14,7 +14,7 @@ use Rattle.mx_pipe.proofs.pipe.Pipe.compute.Goals as goal
 use Rattle.mx_pipe.proofs.pipe.Pipe.compute.Goals.{After-make}
 use Rattle.mx_pipe.proofs.pipe.Pipe.compute.Given as given
 
-module _ (g : given.Over) (c : After-make g) (code : Code) (m : Machine) (h : Commits code c.args.self.now m) where
+module _ (g : given.Over) (c : After-make g) (code : Code) (m : MachineState) (h : Commits code c.args.self.now m) where
   a_is : c.make.new.alu.a ≡ first code m
   a_is =
       c.make.ensures.a (slice_index c.args.self.now.file) (h.alu.a ∙ (λ k. reg (slice_index c.args.self.now.file) (sources (sym h.alu.inst k)).0))

@@ -1,7 +1,7 @@
 use Rattle.std.proofs.Common.{◌≡◌, Bool, true, false, ◌&&◌, cond, refl, sym, ◌∙◌, subst}
 use Rattle.std.specs.Prelude.{is_some}
 use Rattle.mx_delay.specs.Delay.{Code}
-use Rattle.mx_turn.specs.Cycle.{Machine, is_taken, entered, decided}
+use Rattle.mx_turn.specs.Cycle.{MachineState, is_taken, entered, decided}
 use Rattle.mx_pipe.specs.Kept.{Holds}
 use Rattle.mx_pipe.proofs.pipe.Pipe.end.Goals as goal
 use Rattle.mx_pipe.proofs.pipe.Pipe.end.Goals.{After-decide, then-self+else-may_enter, else-self}
@@ -12,7 +12,7 @@ no_request : (on holds : Bool) → (on && (false && holds)) ≡ false
 no_request true holds = refl
 no_request false holds = refl
 
-not_taken : (g : given.Over) (c : After-decide g) (code : Code) (m : Machine) → Holds code c.args.self.now m → is_taken m ≡ false
+not_taken : (g : given.Over) (c : After-decide g) (code : Code) (m : MachineState) → Holds code c.args.self.now m → is_taken m ≡ false
 not_taken g c code m h = elim c.if-self.branch [
   | then-self+else-may_enter w ↦ sym (w.may_enter.ensures code m h w.if-self.true) ∙ w.if-may_enter.false
   | else-self w ↦

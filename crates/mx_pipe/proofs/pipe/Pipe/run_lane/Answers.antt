@@ -10,7 +10,7 @@ use Rattle.mx_turn.specs.declared.machine.Cycled.{Cycled}
 use Rattle.mx_turn.specs.Counted.{after_turn}
 use Rattle.mx_turn.specs.Decoded.{code_in}
 use Rattle.mx_turn.specs.Stages.{live}
-use Rattle.mx_turn.specs.Cycle.{Machine, shifted, committed, commit_byte, showing, ended, squashes, takes}
+use Rattle.mx_turn.specs.Cycle.{MachineState, shifted, committed, commit_byte, showing, ended, squashes, takes}
 use Rattle.mx_turn.specs.Program.{Program, code_with, code_of, state_after, answer_after, quiet, quiet_bytes}
 use Rattle.mx_turn.proofs.Steps.{answer_acted}
 use Rattle.mx_lane.specs.declared.lane.Lane.{Lane}
@@ -32,14 +32,14 @@ module _ (g : given.Over) (c : After-finish g) (p : Program) (h : List Bool) (s 
   abbrev code : Code
   code = code_of p
 
-  abbrev m : Machine
+  abbrev m : MachineState
   m = state_after p h
 
   -- once the word in MEM has committed
   abbrev q : Pipe g.row.C.Denot
   q = c.commit-reached.new.self
 
-  abbrev n0 : Machine
+  abbrev n0 : MachineState
   n0 = committed code self.board.input (shifted m)
 
   abbrev n : ℕ
@@ -91,7 +91,7 @@ module _ (g : given.Over) (c : After-finish g) (p : Program) (h : List Bool) (s 
     missed = c.lane-lane.ensures.missed ∙ sym (ap not here);
     replaced =
         c.lane-lane.ensures.replaced code n0 commits
-        ∙ (λ k. reg m.core.regs (dest (live (decodes k) (sym (ap (λ (x : Machine). x.mem) begins) k))));
+        ∙ (λ k. reg m.core.regs (dest (live (decodes k) (sym (ap (λ (x : MachineState). x.mem) begins) k))));
     held =
         subst (λ x. g.C.FetchCache.holds x (m.next.address ∷ m.past)) (sym c.commit-reached.ensures.cache)
         (subst (λ f. g.C.FetchCache.holds self.cache (f.address ∷ m.past)) s.tied.rest.next (c.requires.cache m.past waits.0));
@@ -117,7 +117,7 @@ module _ (g : given.Over) (c : After-finish g) (p : Program) (h : List Bool) (s 
   abbrev t : Pipe g.row.C.Denot
   t = c.take_back-left.new.self
 
-  abbrev z : Machine
+  abbrev z : MachineState
   z = cut g.C.FetchCache.holds self c.finish.new.self p h n s last c.run.new.board c.run.new.cache ran (c.in_ok-turns.ensures.input ∙ input_is) q.shown
 
   keeps_r : KeepsProgram self r

@@ -1,6 +1,6 @@
 use Rattle.std.proofs.Common.{◌≡◌, sym, subst}
 use Rattle.mx_delay.specs.Delay.{Code}
-use Rattle.mx_turn.specs.Cycle.{Machine, shifted, committed}
+use Rattle.mx_turn.specs.Cycle.{MachineState, shifted, committed}
 use Rattle.mx_pipe.specs.declared.pipe.Pipe.{Pipe}
 use Rattle.mx_pipe.specs.Kept.{code_of_pipe, Holds, Commits}
 use Rattle.mx_pipe.proofs.Stands.{same_code}
@@ -8,7 +8,7 @@ use Rattle.mx_pipe.proofs.pipe.Pipe.step.Goals as goal
 use Rattle.mx_pipe.proofs.pipe.Pipe.step.Goals.{After-show}
 use Rattle.mx_pipe.proofs.pipe.Pipe.step.Given as given
 
-module _ (g : given.Over) (c : After-show g) (m : Machine) (h : Holds (code_of_pipe c.args.self.now) c.args.self.now m) where
+module _ (g : given.Over) (c : After-show g) (m : MachineState) (h : Holds (code_of_pipe c.args.self.now) c.args.self.now m) where
   abbrev p : Pipe g.row.C.Denot
   p = c.args.self.now
 
@@ -16,7 +16,7 @@ module _ (g : given.Over) (c : After-show g) (m : Machine) (h : Holds (code_of_p
   code = code_of_pipe p
 
   -- once the word in MEM has committed
-  abbrev n : Machine
+  abbrev n : MachineState
   n = committed code p.board.input (shifted m)
 
   same : code_of_pipe c.commit-reached.new.self ≡ code

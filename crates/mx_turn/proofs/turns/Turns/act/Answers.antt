@@ -7,7 +7,7 @@ use Rattle.mx_turn.specs.declared.latches.Latches.{Latches}
 use Rattle.mx_turn.specs.declared.turns.Turns.{Turns}
 use Rattle.mx_turn.specs.Counted.{after_turn}
 use Rattle.mx_turn.specs.Decoded.{code_in}
-use Rattle.mx_turn.specs.Cycle.{Machine, showing, reached, ended, takes, squashes, waited, acted}
+use Rattle.mx_turn.specs.Cycle.{MachineState, showing, reached, ended, takes, squashes, waited, acted}
 use Rattle.mx_turn.specs.Kept.{code_of_turns, machine_of, shown_of}
 use Rattle.mx_turn.proofs.Steps.{acted_is}
 use Rattle.mx_turn.proofs.turns.Turns.act.Goals as goal
@@ -33,7 +33,7 @@ module _ (g : given.Over) (c : After-wait g) (past : List ℕ) (before : Words) 
   abbrev code : Code
   code = code_of_turns s0
 
-  abbrev m : Machine
+  abbrev m : MachineState
   m = machine_of s0 past before shown
 
   abbrev past' : List ℕ
@@ -49,7 +49,7 @@ module _ (g : given.Over) (c : After-wait g) (past : List ℕ) (before : Words) 
   same2 = ap code_in c.show.ensures.program.code ∙ same1
 
   -- the machine once the stages of the turn are shown
-  abbrev reaches : Machine
+  abbrev reaches : MachineState
   reaches = machine_of s2 past' before' (shown_of s2)
 
   reaches_is : reaches ≡ reached code s0.board.input m
@@ -67,13 +67,13 @@ module _ (g : given.Over) (c : After-wait g) (past : List ℕ) (before : Words) 
   shown_is = c.wait.ensures.shown ∙ c.end-ended.ensures.shown
 
   waits_is : g.C.FetchCache.holds s0.cache past'
-      → (let d : Machine = machine_of s3 past' before' (shown_of s2) in
-      let n : Machine = record d { counts = after_turn s3.missed c.end-ended.result.squashed c.end-ended.result.taken m.counts } in
+      → (let d : MachineState = machine_of s3 past' before' (shown_of s2) in
+      let n : MachineState = record d { counts = after_turn s3.missed c.end-ended.result.squashed c.end-ended.result.taken m.counts } in
       machine_of s5 past' before' (shown_of s5) ≡ waited resident n)
   waits_is holds =
       c.wait.ensures.state past' before' (shown_of s5)
       (subst (λ x. g.C.FetchCache.holds x past') (sym (c.end-ended.ensures.cache ∙ c.show.ensures.cache ∙ c.commit-byte.ensures.cache)) holds)
-      ∙ (λ k. let d : Machine = machine_of s3 past' before' (shown_is k) in let n : Machine = record d { counts = counts_is k } in waited resident n)
+      ∙ (λ k. let d : MachineState = machine_of s3 past' before' (shown_is k) in let n : MachineState = record d { counts = counts_is k } in waited resident n)
 
   acts : g.C.FetchCache.holds s0.cache past' → s0.missed ≡ not (resident past s0.next.address)
       → machine_of s5 past' before' (shown_of s5) ≡ acted resident code s0.board.input m

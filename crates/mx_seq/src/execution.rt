@@ -29,7 +29,7 @@ pub(crate) enum Mark {
 
 /// A state of a program.
 #[derive(Drop)]
-pub(crate) struct Machine {
+pub(crate) struct Execution {
     pub(crate) index: u32,
     pub(crate) registers: Registers,
     pub(crate) md: u32,
@@ -38,15 +38,15 @@ pub(crate) struct Machine {
     pub(crate) mark: Mark,
 }
 
-impl Machine {
+impl Execution {
     ghost use Rattle.mx_seq.specs.Terms.{from_input, goes, stuck, perform, jumps, branches, execute, silent, Halted, InstFits, IsPlain, value_in};
     ghost use Rattle.mx_seq.specs.Programs.{Fits};
     ghost use Rattle.mx_seq.specs.Lists.{values_of};
-    ghost use Rattle.mx_seq.specs.Machines.{Does, machine_state, sum_from, takes};
+    ghost use Rattle.mx_seq.specs.Executions.{Does, execution_state, sum_from, takes};
 
     /// The run is stuck.
     pub(crate) fn stick(&mut self, why: Why) -> Stepped
-        ensures { Does (stuck why (machine_state self.old)) self.old self.new result }
+        ensures { Does (stuck why (execution_state self.old)) self.old self.new result }
     {
         self.mark = Mark::Stuck(why);
         Stepped::Stuck(why)
@@ -55,7 +55,7 @@ impl Machine {
     /// Goes to an index, and puts a value into a register.
     fn go(&mut self, target: u32, dest: Reg, value: Value) -> Stepped
         requires { self.old.mark ≡ Mark.Going }
-        ensures { Does (goes target dest value (machine_state self.old)) self.old self.new result }
+        ensures { Does (goes target dest value (execution_state self.old)) self.old self.new result }
     {
         self.registers.set(dest, value);
         self.index = target;
@@ -66,7 +66,7 @@ impl Machine {
     fn jump(&mut self, a: Reg, dest: Reg) -> Stepped
         requires going { self.old.mark ≡ Mark.Going }
         requires inside { self.old.index < MAX_STATEMENTS }
-        ensures { Does (jumps (value_in (values_of self.old.registers) a) dest (machine_state self.old)) self.old self.new result }
+        ensures { Does (jumps (value_in (values_of self.old.registers) a) dest (execution_state self.old)) self.old self.new result }
     {
         match self.registers.get(a) {
             Value::Int(_) => self.stick(Why::JumpNotCode),
@@ -78,7 +78,7 @@ impl Machine {
     fn branch(&mut self, a: Reg, b: Reg, cond: Cond, target: u32) -> Stepped
         requires going { self.old.mark ≡ Mark.Going }
         requires inside { self.old.index < MAX_STATEMENTS }
-        ensures { Does (branches a b cond target (machine_state self.old)) self.old self.new result }
+        ensures { Does (branches a b cond target (execution_state self.old)) self.old self.new result }
     {
         let (Value::Int(x), Value::Int(y)) = (self.registers.get(a), self.registers.get(b)) else {
             return self.stick(Why::CodeOperand);
@@ -95,7 +95,7 @@ impl Machine {
     fn put(&mut self, dest: Reg, value: Value) -> Stepped
         requires going { self.old.mark ≡ Mark.Going }
         requires inside { self.old.index < MAX_STATEMENTS }
-        ensures { Does (goes (suc self.old.index) dest value (machine_state self.old)) self.old self.new result }
+        ensures { Does (goes (suc self.old.index) dest value (execution_state self.old)) self.old self.new result }
     {
         self.go(self.index + 1, dest, value)
     }
@@ -115,7 +115,7 @@ impl Machine {
         requires going { self.old.mark ≡ Mark.Going }
         requires inside { self.old.index < MAX_STATEMENTS }
         requires room { length self.old.user_data ≡ program.now.place.end }
-        ensures { Does (perform program.now (Inst.Load base dest offset) (machine_state self.old)) self.old self.new result }
+        ensures { Does (perform program.now (Inst.Load base dest offset) (execution_state self.old)) self.old self.new result }
     {
         match self.sum(base, offset) {
             Some(address) if program.is_user(address) => {
@@ -133,7 +133,7 @@ impl Machine {
         requires going { self.old.mark ≡ Mark.Going }
         requires inside { self.old.index < MAX_STATEMENTS }
         requires input { is_some program.now.input ≡ true }
-        ensures { Does (takes (from_input program.now.input self.old.taken) dest (machine_state self.old)) self.old self.new result }
+        ensures { Does (takes (from_input program.now.input self.old.taken) dest (execution_state self.old)) self.old self.new result }
     {
         match program.byte(self.taken) {
             Some(byte) => {
@@ -149,7 +149,7 @@ impl Machine {
         requires going { self.old.mark ≡ Mark.Going }
         requires inside { self.old.index < MAX_STATEMENTS }
         requires room { length self.old.user_data ≡ program.now.place.end }
-        ensures { Does (perform program.now (Inst.Store base value offset) (machine_state self.old)) self.old self.new result }
+        ensures { Does (perform program.now (Inst.Store base value offset) (execution_state self.old)) self.old self.new result }
     {
         let Some(address) = self.sum(base, offset) else {
             return self.stick(Why::CodeOperand);
@@ -177,7 +177,7 @@ impl Machine {
         requires going { self.old.mark ≡ Mark.Going }
         requires inside { self.old.index < MAX_STATEMENTS }
         requires fits { CountFits op }
-        ensures { Does (perform program.now (Inst.Compute a dest b op) (machine_state self.old)) self.old self.new result }
+        ensures { Does (perform program.now (Inst.Compute a dest b op) (execution_state self.old)) self.old self.new result }
     {
         let first = self.registers.get(a);
         let (Value::Int(x), Value::Int(y)) = (first, self.registers.get(b)) else {
@@ -196,7 +196,7 @@ impl Machine {
     fn add(&mut self, program: &Program, a: Reg, dest: Reg, imm: i32) -> Stepped
         requires going { self.old.mark ≡ Mark.Going }
         requires inside { self.old.index < MAX_STATEMENTS }
-        ensures { Does (perform program.now (Inst.Addi a dest imm) (machine_state self.old)) self.old self.new result }
+        ensures { Does (perform program.now (Inst.Addi a dest imm) (execution_state self.old)) self.old self.new result }
     {
         match self.sum(a, imm) {
             Some(sum) => self.put(dest, Value::Int(sum)),
@@ -208,7 +208,7 @@ impl Machine {
     fn move_to(&mut self, program: &Program, a: Reg) -> Stepped
         requires going { self.old.mark ≡ Mark.Going }
         requires inside { self.old.index < MAX_STATEMENTS }
-        ensures { Does (perform program.now (Inst.MoveTo a Special.Md) (machine_state self.old)) self.old self.new result }
+        ensures { Does (perform program.now (Inst.MoveTo a Special.Md) (execution_state self.old)) self.old self.new result }
     {
         let Value::Int(x) = self.registers.get(a) else {
             return self.stick(Why::CodeOperand);
@@ -222,7 +222,7 @@ impl Machine {
     fn move_from(&mut self, program: &Program, dest: Reg) -> Stepped
         requires going { self.old.mark ≡ Mark.Going }
         requires inside { self.old.index < MAX_STATEMENTS }
-        ensures { Does (perform program.now (Inst.MoveFrom dest Special.Md) (machine_state self.old)) self.old self.new result }
+        ensures { Does (perform program.now (Inst.MoveFrom dest Special.Md) (execution_state self.old)) self.old self.new result }
     {
         self.put(dest, Value::Int(self.md))
     }
@@ -234,7 +234,7 @@ impl Machine {
         requires room { length self.old.user_data ≡ program.now.place.end }
         requires plain { IsPlain inst.now }
         requires fits { InstFits inst.now }
-        ensures { Does (perform program.now inst.now (machine_state self.old)) self.old self.new result }
+        ensures { Does (perform program.now inst.now (execution_state self.old)) self.old self.new result }
     {
         match inst {
             Inst::Load { base, dest, offset } => self.load(program, *base, *dest, *offset),
@@ -263,7 +263,7 @@ impl Machine {
         requires inside { self.old.index < MAX_STATEMENTS }
         requires room { length self.old.user_data ≡ program.now.place.end }
         requires fits { Fits statement.now }
-        ensures { Does (execute program.now (Some statement.now) (machine_state self.old)) self.old self.new result }
+        ensures { Does (execute program.now (Some statement.now) (execution_state self.old)) self.old self.new result }
     {
         match statement {
             Statement::Plain(inst) => self.perform(program, inst),
@@ -280,7 +280,7 @@ impl Machine {
 
     /// The run halts.
     fn halt(&mut self) -> Stepped
-        ensures { Does (silent (record (machine_state self.old) { mark = Halted })) self.old self.new result }
+        ensures { Does (silent (record (execution_state self.old) { mark = Halted })) self.old self.new result }
     {
         self.mark = Mark::Halted;
         Stepped::Halted

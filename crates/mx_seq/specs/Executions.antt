@@ -9,12 +9,12 @@ use Rattle.mx_source.specs.Meaning.{State, Step, goes}
 use Rattle.mx_seq.specs.Lists.{values_of}
 use Rattle.mx_seq.specs.Marks.{mark_of}
 use Rattle.mx_seq.specs.Answers.{answer_of}
-use Rattle.mx_seq.specs.declared.machine.Machine.{Machine}
-use Rattle.mx_seq.specs.declared.machine.Stepped.{Stepped}
+use Rattle.mx_seq.specs.declared.execution.Execution.{Execution}
+use Rattle.mx_seq.specs.declared.execution.Stepped.{Stepped}
 
 -- the state that the code keeps
-abbrev pub machine_state : Machine → State
-machine_state m = record {
+abbrev pub execution_state : Execution → State
+execution_state m = record {
   index = m.index;
   regs = values_of m.registers;
   md = m.md;
@@ -24,8 +24,8 @@ machine_state m = record {
 }
 
 -- a call did this step, and answered it
-pub record Does (step : Step) (old new : Machine) (result : Stepped) : Type 0 where
-  pub after : machine_state new ≡ step.after
+pub record Does (step : Step) (old new : Execution) (result : Stepped) : Type 0 where
+  pub after : execution_state new ≡ step.after
   pub answer : result ≡ answer_of step
   pub room : length new.user_data ≡ length old.user_data
 
