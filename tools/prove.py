@@ -1,12 +1,15 @@
 #!/usr/bin/env python3
-"""Proves and builds the crates below one crate or several, side by side: each as soon as those that it stands on are done.
+"""Proves and builds the crates below one crate or several, side by side: each as soon as those that it stands on are done, and
+first those on which the longest chain of others waits.
 
 usage: tools/prove.py CRATE .. LOG
 
-Only one rt works in a crate at a time, and it holds the crates below too. So a single one, `rt all`, proves a copy of just these
-crates, which has the folders out/ of the repository's own as long as it lasts. What rt prints goes to the file LOG. Standard
-error tells each crate that is done. The exit status is 0 where all are proved, else 1; after an interrupt what is done stays.
+Only one rt works in a crate at a time, and it holds the crates below too. So each crate is proved in a room of its own, which has
+the files of the crate and of those below it, and links to what was built of these. What is built moves to the repository as soon
+as it is done. What rt prints goes to the file LOG. Standard error tells each crate that is done. The exit status is 0 where all
+are proved, else 1; after an interrupt what is done stays.
 """
+import concurrent.futures
 import os
 import shutil
 import subprocess
@@ -15,19 +18,24 @@ import tempfile
 import time
 
 # From nothing on four processors; what is done is kept.
-ABOUT = "From nothing this takes half an hour to an hour; what is done is kept"
+ABOUT = "From nothing this takes a quarter of an hour to half an hour; what is done is kept"
 TOP = os.path.dirname(os.path.dirname(os.path.abspath(__file__)))
+# What a check takes of memory, and how many jobs are of use to one.
+BYTES_A_JOB = 2_000_000_000
+MOST_JOBS = 4
+# About what a check takes, in hundredths of seconds: the libraries, a line of code, a line of a definition or a proof.
+COST_OF_LIBRARIES, COST_OF_CODE, COST_OF_PROOF = 1500, 8, 1
 
 
 def read_crates():
-    """Returns for each crate of crates.txt its line, and the crates of the repository that it names."""
+    """Returns for each crate of crates.txt its line, and the crates of the repository that it names, in order from below."""
     with open(f"{TOP}/crates.txt", encoding="utf-8") as lines:
         rows = {line.split(":")[0].split()[0]: line for line in lines if ":" in line.split("#")[0]}
     return rows, {crate: [it for it in line.split(":")[1].split() if it in rows] for crate, line in rows.items()}
 
 
 def crates_below(crates, named):
-    """Returns all crates that these stand on."""
+    """Returns all crates that these stand on, in order from below."""
     found = set()
     left = [below for crate in crates for below in named[crate]]
     while left:
@@ -35,30 +43,112 @@ def crates_below(crates, named):
         if it not in found:
             found.add(it)
             left += named[it]
-    return sorted(found)
+    return [it for it in named if it in found]
 
 
-def move_out(crates, source, target):
-    """Moves what was proved of the crates from one copy of them to another."""
-    for it in crates:
-        if os.path.isdir(f"{source}/crates/{it}/out"):
-            shutil.rmtree(f"{target}/crates/{it}/out", ignore_errors=True)
-            shutil.move(f"{source}/crates/{it}/out", f"{target}/crates/{it}/out")
+def places():
+    """Returns how many checks this machine has room for."""
+    memory = os.sysconf("SC_PAGE_SIZE") * os.sysconf("SC_PHYS_PAGES")
+    return max(1, min(os.cpu_count() or 1, memory // BYTES_A_JOB))
 
 
-def prove(folder, below, log):
-    """Proves these crates, all of the folder, and tells each that is done."""
-    # (a crate that waits for another one holds a place)
-    places = (os.cpu_count() or 1) + 2
-    began, done = time.monotonic(), 0
-    with subprocess.Popen(["rt", "all", "check", "--jobs", str(places)], cwd=folder, stdin=subprocess.DEVNULL,
-                          stdout=subprocess.PIPE, stderr=subprocess.STDOUT, text=True, errors="replace") as run:
-        for line in run.stdout:
-            log.write(line)
-            if line.startswith("== ") and line[3:].strip() in below:
-                done += 1
-                print(f"mx: {line[3:].strip()} is done, {done} of {len(below)}, after {time.monotonic() - began:.0f} s", file=sys.stderr, flush=True)
-    return run.returncode
+def cost(folder):
+    """Returns about what the check of the crate in this folder takes."""
+    found = COST_OF_LIBRARIES
+    for at, _, names in os.walk(folder):
+        for name in names:
+            with open(f"{at}/{name}", "rb") as it:
+                found += sum(1 for _ in it) * (COST_OF_CODE if name.endswith(".rt") else COST_OF_PROOF)
+    return found
+
+
+def chains(below, named, folder):
+    """Returns what the dearest chain of crates costs that begins with each of these."""
+    found = {}
+    for crate in reversed(below):
+        above = [found[it] for it in found if crate in named[it]]
+        found[crate] = cost(f"{folder}/{crate}") + max(above, default=0)
+    return found
+
+
+def link(source, target):
+    """Links a file, or copies it where the disk has no links."""
+    try:
+        os.link(source, target)
+    except OSError:
+        shutil.copy2(source, target)
+
+
+class Rooms:
+    """A folder with a copy of the crates' files, and a room for each crate that is being proved."""
+
+    def __init__(self, folder, rows, named, below):
+        self.folder, self.rows, self.named = folder, rows, named
+        for crate in below:
+            shutil.copytree(f"{TOP}/crates/{crate}", f"{folder}/files/{crate}", ignore=shutil.ignore_patterns("out", "must-fail"))
+
+    def furnish(self, crate):
+        """Makes the crate's room, and returns its folder there, which has what earlier runs left in out/."""
+        room, below = f"{self.folder}/{crate}", crates_below([crate], self.named)
+        for it in [*below, crate]:
+            shutil.copytree(f"{self.folder}/files/{it}", f"{room}/crates/{it}", copy_function=link)
+        for it in below:
+            shutil.copytree(f"{TOP}/crates/{it}/out/rlib", f"{room}/crates/{it}/out/rlib", copy_function=link)
+        with open(f"{room}/crates.txt", "w", encoding="utf-8") as file:
+            file.writelines(self.rows[it] for it in [*below, crate])
+        shutil.copy(f"{TOP}/HANDLES", room)
+        if os.path.isdir(f"{TOP}/crates/{crate}/out"):
+            shutil.move(f"{TOP}/crates/{crate}/out", f"{room}/crates/{crate}/out")
+        return f"{room}/crates/{crate}"
+
+    def clear(self, crate):
+        """Moves what was built of the crate to the repository, and removes its room."""
+        room = f"{self.folder}/{crate}"
+        if os.path.isdir(f"{room}/crates/{crate}/out"):
+            shutil.move(f"{room}/crates/{crate}/out", f"{TOP}/crates/{crate}/out")
+        shutil.rmtree(room, ignore_errors=True)
+
+    def prove(self, crate, jobs):
+        """Proves and builds the crate, and returns whether that went well, and what rt printed."""
+        try:
+            words = ["rt", "lib", "--jobs", str(jobs)]
+            run = subprocess.run(words, cwd=self.furnish(crate), stdin=subprocess.DEVNULL, stdout=subprocess.PIPE,
+                                 stderr=subprocess.STDOUT, text=True, errors="replace", check=False)
+            return run.returncode == 0, f"== {crate}\n{run.stdout}"
+        finally:
+            self.clear(crate)
+
+
+def prove(rooms, below, log):
+    """Proves these crates, tells each that is done, and returns whether all are."""
+    chain, began = chains(below, rooms.named, f"{rooms.folder}/files"), time.monotonic()
+    done, running, failed, idle = set(), {}, [], places()
+    with concurrent.futures.ThreadPoolExecutor(idle) as pool:
+        while True:
+            started = {crate for crate, _ in running.values()} | done
+            ready = [it for it in below if it not in started and done.issuperset(rooms.named[it])]
+            ready.sort(key=chain.get)
+            while ready and idle > 0 and not failed:
+                # (where there are more places than crates that can begin, a crate takes several)
+                jobs = max(1, min(idle // len(ready), MOST_JOBS))
+                crate = ready.pop()
+                running[pool.submit(rooms.prove, crate, jobs)] = crate, jobs
+                idle -= jobs
+            if not running:
+                # (what went wrong comes last)
+                log.writelines(failed)
+                return not failed
+            for run in concurrent.futures.wait(running, return_when=concurrent.futures.FIRST_COMPLETED).done:
+                (crate, jobs), (is_proved, said) = running.pop(run), run.result()
+                idle += jobs
+                if is_proved:
+                    log.write(said)
+                    done.add(crate)
+                    how = f"is done, {len(done)} of {len(below)},"
+                else:
+                    failed.append(said)
+                    how = "is not proved,"
+                print(f"mx: {crate} {how} after {time.monotonic() - began:.0f} s", file=sys.stderr, flush=True)
 
 
 def main(crates, log_name):
@@ -68,24 +158,17 @@ def main(crates, log_name):
         print(f"mx: crates.txt has no crate {', '.join(unknown)}", file=sys.stderr)
         return 1
     below = crates_below(crates, named)
+    print(f"mx: {len(below)} crates stand below {' and '.join(crates)}. {ABOUT}", file=sys.stderr, flush=True)
     # on the same disk as the repository, where that has a folder that nothing else reads
     room = f"{TOP}/.git" if os.path.isdir(f"{TOP}/.git") else None
     folder = tempfile.mkdtemp(prefix="mx-prove-", dir=room)
     try:
-        with open(f"{folder}/crates.txt", "w", encoding="utf-8") as it:
-            it.writelines(rows[name] for name in below)
-        shutil.copy(f"{TOP}/HANDLES", folder)
-        for name in below:
-            shutil.copytree(f"{TOP}/crates/{name}", f"{folder}/crates/{name}", ignore=shutil.ignore_patterns("out"))
-        move_out(below, TOP, folder)
-        print(f"mx: {len(below)} crates stand below {' and '.join(crates)}. {ABOUT}", file=sys.stderr, flush=True)
         with open(log_name, "a", encoding="utf-8") as log:
-            return 1 if prove(folder, below, log) else 0
+            return 0 if prove(Rooms(folder, rows, named, below), below, log) else 1
     except KeyboardInterrupt:
         print("mx: stopped; the next call goes on behind the crates that are done", file=sys.stderr)
         return 1
     finally:
-        move_out(below, folder, TOP)
         shutil.rmtree(folder, ignore_errors=True)
 
 
