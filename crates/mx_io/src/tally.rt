@@ -1,8 +1,8 @@
 //! What a shelf counts and logs.
-ghost use Rattle.std.specs.Prelude.{◌≡◌, []};
-ghost use Rattle.mx_io.specs.Shelves.{no_reads};
+ghost use Rattle.std.specs.Prelude.{◌≡◌, [], IfOk};
+ghost use Rattle.mx_io.specs.Shelves.{no_reads, with_read};
 
-use crate::{ReadLog, WriteLog};
+use crate::{ByteLog, ReadLog, ShelfFault, WriteLog};
 
 /// The counts of a shelf, and its logs.
 #[derive(Drop)]
@@ -32,6 +32,24 @@ impl Tally {
             write_faults: 0,
             log: ReadLog::new(),
             wrote: WriteLog::new(),
+        }
+    }
+
+    /// Logs what a read gave back; where it gave bytes, they are those that came.
+    pub(crate) fn note_read(
+        &mut self,
+        name: &str,
+        limit: usize,
+        came: &ByteLog,
+        answer: &Result<Vec<u8>, ShelfFault>,
+    )
+        requires came { IfOk answer.now (λ v. came.now.bytes ≡ v.items) }
+        ensures log { self.new.log.reads ≡ with_read self.old.log.reads name.now limit answer.now }
+        ensures rest { self.new ≡ record self.old { log = self.new.log } }
+    {
+        match answer {
+            Ok(_) => self.log.given(name, limit, came),
+            Err(fault) => self.log.refused(name, limit, *fault),
         }
     }
 }

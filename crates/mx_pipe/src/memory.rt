@@ -132,10 +132,7 @@ pub fn reach(
         }
         Some(Inst::Store { .. }) => Reached {
             signal: sends_byte(memory.store(alu.result, alu.b, psw.current.user)),
-            to: Reg::ZERO,
-            passes: Reg::ZERO,
-            word: alu.result,
-            passed: 0,
+            ..writes(Reg::ZERO, alu.result)
         },
         Some(Inst::Compute { dest, .. }) => {
             *md = alu.md;
