@@ -12,6 +12,7 @@ use Rattle.mx_asm.specs.declared.directive.Directive.TheVariants as d
 use Rattle.mx_lines.specs.Words.{Word, Name, Colon, words_of}
 use Rattle.mx_lines.specs.Operands.{label_named}
 use Rattle.mx_lines.specs.Instructions.{Labels}
+use Rattle.mx_lines.specs.declared.labels.TheConstants.{PAST_END}
 use Rattle.mx_asm.specs.Directives.{is_dotted, directive_named, space_count}
 
 -- the names at the front of a line that a `:` follows
@@ -75,14 +76,13 @@ word_count (Name name ∷ words) = if is_dotted name then asked (directive_named
 word_count _ = 0
 
 -- where the line behind a statement stands: its section, the index of the next instruction and the address of the next data word.
--- Addresses past the end of memory count as 65537.
+-- Addresses past the end of memory count as `PAST_END`.
 unfoldable pub behind : Position → List Word → Position
 behind p statement =
     record {
       section = section_after p.section statement;
       index = p.index + instruction_count statement;
-      address = min
-          (p.address + word_count statement) 65537;
+      address = min (p.address + word_count statement) PAST_END;
     }
 
 -- where the line behind a line of these words stands

@@ -4,6 +4,7 @@ pub use Rattle.mx_isa.specs.declared.board.TheConstants.{DATA_BASE, DATA_END, MA
 pub use Rattle.mx_lex.specs.Lines.{lines_of}
 pub use Rattle.mx_lines.specs.Fitting.{LabelsFit}
 pub use Rattle.mx_lines.specs.LabelTable.{IsNear}
+pub use Rattle.mx_lines.specs.declared.labels.TheConstants.{PAST_END}
 pub use Rattle.mx_lines.specs.Reading.{Gives, seen}
 pub use Rattle.mx_lines.specs.Shapes.{word}
 pub use Rattle.mx_lines.specs.Words.{texts, words_of}

@@ -1,6 +1,6 @@
 //! The labels of a text.
 ghost use Rattle.std.specs.Prelude.{◌≡◌, ◌+◌, ◌^◌, ◌≤◌, ◌<◌, ◌-◌, [], None, map, length, IfOk, OnOk};
-ghost use Rattle.mx_asm.specs.Terms.{MAX_SOURCE_BYTES, lines_of, word, texts};
+ghost use Rattle.mx_asm.specs.Terms.{MAX_SOURCE_BYTES, PAST_END, lines_of, word, texts};
 ghost use Rattle.mx_asm.specs.Faults.{first_repeat};
 ghost use Rattle.mx_asm.specs.Faults;
 ghost use Rattle.mx_asm.specs.Positions.{labels_from, position_at_end};
@@ -39,7 +39,7 @@ impl Definitions {
     /// Adds those of a line with these words.
     fn add(&mut self, number: u32, words: &[Word]) -> Result<(), AllocError>
         requires room { self.old.last.index < 2 ^ 32 - 1 }
-        requires near { self.old.last.address ≤ 65537 }
+        requires near { self.old.last.address ≤ PAST_END }
         ensures { OnOk result (Defines self.old self.new number (map word words.now)) }
     {
         let again = define_front(&mut self.labels, self.last.label(), words)?;
@@ -56,7 +56,7 @@ impl Definitions {
         line: &'a [u8],
     ) -> Result<(), AllocError>
         requires room { self.old.last.index < 2 ^ 32 - 1 }
-        requires near { self.old.last.address ≤ 65537 }
+        requires near { self.old.last.address ≤ PAST_END }
         ensures { OnOk result (Defines self.old self.new number (Positions.line_words line.entry.now)) }
     {
         words_or_none(words, line)?;
@@ -68,12 +68,12 @@ impl Definitions {
 pub fn define_all(alloc: Global, lines: &[&[u8]], from: Position) -> Result<Definitions, AllocError>
     requires few { length lines.now ≤ MAX_SOURCE_BYTES }
     requires room { from.index + length lines.now < 2 ^ 32 }
-    requires near { from.address ≤ 65537 }
+    requires near { from.address ≤ PAST_END }
     ensures labels { IfOk result (λ d. d.labels ≡ labels_from from [] (texts lines.now)) }
     ensures repeated { IfOk result (λ d. d.repeated ≡ first_repeat from [] 1 (texts lines.now)) }
     ensures last { IfOk result (λ d. d.last ≡ position_at_end from (texts lines.now)) }
     ensures index { IfOk result (λ d. d.last.index ≤ from.index + length lines.now) }
-    ensures address { IfOk result (λ d. d.last.address ≤ 65537) }
+    ensures address { IfOk result (λ d. d.last.address ≤ PAST_END) }
 {
     let mut found = Definitions::new(alloc, from);
     let mut number = 1u32;
@@ -93,7 +93,7 @@ pub(crate) fn define_text(
 ) -> Result<Definitions, AllocError>
     requires short { length text.now ≤ MAX_SOURCE_BYTES }
     requires room { from.index + length text.now < 2 ^ 32 }
-    requires near { from.address ≤ 65537 }
+    requires near { from.address ≤ PAST_END }
     ensures labels { IfOk result (λ d. d.labels ≡ labels_from from [] (lines_of text.now)) }
     ensures repeated { IfOk result (λ d. d.repeated ≡ first_repeat from [] 1 (lines_of text.now)) }
 {

@@ -1,6 +1,6 @@
 //! What a line does, or its fault.
 ghost use Rattle.std.specs.Prelude.{◌≡◌, ◌≤◌, ◌<◌, ◌-◌, ◌^◌, ℕ, None, Some, Ok, map, length, IfOk, IfErr};
-ghost use Rattle.mx_asm.specs.Terms.{MAX_STATEMENTS, LabelsFit, word, words_of};
+ghost use Rattle.mx_asm.specs.Terms.{MAX_STATEMENTS, PAST_END, LabelsFit, word, words_of};
 ghost use Rattle.mx_asm.specs.Directives.{effect_of};
 ghost use Rattle.mx_asm.specs.Effects.{effect, EffectFits, IsFaultOf};
 ghost use Rattle.mx_asm.specs.Faults;
@@ -99,7 +99,7 @@ pub fn read_line<'a>(
     line: &'a [u8],
 ) -> Result<Line, LineError>
     requires room { position.now.index < 2 ^ 32 - 1 }
-    requires near { position.now.address ≤ 65537 }
+    requires near { position.now.address ≤ PAST_END }
     ensures faultless { IfOk result (λ r. Faults.words_fault labels.now end position.now repeated (length line.entry.now) (words_of line.entry.now) ≡ None) }
     ensures effect { IfOk result
         (λ r. effect_of labels.now position.now.section (Positions.statement_words (line_words line.entry.now)) ≡ Ok (effect r.effect)) }

@@ -2,10 +2,10 @@
 ghost use Rattle.std.specs.Prelude.{◌≡◌, ◌+◌, ◌-◌, ◌^◌, ◌≤◌, ◌<◌, map};
 ghost use Rattle.mx_asm.specs.Directives.{directive_named};
 ghost use Rattle.mx_asm.specs.Positions;
-ghost use Rattle.mx_asm.specs.Terms.{IsNear, word};
+ghost use Rattle.mx_asm.specs.Terms.{PAST_END, IsNear, word};
 
 use crate::directive::{Directive, directive_named, is_dotted, space_count};
-use mx_lines::Word;
+use mx_lines::{PAST_END, Word};
 use mx_source::Label;
 
 /// A section of the source.
@@ -38,7 +38,7 @@ impl Position {
     /// What a label that stands here names.
     pub fn label(&self) -> Label
         ensures label { result ≡ Positions.label_here self.now }
-        ensures near { self.now.address ≤ 65537 → IsNear result }
+        ensures near { self.now.address ≤ PAST_END → IsNear result }
     {
         match self.section {
             Section::Code => Label::Code(self.index),
@@ -50,16 +50,16 @@ impl Position {
     #[tactic(auto, unfolding(crate::specs::Positions::behind))]
     pub fn after(&self, statement: &[Word]) -> Position
         requires room { self.now.index < 2 ^ 32 - 1 }
-        requires near { self.now.address ≤ 65537 }
+        requires near { self.now.address ≤ PAST_END }
         ensures position { result ≡ Positions.behind self.now (map word statement.now) }
         ensures index { result.index ≤ self.now.index + 1 }
-        ensures near { result.address ≤ 65537 }
+        ensures near { result.address ≤ PAST_END }
     {
         let words = u64::from(self.address) + word_count(statement);
         Position {
             section: section_after(self.section, statement),
             index: self.index + instruction_count(statement),
-            address: words.min(65537) as u32,
+            address: words.min(u64::from(PAST_END)) as u32,
         }
     }
 }

@@ -26,7 +26,10 @@ pub fn add_named(
     Ok(())
 }
 
-/// Each label of a text once, in the order of first definitions. Addresses are at most 65537.
+/// The address that stands for every place past the end of memory.
+pub const PAST_END: u32 = 65_537;
+
+/// Each label of a text once, in the order of first definitions. Addresses are at most `PAST_END`.
 #[derive(Drop)]
 pub struct Labels {
     table: IndexMap<Name, Label>,

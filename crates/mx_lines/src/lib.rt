@@ -13,7 +13,7 @@ mod word;
 
 pub use fault::{AsmError, Fault, LineError, MAX_LINE_BYTES};
 pub use instructions::instruction;
-pub use labels::{Labels, add_named};
+pub use labels::{Labels, PAST_END, add_named};
 pub use lines::{lines_of, split_line};
 pub use mnemonic::{MNEMONICS, Mnemonic, mnemonic_named, spells};
 pub use operands::{data_word, register_named, special_named};

@@ -54,6 +54,12 @@ pub fn special_named(name: &[u8]) -> Option<Special>
     }
 }
 
+/// How far below 0 an immediate reaches: it has 17 bits.
+const LAST_BELOW: u64 = 65_536;
+
+/// How far above 0 it reaches.
+const LAST_ABOVE: u64 = 65_535;
+
 /// An immediate or an offset.
 #[tactic(auto, unfolding(crate::specs::Operands::immediate))]
 pub fn immediate(negative: bool, value: u64) -> Result<i32, Fault>
@@ -61,12 +67,12 @@ pub fn immediate(negative: bool, value: u64) -> Result<i32, Fault>
     ensures within { IfOk result (IsSignedField 16) }
 {
     if negative {
-        if value > 65536 {
+        if value > LAST_BELOW {
             return Err(Fault::NumberOutOfRange);
         }
         Ok(-(value as i32))
     } else {
-        if value > 65535 {
+        if value > LAST_ABOVE {
             return Err(Fault::NumberOutOfRange);
         }
         Ok(value as i32)

@@ -3,6 +3,7 @@ ghost use Rattle.std.specs.Prelude.{◌≡◌, ◌≤◌, ◌<◌, ℕ, IfOk};
 ghost use Rattle.mx_lines.specs.Terms.{DATA_END, IsSignedField, IsPlace};
 ghost use Rattle.mx_lines.specs.Fitting.{LabelsFit, NamedFits};
 ghost use Rattle.mx_lines.specs.LabelTable.{IsNear};
+ghost use Rattle.mx_lines.specs.declared.labels.TheConstants.{PAST_END};
 ghost use Rattle.mx_lines.specs.Shapes.{word};
 ghost use Rattle.mx_lines.specs.Operands;
 
@@ -38,7 +39,7 @@ pub fn code_label(labels: &Labels, name: &[u8]) -> Result<u32, Fault>
 #[tactic(auto, unfolding(crate::specs::Operands::data_label))]
 pub fn data_label(labels: &Labels, name: &[u8]) -> Result<u32, Fault>
     ensures address { result ≡ Operands.data_label labels.now name.now }
-    ensures near { IfOk result (λ a. a ≤ 65537) }
+    ensures near { IfOk result (λ a. a ≤ PAST_END) }
     ensures fits { (count : ℕ) → LabelsFit count labels.now → IfOk result (λ a. a < DATA_END) }
 {
     match any_label(labels, name)? {
