@@ -1,6 +1,5 @@
 -- The lengths are those of the plans.
-use Rattle.std.proofs.Common.{◌≡◌, ◌≤◌, ℕ, length, refl, ap, arith}
-use Rattle.mx_blocks.specs.declared.block.Block.{Block}
+use Rattle.std.proofs.Common.{length, refl, ap, arith}
 use Rattle.mx_blocks.specs.declared.block.Plan.{Plan}
 use Rattle.mx_validate.specs.Padded.{items_of}
 use Rattle.mx_reorg.proofs.ExistsItems.{height_of}

@@ -6,7 +6,7 @@ use Rattle.mx_board.specs.declared.EventError.TheVariants as event
 use Rattle.mx_board.specs.RequestFile.{requests_of}
 use Rattle.cmd_answer.specs.declared.FileKind.TheVariants.{Interrupts, Input}
 use Rattle.cmd_answer.specs.declared.Status.TheVariants.{BadEvents}
-use Rattle.cmd_answer.specs.Answer.{Answer, prints, text_line}
+use Rattle.cmd_answer.specs.Answer.{prints, text_line}
 use Rattle.cmd_answer.specs.Protocol.{Protocol, Answers, Reads}
 use Rattle.cmd_options.specs.declared.Limits.{Limits}
 use Rattle.cmd_options.specs.Options.{Files}

@@ -1,26 +1,21 @@
 -- Near branches reach their targets where each block has its padded plan.
-use Rattle.std.proofs.Common.{◌≡◌, ℕ, zero, suc, ◌+◌, ◌-◌, ◌*◌, ◌<◌, ◌≤◌, Bool, true, false, cond, ◌&&◌, ◌||◌, List, [], ◌∷◌, length, take, Option, Some, None, refl, sym, ap, ◌∙◌, subst, ⊎_elim, arith, length-append}
-use Rattle.std.specs.Prelude.{eqb, leb, ltb, slice_get}
+use Rattle.std.proofs.Common.{◌≡◌, ℕ, ◌+◌, ◌-◌, ◌*◌, ◌<◌, ◌≤◌, true, false, ◌&&◌, List, [], ◌∷◌, length, Option, Some, None, refl, sym, ap, ◌∙◌, subst, ⊎_elim, arith}
+use Rattle.std.specs.Prelude.{leb, ltb, slice_get}
 use Rattle.std.specs.Option.{option_map}
 use Rattle.std.proofs.lemmas.Bool.{cases_lt, cases_Bool, cond-true, cond-false, false≢true}
 use Rattle.std.proofs.lemmas.Bool.Decides.{nat_tests}
-use Rattle.std.proofs.lemmas.Grind.{common_steps}
-use Rattle.mx_isa.specs.declared.Inst.{Inst}
-use Rattle.mx_isa.specs.Views.{is_load, is_transfer}
 use Rattle.mx_isa.specs.declared.Place.{Place}
 use Rattle.mx_source.specs.declared.Statement.{Statement}
 use Rattle.mx_source.specs.declared.Statement.TheVariants.{Plain, LaCode, Branch, Call, CallReg, JumpReg, Halt}
-use Rattle.mx_source.specs.Labels.{is_labelled}
 use Rattle.mx_source.specs.SourceValue.{SourceValue}
 use Rattle.mx_gen.specs.Near.{IsNear, AllNear}
 use Rattle.mx_blocks.specs.declared.Block.{Block}
 use Rattle.mx_blocks.specs.declared.End.{End}
 use Rattle.mx_blocks.specs.declared.End.TheVariants.{Falls, Halts, Branches, Calls, Jumps}
 use Rattle.mx_blocks.specs.declared.Plan.{Plan}
-use Rattle.mx_blocks.specs.declared.Item.TheVariants.{Nop}
 use Rattle.mx_blocks.proofs.LeadersBegin.{block_small}
 use Rattle.mx_blocks.specs.Leaders.{end_of, size, IsBlockOf, BlocksFrom, AreBlocks}
-use Rattle.mx_validate.specs.Padded.{insts_of, padded_from, no_ops_after, body_count, padded_place}
+use Rattle.mx_validate.specs.Padded.{padded_place}
 use Rattle.mx_squash.specs.Copies.{Site, reaches}
 use Rattle.mx_layout.specs.declared.error.LinkError.{LinkError}
 use Rattle.mx_layout.specs.declared.error.LinkError.TheVariants.{Displacement}

@@ -1,13 +1,13 @@
 -- The two words behind a transfer, by the statements that they are of (`slots_taken`, `slots_left`): both slots together weigh what
 -- the block's own two items weigh, and the words of the target that are copied to them, unless the branch does not go.
-use Rattle.std.proofs.Common.{◌≡◌, ◌≢◌, ℕ, zero, suc, ◌+◌, ◌<◌, ◌≤◌, Bool, true, false, cond, eqb, ltb, not, ◌&&◌, List, [], ◌∷◌, length, All, Option, Some, None, slice_index_or, refl, sym, ap, ◌∙◌, arith, ⊎_elim}
+use Rattle.std.proofs.Common.{◌≡◌, ◌≢◌, ℕ, zero, suc, ◌+◌, ◌<◌, ◌≤◌, Bool, true, false, cond, eqb, ltb, ◌&&◌, List, [], ◌∷◌, length, All, Option, Some, None, slice_index_or, refl, sym, ap, ◌∙◌, arith, ⊎_elim}
 use Rattle.std.proofs.lemmas.Bool.{cases_eq, cond-true, cond-false, false≢true}
 use Rattle.std.proofs.lemmas.Bool.Decides.{nat_tests}
 use Rattle.mx_blocks.specs.declared.block.Item.{Item}
 use Rattle.mx_blocks.specs.declared.block.Item.TheVariants.{Op, Nop}
 use Rattle.mx_validate.specs.Padded.{items_of}
 use Rattle.mx_squash.specs.declared.copying.Copied.{Copied}
-use Rattle.mx_squash.specs.Copies.{Site, site_of, is_target, copied, count, room, slot, is_nop, may_stay, may_copy, copyable, item_at, filled, most, is_too_far, is_fed, is_branch_end, always_goes, terminator}
+use Rattle.mx_squash.specs.Copies.{Site, site_of, is_target, copied, count, room, slot, is_nop, may_stay, may_copy, copyable, item_at, most, is_too_far, is_fed}
 use Rattle.mx_layout.proofs.Links.{site_found}
 use Rattle.mx_link.proofs.Sizes.{length-origins_from}
 use Rattle.mx_link.proofs.Slots.{copyable_small, at_most_two}

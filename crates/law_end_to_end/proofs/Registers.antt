@@ -1,5 +1,5 @@
 -- The registers of a text's statements are 0 to 31.
-use Rattle.std.proofs.Common.{ℕ, ◌≤◌, List, arith}
+use Rattle.std.proofs.Common.{ℕ, List, arith}
 use Rattle.std.specs.Prelude.{All}
 use Rattle.mx_lex.specs.Lines.{lines_of}
 use Rattle.mx_isa.specs.Registers.{IsRegister}

@@ -1,5 +1,5 @@
 -- The labels of a program stand at addresses up to the end of its data.
-use Rattle.std.proofs.Common.{◌≡◌, ℕ, ◌+◌, ◌≤◌, ◌++◌, List, [], ◌∷◌, length, map, Option, None, refl, sym, ap, ◌∙◌, subst, length-append, arith}
+use Rattle.std.proofs.Common.{◌≡◌, ℕ, ◌+◌, ◌≤◌, List, [], ◌∷◌, length, map, None, sym, ap, ◌∙◌, subst, length-append, arith}
 use Rattle.std.specs.Prelude.{All}
 use Rattle.std.proofs.lemmas.List.Elements.{All-nil, All-append}
 use Rattle.mx_source.specs.declared.Label.{Label}
@@ -16,7 +16,6 @@ use Rattle.mx_asm.specs.Texts.{effects_from, values_in}
 use Rattle.mx_asm.proofs.LabelBounds.{define_fits}
 use Rattle.mx_asm.proofs.Sourced.{LinesFit, lines_fit}
 use Rattle.mx_module.specs.Modules.{ModuleValue, modules_from, behind_text, plain_lines}
-use Rattle.mx_module.specs.LinkFaults.{refusal_or}
 use Rattle.mx_module.specs.Joined.{seen_in, line_of, fault_in_lines, effects_in, renamed, labels_in}
 use Rattle.mx_module.proofs.Appended.{values_both}
 use Rattle.mx_module.proofs.Chained.{Chained, first, first_room, first_near, next}

@@ -1,12 +1,9 @@
 -- The same program means the same.
-use Rattle.std.proofs.Common.{◌≡◌, ℕ, List, [], Option, Some, None, refl, sym, ap, ◌∙◌}
+use Rattle.std.proofs.Common.{◌≡◌, ℕ, List, [], Option, Some, None, refl, ap, ◌∙◌}
 use Rattle.std.specs.Prelude.{is_some}
-use Rattle.mx_isa.specs.declared.Place.{Place}
 use Rattle.mx_source.specs.declared.Statement.{Statement}
 use Rattle.mx_source.specs.declared.Value.{Value}
-use Rattle.mx_source.specs.SourceValue.{SourceValue}
-use Rattle.mx_source.specs.Meaning.{Run, given, start, run_for, meaning}
-use Rattle.mx_asm.specs.Printable.{IsSameProgram}
+use Rattle.mx_source.specs.Meaning.{Run, given, start, run_for}
 use Rattle.law_modules.specs.JoinedTexts.{SameMeaning}
 
 given_same : (a b : Option ℕ) (bytes : List ℕ) → is_some a ≡ is_some b → given a bytes ≡ given b bytes

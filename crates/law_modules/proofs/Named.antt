@@ -7,7 +7,6 @@ use Rattle.std.proofs.lemmas.Bool.{agree_below_at}
 use Rattle.std.proofs.lemmas.List.Folds.{list_all-append}
 use Rattle.std.proofs.lemmas.List.Elements.{All-nil, All-cons, All-head, All-tail, All-push, All-append}
 use Rattle.mx_lex.specs.Bytes.{begins_name, continues_name}
-use Rattle.mx_lex.specs.Lines.{lines_of}
 use Rattle.mx_source.specs.declared.Label.{Label}
 use Rattle.mx_asm.specs.declared.Position.{Position}
 use Rattle.mx_lines.specs.Words.{Word, Name, Colon}

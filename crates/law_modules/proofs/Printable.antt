@@ -1,12 +1,11 @@
 -- The source that texts join as is printable.
-use Rattle.std.proofs.Common.{◌≡◌, ℕ, ◌+◌, ◌≤◌, List, length, Option, None, refl, subst, arith}
+use Rattle.std.proofs.Common.{◌≡◌, ℕ, ◌+◌, ◌≤◌, List, length, None, refl, arith}
 use Rattle.std.specs.Prelude.{All}
 use Rattle.mx_source.specs.declared.Label.{Label}
 use Rattle.mx_source.specs.declared.Label.TheVariants as label
-use Rattle.mx_source.specs.SourceValue.{SourceValue}
 use Rattle.mx_asm.specs.Positions.{start}
-use Rattle.mx_asm.specs.Texts.{statements_in, values_in}
-use Rattle.mx_asm.specs.Printable.{IsLabelName, IsWithin, IsPrintable}
+use Rattle.mx_asm.specs.Texts.{values_in}
+use Rattle.mx_asm.specs.Printable.{IsWithin, IsPrintable}
 use Rattle.mx_module.specs.Modules.{ModuleValue, modules_of}
 use Rattle.mx_module.specs.ModuleView.{IsProgram}
 use Rattle.mx_module.specs.LinkFaults.{fault_in_modules}
@@ -15,9 +14,9 @@ use Rattle.mx_module.proofs.Chained.{program_chained}
 use Rattle.mx_module.proofs.Exported.{refusal_none}
 use Rattle.mx_module.proofs.Renamed.{program_apart}
 use Rattle.mx_module.proofs.Sounded.{program_sound}
-use Rattle.law_modules.specs.JoinedTexts.{AreJoined, JoinedReadsBack}
-use Rattle.law_modules.proofs.Named.{IsNamed, AllNamed, texts_named}
-use Rattle.law_modules.proofs.Bounded.{IsUpTo, AllUpTo, modules_up, texts_near}
+use Rattle.law_modules.specs.JoinedTexts.{JoinedReadsBack}
+use Rattle.law_modules.proofs.Named.{texts_named}
+use Rattle.law_modules.proofs.Bounded.{IsUpTo, modules_up, texts_near}
 use Rattle.law_modules.proofs.Worded.{modules_words}
 use Rattle.law_modules.proofs.Registered.{modules_registers}
 use Rattle.mx_asm.proofs.PrintedTexts.{printed_reads}

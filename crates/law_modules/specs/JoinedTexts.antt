@@ -3,7 +3,6 @@ use Rattle.std.specs.Prelude.{◌≡◌, ℕ, ◌≤◌, List, length, All, None
 use Rattle.mx_isa.specs.declared.Place.{Place}
 use Rattle.mx_source.specs.declared.Label.{Label}
 use Rattle.mx_source.specs.SourceValue.{SourceValue}
-use Rattle.mx_source.specs.Printed.{printed}
 use Rattle.mx_source.specs.Meaning.{meaning}
 use Rattle.mx_asm.specs.Printable.{IsSameProgram, ReadsBack}
 use Rattle.mx_module.specs.Joined.{joined, join_fault}

@@ -1,5 +1,5 @@
 -- The order of a valid plan keeps what its block does.
-use Rattle.std.specs.Prelude.{◌≡◌, ℕ, pos, true, false, List, ◌++◌, map, take, Option, is_some}
+use Rattle.std.specs.Prelude.{◌≡◌, ℕ, pos, true, false, List, map, take, Option, is_some}
 use Rattle.std.specs.List.{All}
 use Rattle.mx_isa.specs.declared.inst.Inst.{Inst}
 use Rattle.mx_isa.specs.declared.inst.Inst.TheVariants.{Branch, Addi, Jspci}

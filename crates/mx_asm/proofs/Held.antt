@@ -16,7 +16,6 @@ use Rattle.mx_asm.specs.declared.position.Section.TheVariants as section
 use Rattle.mx_asm.specs.declared.position.Position.{Position}
 use Rattle.mx_asm.specs.declared.directive.Directive.{Directive}
 use Rattle.mx_asm.specs.declared.directive.Directive.TheVariants as d
-use Rattle.mx_lines.specs.Reading.{◌>>=◌}
 use Rattle.mx_lines.specs.Words.{Word, Name, Number}
 use Rattle.mx_lines.specs.Operands.{in_range, data_word, any_label}
 use Rattle.mx_lines.specs.Instructions.{Labels, address_of, instruction}

@@ -9,7 +9,6 @@ use Rattle.std.proofs.lemmas.Bool.Decides.{nat_tests}
 use Rattle.std.proofs.lemmas.List.{length-drop, get_or-drop, drop-drop, length-append}
 use Rattle.std.proofs.lemmas.List.Folds.{list_all-append}
 use Rattle.std.proofs.Math.Seq.{drop-append_seam, take-append_seam}
-use Rattle.std.proofs.lemmas.Str.Parse.{digit_from_value}
 use Rattle.std.proofs.lemmas.Fmt.{decimal_is_IsNumeral}
 use Rattle.mx_lex.specs.Bytes.{is_blank, is_allowed, begins_name, continues_name}
 use Rattle.mx_lex.specs.Tokens.{token, tokens_of, tokens_within, digits_at, magnitude_at, number_at, number_token, token_from, next_token, mark_of, mark_or_number_at, is_end, and_then, before}
@@ -25,7 +24,7 @@ use Rattle.mx_isa.specs.Registers.{IsRegister}
 use Rattle.mx_source.specs.Printed.{register}
 use Rattle.std.specs.Fmt.{signed_decimal}
 use Rattle.mx_lines.specs.declared.fault.Fault.TheVariants.{BadByte}
-use Rattle.mx_lines.proofs.Clean.{is_clean, letter_is_clean, digit_is_clean, is_decimal_digit, by_either, goes_on_clean}
+use Rattle.mx_lines.proofs.Clean.{is_clean, letter_is_clean, digit_is_clean, is_decimal_digit, goes_on_clean}
 
 -- a line from which this text is left has these words left
 pub record Splits (text : List ℕ) (words : List Word) : Type 0 where

@@ -14,7 +14,7 @@ use Rattle.mx_validate.proofs.Listed.{ops_append, times_append}
 use Rattle.mx_reorg.proofs.ExistsItems.{height_of}
 use Rattle.mx_reorg.proofs.ExistsPlans.{greedy_exists}
 use Rattle.mx_reorg.proofs.ValidPlans.{greedy_valid}
-use Rattle.mx_best.specs.Shortest.{IsShortest, ShortestExists}
+use Rattle.mx_best.specs.Shortest.{ShortestExists}
 use Rattle.mx_best.proofs.ValidDecided.{valid_decided}
 
 -- the least number of which something holds

@@ -1,7 +1,7 @@
 -- A fetched word is resident.
-use Rattle.std.proofs.Common.{◌≡◌, ℕ, Bool, true, false, cond, eqb, not, ◌&&◌, ◌||◌, List, ◌∷◌, refl, arith}
+use Rattle.std.proofs.Common.{◌≡◌, ℕ, Bool, true, false, eqb, not, ◌&&◌, ◌||◌, List, ◌∷◌, refl, arith}
 use Rattle.std.proofs.lemmas.Bool.Decides.{nat_tests}
-use Rattle.mx_icache.specs.Residency.{line_of, set_of, is_among_last, allocated, is_held, missed_since, resident}
+use Rattle.mx_icache.specs.Residency.{line_of, set_of, is_held, missed_since, resident}
 use Rattle.mx_icache.proofs.Steps.{near, missed_since-cons, allocated-held, allocated-missed}
 
 same : (a : ℕ) → eqb a a ≡ true

@@ -1,6 +1,5 @@
 -- A fetch of a resident word changes no cache, and makes no other word resident.
-use Rattle.std.proofs.Common.{◌≡◌, ◌≢◌, ℕ, Bool, true, false, eqb, ◌&&◌, List, ◌∷◌, Some, refl, sym, ◌∙◌, ap, arith}
-use Rattle.std.specs.List.{slice_get}
+use Rattle.std.proofs.Common.{◌≡◌, ◌≢◌, ℕ, true, false, eqb, ◌&&◌, List, ◌∷◌, refl, arith}
 use Rattle.std.proofs.lemmas.Bool.{and_parts}
 use Rattle.std.proofs.lemmas.Bool.Decides.{nat_tests}
 use Rattle.mx_icache.specs.declared.line_set.Set.{Set}
@@ -10,7 +9,7 @@ use Rattle.mx_icache.specs.declared.plain_cache.PlainCache.{PlainCache}
 use Rattle.mx_icache.specs.Residency.{line_of, set_of, is_among_last, allocated, is_held, missed_since, resident}
 use Rattle.mx_icache.specs.LineSets.{line_in, word_in, SetHolds, CacheHolds}
 use Rattle.mx_icache.specs.PlainSets.{line_at, word_at, PlainSetHolds, PlainHolds}
-use Rattle.mx_icache.proofs.Steps.{allocated-other, allocated-held, missed_since-resident}
+use Rattle.mx_icache.proofs.Steps.{allocated-held, missed_since-resident}
 use Rattle.mx_icache.proofs.Lines.{words_hit}
 use Rattle.mx_icache.proofs.SetSteps.{set_inside, set_other}
 use Rattle.mx_icache.proofs.PlainSteps.{plain_inside, plain_other}

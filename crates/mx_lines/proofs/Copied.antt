@@ -1,5 +1,5 @@
 -- Labels that are entered once more, in order.
-use Rattle.std.proofs.Common.{◌≡◌, ℕ, suc, zero, Bool, false, true, List, [], ◌∷◌, ◌++◌, map, take, cond, Option, Some, None, refl, ap, sym, ◌∙◌}
+use Rattle.std.proofs.Common.{◌≡◌, ℕ, suc, zero, Bool, false, true, List, [], ◌∷◌, map, take, cond, Some, None, refl, ap, sym, ◌∙◌}
 use Rattle.std.specs.List.{IsDistinct, AllByRecursion, slice_get}
 use Rattle.std.specs.Str.{bytes_eq}
 use Rattle.std.specs.Option.{option_map}

@@ -1,4 +1,4 @@
-use Rattle.std.proofs.Common.{◌≡◌, ◌≤◌, length, ap, ◌∙◌, arith}
+use Rattle.std.proofs.Common.{length, ap, ◌∙◌, arith}
 use Rattle.mx_blocks.proofs.UniqueBlocks.{blocks_unique}
 use Rattle.cmd_best.specs.Lengths.{lengths_text}
 use Rattle.cmd_best.proofs.Blocks.{few_blocks}

@@ -1,11 +1,11 @@
-use Rattle.std.proofs.Common.{◌≡◌, ℕ, List, [], length, map, take, arith, ap, sym, ◌∙◌}
+use Rattle.std.proofs.Common.{[], length, take, arith, ap, ◌∙◌}
 use Rattle.std.specs.Option.{option_copied}
 use Rattle.std.proofs.lemmas.List.{length-map, length-take}
 use Rattle.mx_turn.specs.Handler.{shipped}
 use Rattle.mx_turn.specs.Program.{Program, program_of}
 use Rattle.cmd_answer.specs.Answer.{prints}
 use Rattle.mx_debug.specs.Stops.{stop_at}
-use Rattle.mx_debug.specs.Sessions.{Session, session, all_stops, stops_of}
+use Rattle.mx_debug.specs.Sessions.{Session, session, all_stops}
 use Rattle.cmd_debug.specs.Texts.{session_text}
 use Rattle.cmd_debug.specs.Sessions.{status_of, session_answer}
 use Rattle.cmd_debug.proofs.runs.debug.Goals as goal

@@ -1,5 +1,5 @@
 use Rattle.std.proofs.Common.{◌≡◌, ◌+◌, ◌++◌, [], drop, ap, sym, ◌∙◌, append_assoc, append-nil, arith}
-use Rattle.cmd_debug.specs.Texts.{stop_text, stops_text}
+use Rattle.cmd_debug.specs.Texts.{stops_text}
 use Rattle.cmd_debug.proofs.Lines.{next_stop, no_stop}
 use Rattle.cmd_debug.proofs.texts.push_stops.Goals as goal
 

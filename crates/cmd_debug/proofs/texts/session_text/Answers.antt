@@ -1,6 +1,6 @@
 use Rattle.std.proofs.Common.{◌++◌, codes, length, ◌∙◌}
 use Rattle.mx_text.specs.Text.{line, count_line, console_lines}
-use Rattle.cmd_debug.specs.Texts.{stops_text, ending_text, session_text}
+use Rattle.cmd_debug.specs.Texts.{stops_text, session_text}
 use Rattle.cmd_debug.proofs.texts.session_text.Goals as goal
 
 pub returns : goal.returns

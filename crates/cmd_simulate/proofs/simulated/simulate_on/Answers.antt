@@ -1,10 +1,7 @@
 use Rattle.std.proofs.Common.{◌≡◌, ◌++◌, ℕ, List, cond, min, ap, ◌∙◌}
-use Rattle.cmd_answer.specs.declared.Status.{Status}
 use Rattle.cmd_answer.specs.declared.Status.TheVariants.{Halted, OutOfBudget}
 use Rattle.cmd_answer.specs.Answer.{prints}
-use Rattle.mx_turn.specs.Program.{Program, state_after}
 use Rattle.mx_turn.specs.Run.{MachineRun, run_of}
-use Rattle.mx_turn.specs.Cycle.{MachineState}
 use Rattle.mx_report.specs.Driving.{trace_text}
 use Rattle.mx_report.specs.Report.{report_text}
 use Rattle.cmd_simulate.specs.Simulated.{dump_of, program_answer, run_text}

@@ -1,4 +1,4 @@
-use Rattle.std.proofs.Common.{◌≡◌, refl, inl}
+use Rattle.std.proofs.Common.{refl, inl}
 use Rattle.mx_io.specs.Shelves.{Told, Counts}
 use Rattle.cmd_answer.specs.Protocol.{IsFault}
 use Rattle.cmd_answer.proofs.Replies.{step_fails}

@@ -1,5 +1,4 @@
 use Rattle.std.proofs.Common.{◌≡◌, inl, sym, ap, ◌∙◌}
-use Rattle.mx_asm.specs.Texts.{source_of}
 use Rattle.cmd_answer.specs.Answer.{Answer}
 use Rattle.cmd_answer.specs.Protocol.{Answers}
 use Rattle.cmd_answer.proofs.Replies.{step_fails}

@@ -1,6 +1,5 @@
 use Rattle.std.proofs.Common.{◌≡◌, refl, subst, sym}
 use Rattle.cmd_answer.specs.declared.FileKind.TheVariants.{Source}
-use Rattle.cmd_answer.specs.Answer.{Answer}
 use Rattle.mx_io.specs.Shelves.{Told, Counts}
 use Rattle.cmd_answer.specs.Protocol.{Protocol, Answers, Performed}
 use Rattle.cmd_answer.proofs.Replies.{step_fails}

@@ -1,8 +1,8 @@
-use Rattle.std.proofs.Common.{◌≡◌, ℕ, List, refl, inl, subst, sym, ap, ◌∙◌}
+use Rattle.std.proofs.Common.{refl, inl, subst, sym, ap, ◌∙◌}
 use Rattle.cmd_answer.specs.declared.FileKind.TheVariants.{Source}
 use Rattle.cmd_answer.specs.Answer.{Answer}
 use Rattle.mx_io.specs.Shelves.{Told, Counts}
-use Rattle.cmd_answer.specs.Protocol.{Protocol, Answers, Performed}
+use Rattle.cmd_answer.specs.Protocol.{Protocol, Performed}
 use Rattle.cmd_answer.proofs.Replies.{step_fails}
 use Rattle.cmd_source.specs.Protocols.{source_protocol}
 use Rattle.cmd_source.specs.Replied.{IsReplied, is_answered}

@@ -1,6 +1,4 @@
-use Rattle.std.proofs.Common.{◌≡◌, ◌≤◌, ◌<◌, ◌+◌, ◌/◌, ◌%◌, ap, sym, ◌∙◌, arith}
-use Rattle.mx_icache.specs.LineSets.{word_in}
-use Rattle.mx_icache.specs.Residency.{line_of, resident}
+use Rattle.std.proofs.Common.{arith}
 use Rattle.mx_icache.proofs.SetSteps.{word_in_line}
 use Rattle.mx_icache.proofs.line_set.Set.reach.Goals as goal
 

@@ -1,6 +1,6 @@
-use Rattle.std.proofs.Common.{◌≡◌, Bool, true, false, not, cond, ◌&&◌, refl, sym, ap, ◌∙◌, subst}
+use Rattle.std.proofs.Common.{sym, ap, ◌∙◌, subst}
 use Rattle.mx_turn.specs.Counted.{after_turn}
-use Rattle.mx_turn.specs.Cycle.{MachineState, showing, is_taken, decision, squashes, takes}
+use Rattle.mx_turn.specs.Cycle.{MachineState, showing, squashes, takes}
 use Rattle.mx_pipe.specs.Kept.{code_of_pipe, Holds, Commits, has_missed}
 use Rattle.mx_pipe.proofs.Lanes.{shown_anew}
 use Rattle.mx_pipe.proofs.pipe.Pipe.finish.Goals as goal

@@ -1,5 +1,3 @@
-use Rattle.std.proofs.Common.{◌≡◌, ◌<◌, ◌+◌, arith, sym, ap, ◌∙◌}
-use Rattle.std.proofs.lemmas.Bool.Decides.{nat_tests}
 use Rattle.mx_icache.specs.Residency.{resident}
 use Rattle.mx_pipe.proofs.Lanes.{first_within}
 use Rattle.mx_pipe.proofs.pipe.Pipe.may_run.Goals as goal
