@@ -10,7 +10,7 @@ use crate::words::number_at;
 pub const MAGIC: [u8; 4] = *b"MXIM";
 
 /// How many words of each sort a file has.
-#[derive(Clone, Copy, Debug, PartialEq, Eq)]
+#[derive(Clone, Copy)]
 pub struct Sizes {
     pub code: usize,
     pub user_data: usize,

@@ -1,15 +1,15 @@
 //! Version 1, an image alone: `MXIM`, then the version, the numbers of code and data words, and these words.
-ghost use Rattle.std.specs.Prelude.{◌≡◌, ◌≤◌, ◌+◌, ◌*◌, ◌⊎◌, ℕ, List, length, drop, Some, None, IfOk, MatchResult};
+ghost use Rattle.std.specs.Prelude.{◌≡◌, ◌≤◌, ◌+◌, ◌*◌, ◌⊎◌, ℕ, List, length, drop, Some, None, IfOk, OnOk, MatchResult};
 ghost use Rattle.mx_isa.specs.declared.board.TheConstants.{MAX_CODE_WORDS, MAX_DATA_WORDS};
 ghost use Rattle.mx_image.specs.Bytes.{number_at, numbers};
 ghost use Rattle.mx_image.specs.Sizes.{SizesOf1};
 ghost use Rattle.mx_image.specs.Contents.{IsImage};
 ghost use Rattle.mx_image.specs.Reads.{ReadsImage};
-ghost use Rattle.mx_image.specs.Files.{image_bytes, image_in, refusal_1, image_refusal};
+ghost use Rattle.mx_image.specs.Files.{magic, image_bytes, image_in, refusal_1, image_refusal};
 
 use crate::ImageError;
 use crate::fields::{MAGIC, Sizes, check_head, check_long, check_short, field};
-use crate::words::{number_at, push_word, push_words, words_at};
+use crate::words::{number_at, push_words, words_at};
 use mx_code::Image;
 use mx_io::Memory;
 use mx_isa::{MAX_CODE_WORDS, MAX_DATA_WORDS};
@@ -54,16 +54,23 @@ pub fn read_1(alloc: Global, bytes: &[u8]) -> Result<Image, ImageError>
     Ok(image_at(alloc, bytes, 16, sizes)?)
 }
 
+/// Adds what stands behind the magic.
+fn push_image(out: &mut Vec<u8>, image: &Image) -> Result<(), AllocError>
+    requires { out.old.items ≡ magic }
+    ensures { OnOk result (out.new.items ≡ image_bytes image.now.code.items image.now.user_data.items) }
+{
+    let head = [1, image.code.len() as u32, image.user_data.len() as u32];
+    push_words(out, &head)?;
+    push_words(out, &image.code)?;
+    push_words(out, &image.user_data)
+}
+
 /// The bytes of an image.
 fn image_words(alloc: Global, image: &Image) -> Result<Vec<u8>, AllocError>
     ensures { IfOk result (λ bytes. bytes.items ≡ image_bytes image.now.code.items image.now.user_data.items) }
 {
     let mut out = Vec::from_slice(alloc, &MAGIC)?;
-    push_word(&mut out, 1)?;
-    push_word(&mut out, image.code.len() as u32)?;
-    push_word(&mut out, image.user_data.len() as u32)?;
-    push_words(&mut out, &image.code)?;
-    push_words(&mut out, &image.user_data)?;
+    push_image(&mut out, image)?;
     Ok(out)
 }
 

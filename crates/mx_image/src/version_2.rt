@@ -1,16 +1,16 @@
 //! Version 2, an image with the flag of the input and the link map: `MXIM`, then the version, the flag, the numbers of code
 //! words, data words and links, and these.
-ghost use Rattle.std.specs.Prelude.{◌≡◌, ◌≤◌, ◌+◌, ◌*◌, ◌⊎◌, ℕ, List, length, drop, Some, None, IfOk, MatchResult, position};
+ghost use Rattle.std.specs.Prelude.{◌≡◌, ◌≤◌, ◌+◌, ◌*◌, ◌⊎◌, ℕ, List, length, drop, Some, None, IfOk, OnOk, MatchResult, position};
 ghost use Rattle.mx_isa.specs.declared.board.TheConstants.{MAX_CODE_WORDS};
 ghost use Rattle.mx_image.specs.Bytes.{number_at, numbers};
 ghost use Rattle.mx_image.specs.Sizes.{SizesOf2};
 ghost use Rattle.mx_image.specs.Contents.{Contents, contents_of, plain, LinksFit, IsImage, IsFile};
 ghost use Rattle.mx_image.specs.Reads.{ReadsFile};
-ghost use Rattle.mx_image.specs.Files.{file_bytes, file_in, file_in_2, flag_of, is_outside, links_offset, links_refusal, outside_refusal, refusal_1, refusal_2, image_in, image_bytes, file_refusal, Spells};
+ghost use Rattle.mx_image.specs.Files.{magic, file_bytes, file_in, file_in_2, flag_of, is_outside, links_offset, links_refusal, outside_refusal, refusal_1, refusal_2, image_in, image_bytes, file_refusal, Spells};
 
 use crate::fields::{MAGIC, Sizes, check_head, check_long, check_short, field};
 use crate::version_1::{image_at, read_1};
-use crate::words::{number_at, push_word, push_words, words_at};
+use crate::words::{number_at, push_words, words_at};
 use crate::{ImageError, ImageFile};
 use mx_io::Memory;
 use mx_isa::{CODE_BASE, MAX_CODE_WORDS, MAX_DATA_WORDS};
@@ -77,20 +77,32 @@ fn read_2(alloc: Global, bytes: &[u8]) -> Result<ImageFile, ImageError>
     })
 }
 
+/// Adds what stands behind the magic.
+fn push_file(out: &mut Vec<u8>, file: &ImageFile) -> Result<(), AllocError>
+    requires begun { out.old.items ≡ magic }
+    requires links { length file.now.links.items ≤ 20001 }
+    ensures { OnOk result (out.new.items ≡ file_bytes (contents_of file.now)) }
+{
+    let head = [
+        2,
+        u32::from(file.input),
+        file.image.code.len() as u32,
+        file.image.user_data.len() as u32,
+        file.links.len() as u32,
+    ];
+    push_words(out, &head)?;
+    push_words(out, &file.image.code)?;
+    push_words(out, &file.image.user_data)?;
+    push_words(out, &file.links)
+}
+
 /// The bytes of a file.
 fn file_words(alloc: Global, file: &ImageFile) -> Result<Vec<u8>, AllocError>
     requires { length file.now.links.items ≤ 20001 }
     ensures { IfOk result (λ bytes. bytes.items ≡ file_bytes (contents_of file.now)) }
 {
     let mut out = Vec::from_slice(alloc, &MAGIC)?;
-    push_word(&mut out, 2)?;
-    push_word(&mut out, u32::from(file.input))?;
-    push_word(&mut out, file.image.code.len() as u32)?;
-    push_word(&mut out, file.image.user_data.len() as u32)?;
-    push_word(&mut out, file.links.len() as u32)?;
-    push_words(&mut out, &file.image.code)?;
-    push_words(&mut out, &file.image.user_data)?;
-    push_words(&mut out, &file.links)?;
+    push_file(&mut out, file)?;
     Ok(out)
 }
 

@@ -32,7 +32,7 @@ pub fn words_at(
 }
 
 /// Adds a word's bytes.
-pub fn push_word(out: &mut Vec<u8>, word: u32) -> Result<(), AllocError>
+fn push_word(out: &mut Vec<u8>, word: u32) -> Result<(), AllocError>
     ensures { OnOk result (out.new.items ≡ out.old.items ++ word_bytes word) }
 {
     let mut bytes = [0u8; 4];

@@ -1,5 +1,5 @@
 -- What the lines of modules do, one module after the other.
-use Rattle.std.proofs.Common.{◌≡◌, ℕ, ◌+◌, List, [], ◌∷◌, ◌++◌, Option, Some, None, refl, ap, sym, ◌∙◌, append_assoc}
+use Rattle.std.proofs.Common.{◌≡◌, ℕ, List, [], ◌∷◌, ◌++◌, Option, Some, None, refl, ap, sym, ◌∙◌, append_assoc}
 use Rattle.mx_source.specs.declared.Statement.{Statement}
 use Rattle.mx_source.specs.declared.Value.{Value}
 use Rattle.mx_lines.specs.declared.Fault.{Fault}
@@ -9,7 +9,8 @@ use Rattle.mx_asm.specs.Directives.{Effect, Nothing, Instruction, Data, Input}
 use Rattle.mx_asm.specs.Effects.{first_input}
 use Rattle.mx_asm.specs.Listings.{IsRefusal}
 use Rattle.mx_asm.specs.Texts.{statements_in, lines_in, values_in, input_in, onto_statements, onto_lines, onto_values, onto_input}
-use Rattle.mx_module.specs.declared.error.JoinFault.TheVariants.{Line}
+use Rattle.mx_module.specs.declared.error.JoinError.{JoinError}
+use Rattle.mx_module.specs.declared.error.JoinError.TheVariants as errors
 use Rattle.mx_module.specs.LinkFaults.{Refusal, refusal_or}
 use Rattle.mx_module.specs.Joined.{line_of, IsJoinRefusal}
 use Rattle.mx_module.specs.ModuleView.{line_refusal}
@@ -69,7 +70,10 @@ items_more part both was more new all own later left parts added is h =
     ∙ ap (λ x. was ++ x) (sym (both own later))
     ∙ ap (λ x. was ++ part x) (sym parts) ∙ h
 
-pub program_refused : (place : ℕ) (found : Option (ℕ × Fault)) (later : Option Refusal) (e : AsmError) → IsRefusal found e
-    → IsJoinRefusal (refusal_or (line_of place found) later) (line_refusal place e)
-program_refused place found later (asm.Refused line fault) h = ap (λ f. refusal_or (line_of place f) later) h
-program_refused place found later asm.Memory h = tt
+pub line_refused : (place : ℕ) (found : Option (ℕ × Fault)) (e : AsmError) → IsRefusal found e → IsJoinRefusal (line_of place found) (line_refusal place e)
+line_refused place found (asm.Refused line fault) h = ap (line_of place) h
+line_refused place found asm.Memory h = tt
+
+pub program_refused : (found later : Option Refusal) (e : JoinError) → IsJoinRefusal found e → IsJoinRefusal (refusal_or found later) e
+program_refused found later (errors.Refused m line fault) h = ap (λ f. refusal_or f later) h
+program_refused found later errors.Memory h = tt

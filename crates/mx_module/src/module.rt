@@ -1,15 +1,15 @@
 //! The modules of a program.
-ghost use Rattle.std.specs.Prelude.{◌≡◌, ◌≤◌, All, length, map, replicate, IfOk};
+ghost use Rattle.std.specs.Prelude.{◌≡◌, ◌+◌, ◌≤◌, ◌<◌, ◌^◌, ◌++◌, ◌∷◌, [], All, length, map, replicate, IfOk};
 ghost use Rattle.mx_io.specs.declared.limits.TheConstants.{MAX_SOURCE_BYTES};
 ghost use Rattle.mx_module.specs.Modules;
 ghost use Rattle.mx_module.specs.ModuleView.{text_bytes, IsShort};
 
 use crate::exports::Exports;
 use crate::link::Link;
-use crate::plain::{Parts, parts_of};
+use crate::plain::{Parts, parts_in};
 use indexmap::IndexMap;
 use mx_asm::{Definitions, Listing, Position, Section, define_all, read_lines};
-use mx_lines::{AsmError, Labels, lines_of};
+use mx_lines::{AsmError, Labels};
 use mx_source::{Label, Name};
 use std::alloc::{AllocError, Global};
 use std::marker::Model;
@@ -38,6 +38,8 @@ impl<'a> Model for Module<'a> {
 
 impl<'a> Module<'a> {
     ghost use Rattle.std.specs.Prelude.{◌≡◌, ◌+◌, ◌≤◌, ◌<◌, ◌^◌, [], length, map, replicate, IfOk, IfErr, IfSome, Option};
+    ghost use Rattle.mx_asm.specs.Faults.{first_repeat};
+    ghost use Rattle.mx_lines.specs.Words.{texts};
     ghost use Rattle.mx_module.specs.Terms.{first_fault, named_labels, IsNear, IsListingOf, IsRefusal, label_named};
     ghost use Rattle.mx_module.specs.ExportTable.{export_line};
     ghost use Rattle.mx_module.specs.Modules.{module_at, behind_text, exports_of};
@@ -59,27 +61,38 @@ impl<'a> Module<'a> {
         ensures index { IfOk result (λ r. r.1.index ≤ start.index + length text.now) }
         ensures address { IfOk result (λ r. r.1.address ≤ 65537) }
     {
-        let Parts { lines, links } = parts_of(alloc, &lines_of(alloc, text)?, blanks)?;
-        let exports = Exports::of(alloc, &links)?;
-        let Definitions {
-            labels,
-            repeated,
-            last,
-        } = define_all(alloc, &lines, start)?;
-        let next = Position {
-            section: Section::Code,
-            index: last.index,
-            address: last.address,
-        };
-        let module = Module {
-            start,
-            lines,
-            links,
-            labels,
-            repeated,
-            exports,
-        };
+        let parts = parts_in(alloc, text, blanks)?;
+        let defined = define_all(alloc, &parts.lines, start)?;
+        let next = next_start(defined.last);
+        let module = Module::of(alloc, start, parts, defined)?;
         Ok((module, next))
+    }
+
+    /// The module that begins here, of its parts and of what its lines define.
+    fn of(
+        alloc: Global,
+        start: Position,
+        parts: Parts<'a>,
+        defined: Definitions,
+    ) -> Result<Module<'a>, AllocError>
+        requires few { length parts.lines.items ≤ MAX_SOURCE_BYTES }
+        requires repeated { defined.repeated ≡ first_repeat start [] 1 (texts parts.lines.items) }
+        ensures { IfOk result (λ m. m ≡ record {
+          start = start;
+          lines = texts parts.entry.lines.items;
+          links = map link_value parts.entry.links.items;
+          labels = defined.labels;
+        }) }
+    {
+        let exports = Exports::of(alloc, &parts.links)?;
+        Ok(Module {
+            start,
+            lines: parts.lines,
+            links: parts.links,
+            labels: defined.labels,
+            repeated: defined.repeated,
+            exports,
+        })
     }
 
     /// Its imports and exports.
@@ -136,6 +149,39 @@ impl<'a> Module<'a> {
     }
 }
 
+/// Where the text behind one that ends here begins.
+fn next_start(last: Position) -> Position
+    ensures { result ≡ Modules.in_code last }
+{
+    Position {
+        section: Section::Code,
+        index: last.index,
+        address: last.address,
+    }
+}
+
+/// Adds the module of a text that begins here, and gives where the next one begins.
+fn add_module<'a>(
+    alloc: Global,
+    modules: &mut Vec<Module<'a>>,
+    text: &'a [u8],
+    blanks: &'a [u8],
+    start: Position,
+) -> Result<Position, AllocError>
+    requires short { length text.now ≤ MAX_SOURCE_BYTES }
+    requires blank { blanks.now ≡ replicate 256 32 }
+    requires room { start.index + length text.now < 2 ^ 32 }
+    requires near { start.address ≤ 65537 }
+    ensures module { IfOk result (λ _. modules.new.items ≡ modules.old.items ++ Modules.module_at start text.entry.now ∷ []) }
+    ensures next { IfOk result (λ p. p ≡ Modules.behind_text start text.entry.now) }
+    ensures index { IfOk result (λ p. p.index ≤ start.index + length text.entry.now) }
+    ensures address { IfOk result (λ p. p.address ≤ 65537) }
+{
+    let (module, next) = Module::read(alloc, text, blanks, start)?;
+    modules.push(module)?;
+    Ok(next)
+}
+
 /// The modules of texts; `blanks` are 256 blanks.
 pub fn modules_of<'a>(
     alloc: Global,
@@ -150,9 +196,7 @@ pub fn modules_of<'a>(
     let mut modules = Vec::new(alloc);
     let mut start = Position::start(256);
     for text in texts {
-        let (module, next) = Module::read(alloc, text.as_slice(), blanks, start)?;
-        modules.push(module)?;
-        start = next;
+        start = add_module(alloc, &mut modules, text.as_slice(), blanks, start)?;
     }
     Ok(modules)
 }

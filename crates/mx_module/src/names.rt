@@ -1,6 +1,8 @@
 //! The labels of a program, under their names there.
-ghost use Rattle.std.specs.Prelude.{◌≡◌, ◌≤◌, ◌<◌, ◌++◌, length, map, IfOk, OnOk};
+ghost use Rattle.std.specs.Prelude.{◌≡◌, ◌+◌, ◌≤◌, ◌<◌, ◌++◌, ◌∷◌, [], codes, length, map, None, IfOk, OnOk};
+ghost use Rattle.std.specs.Fmt.{decimal};
 ghost use Rattle.mx_source.specs.Names.{named_labels};
+ghost use Rattle.mx_module.specs.Terms.{label_named};
 ghost use Rattle.mx_module.specs.Joined;
 ghost use Rattle.mx_module.specs.Joined.{AreApart};
 
@@ -9,6 +11,16 @@ use indexmap::IndexMap;
 use mx_lines::add_named;
 use mx_source::{Label, Name};
 use std::alloc::{AllocError, Global};
+
+/// Adds `..` and the number of the module at this place.
+fn add_number(alloc: Global, bytes: &mut Vec<u8>, place: usize) -> Result<(), AllocError>
+    requires { place < 16 }
+    ensures { OnOk result (bytes.new.items ≡ bytes.old.items ++ codes ".." ++ decimal (place + 1)) }
+{
+    let number = place + 1;
+    let suffix = format!(in alloc; "..{number}")?;
+    bytes.extend_from_slice(suffix.as_bytes())
+}
 
 /// The name of a label in the program.
 fn program_name(
@@ -22,11 +34,27 @@ fn program_name(
 {
     let mut bytes = Vec::from_slice(alloc, name)?;
     if own.export_line(name).is_none() {
-        let number = place + 1;
-        let suffix = format!(in alloc; "..{number}")?;
-        bytes.extend_from_slice(suffix.as_bytes())?;
+        add_number(alloc, &mut bytes, place)?;
     }
     Ok(bytes)
+}
+
+/// Adds a label of the module at this place.
+fn add_name(
+    alloc: Global,
+    own: &Module,
+    place: usize,
+    named: &mut IndexMap<Name, Label>,
+    name: &[u8],
+    label: Label,
+) -> Result<(), AllocError>
+    requires few { place < 16 }
+    requires absent { label_named (named_labels named.old.entries) (Joined.program_name own.now place name.now) ≡ None }
+    ensures { OnOk result (named_labels named.new.entries
+        ≡ named_labels named.old.entries ++ Joined.renamed own.now place (name.now, label) ∷ []) }
+{
+    let bytes = program_name(alloc, own, place, name)?;
+    add_named(alloc, named, &bytes, label)
 }
 
 /// Adds the labels of the module at this place.
@@ -45,8 +73,7 @@ fn add_names(
         let Some((name, label)) = labels.get_index(i) else {
             unreachable!();
         };
-        let bytes = program_name(alloc, own, place, name.bytes())?;
-        add_named(alloc, named, &bytes, *label)?;
+        add_name(alloc, own, place, named, name.bytes(), *label)?;
     }
     Ok(())
 }

@@ -1,7 +1,9 @@
 //! What the lines of all modules do.
-ghost use Rattle.std.specs.Prelude.{◌≡◌, ◌<◌, ◌++◌, IfOk, IfErr, OnOk};
+ghost use Rattle.std.specs.Prelude.{◌≡◌, ◌≤◌, ◌<◌, ◌++◌, [], length, IfOk, IfErr, OnOk};
 ghost use Rattle.mx_asm.specs.Effects.{first_input};
-ghost use Rattle.mx_module.specs.Joined.{IsJoinRefusal, JoinsModules, fault_in_lines, program_fault};
+ghost use Rattle.mx_module.specs.Terms.{first_fault, IsListingOf};
+ghost use Rattle.mx_module.specs.Joined;
+ghost use Rattle.mx_module.specs.Joined.{IsJoinRefusal, JoinsModules, fault_in_lines, line_of, program_fault};
 ghost use Rattle.mx_module.specs.ModuleView.{IsProgram, IsListingOfAll, line_refusal};
 
 use crate::error::{JoinError, JoinFault};
@@ -45,6 +47,28 @@ fn refusal(place: usize, error: AsmError) -> JoinError
     }
 }
 
+/// What the lines of the module at this place do, or the first faulty line.
+fn read_module(
+    alloc: Global,
+    modules: &[Module],
+    place: usize,
+    own: &Module,
+) -> Result<Listing, JoinError>
+    requires few { place < 16 }
+    requires within { place < length modules.now }
+    requires room { own.now.start.index ≤ 20000 }
+    requires order { own.now.start.address ≤ 65536 }
+    ensures read { IfOk result (IsListingOf (Joined.seen_in modules.now place own.now) 65536 own.now.start own.now.lines) }
+    ensures refused { IfErr result (IsJoinRefusal
+        (line_of place (first_fault (Joined.seen_in modules.now place own.now) 65536 own.now.start [] 1 own.now.lines))) }
+{
+    let seen = seen_in(alloc, modules, place, own)?;
+    match own.read_lines(alloc, &seen) {
+        Ok(listing) => Ok(listing),
+        Err(error) => Err(refusal(place, error)),
+    }
+}
+
 /// What the lines of all modules do, or the first faulty line.
 fn read_program(alloc: Global, modules: &[Module]) -> Result<Listing, JoinError>
     requires program { IsProgram modules.now }
@@ -54,11 +78,7 @@ fn read_program(alloc: Global, modules: &[Module]) -> Result<Listing, JoinError>
     let mut listing = Listing::new(alloc);
     let mut place = 0usize;
     for module in modules {
-        let seen = seen_in(alloc, modules, place, module)?;
-        let more = match module.read_lines(alloc, &seen) {
-            Ok(more) => more,
-            Err(error) => return Err(refusal(place, error)),
-        };
+        let more = read_module(alloc, modules, place, module)?;
         append(&mut listing, &more)?;
         place += 1;
     }

@@ -3,7 +3,6 @@ use Rattle.std.proofs.Common.{◌≡◌, ◌≤◌, ◌+◌, ℕ, zero, suc, Boo
 use Rattle.std.proofs.Common.{[], ◌∷◌, ◌++◌, option_to_list, append_assoc, append-nil, arith, refl, sym, ap, ◌∙◌, subst, ⊎_elim, true≢false}
 use Rattle.std.specs.Prelude.{min, eqb, nat_lt, Option}
 use Rattle.std.proofs.lemmas.Bool.Decides.{nat_tests}
-use Rattle.std.proofs.lemmas.Grind.{common_steps}
 use Rattle.std.proofs.lemmas.Bool.{cases_Bool, cases_lt, cond-true, cond-false}
 use Rattle.mx_delay.specs.Delay.{Code}
 use Rattle.mx_icache.specs.Residency.{resident}
@@ -45,7 +44,7 @@ answer_halted code input m request = ⊎_elim
 pub one_more_byte : (p : Program) (m : MachineState) (h : List Bool) (request : Bool)
     → bytes_on p m (h ++ request ∷ []) ≡ bytes_on p m h
     ++ option_to_list (answer (code_of p) p.input (after_bits resident (code_of p) p.input m h) request).byte
-one_more_byte p m [] request = grind (arith, common_steps)
+one_more_byte p m [] request = append-nil (option_to_list (answer (code_of p) p.input m request).byte)
 one_more_byte p m (b ∷ h) request =
     ap (λ l. option_to_list (answer (code_of p) p.input m b).byte ++ l) (one_more_byte p (cycled resident (code_of p) p.input m b) h request)
     ∙ sym (append_assoc (option_to_list (answer (code_of p) p.input m b).byte) _ _)

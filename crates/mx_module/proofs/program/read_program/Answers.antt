@@ -1,4 +1,4 @@
-use Rattle.std.proofs.Common.{◌≡◌, ◌+◌, ◌++◌, ◌∷◌, drop, sym, ap, ◌∙◌, subst, arith}
+use Rattle.std.proofs.Common.{◌≡◌, ◌+◌, ◌++◌, ◌∷◌, drop, sym, ap, ◌∙◌, arith}
 use Rattle.mx_asm.specs.Effects.{first_input}
 use Rattle.mx_asm.specs.Listings.{IsListingOf}
 use Rattle.mx_asm.specs.Texts.{effects_from, statements_in, lines_in, values_in, input_in}
@@ -8,20 +8,20 @@ use Rattle.mx_module.proofs.Appended.{statements_both, lines_both, values_both, 
 use Rattle.mx_module.proofs.Chained.{first_room, first_near, next, many, left_modules, left_chained}
 use Rattle.mx_module.proofs.program.read_program.Goals as goal
 
-pub read_lines-requires-clause-room : goal.read_lines-requires-clause-room
-read_lines-requires-clause-room c =
+pub read_module-requires-clause-few : goal.read_module-requires-clause-few
+read_module-requires-clause-few c = let few = many c.args.modules.now c.requires.program in omega (arith, few)
+
+pub read_module-requires-clause-room : goal.read_module-requires-clause-room
+read_module-requires-clause-room c =
     let i = c.loop-module.module-index in
     let m = c.module-item.result in
     first_room m (drop (i + 1) c.args.modules.now) (left_chained c.args.modules.now i m (omega arith) c.module-item.is c.loop-module.invariant.chained)
 
-pub read_lines-requires-clause-order : goal.read_lines-requires-clause-order
-read_lines-requires-clause-order c =
+pub read_module-requires-clause-order : goal.read_module-requires-clause-order
+read_module-requires-clause-order c =
     let i = c.loop-module.module-index in
     let m = c.module-item.result in
     first_near m (drop (i + 1) c.args.modules.now) (left_chained c.args.modules.now i m (omega arith) c.module-item.is c.loop-module.invariant.chained)
-
-pub refusal-requires : goal.refusal-requires
-refusal-requires c = let few = many c.args.modules.now c.requires.program in omega (arith, few)
 
 pub loop-module-preserved : goal.loop-module-preserved
 loop-module-preserved c =
@@ -33,14 +33,13 @@ loop-module-preserved c =
     let here = left_chained ms i m (omega arith) c.module-item.is c.loop-module.invariant.chained in
     let e : drop i ms ≡ m ∷ rest = left_modules ms i m (omega arith) c.module-item.is in
     let seen = seen_in ms place m in
-    let h : IsListingOf seen 65536 m.start m.lines c.in-Ok.more =
-    subst (λ k. IsListingOf k 65536 m.start m.lines c.in-Ok.more) c.in_ok-seen.ensures c.in-Ok.ensures.read in
+    let h : IsListingOf seen 65536 m.start m.lines c.in_ok-more.more = c.in_ok-more.ensures.read in
     let own = effects_from seen m.start 1 m.lines in
     let later = effects_in ms (place + 1) rest in
     let left = effects_in ms place (drop i ms) in
     let parts : left ≡ own ++ later = ap (effects_in ms place) e in
     let was = c.loop-module.listing in
-    let more = c.in-Ok.more in
+    let more = c.in_ok-more.more in
     let new = c.append.new.listing in
     let added = c.in_ok-append.ensures in
     record {
