@@ -157,9 +157,10 @@ def prove(rooms, crates, log):
             ready = [it for it in crates if it not in started and done.issuperset(rooms.named[it])]
             ready.sort(key=chain.get)
             while ready and idle > 0 and not failed:
-                # (where there are more places than crates that can begin, a crate takes several)
-                jobs = max(1, min(idle // len(ready), MOST_JOBS))
+                # (where there are more places than crates that can begin, a crate takes several; a program reads more than it checks)
+                share = max(1, min(idle // len(ready), MOST_JOBS))
                 crate = ready.pop()
+                jobs = 1 if is_program(f"{rooms.folder}/files/{crate}") else share
                 running[pool.submit(rooms.prove, crate, jobs)] = crate, jobs
                 idle -= jobs
             if not running:
