@@ -30,6 +30,17 @@ pub struct Listing {
     pub has_places: bool,
 }
 
+/// The statement behind those whose block begins at an address, where these are the addresses of the statements, and the first
+/// that is asked for stands at an index.
+pub(crate) fn behind_those_at(links: &[u32], first: usize, address: u32) -> usize {
+    for at in first..links.len() {
+        if links[at] != address {
+            return at;
+        }
+    }
+    links.len()
+}
+
 impl Entry {
     /// What is told of a word at an address by itself.
     pub(crate) fn of_word(

@@ -1,6 +1,6 @@
 //! The words of a linked source.
-use crate::entry::{Entry, Listing};
-use lab_terms::place_at;
+use crate::entry::{Entry, Listing, behind_those_at};
+use lab_terms::{Place, place_at};
 use lab_words::{NamedPlace, PlaceNames};
 use mx_isa::CODE_BASE;
 use mx_link::Linked;
@@ -24,21 +24,111 @@ fn name_text(alloc: Global, name: &[u8]) -> Result<String, AllocError> {
     String::from_str(alloc, str::from_utf8(name).unwrap_or("?"))
 }
 
-// The labels of an address. Those before it are none of those left.
+// The labels of an address, of those from an index on.
 fn labels_at(
     alloc: Global,
     names: &PlaceNames,
-    left: &[(u32, usize)],
+    labels: &[(u32, usize)],
+    told: usize,
     address: u32,
 ) -> Result<Vec<String>, AllocError> {
-    let mut labels = Vec::new(alloc);
-    for (at, index) in left {
-        if *at != address {
+    let mut texts = Vec::new(alloc);
+    for at in told..labels.len() {
+        let (labelled, index) = labels[at];
+        if labelled != address {
             break;
         }
-        labels.push(name_text(alloc, names.name(*index))?)?;
+        texts.push(name_text(alloc, names.name(index))?)?;
     }
-    Ok(labels)
+    Ok(texts)
+}
+
+// The line of the statement that the word at a place comes from, where one is known.
+fn line_at(lines: &[u32], place: Option<Place>) -> Option<u32> {
+    let statement = place?.statement()?;
+    lines.get(statement as usize).copied()
+}
+
+/// How far a source is listed.
+#[derive(Clone, Copy)]
+struct Progress {
+    address: u32,
+    /// How many labels are told.
+    labels: usize,
+    /// How many statements have begun, and in how many blocks.
+    statements: usize,
+    block: u32,
+}
+
+impl Progress {
+    // The same with the statements that begin at the address.
+    fn begin(self, links: &[u32]) -> Progress {
+        let statements = behind_those_at(links, self.statements, self.address);
+        let begins = u32::from(statements > self.statements);
+        Progress {
+            statements,
+            block: self.block.saturating_add(begins),
+            ..self
+        }
+    }
+
+    // The same behind the word of the address, which has so many labels.
+    fn next(self, labels: usize) -> Progress {
+        Progress {
+            address: self.address.saturating_add(1),
+            labels: self.labels.saturating_add(labels),
+            ..self
+        }
+    }
+}
+
+// A word at an address, with its labels.
+fn labelled_word(
+    alloc: Global,
+    names: &PlaceNames,
+    labels: &[(u32, usize)],
+    progress: Progress,
+    word: u32,
+) -> Result<Entry, AllocError> {
+    let address = progress.address;
+    let texts = labels_at(alloc, names, labels, progress.labels, address)?;
+    let mut entry = Entry::of_word(alloc, names, address, word)?;
+    entry.labels = texts;
+    Ok(entry)
+}
+
+// Sets what is known of the place of a word.
+fn set_place(entry: &mut Entry, lines: &[u32], block: u32, place: Option<Place>) {
+    entry.line = line_at(lines, place).unwrap_or(0);
+    entry.block = block;
+    entry.place = place;
+}
+
+// The words of a linked source, with the names of its places and these labels.
+fn labelled_entries(
+    alloc: Global,
+    source: &Source,
+    linked: &Linked,
+    names: &PlaceNames,
+    labels: &[(u32, usize)],
+) -> Result<Vec<Entry>, AllocError> {
+    let (code, origin) = (linked.image.code.as_slice(), linked.origin.as_slice());
+    let mut progress = Progress {
+        address: CODE_BASE,
+        labels: 0,
+        statements: 0,
+        block: 0,
+    };
+    let mut entries = Vec::new(alloc);
+    for at in 0..code.len() {
+        progress = progress.begin(linked.links.as_slice());
+        let mut entry = labelled_word(alloc, names, labels, progress, code[at])?;
+        let place = place_at(source.statements(), origin, at);
+        set_place(&mut entry, source.lines(), progress.block, place);
+        progress = progress.next(entry.labels.len());
+        entries.push(entry)?;
+    }
+    Ok(entries)
 }
 
 // The words of a linked source, with the names of its places.
@@ -49,32 +139,7 @@ fn entries_of(
     names: &PlaceNames,
 ) -> Result<Vec<Entry>, AllocError> {
     let labels = code_labels(alloc, names)?;
-    let mut left = labels.as_slice();
-    let (statements, lines) = (source.statements(), source.lines());
-    let mut entries = Vec::new(alloc);
-    let (mut address, mut block, mut begun) = (CODE_BASE, 0u32, 0usize);
-    for (at, word) in linked.image.code.iter().enumerate() {
-        let place = place_at(statements, linked.origin.as_slice(), at);
-        let statement = place.and_then(|place| place.statement());
-        let here = linked.links.get(begun..).unwrap_or(&[]);
-        let beginning = here.iter().take_while(|link| **link == address).count();
-        if beginning > 0 {
-            block = block.saturating_add(1);
-            begun = begun.saturating_add(beginning);
-        }
-        let named = labels_at(alloc, names, left, address)?;
-        left = left.get(named.len()..).unwrap_or(&[]);
-        let mut entry = Entry::of_word(alloc, names, address, *word)?;
-        entry.labels = named;
-        entry.line = statement
-            .and_then(|statement| lines.get(statement as usize).copied())
-            .unwrap_or(0);
-        entry.block = block;
-        entry.place = place;
-        entries.push(entry)?;
-        address = address.saturating_add(1);
-    }
-    Ok(entries)
+    labelled_entries(alloc, source, linked, names, labels.as_slice())
 }
 
 /// The words of a source that is linked, in assembly language, each with its labels, its line, its block and what its place is.
