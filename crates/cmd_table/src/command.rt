@@ -13,7 +13,7 @@ use mx_io::Memory;
 use std::alloc::Global;
 
 /// What a command line asks for.
-#[derive(Debug, Drop)]
+#[derive(Drop)]
 pub enum Command<'a> {
     Run {
         source: &'a str,

@@ -16,6 +16,7 @@ use Rattle.cmd_answer.specs.Delivery.{HasStatus}
 use Rattle.cmd_answer.specs.declared.Failure.{Failure}
 use Rattle.cmd_answer.specs.declared.Reply.{Reply}
 use Rattle.cmd_answer.specs.Replies.{OnAnswer}
+use Rattle.cmd_answer.proofs.Replies.{reply_weaker}
 use Rattle.mx_io.specs.Shelves.{Told, Counts}
 use Rattle.cmd_answer.specs.Protocol.{Protocol, Answers, Reads, Performed, HasOwnAnswers, OnlyPrints}
 use Rattle.cmd_answer.proofs.Protocols.{no_file}
@@ -282,6 +283,12 @@ pub by_command : (layout_of : Layouts) (shelf : Told) (before after : Counts) (r
     → OnAnswer r (Performed shelf (protocol_of layout_of (Some (seen_command asked))) before after)
 by_command layout_of shelf before after r is performed =
     subst (λ (c : GivenCommand). OnAnswer r (Performed shelf (protocol_of layout_of (Some (seen_command c))) before after)) (sym is) performed
+
+-- a reply that reads no file
+pub answered_with : (shelf : Told) (counts : Counts) (r : Result Reply Failure) (own : Answer) → OnAnswer r (λ answer. answer ≡ own)
+    → OnAnswer r (Performed shelf (Answers own) counts counts)
+answered_with shelf counts r own holds =
+    reply_weaker r (λ answer. answer ≡ own) (Performed shelf (Answers own) counts counts) holds (λ answer is. (refl, is))
 
 -- a reply to a command, whatever the layouts are
 pub command_is_replied : (layout_of : Layouts) (shelf : Told) (before after : Counts) (answer : Answer) (meant : GivenCommand)

@@ -1,5 +1,5 @@
 -- Two sources that share the machine, by the layout that a function of sources gives.
-use Rattle.std.proofs.Common.{◌≡◌, ℕ, suc, ◌+◌, ◌≤◌, List, [], ◌∷◌, length, Option, Some, None, refl, sym, ap, ◌∙◌, subst, arith, ◌<◌, ◌⊎◌, inl, inr, get_or}
+use Rattle.std.proofs.Common.{◌≡◌, ℕ, suc, ◌+◌, ◌≤◌, List, [], ◌∷◌, length, Option, Some, None, Result, Ok, Err, IfOk, refl, sym, ap, ◌∙◌, subst, arith, ◌<◌, ◌⊎◌, inl, inr, get_or}
 use Rattle.std.specs.Prelude.{All, slice_get, pos, ◌-ℤ◌}
 use Rattle.std.proofs.lemmas.List.Elements.{All-nil, All-cons}
 use Rattle.std.proofs.lemmas.Option.{slice_get_cases}
@@ -23,7 +23,10 @@ use Rattle.mx_asm.proofs.Sourced.{faultless_source, faultless_words}
 use Rattle.mx_isa.specs.Board.{board}
 use Rattle.cmd_answer.specs.declared.Status.TheVariants.{Refused}
 use Rattle.cmd_answer.specs.Answer.{prints, text_line}
+use Rattle.cmd_answer.specs.declared.Failure.{Failure}
 use Rattle.cmd_answer.specs.Protocol.{Protocol, Answers}
+use Rattle.cmd_answer.specs.Replies.{IfAnswered}
+use Rattle.cmd_answer.proofs.Replies.{step_weaker}
 use Rattle.mx_tasks.specs.Places.{lower, upper}
 use Rattle.mx_tasks.specs.Images.{shared_code, shared_data}
 use Rattle.mx_tasks.specs.declared.sharing.Shared.{Shared}
@@ -176,6 +179,30 @@ pub wrong_of : (place : Place) (text : List ℕ) (source : SourceValue) (input m
 wrong_of place text source input many reads e f =
     (λ k. wrong_by (reads.faultless k) (sym reads.same k).input (slice_get (sym reads.same k).lines 10000))
     ∙ (λ k. wrong_by None (e k) (f k))
+
+-- the source of a text without faults shares the machine, or is refused
+module _ (place : Place) (text : List ℕ) (source : SourceValue) (reads : ReadsAs place.user_data place.end text source) (r : Result SourceValue Failure) where
+  abbrev wrong : Option (List ℕ)
+  wrong = wrong_by None source.input (slice_get source.lines 10000)
+
+  wrong_is : wrong_with place text ≡ wrong
+  wrong_is = wrong_of place text source source.input (slice_get source.lines 10000) reads refl refl
+
+  pub shared_right : IfOk r (λ kept. (kept ≡ source) × (wrong ≡ None)) → IfOk r (IsFitting place text)
+  shared_right right = fits r right
+    where
+      fits : (r : Result SourceValue Failure) → IfOk r (λ kept. (kept ≡ source) × (wrong ≡ None)) → IfOk r (IsFitting place text)
+      fits (Ok kept) h = record { right = wrong_is ∙ h.1; is = h.0 ∙ reads.same }
+      fits (Err failure) h = tt
+
+  pub shared_wrong : (program : ℕ)
+      → IfAnswered r (λ answer. (cause : List ℕ) × (wrong ≡ Some cause) × (answer ≡ prints Refused (text_line (of_program program cause))))
+      → IfAnswered r (λ answer. (cause : List ℕ) × (wrong_with place text ≡ Some cause) × (answer ≡ prints Refused (text_line (of_program program cause))))
+  shared_wrong program holds =
+      step_weaker r
+      (λ answer. (cause : List ℕ) × (wrong ≡ Some cause) × (answer ≡ prints Refused (text_line (of_program program cause))))
+      (λ answer. (cause : List ℕ) × (wrong_with place text ≡ Some cause) × (answer ≡ prints Refused (text_line (of_program program cause))))
+      holds (λ answer h. (h.0, wrong_is ∙ h.1, h.2))
 
 -- a text goes on with its source, or is refused
 pub fitting_goes : (program : ℕ) (place : Place) (next : SourceValue → Protocol) (text : List ℕ) (source : SourceValue) → IsFitting place text source

@@ -1,13 +1,13 @@
 //! The replies of the commands that read an image file.
-ghost use Rattle.std.specs.Prelude.{◌≡◌, ◌≢◌, ◌++◌, codes, IfOk, List, ℕ, Some, None};
+ghost use Rattle.std.specs.Prelude.{◌≡◌, ◌≢◌, ◌++◌, codes, length, IfOk, List, ℕ, Some, None};
 ghost use Rattle.mx_command.specs.Terms.{prints, Answers, Reads, Performed, reply_answer, OnAnswer, seen_files, image_text, image_line, exec_protocol};
-ghost use Rattle.mx_command.specs.Terms.{migrate_answer, contents_of, file_refusal, file_in, file_bytes, writes, Counts, unless_refused};
+ghost use Rattle.mx_command.specs.Terms.{migrate_answer, contents_of, LinksFit, file_refusal, file_in, file_bytes, writes, Counts, unless_refused};
 
 use cmd_answer::{Failure, FileKind, Reply, Status, line_reply};
 use cmd_options::{Limits, RunFiles};
 use cmd_simulate::run_image;
 use cmd_source::read_named;
-use mx_image::{ImageError, read_file as read_image_file, write_file};
+use mx_image::{ImageError, ImageFile, read_file as read_image_file, write_file};
 use mx_io::{Memory, Shelf};
 use std::alloc::Global;
 
@@ -58,18 +58,24 @@ fn exec_bytes<S: Shelf>(
     }
 }
 
+// The reply that writes an image file under this name.
+pub fn written_reply(alloc: Global, file: &ImageFile, target: &str) -> Result<Reply, Memory>
+    requires { LinksFit (length file.now.image.code.items) file.now.links.items }
+    ensures { IfOk result (λ r. reply_answer r ≡ writes target.now (file_bytes (contents_of file.now))) }
+{
+    let Ok(name) = String::from_str(alloc, target) else {
+        return Err(Memory);
+    };
+    let bytes = write_file(alloc, file)?;
+    Ok(Reply::Writes { name, bytes })
+}
+
 // The reply of `migrate` to the bytes of its file.
 fn migrate_bytes(alloc: Global, bytes: &[u8], target: &str) -> Result<Reply, Memory>
     ensures { IfOk result (λ r. reply_answer r ≡ migrate_answer target.now bytes.now) }
 {
     match read_image_file(alloc, bytes) {
-        Ok(file) => {
-            let bytes = write_file(alloc, &file)?;
-            let Ok(name) = String::from_str(alloc, target) else {
-                return Err(Memory);
-            };
-            Ok(Reply::Writes { name, bytes })
-        }
+        Ok(file) => written_reply(alloc, &file, target),
         Err(error) => {
             let reply = image_reply(alloc, &error)?;
             Ok(reply)

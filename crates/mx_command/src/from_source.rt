@@ -1,9 +1,10 @@
 //! The replies of the commands that read a source.
-ghost use Rattle.std.specs.Prelude.{◌≡◌, IfOk, List, ℕ, option_map, is_some};
-ghost use Rattle.mx_command.specs.Terms.{lengths_text, blocks_in, from_target, IsLinked, IsGreedy, board, file_bytes, prints, writes, Answers, Reads};
+ghost use Rattle.std.specs.Prelude.{◌≡◌, length, IfOk, List, ℕ, option_map, is_some};
+ghost use Rattle.mx_command.specs.Terms.{lengths_text, blocks_in, from_target, IsLinked, IsGreedy, board, prints, Answers, Reads, contents_of, LinksFit};
 ghost use Rattle.mx_command.specs.Terms.{Performed, reply_answer, OnAnswer, seen_files, IsScheduler, Layouts, linked_protocol, run_protocol, meaning_protocol};
-ghost use Rattle.mx_command.specs.Terms.{build_protocol, list_protocol, best_answer, Performs, Counts};
+ghost use Rattle.mx_command.specs.Terms.{build_protocol, list_protocol, best_answer, input_protocol, meaning_answer, Performs, Counts};
 
+use crate::from_image::written_reply;
 use cmd_answer::{Failure, FileKind, Reply, Status};
 use cmd_best::lengths_text;
 use cmd_list::listing;
@@ -11,7 +12,7 @@ use cmd_meaning::meaning_reply;
 use cmd_options::{Limits, RunFiles};
 use cmd_simulate::{read_input, run_image};
 use cmd_source::{Program, read_program, read_source};
-use mx_image::{ImageFile, write_file};
+use mx_image::ImageFile;
 use mx_io::{Memory, Shelf};
 use mx_link::Linked;
 use mx_source::Source;
@@ -50,35 +51,48 @@ pub fn told_reply<S: Shelf>(
     ensures writes_stay { S.write_faults shelf.new ≡ S.write_faults shelf.old }
 {
     let source = read_source(alloc, shelf, source)?;
+    source_reply(alloc, shelf, &source, steps, input)
+}
+
+// The same of a source that was read.
+fn source_reply<S: Shelf>(
+    alloc: Global,
+    shelf: &mut S,
+    source: &Source,
+    steps: u32,
+    input: Option<&str>,
+) -> Result<Reply, Failure>
+    ensures performed { OnAnswer result (Performed (S.told shelf.old)
+        (input_protocol (option_map (λ s. s.now) input.entry) (λ bytes. Answers (meaning_answer source.now board bytes steps)))
+        (S.counts shelf.old) (S.counts shelf.new)) }
+    ensures told_stays { S.told shelf.new ≡ S.told shelf.old }
+    ensures writes_stay { S.write_faults shelf.new ≡ S.write_faults shelf.old }
+{
     let bytes = read_input(alloc, shelf, input)?;
-    let reply = meaning_reply(alloc, &source, bytes.as_slice(), steps)?;
+    let reply = meaning_reply(alloc, source, bytes.as_slice(), steps)?;
     Ok(reply)
 }
 
-// The reply that writes the image file of a linked source.
-fn file_reply(alloc: Global, source: &Source, linked: Linked, target: &str) -> Result<Reply, Memory>
-    requires { IsLinked IsGreedy from_target source.now board linked }
-    ensures { IfOk result (λ r. reply_answer r
-        ≡ writes target.now (file_bytes (record {
-          code = linked.image.code.items;
-          user_data = linked.image.user_data.items;
-          input = is_some source.now.input;
-          links = linked.links.items;
-        }))) }
+// The image file of a program.
+fn image_file(program: Program) -> ImageFile
+    requires { IsLinked IsGreedy from_target program.source board program.linked }
+    ensures contents { contents_of result ≡ record {
+      code = program.linked.image.code.items;
+      user_data = program.linked.image.user_data.items;
+      input = is_some program.source.input;
+      links = program.linked.links.items;
+    } }
+    ensures fit { LinksFit (length result.image.code.items) result.links.items }
 {
+    let Program { source, linked, .. } = program;
     let _statements = source.statements();
-    let Linked { image, links, .. } = linked;
     let input = source.input().is_some();
-    let file = ImageFile {
+    let Linked { image, links, .. } = linked;
+    ImageFile {
         image,
         input,
         links,
-    };
-    let bytes = write_file(alloc, &file)?;
-    let Ok(name) = String::from_str(alloc, target) else {
-        return Err(Memory);
-    };
-    Ok(Reply::Writes { name, bytes })
+    }
 }
 
 /// The reply to `build SOURCE IMAGE`.
@@ -93,9 +107,9 @@ pub fn build_reply<S: Shelf>(
     ensures told_stays { S.told shelf.new ≡ S.told shelf.old }
     ensures writes_stay { S.write_faults shelf.new ≡ S.write_faults shelf.old }
 {
-    let program = read_program(alloc, shelf, source)?;
-    let Program { source, linked, .. } = program;
-    let reply = file_reply(alloc, &source, linked, target)?;
+    let built = read_program(alloc, shelf, source)?;
+    let file = image_file(built);
+    let reply = written_reply(alloc, &file, target)?;
     Ok(reply)
 }
 
@@ -106,8 +120,8 @@ pub fn list_reply<S: Shelf>(alloc: Global, shelf: &mut S, source: &str) -> Resul
     ensures told_stays { S.told shelf.new ≡ S.told shelf.old }
     ensures writes_stay { S.write_faults shelf.new ≡ S.write_faults shelf.old }
 {
-    let program = read_program(alloc, shelf, source)?;
-    let output = listing(alloc, &program.source, &program.linked)?;
+    let listed = read_program(alloc, shelf, source)?;
+    let output = listing(alloc, &listed.source, &listed.linked)?;
     let status = Status::Done;
     Ok(Reply::Prints { status, output })
 }

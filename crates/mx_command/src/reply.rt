@@ -16,9 +16,9 @@ use mx_io::{Memory, Shelf};
 use std::alloc::Global;
 
 /// The reply to `gen SEED COUNT`.
-fn gen_reply(alloc: Global, seed: u32, count: u32) -> Result<Reply, Memory>
+fn gen_reply(alloc: Global, seed: u32, count: u32) -> Result<Reply, Failure>
     requires { count ≤ 4000 }
-    ensures { IfOk result (λ r. reply_answer r ≡ prints Status.Done (printed (generated seed count))) }
+    ensures { OnAnswer result (λ answer. answer ≡ prints Status.Done (printed (generated seed count))) }
 {
     let source = generate(alloc, seed, count)?;
     let output = source.print(alloc)?;
@@ -27,9 +27,10 @@ fn gen_reply(alloc: Global, seed: u32, count: u32) -> Result<Reply, Memory>
 }
 
 /// The reply to `soak SEED COUNT`.
-fn soak_reply(alloc: Global, seed: u32, count: u32) -> Result<Reply, Memory>
+fn soak_reply(alloc: Global, seed: u32, count: u32) -> Result<Reply, Failure>
     requires { count ≤ 4000 }
-    ensures { (layout_of : Layouts) → IsScheduler layout_of → IfOk result (λ r. reply_answer r ≡ prints Status.Done (soak_text layout_of seed count)) }
+    ensures { (layout_of : Layouts) → IsScheduler layout_of
+        → OnAnswer result (λ answer. answer ≡ prints Status.Done (soak_text layout_of seed count)) }
 {
     let output = soak(alloc, seed, count)?;
     let status = Status::Done;
@@ -63,14 +64,8 @@ fn command_reply<S: Shelf>(alloc: Global, shelf: &mut S, asked: &Command) -> Res
         } => exec_reply(alloc, shelf, image, files, limits),
         Command::Listing { source } => list_reply(alloc, shelf, source),
         Command::Best { source } => best_reply(alloc, shelf, source),
-        Command::Gen { seed, count } => {
-            let reply = gen_reply(alloc, seed, count)?;
-            Ok(reply)
-        }
-        Command::Soak { seed, count } => {
-            let reply = soak_reply(alloc, seed, count)?;
-            Ok(reply)
-        }
+        Command::Gen { seed, count } => gen_reply(alloc, seed, count),
+        Command::Soak { seed, count } => soak_reply(alloc, seed, count),
         Command::Migrate { image, target } => migrate_reply(alloc, shelf, image, target),
         Command::Share {
             first,

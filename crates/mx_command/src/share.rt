@@ -1,8 +1,8 @@
 //! The reply of the command that runs two sources on one machine.
-ghost use Rattle.std.specs.Prelude.{◌≡◌, ◌≤◌, ◌++◌, length, IfOk, List, ℕ, Option, Some, option_map, pos, ◌-ℤ◌};
+ghost use Rattle.std.specs.Prelude.{◌≡◌, ◌≤◌, ◌++◌, length, slice_get, IfOk, List, ℕ, Option, Some, None, option_map, pos, ◌-ℤ◌};
 ghost use Rattle.mx_io.specs.declared.limits.TheConstants.{MAX_SOURCE_BYTES};
 ghost use Rattle.mx_command.specs.Terms.{SourceValue, lower, upper, sharing_protocol, limit_of, Answer, prints, text_line, Counts, Protocol, Answers, Reads};
-ghost use Rattle.mx_command.specs.Terms.{Performed, reply_answer, IfAnswered, IsScheduler, overlong_text, Layouts, of_program, line_cause, wrong_with};
+ghost use Rattle.mx_command.specs.Terms.{Performed, reply_answer, IfAnswered, IsScheduler, overlong_text, Layouts, of_program, line_cause, wrong_by, wrong_with};
 ghost use Rattle.mx_command.specs.Terms.{assembled_protocol, pair_protocol, share_protocol, IsFitting, Performs, OnAnswer, Gives, Refuses};
 
 use cmd_answer::{Failure, FileKind, Reply, Status, line_reply};
@@ -55,6 +55,32 @@ fn far_reply(alloc: Global, program: u32, line: u32, from: u32, to: u32) -> Resu
     Ok(reply)
 }
 
+// What keeps a source without faults from sharing the machine, with its line.
+fn first_wrong(source: &Source) -> Option<(u32, &'static str)>
+    ensures { option_map (λ w. line_cause w.0 w.1.now) result ≡ wrong_by None source.now.input (slice_get source.now.lines 10000) }
+{
+    if let Some(line) = source.input() {
+        return Some((line, "input"));
+    }
+    match source.lines().get(MOST) {
+        Some(line) => Some((*line, "too many instructions")),
+        None => None,
+    }
+}
+
+// The source of program 1 or 2, or the reply to what keeps it from sharing the machine.
+fn shareable(alloc: Global, program: u32, source: Source) -> Result<Source, Failure>
+    ensures right { IfOk result (λ kept. (kept ≡ source) × (wrong_by None source.input (slice_get source.lines 10000) ≡ None)) }
+    ensures wrong { IfAnswered result (λ answer. (cause : List ℕ)
+        × (wrong_by None source.input (slice_get source.lines 10000) ≡ Some cause)
+        × (answer ≡ prints Status.Refused (text_line (of_program program cause)))) }
+{
+    match first_wrong(&source) {
+        Some((line, cause)) => Err(Failure::Answered(line_wrong(alloc, program, line, cause)?)),
+        None => Ok(source),
+    }
+}
+
 // The source of a program's text, assembled for its place, or the reply to what is wrong with it.
 fn assembled_for(alloc: Global, program: u32, place: Place, text: &[u8]) -> Result<Source, Failure>
     requires short { length text.now ≤ MAX_SOURCE_BYTES }
@@ -63,21 +89,13 @@ fn assembled_for(alloc: Global, program: u32, place: Place, text: &[u8]) -> Resu
     ensures refused { IfAnswered result (λ answer. (cause : List ℕ) × (wrong_with place text.now ≡ Some cause)
         × (answer ≡ prints Status.Refused (text_line (of_program program cause)))) }
 {
-    let source = match assemble_at(alloc, text, place.user_data, place.end) {
-        Ok(source) => source,
+    match assemble_at(alloc, text, place.user_data, place.end) {
+        Ok(source) => shareable(alloc, program, source),
         Err(AsmError::Refused { line, fault }) => {
-            return Err(Failure::Answered(line_wrong(alloc, program, line, fault.text())?));
+            Err(Failure::Answered(line_wrong(alloc, program, line, fault.text())?))
         }
-        Err(AsmError::Memory) => return Err(Failure::Memory),
-    };
-    if let Some(line) = source.input() {
-        return Err(Failure::Answered(line_wrong(alloc, program, line, "input")?));
+        Err(AsmError::Memory) => Err(Failure::Memory),
     }
-    if let Some(line) = source.lines().get(MOST) {
-        let reply = line_wrong(alloc, program, *line, "too many instructions")?;
-        return Err(Failure::Answered(reply));
-    }
-    Ok(source)
 }
 
 // The source of program 1 or 2, whose text is in a file, or the reply to a fault of the file, or to what is wrong with the text.

@@ -8,19 +8,16 @@ use Rattle.mx_command.specs.Protocols.{build_protocol}
 use Rattle.mx_command.proofs.Laid.{contents_linked}
 use Rattle.mx_command.proofs.from_source.build_reply.Goals as goal
 
-pub returns-in_err-program-clause-performed : goal.returns-in_err-program-clause-performed
-returns-in_err-program-clause-performed g c = λ layout_of is.
+pub returns-in_err-built-clause-performed : goal.returns-in_err-built-clause-performed
+returns-in_err-built-clause-performed g c = λ layout_of is.
     program_fails (g.S.Shelf.told c.args.shelf.now) _ _ _ _ c.from_residual.ensures.1 c.args.source.now
-    layout_of is (build_protocol c.args.target.now) c.in_err-program.ensures.refused
+    layout_of is (build_protocol c.args.target.now) c.in_err-built.ensures.refused
 
 pub returns-clause-performed : goal.returns-clause-performed
 returns-clause-performed g c = λ layout_of is.
-    let program = c.in_ok-program.program in
-    c.in_ok-program.ensures.given layout_of is (build_protocol c.args.target.now) _ (reply_answer c.in_ok-reply.reply) (
+    let program = c.in_ok-built.built in
+    c.in_ok-built.ensures.given layout_of is (build_protocol c.args.target.now) _ (reply_answer c.in_ok-reply.reply) (
       refl,
       c.in_ok-reply.ensures ∙ ap (λ (f : Contents). writes c.args.target.now (file_bytes f))
-          (contents_linked layout_of is program.source program.linked c.in_ok-program.ensures.linked),
+          (c.image_file-file.ensures.contents ∙ contents_linked layout_of is program.source program.linked c.in_ok-built.ensures.linked),
     )
-
-pub file_reply-requires : goal.file_reply-requires
-file_reply-requires g c = c.in_ok-program.ensures.linked

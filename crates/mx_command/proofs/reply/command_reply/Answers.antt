@@ -5,7 +5,7 @@ use Rattle.mx_io.specs.Shelves.{Told, Counts}
 use Rattle.cmd_answer.specs.Protocol.{Performed}
 use Rattle.cmd_answer.specs.Replies.{OnAnswer}
 use Rattle.mx_command.specs.Protocols.{modules_protocol}
-use Rattle.mx_command.proofs.Own.{by_command}
+use Rattle.mx_command.proofs.Own.{by_command, answered_with}
 use Rattle.mx_command.proofs.reply.command_reply.Goals as goal
 
 pub returns-in-Run-clause-performed : goal.returns-in-Run-clause-performed
@@ -31,6 +31,18 @@ returns-in-Listing-clause-performed g c = λ layout_of is.
 pub returns-in-Best-clause-performed : goal.returns-in-Best-clause-performed
 returns-in-Best-clause-performed g c = λ layout_of is.
     by_command layout_of _ _ _ _ c.in-Best.is (c.best_reply.ensures.performed layout_of is)
+
+pub returns-in-Gen-clause-performed : goal.returns-in-Gen-clause-performed
+returns-in-Gen-clause-performed g c = λ layout_of is.
+    let told : Told = g.S.Shelf.told c.args.shelf.now in
+    let before : Counts = g.S.Shelf.counts c.args.shelf.now in
+    by_command layout_of told before before _ c.in-Gen.is (answered_with told before c.gen_reply.result _ c.gen_reply.ensures)
+
+pub returns-in-Soak-clause-performed : goal.returns-in-Soak-clause-performed
+returns-in-Soak-clause-performed g c = λ layout_of is.
+    let told : Told = g.S.Shelf.told c.args.shelf.now in
+    let before : Counts = g.S.Shelf.counts c.args.shelf.now in
+    by_command layout_of told before before _ c.in-Soak.is (answered_with told before c.soak_reply.result _ (c.soak_reply.ensures layout_of is))
 
 pub returns-in-Migrate-clause-performed : goal.returns-in-Migrate-clause-performed
 returns-in-Migrate-clause-performed g c = λ layout_of is.
