@@ -1,5 +1,5 @@
 -- What each command reads and answers, in the order in which it is refused.
-use Rattle.std.specs.Prelude.{ℕ, ◌+◌, ◌++◌, [], ◌∷◌, codes, List, map, cond, ltb, length, slice_get, Option, Some, None, is_some, option_and_then, ℤ, pos, ◌-ℤ◌}
+use Rattle.std.specs.Prelude.{ℕ, ◌+◌, ◌++◌, [], ◌∷◌, codes, List, map, cond, ltb, length, slice_get, Option, Some, None, is_some, option_and_then, pos, ◌-ℤ◌}
 use Rattle.std.specs.Fmt.{decimal}
 use Rattle.mx_isa.specs.declared.board.TheConstants.{DATA_BASE, DATA_END}
 use Rattle.mx_isa.specs.declared.Place.{Place}

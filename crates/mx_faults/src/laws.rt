@@ -1,6 +1,7 @@
 //! Laws of the faults.
 ghost use Rattle.std.specs.Prelude.{◌≡◌, ◌≤◌, ℕ, List, None};
 ghost use Rattle.mx_isa.specs.declared.board.TheConstants.{DATA_BASE, DATA_END};
+ghost use Rattle.mx_lines.specs.declared.labels.TheConstants.{PAST_END};
 ghost use Rattle.mx_asm.specs.Printable.{IsPrintable, ReadsBack};
 ghost use Rattle.mx_asm.specs.Texts.{source_of, text_fault};
 ghost use Rattle.mx_faults.specs.Sayable.{HasShortNames, IsSayable};
@@ -15,13 +16,13 @@ pub fn least_is_least()
 /// The fault that the assembler's definition gives a line, of whatever text and also behind its first faulty line, is
 /// the least of those that hold of it.
 pub fn assembled_fault_is_least()
-    ensures { (low end : ℕ) (text : List ℕ) (place : ℕ) → low ≤ 65537 → end ≤ DATA_END
+    ensures { (low end : ℕ) (text : List ℕ) (place : ℕ) → low ≤ PAST_END → end ≤ DATA_END
         → IsLeast (text_line low end text place) (assembled_fault low end text place) }
 {}
 
 /// A text is refused by the first of its faulty lines, with its least fault.
 pub fn first_faulty_line()
-    ensures { (low end : ℕ) (text : List ℕ) → low ≤ 65537 → end ≤ DATA_END → text_fault low end text ≡ first (faults_in low end text) }
+    ensures { (low end : ℕ) (text : List ℕ) → low ≤ PAST_END → end ≤ DATA_END → text_fault low end text ≡ first (faults_in low end text) }
 {}
 
 /// What a text without faults reads as has registers 0 to 31, data words below 2^32, and labels with names of the

@@ -6,6 +6,7 @@ ghost use Rattle.mx_io.specs.declared.limits.TheConstants.{MAX_SOURCE_BYTES};
 ghost use Rattle.mx_asm.specs.Faults;
 ghost use Rattle.mx_asm.specs.Positions;
 ghost use Rattle.mx_asm.specs.Positions.{line_words};
+ghost use Rattle.mx_lines.specs.declared.labels.TheConstants.{PAST_END};
 ghost use Rattle.mx_lines.specs.Shapes.{word};
 ghost use Rattle.mx_asm.specs.Texts.{text_fault};
 ghost use Rattle.mx_lines.specs.Words.{texts};
@@ -59,14 +60,14 @@ fn see(
     line: &[u8],
 ) -> Result<Seen, AllocError>
     requires room { position.now.index < 2 ^ 32 - 1 }
-    requires near { position.now.address ≤ 65537 }
+    requires near { position.now.address ≤ PAST_END }
     requires order { bounds.now.data_start ≤ bounds.now.end }
     requires within { bounds.now.end ≤ DATA_END }
     ensures fault { IfOk result (λ s. s.fault ≡ Faults.line_fault labels.now bounds.now.end position.now earlier.old line.now) }
     ensures span { IfOk result (λ s. IfSome s.fault (IsShownAs labels.now earlier.old position.now line.now s.span)) }
     ensures next { IfOk result (λ s. s.next ≡ Positions.after position.now (Positions.line_words line.now)) }
     ensures index { IfOk result (λ s. s.next.index ≤ position.now.index + 1) }
-    ensures near { IfOk result (λ s. s.next.address ≤ 65537) }
+    ensures near { IfOk result (λ s. s.next.address ≤ PAST_END) }
     ensures earlier { OnOk result (earlier.new ≡ Positions.with_labels position.now earlier.old (Positions.line_words line.now)) }
 {
     let words = line_words(alloc, line)?;

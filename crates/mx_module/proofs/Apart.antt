@@ -1,5 +1,5 @@
 -- Labels whose names differ.
-use Rattle.std.proofs.Common.{◌≡◌, ℕ, suc, zero, Bool, false, true, List, [], ◌∷◌, ◌++◌, map, take, cond, Option, Some, None, refl, ap, sym, ◌∙◌, subst}
+use Rattle.std.proofs.Common.{◌≡◌, ℕ, suc, zero, false, List, [], ◌∷◌, ◌++◌, map, take, cond, Some, None, refl, ap, sym, ◌∙◌}
 use Rattle.std.specs.List.{IsDistinct, AllByRecursion, slice_get}
 use Rattle.std.specs.Option.{option_map}
 use Rattle.std.specs.Str.{bytes_eq}

@@ -1,5 +1,5 @@
 -- Modules, each of which begins where the one before it ends.
-use Rattle.std.proofs.Common.{◌≡◌, ℕ, suc, ◌+◌, length, drop, get_or, ◌≤◌, ◌<◌, List, [], ◌∷◌, ◌++◌, refl, sym, ap, ◌∙◌, subst, arith}
+use Rattle.std.proofs.Common.{◌≡◌, ℕ, suc, ◌+◌, length, drop, get_or, ◌≤◌, ◌<◌, List, [], ◌∷◌, refl, sym, ap, ◌∙◌, subst, arith}
 use Rattle.std.proofs.lemmas.List.{at_drop_more}
 use Rattle.mx_asm.specs.declared.Position.{Position}
 use Rattle.mx_asm.specs.Positions.{start, labels_from, position_at_end, after, line_words}

@@ -1,8 +1,8 @@
 -- The names of labels in a program are apart.
-use Rattle.std.proofs.Common.{◌≡◌, ◌≢◌, ℕ, ◌+◌, ◌≤◌, ◌<◌, ◌^◌, Bool, true, false, ◌||◌, ◌==◌, cond, List, [], ◌∷◌, ◌++◌, length, map, Option, Some, None, refl, ap, sym, ◌∙◌, subst, append_assoc, length-append, arith}
+use Rattle.std.proofs.Common.{◌≡◌, ◌≢◌, ℕ, ◌+◌, ◌≤◌, ◌<◌, Bool, true, false, ◌||◌, ◌==◌, cond, List, [], ◌∷◌, ◌++◌, length, map, Option, Some, None, refl, ap, sym, ◌∙◌, subst, append_assoc, length-append, arith}
 use Rattle.std.specs.Prelude.{codes, is_some}
 use Rattle.std.specs.Fmt.{decimal, digits}
-use Rattle.std.specs.List.{IsDistinct, AllByRecursion, list_any}
+use Rattle.std.specs.List.{IsDistinct, AllByRecursion}
 use Rattle.std.specs.Str.{bytes_eq}
 use Rattle.std.proofs.lemmas.Bool.{false≢true, agree_below_at}
 use Rattle.std.proofs.lemmas.Fmt.{decimal_injective}
@@ -25,7 +25,7 @@ use Rattle.mx_module.specs.LinkFaults.{is_exported, fault_in_links, fault_in_mod
 use Rattle.mx_module.specs.Joined.{AreApart, program_name, renamed, labels_in}
 use Rattle.mx_module.proofs.Apart.{AreAway, both_apart, both_none, names}
 use Rattle.mx_module.proofs.Chained.{many}
-use Rattle.mx_module.proofs.Exported.{exports_plain, IsPlain, Each, Unshared, unshared_behind, refusal_none}
+use Rattle.mx_module.proofs.Exported.{exports_plain, IsPlain, Unshared, unshared_behind, refusal_none}
 
 differ : (x y : List ℕ) (b : Bool) → (b ≡ true → x ≡ y) → (x ≡ y → ⊥) → b ≡ false
 differ x y true f g = absurd (g (f refl))

@@ -18,7 +18,7 @@ use Rattle.mx_asm.specs.declared.Position.{Position}
 use Rattle.mx_lines.specs.Instructions.{Labels}
 use Rattle.mx_lines.specs.Fitting.{LabelsFit}
 use Rattle.mx_lines.specs.Operands.{label_named}
-use Rattle.mx_asm.specs.Positions.{labels_from, position_at_end}
+use Rattle.mx_asm.specs.Positions.{position_at_end}
 use Rattle.mx_asm.specs.Faults.{first_fault}
 use Rattle.mx_asm.specs.Texts.{effects_from, statements_in, lines_in, values_in}
 use Rattle.mx_asm.proofs.LabelBounds.{define_fits, labels_fit}
@@ -28,8 +28,8 @@ use Rattle.mx_module.specs.declared.link.LinkKind.{LinkKind}
 use Rattle.mx_module.specs.declared.link.LinkKind.TheVariants.{Import, Export}
 use Rattle.mx_module.specs.Links.{Link}
 use Rattle.mx_module.specs.Modules.{ModuleValue}
-use Rattle.mx_module.specs.LinkFaults.{Refusal, is_exported, first_exporter, or_exporter, exporter, refusal_or, fault_in_modules}
-use Rattle.mx_module.specs.Joined.{AreApart, label_in, with_label, with_import, with_imports, seen_in, line_of, fault_in_lines, program_fault, effects_in, renamed, labels_in, program}
+use Rattle.mx_module.specs.LinkFaults.{is_exported, first_exporter, or_exporter, exporter}
+use Rattle.mx_module.specs.Joined.{AreApart, label_in, with_label, with_import, with_imports, seen_in, line_of, fault_in_lines, effects_in, renamed, labels_in, program}
 use Rattle.mx_module.specs.ModuleView.{IsProgram}
 use Rattle.mx_module.proofs.Appended.{statements_both, lines_both, values_both}
 use Rattle.mx_module.proofs.Chained.{Chained, first, first_room, first_near, first_low, next, program_chained}

@@ -1,10 +1,10 @@
 -- The listing of all modules and their labels are the source of the program.
-use Rattle.std.proofs.Common.{◌≡◌, ℕ, List, None, Option, sym, ap, ◌∙◌, subst}
+use Rattle.std.proofs.Common.{◌≡◌, List, None, sym, ap, ◌∙◌, subst}
 use Rattle.mx_source.specs.SourceValue.{SourceValue, IsSource}
 use Rattle.mx_source.specs.SourceValue.{plain_source as listed}
 use Rattle.mx_asm.specs.declared.Listing.{Listing}
 use Rattle.mx_lines.specs.Instructions.{Labels}
-use Rattle.mx_asm.specs.Texts.{statements_in, lines_in, values_in, input_in}
+use Rattle.mx_asm.specs.Texts.{statements_in, lines_in, values_in}
 use Rattle.mx_asm.proofs.Whole.{made}
 use Rattle.mx_module.specs.Modules.{ModuleValue}
 use Rattle.mx_module.specs.LinkFaults.{refusal_or, fault_in_modules}

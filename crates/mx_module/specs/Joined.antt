@@ -11,15 +11,14 @@ use Rattle.mx_lines.specs.Operands.{label_named}
 use Rattle.mx_asm.specs.Positions.{define}
 use Rattle.mx_asm.specs.Faults.{first_fault}
 use Rattle.mx_asm.specs.Texts.{effects_from, statements_in, lines_in, values_in, input_in}
-use Rattle.mx_module.specs.declared.error.JoinFault.{JoinFault}
 use Rattle.mx_module.specs.declared.error.JoinFault.TheVariants.{Line}
 use Rattle.mx_module.specs.declared.error.JoinError.{JoinError}
 use Rattle.mx_module.specs.declared.error.JoinError.TheVariants as errors
 use Rattle.mx_module.specs.declared.link.LinkKind.{LinkKind}
-use Rattle.mx_module.specs.declared.link.LinkKind.TheVariants.{Import, Export}
+use Rattle.mx_module.specs.declared.link.LinkKind.TheVariants.{Import}
 use Rattle.mx_module.specs.Links.{Link}
 use Rattle.mx_module.specs.Modules.{ModuleValue, modules_of}
-use Rattle.mx_module.specs.LinkFaults.{Refusal, is_exported, exporter, refused_or, refusal_or, fault_in_modules}
+use Rattle.mx_module.specs.LinkFaults.{Refusal, is_exported, exporter, refusal_or, fault_in_modules}
 
 -- the label of this name in a module, if there is a module
 abbrev pub label_in : Option ModuleValue → List ℕ → Option Label

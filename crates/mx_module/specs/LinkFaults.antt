@@ -1,5 +1,5 @@
 -- The faults of import and export lines.
-use Rattle.std.specs.Prelude.{ℕ, ◌+◌, Bool, true, false, not, ◌&&◌, ◌||◌, nat_lt, List, [], ◌∷◌, take, drop, Option, Some, None, is_some, if◌then◌else◌}
+use Rattle.std.specs.Prelude.{ℕ, ◌+◌, Bool, false, not, ◌||◌, nat_lt, List, [], ◌∷◌, take, drop, Option, Some, None, is_some, if◌then◌else◌}
 use Rattle.mx_lines.specs.Operands.{label_named}
 use Rattle.mx_module.specs.declared.error.JoinFault.{JoinFault}
 use Rattle.mx_module.specs.declared.error.JoinFault.TheVariants.{BadName, NotDefined, DuplicateExport, NoExport, LocalClash}

@@ -1,9 +1,9 @@
 use Rattle.std.proofs.Common.{◌≡◌, IfOk, sym, ap, ◌∙◌, subst}
 use Rattle.mx_image.specs.Contents.{Contents}
-use Rattle.mx_image.specs.Files.{file_bytes, file_in}
+use Rattle.mx_image.specs.Files.{file_bytes}
 use Rattle.cmd_answer.specs.Answer.{Answer, writes}
 use Rattle.cmd_answer.specs.Replies.{reply_answer}
-use Rattle.mx_command.specs.Protocols.{migrated, migrate_answer}
+use Rattle.mx_command.specs.Protocols.{migrated}
 use Rattle.mx_command.proofs.from_image.migrate_bytes.Goals as goal
 
 pub returns-in-Ok : goal.returns-in-Ok

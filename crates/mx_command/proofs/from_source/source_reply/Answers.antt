@@ -1,4 +1,4 @@
-use Rattle.std.proofs.Common.{ℕ, List, Option, option_map, refl, ap, ◌∙◌}
+use Rattle.std.proofs.Common.{ℕ, List, option_map, refl, ap, ◌∙◌}
 use Rattle.mx_isa.specs.Board.{board}
 use Rattle.cmd_answer.specs.Protocol.{Protocol, Answers}
 use Rattle.cmd_answer.specs.Replies.{reply_answer}

@@ -1,10 +1,7 @@
-use Rattle.std.proofs.Common.{◌≡◌, List, None, Option, sym, ap, ◌∙◌, subst}
-use Rattle.mx_source.specs.declared.Statement.{Statement}
+use Rattle.std.proofs.Common.{sym, ◌∙◌, subst}
 use Rattle.mx_source.specs.Names.{named_labels}
-use Rattle.mx_source.specs.SourceValue.{IsSource, plain_source}
-use Rattle.mx_asm.specs.Texts.{statements_in, lines_in, values_in, input_in}
-use Rattle.mx_module.specs.LinkFaults.{refusal_or, fault_in_modules}
-use Rattle.mx_module.specs.Joined.{AreApart, JoinsModules, IsJoinRefusal, fault_in_lines, program_fault, effects_in, labels_in, program}
+use Rattle.mx_module.specs.LinkFaults.{fault_in_modules}
+use Rattle.mx_module.specs.Joined.{AreApart}
 use Rattle.mx_module.proofs.Chained.{many}
 use Rattle.mx_module.proofs.Renamed.{program_apart}
 use Rattle.mx_module.proofs.Sounded.{program_sound}

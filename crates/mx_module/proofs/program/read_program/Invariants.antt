@@ -1,4 +1,4 @@
-use Rattle.std.proofs.Common.{◌≡◌, ◌≤◌, ◌++◌, drop}
+use Rattle.std.proofs.Common.{◌≡◌, ◌++◌, drop}
 use Rattle.mx_asm.specs.Texts.{statements_in, lines_in, values_in, input_in}
 use Rattle.mx_asm.specs.Effects.{first_input}
 use Rattle.mx_module.specs.Joined.{effects_in, fault_in_lines}

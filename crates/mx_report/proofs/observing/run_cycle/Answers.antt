@@ -1,4 +1,4 @@
-use Rattle.std.proofs.Common.{◌≡◌, ap, ◌∙◌}
+use Rattle.std.proofs.Common.{ap, ◌∙◌}
 use Rattle.mx_turn.specs.declared.Cycled.{Cycled}
 use Rattle.mx_turn.specs.Program.{answer_after}
 use Rattle.mx_turn.specs.Run.{bits}

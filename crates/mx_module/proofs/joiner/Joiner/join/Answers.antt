@@ -1,7 +1,6 @@
-use Rattle.std.proofs.Common.{◌≡◌, map, sym, ap, ◌∙◌, subst}
+use Rattle.std.proofs.Common.{map, ap, ◌∙◌}
 use Rattle.mx_module.specs.Modules.{modules_of}
 use Rattle.mx_module.specs.ModuleView.{text_bytes}
-use Rattle.mx_module.specs.Joined.{IsJoinRefusal, program_fault}
 use Rattle.mx_module.proofs.Joining.{is_program, joins_texts, refused_texts}
 use Rattle.mx_module.proofs.joiner.Joiner.join.Goals as goal
 
