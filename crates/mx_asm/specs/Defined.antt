@@ -2,6 +2,7 @@
 use Rattle.std.specs.Prelude.{◌≡◌, ℕ, ◌+◌, ◌≤◌, List}
 use Rattle.mx_asm.specs.declared.definitions.Definitions.{Definitions}
 use Rattle.mx_lines.specs.Words.{Word}
+use Rattle.mx_lines.specs.declared.labels.TheConstants.{PAST_END}
 use Rattle.mx_asm.specs.Positions.{after, with_labels}
 use Rattle.mx_asm.specs.Faults.{repeats, earlier_line}
 
@@ -11,4 +12,4 @@ pub record Defines (old new : Definitions) (number : ℕ) (words : List Word) : 
   pub repeated : new.repeated ≡ earlier_line old.repeated (repeats old.last old.labels words) number
   pub last : new.last ≡ after old.last words
   pub index : new.last.index ≤ old.last.index + 1
-  pub near : new.last.address ≤ 65537
+  pub near : new.last.address ≤ PAST_END

@@ -1,6 +1,7 @@
 //! The modules of a program.
 ghost use Rattle.std.specs.Prelude.{◌≡◌, ◌+◌, ◌≤◌, ◌<◌, ◌^◌, ◌++◌, ◌∷◌, [], All, length, map, replicate, IfOk};
 ghost use Rattle.mx_io.specs.declared.limits.TheConstants.{MAX_SOURCE_BYTES};
+ghost use Rattle.mx_lines.specs.declared.labels.TheConstants.{PAST_END};
 ghost use Rattle.mx_module.specs.Modules;
 ghost use Rattle.mx_module.specs.ModuleView.{text_bytes, IsShort};
 
@@ -55,11 +56,11 @@ impl<'a> Module<'a> {
         requires short { length text.now ≤ MAX_SOURCE_BYTES }
         requires blank { blanks.now ≡ replicate 256 32 }
         requires room { start.index + length text.now < 2 ^ 32 }
-        requires near { start.address ≤ 65537 }
+        requires near { start.address ≤ PAST_END }
         ensures module { IfOk result (λ r. r.0 ≡ module_at start text.now) }
         ensures next { IfOk result (λ r. r.1 ≡ behind_text start text.now) }
         ensures index { IfOk result (λ r. r.1.index ≤ start.index + length text.now) }
-        ensures address { IfOk result (λ r. r.1.address ≤ 65537) }
+        ensures address { IfOk result (λ r. r.1.address ≤ PAST_END) }
     {
         let parts = parts_in(alloc, text, blanks)?;
         let defined = define_all(alloc, &parts.lines, start)?;
@@ -171,11 +172,11 @@ fn add_module<'a>(
     requires short { length text.now ≤ MAX_SOURCE_BYTES }
     requires blank { blanks.now ≡ replicate 256 32 }
     requires room { start.index + length text.now < 2 ^ 32 }
-    requires near { start.address ≤ 65537 }
+    requires near { start.address ≤ PAST_END }
     ensures module { IfOk result (λ _. modules.new.items ≡ modules.old.items ++ Modules.module_at start text.entry.now ∷ []) }
     ensures next { IfOk result (λ p. p ≡ Modules.behind_text start text.entry.now) }
     ensures index { IfOk result (λ p. p.index ≤ start.index + length text.entry.now) }
-    ensures address { IfOk result (λ p. p.address ≤ 65537) }
+    ensures address { IfOk result (λ p. p.address ≤ PAST_END) }
 {
     let (module, next) = Module::read(alloc, text, blanks, start)?;
     modules.push(module)?;
