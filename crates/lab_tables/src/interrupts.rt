@@ -1,6 +1,8 @@
 //! What one interrupt request costs a source, in each cycle of its run in turn, or two.
 mod document;
 mod fields;
+mod histogram;
+mod interrupt;
 mod places;
 mod table;
 mod text;

@@ -3,6 +3,7 @@
 
 mod compare;
 mod interrupts;
+mod lines;
 mod rows;
 
 pub use compare::{

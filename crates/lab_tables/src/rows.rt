@@ -2,69 +2,73 @@
 use csv::{Writer, WriterBuilder};
 use mx_io::Memory;
 use std::alloc::Global;
-use std::fmt::Display;
 
-/// Rows, as they are written.
+/// Rows, as they are written. Where memory runs out, their end tells so.
 #[derive(Drop)]
 pub(crate) struct Rows {
     alloc: Global,
     writer: Writer<Vec<u8>>,
+    failed: bool,
 }
 
 impl Rows {
-    /// The row of the columns' names alone.
-    pub(crate) fn new(alloc: Global, columns: &[&str]) -> Result<Rows, Memory> {
-        let writer = WriterBuilder::new().from_writer(Vec::new(alloc));
-        let mut rows = Rows { alloc, writer };
-        rows.push_names(columns)?;
-        rows.end()?;
-        Ok(rows)
-    }
-
-    // Appends a field.
-    fn push_field(&mut self, field: &[u8]) -> Result<(), Memory> {
-        self.writer.write_field(field).map_err(|_| Memory)
-    }
-
-    // Appends fields that are texts.
-    fn push_names(&mut self, names: &[&str]) -> Result<(), Memory> {
-        for name in names {
-            self.push_field(name.as_bytes())?;
+    /// No row.
+    pub(crate) fn new(alloc: Global) -> Rows {
+        Rows {
+            alloc,
+            writer: WriterBuilder::new().from_writer(Vec::new(alloc)),
+            failed: false,
         }
-        Ok(())
-    }
-
-    // Appends a field that is a number, or an empty one.
-    fn push_number<N: Display>(&mut self, number: &Option<N>) -> Result<(), Memory> {
-        let Some(number) = number else {
-            return self.push_field(b"");
-        };
-        let Ok(field) = format!(in self.alloc; "{number}") else {
-            return Err(Memory);
-        };
-        self.push_field(field.as_bytes())
-    }
-
-    // Ends a row.
-    fn end(&mut self) -> Result<(), Memory> {
-        self.writer.end_record().map_err(|_| Memory)
     }
 
     /// Appends a name to the row that is being written.
-    pub(crate) fn push_name(&mut self, name: &str) -> Result<(), Memory> {
-        self.push_field(name.as_bytes())
+    pub(crate) fn push_name(&mut self, name: &str) {
+        match self.writer.write_field(name.as_bytes()) {
+            Ok(()) => {}
+            Err(_) => self.failed = true,
+        }
     }
 
-    /// Appends numbers to the row, and ends it. A number that is not there is left empty.
-    pub(crate) fn end_with<N: Display>(&mut self, numbers: &[Option<N>]) -> Result<(), Memory> {
-        for number in numbers {
-            self.push_number(number)?;
+    // Appends a number to the row.
+    fn push_number(&mut self, number: i128) {
+        match format!(in self.alloc; "{number}") {
+            Ok(field) => self.push_name(field.as_str()),
+            Err(_) => self.failed = true,
         }
-        self.end()
+    }
+
+    /// Appends numbers to the row. A number that is not there is left empty.
+    pub(crate) fn push_numbers(&mut self, numbers: &[Option<i128>]) {
+        for number in numbers {
+            match number {
+                Some(number) => self.push_number(*number),
+                None => self.push_name(""),
+            }
+        }
+    }
+
+    /// Ends the row.
+    pub(crate) fn end(&mut self) {
+        match self.writer.end_record() {
+            Ok(()) => {}
+            Err(_) => self.failed = true,
+        }
+    }
+
+    /// Appends a row of names.
+    pub(crate) fn push_names(&mut self, names: &[&str]) {
+        for name in names {
+            self.push_name(*name);
+        }
+        self.end();
     }
 
     /// All rows.
-    pub(crate) fn text(self) -> Result<Vec<u8>, Memory> {
-        self.writer.into_inner().map_err(|_| Memory)
+    pub(crate) fn into_bytes(self) -> Result<Vec<u8>, Memory> {
+        let failed = self.failed;
+        match self.writer.into_inner() {
+            Ok(text) if !failed => Ok(text),
+            _ => Err(Memory),
+        }
     }
 }

@@ -1,13 +1,14 @@
 //! Comparisons as CSV.
-use super::schedulers::schedulers;
+use super::schedulers::{SCHEDULERS, figures_at};
 use super::several::Compared;
+use super::table::{Cell, column_of};
 use crate::rows::Rows;
 use lab_measures::Figures;
 use mx_io::Memory;
 use std::alloc::Global;
 
 /// The names of the columns.
-const COLUMNS: [&str; 15] = [
+static COLUMNS: [&str; 15] = [
     "source",
     "plans",
     "words",
@@ -25,45 +26,38 @@ const COLUMNS: [&str; 15] = [
     "squashes",
 ];
 
-// The numbers of a row. The cycles of a run that has not halted are left empty.
-fn numbers_of(figures: &Figures) -> [Option<u64>; 13] {
-    let slots = figures.transfers;
-    [
-        Some(figures.words as u64),
-        Some(u64::from(figures.noops)),
-        Some(u64::from(figures.copies)),
-        Some(u64::from(slots.all())),
-        Some(u64::from(slots.before)),
-        Some(u64::from(slots.target_squashed)),
-        Some(u64::from(slots.target)),
-        Some(u64::from(slots.noops)),
-        Some(u64::from(figures.loads.all)),
-        Some(u64::from(figures.loads.filled)),
-        if figures.halted {
-            Some(figures.cycles)
-        } else {
-            None
-        },
-        Some(figures.misses),
-        Some(figures.squashes),
-    ]
+// The number of a cell, if there is one.
+fn number_in(cell: Cell) -> Option<i128> {
+    match cell {
+        Some((number, _)) => Some(number as i128),
+        None => None,
+    }
+}
+
+// Appends the numbers of a scheduler. The cycles of a run that has not halted are left empty.
+fn push_figures(rows: &mut Rows, figures: &Figures) {
+    let column = column_of(figures, figures);
+    for cell in column.iter() {
+        rows.push_numbers(&[number_in(*cell)]);
+    }
 }
 
 // Appends a row for each scheduler of a source.
-fn push_source(rows: &mut Rows, one: &Compared) -> Result<(), Memory> {
-    for (plans, figures) in schedulers(&one.comparison) {
-        rows.push_name(one.source)?;
-        rows.push_name(plans)?;
-        rows.end_with(&numbers_of(figures))?;
+fn push_source(rows: &mut Rows, one: &Compared) {
+    for at in 0..SCHEDULERS.len() {
+        rows.push_name(one.source);
+        rows.push_name(SCHEDULERS[at]);
+        push_figures(rows, figures_at(&one.comparison, at));
+        rows.end();
     }
-    Ok(())
 }
 
 /// Comparisons as CSV: a row of names, and a row for each source and scheduler.
 pub fn comparisons_csv(alloc: Global, compared: &[Compared]) -> Result<Vec<u8>, Memory> {
-    let mut rows = Rows::new(alloc, &COLUMNS)?;
+    let mut rows = Rows::new(alloc);
+    rows.push_names(&COLUMNS);
     for one in compared {
-        push_source(&mut rows, one)?;
+        push_source(&mut rows, one);
     }
-    rows.text()
+    rows.into_bytes()
 }

@@ -1,7 +1,8 @@
 //! Several comparisons as a table.
-use super::schedulers::schedulers;
+use super::schedulers::{SCHEDULERS, figures_at};
 use super::several::{Compared, Sums, sums_of};
-use super::table::{Cell, push_cell};
+use super::table::{Cell, cycles_of, push_cells};
+use crate::lines::Lines;
 use lab_measures::{Comparison, Figures};
 use std::alloc::{AllocError, Global};
 
@@ -20,83 +21,73 @@ fn width_of(name: &str) -> usize {
     name.chars().count()
 }
 
-// The cells of a scheduler that have a part in per cent, beside those of the padded plans. The cycles of a run that is not
-// told are left out.
-fn cells_of(figures: &Figures, padded: &Figures, runs: bool) -> [Cell; 5] {
+// The cells of a scheduler that have a part in per cent, beside those of the padded plans. The cycles of a run that has not
+// halted are left out.
+fn cells_of(figures: &Figures, padded: &Figures) -> [Cell; 5] {
     let (words, slots, loads) = (figures.words as u64, figures.transfers, figures.loads);
-    let whole = if padded.halted { padded.cycles } else { 0 };
     [
         Some((words, padded.words as u64)),
-        Some((u64::from(figures.noops), words)),
-        Some((u64::from(slots.filled()), u64::from(slots.all()))),
-        Some((u64::from(loads.filled), u64::from(loads.all))),
-        if runs {
-            Some((figures.cycles, whole))
-        } else {
-            None
-        },
+        Some((figures.noops as u64, words)),
+        Some((slots.filled() as u64, slots.all() as u64)),
+        Some((loads.filled as u64, loads.all as u64)),
+        cycles_of(figures, padded),
     ]
 }
 
-// Appends the misses and squashes of a run, or `-` where it is not told.
-fn push_counts(table: &mut String, figures: &Figures, runs: bool) -> Result<(), AllocError> {
-    if !runs {
-        return table.push_str("         -         -\n");
+// Appends the misses and squashes of a run, or `-` where it has not halted.
+fn push_counts(table: &mut Lines, figures: &Figures) {
+    if figures.halted {
+        table.push_cell(Some(figures.misses as i128), 9);
+        table.push_cell(Some(figures.squashes as i128), 9);
+    } else {
+        table.push("         -         -");
     }
-    let (misses, squashes) = (figures.misses, figures.squashes);
-    write!(table, " {misses:>9} {squashes:>9}\n")
+    table.push("\n");
 }
 
-// Appends a scheduler, beside the padded plans. Where the run is not told, its columns have `-`.
-fn push_scheduler(
-    table: &mut String,
-    plans: &str,
-    figures: &Figures,
-    padded: &Figures,
-    runs: bool,
-) -> Result<(), AllocError> {
-    write!(table, "  {plans:<6}")?;
-    for cell in cells_of(figures, padded, runs) {
-        push_cell(table, cell)?;
-    }
-    push_counts(table, figures, runs)
+// Appends a scheduler, beside the padded plans. Where a run has not halted, its columns have `-`.
+fn push_scheduler(table: &mut Lines, plans: &str, figures: &Figures, padded: &Figures) {
+    table.push("  ");
+    table.push_name(plans, 6);
+    push_cells(table, &cells_of(figures, padded));
+    push_counts(table, figures);
 }
 
-// Appends the four schedulers of a source.
-fn push_source(
-    table: &mut String,
-    name: &str,
-    width: usize,
-    comparison: &Comparison,
-) -> Result<(), AllocError> {
-    for (plans, figures) in schedulers(comparison) {
-        write!(table, "{name:<width$}")?;
-        push_scheduler(table, plans, figures, &comparison.padded, figures.halted)?;
+// Appends the four schedulers, each under this name.
+fn push_schedulers(table: &mut Lines, name: &str, width: usize, comparison: &Comparison) {
+    for at in 0..SCHEDULERS.len() {
+        table.push_name(name, width);
+        let figures = figures_at(comparison, at);
+        push_scheduler(table, SCHEDULERS[at], figures, &comparison.padded);
     }
-    Ok(())
 }
 
 // Appends of how many sources the sums of the runs are, where it is not all.
-fn push_told(table: &mut String, halted: usize, sources: usize) -> Result<(), AllocError> {
-    if halted >= sources {
-        return Ok(());
+fn push_told(table: &mut Lines, halted: usize, sources: usize) {
+    if halted < sources {
+        table.push("The sums of cycles, misses and squashes are of ");
+        table.push_number(halted as i128, 0);
+        table.push(" of the ");
+        table.push_number(sources as i128, 0);
+        table.push(" sources: those of which each run halted.\n");
     }
-    write!(
-        table,
-        "The sums of cycles, misses and squashes are of {halted} of the {sources} sources: those of which each run halted.\n"
-    )
+}
+
+// The sums as they are told: those of runs where there is a source of which each run halted.
+fn told_sums(all: &Sums) -> Comparison {
+    let told = all.halted > 0;
+    let mut sums = all.figures;
+    sums.padded.halted = told;
+    sums.list.halted = told;
+    sums.copies.halted = told;
+    sums.best.halted = told;
+    sums
 }
 
 // Appends the sums, and of how many sources those of the runs are.
-fn push_sums(table: &mut String, width: usize, all: &Sums) -> Result<(), AllocError> {
-    let told = all.halted > 0;
-    let mut padded = all.figures.padded;
-    padded.halted = told;
-    for (plans, figures) in schedulers(&all.figures) {
-        write!(table, "{ALL:<width$}")?;
-        push_scheduler(table, plans, figures, &padded, told)?;
-    }
-    push_told(table, all.halted, all.sources)
+fn push_sums(table: &mut Lines, width: usize, all: &Sums) {
+    push_schedulers(table, ALL, width, &told_sums(all));
+    push_told(table, all.halted, all.sources);
 }
 
 // The width of the column of names.
@@ -111,10 +102,12 @@ fn width_for(compared: &[Compared]) -> usize {
 /// Several comparisons as a table, a row for each source and scheduler, and their sums.
 pub fn comparisons_text(alloc: Global, compared: &[Compared]) -> Result<Vec<u8>, AllocError> {
     let width = width_for(compared);
-    let mut table = format!(in alloc; "{SOURCE:<width$}{HEAD}")?;
+    let mut table = Lines::new(alloc);
+    table.push_name(SOURCE, width);
+    table.push(HEAD);
     for one in compared {
-        push_source(&mut table, one.source, width, &one.comparison)?;
+        push_schedulers(&mut table, one.source, width, &one.comparison);
     }
-    push_sums(&mut table, width, &sums_of(compared))?;
-    Ok(table.into_bytes())
+    push_sums(&mut table, width, &sums_of(compared));
+    table.into_bytes()
 }

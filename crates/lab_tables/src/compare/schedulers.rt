@@ -1,12 +1,15 @@
-//! The names of the four schedulers.
+//! The four schedulers.
 use lab_measures::{Comparison, Figures};
 
-/// The schedulers, with their figures.
-pub(crate) fn schedulers(comparison: &Comparison) -> [(&'static str, &Figures); 4] {
-    [
-        ("padded", &comparison.padded),
-        ("list", &comparison.list),
-        ("copies", &comparison.copies),
-        ("best", &comparison.best),
-    ]
+/// The names of the schedulers.
+pub(crate) static SCHEDULERS: [&str; 4] = ["padded", "list", "copies", "best"];
+
+/// The figures of the scheduler whose name has this index.
+pub(crate) fn figures_at(comparison: &Comparison, index: usize) -> &Figures {
+    match index {
+        0 => &comparison.padded,
+        1 => &comparison.list,
+        2 => &comparison.copies,
+        _ => &comparison.best,
+    }
 }

@@ -1,5 +1,6 @@
 //! A comparison as a table.
-use lab_json::{Ratio, push_ratio};
+use crate::lines::Lines;
+use lab_json::Ratio;
 use lab_measures::{Comparison, Figures};
 use std::alloc::{AllocError, Global};
 
@@ -7,105 +8,107 @@ use std::alloc::{AllocError, Global};
 const HEAD: &str =
     "                                padded             list           copies             best\n";
 
-/// What the rows are named by.
-const ROWS: [&str; 13] = [
-    "words",
-    "  no-ops",
-    "  copies",
-    "branch slots",
-    "  from before",
-    "  target, squashed",
-    "  target, always",
-    "  no-op",
-    "load slots",
-    "  filled",
-    "cycles",
-    "  misses",
-    "  squashes",
+/// What the rows are named by, in a column of its own.
+static ROWS: [&str; 13] = [
+    "words                ",
+    "  no-ops             ",
+    "  copies             ",
+    "branch slots         ",
+    "  from before        ",
+    "  target, squashed   ",
+    "  target, always     ",
+    "  no-op              ",
+    "load slots           ",
+    "  filled             ",
+    "cycles               ",
+    "  misses             ",
+    "  squashes           ",
 ];
 
 /// A number and the whole that it is a part of, 0 where it has none; nothing where there is no number.
 pub(crate) type Cell = Option<(u64, u64)>;
 
-// The cells of a scheduler, beside the padded plans. A run that has not halted has no cycles.
-fn column_of(figures: &Figures, padded: &Figures) -> [Cell; 13] {
+/// The cycles of a run and those that they are a part of, 0 where these are not known. A run that has not halted has none.
+pub(crate) fn cycles_of(figures: &Figures, padded: &Figures) -> Cell {
+    match (figures.halted, padded.halted) {
+        (false, _) => None,
+        (true, false) => Some((figures.cycles, 0)),
+        (true, true) => Some((figures.cycles, padded.cycles)),
+    }
+}
+
+/// The cells of a scheduler, beside the padded plans.
+pub(crate) fn column_of(figures: &Figures, padded: &Figures) -> [Cell; 13] {
     let (words, slots, loads) = (figures.words as u64, figures.transfers, figures.loads);
-    let all = u64::from(slots.all());
-    let whole = if padded.halted { padded.cycles } else { 0 };
+    let all = slots.all() as u64;
     [
         Some((words, padded.words as u64)),
-        Some((u64::from(figures.noops), words)),
-        Some((u64::from(figures.copies), words)),
+        Some((figures.noops as u64, words)),
+        Some((figures.copies as u64, words)),
         Some((all, 0)),
-        Some((u64::from(slots.before), all)),
-        Some((u64::from(slots.target_squashed), all)),
-        Some((u64::from(slots.target), all)),
-        Some((u64::from(slots.noops), all)),
-        Some((u64::from(loads.all), 0)),
-        Some((u64::from(loads.filled), u64::from(loads.all))),
-        if figures.halted {
-            Some((figures.cycles, whole))
-        } else {
-            None
-        },
+        Some((slots.before as u64, all)),
+        Some((slots.target_squashed as u64, all)),
+        Some((slots.target as u64, all)),
+        Some((slots.noops as u64, all)),
+        Some((loads.all as u64, 0)),
+        Some((loads.filled as u64, loads.all as u64)),
+        cycles_of(figures, padded),
         Some((figures.misses, 0)),
         Some((figures.squashes, 0)),
     ]
 }
 
 // Appends a number and its part of a whole in per cent, rounded to a tenth, which is left out where there is no whole.
-fn push_number(table: &mut String, part: u64, whole: u64) -> Result<(), AllocError> {
-    write!(table, " {part:>9}")?;
-    push_ratio(table, Ratio::Percent(part, whole), 5, "")?;
-    table.push_str(if whole == 0 { " " } else { "%" })
+fn push_number(table: &mut Lines, part: u64, whole: u64) {
+    table.push_cell(Some(part as i128), 9);
+    table.push_ratio(Ratio::Percent(part, whole), 5);
+    table.push(if whole == 0 { " " } else { "%" });
 }
 
-/// Appends a cell, or `-`.
-pub(crate) fn push_cell(table: &mut String, cell: Cell) -> Result<(), AllocError> {
-    match cell {
-        Some((part, whole)) => push_number(table, part, whole),
-        None => table.push_str("         -       "),
-    }
-}
-
-// Appends a row.
-fn push_row(
-    alloc: Global,
-    table: &mut String,
-    name: &str,
-    cells: &[Cell],
-) -> Result<(), AllocError> {
-    let mut row = format!(in alloc; "{name:<21}")?;
+/// Appends cells. One without a number is `-`.
+pub(crate) fn push_cells(table: &mut Lines, cells: &[Cell]) {
     for cell in cells {
-        push_cell(&mut row, *cell)?;
+        match cell {
+            Some((part, whole)) => push_number(table, *part, *whole),
+            None => table.push("         -       "),
+        }
     }
-    let row = row.as_str().trim_end();
-    write!(table, "{row}\n")
 }
 
-// What a row is named by.
-fn row_name(at: usize) -> &'static str {
-    ROWS.get(at).copied().unwrap_or("")
+// The cell of a scheduler in a row.
+fn cell_at(figures: &Figures, padded: &Figures, row: usize) -> Cell {
+    match column_of(figures, padded).get(row) {
+        Some(cell) => *cell,
+        None => None,
+    }
 }
 
-// Appends the rows.
-fn push_rows(alloc: Global, table: &mut String, comparison: &Comparison) -> Result<(), AllocError> {
+// The cells of a row.
+fn cells_at(comparison: &Comparison, row: usize) -> [Cell; 4] {
     let padded = &comparison.padded;
-    let first = column_of(padded, padded);
-    let list = column_of(&comparison.list, padded);
-    let copies = column_of(&comparison.copies, padded);
-    let best = column_of(&comparison.best, padded);
-    for at in 0..13usize {
-        let cells = [first[at], list[at], copies[at], best[at]];
-        push_row(alloc, table, row_name(at), &cells)?;
-    }
-    Ok(())
+    [
+        cell_at(padded, padded, row),
+        cell_at(&comparison.list, padded, row),
+        cell_at(&comparison.copies, padded, row),
+        cell_at(&comparison.best, padded, row),
+    ]
+}
+
+// A row.
+fn row_of(alloc: Global, comparison: &Comparison, row: usize) -> Lines {
+    let mut line = Lines::new(alloc);
+    line.push(ROWS.get(row).copied().unwrap_or(""));
+    push_cells(&mut line, &cells_at(comparison, row));
+    line
 }
 
 /// A comparison as a table: code words, no-ops, what stands in the slots, and the run. A run that does not halt within the
 /// budget has no cycles.
 pub fn comparison_text(alloc: Global, comparison: &Comparison) -> Result<Vec<u8>, AllocError> {
-    let mut table = String::from_str(alloc, HEAD)?;
-    push_rows(alloc, &mut table, comparison)?;
-    Ok(table.into_bytes())
+    let mut table = Lines::new(alloc);
+    table.push(HEAD);
+    for row in 0..ROWS.len() {
+        table.push_line(&row_of(alloc, comparison, row));
+    }
+    table.into_bytes()
 }

@@ -6,7 +6,7 @@ use mx_io::Memory;
 use std::alloc::Global;
 
 /// The names of the columns.
-const COLUMNS: [&str; 13] = [
+static COLUMNS: [&str; 13] = [
     "source",
     "first",
     "second",
@@ -22,57 +22,62 @@ const COLUMNS: [&str; 13] = [
     "same_console",
 ];
 
-// A number of cycles, which is left out where it is too great.
-fn cycles_in(number: u64) -> Option<i64> {
-    i64::try_from(number).ok()
-}
-
-// The cycles in which the last request of a run became an interrupt and in which the handler's first word was fetched.
-fn entry_of(row: &Row) -> (Option<i64>, Option<i64>) {
-    match row.entry {
-        Some(entry) => (cycles_in(entry.taken), cycles_in(entry.fetched)),
-        None => (None, None),
-    }
-}
-
-// The line and the address of the word that was killed, and whether it was squashed.
-fn killed_of(row: &Row, places: &Places) -> (Option<i64>, Option<i64>, Option<i64>) {
-    match row.killed() {
-        Some((address, squashed)) => (
-            Some(i64::from(places.line_at(address))),
-            Some(i64::from(address)),
-            Some(i64::from(squashed)),
-        ),
-        None => (None, None, None),
-    }
-}
-
-// The cycle of the second request, if there is one.
-fn second_of(row: &Row) -> Option<i64> {
-    match row.second {
-        Some(second) => Some(i64::from(second)),
+// A number with a sign, if there is one.
+fn signed(number: Option<i64>) -> Option<i128> {
+    match number {
+        Some(number) => Some(number as i128),
         None => None,
     }
 }
 
-// The numbers of a row, in the order of the columns. What is not there is left empty; a truth is 1 or 0.
-fn numbers_of(sweep: &Sweep, row: &Row, places: &Places) -> [Option<i64>; 12] {
-    let (taken, fetched) = entry_of(row);
-    let (line, address, squashed) = killed_of(row, places);
-    [
-        Some(i64::from(row.first)),
-        second_of(row),
-        taken,
-        fetched,
-        row.wait(),
-        line,
-        address,
-        squashed,
-        Some(i64::from(row.halted)),
-        cycles_in(row.cycles),
-        sweep.cost(row),
-        Some(i64::from(row.same_console)),
-    ]
+// Appends the cycles of the requests of a run.
+fn push_requests(rows: &mut Rows, row: &Row) {
+    let second = match row.second {
+        Some(second) => Some(second as i128),
+        None => None,
+    };
+    rows.push_numbers(&[Some(row.first as i128), second]);
+}
+
+// Appends the cycles in which the last request of a run became an interrupt and in which the handler's first word was fetched.
+fn push_entry(rows: &mut Rows, row: &Row) {
+    match row.entry {
+        Some(entry) => rows.push_numbers(&[Some(entry.taken as i128), Some(entry.fetched as i128)]),
+        None => rows.push_numbers(&[None, None]),
+    }
+}
+
+// Appends the line and the address of the word that was killed, and whether it was squashed.
+fn push_killed(rows: &mut Rows, row: &Row, places: &Places) {
+    match row.killed() {
+        Some((address, squashed)) => rows.push_numbers(&[
+            Some(places.line_at(address) as i128),
+            Some(address as i128),
+            Some(squashed as i128),
+        ]),
+        None => rows.push_numbers(&[None, None, None]),
+    }
+}
+
+// Appends how a run ended. A truth is 1 or 0.
+fn push_ending(rows: &mut Rows, sweep: &Sweep, row: &Row) {
+    rows.push_numbers(&[
+        Some(row.halted as i128),
+        Some(row.cycles as i128),
+        signed(sweep.cost(row)),
+        Some(row.same_console as i128),
+    ]);
+}
+
+// Appends the row of a run.
+fn push_row(rows: &mut Rows, source: &str, sweep: &Sweep, row: &Row, places: &Places) {
+    rows.push_name(source);
+    push_requests(rows, row);
+    push_entry(rows, row);
+    rows.push_numbers(&[signed(row.wait())]);
+    push_killed(rows, row, places);
+    push_ending(rows, sweep, row);
+    rows.end();
 }
 
 /// The runs of a sweep as CSV: a row of names, and a row for each run.
@@ -82,10 +87,10 @@ pub fn sweep_csv(
     sweep: &Sweep,
     places: &Places,
 ) -> Result<Vec<u8>, Memory> {
-    let mut rows = Rows::new(alloc, &COLUMNS)?;
+    let mut rows = Rows::new(alloc);
+    rows.push_names(&COLUMNS);
     for row in sweep.rows.iter() {
-        rows.push_name(source)?;
-        rows.end_with(&numbers_of(sweep, row, places))?;
+        push_row(&mut rows, source, sweep, row, places);
     }
-    rows.text()
+    rows.into_bytes()
 }

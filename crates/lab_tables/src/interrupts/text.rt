@@ -1,57 +1,97 @@
 //! A sweep as text.
+use super::histogram::push_histogram;
 use super::places::Places;
 use super::table::push_rows;
-use lab_measures::{Bin, Row, Spread, Sums, Sweep, sums_of};
+use crate::lines::Lines;
+use lab_measures::{Row, Span, Spread, Sums, Sweep, sums_of};
 use std::alloc::{AllocError, Global};
 
-/// The most lines of a histogram, and the longest bar of one.
-const MOST_LINES: u32 = 24;
-
-const LONGEST_BAR: u64 = 40;
-
-// How a run ended.
-fn ending(halted: bool) -> &'static str {
-    if halted { "halted" } else { "out of budget" }
+// Appends how the undisturbed run ended.
+fn push_undisturbed(text: &mut Lines, sweep: &Sweep) {
+    text.push("undisturbed run      ");
+    text.push_number(sweep.cycles as i128, 0);
+    text.push(if sweep.halted {
+        " cycles, halted\n"
+    } else {
+        " cycles, out of budget\n"
+    });
 }
 
-// Appends how the undisturbed run ended, and in which cycles the requests come.
-fn push_head(text: &mut String, sweep: &Sweep) -> Result<(), AllocError> {
-    let (cycles, end) = (sweep.cycles, ending(sweep.halted));
-    let (from, to, step) = (sweep.span.from, sweep.span.to, sweep.span.step);
-    let each = if sweep.is_pairs {
-        "in each two of the cycles"
-    } else {
-        "in each of the cycles"
-    };
-    write!(text, "undisturbed run      {cycles} cycles, {end}\n")?;
-    write!(text, "requests             {each} {from} to {to}")?;
-    if step > 1 {
-        write!(text, ", {step} apart")?;
+// Appends the cycles of a span.
+fn push_span(text: &mut Lines, span: Span) {
+    text.push_number(span.from as i128, 0);
+    text.push(" to ");
+    text.push_number(span.to as i128, 0);
+    if span.step > 1 {
+        text.push(", ");
+        text.push_number(span.step as i128, 0);
+        text.push(" apart");
     }
-    text.push_str("\n")
+    text.push("\n");
+}
+
+// Appends in which cycles the requests come.
+fn push_requests(text: &mut Lines, sweep: &Sweep) {
+    text.push(if sweep.is_pairs {
+        "requests             in each two of the cycles "
+    } else {
+        "requests             in each of the cycles "
+    });
+    push_span(text, sweep.span);
+}
+
+// Appends a count under its name, in a column of this width.
+fn push_count(text: &mut Lines, name: &str, count: usize, width: usize) {
+    text.push(name);
+    text.push_number(count as i128, width);
+    text.push("\n");
 }
 
 // Appends how many runs there were, and how they ended.
-fn push_counts(text: &mut String, sums: &Sums) -> Result<(), AllocError> {
-    let told = [
-        ("runs          ", sums.runs, 7),
-        ("  halted      ", sums.halted, 7),
-        ("  other console ", sums.other_console, 5),
-        ("  interrupted ", sums.interrupted, 7),
-    ];
-    for (name, count, width) in told {
-        write!(text, "{name}{count:>width$}\n")?;
-    }
-    Ok(())
+fn push_counts(text: &mut Lines, sums: &Sums) {
+    push_count(text, "runs          ", sums.runs, 7);
+    push_count(text, "  halted      ", sums.halted, 7);
+    push_count(text, "  other console ", sums.other_console, 5);
+    push_count(text, "  interrupted ", sums.interrupted, 7);
 }
 
-// Appends the least of some numbers, that in the middle and the greatest.
-fn push_spread(text: &mut String, name: &str, spread: &Option<Spread>) -> Result<(), AllocError> {
-    let Some(spread) = spread else {
-        return write!(text, "{name:<14}      -       -        -\n");
+// Appends the least of some numbers, that in the middle and the greatest, under their name.
+fn push_spread(text: &mut Lines, name: &str, spread: &Option<Spread>) {
+    text.push(name);
+    match spread {
+        Some(spread) => {
+            text.push_number(spread.least as i128, 7);
+            text.push_cell(Some(spread.median as i128), 7);
+            text.push_cell(Some(spread.greatest as i128), 8);
+            text.push("\n");
+        }
+        None => text.push("      -       -        -\n"),
+    }
+}
+
+// Appends where the interrupt of a run fell, but for the text of the line, if it is known.
+fn push_place(text: &mut Lines, row: &Row, places: &Places) {
+    let Some((address, _)) = row.killed() else {
+        return;
     };
-    let (least, median, greatest) = (spread.least, spread.median, spread.greatest);
-    write!(text, "{name:<14}{least:>7} {median:>7} {greatest:>8}\n")
+    let line = places.line_at(address);
+    if line == 0 {
+        text.push(", at ");
+        text.push_address(address);
+    } else {
+        text.push(", at line ");
+        text.push_number(line as i128, 0);
+        text.push(": ");
+    }
+}
+
+// Appends the request that is waited for longest, and where its interrupt fell.
+fn push_longest(text: &mut Lines, row: &Row, places: &Places) {
+    text.push("longest wait  ");
+    text.push_number(row.wait().unwrap_or(0) as i128, 7);
+    text.push(" cycles, of the request in cycle ");
+    text.push_number(row.last() as i128, 0);
+    push_place(text, row, places);
 }
 
 // A line of a text, counted from 1, without the blanks around it.
@@ -66,112 +106,12 @@ fn line_of(text: &[u8], line: u32) -> &[u8] {
     b""
 }
 
-// Appends where the interrupt of a run fell, but for the text of the line, if it is known.
-fn push_place(text: &mut String, row: &Row, places: &Places) -> Result<(), AllocError> {
-    let Some((address, _)) = row.killed() else {
-        return Ok(());
-    };
-    match places.line_at(address) {
-        0 => write!(text, ", at {address:#010x}"),
-        line => write!(text, ", at line {line}: "),
-    }
-}
-
-// Appends the request that is waited for longest, and where its interrupt fell.
-fn push_longest(text: &mut String, row: &Row, places: &Places) -> Result<(), AllocError> {
-    let (cycle, wait) = (row.last(), row.wait().unwrap_or(0));
-    write!(
-        text,
-        "longest wait  {wait:>7} cycles, of the request in cycle {cycle}"
-    )?;
-    push_place(text, row, places)
-}
-
 // The text of the line in which the interrupt of a run fell; nothing where it is not known.
 fn place_text<'a>(row: &Row, places: &Places, source: &'a [u8]) -> &'a [u8] {
     match row.killed() {
         Some((address, _)) => line_of(source, places.line_at(address)),
         None => b"",
     }
-}
-
-// How many numbers a line of a histogram takes together: one, unless there are too many.
-fn width_of(spread: &Spread) -> i64 {
-    if spread.bins.len() <= MOST_LINES as usize {
-        return 1;
-    }
-    let apart = spread.greatest.saturating_sub(spread.least);
-    let part = apart.checked_div(i64::from(MOST_LINES)).unwrap_or(0);
-    part.saturating_add(1)
-}
-
-// Appends the numbers that a line of a histogram takes together, which begin with one.
-fn push_numbers(text: &mut String, first: i64, width: i64) -> Result<(), AllocError> {
-    if width <= 1 {
-        return write!(text, "{first:>7}");
-    }
-    let last = first.saturating_add(width.saturating_sub(1));
-    write!(text, "{first:>7} to {last:>7}")
-}
-
-// Appends a line of a histogram: numbers from one on, and how many runs have them.
-fn push_bin(text: &mut String, bin: Bin, width: i64, most: u64) -> Result<(), AllocError> {
-    let runs = bin.runs;
-    push_numbers(text, bin.number, width)?;
-    write!(text, " {runs:>9}  ")?;
-    let rest = runs.saturating_mul(LONGEST_BAR).saturating_sub(1);
-    for _sign in 0..=rest.checked_div(most).unwrap_or(0) {
-        text.push_str("#")?;
-    }
-    text.push_str("\n")
-}
-
-// The numbers of a spread, so many taken together, with how many runs have them.
-fn together(alloc: Global, spread: &Spread, width: i64) -> Result<Vec<Bin>, AllocError> {
-    let mut lines: Vec<Bin> = Vec::new(alloc);
-    for bin in spread.bins.iter() {
-        let behind = bin.number.saturating_sub(spread.least);
-        let number = bin
-            .number
-            .saturating_sub(behind.checked_rem(width).unwrap_or(0));
-        match lines.last_mut() {
-            Some(line) if line.number == number => line.runs = line.runs.saturating_add(bin.runs),
-            _ => lines.push(Bin {
-                number,
-                runs: bin.runs,
-            })?,
-        }
-    }
-    Ok(lines)
-}
-
-// Appends the lines of a histogram.
-fn push_bins(text: &mut String, bins: &[Bin], width: i64) -> Result<(), AllocError> {
-    let mut most = 0;
-    for bin in bins {
-        most = bin.runs.max(most);
-    }
-    for bin in bins {
-        push_bin(text, *bin, width, most)?;
-    }
-    Ok(())
-}
-
-// Appends a histogram.
-fn push_histogram(
-    alloc: Global,
-    text: &mut String,
-    name: &str,
-    spread: &Option<Spread>,
-) -> Result<(), AllocError> {
-    let Some(spread) = spread else {
-        return Ok(());
-    };
-    let width = width_of(spread);
-    let gap = if width > 1 { "           " } else { "" };
-    write!(text, "\n{name:>7}{gap}      runs\n")?;
-    let bins = together(alloc, spread, width)?;
-    push_bins(text, bins.as_slice(), width)
 }
 
 /// A sweep with its sums and the places of its code.
@@ -183,55 +123,45 @@ struct Told<'a> {
 }
 
 // What is told before the text of the line in which the interrupt fell that was waited for longest.
-fn push_front(text: &mut String, told: &Told) -> Result<(), AllocError> {
-    let sums = told.sums;
-    push_head(text, told.sweep)?;
-    push_counts(text, sums)?;
-    text.push_str("                least  median greatest\n")?;
-    push_spread(text, "cost, cycles", &sums.cost)?;
-    push_spread(text, "wait, cycles", &sums.wait)?;
-    match &sums.longest {
-        Some(row) => push_longest(text, row, told.places),
-        None => Ok(()),
+fn front_of(alloc: Global, told: &Told) -> Result<Vec<u8>, AllocError> {
+    let mut front = Lines::new(alloc);
+    push_undisturbed(&mut front, told.sweep);
+    push_requests(&mut front, told.sweep);
+    push_counts(&mut front, told.sums);
+    front.push("                least  median greatest\n");
+    push_spread(&mut front, "cost, cycles  ", &told.sums.cost);
+    push_spread(&mut front, "wait, cycles  ", &told.sums.wait);
+    if let Some(row) = &told.sums.longest {
+        push_longest(&mut front, row, told.places);
     }
+    front.into_bytes()
 }
 
-// The same, as bytes.
-fn front_of(alloc: Global, told: &Told) -> Result<Vec<u8>, AllocError> {
-    let mut front = String::new(alloc);
-    push_front(&mut front, told)?;
-    Ok(front.into_bytes())
+// Appends the histograms.
+fn push_histograms(alloc: Global, text: &mut Lines, sums: &Sums) -> Result<(), AllocError> {
+    push_histogram(alloc, text, "\n   cost", &sums.cost)?;
+    push_histogram(alloc, text, "\n   wait", &sums.wait)
 }
 
 // What is told behind it: the histograms and, where they are asked for, the runs themselves.
-fn push_back(
-    alloc: Global,
-    text: &mut String,
-    told: &Told,
-    with_rows: bool,
-) -> Result<(), AllocError> {
-    let sums = told.sums;
-    if sums.longest.is_some() {
-        text.push_str("\n")?;
+fn back_of(alloc: Global, told: &Told, with_rows: bool) -> Result<Vec<u8>, AllocError> {
+    let mut back = Lines::new(alloc);
+    if told.sums.longest.is_some() {
+        back.push("\n");
     }
-    push_histogram(alloc, text, "cost", &sums.cost)?;
-    push_histogram(alloc, text, "wait", &sums.wait)?;
+    push_histograms(alloc, &mut back, told.sums)?;
     if with_rows {
-        push_rows(text, told.sweep, told.places)?;
+        push_rows(&mut back, told.sweep, told.places);
     }
-    Ok(())
+    back.into_bytes()
 }
 
-// The same, to bytes.
-fn push_end(
-    alloc: Global,
-    text: &mut Vec<u8>,
-    told: &Told,
-    with_rows: bool,
-) -> Result<(), AllocError> {
-    let mut back = String::new(alloc);
-    push_back(alloc, &mut back, told, with_rows)?;
-    text.extend_from_slice(back.as_bytes())
+// The text of the line in which the interrupt fell that was waited for longest, if there is one.
+fn longest_text<'a>(told: &Told, source: &'a [u8]) -> &'a [u8] {
+    match &told.sums.longest {
+        Some(row) => place_text(row, told.places, source),
+        None => b"",
+    }
 }
 
 // The text of a sweep.
@@ -242,10 +172,8 @@ fn text_of(
     with_rows: bool,
 ) -> Result<Vec<u8>, AllocError> {
     let mut text = front_of(alloc, told)?;
-    if let Some(row) = &told.sums.longest {
-        text.extend_from_slice(place_text(row, told.places, source))?;
-    }
-    push_end(alloc, &mut text, told, with_rows)?;
+    text.extend_from_slice(longest_text(told, source))?;
+    text.extend_from_slice(back_of(alloc, told, with_rows)?.as_slice())?;
     Ok(text)
 }
 
