@@ -1,3 +1,4 @@
 pub mod Terms
 pub mod Verdicts
 pub mod Planned
+pub mod Runs

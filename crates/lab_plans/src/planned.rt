@@ -6,6 +6,7 @@ ghost use Rattle.cmd_answer.specs.Replies.{reply_answer};
 ghost use Rattle.cmd_answer.specs.declared.Status.{Status as HowItEnds};
 ghost use Rattle.lab_plans.specs.Terms.{IsSource, IsRefusal, IsLinked, from_target, HaveRegisters, board, marks_of_lines, IsProposed};
 ghost use Rattle.lab_plans.specs.Planned.{IsRunByPlans};
+ghost use Rattle.lab_plans.specs.Runs.{run_answer};
 
 use crate::verdicts::told;
 use cmd_answer::Reply;
@@ -51,6 +52,32 @@ fn behind(mut lines: Vec<u8>, reply: Reply) -> Result<Reply, AllocError>
     }
 }
 
+/// The reply of the run of a linked source under the shipped handler.
+fn run_reply<W: Watcher>(
+    alloc: Global,
+    source: &Source,
+    linked: &Linked,
+    requests: &Requests,
+    input: &[u8],
+    budget: u32,
+    watcher: W,
+) -> Result<Reply, Memory>
+    requires { length input.now ≤ MAX_FILE_BYTES }
+    ensures { IfOk result (λ r. reply_answer r ≡ run_answer source.now linked.now requests.now input.now budget) }
+{
+    let image = &linked.image;
+    let given = given_to(source, input);
+    let mut machine = watched_pipe(alloc, image, given, LineCache::new(), watcher)?;
+    let limits = Limits {
+        budget,
+        trace: 0,
+        dump: None,
+        count: 1,
+    };
+    let run = simulate_on(alloc, &mut machine, image, requests, &limits)?;
+    Ok(run)
+}
+
 /// Links a source by the plans that the lines of a file say, and runs it under the shipped handler with these requests:
 /// a line for each plan that is rejected, and the report of the run. A rejected plan does not run: its block is padded.
 /// A watcher is told how far the run has come.
@@ -79,15 +106,6 @@ pub fn planned_reply<W: Watcher>(
         blocks.as_slice(),
         linked.proposals.as_slice(),
     )?;
-    let image = &linked.image;
-    let given = given_to(source, input);
-    let mut machine = watched_pipe(alloc, image, given, LineCache::new(), watcher)?;
-    let limits = Limits {
-        budget,
-        trace: 0,
-        dump: None,
-        count: 1,
-    };
-    let run = simulate_on(alloc, &mut machine, image, requests, &limits)?;
+    let run = run_reply(alloc, source, &linked, requests, input, budget, watcher)?;
     Ok(behind(lines, run)?)
 }

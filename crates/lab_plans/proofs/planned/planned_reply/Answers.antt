@@ -1,20 +1,14 @@
-use Rattle.std.proofs.Common.{◌≡◌, List, length, None, ap, sym, subst, ◌∙◌}
-use Rattle.std.specs.Option.{option_copied}
+use Rattle.std.proofs.Common.{◌≡◌, List, length, ap, sym, subst, ◌∙◌}
 use Rattle.mx_blocks.specs.declared.Block.{Block}
 use Rattle.mx_blocks.specs.declared.Plan.{Plan}
 use Rattle.mx_blocks.proofs.UniqueBlocks.{blocks_unique}
 use Rattle.mx_layout.specs.Layout.{blocks_in}
-use Rattle.mx_source.specs.Meaning.{given}
-use Rattle.mx_turn.specs.Handler.{shipped}
-use Rattle.mx_turn.specs.Program.{program_of}
-use Rattle.cmd_simulate.specs.Simulated.{image_answer}
 use Rattle.mx_plans.specs.Files.{marks_of_lines}
 use Rattle.mx_plans.specs.Says.{IsProposed}
-use Rattle.lab_plans.specs.Planned.{linked_run, run_report}
+use Rattle.lab_plans.specs.Runs.{report_of}
 use Rattle.lab_plans.specs.Verdicts.{AreTold}
 use Rattle.lab_plans.proofs.Counts.{kept_count}
 use Rattle.lab_plans.proofs.Means.{runs, means}
-use Rattle.lab_plans.proofs.Reported.{report_is}
 use Rattle.lab_plans.proofs.planned.planned_reply.Goals as goal
 
 pub told-requires : goal.told-requires
@@ -37,8 +31,6 @@ returns-clause-planned g c =
     let proposes = IsProposed source (marks_of_lines c.args.plans.now) in
     let linked = c.in_ok-linked.linked in
     let k = c.in_ok-linked.ensures.linked in
-    let code = linked.image.code.items in
-    let user_data = linked.image.user_data.items in
     let lines = c.in_ok-lines.lines.items in
     let blocks-are : c.as_slice.result.now ≡ blocks_in k.sites =
     c.as_slice.ensures.value ∙ blocks_unique source c.in_ok-blocks.blocks.items (blocks_in k.sites) c.in_ok-blocks.ensures k.layout.blocks in
@@ -50,10 +42,7 @@ returns-clause-planned g c =
       is = k;
       lines = lines;
       told = told;
-      answers = c.in_ok-behind.ensures _ (run_report code (linked_run source linked requests bytes budget))
-          (c.in_ok-run.ensures (program_of shipped code user_data (option_copied c.given_to-given.result)) c.in_ok-machine.ensures
-          ∙ ap (λ o. image_answer code user_data o requests (record { budget = budget; trace = 0; dump = None; count = 1 })) c.given_to-given.ensures
-          ∙ report_is code user_data (given source.input bytes) requests budget);
+      answers = c.in_ok-behind.ensures _ (report_of source linked requests bytes budget) c.in_ok-run.ensures;
       runs = runs proposes source linked k requests bytes budget;
       means = means proposes source linked k requests bytes budget c.linked_by.ensures.source c.in_ok-linked.ensures.registers;
     }
