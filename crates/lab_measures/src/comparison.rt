@@ -34,7 +34,7 @@ impl Proposer for PaddedProposer {
 }
 
 /// What a source and its run come to by four schedulers.
-#[derive(Clone, Copy, Debug, PartialEq, Eq)]
+#[derive(Clone, Copy)]
 pub struct Comparison {
     /// Padded plans.
     pub padded: Figures,

@@ -5,7 +5,7 @@ ghost use Rattle.lab_measures.specs.Spans.{cycles_in, apart_in};
 use std::alloc::{AllocError, Global};
 
 /// Cycles from one on to another, each so many behind the one before.
-#[derive(Clone, Copy, Debug, PartialEq, Eq)]
+#[derive(Clone, Copy)]
 pub struct Span {
     pub from: u32,
     /// No cycle of the span is behind this one.

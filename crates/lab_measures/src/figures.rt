@@ -3,7 +3,7 @@
 use lab_terms::{Slots, TransferSlots};
 
 /// The figures of a source that is linked by some plans and run.
-#[derive(Clone, Copy, Debug, PartialEq, Eq)]
+#[derive(Clone, Copy)]
 pub struct Figures {
     /// How many code words there are.
     pub words: usize,

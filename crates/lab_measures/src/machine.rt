@@ -24,7 +24,7 @@ pub(crate) fn has_halted(driven: &Driven) -> bool
 }
 
 /// Whether a run halted, and its cycles.
-#[derive(Clone, Copy, Debug, PartialEq, Eq)]
+#[derive(Clone, Copy)]
 pub struct Ran {
     pub halted: bool,
     pub cycles: u64,

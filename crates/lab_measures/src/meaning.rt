@@ -11,7 +11,7 @@ use mx_source::Source;
 use std::alloc::Global;
 
 /// How a meaning stands after its steps, and the index of the statement that it stands at.
-#[derive(Clone, Copy, Debug, PartialEq, Eq)]
+#[derive(Clone, Copy)]
 pub struct Standing {
     pub progress: Progress,
     pub index: u32,

@@ -8,7 +8,7 @@ use mx_turn::{Counts, Cycled, Latches, Machine, Stage};
 use std::alloc::AllocError;
 
 /// How a request became an interrupt.
-#[derive(Clone, Copy, Debug, PartialEq, Eq)]
+#[derive(Clone, Copy)]
 pub struct Entry {
     /// The cycle in which the interrupt is taken, the first being 0.
     pub taken: u64,
@@ -27,7 +27,7 @@ pub struct Run {
 }
 
 // How far the last request has come.
-#[derive(Clone, Copy, Debug, PartialEq, Eq)]
+#[derive(Clone, Copy)]
 enum Progress {
     /// There was none.
     Idle,

@@ -3,7 +3,7 @@ use crate::observed::Entry;
 use mx_turn::Stage;
 
 /// A run with a request in one cycle, or in two.
-#[derive(Clone, Copy, Debug, PartialEq, Eq)]
+#[derive(Clone, Copy)]
 pub struct Row {
     /// The cycle of the first request, and that of the second if there is one.
     pub first: u32,

@@ -2,7 +2,7 @@
 use std::alloc::{AllocError, Global};
 
 /// How often a number stands.
-#[derive(Clone, Copy, Debug, PartialEq, Eq)]
+#[derive(Clone, Copy)]
 pub struct Bin {
     pub number: i64,
     pub runs: u64,
