@@ -1,4 +1,4 @@
-//! What is not wrong with a source, and is seldom meant.
+//! What is found in a source without faults: a branch that does not reach its target, and what is seldom meant.
 use crate::finding::{Finding, Found, Severity, Words};
 use crate::hint::said_if;
 use crate::labels::{Definition, definitions_of};
