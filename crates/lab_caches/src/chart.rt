@@ -3,10 +3,10 @@ use super::study::{CacheRow, Study};
 use std::alloc::{AllocError, Global};
 
 /// The sizes on the chart, in words.
-const SIZES: [u64; 5] = [128, 256, 512, 1024, 2048];
+static SIZES: [u64; 5] = [128, 256, 512, 1024, 2048];
 
 /// The numbers of ways, each a curve, with its colour.
-const CURVES: [(u32, &str); 4] = [
+static CURVES: [(u32, &str); 4] = [
     (1, "#b4442f"),
     (2, "#c98a17"),
     (4, "#3d7f4f"),
@@ -53,20 +53,34 @@ fn share(misses: u64, fetches: u64) -> u64 {
 
 // The share of the cache of a size and a number of ways, if it was looked at.
 fn share_of(rows: &[CacheRow], fetches: u64, size: u64, ways: u32) -> Option<u64> {
-    let row = rows.iter().find(|row| row.geometry.words() == size && row.geometry.ways == ways)?;
-    Some(share(row.misses, fetches))
+    for row in rows {
+        if row.geometry.words() == size && row.geometry.ways == ways {
+            return Some(share(row.misses, fetches));
+        }
+    }
+    None
+}
+
+// Appends a line across, so far down.
+fn push_rule(svg: &mut String, y: u64) -> Result<(), AllocError> {
+    let right = LEFT.saturating_add(WIDTH);
+    write!(svg, "<path d=\"M{LEFT} {y}H{right}\" stroke=\"#ccc\"/>\n")
+}
+
+// Appends what a line across stands for.
+fn push_share(svg: &mut String, y: u64, part: u64) -> Result<(), AllocError> {
+    let (ones, rest) = (part / 100, part % 100);
+    write!(
+        svg,
+        "<text x=\"62\" y=\"{y}\" text-anchor=\"end\">{ones}.{rest:02}%</text>\n"
+    )
 }
 
 // Appends the line across for a share, and what it stands for.
 fn push_line(svg: &mut String, part: u64, most: u64) -> Result<(), AllocError> {
     let y = down(part, most);
-    let (ones, rest) = (part / 100, part % 100);
-    let right = LEFT.saturating_add(WIDTH);
-    write!(svg, "<path d=\"M{LEFT} {y}H{right}\" stroke=\"#ccc\"/>\n")?;
-    write!(
-        svg,
-        "<text x=\"62\" y=\"{y}\" text-anchor=\"end\">{ones}.{rest:02}%</text>\n"
-    )
+    push_rule(svg, y)?;
+    push_share(svg, y, part)
 }
 
 // Appends the lines across.
@@ -110,24 +124,37 @@ fn push_points(svg: &mut String, study: &Study, most: u64, ways: u32) -> Result<
     Ok(())
 }
 
+// Appends the key to the curve of a number of ways.
+fn push_key(svg: &mut String, ways: u32, colour: &str) -> Result<(), AllocError> {
+    let y = TOP.saturating_add(u64::from(ways).saturating_mul(18));
+    write!(
+        svg,
+        "<text x=\"560\" y=\"{y}\" fill=\"{colour}\">{ways} ways</text>\n"
+    )
+}
+
 // Appends the curve of a number of ways, and the key to it.
 fn push_curve(
     svg: &mut String,
     study: &Study,
     most: u64,
-    curve: (u32, &str),
+    ways: u32,
+    colour: &str,
 ) -> Result<(), AllocError> {
-    let (ways, colour) = curve;
-    let y = TOP.saturating_add(u64::from(ways).saturating_mul(18));
-    write!(
-        svg,
-        "<polyline fill=\"none\" stroke-width=\"2\" stroke=\"{colour}\" points=\""
-    )?;
+    svg.push_str("<polyline fill=\"none\" stroke-width=\"2\" stroke=\"")?;
+    svg.push_str(colour)?;
+    svg.push_str("\" points=\"")?;
     push_points(svg, study, most, ways)?;
-    write!(
-        svg,
-        "\"/>\n<text x=\"560\" y=\"{y}\" fill=\"{colour}\">{ways} ways</text>\n"
-    )
+    svg.push_str("\"/>\n")?;
+    push_key(svg, ways, colour)
+}
+
+// Appends the curves.
+fn push_curves(svg: &mut String, study: &Study, most: u64) -> Result<(), AllocError> {
+    for (ways, colour) in &CURVES {
+        push_curve(svg, study, most, *ways, *colour)?;
+    }
+    Ok(())
 }
 
 // The greatest share of all rows, at least a hundredth of a per cent.
@@ -139,15 +166,19 @@ fn greatest(study: &Study) -> u64 {
     most
 }
 
+// Appends the chart.
+fn push_chart(svg: &mut String, study: &Study) -> Result<(), AllocError> {
+    let most = greatest(study);
+    svg.push_str(HEAD)?;
+    push_lines(svg, most)?;
+    push_sizes(svg)?;
+    push_curves(svg, study, most)?;
+    svg.push_str("</svg>\n")
+}
+
 /// Caches as a chart in SVG: of each number of ways the misses in per cent of the fetches, by the size of the cache.
 pub fn caches_svg(alloc: Global, study: &Study) -> Result<Vec<u8>, AllocError> {
-    let most = greatest(study);
-    let mut svg = String::from_str(alloc, HEAD)?;
-    push_lines(&mut svg, most)?;
-    push_sizes(&mut svg)?;
-    for curve in CURVES {
-        push_curve(&mut svg, study, most, curve)?;
-    }
-    svg.push_str("</svg>\n")?;
+    let mut svg = String::new(alloc);
+    push_chart(&mut svg, study)?;
     Ok(svg.into_bytes())
 }

@@ -13,6 +13,21 @@ struct Document<'a> {
     study: &'a Study,
 }
 
+impl<'a> Document<'a> {
+    // The members before the rows.
+    fn members(&self) -> [(&'static str, Value<'a>); 6] {
+        let counts = &self.study.counts;
+        [
+            ("command", Value::Text("caches")),
+            ("source", Value::Text(self.source)),
+            ("halted", Value::Flag(self.study.halted)),
+            ("cycles", Value::Number(counts.cycles)),
+            ("fetches", Value::Number(counts.fetches)),
+            ("misses", Value::Number(counts.misses)),
+        ]
+    }
+}
+
 impl Described for CacheRow {}
 
 impl Serialize for CacheRow {
@@ -37,17 +52,8 @@ impl Described for Document<'_> {}
 
 impl Serialize for Document<'_> {
     fn serialize<S: Serializer>(&self, out: &mut S) -> Result<(), S::Error> {
-        let counts = &self.study.counts;
-        let members = [
-            ("command", Value::Text("caches")),
-            ("source", Value::Text(self.source)),
-            ("halted", Value::Flag(self.study.halted)),
-            ("cycles", Value::Number(counts.cycles)),
-            ("fetches", Value::Number(counts.fetches)),
-            ("misses", Value::Number(counts.misses)),
-        ];
         out.begin_map(Some(7))?;
-        write_members(out, &members)?;
+        write_members(out, &self.members())?;
         write_list(out, "caches", self.study.rows.as_slice())?;
         out.end_map()
     }

@@ -10,7 +10,7 @@ use mx_turn::{Counts, Machine, Stage};
 use std::alloc::{AllocError, Global};
 
 /// What a cache makes of a run.
-#[derive(Clone, Copy, Debug, PartialEq, Eq)]
+#[derive(Clone, Copy)]
 pub struct CacheRow {
     pub geometry: Geometry,
     pub misses: u64,
@@ -26,16 +26,32 @@ pub struct Study {
     pub rows: Vec<CacheRow>,
 }
 
-// Empty caches, those that have the same lines side by side.
-fn caches_of(alloc: Global, geometries: &[Geometry]) -> Result<Vec<Caches>, AllocError> {
-    let mut all = Vec::new(alloc);
+// Adds empty caches whose lines are alike.
+fn push_caches(alloc: Global, all: &mut Vec<Caches>, alike: &[Geometry]) -> Result<(), AllocError> {
+    if let Some(geometry) = alike.first() {
+        all.push(Caches::new(alloc, geometry.line, geometry.brings, alike)?)?;
+    }
+    Ok(())
+}
+
+// Adds empty caches, those that have the same lines side by side.
+fn push_all(
+    alloc: Global,
+    all: &mut Vec<Caches>,
+    geometries: &[Geometry],
+) -> Result<(), AllocError> {
     for alike in geometries.chunk_by(|one, other| one.line == other.line
         && one.brings == other.brings)
     {
-        if let Some(geometry) = alike.first() {
-            all.push(Caches::new(alloc, geometry.line, geometry.brings, alike)?)?;
-        }
+        push_caches(alloc, all, alike)?;
     }
+    Ok(())
+}
+
+// Empty caches, those that have the same lines side by side.
+fn caches_of(alloc: Global, geometries: &[Geometry]) -> Result<Vec<Caches>, AllocError> {
+    let mut all = Vec::new(alloc);
+    push_all(alloc, &mut all, geometries)?;
     Ok(all)
 }
 
@@ -75,6 +91,14 @@ fn row_of(cache: &Cache, fetches: u64) -> CacheRow {
     }
 }
 
+// Adds what these caches make of a run with so many fetches, which has ended.
+fn push_rows(rows: &mut Vec<CacheRow>, caches: &[Cache], fetches: u64) -> Result<(), AllocError> {
+    for cache in caches {
+        rows.push(row_of(cache, fetches))?;
+    }
+    Ok(())
+}
+
 // What each cache makes of a run with so many fetches, which has ended.
 fn rows_of(
     alloc: Global,
@@ -83,11 +107,30 @@ fn rows_of(
 ) -> Result<Vec<CacheRow>, AllocError> {
     let mut rows = Vec::new(alloc);
     for caches in all.iter_mut() {
-        for cache in caches.ended() {
-            rows.push(row_of(cache, fetches))?;
-        }
+        push_rows(&mut rows, caches.ended(), fetches)?;
     }
     Ok(rows)
+}
+
+// Runs a machine from its start, and has these caches fetch what it fetches.
+fn study_with<M: Machine>(
+    alloc: Global,
+    machine: &mut M,
+    budget: u32,
+    all: &mut Vec<Caches>,
+) -> Result<Study, Memory>
+    requires { M.cycles machine.old ≡ 0 }
+{
+    let halted = run(machine, &Requests::none(alloc), budget, all);
+    let counts = machine.counts();
+    match rows_of(alloc, all, counts.fetches) {
+        Ok(rows) => Ok(Study {
+            counts,
+            halted,
+            rows,
+        }),
+        Err(_) => Err(Memory),
+    }
 }
 
 /// Runs a machine from its start without requests, until it halts or the budget is spent, and has each of these caches fetch
@@ -100,17 +143,8 @@ pub fn study_of<M: Machine>(
 ) -> Result<Study, Memory>
     requires { M.cycles machine.old ≡ 0 }
 {
-    let Ok(mut all) = caches_of(alloc, geometries) else {
-        return Err(Memory);
-    };
-    let halted = run(machine, &Requests::none(alloc), budget, &mut all);
-    let counts = machine.counts();
-    let Ok(rows) = rows_of(alloc, &mut all, counts.fetches) else {
-        return Err(Memory);
-    };
-    Ok(Study {
-        counts,
-        halted,
-        rows,
-    })
+    match caches_of(alloc, geometries) {
+        Ok(mut all) => study_with(alloc, machine, budget, &mut all),
+        Err(_) => Err(Memory),
+    }
 }

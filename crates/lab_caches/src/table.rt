@@ -54,28 +54,36 @@ fn push_row(table: &mut String, row: &CacheRow, fetches: u64) -> Result<(), Allo
     table.push('\n')
 }
 
+// Appends a line with a number.
+fn push_count(table: &mut String, name: &str, count: u64) -> Result<(), AllocError> {
+    write!(table, "{name} {count}\n")
+}
+
 // Appends how the run ended, and what it cost.
 fn push_sums(table: &mut String, study: &Study) -> Result<(), AllocError> {
-    let end = if study.halted {
-        "halted"
-    } else {
-        "out of budget"
-    };
-    let counts = &study.counts;
-    let (cycles, fetches, misses) = (counts.cycles, counts.fetches, counts.misses);
     table.push_str("* the machine's own cache\n")?;
-    write!(
-        table,
-        "{end}\ncycles {cycles}\nfetches {fetches}\nmisses {misses}\n"
-    )
+    table.push_str(if study.halted {
+        "halted\n"
+    } else {
+        "out of budget\n"
+    })?;
+    push_count(table, "cycles", study.counts.cycles)?;
+    push_count(table, "fetches", study.counts.fetches)?;
+    push_count(table, "misses", study.counts.misses)
+}
+
+// Appends the table.
+fn push_table(table: &mut String, study: &Study) -> Result<(), AllocError> {
+    table.push_str(HEAD)?;
+    for row in study.rows.iter() {
+        push_row(table, row, study.counts.fetches)?;
+    }
+    push_sums(table, study)
 }
 
 /// Caches as a table: the misses of each, and the cycles that the fetches of the run take with it.
 pub fn caches_text(alloc: Global, study: &Study) -> Result<Vec<u8>, AllocError> {
-    let mut table = String::from_str(alloc, HEAD)?;
-    for row in study.rows.iter() {
-        push_row(&mut table, row, study.counts.fetches)?;
-    }
-    push_sums(&mut table, study)?;
+    let mut table = String::new(alloc);
+    push_table(&mut table, study)?;
     Ok(table.into_bytes())
 }

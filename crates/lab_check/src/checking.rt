@@ -2,11 +2,11 @@
 ghost use Rattle.std.specs.Prelude.{◌≤◌, length};
 ghost use Rattle.mx_io.specs.declared.limits.TheConstants.{MAX_SOURCE_BYTES};
 
-use crate::error::{fault_finding, overlong_finding};
+use crate::error::fault_finding;
 use crate::finding::Finding;
-use crate::labels::definitions_of;
-use crate::warning::{Warning, warning_finding, warnings};
-use lab_faults::{Findings, check_text};
+use crate::labels::{Definition, definitions_of};
+use crate::warning::{Notice, notice_finding, overlong, warnings};
+use lab_faults::{Findings, Shown, check_text};
 use mx_asm::assemble;
 use mx_io::Memory;
 use mx_isa::BOARD;
@@ -26,72 +26,114 @@ pub struct Checked<'a> {
     pub warnings: usize,
 }
 
-// The faulty lines that are shown, as they are told.
-fn told_faults<'a>(
+// Faulty lines, as they are told.
+fn fault_findings<'a>(
     alloc: Global,
-    lines: &[&'a [u8]],
-    found: Findings<'a>,
-) -> Result<Checked<'a>, AllocError> {
-    let definitions = definitions_of(alloc, lines)?;
+    shown: &[Shown<'a>],
+    definitions: &[Definition],
+) -> Result<Vec<Finding<'a>>, AllocError> {
     let mut findings = Vec::new(alloc);
-    let Findings { shown, count } = found;
     for one in shown {
-        findings.push(fault_finding(alloc, one, &definitions)?)?;
+        findings.push(fault_finding(alloc, one, definitions)?)?;
     }
+    Ok(findings)
+}
+
+// The faulty lines that are shown, as they are told in a text that defines these labels.
+fn faults_told<'a>(
+    alloc: Global,
+    faulty: &Findings<'a>,
+    definitions: &[Definition],
+) -> Result<Checked<'a>, AllocError> {
+    let findings = fault_findings(alloc, &faulty.shown, definitions)?;
     Ok(Checked {
         findings,
-        faults: count,
+        faults: faulty.count,
         is_overlong: false,
         warnings: 0,
     })
 }
 
-// A branch at an address that does not reach its target, and the line of its statement.
-#[derive(Clone, Copy)]
-struct Overlong {
-    line: u32,
-    from: u32,
-    to: u32,
+// The faulty lines that are shown, as they are told in a text of these lines.
+fn told_faults<'a>(
+    alloc: Global,
+    lines: &[&'a [u8]],
+    faulty: &Findings<'a>,
+) -> Result<Checked<'a>, AllocError> {
+    let definitions = definitions_of(alloc, lines)?;
+    faults_told(alloc, faulty, &definitions)
+}
+
+// What is found in a text of these lines that is refused.
+fn told_refused<'a>(
+    alloc: Global,
+    lines: &[&'a [u8]],
+    text: &'a [u8],
+    at_most: usize,
+) -> Result<Checked<'a>, AllocError>
+    requires short { length text.now ≤ MAX_SOURCE_BYTES }
+    requires most { at_most ≤ MAX_SOURCE_BYTES }
+{
+    match check_text(alloc, text, at_most) {
+        Ok(faulty) => told_faults(alloc, lines, &faulty),
+        Err(_) => Err(AllocError),
+    }
 }
 
 // The first branch of a source that does not reach its target.
-fn overlong_in(alloc: Global, source: &Source) -> Result<Option<Overlong>, AllocError> {
+fn overlong_in(alloc: Global, source: &Source) -> Result<Option<Notice>, AllocError> {
     let _statements = source.statements();
     match link(alloc, source, BOARD, &mut ListProposer) {
         Ok(_) => Ok(None),
-        Err(LinkError::Displacement { line, from, to }) => Ok(Some(Overlong { line, from, to })),
+        Err(LinkError::Displacement { line, from, to }) => Ok(Some(overlong(line, from, to))),
         Err(LinkError::Memory) => Err(AllocError),
     }
 }
 
-// Adds warnings, as they are told, up to so many.
-fn push_warnings<'a>(
+// Adds what is found in a source without faults, as it is told.
+fn push_notices<'a>(
     alloc: Global,
     lines: &[&'a [u8]],
-    warned: &[Warning],
-    at_most: usize,
+    notices: &[Notice],
     findings: &mut Vec<Finding<'a>>,
 ) -> Result<(), AllocError> {
-    for warning in warned.iter().take(at_most) {
-        findings.push(warning_finding(alloc, lines, *warning)?)?;
+    for notice in notices {
+        findings.push(notice_finding(alloc, lines, *notice)?)?;
     }
     Ok(())
 }
 
-// A branch and warnings, as they are told: the branch if there is one, and at most so many warnings.
-fn findings_of<'a>(
+// Adds a branch, if there is one, and warnings, as they are told.
+fn push_told<'a>(
     alloc: Global,
     lines: &[&'a [u8]],
-    overlong: Option<Overlong>,
-    warned: &[Warning],
-    at_most: usize,
-) -> Result<Vec<Finding<'a>>, AllocError> {
-    let mut findings = Vec::new(alloc);
-    if let Some(Overlong { line, from, to }) = overlong {
-        findings.push(overlong_finding(alloc, lines, line, from, to)?)?;
+    overlong: Option<Notice>,
+    warned: &[Notice],
+    findings: &mut Vec<Finding<'a>>,
+) -> Result<(), AllocError> {
+    if let Some(branch) = overlong {
+        push_notices(alloc, lines, &[branch], findings)?;
     }
-    push_warnings(alloc, lines, warned, at_most, &mut findings)?;
-    Ok(findings)
+    push_notices(alloc, lines, warned, findings)
+}
+
+// A branch and warnings, as they are told: the branch if there is one, and at most so many warnings.
+fn told_warnings<'a>(
+    alloc: Global,
+    lines: &[&'a [u8]],
+    overlong: Option<Notice>,
+    warned: &[Notice],
+    at_most: usize,
+) -> Result<Checked<'a>, AllocError> {
+    let first = warned.get(..at_most).unwrap_or(warned);
+    let mut findings = Vec::new(alloc);
+    push_told(alloc, lines, overlong, first, &mut findings)?;
+    Ok(Checked {
+        findings,
+        faults: 0,
+        is_overlong: overlong.is_some(),
+        warnings: warned.len(),
+    })
 }
 
 // What is found in a source without faults: a branch that does not reach its target, and at most so many warnings.
@@ -103,28 +145,22 @@ fn told_source<'a>(
 ) -> Result<Checked<'a>, AllocError> {
     let overlong = overlong_in(alloc, source)?;
     let warned = warnings(alloc, lines, source)?;
-    let findings = findings_of(alloc, lines, overlong, &warned, at_most)?;
-    Ok(Checked {
-        findings,
-        faults: 0,
-        is_overlong: overlong.is_some(),
-        warnings: warned.len(),
-    })
+    told_warnings(alloc, lines, overlong, &warned, at_most)
 }
 
-// What is found in a text of these lines, of which these are the faulty ones.
+// What is found in a text of these lines.
 fn check_lines<'a>(
     alloc: Global,
     lines: &[&'a [u8]],
-    text: &[u8],
-    faulty: Findings<'a>,
+    text: &'a [u8],
     at_most: usize,
 ) -> Result<Checked<'a>, AllocError>
-    requires { length text.now ≤ MAX_SOURCE_BYTES }
+    requires short { length text.now ≤ MAX_SOURCE_BYTES }
+    requires most { at_most ≤ MAX_SOURCE_BYTES }
 {
     match assemble(alloc, text) {
         Ok(source) => told_source(alloc, lines, &source, at_most),
-        Err(AsmError::Refused { .. }) => told_faults(alloc, lines, faulty),
+        Err(AsmError::Refused { .. }) => told_refused(alloc, lines, text, at_most),
         Err(AsmError::Memory) => Err(AllocError),
     }
 }
@@ -135,11 +171,10 @@ pub fn check(alloc: Global, text: &[u8], at_most: usize) -> Result<Checked<'_>, 
     requires short { length text.now ≤ MAX_SOURCE_BYTES }
     requires most { at_most ≤ MAX_SOURCE_BYTES }
 {
-    let faulty = check_text(alloc, text, at_most)?;
     let Ok(lines) = lines_of(alloc, text) else {
         return Err(Memory);
     };
-    match check_lines(alloc, &lines, text, faulty, at_most) {
+    match check_lines(alloc, &lines, text, at_most) {
         Ok(checked) => Ok(checked),
         Err(_) => Err(Memory),
     }

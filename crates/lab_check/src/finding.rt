@@ -1,8 +1,10 @@
 //! What `check` tells of a line.
+use lab_faults::marks_under;
 use mx_faults::Span;
+use std::alloc::{AllocError, Global};
 
 /// How grave it is: a source with an error is refused, and one with a warning is not.
-#[derive(Clone, Copy, Debug, PartialEq, Eq)]
+#[derive(Clone, Copy)]
 pub enum Severity {
     Error,
     Warning,
@@ -51,5 +53,42 @@ impl Finding<'_> {
             Some(span) => span.end.saturating_add(1),
             None => self.text.len().saturating_add(1),
         }
+    }
+}
+
+/// What is said of a line: what it is, and what may have been meant, if something is known.
+#[derive(Drop)]
+pub struct Words {
+    pub message: String,
+    pub hint: Option<String>,
+}
+
+/// What is found at a line, before anything is said of it.
+#[derive(Clone, Copy)]
+pub struct Found<'a> {
+    pub line: u32,
+    pub text: &'a [u8],
+    pub span: Option<Span>,
+    pub severity: Severity,
+    pub code: &'static str,
+    pub name: &'static str,
+}
+
+impl<'a> Found<'a> {
+    /// The finding of which this is said.
+    pub fn told(self, alloc: Global, words: Words) -> Result<Finding<'a>, AllocError> {
+        let marks = marks_under(alloc, self.text, self.span)?;
+        let Words { message, hint } = words;
+        Ok(Finding {
+            line: self.line,
+            text: self.text,
+            marks,
+            span: self.span,
+            severity: self.severity,
+            code: self.code,
+            name: self.name,
+            message,
+            hint,
+        })
     }
 }

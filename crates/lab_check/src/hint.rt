@@ -6,8 +6,9 @@ use crate::operand::operand_hint;
 use crate::sentence::{
     BYTE_ORDER_MARK, char_of, is_among, is_mnemonic, mnemonics, name_of, text_of, token_of,
 };
+use crate::texts::{joined, numbered};
 use lab_faults::{Shown, nearest};
-use mx_asm::{line_words, statement_words};
+use mx_asm::statement_words;
 use mx_lines::{Fault, Word, spells};
 use std::alloc::{AllocError, Global};
 
@@ -19,15 +20,15 @@ pub fn hinted(text: Result<String, AllocError>) -> Result<Option<String>, AllocE
     Ok(Some(text?))
 }
 
-/// A hint of these words.
-pub fn said(alloc: Global, text: &str) -> Result<Option<String>, AllocError> {
-    hinted(String::from_str(alloc, text))
+/// A hint of these parts.
+pub fn said(alloc: Global, parts: &[&str]) -> Result<Option<String>, AllocError> {
+    hinted(joined(alloc, parts))
 }
 
 /// A hint of these words, if there are any.
 pub fn said_if(alloc: Global, text: Option<&str>) -> Result<Option<String>, AllocError> {
     match text {
-        Some(text) => said(alloc, text),
+        Some(text) => said(alloc, &[text]),
         None => Ok(None),
     }
 }
@@ -35,20 +36,36 @@ pub fn said_if(alloc: Global, text: Option<&str>) -> Result<Option<String>, Allo
 // The name that was meant in the place of a word.
 fn meant(alloc: Global, word: &str, names: &[&str]) -> Result<Option<String>, AllocError> {
     match nearest(alloc, word, names)? {
-        Some(name) => hinted(format!(in alloc; "did you mean `{name}`?")),
+        Some(name) => said(alloc, &["did you mean `", name, "`?"]),
         None => Ok(None),
     }
 }
 
-// F1: signs that editors and word processors put in the place of others.
+/// Signs that editors and word processors put in the place of others, and what is said of each.
+static SIGNS: [(&str, &str); 6] = [
+    (
+        BYTE_ORDER_MARK,
+        "this is a byte order mark: store the text as UTF-8 without one",
+    ),
+    (
+        "\u{a0}",
+        "this is a no-break space: a space or a tab stands between words",
+    ),
+    ("\u{2212}", "a minus is written `-`"),
+    ("\u{2013}", "a minus is written `-`"),
+    ("\u{2014}", "a minus is written `-`"),
+    ("\r", "a line ends with LF, or with CR and LF"),
+];
+
+// F1: what is said of a sign.
 fn byte_told(typed: Option<&str>) -> &'static str {
-    match typed {
-        Some(BYTE_ORDER_MARK) => "this is a byte order mark: store the text as UTF-8 without one",
-        Some("\u{a0}") => "this is a no-break space: a space or a tab stands between words",
-        Some("\u{2212}" | "\u{2013}" | "\u{2014}") => "a minus is written `-`",
-        Some("\r") => "a line ends with LF, or with CR and LF",
-        _ => "behind a `;` any text may stand",
+    let typed = typed.unwrap_or("");
+    for (sign, told) in &SIGNS {
+        if typed == *sign {
+            return *told;
+        }
     }
+    "behind a `;` any text may stand"
 }
 
 // F2: bytes at which no token begins.
@@ -75,11 +92,16 @@ fn is_before_mnemonic(words: &[Word]) -> bool {
     }
 }
 
+// F3: a mnemonic like this one.
+fn mnemonic_meant(alloc: Global, word: &str) -> Result<Option<String>, AllocError> {
+    let names = mnemonics(alloc)?;
+    meant(alloc, word, &names)
+}
+
 // F3: a mnemonic like this one, in small letters.
 fn slip_hint(alloc: Global, word: &str) -> Result<Option<String>, AllocError> {
     let lower = word.to_ascii_lowercase(alloc)?;
-    let names = mnemonics(alloc)?;
-    meant(alloc, lower.as_str(), &names)
+    mnemonic_meant(alloc, lower.as_str())
 }
 
 // F3: a word of another machine, a label without its colon, or a slip.
@@ -90,10 +112,10 @@ fn mnemonic_hint(
 ) -> Result<Option<String>, AllocError> {
     let word = text_of(token);
     if let Some(instead) = mnemonic_instead(token) {
-        return said(alloc, instead);
+        return said(alloc, &[instead]);
     }
     if is_before_mnemonic(words) {
-        return hinted(format!(in alloc; "a label has a `:` behind it: `{word}:`"));
+        return said(alloc, &["a label has a `:` behind it: `", word, ":`"]);
     }
     slip_hint(alloc, word)
 }
@@ -113,10 +135,10 @@ fn register_number(token: &[u8]) -> Option<u32> {
 // F5: a register of another machine, or a number with zeros in front.
 fn register_hint(alloc: Global, token: &[u8]) -> Result<Option<String>, AllocError> {
     if let Some(instead) = register_instead(token) {
-        return said(alloc, instead);
+        return said(alloc, &[instead]);
     }
     match register_number(token) {
-        Some(number) => hinted(format!(in alloc; "did you mean `r{number}`?")),
+        Some(number) => hinted(numbered(alloc, "did you mean `r", number as usize, &["`?"])),
         None => Ok(None),
     }
 }
@@ -138,9 +160,29 @@ fn repeat_hint(
     definitions: &[Definition],
 ) -> Result<Option<String>, AllocError> {
     match first_definition(definitions, token) {
-        Some(line) => hinted(format!(in alloc; "line {line} defines it first")),
+        Some(line) => hinted(numbered(alloc, "line ", line as usize, &[" defines it first"])),
         None => Ok(None),
     }
+}
+
+// F8: a label in other letters.
+fn case_hint(alloc: Global, other: &Definition) -> Result<Option<String>, AllocError> {
+    let rest = [
+        " defines `",
+        text_of(other.name),
+        "`: in labels small and capital letters differ",
+    ];
+    hinted(numbered(alloc, "line ", other.line as usize, &rest))
+}
+
+// F8: a label like this one.
+fn label_meant(
+    alloc: Global,
+    token: &[u8],
+    definitions: &[Definition],
+) -> Result<Option<String>, AllocError> {
+    let names = names_of(alloc, definitions)?;
+    meant(alloc, text_of(token), &names)
 }
 
 // F8: a label in other letters, or a slip.
@@ -149,21 +191,16 @@ fn label_hint(
     token: &[u8],
     definitions: &[Definition],
 ) -> Result<Option<String>, AllocError> {
-    if let Some(other) = other_case(definitions, token) {
-        let name = text_of(other.name);
-        let line = other.line;
-        return hinted(format!(in alloc;
-            "line {line} defines `{name}`: in labels small and capital letters differ"
-        ));
+    match other_case(definitions, token) {
+        Some(other) => case_hint(alloc, &other),
+        None => label_meant(alloc, token, definitions),
     }
-    let names = names_of(alloc, definitions)?;
-    meant(alloc, text_of(token), &names)
 }
 
 // F11: a directive of another assembler, or a slip; of a directive that stands in another place its sentence says enough.
 fn directive_hint(alloc: Global, token: &[u8]) -> Result<Option<String>, AllocError> {
     if let Some(instead) = directive_instead(token) {
-        return said(alloc, instead);
+        return said(alloc, &[instead]);
     }
     match token {
         [b'.', ..] if !is_among(&DIRECTIVES, token) => meant(alloc, text_of(token), &DIRECTIVES),
@@ -171,8 +208,8 @@ fn directive_hint(alloc: Global, token: &[u8]) -> Result<Option<String>, AllocEr
     }
 }
 
-// What may have been meant by a faulty line of these words.
-fn hint_by(
+/// What may have been meant by a faulty line of these words, in a sentence, where something is known.
+pub fn hint(
     alloc: Global,
     shown: &Shown,
     words: &[Word],
@@ -180,7 +217,7 @@ fn hint_by(
 ) -> Result<Option<String>, AllocError> {
     let token = token_of(shown);
     match shown.fault {
-        Fault::BadByte => said(alloc, byte_told(char_of(shown))),
+        Fault::BadByte => said(alloc, &[byte_told(char_of(shown))]),
         Fault::BadToken => said_if(alloc, token_told(token)),
         Fault::UnknownMnemonic => mnemonic_hint(alloc, words, token),
         Fault::BadOperands => operand_hint(alloc, shown, words),
@@ -191,14 +228,4 @@ fn hint_by(
         Fault::BadDirective => directive_hint(alloc, token),
         _ => Ok(None),
     }
-}
-
-/// What may have been meant by a faulty line, in a sentence, where something is known.
-pub fn hint(
-    alloc: Global,
-    shown: &Shown,
-    definitions: &[Definition],
-) -> Result<Option<String>, AllocError> {
-    let words = line_words(alloc, shown.text)?;
-    hint_by(alloc, shown, &words, definitions)
 }

@@ -2,6 +2,7 @@
 
 use crate::sentence::text_of;
 use mx_asm::{begins_label, first_name, line_words};
+use mx_lines::Word;
 use std::alloc::{AllocError, Global};
 
 /// A label at the front of a line, the number of the line, counted from 1, and the place of its token there.
@@ -12,15 +13,13 @@ pub struct Definition<'a> {
     pub place: usize,
 }
 
-// Adds the labels at the front of a line.
-fn push_front<'a>(
-    alloc: Global,
+// Adds the labels at the front of a line of these words.
+fn push_names<'a>(
     definitions: &mut Vec<Definition<'a>>,
-    line: &'a [u8],
+    words: &[Word<'a>],
     number: u32,
 ) -> Result<(), AllocError> {
-    let words = line_words(alloc, line)?;
-    let mut rest = words.as_slice();
+    let mut rest = words;
     while begins_label(rest) {
         definitions.push(Definition {
             name: first_name(rest),
@@ -30,6 +29,17 @@ fn push_front<'a>(
         rest = &rest[2..];
     }
     Ok(())
+}
+
+// Adds the labels at the front of a line.
+fn push_front<'a>(
+    alloc: Global,
+    definitions: &mut Vec<Definition<'a>>,
+    line: &'a [u8],
+    number: u32,
+) -> Result<(), AllocError> {
+    let words = line_words(alloc, line)?;
+    push_names(definitions, &words, number)
 }
 
 /// The labels at the fronts of these lines, in order.

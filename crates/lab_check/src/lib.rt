@@ -11,6 +11,7 @@ mod labels;
 mod operand;
 mod report;
 mod sentence;
+mod texts;
 mod warning;
 
 pub use checking::{Checked, check};

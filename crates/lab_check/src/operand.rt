@@ -1,6 +1,6 @@
 //! What may have been meant by an operand that does not stand in its place.
 
-use crate::hint::{hinted, said, said_if};
+use crate::hint::{said, said_if};
 use crate::sentence::{name_of, text_of, token_of};
 use lab_faults::Shown;
 use mx_asm::{line_words, statement_words};
@@ -8,13 +8,17 @@ use mx_faults::{Role, places};
 use mx_lines::{Word, spells};
 use std::alloc::{AllocError, Global};
 
-// How many words of the statement stand before the bytes that are shown.
-fn words_before(alloc: Global, shown: &Shown) -> Result<usize, AllocError> {
-    let front = match shown.span {
+// The bytes of the line before those that are shown.
+fn front_of<'a>(shown: &Shown<'a>) -> &'a [u8] {
+    match shown.span {
         Some(span) => shown.text.get(..span.start).unwrap_or(&[]),
         None => &[],
-    };
-    let words = line_words(alloc, front)?;
+    }
+}
+
+// How many words of the statement stand before the bytes that are shown.
+fn words_before(alloc: Global, shown: &Shown) -> Result<usize, AllocError> {
+    let words = line_words(alloc, front_of(shown))?;
     Ok(statement_words(&words).len())
 }
 
@@ -23,7 +27,7 @@ fn comma_hint(alloc: Global, token: &[u8]) -> Result<Option<String>, AllocError>
     let word = text_of(token);
     match token {
         [b',' | b'[' | b']' | b':', ..] => Ok(None),
-        _ => hinted(format!(in alloc; "a `,` is missing before `{word}`")),
+        _ => said(alloc, &["a `,` is missing before `", word, "`"]),
     }
 }
 
@@ -46,10 +50,10 @@ fn hash_hint(alloc: Global, name: &[u8], token: &[u8]) -> Result<Option<String>,
     let word = text_of(token);
     match token {
         [b'-' | b'0'..=b'9', ..] => {
-            hinted(format!(in alloc; "a number has a `#` before it: `#{word}`"))
+            said(alloc, &["a number has a `#` before it: `#", word, "`"])
         }
         [b'r' | b'R', ..] if spells(name, "addi") => {
-            said(alloc, "`add R,R,R` adds two registers")
+            said(alloc, &["`add R,R,R` adds two registers"])
         }
         _ => Ok(None),
     }
@@ -92,22 +96,22 @@ fn place_hint(
     }
 }
 
-// The hint where something else stands behind so many words, where these are the places of a statement.
-fn hint_behind(
+// The hint where something else is shown, in the statement with this name and these places.
+fn hint_in(
     alloc: Global,
     roles: &[Role],
-    before: usize,
     name: &[u8],
-    token: &[u8],
+    shown: &Shown,
 ) -> Result<Option<String>, AllocError> {
+    let before = words_before(alloc, shown)?;
     if before == 0 {
         return Ok(None);
     }
     match roles.get(before - 1) {
-        Some(role) => place_hint(alloc, *role, name, token),
+        Some(role) => place_hint(alloc, *role, name, token_of(shown)),
         None => said(
             alloc,
-            "there is an operand too many; a comment begins with `;`",
+            &["there is an operand too many; a comment begins with `;`"],
         ),
     }
 }
@@ -118,9 +122,8 @@ pub fn operand_hint(
     shown: &Shown,
     words: &[Word],
 ) -> Result<Option<String>, AllocError> {
-    let before = words_before(alloc, shown)?;
-    let Some(roles) = places(alloc, statement_words(words))? else {
-        return Ok(None);
-    };
-    hint_behind(alloc, &roles, before, name_of(words), token_of(shown))
+    match places(alloc, statement_words(words))? {
+        Some(roles) => hint_in(alloc, &roles, name_of(words), shown),
+        None => Ok(None),
+    }
 }

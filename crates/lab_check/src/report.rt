@@ -5,7 +5,7 @@ use lab_json::push_record;
 use std::alloc::{AllocError, Global};
 
 /// How findings are printed.
-#[derive(Clone, Copy, Debug, PartialEq, Eq)]
+#[derive(Clone, Copy, PartialEq, Eq)]
 pub enum Form {
     /// A line for each, with the line of the source and what may have been meant.
     Text,
@@ -48,33 +48,61 @@ impl Report {
         self.output.extend_from_slice(bytes)
     }
 
-    // Puts down a text, in a colour where the form has colours.
-    fn push_in(&mut self, colour: &str, text: &[u8]) -> Result<(), AllocError> {
-        if self.form != Form::Coloured {
-            return self.push(text);
+    // Puts down texts, one behind the other.
+    fn push_texts(&mut self, texts: &[&str]) -> Result<(), AllocError> {
+        for text in texts {
+            self.push(text.as_bytes())?;
         }
-        self.push(colour.as_bytes())?;
-        self.push(text)?;
-        self.push(PLAIN.as_bytes())
+        Ok(())
+    }
+
+    // Puts down what begins or ends a colour, where the form has colours.
+    fn push_colour(&mut self, colour: &str) -> Result<(), AllocError> {
+        if self.form == Form::Coloured {
+            self.push(colour.as_bytes())
+        } else {
+            Ok(())
+        }
+    }
+
+    // Puts down texts in a colour, where the form has colours.
+    fn push_in(&mut self, colour: &str, texts: &[&str]) -> Result<(), AllocError> {
+        self.push_colour(colour)?;
+        self.push_texts(texts)?;
+        self.push_colour(PLAIN)
+    }
+
+    // Puts down the line and the column of a finding.
+    fn push_numbers(&mut self, finding: &Finding) -> Result<(), AllocError> {
+        let (line, column) = (finding.line, finding.column());
+        let numbers = format!(in self.alloc; ":{line}:{column}:")?;
+        self.push(numbers.as_bytes())
     }
 
     // Puts down where a finding is, and how grave.
     fn push_place(&mut self, told: &Told) -> Result<(), AllocError> {
-        let (file, finding) = (told.file, told.finding);
-        let (line, column) = (finding.line, finding.column());
-        let place = format!(in self.alloc; "{file}:{line}:{column}:")?;
-        let severity = finding.severity.word();
-        let grave = format!(in self.alloc; "{severity}:")?;
-        self.push_in(BOLD, place.as_bytes())?;
+        let severity = told.finding.severity;
+        self.push_colour(BOLD)?;
+        self.push(told.file.as_bytes())?;
+        self.push_numbers(told.finding)?;
+        self.push_colour(PLAIN)?;
         self.push(b" ")?;
-        self.push_in(colour_of(finding.severity), grave.as_bytes())
+        self.push_in(colour_of(severity), &[severity.word(), ":"])
+    }
+
+    // Puts down the number and the name of a finding, and what it is.
+    fn push_named<'t>(
+        &mut self,
+        code: &'t str,
+        name: &'t str,
+        message: &'t str,
+    ) -> Result<(), AllocError> {
+        self.push_texts(&[" ", code, " ", name, ": ", message, "\n    "])
     }
 
     // Puts down what a finding is, and the line.
     fn push_message(&mut self, finding: &Finding) -> Result<(), AllocError> {
-        let (code, name, message) = (finding.code, finding.name, finding.message.as_str());
-        let rest = format!(in self.alloc; " {code} {name}: {message}\n    ")?;
-        self.push(rest.as_bytes())?;
+        self.push_named(finding.code, finding.name, finding.message.as_str())?;
         self.push(finding.text)?;
         self.push(b"\n")
     }
@@ -85,7 +113,9 @@ impl Report {
             return Ok(());
         }
         self.push(b"    ")?;
-        self.push_in(colour_of(finding.severity), &finding.marks)?;
+        self.push_colour(colour_of(finding.severity))?;
+        self.push(&finding.marks)?;
+        self.push_colour(PLAIN)?;
         self.push(b"\n")
     }
 
@@ -95,10 +125,8 @@ impl Report {
             return Ok(());
         };
         self.push(b"    ")?;
-        self.push_in(CYAN, b"hint:")?;
-        self.push(b" ")?;
-        self.push(hint.as_bytes())?;
-        self.push(b"\n")
+        self.push_in(CYAN, &["hint:"])?;
+        self.push_texts(&[" ", hint.as_str(), "\n"])
     }
 
     // Puts down a finding.

@@ -1,6 +1,7 @@
 //! What is wrong with a faulty line, in a sentence.
+use crate::texts::{joined, numbered};
 use lab_faults::Shown;
-use mx_asm::{line_words, statement_words};
+use mx_asm::statement_words;
 use mx_faults::Span;
 use mx_lines::{Fault, MNEMONICS, Mnemonic, Word, mnemonic_named, spells};
 use std::alloc::{AllocError, Global};
@@ -8,6 +9,10 @@ use std::str;
 
 /// The byte order mark, which cannot be seen.
 pub const BYTE_ORDER_MARK: &str = "\u{feff}";
+
+/// What is said of a byte or a character that stands outside a comment alone.
+const OUTSIDE_COMMENT: &str =
+    " stands outside a comment, where tabs and the bytes 32 to 126 may stand";
 
 // The operands that stand behind a mnemonic.
 fn operands_of(mnemonic: Mnemonic) -> &'static str {
@@ -119,14 +124,49 @@ fn range_of(name: &[u8]) -> &'static str {
 
 // A token, and what is said of it.
 fn told_of(alloc: Global, token: &[u8], rest: &str) -> Result<String, AllocError> {
-    let shown = text_of(token);
-    format!(in alloc; "`{shown}` {rest}")
+    joined(alloc, &["`", text_of(token), "` ", rest])
+}
+
+// What does not stand in its place, and what stands behind the name before it.
+fn misplaced<'t>(
+    alloc: Global,
+    shown: &'t str,
+    form: &'t str,
+    name: &'t str,
+) -> Result<String, AllocError> {
+    let parts = [
+        "`",
+        shown,
+        "` does not stand in its place: ",
+        form,
+        " stands behind `",
+        name,
+        "`",
+    ];
+    joined(alloc, &parts)
 }
 
 // A token that does not stand in its place.
 fn place_sentence(alloc: Global, name: &[u8], token: &[u8]) -> Result<String, AllocError> {
-    let (shown, form, name) = (text_of(token), form_of(name), text_of(name));
-    format!(in alloc; "`{shown}` does not stand in its place: {form} stands behind `{name}`")
+    misplaced(alloc, text_of(token), form_of(name), text_of(name))
+}
+
+// What is said of a name, and what stands behind it.
+fn formed<'t>(
+    alloc: Global,
+    name: &'t str,
+    told: &'t str,
+    form: &'t str,
+) -> Result<String, AllocError> {
+    joined(
+        alloc,
+        &["`", name, "` ", told, " ", form, " stands behind it"],
+    )
+}
+
+// A mnemonic or a directive, what is said of it, and what stands behind it.
+fn form_sentence(alloc: Global, name: &[u8], told: &str) -> Result<String, AllocError> {
+    formed(alloc, text_of(name), told, form_of(name))
 }
 
 // F4: a word that does not stand in its place, or a word that is missing.
@@ -141,14 +181,23 @@ fn operands_sentence(alloc: Global, name: &[u8], token: &[u8]) -> Result<String,
     if token != name {
         return place_sentence(alloc, name, token);
     }
-    let (shown, form) = (text_of(token), form_of(name));
-    format!(in alloc; "`{shown}` has too few operands: {form} stands behind it")
+    form_sentence(alloc, token, "has too few operands:")
+}
+
+// What is outside a range.
+fn outside<'t>(alloc: Global, shown: &'t str, range: &'t str) -> Result<String, AllocError> {
+    let parts = [
+        shown,
+        " is outside its range: a number from ",
+        range,
+        " stands here",
+    ];
+    joined(alloc, &parts)
 }
 
 // F6: a number that is too wide for its place.
 fn range_sentence(alloc: Global, name: &[u8], token: &[u8]) -> Result<String, AllocError> {
-    let (shown, range) = (text_of(token), range_of(name));
-    format!(in alloc; "{shown} is outside its range: a number from {range} stands here")
+    outside(alloc, text_of(token), range_of(name))
 }
 
 // F9: what is said of a label of the other kind.
@@ -158,14 +207,6 @@ fn kind_told(name: &[u8]) -> &'static str {
     } else {
         "is a data label: a target is a code label"
     }
-}
-
-// A directive of the data section that stands in the code section.
-fn section_sentence(alloc: Global, name: &[u8], token: &[u8]) -> Result<String, AllocError> {
-    let (shown, form) = (text_of(token), form_of(name));
-    format!(in alloc;
-        "`{shown}` stands in the data section, behind a line `.data`, and {form} stands behind it"
-    )
 }
 
 // What is said of a statement that does not stand in its place, or of an unknown directive.
@@ -179,7 +220,11 @@ fn statement_told(token: &[u8]) -> &'static str {
 // F11: a label that begins with `.`, an unknown directive, or a statement that does not stand in its place.
 fn directive_sentence(alloc: Global, name: &[u8], token: &[u8]) -> Result<String, AllocError> {
     if spells(token, ".word") || spells(token, ".space") {
-        return section_sentence(alloc, name, token);
+        return form_sentence(
+            alloc,
+            token,
+            "stands in the data section, behind a line `.data`, and",
+        );
     }
     if token == name {
         return told_of(alloc, token, statement_told(token));
@@ -259,23 +304,21 @@ fn byte_sentence(alloc: Global, shown: &Shown) -> Result<String, AllocError> {
         [] => 0,
     };
     match char_of(shown) {
-        Some(typed) if byte > 126 && typed != BYTE_ORDER_MARK => format!(in alloc;
-            "`{typed}` stands outside a comment, where tabs and the bytes 32 to 126 may stand"
-        ),
-        _ => format!(in alloc;
-            "byte {byte} stands outside a comment, where tabs and the bytes 32 to 126 may stand"
-        ),
+        Some(typed) if byte > 126 && typed != BYTE_ORDER_MARK => {
+            joined(alloc, &["`", typed, "`", OUTSIDE_COMMENT])
+        }
+        _ => numbered(alloc, "byte ", usize::from(byte), &[OUTSIDE_COMMENT]),
     }
 }
 
 // A line that is too long.
 fn length_sentence(alloc: Global, line: &[u8]) -> Result<String, AllocError> {
-    let count = line.len();
-    format!(in alloc; "the line has {count} bytes, and a line has at most 255")
+    let rest = [" bytes, and a line has at most 255"];
+    numbered(alloc, "the line has ", line.len(), &rest)
 }
 
-/// What is wrong with a faulty line, and what stands in the place of what is wrong.
-pub fn sentence(alloc: Global, shown: &Shown) -> Result<String, AllocError> {
+/// What is wrong with a faulty line whose statement begins with a name, and what stands in the place of what is wrong.
+pub fn sentence(alloc: Global, shown: &Shown, name: &[u8]) -> Result<String, AllocError> {
     match shown.fault {
         Fault::BadByte => byte_sentence(alloc, shown),
         Fault::TooManyInstructions => String::from_str(
@@ -287,9 +330,6 @@ pub fn sentence(alloc: Global, shown: &Shown) -> Result<String, AllocError> {
             "there is no room for the data: the last word is at address 65535",
         ),
         Fault::LineTooLong => length_sentence(alloc, shown.text),
-        fault => {
-            let words = line_words(alloc, shown.text)?;
-            token_sentence(alloc, fault, name_of(&words), token_of(shown))
-        }
+        fault => token_sentence(alloc, fault, name, token_of(shown)),
     }
 }

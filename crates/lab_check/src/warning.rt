@@ -1,10 +1,11 @@
-//! What is not wrong with a source, and is seldom meant.
-use crate::finding::{Finding, Severity};
+//! What is found in a source without faults: a branch that does not reach its target, and what is seldom meant.
+use crate::finding::{Finding, Found, Severity, Words};
 use crate::hint::said_if;
 use crate::labels::{Definition, definitions_of};
 use crate::sentence::{bytes_in, text_of};
-use lab_faults::{line_at, marks_under};
-use lab_terms::{reached, ways_of};
+use crate::texts::joined;
+use lab_faults::line_at;
+use lab_terms::{Ways, reached, ways_of};
 use mx_asm::{line_words, statement_words};
 use mx_faults::{Span, token_span};
 use mx_isa::{INPUT, Inst, Reg};
@@ -12,36 +13,49 @@ use mx_lines::Word;
 use mx_source::{Label, Source, Statement};
 use std::alloc::{AllocError, Global};
 
-// A kind of warning.
+// What is found in a source without faults.
 #[derive(Clone, Copy)]
 enum Kind {
+    // A branch at one address does not reach its target at another.
+    Displacement { from: u32, to: u32 },
     NoStatement,
     RunsPastEnd,
     Unreached,
-    UnusedLabel,
+    // A label whose token has this place in its line.
+    UnusedLabel(usize),
     UnreadInput,
 }
 
 impl Kind {
+    // How grave it is.
+    fn severity(self) -> Severity {
+        match self {
+            Kind::Displacement { .. } => Severity::Error,
+            _ => Severity::Warning,
+        }
+    }
+
     // Its number and its name.
     fn named(self) -> (&'static str, &'static str) {
         match self {
+            Kind::Displacement { .. } => ("L1", "Displacement"),
             Kind::NoStatement | Kind::RunsPastEnd => ("W1", "RunsPastEnd"),
             Kind::Unreached => ("W2", "Unreached"),
-            Kind::UnusedLabel => ("W3", "UnusedLabel"),
+            Kind::UnusedLabel(_) => ("W3", "UnusedLabel"),
             Kind::UnreadInput => ("W4", "UnreadInput"),
         }
     }
 
-    // What is said: of a label behind its name.
+    // What is said: of a label and of a branch behind what they are.
     fn told(self) -> &'static str {
         match self {
+            Kind::Displacement { .. } => "it goes 32768 words back and 32767 on",
             Kind::NoStatement => "there is no statement: a run is stuck at once",
             Kind::RunsPastEnd => {
                 "a run may go on behind the last statement from here, where it is stuck"
             }
             Kind::Unreached => "no run comes to this statement",
-            Kind::UnusedLabel => "is used nowhere",
+            Kind::UnusedLabel(_) => "is used nowhere",
             Kind::UnreadInput => "the source has an input, and no statement reads it",
         }
     }
@@ -49,6 +63,9 @@ impl Kind {
     // What helps, where that is the same wherever it is found.
     fn hint(self) -> Option<&'static str> {
         match self {
+            Kind::Displacement { .. } => {
+                Some("a `jr` goes to any place, which `la LABEL,R` puts into a register")
+            }
             Kind::NoStatement | Kind::RunsPastEnd => Some("a `halt` there ends the run"),
             Kind::UnreadInput => Some("`ld 254[r0],R` takes the next byte of the input"),
             _ => None,
@@ -56,12 +73,17 @@ impl Kind {
     }
 }
 
-/// A warning, and where it is found: a line, counted from 1, and the place of a token there.
+/// What is found in a source without faults, and its line, counted from 1: a branch that does not reach its target, or a warning.
 #[derive(Clone, Copy)]
-pub struct Warning {
+pub struct Notice {
     kind: Kind,
     line: u32,
-    place: usize,
+}
+
+/// A branch at an address that does not reach its target, in a line.
+pub fn overlong(line: u32, from: u32, to: u32) -> Notice {
+    let kind = Kind::Displacement { from, to };
+    Notice { kind, line }
 }
 
 // The bytes of the token at a place of a line, if it has some.
@@ -72,89 +94,95 @@ fn span_at(line: &[u8], place: usize) -> Option<Span> {
     }
 }
 
-// What is said of a warning at a token.
-fn message_of(alloc: Global, kind: Kind, token: &[u8]) -> Result<String, AllocError> {
-    let (told, name) = (kind.told(), text_of(token));
+// The bytes of the token with which the statement of a line begins.
+fn statement_span(alloc: Global, line: &[u8]) -> Result<Option<Span>, AllocError> {
+    let words = line_words(alloc, line)?;
+    let place = words.len().saturating_sub(statement_words(&words).len());
+    Ok(span_at(line, place))
+}
+
+// The bytes of a line that are marked.
+fn span_of(alloc: Global, line: &[u8], kind: Kind) -> Result<Option<Span>, AllocError> {
     match kind {
-        Kind::UnusedLabel => format!(in alloc; "the label `{name}` {told}"),
-        _ => String::from_str(alloc, told),
+        Kind::Displacement { .. } => Ok(None),
+        Kind::NoStatement => Ok(span_at(line, 0)),
+        Kind::UnusedLabel(place) => Ok(span_at(line, place)),
+        _ => statement_span(alloc, line),
     }
 }
 
-/// A warning in a text of these lines, as it is told.
-pub fn warning_finding<'a>(
-    alloc: Global,
-    lines: &[&'a [u8]],
-    warning: Warning,
-) -> Result<Finding<'a>, AllocError> {
-    let Warning { kind, line, place } = warning;
+// What is found at this line.
+fn found_at<'a>(alloc: Global, text: &'a [u8], notice: Notice) -> Result<Found<'a>, AllocError> {
+    let Notice { kind, line } = notice;
+    let span = span_of(alloc, text, kind)?;
     let (code, name) = kind.named();
-    let text = line_at(lines, line);
-    let span = span_at(text, place);
-    let marks = marks_under(alloc, text, span)?;
-    let message = message_of(alloc, kind, bytes_in(text, span))?;
-    let hint = said_if(alloc, kind.hint())?;
-    Ok(Finding {
+    Ok(Found {
         line,
         text,
-        marks,
         span,
-        severity: Severity::Warning,
+        severity: kind.severity(),
         code,
         name,
-        message,
-        hint,
     })
 }
 
-// The lines of a text, and what is found so far.
-#[derive(Drop)]
-struct Search<'a, 'l> {
+// What is said of a branch from an address that does not reach its target.
+fn displacement_message(
     alloc: Global,
-    lines: &'l [&'a [u8]],
-    found: Vec<Warning>,
+    from: u32,
+    to: u32,
+    told: &str,
+) -> Result<String, AllocError> {
+    format!(in alloc; "the branch at 0x{from:x} does not reach its target at 0x{to:x}: {told}")
 }
 
-impl Search<'_, '_> {
-    // Adds a warning.
-    fn add(&mut self, kind: Kind, line: u32, place: usize) -> Result<(), AllocError> {
-        self.found.push(Warning { kind, line, place })?;
-        Ok(())
-    }
+// What is said of a label.
+fn label_message<'t>(alloc: Global, name: &'t str, told: &'t str) -> Result<String, AllocError> {
+    joined(alloc, &["the label `", name, "` ", told])
+}
 
-    // The place of the token of a line with which its statement begins.
-    fn statement_place(&self, line: u32) -> Result<usize, AllocError> {
-        let words = line_words(self.alloc, line_at(self.lines, line))?;
-        Ok(words.len().saturating_sub(statement_words(&words).len()))
-    }
-
-    // Adds a warning of the statement of a line.
-    fn add_statement(&mut self, kind: Kind, line: u32) -> Result<(), AllocError> {
-        let place = self.statement_place(line)?;
-        self.add(kind, line, place)
+// What is said of what is found at a token.
+fn message_of(alloc: Global, kind: Kind, token: &[u8]) -> Result<String, AllocError> {
+    let told = kind.told();
+    match kind {
+        Kind::Displacement { from, to } => displacement_message(alloc, from, to, told),
+        Kind::UnusedLabel(_) => label_message(alloc, text_of(token), told),
+        _ => joined(alloc, &[told]),
     }
 }
 
-// Adds the statements that are come to and may go on behind the last one.
-fn add_ends(search: &mut Search, source: &Source, reached: &[bool]) -> Result<(), AllocError> {
-    let count = source.statements().len();
-    if count == 0 {
-        return search.add(Kind::NoStatement, 1, 0);
-    }
-    let mut behind = 0usize;
-    for (statement, line) in source.statements().iter().zip(source.lines()) {
-        let is_reached = reached.get(behind).copied().unwrap_or(false);
-        behind = behind.saturating_add(1);
-        if is_reached && may_leave(statement, behind == count, count) {
-            search.add_statement(Kind::RunsPastEnd, *line)?;
-        }
-    }
+// What is said of what is found at a token, and what helps.
+fn said_of(alloc: Global, kind: Kind, token: &[u8]) -> Result<Words, AllocError> {
+    let message = message_of(alloc, kind, token)?;
+    let hint = said_if(alloc, kind.hint())?;
+    Ok(Words { message, hint })
+}
+
+/// What is found in a text of these lines, as it is told.
+pub fn notice_finding<'a>(
+    alloc: Global,
+    lines: &[&'a [u8]],
+    notice: Notice,
+) -> Result<Finding<'a>, AllocError> {
+    let found = found_at(alloc, line_at(lines, notice.line), notice)?;
+    let said = said_of(alloc, notice.kind, bytes_in(found.text, found.span))?;
+    found.told(alloc, said)
+}
+
+// Adds what is found at a line.
+fn add(found: &mut Vec<Notice>, kind: Kind, line: u32) -> Result<(), AllocError> {
+    found.push(Notice { kind, line })?;
     Ok(())
 }
 
-// A statement may go on behind the last one, of so many.
-fn may_leave(statement: &Statement, is_last: bool, count: usize) -> bool {
-    let ways = ways_of(statement);
+// What is noted at a place of a row; not so where there is nothing.
+fn is_so(row: &[bool], at: usize) -> bool {
+    row.get(at).copied().unwrap_or(false)
+}
+
+// A statement with these ways, one of so many, may go on behind the last one.
+fn leaves(ways: Ways, at: usize, count: usize) -> bool {
+    let is_last = at.saturating_add(1) == count;
     let is_target = match ways.target {
         Some(target) => target as usize >= count,
         None => false,
@@ -162,59 +190,154 @@ fn may_leave(statement: &Statement, is_last: bool, count: usize) -> bool {
     (ways.on && is_last) || is_target
 }
 
-// Adds the first of each row of statements that no run comes to.
-fn add_unreached(search: &mut Search, source: &Source, reached: &[bool]) -> Result<(), AllocError> {
-    let mut is_open = true;
-    for (is_reached, line) in reached.iter().zip(source.lines()) {
-        if is_open && !*is_reached {
-            search.add_statement(Kind::Unreached, *line)?;
+// A run may come to the statement at a place, and from there go on behind the last one.
+fn may_leave(statements: &[Statement], reached: &[bool], at: usize) -> bool {
+    match statements.get(at) {
+        Some(statement) if is_so(reached, at) => {
+            leaves(ways_of(statement), at, statements.len())
         }
-        is_open = *is_reached;
+        _ => false,
+    }
+}
+
+// The statement at a place is the first of a row of statements that no run comes to.
+fn begins_unreached(reached: &[bool], at: usize) -> bool {
+    !is_so(reached, at) && (at == 0 || is_so(reached, at.saturating_sub(1)))
+}
+
+// What a kind says holds of the statement at a place.
+fn holds_at(kind: Kind, statements: &[Statement], reached: &[bool], at: usize) -> bool {
+    match kind {
+        Kind::RunsPastEnd => may_leave(statements, reached, at),
+        Kind::Unreached => begins_unreached(reached, at),
+        _ => false,
+    }
+}
+
+// Adds the statements of which a kind holds.
+fn add_statements(
+    found: &mut Vec<Notice>,
+    source: &Source,
+    reached: &[bool],
+    kind: Kind,
+) -> Result<(), AllocError> {
+    let (statements, lines) = (source.statements(), source.lines());
+    for at in 0..statements.len() {
+        if holds_at(kind, statements, reached, at) {
+            add(found, kind, lines.get(at).copied().unwrap_or(0))?;
+        }
     }
     Ok(())
 }
 
-// Marks the labels that the operands of a line name.
-fn mark_used(source: &Source, words: &[Word], used: &mut [bool]) {
-    for word in statement_words(words).iter().skip(1) {
-        if let Word::Name(name) = *word {
-            if let Some((index, _, _)) = source.labels().get_full(name) {
-                if let Some(mark) = used.get_mut(index) {
-                    *mark = true;
-                }
-            }
-        }
+// Adds the statements that may go on behind the last one, and those that no run comes to.
+fn add_reached(
+    found: &mut Vec<Notice>,
+    source: &Source,
+    reached: &[bool],
+) -> Result<(), AllocError> {
+    if reached.is_empty() {
+        return add(found, Kind::NoStatement, 1);
+    }
+    add_statements(found, source, reached, Kind::RunsPastEnd)?;
+    add_statements(found, source, reached, Kind::Unreached)
+}
+
+// Adds what the ways of the statements tell.
+fn add_flow(found: &mut Vec<Notice>, alloc: Global, source: &Source) -> Result<(), AllocError> {
+    let reached = reached(alloc, source)?;
+    add_reached(found, source, &reached)
+}
+
+// Marks a label that a word names.
+fn mark_word(source: &Source, word: Word, used: &mut [bool]) {
+    let Word::Name(name) = word else {
+        return;
+    };
+    let Some(index) = source.labels().get_index_of(name) else {
+        return;
+    };
+    if let Some(mark) = used.get_mut(index) {
+        *mark = true;
     }
 }
 
-// For each label, in order, whether an operand names it.
-fn used_labels(search: &Search, source: &Source) -> Result<Vec<bool>, AllocError> {
-    let mut used = vec![in search.alloc; false; source.labels().len()]?;
-    for line in search.lines {
-        let words = line_words(search.alloc, line)?;
-        mark_used(source, &words, &mut used);
+// Marks the labels that the operands of a line name.
+fn mark_used(source: &Source, words: &[Word], used: &mut [bool]) {
+    let [_, operands @ ..] = statement_words(words) else {
+        return;
+    };
+    for word in operands {
+        mark_word(source, *word, used);
     }
+}
+
+// Marks the labels that a line names.
+fn mark_line(
+    alloc: Global,
+    source: &Source,
+    line: &[u8],
+    used: &mut [bool],
+) -> Result<(), AllocError> {
+    let words = line_words(alloc, line)?;
+    mark_used(source, &words, used);
+    Ok(())
+}
+
+// Marks the labels that these lines name.
+fn mark_lines(
+    alloc: Global,
+    source: &Source,
+    lines: &[&[u8]],
+    used: &mut [bool],
+) -> Result<(), AllocError> {
+    for line in lines {
+        mark_line(alloc, source, line, used)?;
+    }
+    Ok(())
+}
+
+// For each label, in order, whether an operand names it.
+fn used_labels(alloc: Global, source: &Source, lines: &[&[u8]]) -> Result<Vec<bool>, AllocError> {
+    let mut used = vec![in alloc; false; source.labels().len()]?;
+    mark_lines(alloc, source, lines, &mut used)?;
     Ok(used)
 }
 
 // The label names the first statement, as a name for the whole program does.
-fn is_entry(source: &Source, definition: &Definition) -> bool {
-    match source.labels().get(definition.name) {
+fn is_entry(source: &Source, name: &[u8]) -> bool {
+    match source.labels().get(name) {
         Some(Label::Code(0)) => true,
         _ => false,
     }
 }
 
-// Adds the labels that no operand names.
-fn add_unused(search: &mut Search, source: &Source) -> Result<(), AllocError> {
-    let definitions = definitions_of(search.alloc, search.lines)?;
-    let used = used_labels(search, source)?;
-    for (definition, is_used) in definitions.iter().zip(&used) {
-        if !*is_used && !is_entry(source, definition) {
-            search.add(Kind::UnusedLabel, definition.line, definition.place)?;
+// Adds the labels that are not marked.
+fn add_unmarked(
+    found: &mut Vec<Notice>,
+    source: &Source,
+    definitions: &[Definition],
+    used: &[bool],
+) -> Result<(), AllocError> {
+    for at in 0..definitions.len() {
+        let Definition { name, line, place } = definitions[at];
+        if !is_so(used, at) && !is_entry(source, name) {
+            add(found, Kind::UnusedLabel(place), line)?;
         }
     }
     Ok(())
+}
+
+// Adds the labels that no operand names.
+fn add_unused(
+    found: &mut Vec<Notice>,
+    alloc: Global,
+    source: &Source,
+    lines: &[&[u8]],
+) -> Result<(), AllocError> {
+    let definitions = definitions_of(alloc, lines)?;
+    let used = used_labels(alloc, source, lines)?;
+    add_unmarked(found, source, &definitions, &used)
 }
 
 // A statement may load from the address of the input.
@@ -227,17 +350,34 @@ fn may_read_input(statement: &Statement) -> bool {
     }
 }
 
-// Adds an input that no statement can read.
-fn add_unread(search: &mut Search, source: &Source) -> Result<(), AllocError> {
-    let Some(line) = source.input() else {
-        return Ok(());
-    };
-    for statement in source.statements() {
+// One of the statements may load from the address of the input.
+fn reads_input(statements: &[Statement]) -> bool {
+    for statement in statements {
         if may_read_input(statement) {
-            return Ok(());
+            return true;
         }
     }
-    search.add_statement(Kind::UnreadInput, line)
+    false
+}
+
+// Adds an input that no statement can read.
+fn add_unread(found: &mut Vec<Notice>, source: &Source) -> Result<(), AllocError> {
+    match source.input() {
+        Some(line) if !reads_input(source.statements()) => add(found, Kind::UnreadInput, line),
+        _ => Ok(()),
+    }
+}
+
+// Adds all that is seldom meant in a source.
+fn add_warnings(
+    found: &mut Vec<Notice>,
+    alloc: Global,
+    source: &Source,
+    lines: &[&[u8]],
+) -> Result<(), AllocError> {
+    add_flow(found, alloc, source)?;
+    add_unused(found, alloc, source, lines)?;
+    add_unread(found, source)
 }
 
 /// What is seldom meant in a source, of a text of these lines: a run may go on behind its last statement, no run comes to
@@ -246,16 +386,8 @@ pub fn warnings(
     alloc: Global,
     lines: &[&[u8]],
     source: &Source,
-) -> Result<Vec<Warning>, AllocError> {
-    let mut search = Search {
-        alloc,
-        lines,
-        found: Vec::new(alloc),
-    };
-    let reached = reached(alloc, source)?;
-    add_ends(&mut search, source, &reached)?;
-    add_unreached(&mut search, source, &reached)?;
-    add_unused(&mut search, source)?;
-    add_unread(&mut search, source)?;
-    Ok(search.found)
+) -> Result<Vec<Notice>, AllocError> {
+    let mut found = Vec::new(alloc);
+    add_warnings(&mut found, alloc, source, lines)?;
+    Ok(found)
 }

@@ -1,6 +1,6 @@
 //! A run and a meaning, in words.
 use super::advice::{advice_of, name_of, reason_of};
-use lab_json::{Value, push_record, write_record};
+use lab_json::{Value, push_record, write_members};
 use lab_measures::{Ran, Standing};
 use lab_terms::{Verdict, enough, verdict_of};
 use mx_source::Why;
@@ -39,6 +39,14 @@ impl Explained<'_> {
         verdict_of(self.standing.progress.ending, self.ran.halted)
     }
 
+    // Why the meaning is stuck, if it is.
+    fn why(&self) -> Option<Why> {
+        match self.verdict() {
+            Verdict::Stuck(why) => Some(why),
+            _ => None,
+        }
+    }
+
     // The budget that is enough, where the meaning halts.
     fn enough(&self) -> Option<u64> {
         match self.verdict() {
@@ -50,13 +58,24 @@ impl Explained<'_> {
     }
 }
 
+// Appends parts.
+fn push_parts(text: &mut String, parts: &[&str]) -> Result<(), AllocError> {
+    for part in parts {
+        text.push_str(*part)?;
+    }
+    Ok(())
+}
+
+// Appends a number.
+fn push_number(text: &mut String, number: u64) -> Result<(), AllocError> {
+    write!(text, "{number}")
+}
+
 // Appends so many of something: `1 statement`.
 fn push_counted(text: &mut String, count: u64, name: &str) -> Result<(), AllocError> {
-    if count == 1 {
-        write!(text, "1 {name}")
-    } else {
-        write!(text, "{count} {name}s")
-    }
+    let plural = if count == 1 { "" } else { "s" };
+    push_number(text, count)?;
+    push_parts(text, &[" ", name, plural])
 }
 
 // Appends so many statements.
@@ -66,39 +85,43 @@ fn push_statements(text: &mut String, count: u32) -> Result<(), AllocError> {
 
 // Appends how the run of the machine ended.
 fn push_run(text: &mut String, ran: Ran) -> Result<(), AllocError> {
-    if ran.halted {
-        text.push_str("the machine's run halts after ")?;
-        return push_counted(text, ran.cycles, "cycle");
-    }
-    text.push_str("the machine's run has not halted after ")?;
+    let (end, rest) = if ran.halted {
+        ("halts", "")
+    } else {
+        ("has not halted", ", its budget")
+    };
+    push_parts(text, &["the machine's run ", end, " after "])?;
     push_counted(text, ran.cycles, "cycle")?;
-    text.push_str(", its budget")
+    text.push_str(rest)
 }
 
 // Appends where a meaning is stuck.
 fn push_place(text: &mut String, file: &str, line: u32) -> Result<(), AllocError> {
-    match line {
-        0 => write!(text, "{file}: stuck behind the last statement after "),
-        _ => write!(text, "{file}:{line}: stuck after "),
+    if line == 0 {
+        return push_parts(text, &[file, ": stuck behind the last statement after "]);
     }
+    push_parts(text, &[file, ":"])?;
+    push_number(text, u64::from(line))?;
+    text.push_str(": stuck after ")
 }
 
-// Appends the line at which a meaning is stuck.
-fn push_line(alloc: Global, text: &mut String, line: &[u8]) -> Result<(), AllocError> {
-    let line = String::from_utf8_lossy(alloc, line)?;
-    write!(text, "    {line}\n")
+// Appends the line at which a meaning is stuck, if there is one.
+fn push_line(alloc: Global, text: &mut String, explained: &Explained) -> Result<(), AllocError> {
+    if explained.line == 0 {
+        return Ok(());
+    }
+    let line = String::from_utf8_lossy(alloc, explained.text)?;
+    push_parts(text, &["    ", line.as_str(), "\n"])
 }
 
-// Appends why a meaning is stuck.
+// Appends why a meaning is stuck, behind where that is.
 fn push_reason(text: &mut String, why: Why) -> Result<(), AllocError> {
-    let (name, reason) = (name_of(why), reason_of(why));
-    write!(text, ": {name}: {reason}\n")
+    push_parts(text, &[": ", name_of(why), ": ", reason_of(why), "\n"])
 }
 
 // Appends what helps.
 fn push_advice(text: &mut String, why: Why) -> Result<(), AllocError> {
-    let advice = advice_of(why);
-    write!(text, "what to do: {advice}\n")
+    push_parts(text, &["what to do: ", advice_of(why), "\n"])
 }
 
 // Appends what is said of a source whose meaning is stuck.
@@ -111,9 +134,7 @@ fn push_stuck(
     push_place(text, explained.file, explained.line)?;
     push_statements(text, explained.standing.progress.steps)?;
     push_reason(text, why)?;
-    if explained.line > 0 {
-        push_line(alloc, text, explained.text)?;
-    }
+    push_line(alloc, text, explained)?;
     push_advice(text, why)?;
     push_run(text, explained.ran)?;
     text.push_str("; nothing is promised of it, since the meaning is stuck\n")
@@ -121,38 +142,39 @@ fn push_stuck(
 
 // Appends the budget that is enough under so many interrupt requests.
 fn push_enough(text: &mut String, steps: u32, requests: u32) -> Result<(), AllocError> {
-    let bound = enough(steps, requests);
-    write!(text, "; a budget of {bound} is enough with ")?;
+    text.push_str("; a budget of ")?;
+    push_number(text, enough(steps, requests))?;
+    text.push_str(" is enough with ")?;
     push_counted(text, u64::from(requests), "interrupt request")
+}
+
+// Appends the first line of what is said: the file, how its run stands, and how many statements its meaning has.
+fn push_first(text: &mut String, file: &str, told: &str, steps: u32) -> Result<(), AllocError> {
+    push_parts(text, &[file, ": ", told, " after "])?;
+    push_statements(text, steps)?;
+    text.push_str("\n")
 }
 
 // Appends what is said of a source whose meaning halts.
 fn push_halted(text: &mut String, explained: &Explained) -> Result<(), AllocError> {
-    let (file, steps) = (explained.file, explained.standing.progress.steps);
-    let (end, promise) = if explained.ran.halted {
+    let steps = explained.standing.progress.steps;
+    let (told, promise) = if explained.ran.halted {
         ("halts as meant,", AS_MEANT)
     } else {
         ("out of budget; the meaning halts", BEGINNING)
     };
-    write!(text, "{file}: {end} after ")?;
-    push_statements(text, steps)?;
-    text.push('\n')?;
+    push_first(text, explained.file, told, steps)?;
     push_run(text, explained.ran)?;
     push_enough(text, steps, explained.requests)?;
-    write!(text, "\n{promise}\n")
+    push_parts(text, &["\n", promise, "\n"])
 }
 
 // Appends what is said of a source whose meaning has not ended.
 fn push_unended(text: &mut String, explained: &Explained) -> Result<(), AllocError> {
-    let file = explained.file;
-    write!(
-        text,
-        "{file}: out of budget; the meaning has not ended after "
-    )?;
-    push_statements(text, explained.steps)?;
-    text.push('\n')?;
+    let told = "out of budget; the meaning has not ended";
+    push_first(text, explained.file, told, explained.steps)?;
     push_run(text, explained.ran)?;
-    write!(text, "\n{BEGINNING}; --budget N lets both go on\n")
+    push_parts(text, &["\n", BEGINNING, "; --budget N lets both go on\n"])
 }
 
 // Appends whether the premise holds that is told behind it.
@@ -167,41 +189,55 @@ fn push_mark(text: &mut String, holds: bool) -> Result<(), AllocError> {
 // Appends the premise that the meaning is not stuck.
 fn push_stuck_premise(text: &mut String, steps: u32, holds: bool) -> Result<(), AllocError> {
     push_mark(text, holds)?;
-    write!(
-        text,
-        "the meaning is not stuck within {steps} statements, 64 more than the budget has cycles\n"
-    )
+    text.push_str("the meaning is not stuck within ")?;
+    push_number(text, u64::from(steps))?;
+    text.push_str(" statements, 64 more than the budget has cycles\n")
 }
 
 // Appends the premise that the budget is enough.
 fn push_budget_premise(text: &mut String, budget: u32, bound: u64) -> Result<(), AllocError> {
-    push_mark(text, u64::from(budget) >= bound)?;
-    write!(
-        text,
-        "the budget, {budget}, is at least {bound}, so that the run has to halt\n"
-    )
+    let budget = u64::from(budget);
+    push_mark(text, budget >= bound)?;
+    text.push_str("the budget, ")?;
+    push_number(text, budget)?;
+    text.push_str(", is at least ")?;
+    push_number(text, bound)?;
+    text.push_str(", so that the run has to halt\n")
 }
 
 // Appends the premises of what is promised of `run`. The first two hold of each source that is run.
 fn push_premises(text: &mut String, explained: &Explained) -> Result<(), AllocError> {
-    let is_stuck = matches!(explained.verdict(), Verdict::Stuck(_));
     text.push_str(PREMISES)?;
-    push_stuck_premise(text, explained.steps, !is_stuck)?;
+    push_stuck_premise(text, explained.steps, explained.why().is_none())?;
     match explained.enough() {
         Some(bound) => push_budget_premise(text, explained.budget, bound),
         None => Ok(()),
     }
 }
 
+// Appends how a source stands.
+fn push_verdict(alloc: Global, text: &mut String, explained: &Explained) -> Result<(), AllocError> {
+    match explained.verdict() {
+        Verdict::Stuck(why) => push_stuck(alloc, text, explained, why),
+        Verdict::Unended => push_unended(text, explained),
+        Verdict::AsMeant | Verdict::BudgetShort => push_halted(text, explained),
+    }
+}
+
+// Appends how a source stands, and the premises.
+fn push_explained(
+    alloc: Global,
+    text: &mut String,
+    explained: &Explained,
+) -> Result<(), AllocError> {
+    push_verdict(alloc, text, explained)?;
+    push_premises(text, explained)
+}
+
 /// How a source stands, in words.
 pub fn explained_text(alloc: Global, explained: &Explained) -> Result<Vec<u8>, AllocError> {
     let mut text = String::new(alloc);
-    match explained.verdict() {
-        Verdict::Stuck(why) => push_stuck(alloc, &mut text, explained, why)?,
-        Verdict::Unended => push_unended(&mut text, explained)?,
-        Verdict::AsMeant | Verdict::BudgetShort => push_halted(&mut text, explained)?,
-    }
-    push_premises(&mut text, explained)?;
+    push_explained(alloc, &mut text, explained)?;
     Ok(text.into_bytes())
 }
 
@@ -214,14 +250,6 @@ fn verdict_word(verdict: Verdict) -> &'static str {
     }
 }
 
-// A text, or null.
-fn text_or_null(text: Option<&'static str>) -> Value<'static> {
-    match text {
-        Some(text) => Value::Text(text),
-        None => Value::Null,
-    }
-}
-
 // A number, or null.
 fn number_or_null(number: Option<u64>) -> Value<'static> {
     match number {
@@ -231,10 +259,46 @@ fn number_or_null(number: Option<u64>) -> Value<'static> {
 }
 
 // The line of a statement at which a meaning is stuck, if there is one.
-fn line_if(line: u32, why: Option<Why>) -> Option<u64> {
-    match why {
-        Some(_) if line > 0 => Some(u64::from(line)),
-        _ => None,
+fn line_or_null(line: u32) -> Value<'static> {
+    match line {
+        0 => Value::Null,
+        _ => Value::Number(u64::from(line)),
+    }
+}
+
+// The members that tell where and why a meaning is stuck.
+fn stuck_members(line: u32, why: Option<Why>) -> [(&'static str, Value<'static>); 4] {
+    let told = match why {
+        Some(why) => [
+            line_or_null(line),
+            Value::Text(name_of(why)),
+            Value::Text(reason_of(why)),
+            Value::Text(advice_of(why)),
+        ],
+        None => [Value::Null; 4],
+    };
+    [
+        ("line", told[0]),
+        ("why", told[1]),
+        ("message", told[2]),
+        ("hint", told[3]),
+    ]
+}
+
+impl<'a> Explained<'a> {
+    // The members that tell how the run stands.
+    fn members(&self) -> [(&'static str, Value<'a>); 8] {
+        let steps = self.standing.progress.steps;
+        [
+            ("file", Value::Text(self.file)),
+            ("verdict", Value::Text(verdict_word(self.verdict()))),
+            ("statements", Value::Number(u64::from(steps))),
+            ("cycles", Value::Number(self.ran.cycles)),
+            ("halted", Value::Flag(self.ran.halted)),
+            ("budget", Value::Number(u64::from(self.budget))),
+            ("requests", Value::Number(u64::from(self.requests))),
+            ("enough", number_or_null(self.enough())),
+        ]
     }
 }
 
@@ -242,27 +306,10 @@ impl Described for Explained<'_> {}
 
 impl Serialize for Explained<'_> {
     fn serialize<S: Serializer>(&self, out: &mut S) -> Result<(), S::Error> {
-        let verdict = self.verdict();
-        let why = match verdict {
-            Verdict::Stuck(why) => Some(why),
-            _ => None,
-        };
-        let steps = self.standing.progress.steps;
-        let members = [
-            ("file", Value::Text(self.file)),
-            ("verdict", Value::Text(verdict_word(verdict))),
-            ("statements", Value::Number(u64::from(steps))),
-            ("cycles", Value::Number(self.ran.cycles)),
-            ("halted", Value::Flag(self.ran.halted)),
-            ("budget", Value::Number(u64::from(self.budget))),
-            ("requests", Value::Number(u64::from(self.requests))),
-            ("enough", number_or_null(self.enough())),
-            ("line", number_or_null(line_if(self.line, why))),
-            ("why", text_or_null(why.map(name_of))),
-            ("message", text_or_null(why.map(reason_of))),
-            ("hint", text_or_null(why.map(advice_of))),
-        ];
-        write_record(out, &members)
+        out.begin_map(Some(12))?;
+        write_members(out, &self.members())?;
+        write_members(out, &stuck_members(self.line, self.why()))?;
+        out.end_map()
     }
 }
 

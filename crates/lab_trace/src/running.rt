@@ -2,13 +2,12 @@
 ghost use Rattle.std.specs.Prelude.{◌≡◌};
 
 use super::committing::committed_in;
-use super::turn::{BeginRecord, EndRecord, turn_record};
+use super::turn::{Line, Member, end_members, turn_members};
 use lab_json::push_record;
 use mx_board::Requests;
 use mx_code::Image;
 use mx_io::Memory;
 use mx_turn::{Machine, SHIPPED};
-use serde::Serialize;
 use std::alloc::Global;
 
 /// A trace: its lines, and whether the run has halted.
@@ -18,9 +17,16 @@ pub struct Traced {
     pub halted: bool,
 }
 
-// Appends a line.
-fn push_line<T: Serialize>(alloc: Global, text: &mut Vec<u8>, record: &T) -> Result<(), Memory> {
-    push_record(alloc, text, record).map_err(|_| Memory)
+// Appends a line of these members.
+fn push_line(
+    alloc: Global,
+    text: &mut Vec<u8>,
+    members: &[(&'static str, Member)],
+) -> Result<(), Memory> {
+    match push_record(alloc, text, &Line { members }) {
+        Ok(()) => Ok(()),
+        Err(_) => Err(Memory),
+    }
 }
 
 /// What a run is given.
@@ -53,8 +59,8 @@ fn push_turns<M: Machine>(
         }
         let shown = machine.latches();
         let does = committed_in(given.image.code.as_slice(), shown.mem);
-        let record = turn_record(machine, &cycled, does, &before, cycle, stalls);
-        push_line(alloc, text, &record)?;
+        let members = turn_members(machine, &cycled, does, &before, cycle, stalls);
+        push_line(alloc, text, &members)?;
         before = shown;
         stalls = 0;
         if cycled.halted {
@@ -64,17 +70,41 @@ fn push_turns<M: Machine>(
     Ok(false)
 }
 
-// Appends what a run is given.
+// The input, if there is one.
+fn input_of<'a>(input: Option<&'a [u8]>) -> Member<'a> {
+    match input {
+        Some(bytes) => Member::Bytes(bytes),
+        None => Member::Absent,
+    }
+}
+
+// Appends the first line: what a run is given.
 fn push_begin(alloc: Global, text: &mut Vec<u8>, given: &Given) -> Result<(), Memory> {
-    let begin = BeginRecord {
-        source: given.source,
-        code: given.image.code.as_slice(),
-        user_data: given.image.user_data.as_slice(),
-        handler: SHIPPED.as_slice(),
-        input: given.input,
-        requests: given.requests.list(),
-    };
-    push_line(alloc, text, &begin)
+    let members = [
+        ("source", Member::Text(given.source)),
+        ("code", Member::Words(given.image.code.as_slice())),
+        ("user_data", Member::Words(given.image.user_data.as_slice())),
+        ("handler", Member::Words(SHIPPED.as_slice())),
+        ("input", input_of(given.input)),
+        ("requests", Member::Words(given.requests.list())),
+    ];
+    push_line(alloc, text, &members)
+}
+
+// Appends the lines of a run; answers whether it halted.
+fn push_run<M: Machine>(
+    alloc: Global,
+    text: &mut Vec<u8>,
+    machine: &mut M,
+    given: &Given,
+) -> Result<bool, Memory>
+    requires { M.cycles machine.old ≡ 0 }
+{
+    push_begin(alloc, text, given)?;
+    let halted = push_turns(alloc, text, machine, given)?;
+    let end = end_members(halted, machine.counts(), machine.md());
+    push_line(alloc, text, &end)?;
+    Ok(halted)
 }
 
 /// The trace of the run of a machine from its start, until it halts or the budget is spent: what it is given, a line for each
@@ -83,13 +113,6 @@ pub fn trace_of<M: Machine>(alloc: Global, machine: &mut M, given: &Given) -> Re
     requires { M.cycles machine.old ≡ 0 }
 {
     let mut text = Vec::new(alloc);
-    push_begin(alloc, &mut text, given)?;
-    let halted = push_turns(alloc, &mut text, machine, given)?;
-    let end = EndRecord {
-        halted,
-        counts: machine.counts(),
-        md: machine.md(),
-    };
-    push_line(alloc, &mut text, &end)?;
+    let halted = push_run(alloc, &mut text, machine, given)?;
     Ok(Traced { text, halted })
 }

@@ -1,58 +1,40 @@
 //! The lines of a trace.
-use lab_json::{Value, write_flag, write_number_if_any, write_numbers, write_object, write_record};
+use lab_json::{
+    Value, write_flag, write_list, write_numbers, write_object, write_record, write_text,
+};
 use lab_terms::Committed;
+use mx_isa::Reg;
 use mx_turn::{Counts, Cycled, Latches, Machine, Stage};
 use serde::{Described, Serialize, Serializer};
 
-/// A number that is written to a place.
+/// What a member of a line is. What is absent is not written.
 #[derive(Clone, Copy)]
-struct Write {
-    to: u32,
-    value: u32,
+pub(crate) enum Member<'a> {
+    Absent,
+    Flag(bool),
+    Number(u64),
+    Text(&'a str),
+    Words(&'a [u32]),
+    Bytes(&'a [u8]),
+    /// A fetch: its address, and whether it is squashed.
+    Fetch(u32, bool),
+    /// A number that is written to a place: the place and the number.
+    Write(u32, u32),
 }
 
-/// A turn.
+/// A line: an object of these members.
 #[derive(Clone, Copy)]
-pub(crate) struct TurnRecord {
-    /// The cycle in which it acts, the first being 0, and the stalled ones before it.
-    cycle: u32,
-    stalls: u32,
-    fetch: u32,
-    commit: Stage,
-    register: Option<Write>,
-    md: Option<u32>,
-    store: Option<Write>,
-    byte: Option<u8>,
-    interrupt: bool,
+pub(crate) struct Line<'m, 'a> {
+    pub(crate) members: &'m [(&'static str, Member<'a>)],
 }
 
-/// The first line: what the run is given.
-#[derive(Drop, Serialize)]
-pub(crate) struct BeginRecord<'a> {
-    pub(crate) source: &'a str,
-    pub(crate) code: &'a [u32],
-    pub(crate) user_data: &'a [u32],
-    pub(crate) handler: &'a [u32],
-    #[serde(skip_serializing_if = "Option::is_none")]
-    pub(crate) input: Option<&'a [u8]>,
-    pub(crate) requests: &'a [u32],
-}
-
-/// The last line: how the run ends.
-#[derive(Drop)]
-pub(crate) struct EndRecord {
-    pub(crate) halted: bool,
-    pub(crate) counts: Counts,
-    pub(crate) md: u32,
-}
-
-// Writes the fetch in a stage, if there is one: its address, and whether it is squashed.
-fn write_stage<S: Serializer>(out: &mut S, name: &str, stage: Stage) -> Result<(), S::Error> {
-    let (address, squashed) = match stage {
-        Stage::Empty => return Ok(()),
-        Stage::Live(address) => (address, false),
-        Stage::Squashed(address) => (address, true),
-    };
+// Writes a fetch.
+fn write_fetch<S: Serializer>(
+    out: &mut S,
+    name: &str,
+    address: u32,
+    squashed: bool,
+) -> Result<(), S::Error> {
     let members = [
         ("address", Value::Number(u64::from(address))),
         ("squashed", Value::Flag(squashed)),
@@ -61,63 +43,58 @@ fn write_stage<S: Serializer>(out: &mut S, name: &str, stage: Stage) -> Result<(
     write_record(out, &members)
 }
 
-// Writes what is written to a place, if it is.
+// Writes what is written to a place.
 fn write_write<S: Serializer>(
     out: &mut S,
     name: &str,
-    write: Option<Write>,
+    to: u32,
+    value: u32,
 ) -> Result<(), S::Error> {
-    let Some(write) = write else {
-        return Ok(());
-    };
-    let numbers = [
-        ("to", u64::from(write.to)),
-        ("value", u64::from(write.value)),
-    ];
+    let numbers = [("to", u64::from(to)), ("value", u64::from(value))];
     write_object(out, name, &numbers)
 }
 
-// Writes what commits.
-fn write_committed<S: Serializer>(out: &mut S, turn: &TurnRecord) -> Result<(), S::Error> {
-    write_stage(out, "commit", turn.commit)?;
-    write_write(out, "register", turn.register)?;
-    write_number_if_any(out, "md", turn.md.map(u64::from))?;
-    write_write(out, "store", turn.store)
+// Writes a member, unless it is absent.
+fn write_member<S: Serializer>(out: &mut S, name: &str, member: Member) -> Result<(), S::Error> {
+    match member {
+        Member::Absent => Ok(()),
+        Member::Flag(flag) => write_flag(out, name, flag),
+        Member::Number(number) => write_numbers(out, &[(name, number)]),
+        Member::Text(text) => write_text(out, name, text),
+        Member::Words(words) => write_list(out, name, words),
+        Member::Bytes(bytes) => write_list(out, name, bytes),
+        Member::Fetch(address, squashed) => write_fetch(out, name, address, squashed),
+        Member::Write(to, value) => write_write(out, name, to, value),
+    }
 }
 
-impl Described for TurnRecord {}
+impl Described for Line<'_, '_> {}
 
-impl Serialize for TurnRecord {
+impl Serialize for Line<'_, '_> {
     fn serialize<S: Serializer>(&self, out: &mut S) -> Result<(), S::Error> {
-        let numbers = [
-            ("cycle", u64::from(self.cycle)),
-            ("stalls", u64::from(self.stalls)),
-            ("fetch", u64::from(self.fetch)),
-        ];
         out.begin_map(None)?;
-        write_numbers(out, &numbers)?;
-        write_committed(out, self)?;
-        write_number_if_any(out, "byte", self.byte.map(u64::from))?;
-        write_flag(out, "interrupt", self.interrupt)?;
+        for (name, member) in self.members {
+            write_member(out, *name, *member)?;
+        }
         out.end_map()
     }
 }
 
-impl Described for EndRecord {}
-
-impl Serialize for EndRecord {
-    fn serialize<S: Serializer>(&self, out: &mut S) -> Result<(), S::Error> {
-        let members = [
-            ("halted", Value::Flag(self.halted)),
-            ("cycles", Value::Number(self.counts.cycles)),
-            ("fetches", Value::Number(self.counts.fetches)),
-            ("misses", Value::Number(self.counts.misses)),
-            ("squashes", Value::Number(self.counts.squashes)),
-            ("interrupts", Value::Number(self.counts.interrupts)),
-            ("md", Value::Number(u64::from(self.md))),
-        ];
-        write_record(out, &members)
-    }
+/// The last line: how the run ends.
+pub(crate) fn end_members(
+    halted: bool,
+    counts: Counts,
+    md: u32,
+) -> [(&'static str, Member<'static>); 7] {
+    [
+        ("halted", Member::Flag(halted)),
+        ("cycles", Member::Number(counts.cycles)),
+        ("fetches", Member::Number(counts.fetches)),
+        ("misses", Member::Number(counts.misses)),
+        ("squashes", Member::Number(counts.squashes)),
+        ("interrupts", Member::Number(counts.interrupts)),
+        ("md", Member::Number(u64::from(md))),
+    ]
 }
 
 // The address of a stage; 0 where it is empty, which a fetch never is.
@@ -128,40 +105,69 @@ fn address_of(stage: Stage) -> u32 {
     }
 }
 
-/// The line of a turn that a machine has just done, in this cycle and behind so many stalled ones. The latches of the turn
-/// before tell what a store had in ALU: its address and the word that it stores.
-pub(crate) fn turn_record<M: Machine>(
+// The fetch in a stage, if there is one.
+fn fetch_of(stage: Stage) -> Member<'static> {
+    match stage {
+        Stage::Empty => Member::Absent,
+        Stage::Live(address) => Member::Fetch(address, false),
+        Stage::Squashed(address) => Member::Fetch(address, true),
+    }
+}
+
+// The register that is written, if one is.
+fn register_of<M: Machine>(machine: &M, register: Option<Reg>) -> Member<'static> {
+    match register {
+        Some(register) => Member::Write(u32::from(register.number()), machine.register(register)),
+        None => Member::Absent,
+    }
+}
+
+// MD, if it is written.
+fn md_of<M: Machine>(machine: &M, is_written: bool) -> Member<'static> {
+    if is_written {
+        Member::Number(u64::from(machine.md()))
+    } else {
+        Member::Absent
+    }
+}
+
+// What a store had in ALU, if one commits: its address and the word that it stores.
+fn store_of(before: &Latches, is_store: bool) -> Member<'static> {
+    if is_store {
+        Member::Write(before.result, before.b)
+    } else {
+        Member::Absent
+    }
+}
+
+// A byte that is sent, if one is.
+fn byte_of(byte: Option<u8>) -> Member<'static> {
+    match byte {
+        Some(byte) => Member::Number(u64::from(byte)),
+        None => Member::Absent,
+    }
+}
+
+/// The line of a turn that a machine has just done, in this cycle, the first being 0, and behind so many stalled ones. The
+/// latches of the turn before tell what a store had in ALU.
+pub(crate) fn turn_members<M: Machine>(
     machine: &M,
     cycled: &Cycled,
     committed: Committed,
     before: &Latches,
     cycle: u32,
     stalls: u32,
-) -> TurnRecord {
+) -> [(&'static str, Member<'static>); 9] {
     let shown = machine.latches();
-    TurnRecord {
-        cycle,
-        stalls,
-        fetch: address_of(shown.fetch),
-        commit: shown.mem,
-        register: committed.register.map(|register| Write {
-            to: u32::from(register.number()),
-            value: machine.register(register),
-        }),
-        md: if committed.md {
-            Some(machine.md())
-        } else {
-            None
-        },
-        store: if committed.store {
-            Some(Write {
-                to: before.result,
-                value: before.b,
-            })
-        } else {
-            None
-        },
-        byte: cycled.byte,
-        interrupt: cycled.taken,
-    }
+    [
+        ("cycle", Member::Number(u64::from(cycle))),
+        ("stalls", Member::Number(u64::from(stalls))),
+        ("fetch", Member::Number(u64::from(address_of(shown.fetch)))),
+        ("commit", fetch_of(shown.mem)),
+        ("register", register_of(machine, committed.register)),
+        ("md", md_of(machine, committed.md)),
+        ("store", store_of(before, committed.store)),
+        ("byte", byte_of(cycled.byte)),
+        ("interrupt", Member::Flag(cycled.taken)),
+    ]
 }
