@@ -5,7 +5,7 @@ ghost use Rattle.lab_profile.specs.Columns.{number_in};
 use crate::LineCost;
 
 /// A column by which rows are put in order: those of the greatest number first.
-#[derive(Clone, Copy, Debug, PartialEq, Eq)]
+#[derive(Clone, Copy)]
 pub enum Column {
     /// The order of the source.
     Line,

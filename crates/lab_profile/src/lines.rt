@@ -9,7 +9,7 @@ use std::alloc::{AllocError, Global};
 
 /// What a statement cost: its words, which are its own word, the copies of it, and the no-ops behind it. Each fetch of them,
 /// and each stalled cycle before one, is a cycle of one of the columns behind `cycles`, or is that in which it was executed.
-#[derive(Clone, Copy, Debug, PartialEq, Eq)]
+#[derive(Clone, Copy)]
 pub struct LineCost {
     /// How often it was executed, at its own word or at a copy.
     pub executed: u64,

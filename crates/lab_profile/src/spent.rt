@@ -3,7 +3,7 @@ ghost use Rattle.std.specs.Prelude.{◌≡◌};
 ghost use Rattle.lab_profile.specs.Parts.{spent_together};
 
 /// What the cycles of a run were spent on. Each cycle is stalled, or that of one fetch, which is told by what became of it.
-#[derive(Clone, Copy, Debug, PartialEq, Eq)]
+#[derive(Clone, Copy)]
 pub struct Spent {
     /// Executed words of statements, and words that were executed behind the code.
     pub instructions: u64,

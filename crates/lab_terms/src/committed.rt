@@ -6,7 +6,7 @@ ghost use Rattle.lab_terms.specs.Commits.{register_of, does};
 use mx_isa::{Inst, Op, Reg, Special};
 
 /// What an instruction does that commits.
-#[derive(Clone, Copy, Debug, PartialEq, Eq)]
+#[derive(Clone, Copy)]
 pub struct Committed {
     /// The register that it writes, which is not r0.
     pub register: Option<Reg>,

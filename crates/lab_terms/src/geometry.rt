@@ -7,7 +7,7 @@ use std::alloc::{AllocError, Global};
 /// A cache of code words. The line of an address is the address divided by the words of a line, and its set is the line modulo
 /// the sets. On a miss the words of a group that begins at a multiple of `brings` within the line become valid; of a full set
 /// the line that was allocated first is replaced.
-#[derive(Clone, Copy, Debug, PartialEq, Eq)]
+#[derive(Clone, Copy, PartialEq, Eq)]
 pub struct Geometry {
     pub sets: u32,
     /// How many lines a set holds.

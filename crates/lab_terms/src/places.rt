@@ -6,14 +6,14 @@ use mx_link::Origin;
 use mx_source::Statement;
 
 /// A slot behind a transfer.
-#[derive(Clone, Copy, Debug, PartialEq, Eq)]
+#[derive(Clone, Copy)]
 pub enum Slot {
     First,
     Second,
 }
 
 /// What a place of the code is.
-#[derive(Clone, Copy, Debug, PartialEq, Eq)]
+#[derive(Clone, Copy)]
 pub enum Place {
     /// A statement's own word.
     Own(u32),

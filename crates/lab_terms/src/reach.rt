@@ -7,7 +7,7 @@ use mx_source::{Source, Statement, Value};
 use std::alloc::{AllocError, Global};
 
 /// Where a statement may go on: to the statement behind it, or to a target.
-#[derive(Clone, Copy, Debug, PartialEq, Eq)]
+#[derive(Clone, Copy)]
 pub struct Ways {
     pub on: bool,
     pub target: Option<u32>,

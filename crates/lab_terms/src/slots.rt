@@ -8,7 +8,7 @@ use mx_link::Origin;
 use mx_source::Statement;
 
 /// What stands in a slot behind a transfer.
-#[derive(Clone, Copy, Debug, PartialEq, Eq)]
+#[derive(Clone, Copy)]
 pub enum Filling {
     /// An instruction that stood before the transfer.
     Before,
@@ -21,7 +21,7 @@ pub enum Filling {
 }
 
 /// What stands in the slots behind transfers, two each.
-#[derive(Clone, Copy, Debug, PartialEq, Eq)]
+#[derive(Clone, Copy)]
 pub struct TransferSlots {
     pub before: u32,
     pub target_squashed: u32,
@@ -30,7 +30,7 @@ pub struct TransferSlots {
 }
 
 /// How many of some places hold an instruction, and not a no-op that was put in.
-#[derive(Clone, Copy, Debug, PartialEq, Eq)]
+#[derive(Clone, Copy)]
 pub struct Slots {
     pub filled: u32,
     pub all: u32,

@@ -6,7 +6,7 @@ use cmd_meaning::Ending;
 use mx_source::Why;
 
 /// How a run stands beside the meaning.
-#[derive(Clone, Copy, Debug, PartialEq, Eq)]
+#[derive(Clone, Copy)]
 pub enum Verdict {
     /// Both halted.
     AsMeant,

@@ -17,7 +17,7 @@ pub trait Watcher: Copy + Drop {
 }
 
 /// Nobody.
-#[derive(Clone, Copy, Debug)]
+#[derive(Clone, Copy)]
 pub struct Unwatched;
 
 impl Watcher for Unwatched {
