@@ -1,13 +1,13 @@
 //! The reply of `caches`.
-use crate::given::Asked;
-use crate::printed::{printed, run_status};
-use crate::runs::{GivenRun, read_run};
+use crate::given::{Asked, Form};
+use crate::printed::{answered, or_memory, printed, run_status};
+use crate::runs::GivenRun;
 use cmd_answer::{Failure, Reply, Status, line_reply};
 use lab_caches::{Study, caches_json, caches_svg, caches_text, study_of};
 use lab_terms::{Geometry, geometries};
 use lab_watch::{Watched, Watcher};
 use mx_icache::LineCache;
-use mx_io::{Memory, Shelf};
+use mx_io::Memory;
 use mx_turn::Turns;
 use std::alloc::Global;
 
@@ -36,29 +36,28 @@ fn study_in<W: Watcher>(asked: &Asked, run: &GivenRun, watcher: W) -> Result<Stu
 
 // The study in the form that the words ask for.
 fn text_of(asked: &Asked, study: &Study) -> Result<Vec<u8>, Memory> {
-    match asked.word("as") {
-        "json" => caches_json(asked.alloc, asked.word("SOURCE"), study),
-        "svg" => caches_svg(asked.alloc, study).map_err(|_| Memory),
-        _ => caches_text(asked.alloc, study).map_err(|_| Memory),
+    match asked.form() {
+        Form::Json => caches_json(asked.alloc, asked.word("SOURCE"), study),
+        Form::Svg => or_memory(caches_svg(asked.alloc, study)),
+        _ => or_memory(caches_text(asked.alloc, study)),
     }
 }
 
-// The reply that tells what the caches make of a run.
-fn study_reply<W: Watcher>(asked: &Asked, run: &GivenRun, watcher: W) -> Result<Reply, Failure> {
-    let study = study_in(asked, run, watcher)?;
-    printed(run_status(study.halted), text_of(asked, &study))
+/// The words of `caches` are refused where a miss brings more words than a line has.
+pub fn refuse_excess(asked: &Asked) -> Result<(), Failure> {
+    if asked.number("brings") <= asked.number("line") {
+        return Ok(());
+    }
+    let reply = line_reply(asked.alloc, Status::Usage, "--brings is more than --line");
+    Err(answered(reply))
 }
 
-/// The reply to `caches SOURCE`.
-pub fn caches_reply<S: Shelf, W: Watcher>(
+/// The reply to `caches SOURCE`, whose words are not refused.
+pub fn caches_reply<W: Watcher>(
     asked: &Asked,
-    shelf: &mut S,
+    run: &GivenRun,
     watcher: W,
 ) -> Result<Reply, Failure> {
-    if asked.number("brings") > asked.number("line") {
-        let reply = line_reply(asked.alloc, Status::Usage, "--brings is more than --line")?;
-        return Ok(reply);
-    }
-    let run = read_run(asked, shelf)?;
-    study_reply(asked, &run, watcher)
+    let study = study_in(asked, run, watcher)?;
+    printed(run_status(study.halted), text_of(asked, &study))
 }

@@ -3,7 +3,7 @@ ghost use Rattle.std.specs.Prelude.{◌≤◌, length};
 ghost use Rattle.mx_io.specs.declared.limits.TheConstants.{MAX_SOURCE_BYTES};
 
 use crate::given::Asked;
-use crate::printed::printed;
+use crate::printed::{or_memory, printed};
 use cmd_answer::{Failure, FileKind, Reply, Status, read_file};
 use lab_check::{Checked, Form, MOST_LINES, check, findings_text};
 use mx_io::Shelf;
@@ -31,16 +31,23 @@ fn push_warnings(text: &mut String, warnings: usize) -> Result<(), AllocError> {
     }
 }
 
-// Appends the last line: how much was found, and how much of it is shown.
-fn push_sums(text: &mut String, checked: &Checked) -> Result<(), AllocError> {
-    push_faults(text, checked)?;
-    push_warnings(text, checked.warnings)?;
+// Appends how much of what was found is shown, where that is not all.
+fn push_shown(text: &mut String, checked: &Checked) -> Result<(), AllocError> {
     if checked.faults.max(checked.warnings) > checked.findings.len() {
         write!(
             text,
             ", of which the first {MOST_SHOWN} are shown: --all shows them all"
-        )?;
+        )
+    } else {
+        Ok(())
     }
+}
+
+// Appends the last line: how much was found, and how much of it is shown.
+fn push_sums(text: &mut String, checked: &Checked) -> Result<(), AllocError> {
+    push_faults(text, checked)?;
+    push_warnings(text, checked.warnings)?;
+    push_shown(text, checked)?;
     text.push('\n')
 }
 
@@ -82,10 +89,12 @@ fn most_given(asked: &Asked) -> usize
 
 // The form that the words ask for.
 fn form_given(asked: &Asked) -> Form {
-    match (asked.word("as"), asked.word("colour")) {
-        ("json", _) => Form::Json,
-        (_, "always") => Form::Coloured,
-        _ => Form::Text,
+    if asked.word("as") == "json" {
+        Form::Json
+    } else if asked.word("colour") == "always" {
+        Form::Coloured
+    } else {
+        Form::Text
     }
 }
 
@@ -100,7 +109,7 @@ fn text_reply(asked: &Asked, text: &[u8]) -> Result<Reply, Failure>
         &checked,
         form_given(asked),
     );
-    printed(status_of(&checked), said)
+    printed(status_of(&checked), or_memory(said))
 }
 
 /// The reply to `check SOURCE`.

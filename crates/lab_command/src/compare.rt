@@ -3,8 +3,8 @@ ghost use Rattle.std.specs.Prelude.{◌≤◌, length};
 ghost use Rattle.mx_io.specs.declared.limits.TheConstants.{MAX_FILE_BYTES};
 
 use crate::failure::named;
-use crate::given::{Asked, file_by};
-use crate::printed::{printed, unlinked};
+use crate::given::{Asked, Form, file_by};
+use crate::printed::{or_memory, printed, unlinked};
 use crate::stimulus::{Stimulus, read_stimulus};
 use cmd_answer::{Failure, Reply, Status};
 use cmd_source::{Program, read_program};
@@ -42,6 +42,21 @@ fn read_source<S: Shelf>(
     }
 }
 
+// Adds the source of this name, linked.
+fn add_source<S: Shelf>(
+    alloc: Global,
+    shelf: &mut S,
+    name: &str,
+    is_one: bool,
+    programs: &mut Vec<Program>,
+) -> Result<(), Failure> {
+    let program = read_source(alloc, shelf, name, is_one)?;
+    match programs.push(program) {
+        Ok(()) => Ok(()),
+        Err(_) => Err(Failure::Memory),
+    }
+}
+
 // The sources of these names, linked.
 fn read_sources<S: Shelf>(
     alloc: Global,
@@ -50,28 +65,37 @@ fn read_sources<S: Shelf>(
 ) -> Result<Vec<Program>, Failure> {
     let mut programs = Vec::new(alloc);
     for name in names {
-        let program = read_source(alloc, shelf, *name, names.len() == 1)?;
-        if programs.push(program).is_err() {
-            return Err(Failure::Memory);
-        }
+        add_source(alloc, shelf, *name, names.len() == 1, &mut programs)?;
     }
     Ok(programs)
 }
 
 // The comparison of the source of this name.
-fn compare_one<'a, W: Watcher>(
+fn compare_one<W: Watcher>(
     alloc: Global,
-    source: &'a str,
+    source: &str,
     program: &Program,
     is_one: bool,
     conditions: &Conditions,
     watcher: W,
-) -> Result<Compared<'a>, Failure>
+) -> Result<Comparison, Failure>
     requires { length conditions.now.input.now ≤ MAX_FILE_BYTES }
 {
     match compare(alloc, &program.source, conditions, watcher) {
-        Ok(comparison) => Ok(Compared { source, comparison }),
+        Ok(comparison) => Ok(comparison),
         Err(error) => Err(named_failure(alloc, source, is_one, unlinked(alloc, &error))),
+    }
+}
+
+// Adds the comparison of the source of this name.
+fn add_comparison<'w>(
+    source: &'w str,
+    comparison: Comparison,
+    compared: &mut Vec<Compared<'w>>,
+) -> Result<(), Failure> {
+    match compared.push(Compared { source, comparison }) {
+        Ok(()) => Ok(()),
+        Err(_) => Err(Failure::Memory),
     }
 }
 
@@ -89,10 +113,8 @@ fn compare_each<'w, W: Watcher>(
     let mut compared = Vec::new(alloc);
     for (name, program) in names.iter().zip(programs) {
         let is_one = names.len() == 1;
-        let source = compare_one(alloc, *name, program, is_one, conditions, watcher)?;
-        if compared.push(source).is_err() {
-            return Err(Failure::Memory);
-        }
+        let comparison = compare_one(alloc, *name, program, is_one, conditions, watcher)?;
+        add_comparison(*name, comparison, &mut compared)?;
     }
     Ok(compared)
 }
@@ -104,12 +126,12 @@ fn text_of(asked: &Asked, compared: &[Compared]) -> Result<Vec<u8>, Memory> {
         [one] => Some(&one.comparison),
         _ => None,
     };
-    match (asked.word("as"), one) {
-        ("json", Some(one)) => comparison_json(alloc, asked.word("SOURCE"), one),
-        ("json", None) => comparisons_json(alloc, compared),
-        ("csv", _) => comparisons_csv(alloc, compared),
-        (_, Some(one)) => comparison_text(alloc, one).map_err(|_| Memory),
-        (_, None) => comparisons_text(alloc, compared).map_err(|_| Memory),
+    match (asked.form(), one) {
+        (Form::Json, Some(one)) => comparison_json(alloc, asked.word("SOURCE"), one),
+        (Form::Json, None) => comparisons_json(alloc, compared),
+        (Form::Csv, _) => comparisons_csv(alloc, compared),
+        (_, Some(one)) => or_memory(comparison_text(alloc, one)),
+        (_, None) => or_memory(comparisons_text(alloc, compared)),
     }
 }
 

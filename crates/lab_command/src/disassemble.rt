@@ -2,27 +2,39 @@
 ghost use Rattle.std.specs.Prelude.{◌≤◌, vec_len};
 ghost use Rattle.mx_io.specs.declared.limits.TheConstants.{MAX_SOURCE_BYTES};
 
-use crate::given::Asked;
-use crate::printed::{printed, refused};
+use crate::given::{Asked, Form};
+use crate::printed::{or_memory, printed, refused};
 use cmd_answer::{Failure, FileKind, Reply, Status, read_file};
 use cmd_source::linked_text;
 use lab_disassemble::{Listing, image_listing, listing_json, listing_text, source_listing};
 use mx_image::{ImageError, read_file as read_image_file};
 use mx_io::{Memory, Shelf};
-use std::alloc::Global;
+use std::alloc::{AllocError, Global};
 
 /// What an image file begins with.
 const MAGIC: &[u8] = b"MXIM";
 
+// A listing, or that there was no memory for it.
+fn listed(listing: Result<Listing, AllocError>) -> Result<Listing, Failure> {
+    match listing {
+        Ok(listing) => Ok(listing),
+        Err(_) => Err(Failure::Memory),
+    }
+}
+
+// What is wrong with an image file.
+fn faulty(alloc: Global, error: &ImageError) -> Failure {
+    match *error {
+        ImageError::Memory => Failure::Memory,
+        _ => refused(alloc, Status::BadImage, format!(in alloc; "image: {error}")),
+    }
+}
+
 // The listing of an image file, or the reply to what is wrong with it.
 fn list_image(alloc: Global, bytes: &[u8]) -> Result<Listing, Failure> {
     match read_image_file(alloc, bytes) {
-        Ok(file) => image_listing(alloc, &file).map_err(|_| Failure::Memory),
-        Err(ImageError::Memory) => Err(Failure::Memory),
-        Err(error) => {
-            let line = format!(in alloc; "image: {error}");
-            Err(refused(alloc, Status::BadImage, line))
-        }
+        Ok(file) => listed(image_listing(alloc, &file)),
+        Err(error) => Err(faulty(alloc, &error)),
     }
 }
 
@@ -31,7 +43,7 @@ fn list_source(alloc: Global, text: Vec<u8>) -> Result<Listing, Failure>
     requires { vec_len text ≤ MAX_SOURCE_BYTES }
 {
     let program = linked_text(alloc, text)?;
-    source_listing(alloc, &program.source, &program.linked).map_err(|_| Failure::Memory)
+    listed(source_listing(alloc, &program.source, &program.linked))
 }
 
 // The listing of a file, or the reply to what is wrong with it.
@@ -46,9 +58,9 @@ fn read_listing<S: Shelf>(alloc: Global, shelf: &mut S, name: &str) -> Result<Li
 
 // A listing in the form that the words ask for.
 fn text_of(asked: &Asked, listing: &Listing) -> Result<Vec<u8>, Memory> {
-    match asked.word("as") {
-        "json" => listing_json(asked.alloc, asked.word("FILE"), listing),
-        _ => listing_text(asked.alloc, listing).map_err(|_| Memory),
+    match asked.form() {
+        Form::Json => listing_json(asked.alloc, asked.word("FILE"), listing),
+        _ => or_memory(listing_text(asked.alloc, listing)),
     }
 }
 

@@ -3,7 +3,7 @@ ghost use Rattle.std.specs.Prelude.{◌≤◌, ◌+◌, IfOk};
 ghost use Rattle.lab_draw.specs.Frames.{IsDrawing};
 ghost use Rattle.lab_command.specs.Runs.{loaded};
 
-use crate::given::Asked;
+use crate::given::{Asked, Form};
 use crate::printed::printed;
 use crate::runs::GivenRun;
 use cmd_answer::{Failure, Reply, Status};
@@ -53,22 +53,42 @@ fn drawing_of<W: Watcher>(
         count,
         budget,
     } = span;
-    let drawing = draw(alloc, &mut machine, requests, from, count, budget)?;
-    Ok(drawing)
+    draw(alloc, &mut machine, requests, from, count, budget)
 }
 
 // The picture of a drawing, in a form.
-fn form_of(alloc: Global, form: &str, subject: &Subject) -> Result<Vec<u8>, Memory> {
+fn form_of(alloc: Global, form: Form, subject: &Subject) -> Result<Vec<u8>, Memory> {
     let rows = rows_of(alloc, subject.drawing.frames.as_slice())?;
     let rows = rows.as_slice();
     match form {
-        "svg" => svg(alloc, subject, rows),
-        "html" => html(alloc, subject, rows),
-        "json" => json(alloc, subject, rows),
-        "kanata" => kanata(alloc, subject, rows),
-        "vcd" => vcd(alloc, subject),
+        Form::Svg => svg(alloc, subject, rows),
+        Form::Html => html(alloc, subject, rows),
+        Form::Json => json(alloc, subject, rows),
+        Form::Kanata => kanata(alloc, subject, rows),
+        Form::Vcd => vcd(alloc, subject),
         _ => text(alloc, subject, rows),
     }
+}
+
+// The picture of a drawing, in the form that the words ask for, with these names of places.
+fn named_picture(
+    asked: &Asked,
+    program: &Program,
+    names: &PlaceNames,
+    drawing: &Drawing,
+    span: Span,
+) -> Result<Vec<u8>, Memory> {
+    let subject = Subject {
+        file: asked.word("SOURCE"),
+        text: program.text.as_slice(),
+        lines: program.source.lines(),
+        linked: &program.linked,
+        names,
+        from: span.from,
+        budget: span.budget,
+        drawing,
+    };
+    form_of(asked.alloc, asked.form(), &subject)
 }
 
 // The picture of a drawing of a run, in the form that the words ask for.
@@ -78,26 +98,12 @@ fn picture_with(
     drawing: &Drawing,
     span: Span,
 ) -> Result<Vec<u8>, Memory> {
-    let names = PlaceNames::new(
-        asked.alloc,
-        &program.source,
-        program.linked.links.as_slice(),
-        program.linked.image.code.len(),
-    );
-    let Ok(names) = names else {
-        return Err(Memory);
-    };
-    let subject = Subject {
-        file: asked.word("SOURCE"),
-        text: program.text.as_slice(),
-        lines: program.source.lines(),
-        linked: &program.linked,
-        names: &names,
-        from: span.from,
-        budget: span.budget,
-        drawing,
-    };
-    form_of(asked.alloc, asked.word("as"), &subject)
+    let links = program.linked.links.as_slice();
+    let words = program.linked.image.code.len();
+    match PlaceNames::new(asked.alloc, &program.source, links, words) {
+        Ok(names) => named_picture(asked, program, &names, drawing, span),
+        Err(_) => Err(Memory),
+    }
 }
 
 // The picture of the cycles of a run that the words ask for.

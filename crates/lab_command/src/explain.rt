@@ -3,8 +3,8 @@ ghost use Rattle.std.specs.Prelude.{◌≡◌, IfOk};
 ghost use Rattle.mx_turn.specs.Run.{run_of};
 ghost use Rattle.lab_command.specs.Runs.{loaded};
 
-use crate::given::Asked;
-use crate::printed::printed;
+use crate::given::{Asked, Form};
+use crate::printed::{or_memory, printed};
 use crate::runs::GivenRun;
 use cmd_answer::{Failure, Reply, Status};
 use lab_explain::{Explained, explained_json, explained_text};
@@ -17,17 +17,23 @@ use std::alloc::{AllocError, Global};
 /// How many statements more than its budget has cycles the meaning of a run is not to be stuck in.
 const STATEMENTS_AHEAD: u32 = 64;
 
-// What is told of a run and a meaning, in a form.
+// The line of this number, from 1 on; empty where there is none.
+fn line_at(alloc: Global, text: &[u8], number: u32) -> Result<&[u8], AllocError> {
+    let lines = lines_of(alloc, text)?;
+    let place = number.saturating_sub(1) as usize;
+    Ok(lines.get(place).copied().unwrap_or(&[]))
+}
+
+// What is told of a run and a meaning, in the form that the words ask for.
 fn told(
     asked: &Asked,
     run: &GivenRun,
     standing: Standing,
     ran: Ran,
 ) -> Result<Vec<u8>, AllocError> {
-    let lines = lines_of(asked.alloc, &run.program.text)?;
     let index = standing.index as usize;
     let line = run.program.source.lines().get(index).copied().unwrap_or(0);
-    let place = line.saturating_sub(1) as usize;
+    let text = line_at(asked.alloc, &run.program.text, line)?;
     let explained = Explained {
         file: asked.word("SOURCE"),
         standing,
@@ -36,10 +42,10 @@ fn told(
         budget: run.budget,
         requests: run.stimulus.requests.list().len() as u32,
         line,
-        text: lines.get(place).copied().unwrap_or(&[]),
+        text,
     };
-    match asked.word("as") {
-        "json" => explained_json(asked.alloc, &explained),
+    match asked.form() {
+        Form::Json => explained_json(asked.alloc, &explained),
         _ => explained_text(asked.alloc, &explained),
     }
 }
@@ -73,5 +79,5 @@ pub fn explain_reply<W: Watcher>(
     let input = run.stimulus.input.as_slice();
     let standing = stand(asked.alloc, &run.program.source, input, steps)?;
     let ran = source_run(asked.alloc, run, watcher)?;
-    printed(status_of(&ran), told(asked, run, standing, ran))
+    printed(status_of(&ran), or_memory(told(asked, run, standing, ran)))
 }

@@ -5,7 +5,7 @@ use cmd_answer::Status;
 use std::alloc::{AllocError, Global};
 
 /// Why a file cannot be read.
-#[derive(Clone, Copy, Debug, PartialEq, Eq)]
+#[derive(Clone, Copy)]
 pub enum Cause {
     /// It is not there.
     Missing,
@@ -36,7 +36,7 @@ pub trait Causes: Copy + Drop {
 }
 
 /// Nobody knows.
-#[derive(Clone, Copy, Debug)]
+#[derive(Clone, Copy)]
 pub struct Unknown;
 
 impl Causes for Unknown {
@@ -46,7 +46,7 @@ impl Causes for Unknown {
 }
 
 /// The options that name files which are read.
-const READ: [&str; 5] = ["SOURCE", "IMAGE", "FILE", "interrupts", "input"];
+static READ: [&str; 5] = ["SOURCE", "IMAGE", "FILE", "interrupts", "input"];
 
 // The first of some files that cannot be read, and why.
 fn unread_among<'a, C: Causes>(
@@ -69,8 +69,8 @@ fn unread<'a, C: Causes>(
     matches: &ArgMatches<'a>,
     causes: C,
 ) -> Option<(&'a str, Cause)> {
-    for option in READ {
-        if let Some(words) = matches.get_strs(option) {
+    for option in &READ {
+        if let Some(words) = matches.get_strs(*option) {
             let found = unread_among(alloc, words, causes);
             if found.is_some() {
                 return found;
@@ -101,15 +101,36 @@ fn file_of<'a>(matches: &ArgMatches<'a>, status: Status, said: &[u8]) -> &'a str
     }
 }
 
-/// Bytes with a name before them.
+// Appends a name and a colon, unless the name is empty.
+fn push_name(text: &mut Vec<u8>, name: &str) -> Result<(), AllocError> {
+    if name.is_empty() {
+        return Ok(());
+    }
+    text.extend_from_slice(name.as_bytes())?;
+    text.extend_from_slice(b": ")
+}
+
+/// Bytes with a name before them, unless it is empty.
 pub fn named(alloc: Global, name: &str, said: &[u8]) -> Result<Vec<u8>, AllocError> {
     let mut text = Vec::new(alloc);
-    if !name.is_empty() {
-        text.extend_from_slice(name.as_bytes())?;
-        text.extend_from_slice(b": ")?;
-    }
+    push_name(&mut text, name)?;
     text.extend_from_slice(said)?;
     Ok(text)
+}
+
+// What goes to standard error where a file cannot be read: why, and which, if that is known.
+fn unread_text<C: Causes>(
+    alloc: Global,
+    matches: &ArgMatches,
+    said: &[u8],
+    causes: C,
+) -> Result<Vec<u8>, AllocError> {
+    let Some((name, cause)) = unread(alloc, matches, causes) else {
+        return Vec::from_slice(alloc, said);
+    };
+    let mut line = named(alloc, cause.words(), name.as_bytes())?;
+    line.push(b'\n')?;
+    Ok(line)
 }
 
 /// What goes to standard error where a command says this and ends with this status: the file, and why.
@@ -121,12 +142,7 @@ pub fn error_text<C: Causes>(
     causes: C,
 ) -> Result<Vec<u8>, AllocError> {
     if status == Status::ReadFault {
-        if let Some((name, cause)) = unread(alloc, matches, causes) {
-            let words = cause.words();
-            let line = format!(in alloc; "{words}: {name}\n")?;
-            return Ok(line.into_bytes());
-        }
-        return Vec::from_slice(alloc, said);
+        return unread_text(alloc, matches, said, causes);
     }
     named(alloc, file_of(matches, status, said), said)
 }

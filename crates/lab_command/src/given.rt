@@ -1,4 +1,5 @@
 //! What the words give.
+use crate::table::Command;
 use clap::ArgMatches;
 use std::alloc::Global;
 
@@ -7,11 +8,73 @@ const STANDARD_INPUT: &str = "-";
 
 const STANDARD_INPUT_FILE: &str = "/dev/stdin";
 
-/// What is asked: a command by its name, its words, and memory for the reply.
+/// A form of what is printed.
+#[derive(Clone, Copy)]
+pub enum Form {
+    Text,
+    Json,
+    Csv,
+    Svg,
+    Html,
+    Kanata,
+    Vcd,
+    Callgrind,
+}
+
+// A form, and the word for it.
+#[derive(Clone, Copy)]
+struct FormRow {
+    word: &'static str,
+    form: Form,
+}
+
+// The forms beside text.
+static FORMS: [FormRow; 7] = [
+    FormRow {
+        word: "json",
+        form: Form::Json,
+    },
+    FormRow {
+        word: "csv",
+        form: Form::Csv,
+    },
+    FormRow {
+        word: "svg",
+        form: Form::Svg,
+    },
+    FormRow {
+        word: "html",
+        form: Form::Html,
+    },
+    FormRow {
+        word: "kanata",
+        form: Form::Kanata,
+    },
+    FormRow {
+        word: "vcd",
+        form: Form::Vcd,
+    },
+    FormRow {
+        word: "callgrind",
+        form: Form::Callgrind,
+    },
+];
+
+// The form of a word; text, where it is in none of the rows.
+fn form_by(rows: &[FormRow], word: &str) -> Form {
+    for row in rows {
+        if row.word == word {
+            return row.form;
+        }
+    }
+    Form::Text
+}
+
+/// What is asked: a command, its words, and memory for the reply.
 #[derive(Clone, Copy)]
 pub struct Asked<'a, 'w> {
     pub alloc: Global,
-    pub name: &'a str,
+    pub command: Command,
     pub matches: &'a ArgMatches<'w>,
 }
 
@@ -37,6 +100,11 @@ impl<'a, 'w> Asked<'a, 'w> {
     /// The word of an option or a name; empty where there is none.
     pub fn word(&self, name: &str) -> &'w str {
         word_given(self.matches, name)
+    }
+
+    /// The form of what is printed.
+    pub fn form(&self) -> Form {
+        form_by(&FORMS, self.word("as"))
     }
 
     /// Whether an option without a value is there.

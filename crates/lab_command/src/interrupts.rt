@@ -1,12 +1,12 @@
 //! The reply of `interrupts`.
 ghost use Rattle.std.specs.Prelude.{◌≤◌, ◌<◌, IfOk};
 
-use crate::given::Asked;
-use crate::printed::{printed, refused, run_status};
+use crate::given::{Asked, Form};
+use crate::printed::{or_memory, printed, refused, run_status};
 use crate::runs::GivenRun;
 use cmd_answer::{Failure, Reply, Status};
 use lab_measures::{Row, Run, Span, Sweep, Swept, cycles_in, pairs, run_with, singles};
-use lab_tables::{places_of, sweep_csv, sweep_json, sweep_text};
+use lab_tables::{Places, places_of, sweep_csv, sweep_json, sweep_text};
 use lab_watch::Watcher;
 use mx_board::Requests;
 use mx_io::Memory;
@@ -18,6 +18,12 @@ const MOST_RUNS: u64 = 100_000;
 /// The most cycles of which each two make a run.
 const MOST_PAIRED: u64 = 447;
 
+// The reply where the first cycle is behind one that bounds it.
+fn refuse_first(alloc: Global, from: u32, bounded: &str, cycle: u32) -> Failure {
+    let line = format!(in alloc; "--from {from} is {bounded} {cycle}");
+    refused(alloc, Status::Usage, line)
+}
+
 // The cycles that the words ask for, of a run whose last cycle is this one; or the reply where there are none.
 fn span_given(asked: &Asked, last: u32) -> Result<Span, Failure>
     ensures { IfOk result (λ span. 0 < span.step) }
@@ -25,18 +31,18 @@ fn span_given(asked: &Asked, last: u32) -> Result<Span, Failure>
     let alloc = asked.alloc;
     let from = asked.number("from");
     let to = asked.matches.get_one::<u32>("to").unwrap_or(last);
-    let line = if from > last {
-        format!(in alloc; "--from {from} is behind the last cycle of the undisturbed run, {last}")
-    } else if from > to {
-        format!(in alloc; "--from {from} is more than --to {to}")
-    } else {
-        return Ok(Span {
-            from,
-            to: to.min(last),
-            step: asked.number("step").max(1),
-        });
-    };
-    Err(refused(alloc, Status::Usage, line))
+    if from > last {
+        let bounded = "behind the last cycle of the undisturbed run,";
+        return Err(refuse_first(alloc, from, bounded, last));
+    }
+    if from > to {
+        return Err(refuse_first(alloc, from, "more than --to", to));
+    }
+    Ok(Span {
+        from,
+        to: to.min(last),
+        step: asked.number("step").max(1),
+    })
 }
 
 // The reply where a span makes too many runs.
@@ -57,10 +63,9 @@ fn refuse_excess(alloc: Global, span: Span, is_pairs: bool) -> Result<(), Failur
     Err(refused(alloc, Status::Usage, line))
 }
 
-/// What is told of: the run without requests, in which cycles requests come, and whether they come in each two of these.
-#[derive(Drop)]
+/// What is told of: in which cycles requests come, and whether they come in each two of these.
+#[derive(Clone, Copy)]
 struct Sought {
-    undisturbed: Run,
     span: Span,
     is_pairs: bool,
 }
@@ -72,27 +77,27 @@ fn undisturbed_run(alloc: Global, run: &GivenRun) -> Result<Run, Memory> {
     run_with(alloc, image, run.asked_input(), &none, run.budget)
 }
 
-// What the words ask for of a run, or the reply to what is wrong with them.
-fn sought_in(asked: &Asked, run: &GivenRun) -> Result<Sought, Failure>
+// The last cycle of the run without requests.
+fn last_cycle(run: &GivenRun, undisturbed: &Run) -> u32 {
+    let cycles = undisturbed.driven.counts.cycles.saturating_sub(1);
+    cycles.min(u64::from(run.budget)) as u32
+}
+
+// What the words ask for of a run whose last cycle is this one, or the reply to what is wrong with them.
+fn sought_in(asked: &Asked, last: u32) -> Result<Sought, Failure>
     ensures { IfOk result (λ sought. 0 < sought.span.step) }
 {
-    let undisturbed = undisturbed_run(asked.alloc, run)?;
-    let cycles = undisturbed.driven.counts.cycles.saturating_sub(1);
-    let last = cycles.min(u64::from(run.budget)) as u32;
     let span = span_given(asked, last)?;
     let is_pairs = asked.flag("pairs");
     refuse_excess(asked.alloc, span, is_pairs)?;
-    Ok(Sought {
-        undisturbed,
-        span,
-        is_pairs,
-    })
+    Ok(Sought { span, is_pairs })
 }
 
 // The runs with requests in these cycles, beside the undisturbed run.
 fn rows_of<W: Watcher>(
     alloc: Global,
     run: &GivenRun,
+    undisturbed: &Run,
     sought: &Sought,
     cycles: &[u32],
     watcher: W,
@@ -101,7 +106,7 @@ fn rows_of<W: Watcher>(
         image: &run.program.linked.image,
         input: run.asked_input(),
         budget: run.budget,
-        undisturbed: sought.undisturbed.driven.console.as_slice(),
+        undisturbed: undisturbed.driven.console.as_slice(),
         cycles,
     };
     if sought.is_pairs {
@@ -115,49 +120,65 @@ fn rows_of<W: Watcher>(
 fn sweep_of<W: Watcher>(
     alloc: Global,
     run: &GivenRun,
+    undisturbed: &Run,
     sought: &Sought,
     watcher: W,
 ) -> Result<Sweep, Failure>
     requires { 0 < sought.now.span.step }
 {
     let cycles = cycles_in(alloc, sought.span)?;
-    let rows = rows_of(alloc, run, sought, cycles.as_slice(), watcher)?;
+    let rows = rows_of(alloc, run, undisturbed, sought, cycles.as_slice(), watcher)?;
     Ok(Sweep {
-        cycles: sought.undisturbed.driven.counts.cycles,
-        halted: sought.undisturbed.driven.halted,
+        cycles: undisturbed.driven.counts.cycles,
+        halted: undisturbed.driven.halted,
         span: sought.span,
         is_pairs: sought.is_pairs,
         rows,
     })
 }
 
-// A sweep in the form that the words ask for.
-fn text_of(asked: &Asked, run: &GivenRun, sweep: &Sweep) -> Result<Vec<u8>, Memory> {
+// A sweep of a source in the form that the words ask for.
+fn form_of(asked: &Asked, text: &[u8], sweep: &Sweep, places: &Places) -> Result<Vec<u8>, Memory> {
     let alloc = asked.alloc;
-    let program = &run.program;
-    let places = places_of(
-        alloc,
-        program.source.lines(),
-        program.linked.origin.as_slice(),
-    );
-    let Ok(places) = places else {
-        return Err(Memory);
-    };
     let source = asked.word("SOURCE");
-    match asked.word("as") {
-        "json" => sweep_json(alloc, source, sweep, &places),
-        "csv" => sweep_csv(alloc, source, sweep, &places),
-        _ => {
-            let with_rows = asked.flag("rows");
-            let text = program.text.as_slice();
-            sweep_text(alloc, sweep, &places, text, with_rows).map_err(|_| Memory)
-        }
+    match asked.form() {
+        Form::Json => sweep_json(alloc, source, sweep, places),
+        Form::Csv => sweep_csv(alloc, source, sweep, places),
+        _ => or_memory(sweep_text(alloc, sweep, places, text, asked.flag("rows"))),
     }
 }
 
-// Whether each run of a sweep halted.
-fn all_halted(sweep: &Sweep) -> bool {
-    sweep.halted && sweep.rows.iter().all(|row| row.halted)
+// The same of a run's source.
+fn text_of(asked: &Asked, run: &GivenRun, sweep: &Sweep) -> Result<Vec<u8>, Memory> {
+    let program = &run.program;
+    let origin = program.linked.origin.as_slice();
+    match places_of(asked.alloc, program.source.lines(), origin) {
+        Ok(places) => form_of(asked, program.text.as_slice(), sweep, &places),
+        Err(_) => Err(Memory),
+    }
+}
+
+// Whether all of some runs halted.
+fn all_halted(rows: &[Row]) -> bool {
+    for row in rows {
+        if !row.halted {
+            return false;
+        }
+    }
+    true
+}
+
+// The reply that tells of runs with requests, beside the run without any.
+fn sweep_reply<W: Watcher>(
+    asked: &Asked,
+    run: &GivenRun,
+    undisturbed: &Run,
+    watcher: W,
+) -> Result<Reply, Failure> {
+    let sought = sought_in(asked, last_cycle(run, undisturbed))?;
+    let sweep = sweep_of(asked.alloc, run, undisturbed, &sought, watcher)?;
+    let halted = sweep.halted && all_halted(sweep.rows.as_slice());
+    printed(run_status(halted), text_of(asked, run, &sweep))
 }
 
 /// The reply to `interrupts SOURCE`.
@@ -166,8 +187,6 @@ pub fn interrupts_reply<W: Watcher>(
     run: &GivenRun,
     watcher: W,
 ) -> Result<Reply, Failure> {
-    let sought = sought_in(asked, run)?;
-    let sweep = sweep_of(asked.alloc, run, &sought, watcher)?;
-    let text = text_of(asked, run, &sweep);
-    printed(run_status(all_halted(&sweep)), text)
+    let undisturbed = undisturbed_run(asked.alloc, run)?;
+    sweep_reply(asked, run, &undisturbed, watcher)
 }

@@ -31,18 +31,22 @@ fn read_plan_file<S: Shelf>(alloc: Global, shelf: &mut S, name: &str) -> Result<
     Err(answered(line_reply(alloc, Status::ReadFault, fault)))
 }
 
+// What is wrong with the text of a plan file.
+fn faulty(alloc: Global, error: &PlanError) -> Failure {
+    match *error {
+        PlanError::Memory => Failure::Memory,
+        _ => refused(alloc, Status::BadEvents, format!(in alloc; "plans {error}")),
+    }
+}
+
 // The lines of a plan file for a source, or the reply to its first faulty line.
 fn parse_plans(alloc: Global, source: &Source, text: &[u8]) -> Result<Vec<PlanLine>, Failure>
     requires { length text.now ≤ MAX_FILE_BYTES }
 {
-    let blocks = blocks(alloc, source)?;
-    match read_plans(alloc, blocks.len(), text) {
+    let count = blocks(alloc, source)?.len();
+    match read_plans(alloc, count, text) {
         Ok(plans) => Ok(plans),
-        Err(PlanError::Memory) => Err(Failure::Memory),
-        Err(error) => {
-            let line = format!(in alloc; "plans {error}");
-            Err(refused(alloc, Status::BadEvents, line))
-        }
+        Err(error) => Err(faulty(alloc, &error)),
     }
 }
 

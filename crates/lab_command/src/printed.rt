@@ -7,8 +7,16 @@ use mx_io::Memory;
 use mx_link::LinkError;
 use std::alloc::{AllocError, Global};
 
+/// A text, or that there was no memory for it.
+pub fn or_memory(text: Result<Vec<u8>, AllocError>) -> Result<Vec<u8>, Memory> {
+    match text {
+        Ok(text) => Ok(text),
+        Err(_) => Err(Memory),
+    }
+}
+
 /// The reply that prints a text and ends with a status. Where there is no text, there was no memory for it.
-pub fn printed<E: Drop>(status: Status, text: Result<Vec<u8>, E>) -> Result<Reply, Failure> {
+pub fn printed(status: Status, text: Result<Vec<u8>, Memory>) -> Result<Reply, Failure> {
     match text {
         Ok(output) => Ok(Reply::Prints { status, output }),
         Err(_) => Err(Failure::Memory),

@@ -11,8 +11,30 @@ const MOST_WORDS: i64 = 64;
 
 const MOST_PENALTY: i64 = 1000;
 
+/// A command.
+#[derive(Clone, Copy)]
+pub enum Command {
+    Check,
+    Compare,
+    Disassemble,
+    Plans,
+    /// One that tells of the run of a source.
+    OfRun(RunCommand),
+}
+
+/// A command that tells of the run of a source.
+#[derive(Clone, Copy)]
+pub enum RunCommand {
+    Draw,
+    Explain,
+    Profile,
+    Caches,
+    Interrupts,
+    Trace,
+}
+
 /// What stands behind the name of a command.
-#[derive(Clone, Copy, PartialEq, Eq)]
+#[derive(Clone, Copy)]
 pub enum Names {
     /// A source.
     Source,
@@ -51,10 +73,11 @@ pub struct OptionRow {
     pub help: &'static str,
 }
 
-/// A command.
+/// What the words of a command are.
 #[derive(Clone, Copy)]
 pub struct CommandRow {
     pub name: &'static str,
+    pub command: Command,
     pub about: &'static str,
     pub names: Names,
     pub options: &'static [OptionRow],
@@ -321,62 +344,82 @@ const PLANS: [OptionRow; 3] = [BUDGET, INTERRUPTS, INPUT];
 pub static COMMANDS: [CommandRow; 10] = [
     CommandRow {
         name: "draw",
+        command: Command::OfRun(RunCommand::Draw),
         about: "draws the instructions of a run by its cycles",
         names: Names::Source,
         options: &DRAW,
     },
     CommandRow {
         name: "check",
+        command: Command::Check,
         about: "tells every faulty line of a source, and what is wrong with it",
         names: Names::Source,
         options: &CHECK,
     },
     CommandRow {
         name: "explain",
+        command: Command::OfRun(RunCommand::Explain),
         about: "tells how a run stands beside what the source means",
         names: Names::Source,
         options: &EXPLAIN,
     },
     CommandRow {
         name: "profile",
+        command: Command::OfRun(RunCommand::Profile),
         about: "tells what each part of a source costs in a run",
         names: Names::Source,
         options: &PROFILE,
     },
     CommandRow {
         name: "compare",
+        command: Command::Compare,
         about: "compares what four schedulers make of a source, or of several",
         names: Names::Sources,
         options: &COMPARE,
     },
     CommandRow {
         name: "disassemble",
+        command: Command::Disassemble,
         about: "lists the words of a source or an image file in assembly language",
         names: Names::File,
         options: &DISASSEMBLE,
     },
     CommandRow {
         name: "caches",
+        command: Command::OfRun(RunCommand::Caches),
         about: "tells what other caches would make of a run",
         names: Names::Source,
         options: &CACHES,
     },
     CommandRow {
         name: "interrupts",
+        command: Command::OfRun(RunCommand::Interrupts),
         about: "tells what an interrupt costs, in each cycle of a run in turn",
         names: Names::Source,
         options: &SWEEP,
     },
     CommandRow {
         name: "trace",
+        command: Command::OfRun(RunCommand::Trace),
         about: "tells each turn of a run, for programs that replay it",
         names: Names::Source,
         options: &TRACE,
     },
     CommandRow {
         name: "plans",
+        command: Command::Plans,
         about: "runs a source by plans from a file",
         names: Names::Plans,
         options: &PLANS,
     },
 ];
+
+/// The command of this name, if there is one.
+pub fn command_named(rows: &[CommandRow], name: &str) -> Option<Command> {
+    for row in rows {
+        if row.name == name {
+            return Some(row.command);
+        }
+    }
+    None
+}

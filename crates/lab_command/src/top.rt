@@ -1,5 +1,5 @@
 //! The top call.
-use crate::caches::caches_reply;
+use crate::caches::{caches_reply, refuse_excess};
 use crate::check::check_reply;
 use crate::compare::compare_reply;
 use crate::disassemble::disassemble_reply;
@@ -11,6 +11,7 @@ use crate::interrupts::interrupts_reply;
 use crate::plans::plans_reply;
 use crate::profile::profile_reply;
 use crate::runs::{GivenRun, read_run};
+use crate::table::{COMMANDS, Command, RunCommand, command_named};
 use crate::trace::trace_reply;
 use crate::words::parse_words;
 use clap::error::ErrorKind;
@@ -29,16 +30,45 @@ fn status_of(kind: ErrorKind) -> Status {
     }
 }
 
-// The reply of a command that tells of the run of a source.
-fn run_reply<W: Watcher>(asked: &Asked, run: &GivenRun, watcher: W) -> Result<Reply, Failure> {
-    match asked.name {
-        "draw" => draw_reply(asked, run, watcher),
-        "explain" => explain_reply(asked, run, watcher),
-        "profile" => profile_reply(asked, run, watcher),
-        "interrupts" => interrupts_reply(asked, run, watcher),
-        "trace" => trace_reply(asked, run, watcher),
-        _ => Err(Failure::Memory),
+// The reply of a command that tells of this run.
+fn run_reply<W: Watcher>(
+    asked: &Asked,
+    command: RunCommand,
+    run: &GivenRun,
+    watcher: W,
+) -> Result<Reply, Failure> {
+    match command {
+        RunCommand::Draw => draw_reply(asked, run, watcher),
+        RunCommand::Explain => explain_reply(asked, run, watcher),
+        RunCommand::Profile => profile_reply(asked, run, watcher),
+        RunCommand::Caches => caches_reply(asked, run, watcher),
+        RunCommand::Interrupts => interrupts_reply(asked, run, watcher),
+        RunCommand::Trace => trace_reply(asked, run, watcher),
     }
+}
+
+// The reply of a command that tells of the run of a source, which is read first.
+fn read_run_reply<S: Shelf, W: Watcher>(
+    asked: &Asked,
+    command: RunCommand,
+    shelf: &mut S,
+    watcher: W,
+) -> Result<Reply, Failure> {
+    let run = read_run(asked, shelf)?;
+    run_reply(asked, command, &run, watcher)
+}
+
+// The same, after the words alone were looked at.
+fn of_run_reply<S: Shelf, W: Watcher>(
+    asked: &Asked,
+    command: RunCommand,
+    shelf: &mut S,
+    watcher: W,
+) -> Result<Reply, Failure> {
+    if matches!(command, RunCommand::Caches) {
+        refuse_excess(asked)?;
+    }
+    read_run_reply(asked, command, shelf, watcher)
 }
 
 // The reply of a command. Another one is added here, or above, and in the table of commands.
@@ -47,23 +77,37 @@ fn answered_by<S: Shelf, W: Watcher>(
     shelf: &mut S,
     watcher: W,
 ) -> Result<Reply, Failure> {
-    match asked.name {
-        "check" => check_reply(asked, shelf),
-        "compare" => compare_reply(asked, shelf, watcher),
-        "disassemble" => disassemble_reply(asked, shelf),
-        "caches" => caches_reply(asked, shelf, watcher),
-        "plans" => plans_reply(asked, shelf, watcher),
-        _ => {
-            let run = read_run(asked, shelf)?;
-            run_reply(asked, &run, watcher)
-        }
+    match asked.command {
+        Command::Check => check_reply(asked, shelf),
+        Command::Compare => compare_reply(asked, shelf, watcher),
+        Command::Disassemble => disassemble_reply(asked, shelf),
+        Command::Plans => plans_reply(asked, shelf, watcher),
+        Command::OfRun(command) => of_run_reply(asked, command, shelf, watcher),
+    }
+}
+
+// The answer to what a command says of what it cannot use.
+fn error_answer<'a, C: Causes>(
+    alloc: Global,
+    matches: &ArgMatches<'a>,
+    status: Status,
+    said: &[u8],
+    causes: C,
+) -> Result<Answer<'a>, Memory> {
+    match error_text(alloc, matches, status, said, causes) {
+        Ok(said) => Ok(Answer {
+            status,
+            said,
+            to: Destination::Errors,
+        }),
+        Err(_) => Err(Memory),
     }
 }
 
 // The answer that a reply is, with what goes to standard error in the place of what it says.
 fn answer_of<'a, C: Causes>(
     alloc: Global,
-    name: &str,
+    command: Command,
     matches: &ArgMatches<'a>,
     reply: Reply,
     causes: C,
@@ -71,20 +115,14 @@ fn answer_of<'a, C: Causes>(
     let Reply::Prints { status, output } = reply else {
         return Err(Memory);
     };
-    if !is_error(name == "check", status) {
-        return Ok(Answer {
+    if is_error(matches!(command, Command::Check), status) {
+        error_answer(alloc, matches, status, &output, causes)
+    } else {
+        Ok(Answer {
             status,
             said: output,
             to: destination(matches),
-        });
-    }
-    match error_text(alloc, matches, status, &output, causes) {
-        Ok(said) => Ok(Answer {
-            status,
-            said,
-            to: Destination::Errors,
-        }),
-        Err(_) => Err(Memory),
+        })
     }
 }
 
@@ -122,16 +160,16 @@ fn words_answer<'a>(alloc: Global, error: &Error) -> Result<Answer<'a>, Memory> 
 }
 
 // The reply of a command, where it has these words.
-fn reply_of<'x, S: Shelf, T: Watcher>(
+fn reply_of<S: Shelf, T: Watcher>(
     alloc: Global,
-    name: &'x str,
-    matches: &'x ArgMatches,
+    command: Command,
+    matches: &ArgMatches,
     shelf: &mut S,
     watcher: T,
 ) -> Result<Reply, Memory> {
     let asked = Asked {
         alloc,
-        name,
+        command,
         matches,
     };
     replied(answered_by(&asked, shelf, watcher))
@@ -140,14 +178,31 @@ fn reply_of<'x, S: Shelf, T: Watcher>(
 // The answer of a command, where it has these words.
 fn command_answer<'a, S: Shelf, T: Watcher, C: Causes>(
     alloc: Global,
-    name: &str,
+    command: Command,
     matches: &ArgMatches<'a>,
     shelf: &mut S,
     watcher: T,
     causes: C,
 ) -> Result<Answer<'a>, Memory> {
-    let reply = reply_of(alloc, name, matches, shelf, watcher)?;
-    answer_of(alloc, name, matches, reply, causes)
+    let reply = reply_of(alloc, command, matches, shelf, watcher)?;
+    answer_of(alloc, command, matches, reply, causes)
+}
+
+// The answer to what was found in the words.
+fn found_answer<'a, S: Shelf, T: Watcher, C: Causes>(
+    alloc: Global,
+    matches: &ArgMatches<'a>,
+    shelf: &mut S,
+    watcher: T,
+    causes: C,
+) -> Result<Answer<'a>, Memory> {
+    let Some((name, found)) = matches.subcommand() else {
+        return Err(Memory);
+    };
+    match command_named(&COMMANDS, name) {
+        Some(command) => command_answer(alloc, command, found, shelf, watcher, causes),
+        None => Err(Memory),
+    }
 }
 
 // The answer to the words.
@@ -159,10 +214,7 @@ fn answer_to<'a, S: Shelf, T: Watcher, C: Causes>(
     causes: C,
 ) -> Result<Answer<'a>, Memory> {
     match parse_words(alloc, words) {
-        Ok(matches) => match matches.subcommand() {
-            Some((name, found)) => command_answer(alloc, name, found, shelf, watcher, causes),
-            None => Err(Memory),
-        },
+        Ok(matches) => found_answer(alloc, &matches, shelf, watcher, causes),
         Err(error) => words_answer(alloc, &error),
     }
 }

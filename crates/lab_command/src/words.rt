@@ -120,10 +120,10 @@ fn named_command<'a>(alloc: Global, row: &CommandRow) -> Result<Command<'a>, All
     let bare = Command::new(alloc, row.name)
         .about(row.about)
         .arg(first_arg(alloc, row.names))?;
-    if row.names == Names::Plans {
-        return with_arg(with_arg(bare, plans_arg(alloc))?, print_flag(alloc));
+    match row.names {
+        Names::Plans => with_arg(with_arg(bare, plans_arg(alloc))?, print_flag(alloc)),
+        Names::Source | Names::Sources | Names::File => Ok(bare),
     }
-    Ok(bare)
 }
 
 // The command of a row.
