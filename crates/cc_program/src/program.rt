@@ -1,4 +1,6 @@
 //! A program as it was read.
+ghost use Rattle.std.specs.Prelude.{◌≡◌, IfOk};
+ghost use Rattle.cc_program.specs.Programs;
 
 use crate::item::{Function, Item, Object};
 use crate::symbols::{Meaning, Symbols};
@@ -17,7 +19,9 @@ pub struct Program<'a> {
 
 impl<'a> Program<'a> {
     /// A program with nothing in it.
-    pub(crate) fn new(alloc: Global) -> Result<Program<'a>, AllocError> {
+    pub(crate) fn new(alloc: Global) -> Result<Program<'a>, AllocError>
+        ensures { IfOk result (λ program. Programs.IsEmpty program) }
+    {
         Ok(Program {
             symbols: Symbols::new(alloc)?,
             items: Vec::new(alloc),
@@ -33,7 +37,9 @@ impl<'a> Program<'a> {
     }
 
     /// The items of a function.
-    pub fn items_of(&self, function: &Function) -> &[Item] {
+    pub fn items_of(&self, function: &Function) -> &[Item]
+        ensures { result.now ≡ Programs.items_of self.now.items.items function.now }
+    {
         self.items
             .as_slice()
             .get(function.first..function.end)

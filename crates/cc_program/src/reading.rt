@@ -1,4 +1,6 @@
 //! Reading the texts.
+ghost use Rattle.std.specs.Prelude.{IfOk};
+ghost use Rattle.cc_program.specs.Programs;
 
 use crate::error::{ReadError, error_at};
 use crate::item::{Function, Item, number_behind};
@@ -128,7 +130,9 @@ fn may_tell(line: &[u8]) -> bool {
 
 impl<'a> Reader<'a> {
     /// A program with nothing in it.
-    pub fn new(alloc: Global) -> Result<Reader<'a>, AllocError> {
+    pub fn new(alloc: Global) -> Result<Reader<'a>, AllocError>
+        ensures { IfOk result (λ reader. Programs.IsEmpty reader.program) }
+    {
         Ok(Reader {
             alloc,
             program: Program::new(alloc)?,

@@ -1,4 +1,6 @@
 //! What names stand for.
+ghost use Rattle.std.specs.Prelude.{◌≡◌, slice_get};
+ghost use Rattle.cc_program.specs.Programs;
 
 use crate::item::number_behind;
 use indexmap::IndexMap;
@@ -47,7 +49,8 @@ impl<'a> Symbol<'a> {
 /// All symbols, by number and by name.
 #[derive(Drop)]
 pub struct Symbols<'a> {
-    list: Vec<Symbol<'a>>,
+    /// Each symbol at its number.
+    pub list: Vec<Symbol<'a>>,
     shared: IndexMap<&'a [u8], u32>,
     own: IndexMap<&'a [u8], u32>,
 }
@@ -111,7 +114,9 @@ impl<'a> Symbols<'a> {
     }
 
     /// The symbol with a number.
-    pub fn at(&self, number: u32) -> Option<Symbol<'a>> {
+    pub fn at(&self, number: u32) -> Option<Symbol<'a>>
+        ensures { result ≡ slice_get self.now.list.items number }
+    {
         self.list.get(number as usize).copied()
     }
 
@@ -172,7 +177,9 @@ impl<'a> Symbols<'a> {
     }
 
     /// Whether something names a symbol.
-    pub fn is_used(&self, number: u32) -> bool {
+    pub fn is_used(&self, number: u32) -> bool
+        ensures { result ≡ Programs.is_used self.now.list.items number }
+    {
         match self.list.get(number as usize) {
             Some(symbol) => symbol.used,
             None => false,

@@ -43,38 +43,49 @@ fn special(special: Special) -> u64 {
     }
 }
 
+/// What a jump to what a register holds reads: where it returns, also what the caller may read behind it.
+fn read_by_jump(register: Register) -> u64 {
+    if register == Register::LINK {
+        of(register) | RETURNED
+    } else {
+        of(register)
+    }
+}
+
 /// What an instruction reads.
 pub(crate) fn reads(instruction: &Instruction) -> u64 {
     match *instruction {
-        Instruction::Compute { rs, second, .. } => of(rs) | source(second),
-        Instruction::Shift { rs, by, .. } => of(rs) | source(by),
-        Instruction::Move { rs, .. } => of(rs),
-        Instruction::Number { .. } | Instruction::Break | Instruction::Nop => 0,
-        Instruction::Address { base, .. } => of(base),
+        Instruction::Compute { rs, second, .. }
+        | Instruction::Shift { rs, by: second, .. }
+        | Instruction::Branch { rs, second, .. } => of(rs) | source(second),
         Instruction::Load {
-            width,
-            rd,
-            base,
+            width: Width::Left | Width::Right,
+            rd: one,
+            base: other,
             ..
-        } => match width {
-            Width::Left | Width::Right => of(rd) | of(base),
-            _ => of(base),
-        },
-        Instruction::Store { rs, base, .. } => of(rs) | of(base),
-        Instruction::Long { rs, rt, .. } => of(rs) | of(rt),
-        Instruction::FromSpecial { special: from, .. } => special(from),
-        Instruction::ToSpecial { rs, .. } => of(rs),
-        Instruction::Branch { rs, second, .. } => of(rs) | source(second),
-        Instruction::Jump(LinkFrom::Register(r)) => {
-            if r == Register::LINK {
-                of(r) | RETURNED
-            } else {
-                of(r)
-            }
         }
-        Instruction::Jump(LinkFrom::Symbol) => 0,
+        | Instruction::Store {
+            rs: one,
+            base: other,
+            ..
+        }
+        | Instruction::Long {
+            rs: one,
+            rt: other,
+            ..
+        } => of(one) | of(other),
+        Instruction::Move { rs: one, .. }
+        | Instruction::Address { base: one, .. }
+        | Instruction::Load { base: one, .. }
+        | Instruction::ToSpecial { rs: one, .. } => of(one),
+        Instruction::FromSpecial { special: from, .. } => special(from),
+        Instruction::Jump(LinkFrom::Register(r)) => read_by_jump(r),
         Instruction::Call(LinkFrom::Register(r)) => ARGUMENTS | of(r),
         Instruction::Call(LinkFrom::Symbol) => ARGUMENTS,
+        Instruction::Number { .. }
+        | Instruction::Jump(LinkFrom::Symbol)
+        | Instruction::Break
+        | Instruction::Nop => 0,
     }
 }
 

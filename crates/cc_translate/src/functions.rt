@@ -1,11 +1,11 @@
 //! The translation of a function.
 
 use crate::fusing::fuse;
-use crate::liveness::live_after;
+use crate::liveness::note_live;
 use crate::output::Output;
 use crate::places::find_places;
-use crate::plan::{Plan, Step};
-use crate::statements::{Planned, translate_statement};
+use crate::plan::{Plan, Planned};
+use crate::statements::translate_statement;
 use cc_program::{Function, Item, Program};
 use cc_rules::file_key;
 use std::alloc::{AllocError, Global};
@@ -13,18 +13,18 @@ use std::alloc::{AllocError, Global};
 /// The longest name of a source file that is told.
 const LONGEST_NAME: usize = 160;
 
-/// A plan for each item of a function, of what is read behind it alone.
-fn first_plans(alloc: Global, live: &[u64]) -> Result<Vec<Plan>, AllocError> {
-    let mut plans = Vec::new(alloc);
-    for one in live {
-        plans.push(Plan {
-            step: Step::Kept,
-            live: *one,
-            place: None,
-            divided: None,
-        })?;
-    }
-    Ok(plans)
+/// Plans each item of a function.
+fn plan_items(
+    alloc: Global,
+    program: &Program,
+    function: &Function,
+    items: &[Item],
+    plans: &mut [Plan],
+) -> Result<(), AllocError> {
+    note_live(alloc, &program.symbols, function.first, items, plans)?;
+    fuse(items, &program.symbols, plans);
+    find_places(program, function, items, plans);
+    Ok(())
 }
 
 /// A plan for each item of a function.
@@ -34,11 +34,20 @@ fn plans_of(
     function: &Function,
     items: &[Item],
 ) -> Result<Vec<Plan>, AllocError> {
-    let live = live_after(alloc, &program.symbols, function.first, items)?;
-    let mut plans = first_plans(alloc, &live)?;
-    fuse(items, &program.symbols, plans.as_mut_slice());
-    find_places(program, function, items, plans.as_mut_slice());
+    let mut plans = vec![in alloc; Plan::new(); items.len()]?;
+    plan_items(alloc, program, function, items, plans.as_mut_slice())?;
     Ok(plans)
+}
+
+/// Adds the name of a source file, which stands in quotes.
+fn put_file(out: &mut Output, quoted: &[u8]) -> Result<(), AllocError> {
+    out.put("; ")?;
+    for byte in quoted {
+        if *byte != b'"' {
+            out.text.push(*byte)?;
+        }
+    }
+    Ok(())
 }
 
 /// Tells the line of the source file that the next statements come from.
@@ -49,19 +58,54 @@ fn tell_line(
     file: u32,
     line: u32,
 ) -> Result<(), AllocError> {
-    let Some(name) = program.files.get(&file_key(unit, file)) else {
-        return Ok(());
-    };
-    if name.len() > LONGEST_NAME {
-        return Ok(());
+    match program.files.get(&file_key(unit, file)) {
+        Some(name) if name.len() <= LONGEST_NAME => {
+            put_file(out, name)?;
+            out.filled(":@\n", i64::from(line), &[])
+        }
+        _ => Ok(()),
     }
-    out.put("; ")?;
-    for byte in *name {
-        if *byte != b'"' {
-            out.text.push(*byte)?;
+}
+
+/// Adds a label that something names.
+fn put_label(out: &mut Output, program: &Program, label: u32) -> Result<(), AllocError> {
+    if program.symbols.is_used(label) {
+        out.label(&program.symbols, label)?;
+    }
+    Ok(())
+}
+
+/// Translates an item of a function by its plan. `told` is the file and the line that were told last.
+fn put_item(
+    out: &mut Output,
+    program: &Program,
+    function: &Function,
+    item: Item,
+    plan: Plan,
+    told: &mut (u32, u32),
+) -> Result<(), AllocError> {
+    match item {
+        Item::Label(label) => put_label(out, program, label),
+        Item::Location { file, line } => {
+            if *told == (file, line) {
+                return Ok(());
+            }
+            *told = (file, line);
+            tell_line(out, program, function.unit, file, line)
+        }
+        Item::Code {
+            instruction,
+            symbol,
+            ..
+        } => {
+            let planned = Planned {
+                instruction,
+                symbol,
+                plan,
+            };
+            translate_statement(out, program, function, &planned)
         }
     }
-    out.filled(":%\n", &[i64::from(line)])
 }
 
 /// Translates the items of a function by their plans.
@@ -72,33 +116,10 @@ fn put_items(
     items: &[Item],
     plans: &[Plan],
 ) -> Result<(), AllocError> {
+    out.label(&program.symbols, function.symbol)?;
     let mut told = (0u32, 0u32);
     for (item, plan) in items.iter().zip(plans.iter()) {
-        match item {
-            Item::Label(label) => {
-                if program.symbols.is_used(*label) {
-                    out.label(&program.symbols, *label)?;
-                }
-            }
-            Item::Location { file, line } => {
-                if told != (*file, *line) {
-                    tell_line(out, program, function.unit, *file, *line)?;
-                    told = (*file, *line);
-                }
-            }
-            Item::Code {
-                instruction,
-                symbol,
-                ..
-            } => {
-                let planned = Planned {
-                    instruction,
-                    symbol: *symbol,
-                    plan,
-                };
-                translate_statement(out, program, function, &planned)?;
-            }
-        }
+        put_item(out, program, function, *item, *plan, &mut told)?;
     }
     Ok(())
 }
@@ -112,6 +133,5 @@ pub(crate) fn translate_function(
 ) -> Result<(), AllocError> {
     let items = program.items_of(function);
     let plans = plans_of(alloc, program, function, items)?;
-    out.label(&program.symbols, function.symbol)?;
     put_items(out, program, function, items, &plans)
 }

@@ -1,26 +1,21 @@
 //! Which registers are read behind each item of a function.
 
 use crate::effects::{ALL, ARGUMENTS, RETURNED, kills, reads};
+use crate::plan::Plan;
 use cc_lines::{Instruction, LinkFrom, Register};
 use cc_program::{Item, Meaning, Symbols};
 use cc_rules::index_within;
 use std::alloc::{AllocError, Global};
 
-/// What is read from each item of a function on, and behind each.
-#[derive(Drop)]
-struct Live {
-    before: Vec<u64>,
-    after: Vec<u64>,
-}
-
-/// What is read from where a symbol is on, in a function whose first item has this number.
-fn at_target(live: &Live, symbols: &Symbols, first: usize, symbol: Option<u32>) -> u64 {
+/// What is read from where a symbol is on, in a function whose first item has this number, where `before` has what is read
+/// from each of its items on.
+fn at_target(before: &[u64], symbols: &Symbols, first: usize, symbol: Option<u32>) -> u64 {
     let Some(symbol) = symbol else {
         return ALL;
     };
     match symbols.meaning(symbol) {
         Meaning::Place { item, .. } => match index_within(first, item) {
-            Some(index) => live.before.get(index).copied().unwrap_or(ALL),
+            Some(index) => before.get(index).copied().unwrap_or(ALL),
             None => ALL,
         },
         Meaning::Function(_) => ARGUMENTS | RETURNED,
@@ -28,82 +23,102 @@ fn at_target(live: &Live, symbols: &Symbols, first: usize, symbol: Option<u32>) 
     }
 }
 
+/// What is read behind a jump to what a register holds.
+fn behind_return(register: Register) -> u64 {
+    if register == Register::LINK { 0 } else { ALL }
+}
+
 /// What is read behind an instruction, where `next` is read from the next one on.
 fn behind(
-    live: &Live,
+    before: &[u64],
     symbols: &Symbols,
     first: usize,
     instruction: &Instruction,
     symbol: Option<u32>,
     next: u64,
 ) -> u64 {
-    match instruction {
-        Instruction::Jump(LinkFrom::Symbol) => at_target(live, symbols, first, symbol),
-        Instruction::Jump(LinkFrom::Register(r)) => { if *r == Register::LINK { 0 } else { ALL } }
-        Instruction::Branch { .. } => next | at_target(live, symbols, first, symbol),
+    match *instruction {
+        Instruction::Jump(LinkFrom::Symbol) => at_target(before, symbols, first, symbol),
+        Instruction::Jump(LinkFrom::Register(register)) => behind_return(register),
+        Instruction::Branch { .. } => next | at_target(before, symbols, first, symbol),
         _ => next,
     }
 }
 
 /// Goes over the items once, from the last to the first. Answers whether anything changed.
-fn round(live: &mut Live, symbols: &Symbols, first: usize, items: &[Item]) -> bool {
+fn round(
+    before: &mut [u64],
+    symbols: &Symbols,
+    first: usize,
+    items: &[Item],
+    plans: &mut [Plan],
+) -> bool {
     let mut changed = false;
     let mut next = ALL;
     for i in (0..items.len()).rev() {
-        let (out, new) = match items.get(i) {
-            Some(
-                Item::Code {
-                    instruction,
-                    symbol,
-                    ..
-                },
-            ) => {
-                let out = behind(live, symbols, first, instruction, *symbol, next);
-                (out, (out & !kills(instruction)) | reads(instruction))
-            }
-            _ => (next, next),
-        };
-        if let Some(after) = live.after.as_mut_slice().get_mut(i) {
-            *after = out;
+        let mut live = next;
+        if let Some(
+            Item::Code {
+                instruction,
+                symbol,
+                ..
+            },
+        ) = items.get(i)
+        {
+            live = behind(before, symbols, first, instruction, *symbol, next);
+            next = (live & !kills(instruction)) | reads(instruction);
         }
-        if let Some(before) = live.before.as_mut_slice().get_mut(i) {
-            if *before != new {
-                *before = new;
-                changed = true;
-            }
+        if let Some(plan) = plans.get_mut(i) {
+            plan.live = live;
         }
-        next = new;
+        changed |= note(before, i, next);
     }
     changed
+}
+
+/// Notes what is read from an item on. Answers whether that is news.
+fn note(before: &mut [u64], number: usize, read: u64) -> bool {
+    match before.get_mut(number) {
+        Some(known) if *known != read => {
+            *known = read;
+            true
+        }
+        _ => false,
+    }
 }
 
 /// How often the items are gone over at most.
 const MOST_ROUNDS: u32 = 1000;
 
-/// Which registers are read behind each item of a function whose first item has this number.
-pub(crate) fn live_after(
+/// Goes over the items until nothing changes. Answers whether it came to that.
+fn settle(
+    before: &mut [u64],
+    symbols: &Symbols,
+    first: usize,
+    items: &[Item],
+    plans: &mut [Plan],
+) -> bool {
+    for _ in 0..MOST_ROUNDS {
+        if !round(before, symbols, first, items, plans) {
+            return true;
+        }
+    }
+    false
+}
+
+/// Lets the plan of each item of a function, whose first item has this number, say which registers are read behind it.
+pub(crate) fn note_live(
     alloc: Global,
     symbols: &Symbols,
     first: usize,
     items: &[Item],
-) -> Result<Vec<u64>, AllocError> {
-    let mut live = Live {
-        before: vec![in alloc; 0u64; items.len()]?,
-        after: vec![in alloc; 0u64; items.len()]?,
-    };
-    let mut settled = false;
-    for _ in 0..MOST_ROUNDS {
-        if !round(&mut live, symbols, first, items) {
-            settled = true;
-            break;
+    plans: &mut [Plan],
+) -> Result<(), AllocError> {
+    let mut before = vec![in alloc; 0u64; items.len()]?;
+    if !settle(before.as_mut_slice(), symbols, first, items, plans) {
+        for plan in plans.iter_mut() {
+            plan.live = ALL;
         }
     }
-    let Live {
-        before: _,
-        mut after,
-    } = live;
-    if !settled {
-        after.fill(ALL);
-    }
-    Ok(after)
+    Ok(())
 }

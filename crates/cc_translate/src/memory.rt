@@ -8,18 +8,13 @@ use cc_program::Function;
 use cc_rules::signed;
 use std::alloc::AllocError;
 
-/// Registers for what a statement needs between its words.
+/// Registers for what a statement needs between its words. Texts of several statements name them as r1, r26 and r27, and r22
+/// where three are not enough.
 pub(crate) const FIRST: u8 = 1;
 
 pub(crate) const SECOND: u8 = 26;
 
-pub(crate) const THIRD: u8 = 27;
-
-/// One more, where three are not enough.
-const FOURTH: u8 = 22;
-
-/// The first three, as they stand in statements.
-const SCRATCH: [i64; 3] = [FIRST as i64, SECOND as i64, THIRD as i64];
+const THIRD: u8 = 27;
 
 /// The word of the input.
 const INPUT_WORD: u32 = 254;
@@ -40,31 +35,33 @@ enum Part {
     By(u8),
 }
 
+/// Whether a statement holds a number.
+fn is_short(number: i64) -> bool {
+    number >= -65536 && number <= 65535
+}
+
 /// Puts a number into a register.
 pub(crate) fn constant(out: &mut Output, value: u32, rd: u8) -> Result<(), AllocError> {
     let number = signed(value);
-    if number >= -65536 && number <= 65535 {
-        return out.statement("addi r0,#%,r%", &[number, i64::from(rd)]);
+    if is_short(number) {
+        return out.statement_with("addi r0,#@,r%", number, &[rd]);
     }
     out.numbers.insert(value)?;
-    out.statement("ld k.%[r0],r%", &[i64::from(value), i64::from(rd)])
+    out.statement_with("ld k.@[r0],r%", i64::from(value), &[rd])
 }
 
 /// Adds a number to a register.
 pub(crate) fn add_constant(out: &mut Output, rs: u8, value: u32, rd: u8) -> Result<(), AllocError> {
     let number = signed(value);
-    if number >= -65536 && number <= 65535 {
-        return out.statement("addi r%,#%,r%", &[i64::from(rs), number, i64::from(rd)]);
+    if is_short(number) {
+        return out.statement_with("addi r%,#@,r%", number, &[rs, rd]);
     }
     if rs == 0 {
         return constant(out, value, rd);
     }
     let with = if rd == rs || rd == 0 { FIRST } else { rd };
     constant(out, value, with)?;
-    out.statement(
-        "add r%,r%,r%",
-        &[i64::from(rs), i64::from(with), i64::from(rd)],
-    )
+    out.statement("add r%,r%,r%", &[rs, with, rd])
 }
 
 /// Copies a register.
@@ -72,10 +69,21 @@ pub(crate) fn copy(out: &mut Output, rs: u8, rd: u8) -> Result<(), AllocError> {
     if rs == rd || rd == 0 {
         return Ok(());
     }
-    out.statement("mov r%,r%", &[i64::from(rs), i64::from(rd)])
+    out.statement("mov r%,r%", &[rs, rd])
 }
 
-/// Computes the address of a far datum, and a quarter of it, where the datum is one.
+/// Computes the address of a far datum, and a quarter of it.
+fn far_spot(out: &mut Output, base: u8, bytes: u32) -> Result<Spot, AllocError> {
+    add_constant(out, base, bytes, FIRST)?;
+    out.statement("asr r1,#2,r26", &[])?;
+    Ok(Spot {
+        base: SECOND,
+        words: 0,
+        part: Part::By(FIRST),
+    })
+}
+
+/// The word of a place, whose address is computed where the datum is far.
 fn spot_of(out: &mut Output, place: Place) -> Result<Spot, AllocError> {
     match place {
         Place::Byte { base, words, byte } => Ok(Spot {
@@ -88,35 +96,21 @@ fn spot_of(out: &mut Output, place: Place) -> Result<Spot, AllocError> {
             words,
             part: Part::By(by),
         }),
-        Place::Far { base, bytes } => {
-            add_constant(out, base, bytes, FIRST)?;
-            out.statement("asr r%,#2,r%", &[i64::from(FIRST), i64::from(SECOND)])?;
-            Ok(Spot {
-                base: SECOND,
-                words: 0,
-                part: Part::By(FIRST),
-            })
-        }
+        Place::Far { base, bytes } => far_spot(out, base, bytes),
     }
 }
 
 /// Loads the word of a spot.
-fn load(out: &mut Output, spot: &Spot, rd: u8) -> Result<(), AllocError> {
+fn load(out: &mut Output, spot: Spot, rd: u8) -> Result<(), AllocError> {
     if spot.base == 0 && spot.words == INPUT_WORD {
         out.input = true;
     }
-    out.statement(
-        "ld %[r%],r%",
-        &[signed(spot.words), i64::from(spot.base), i64::from(rd)],
-    )
+    out.statement_with("ld @[r%],r%", signed(spot.words), &[spot.base, rd])
 }
 
 /// Stores the word of a spot.
-fn store(out: &mut Output, spot: &Spot, rs: u8) -> Result<(), AllocError> {
-    out.statement(
-        "st %[r%],r%",
-        &[signed(spot.words), i64::from(spot.base), i64::from(rs)],
-    )
+fn store(out: &mut Output, spot: Spot, rs: u8) -> Result<(), AllocError> {
+    out.statement_with("st @[r%],r%", signed(spot.words), &[spot.base, rs])
 }
 
 /// Whether this is the load of the link that a function saved: the word is cleared behind it, as later code may use it byte
@@ -125,60 +119,52 @@ fn restores_link(function: &Function, rd: Register, base: Register, offset: u32)
     rd == Register::LINK && base == Register::STACK && function.saved_link == Some(offset)
 }
 
-/// Loads a word.
+/// Loads a word, which may be the link that the function saved.
 fn load_word(
     out: &mut Output,
-    function: &Function,
+    place: Place,
     rd: Register,
-    base: Register,
-    offset: u32,
-    spot: &Spot,
+    is_link: bool,
 ) -> Result<(), AllocError> {
+    let spot = spot_of(out, place)?;
     load(out, spot, rd.0)?;
-    if restores_link(function, rd, base, offset) {
+    if is_link {
         return store(out, spot, 0);
     }
     if rd == Register::STACK {
-        return out.statement("asr r29,#2,r%", &[i64::from(STACK_WORDS)]);
+        return out.statement("asr r29,#2,r%", &[STACK_WORDS]);
     }
     Ok(())
 }
 
 /// The register that takes a word of which a part is loaded: the part's own, if that is free.
-fn part_register(spot: &Spot, rd: u8) -> u8 {
-    match spot.part {
+fn part_register(part: Part, rd: u8) -> u8 {
+    match part {
         Part::By(FIRST) if rd == FIRST || rd == 0 => SECOND,
         Part::By(by) if rd == by || rd == 0 => FIRST,
         _ => rd,
     }
 }
 
-/// Loads so many bits, from the top of the turned word.
-fn load_part(
-    out: &mut Output,
-    rd: u8,
-    place: Place,
-    bits: u8,
-    extended: bool,
-) -> Result<(), AllocError> {
-    let spot = spot_of(out, place)?;
-    let t = part_register(&spot, rd);
-    let word = i64::from(t);
-    load(out, &spot, t)?;
-    match spot.part {
-        Part::Byte(0) => {}
-        Part::Byte(byte) => out.statement(
-            "sh r0,r%,#%,r%",
-            &[word, 32 - 8 * i64::from(byte), word],
-        )?,
-        Part::By(by) => out.statement("rotlb r%,r%,r%", &[word, i64::from(by), word])?,
+/// Turns a word so that a part of it is at its top.
+fn turn_to_top(out: &mut Output, part: Part, word: u8) -> Result<(), AllocError> {
+    match part {
+        Part::Byte(0) => Ok(()),
+        Part::Byte(byte) => {
+            let bits = 32 - 8 * i64::from(byte);
+            out.statement_with("sh r0,r%,#@,r%", bits, &[word, word])
+        }
+        Part::By(by) => out.statement("rotlb r%,r%,r%", &[word, by, word]),
     }
-    let text = if extended {
-        "asr r%,#%,r%"
-    } else {
-        "sh r%,r0,#%,r%"
-    };
-    out.statement(text, &[word, 32 - i64::from(bits), i64::from(rd)])
+}
+
+/// Loads a part of a word, which a statement takes from the top of the turned word.
+fn load_part(out: &mut Output, rd: u8, place: Place, taking: &str) -> Result<(), AllocError> {
+    let spot = spot_of(out, place)?;
+    let word = part_register(spot.part, rd);
+    load(out, spot, word)?;
+    turn_to_top(out, spot.part, word)?;
+    out.statement(taking, &[word, rd])
 }
 
 /// Turns a register to the right by so many bits.
@@ -186,141 +172,130 @@ fn turn(out: &mut Output, register: u8, bits: i64) -> Result<(), AllocError> {
     if bits == 0 || bits == 32 {
         return Ok(());
     }
-    let r = i64::from(register);
-    out.statement("sh r%,r%,#%,r%", &[r, r, bits, r])
+    out.statement_with("sh r%,r%,#@,r%", bits, &[register, register, register])
 }
 
 /// Puts so many low bits of a register into a word, from the byte with this number on.
-fn insert_at(out: &mut Output, t: u8, rs: i64, byte: u8, bits: u8) -> Result<(), AllocError> {
-    let (word, count) = (i64::from(t), i64::from(bits));
+fn insert_at(out: &mut Output, word: u8, rs: u8, byte: u8, bits: u8) -> Result<(), AllocError> {
     let before = 8 * i64::from(byte);
-    turn(out, t, 32 - count - before)?;
-    out.statement("sh r%,r%,#%,r%", &[word, rs, count, word])?;
-    turn(out, t, before)
+    turn(out, word, 32 - i64::from(bits) - before)?;
+    out.statement("sh r%,r%,#%,r%", &[word, rs, bits, word])?;
+    turn(out, word, before)
 }
 
-/// Puts so many low bits of a register into a word, from the byte on that the low bits of another register tell.
-fn insert_by(out: &mut Output, word: i64, rs: i64, by: i64, bits: u8) -> Result<(), AllocError> {
-    let count = i64::from(bits);
+/// Puts the low byte of a register into a word, at the byte that the low bits of another register tell.
+fn insert_byte_by(out: &mut Output, word: u8, rs: u8, by: u8) -> Result<(), AllocError> {
     out.lines(
         "        rotlb r%,r%,r%
-        sh r0,r%,#%,r%
-        sh r%,r%,#%,r%
+        sh r0,r%,#24,r%
+        sh r%,r%,#8,r%
+        sub r0,r%,r1
+        rotlb r%,r1,r%
 ",
-        &[
-            word,
-            by,
-            word,
-            word,
-            32 - count,
-            word,
-            word,
-            rs,
-            count,
-            word,
-        ],
-    )?;
-    if bits != 8 {
-        return out.statement("rotlb r%,r%,r%", &[word, by, word]);
-    }
-    let back = i64::from(FIRST);
+        &[word, by, word, word, word, word, rs, word, by, word, word],
+    )
+}
+
+/// Puts the low half of a register into a word, from the byte on that the low bits of another register tell.
+fn insert_half_by(out: &mut Output, word: u8, rs: u8, by: u8) -> Result<(), AllocError> {
     out.lines(
-        "        sub r0,r%,r%
+        "        rotlb r%,r%,r%
+        sh r0,r%,#16,r%
+        sh r%,r%,#16,r%
         rotlb r%,r%,r%
 ",
-        &[by, back, word, back, word],
+        &[word, by, word, word, word, word, rs, word, word, by, word],
     )
+}
+
+/// Puts so many low bits of a register, 8 or 16, into a word.
+fn insert(out: &mut Output, part: Part, word: u8, rs: u8, bits: u8) -> Result<(), AllocError> {
+    match part {
+        Part::Byte(byte) => insert_at(out, word, rs, byte, bits),
+        Part::By(by) if bits == 8 => insert_byte_by(out, word, rs, by),
+        Part::By(by) => insert_half_by(out, word, rs, by),
+    }
 }
 
 /// Stores so many low bits of a register.
 fn store_part(out: &mut Output, rs: u8, place: Place, bits: u8) -> Result<(), AllocError> {
     let spot = spot_of(out, place)?;
-    let t = if spot.base == SECOND { THIRD } else { SECOND };
-    let from = i64::from(rs);
-    load(out, &spot, t)?;
-    match spot.part {
-        Part::Byte(byte) => insert_at(out, t, from, byte, bits)?,
-        Part::By(by) => insert_by(out, i64::from(t), from, i64::from(by), bits)?,
-    }
-    store(out, &spot, t)
+    let word = if spot.base == SECOND { THIRD } else { SECOND };
+    load(out, spot, word)?;
+    insert(out, spot.part, word, rs, bits)?;
+    store(out, spot, word)
 }
 
-/// The number of a byte in its word, to the third register, and the table's word for it.
-fn mask_for(out: &mut Output, mask: Mask) -> Result<(), AllocError> {
-    let [a, _, m] = SCRATCH;
+/// `lwl`: it loads from the address in r1. A word of a table says which bits the register keeps.
+const LOAD_LEFT: &str = "        asr r1,#2,r26
+        ld 0[r26],r26
+        rotlb r26,r1,r26
+        sh r0,r1,#2,r27
+        sh r27,r0,#30,r27
+        ld t.lwl[r27],r27
+        and r%,r27,r%
+        bic r26,r27,r26
+        or r%,r26,r%
+";
+
+/// `lwr` likewise.
+const LOAD_RIGHT: &str = "        asr r1,#2,r26
+        ld 0[r26],r26
+        addi r1,#1,r27
+        rotlb r26,r27,r26
+        sh r0,r1,#2,r27
+        sh r27,r0,#30,r27
+        ld t.lwr[r27],r27
+        and r%,r27,r%
+        bic r26,r27,r26
+        or r%,r26,r%
+";
+
+/// `swl`: it stores to the address in r1. A word of a table says which bits come from the register.
+const STORE_LEFT: &str = "        sub r0,r1,r26
+        rotlb r%,r26,r26
+        sh r0,r1,#2,r27
+        sh r27,r0,#30,r27
+        ld t.swl[r27],r27
+        asr r1,#2,r1
+        ld 0[r1],r22
+        and r26,r27,r26
+        bic r22,r27,r22
+        or r26,r22,r26
+        st 0[r1],r26
+";
+
+/// `swr` likewise.
+const STORE_RIGHT: &str = "        not r1,r26
+        rotlb r%,r26,r26
+        sh r0,r1,#2,r27
+        sh r27,r0,#30,r27
+        ld t.swr[r27],r27
+        asr r1,#2,r1
+        ld 0[r1],r22
+        and r26,r27,r26
+        bic r22,r27,r22
+        or r26,r22,r26
+        st 0[r1],r26
+";
+
+/// The statements of `lwl`, `lwr`, `swl` or `swr`.
+fn unaligned_text(mask: Mask) -> &'static str {
+    match mask {
+        Mask::LoadLeft => LOAD_LEFT,
+        Mask::LoadRight => LOAD_RIGHT,
+        Mask::StoreLeft => STORE_LEFT,
+        Mask::StoreRight => STORE_RIGHT,
+    }
+}
+
+/// `lwl`, `lwr`, `swl` and `swr`.
+fn unaligned(out: &mut Output, register: u8, place: Place, mask: Mask) -> Result<(), AllocError> {
+    if let Place::Far { base, bytes } = place {
+        add_constant(out, base, bytes, FIRST)?;
+    }
     out.need_mask(mask)?;
-    out.lines(
-        "        sh r0,r%,#2,r%
-        sh r%,r0,#30,r%
-        ld ",
-        &[a, m, m, m],
-    )?;
-    out.put(mask.name())?;
-    out.lines("[r%],r%\n", &[m, m])
-}
-
-/// The address of an unaligned datum, to the first register.
-fn far_address(out: &mut Output, place: Place) -> Result<(), AllocError> {
-    match place {
-        Place::Far { base, bytes } => add_constant(out, base, bytes, FIRST),
-        _ => Ok(()),
-    }
-}
-
-/// `lwl` and `lwr`.
-fn load_unaligned(out: &mut Output, rd: u8, place: Place, mask: Mask) -> Result<(), AllocError> {
-    let [a, x, m] = SCRATCH;
-    let d = i64::from(rd);
-    far_address(out, place)?;
-    out.lines(
-        "        asr r%,#2,r%
-        ld 0[r%],r%
-",
-        &[a, x, x, x],
-    )?;
-    if mask == Mask::LoadRight {
-        out.lines(
-            "        addi r%,#1,r%
-        rotlb r%,r%,r%
-",
-            &[a, m, x, m, x],
-        )?;
-    } else {
-        out.statement("rotlb r%,r%,r%", &[x, a, x])?;
-    }
-    mask_for(out, mask)?;
-    out.lines(
-        "        and r%,r%,r%
-        bic r%,r%,r%
-        or r%,r%,r%
-",
-        &[d, m, d, x, m, x, d, x, d],
-    )
-}
-
-/// `swl` and `swr`.
-fn store_unaligned(out: &mut Output, rs: u8, place: Place, mask: Mask) -> Result<(), AllocError> {
-    let [a, t, m] = SCRATCH;
-    let w = i64::from(FOURTH);
-    far_address(out, place)?;
-    let turned = if mask == Mask::StoreLeft {
-        "sub r0,r%,r%"
-    } else {
-        "not r%,r%"
-    };
-    out.statement(turned, &[a, t])?;
-    out.statement("rotlb r%,r%,r%", &[i64::from(rs), t, t])?;
-    mask_for(out, mask)?;
-    out.lines(
-        "        asr r%,#2,r%
-        ld 0[r%],r%
-        and r%,r%,r%
-        bic r%,r%,r%
-        or r%,r%,r%
-        st 0[r%],r%
-",
-        &[a, a, a, w, t, m, t, w, m, w, t, w, t, a, t],
-    )
+    out.lines(unaligned_text(mask), &[register; 4])
 }
 
 /// A load from a place, which the base and the offset without the symbol's address were told of.
@@ -334,15 +309,20 @@ pub(crate) fn load_statement(
     place: Place,
 ) -> Result<(), AllocError> {
     match width {
-        Width::Byte { signed } => load_part(out, rd.0, place, 8, signed),
-        Width::Half { signed } => load_part(out, rd.0, place, 16, signed),
-        Width::Word => {
-            let spot = spot_of(out, place)?;
-            load_word(out, function, rd, base, offset, &spot)
-        }
-        Width::Left => load_unaligned(out, rd.0, place, Mask::LoadLeft),
-        Width::Right => load_unaligned(out, rd.0, place, Mask::LoadRight),
+        Width::Byte { signed: true } => load_part(out, rd.0, place, "asr r%,#24,r%"),
+        Width::Byte { signed: false } => load_part(out, rd.0, place, "sh r%,r0,#24,r%"),
+        Width::Half { signed: true } => load_part(out, rd.0, place, "asr r%,#16,r%"),
+        Width::Half { signed: false } => load_part(out, rd.0, place, "sh r%,r0,#16,r%"),
+        Width::Word => load_word(out, place, rd, restores_link(function, rd, base, offset)),
+        Width::Left => unaligned(out, rd.0, place, Mask::LoadLeft),
+        Width::Right => unaligned(out, rd.0, place, Mask::LoadRight),
     }
+}
+
+/// Stores a word.
+fn store_word(out: &mut Output, rs: u8, place: Place) -> Result<(), AllocError> {
+    let spot = spot_of(out, place)?;
+    store(out, spot, rs)
 }
 
 /// A store to a place.
@@ -355,18 +335,15 @@ pub(crate) fn store_statement(
     match width {
         Width::Byte { .. } => store_part(out, rs.0, place, 8),
         Width::Half { .. } => store_part(out, rs.0, place, 16),
-        Width::Word => {
-            let spot = spot_of(out, place)?;
-            store(out, &spot, rs.0)
-        }
-        Width::Left => store_unaligned(out, rs.0, place, Mask::StoreLeft),
-        Width::Right => store_unaligned(out, rs.0, place, Mask::StoreRight),
+        Width::Word => store_word(out, rs.0, place),
+        Width::Left => unaligned(out, rs.0, place, Mask::StoreLeft),
+        Width::Right => unaligned(out, rs.0, place, Mask::StoreRight),
     }
 }
 
 /// Goes to the place that the descriptor at a place holds; register 31 takes the link.
 pub(crate) fn call_at(out: &mut Output, place: Place) -> Result<(), AllocError> {
     let spot = spot_of(out, place)?;
-    load(out, &spot, SECOND)?;
-    out.statement("callr r%,r31", &[i64::from(SECOND)])
+    load(out, spot, SECOND)?;
+    out.statement("callr r%,r31", &[SECOND])
 }

@@ -19,18 +19,19 @@ pub(crate) enum Routine {
     ShiftArithmetic,
 }
 
-impl Routine {
-    pub(crate) const ALL: [Routine; 8] = [
-        Routine::Low,
-        Routine::SignedProduct,
-        Routine::Product,
-        Routine::SignedQuotient,
-        Routine::Quotient,
-        Routine::ShiftLeft,
-        Routine::ShiftRight,
-        Routine::ShiftArithmetic,
-    ];
+/// All routines, in the order in which they stand in the text.
+pub(crate) static ROUTINES: [Routine; 8] = [
+    Routine::Low,
+    Routine::SignedProduct,
+    Routine::Product,
+    Routine::SignedQuotient,
+    Routine::Quotient,
+    Routine::ShiftLeft,
+    Routine::ShiftRight,
+    Routine::ShiftArithmetic,
+];
 
+impl Routine {
     /// Its label.
     pub(crate) fn name(self) -> &'static str {
         match self {
@@ -55,14 +56,15 @@ pub(crate) enum Mask {
     StoreRight,
 }
 
-impl Mask {
-    pub(crate) const ALL: [Mask; 4] = [
-        Mask::LoadLeft,
-        Mask::LoadRight,
-        Mask::StoreLeft,
-        Mask::StoreRight,
-    ];
+/// All tables, in the order in which they stand in the text.
+pub(crate) static MASKS: [Mask; 4] = [
+    Mask::LoadLeft,
+    Mask::LoadRight,
+    Mask::StoreLeft,
+    Mask::StoreRight,
+];
 
+impl Mask {
     /// Its label.
     pub(crate) fn name(self) -> &'static str {
         match self {
@@ -93,8 +95,8 @@ pub(crate) struct Output {
     pub numbers: IndexSet<u32>,
     /// The addends to the first byte behind all data that statements load from data.
     pub ends: IndexSet<u32>,
-    pub routines: Vec<Routine>,
-    pub masks: Vec<Mask>,
+    routines: Vec<Routine>,
+    masks: Vec<Mask>,
     /// How many labels of its own it has.
     pub labels: u32,
     /// Whether it reads input.
@@ -141,14 +143,21 @@ impl Output {
             .extend_from_slice(Buffer::new().format(value).as_bytes())
     }
 
-    /// Adds text in which each `%` stands for the next of these numbers.
-    pub(crate) fn filled(&mut self, text: &str, numbers: &[i64]) -> Result<(), AllocError> {
-        let mut left = numbers.iter();
+    /// Adds text in which each `%` stands for the next of these counts, as registers are told, and each `@` for a number.
+    pub(crate) fn filled(
+        &mut self,
+        text: &str,
+        number: i64,
+        counts: &[u8],
+    ) -> Result<(), AllocError> {
+        let mut left = counts.iter();
         for byte in text.as_bytes() {
             if *byte == b'%' {
-                if let Some(value) = left.next() {
-                    self.number(*value)?;
+                if let Some(count) = left.next() {
+                    self.number(i64::from(*count))?;
                 }
+            } else if *byte == b'@' {
+                self.number(number)?;
             } else {
                 self.text.push(*byte)?;
             }
@@ -156,60 +165,93 @@ impl Output {
         Ok(())
     }
 
-    /// Adds lines, in which each `%` stands for the next of these numbers: statements, and labels.
-    pub(crate) fn lines(&mut self, text: &str, numbers: &[i64]) -> Result<(), AllocError> {
-        self.filled(text, numbers)?;
+    /// Adds lines, in which each `%` stands for the next of these counts, and each `@` for a number: statements, and labels.
+    pub(crate) fn lines_with(
+        &mut self,
+        text: &str,
+        number: i64,
+        counts: &[u8],
+    ) -> Result<(), AllocError> {
         self.statements = self.statements.saturating_add(statements_in(text));
-        Ok(())
+        self.filled(text, number, counts)
     }
 
-    /// Adds a statement, in which each `%` stands for the next of these numbers.
-    pub(crate) fn statement(&mut self, text: &str, numbers: &[i64]) -> Result<(), AllocError> {
+    /// Adds lines, in which each `%` stands for the next of these counts.
+    pub(crate) fn lines(&mut self, text: &str, counts: &[u8]) -> Result<(), AllocError> {
+        self.lines_with(text, 0, counts)
+    }
+
+    /// Adds a statement, in which each `%` stands for the next of these counts, and each `@` for a number.
+    pub(crate) fn statement_with(
+        &mut self,
+        text: &str,
+        number: i64,
+        counts: &[u8],
+    ) -> Result<(), AllocError> {
         self.put("        ")?;
-        self.filled(text, numbers)?;
+        self.filled(text, number, counts)?;
         self.lines("\n", &[])
+    }
+
+    /// Adds a statement, in which each `%` stands for the next of these counts.
+    pub(crate) fn statement(&mut self, text: &str, counts: &[u8]) -> Result<(), AllocError> {
+        self.statement_with(text, 0, counts)
     }
 
     /// Adds a statement that ends with the name of a symbol and what follows it up to the end of the line.
     pub(crate) fn statement_to(
         &mut self,
         text: &str,
-        numbers: &[i64],
+        counts: &[u8],
         symbols: &Symbols,
         symbol: u32,
         behind: &str,
     ) -> Result<(), AllocError> {
         self.put("        ")?;
-        self.filled(text, numbers)?;
+        self.filled(text, 0, counts)?;
         self.name(symbols, symbol)?;
         self.lines(behind, &[])
     }
 
-    /// Adds the name that a symbol has in the source: with a `_` before a name of C, and the number of its text behind it
-    /// where it is that text's own.
-    pub(crate) fn name(&mut self, symbols: &Symbols, number: u32) -> Result<(), AllocError> {
-        let Some(symbol) = symbols.at(symbols.resolved(number)) else {
-            return Ok(());
-        };
-        let (rest, local) = match symbol.name {
-            [b'$', rest @ ..] => (rest, true),
-            name => (name, false),
-        };
-        if !local {
-            self.put("_")?;
-        }
-        for byte in rest {
+    /// Adds the letters of a name.
+    fn letters(&mut self, name: &[u8]) -> Result<(), AllocError> {
+        for byte in name {
             if *byte == b'$' {
                 self.put(".S.")?;
             } else {
                 self.text.push(*byte)?;
             }
         }
-        if local || symbol.owner != 0 {
-            self.put(if local { "." } else { ".." })?;
-            self.number(i64::from(symbol.owner))?;
-        }
         Ok(())
+    }
+
+    /// Adds dots and the number of a text.
+    fn owner(&mut self, dots: &str, owner: u32) -> Result<(), AllocError> {
+        self.put(dots)?;
+        self.number(i64::from(owner))
+    }
+
+    /// Adds the name of a symbol that belongs to the text with this number, or to all where that is 0.
+    fn owned_name(&mut self, name: &[u8], owner: u32) -> Result<(), AllocError> {
+        if let [b'$', rest @ ..] = name {
+            self.letters(rest)?;
+            return self.owner(".", owner);
+        }
+        self.put("_")?;
+        self.letters(name)?;
+        if owner == 0 {
+            return Ok(());
+        }
+        self.owner("..", owner)
+    }
+
+    /// Adds the name that a symbol has in the source: with a `_` before a name of C, and the number of its text behind it
+    /// where it is that text's own.
+    pub(crate) fn name(&mut self, symbols: &Symbols, number: u32) -> Result<(), AllocError> {
+        match symbols.at(symbols.resolved(number)) {
+            Some(symbol) => self.owned_name(symbol.name, symbol.owner),
+            None => Ok(()),
+        }
     }
 
     /// Adds a line with the label of a symbol.
@@ -224,9 +266,19 @@ impl Output {
         self.labels
     }
 
+    /// Whether a routine is called.
+    pub(crate) fn needs(&self, routine: Routine) -> bool {
+        self.routines.contains(&routine)
+    }
+
+    /// Whether a table is read.
+    pub(crate) fn needs_mask(&self, mask: Mask) -> bool {
+        self.masks.contains(&mask)
+    }
+
     /// Notes that a routine is called.
     pub(crate) fn need(&mut self, routine: Routine) -> Result<(), AllocError> {
-        if !self.routines.contains(&routine) {
+        if !self.needs(routine) {
             self.routines.push(routine)?;
         }
         Ok(())
@@ -234,7 +286,7 @@ impl Output {
 
     /// Notes that a table is read.
     pub(crate) fn need_mask(&mut self, mask: Mask) -> Result<(), AllocError> {
-        if !self.masks.contains(&mask) {
+        if !self.needs_mask(mask) {
             self.masks.push(mask)?;
         }
         Ok(())

@@ -13,7 +13,7 @@ pub(crate) const STACK_WORDS: u8 = 28;
 pub(crate) const FRAME_WORDS: u8 = 23;
 
 /// The registers that take quotients of pointers: the last one only in functions without a frame pointer.
-const QUOTIENTS: [u8; 3] = [22, 27, FRAME_WORDS];
+static QUOTIENTS: [u8; 3] = [22, 27, FRAME_WORDS];
 
 /// What is known of a register.
 #[derive(Clone, Copy)]
@@ -33,6 +33,15 @@ struct Knowledge {
     turn: u8,
     /// Whether register 30 is the frame pointer.
     points: bool,
+}
+
+/// Where the datum of an instruction is told to be: at an offset from a base.
+#[derive(Clone, Copy)]
+struct Datum {
+    base: Register,
+    offset: u32,
+    /// Whether it may begin anywhere in a word and end with that.
+    unaligned: bool,
 }
 
 /// The place of what is too far from all that is known: so many bytes from a register.
@@ -87,12 +96,26 @@ fn place_of_word(base: Register, from: u8, words: u32, offset: u32) -> Place {
 }
 
 impl Knowledge {
-    /// What is known where control may come from anywhere.
-    fn new(points: bool, turn: u8) -> Knowledge {
+    /// What is known at the start of a function.
+    fn new(points: bool) -> Knowledge {
         Knowledge {
             known: [Known::Nothing; 32],
-            turn,
+            turn: 0,
             points,
+        }
+    }
+
+    /// Forgets what is known of all registers, where control may come from anywhere.
+    fn forget_all(&mut self) {
+        self.known = [Known::Nothing; 32];
+    }
+
+    /// The register that holds a quarter of what another one always holds.
+    fn always_divided(&self, register: Register) -> Option<u8> {
+        match register {
+            Register::STACK => Some(STACK_WORDS),
+            Register::FRAME if self.points => Some(FRAME_WORDS),
+            _ => None,
         }
     }
 
@@ -101,23 +124,18 @@ impl Knowledge {
         if register == Register::ZERO {
             return Known::Number(0);
         }
-        if register == Register::STACK {
-            return Known::Words {
-                base: STACK_WORDS,
+        match self.always_divided(register) {
+            Some(base) => Known::Words {
+                base,
                 words: 0,
                 whole: true,
-            };
-        }
-        if register == Register::FRAME && self.points {
-            return Known::Words {
-                base: FRAME_WORDS,
-                words: 0,
-                whole: true,
-            };
-        }
-        match self.known.as_slice().get(usize::from(register.0)) {
-            Some(known) => *known,
-            None => Known::Nothing,
+            },
+            None => self
+                .known
+                .as_slice()
+                .get(usize::from(register.0))
+                .copied()
+                .unwrap_or(Known::Nothing),
         }
     }
 
@@ -154,10 +172,11 @@ impl Knowledge {
         let count = if self.points { 2 } else { 3 };
         let turn = self.turn % count;
         self.turn = (turn + 1) % count;
-        let register = match QUOTIENTS.as_slice().get(usize::from(turn)) {
-            Some(register) => *register,
-            None => 22,
-        };
+        let register = QUOTIENTS
+            .as_slice()
+            .get(usize::from(turn))
+            .copied()
+            .unwrap_or(22);
         self.forget_base(register);
         register
     }
@@ -214,20 +233,32 @@ impl Knowledge {
         }
     }
 
+    /// What is known of the sum of two registers.
+    fn sum_of(&self, rs: Register, rt: Register) -> Known {
+        if let Known::Number(value) = self.of(rs) {
+            return self.sum(rt, value);
+        }
+        match self.of(rt) {
+            Known::Number(value) => self.sum(rs, value),
+            _ => Known::Nothing,
+        }
+    }
+
+    /// What is known of a register with more bits set.
+    fn with_bits(&self, rs: Register, bits: u32) -> Known {
+        match self.of(rs) {
+            Known::Number(value) => Known::Number(value | bits),
+            _ => Known::Nothing,
+        }
+    }
+
     /// What is known of what an operation makes of a register and a second operand.
     fn computed_from(&self, op: Operation, rs: Register, second: Source) -> Known {
         match (op, second) {
-            (Operation::Add, Source::Number(n)) => self.sum(rs, n),
-            (Operation::Sub, Source::Number(n)) => self.sum(rs, n.wrapping_neg()),
-            (Operation::Add, Source::Register(rt)) => match (self.of(rs), self.of(rt)) {
-                (Known::Number(value), _) => self.sum(rt, value),
-                (_, Known::Number(value)) => self.sum(rs, value),
-                _ => Known::Nothing,
-            },
-            (Operation::Or, Source::Number(n)) => match self.of(rs) {
-                Known::Number(value) => Known::Number(value | n),
-                _ => Known::Nothing,
-            },
+            (Operation::Add, Source::Number(number)) => self.sum(rs, number),
+            (Operation::Sub, Source::Number(number)) => self.sum(rs, number.wrapping_neg()),
+            (Operation::Add, Source::Register(rt)) => self.sum_of(rs, rt),
+            (Operation::Or, Source::Number(bits)) => self.with_bits(rs, bits),
             (Operation::Or, Source::Register(Register(0))) => self.of(rs),
             _ => Known::Nothing,
         }
@@ -247,15 +278,17 @@ impl Knowledge {
         }
     }
 
-    /// Learns what an instruction does.
-    fn learn(&mut self, instruction: &Instruction, plan: &Plan, address: Option<u32>) {
-        let known = self.computed(instruction, address);
-        for register in clobbered(instruction, plan) {
-            if register != 0 && !(register == FRAME_WORDS && self.points) {
-                self.forget_base(register);
+    /// Forgets what is known by way of registers that the translation of an instruction uses for something else.
+    fn forget_clobbered(&mut self, clobbered: &[u8]) {
+        for register in clobbered {
+            if !(*register == FRAME_WORDS && self.points) {
+                self.forget_base(*register);
             }
         }
-        let written = writes(instruction);
+    }
+
+    /// Forgets what is known of registers that are written, and by way of their quarters.
+    fn forget_written(&mut self, written: u64) {
         self.forget(written);
         if written & bit(29) != 0 {
             self.forget_base(STACK_WORDS);
@@ -263,10 +296,16 @@ impl Knowledge {
         if self.points && written & bit(30) != 0 {
             self.forget_base(FRAME_WORDS);
         }
-        if let Some(rd) = target(instruction) {
-            if rd != Register::STACK && rd != Register::ZERO {
-                self.note(rd, known);
-            }
+    }
+
+    /// Learns what an instruction does.
+    fn learn(&mut self, instruction: &Instruction, plan: &Plan, address: Option<u32>) {
+        let known = self.computed(instruction, address);
+        self.forget_clobbered(clobbered(instruction, plan));
+        self.forget_written(writes(instruction));
+        match target(instruction) {
+            Some(rd) if rd != Register::STACK && rd != Register::ZERO => self.note(rd, known),
+            _ => {}
         }
     }
 }
@@ -282,9 +321,18 @@ fn target(instruction: &Instruction) -> Option<Register> {
     }
 }
 
-/// The registers of quotients that the translation of an instruction uses for something else, or 0.
-fn clobbered(instruction: &Instruction, plan: &Plan) -> [u8; 3] {
-    let far = matches!(plan.place, Some(Place::Far { .. }));
+/// Registers that statements use between their words.
+static MOST_SCRATCH: [u8; 2] = [22, 27];
+
+static SCRATCH: [u8; 1] = [27];
+
+/// Whether a load or a store is of a far datum.
+fn is_far(plan: &Plan) -> bool {
+    matches!(plan.place, Some(Place::Far { .. }))
+}
+
+/// The registers of quotients that the translation of an instruction uses for something else.
+fn clobbered(instruction: &Instruction, plan: &Plan) -> &'static [u8] {
     match *instruction {
         Instruction::Load {
             width: Width::Left | Width::Right,
@@ -293,19 +341,19 @@ fn clobbered(instruction: &Instruction, plan: &Plan) -> [u8; 3] {
         | Instruction::Store {
             width: Width::Left | Width::Right,
             ..
-        } => [22, 27, 0],
-        Instruction::Load { .. } | Instruction::Store { .. } if far => [27, 0, 0],
+        } => &MOST_SCRATCH,
+        Instruction::Load { .. } | Instruction::Store { .. } if is_far(plan) => &SCRATCH,
         Instruction::Long {
             op: Long::Product { .. },
             ..
-        } if plan.live & bit(HI) != 0 => [22, 27, 0],
-        Instruction::Long { .. } => [27, 0, 0],
-        Instruction::Shift {
+        } if plan.live & bit(HI) != 0 => &MOST_SCRATCH,
+        Instruction::Long { .. }
+        | Instruction::Shift {
             by: Source::Register(_),
             ..
-        } => [27, 0, 0],
-        Instruction::Call(_) => QUOTIENTS,
-        _ => [0, 0, 0],
+        } => &SCRATCH,
+        Instruction::Call(_) => &QUOTIENTS,
+        _ => &[],
     }
 }
 
@@ -328,16 +376,14 @@ fn address_of(program: &Program, symbol: Option<u32>) -> Option<u32> {
     }
 }
 
-/// Finds where the datum of one statement is, and learns what it does.
-fn place_one(
-    program: &Program,
-    knowledge: &mut Knowledge,
-    instruction: &Instruction,
-    symbol: Option<u32>,
-    plan: &mut Plan,
-) {
-    let address = address_of(program, symbol);
-    let at = match *instruction {
+/// Whether a load or a store is of a part of a word up to its end or from its start.
+fn is_unaligned(width: Width) -> bool {
+    matches!(width, Width::Left | Width::Right)
+}
+
+/// Where the datum of an instruction is told to be, if it has one.
+fn datum_of(instruction: &Instruction) -> Option<Datum> {
+    match *instruction {
         Instruction::Load {
             base,
             offset,
@@ -349,28 +395,66 @@ fn place_one(
             offset,
             width,
             ..
-        } => {
-            let offset = offset.wrapping_add(address.unwrap_or(0));
-            match width {
-                Width::Left | Width::Right => {
-                    plan.place = Some(Place::Far {
-                        base: base.0,
-                        bytes: offset,
-                    });
-                    None
-                }
-                _ => Some((base, offset)),
-            }
-        }
-        Instruction::Call(LinkFrom::Register(r)) => Some((r, 0)),
+        } => Some(Datum {
+            base,
+            offset,
+            unaligned: is_unaligned(width),
+        }),
+        Instruction::Call(LinkFrom::Register(base)) => Some(Datum {
+            base,
+            offset: 0,
+            unaligned: false,
+        }),
         _ => None,
-    };
-    if let Some((base, offset)) = at {
-        let (place, divided) = knowledge.place(base, offset);
+    }
+}
+
+/// Finds where a datum is, behind an address.
+fn place_datum(knowledge: &mut Knowledge, datum: Datum, address: u32, plan: &mut Plan) {
+    let offset = datum.offset.wrapping_add(address);
+    if datum.unaligned {
+        plan.place = Some(far(datum.base, offset));
+    } else {
+        let (place, divided) = knowledge.place(datum.base, offset);
         plan.place = Some(place);
         plan.divided = divided;
     }
+}
+
+/// Finds where the datum of one statement is, and learns what it does.
+fn place_one(
+    program: &Program,
+    knowledge: &mut Knowledge,
+    instruction: &Instruction,
+    symbol: Option<u32>,
+    plan: &mut Plan,
+) {
+    let address = address_of(program, symbol);
+    if let Some(datum) = datum_of(instruction) {
+        place_datum(knowledge, datum, address.unwrap_or(0), plan);
+    }
     knowledge.learn(instruction, plan, address);
+    if ends(instruction) {
+        knowledge.forget_all();
+    }
+}
+
+/// Whether a plan leaves its statement out.
+fn is_gone(plan: &Plan) -> bool {
+    matches!(plan.step, Step::Gone)
+}
+
+/// Finds where the datum of an item is, if it has one.
+fn place_item(program: &Program, knowledge: &mut Knowledge, item: &Item, plan: &mut Plan) {
+    match item {
+        Item::Label(label) if program.symbols.is_used(*label) => knowledge.forget_all(),
+        Item::Code {
+            instruction,
+            symbol,
+            ..
+        } if !is_gone(plan) => place_one(program, knowledge, instruction, *symbol, plan),
+        _ => {}
+    }
 }
 
 /// Finds where the datum of each statement of a function is.
@@ -380,31 +464,8 @@ pub(crate) fn find_places(
     items: &[Item],
     plans: &mut [Plan],
 ) {
-    let mut knowledge = Knowledge::new(function.points, 0);
-    for (i, item) in items.iter().enumerate() {
-        let Some(plan) = plans.get_mut(i) else {
-            break;
-        };
-        match item {
-            Item::Location { .. } => {}
-            Item::Label(label) => {
-                if program.symbols.is_used(*label) {
-                    knowledge = Knowledge::new(function.points, knowledge.turn);
-                }
-            }
-            Item::Code {
-                instruction,
-                symbol,
-                ..
-            } => {
-                if let Step::Gone = plan.step {
-                    continue;
-                }
-                place_one(program, &mut knowledge, instruction, *symbol, plan);
-                if ends(instruction) {
-                    knowledge = Knowledge::new(function.points, knowledge.turn);
-                }
-            }
-        }
+    let mut knowledge = Knowledge::new(function.points);
+    for (item, plan) in items.iter().zip(plans.iter_mut()) {
+        place_item(program, &mut knowledge, item, plan);
     }
 }

@@ -1,6 +1,6 @@
 //! What looking over several statements leaves for each of them.
 
-use cc_lines::{Condition, Register, Source};
+use cc_lines::{Condition, Instruction, Register, Source};
 
 /// Where a datum of a load or a store is.
 #[derive(Clone, Copy)]
@@ -53,4 +53,24 @@ pub(crate) struct Plan {
     pub place: Option<Place>,
     /// A register that is divided by 4 before it, and the one that takes the quotient.
     pub divided: Option<(u8, u8)>,
+}
+
+impl Plan {
+    /// The plan of a statement of which nothing is known.
+    pub(crate) fn new() -> Plan {
+        Plan {
+            step: Step::Kept,
+            live: 0,
+            place: None,
+            divided: None,
+        }
+    }
+}
+
+/// A statement of a function: its instruction, the symbol that this names, and what is planned for it.
+#[derive(Clone, Copy)]
+pub(crate) struct Planned {
+    pub instruction: Instruction,
+    pub symbol: Option<u32>,
+    pub plan: Plan,
 }

@@ -3,11 +3,11 @@
 //! They take their operands in r1 and r26 and their link in r27, and answer in r24 and r25, as LO and HI, shifts in r1. They
 //! change these, MD and r22 alone. A line that begins with `8*` stands 8 times.
 
-use crate::output::{Output, Routine};
+use crate::output::{Output, ROUTINES, Routine};
 use std::alloc::AllocError;
 
 /// The low word of a product. The operand that is lower as an unsigned number is taken in MD.
-const LOW: &str = "m.mul:
+static LOW: &str = "m.mul:
         bhs r26,r1,m.mul.a
         mov r1,r24
         mov r26,r1
@@ -39,7 +39,7 @@ m.mul.d:
 ";
 
 /// Both words of a product of signed numbers, by that of their amounts.
-const SIGNED_PRODUCT: &str = "m.mult:
+static SIGNED_PRODUCT: &str = "m.mult:
         or r1,r26,r24
         bge r24,r0,m.multu
         xor r1,r26,r22
@@ -65,7 +65,7 @@ m.mult.c:
 ";
 
 /// Both words of a product of unsigned numbers: of the lower one and each half of the other, or of four halves.
-const PRODUCT: &str = "m.multu:
+static PRODUCT: &str = "m.multu:
         bhs r26,r1,m.multu.a
         mov r1,r24
         mov r26,r1
@@ -129,7 +129,7 @@ m.multu.d:
 ";
 
 /// A quotient of signed numbers and its remainder, by those of their amounts.
-const SIGNED_QUOTIENT: &str = "m.div:
+static SIGNED_QUOTIENT: &str = "m.div:
         or r1,r26,r24
         bge r24,r0,m.divu
         xor r1,r26,r24
@@ -156,12 +156,10 @@ m.div.d:
         jr r27
 ";
 
-/// How many steps a quotient of unsigned numbers takes: as many as it may have bits.
-const QUOTIENT_BITS: [u32; 5] = [4, 8, 16, 24, 32];
-
-/// What stands before these steps.
-const QUOTIENT: [&str; 5] = [
-    "m.divu:
+/// What stands before the steps of a quotient of unsigned numbers, and how many it takes: as many as it may have bits.
+static QUOTIENT: [(&str, u32); 5] = [
+    (
+        "m.divu:
         sh r1,r0,#8,r25
         bhs r25,r26,m.divu.b
         sh r1,r0,#4,r24
@@ -169,22 +167,36 @@ const QUOTIENT: [&str; 5] = [
         mov r24,r25
         sh r0,r1,#4,r1
 ",
-    "m.divu.a:
+        4,
+    ),
+    (
+        "m.divu.a:
         sh r0,r1,#8,r1
 ",
-    "m.divu.b:
+        8,
+    ),
+    (
+        "m.divu.b:
         sh r1,r0,#16,r25
         bhs r25,r26,m.divu.c
         sh r0,r1,#16,r1
 ",
-    "m.divu.c:
+        16,
+    ),
+    (
+        "m.divu.c:
         sh r1,r0,#24,r25
         bhs r25,r26,m.divu.d
         sh r0,r1,#24,r1
 ",
-    "m.divu.d:
+        24,
+    ),
+    (
+        "m.divu.d:
         mov r0,r25
 ",
+        32,
+    ),
 ];
 
 /// How often a line of a routine stands, which is told before a `*`, and the line itself.
@@ -195,50 +207,76 @@ fn repeated(line: &str) -> (u32, &str) {
     }
 }
 
+/// Adds a line so often.
+fn put_line(out: &mut Output, line: &str, times: u32) -> Result<(), AllocError> {
+    for _ in 0..times {
+        out.put(line)?;
+        out.put("\n")?;
+    }
+    if !line.ends_with(":") {
+        out.statements = out.statements.saturating_add(times);
+    }
+    Ok(())
+}
+
 /// Adds the lines of a routine.
 fn put_text(out: &mut Output, text: &str) -> Result<(), AllocError> {
     for line in text.lines() {
         let (times, line) = repeated(line);
-        for _ in 0..times {
-            out.put(line)?;
-            out.put("\n")?;
-        }
-        if !line.ends_with(":") {
-            out.statements = out.statements.saturating_add(times);
-        }
+        put_line(out, line, times)?;
     }
     Ok(())
+}
+
+/// Adds the steps of a quotient, of so many bits, behind some lines.
+fn put_steps(out: &mut Output, before: &str, bits: u32) -> Result<(), AllocError> {
+    out.lines(before, &[])?;
+    put_line(out, "        movtos r1,md", 1)?;
+    put_line(out, "        dstep r25,r26,r25", bits)?;
+    out.lines(
+        "        movfrs md,r24
+        jr r27
+",
+        &[],
+    )
 }
 
 /// The routine of a quotient and its remainder.
 fn put_quotient(out: &mut Output) -> Result<(), AllocError> {
-    for (lines, bits) in QUOTIENT.iter().zip(QUOTIENT_BITS) {
-        out.lines(lines, &[])?;
-        out.statement("movtos r1,md", &[])?;
-        for _ in 0..bits {
-            out.statement("dstep r25,r26,r25", &[])?;
-        }
-        out.statement("movfrs md,r24", &[])?;
-        out.statement("jr r27", &[])?;
+    for (before, bits) in &QUOTIENT {
+        put_steps(out, before, *bits)?;
     }
     Ok(())
 }
 
+/// The text of a shift by a number.
+fn shift_text(which: Routine) -> &'static str {
+    match which {
+        Routine::ShiftLeft => "sh r0,r1,#@,r1",
+        Routine::ShiftRight => "sh r1,r0,#@,r1",
+        _ => "asr r1,#@,r1",
+    }
+}
+
+/// The place in a shift's routine for a count.
+fn put_shift_by(out: &mut Output, which: Routine, count: i64) -> Result<(), AllocError> {
+    out.put(which.name())?;
+    out.filled(".n@:\n", count, &[])?;
+    if count > 0 {
+        let number = if which == Routine::ShiftLeft {
+            32 - count
+        } else {
+            count
+        };
+        out.statement_with(shift_text(which), number, &[])?;
+    }
+    out.statement("jr r27", &[])
+}
+
 /// The routine of a shift: a place for each count.
 fn put_shift(out: &mut Output, which: Routine) -> Result<(), AllocError> {
-    let left = which == Routine::ShiftLeft;
-    let text = match which {
-        Routine::ShiftLeft => "sh r0,r1,#%,r1",
-        Routine::ShiftRight => "sh r1,r0,#%,r1",
-        _ => "asr r1,#%,r1",
-    };
-    for count in 0..32i64 {
-        out.put(which.name())?;
-        out.filled(".n%:\n", &[count])?;
-        if count > 0 {
-            out.statement(text, &[if left { 32 - count } else { count }])?;
-        }
-        out.statement("jr r27", &[])?;
+    for count in 0..32u8 {
+        put_shift_by(out, which, i64::from(count))?;
     }
     Ok(())
 }
@@ -255,17 +293,23 @@ fn put_routine(out: &mut Output, which: Routine) -> Result<(), AllocError> {
     }
 }
 
-/// Adds the routines that are called.
-pub(crate) fn put_routines(out: &mut Output) -> Result<(), AllocError> {
-    if out.routines.contains(&Routine::SignedProduct) {
+/// Notes the routines that those that are called call.
+fn need_called(out: &mut Output) -> Result<(), AllocError> {
+    if out.needs(Routine::SignedProduct) {
         out.need(Routine::Product)?;
     }
-    if out.routines.contains(&Routine::SignedQuotient) {
+    if out.needs(Routine::SignedQuotient) {
         out.need(Routine::Quotient)?;
     }
-    for which in Routine::ALL {
-        if out.routines.contains(&which) {
-            put_routine(out, which)?;
+    Ok(())
+}
+
+/// Adds the routines that are called.
+pub(crate) fn put_routines(out: &mut Output) -> Result<(), AllocError> {
+    need_called(out)?;
+    for which in &ROUTINES {
+        if out.needs(*which) {
+            put_routine(out, *which)?;
         }
     }
     Ok(())

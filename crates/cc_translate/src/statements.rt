@@ -3,16 +3,16 @@
 use crate::effects::{HI, bit};
 use crate::fusing::tested_by;
 use crate::memory::{
-    FIRST, SECOND, THIRD, add_constant, call_at, constant, copy, load_statement, store_statement,
+    FIRST, SECOND, add_constant, call_at, constant, copy, load_statement, store_statement,
 };
 use crate::output::{Output, Routine};
 use crate::places::{FRAME_WORDS, STACK_WORDS};
-use crate::plan::{Comparison, Plan, Step};
+use crate::plan::{Comparison, Planned, Step};
 use cc_lines::{
     Condition, Instruction, LinkFrom, Long, Operation, Register, Shift, Source, Special,
 };
 use cc_program::{Function, Meaning, Program};
-use cc_rules::special_register;
+use cc_rules::{quarter, special_register};
 use std::alloc::AllocError;
 
 /// The register of a second operand; a number is put into the first register for the time being.
@@ -43,96 +43,81 @@ fn branch_text(condition: Condition) -> &'static str {
     }
 }
 
-/// A branch to the symbol of its statement.
+/// A branch to a symbol.
 fn branch(
     out: &mut Output,
     program: &Program,
-    found: &Comparison,
+    found: Comparison,
     symbol: u32,
 ) -> Result<(), AllocError> {
     let b = operand(out, found.second)?;
-    let numbers = [i64::from(found.rs.0), i64::from(b)];
     out.statement_to(
         branch_text(found.condition),
-        &numbers,
+        &[found.rs.0, b],
         &program.symbols,
         symbol,
         "\n",
     )
 }
 
-/// What makes a comparison with 0 that needs no branch: its first numbers are those of the register that is compared and of
-/// one for the time being, its last ones those of the latter and of the register that takes the answer.
-fn bits_text(condition: Condition) -> Option<&'static str> {
-    match condition {
-        Condition::Equal => Some(
-            "        addi r%,#-1,r%
-        bic r%,r%,r%
-        sh r%,r0,#31,r%
-",
-        ),
-        Condition::NotEqual => Some(
-            "        sub r0,r%,r%
-        or r%,r%,r%
-        sh r%,r0,#31,r%
-",
-        ),
-        _ => None,
-    }
-}
+/// What gives 1 where a register is 0, else 0.
+const IS_ZERO: &str = "        addi r%,#-1,r26
+        bic r26,r%,r26
+        sh r26,r0,#31,r%
+";
 
-/// A comparison with 0 that needs no branch: whether it is made.
-fn set_from_bits(out: &mut Output, rd: Register, found: &Comparison) -> Result<bool, AllocError> {
-    if !matches!(
-        found.second,
-        Source::Register(Register(0)) | Source::Number(0)
-    ) {
-        return Ok(false);
-    }
-    let (a, d, t) = (i64::from(found.rs.0), i64::from(rd.0), i64::from(SECOND));
-    if found.condition == Condition::Less {
-        out.statement("sh r%,r0,#31,r%", &[a, d])?;
-        return Ok(true);
-    }
-    let Some(text) = bits_text(found.condition) else {
-        return Ok(false);
-    };
-    out.lines(text, &[a, t, t, a, t, t, d])?;
-    Ok(true)
-}
+/// What gives 1 where a register is not 0, else 0.
+const IS_NOT_ZERO: &str = "        sub r0,r%,r26
+        or r26,r%,r26
+        sh r26,r0,#31,r%
+";
 
-/// 1 where a condition holds, else 0.
-fn set(out: &mut Output, rd: Register, found: &Comparison) -> Result<(), AllocError> {
-    if set_from_bits(out, rd, found)? {
-        return Ok(());
-    }
-    let b = operand(out, found.second)?;
+/// 1 where a condition holds, else 0, by a branch.
+fn set_by_branch(out: &mut Output, rd: u8, found: Comparison) -> Result<(), AllocError> {
     let a = found.rs.0;
-    let t = if rd.0 == a || rd.0 == b { SECOND } else { rd.0 };
-    let (into, label) = (i64::from(t), i64::from(out.fresh()));
+    let b = operand(out, found.second)?;
+    let into = if rd == a || rd == b { SECOND } else { rd };
+    let label = i64::from(out.fresh());
     out.lines("        addi r0,#1,r%\n        ", &[into])?;
-    out.filled(branch_text(found.condition), &[i64::from(a), i64::from(b)])?;
-    out.lines(
-        "_.s%
+    out.filled(branch_text(found.condition), 0, &[a, b])?;
+    out.lines_with(
+        "_.s@
         mov r0,r%
-_.s%:
+_.s@:
 ",
-        &[label, into, label],
+        label,
+        &[into],
     )?;
-    copy(out, t, rd.0)
+    copy(out, into, rd)
+}
+
+/// Whether a second operand is 0.
+fn is_zero(second: Source) -> bool {
+    matches!(second, Source::Register(Register(0)) | Source::Number(0))
+}
+
+/// 1 where a condition holds, else 0. Some comparisons with 0 need no branch.
+fn set(out: &mut Output, rd: u8, found: Comparison) -> Result<(), AllocError> {
+    let a = found.rs.0;
+    match found.condition {
+        Condition::Less if is_zero(found.second) => out.statement("sh r%,r0,#31,r%", &[a, rd]),
+        Condition::Equal if is_zero(found.second) => out.lines(IS_ZERO, &[a, a, rd]),
+        Condition::NotEqual if is_zero(found.second) => out.lines(IS_NOT_ZERO, &[a, a, rd]),
+        _ => set_by_branch(out, rd, found),
+    }
 }
 
 /// Turns each bit of a word.
 fn complement(out: &mut Output, rs: u8, rd: u8) -> Result<(), AllocError> {
-    out.statement("not r%,r%", &[i64::from(rs), i64::from(rd)])
+    out.statement("not r%,r%", &[rs, rd])
 }
 
-/// What is computed of two registers.
+/// What is computed of two registers, but for `nor` and comparisons.
 fn compute_text(op: Operation) -> &'static str {
     match op {
         Operation::Sub => "sub r%,r%,r%",
         Operation::And => "and r%,r%,r%",
-        Operation::Or | Operation::Nor => "or r%,r%,r%",
+        Operation::Or => "or r%,r%,r%",
         Operation::Xor => "xor r%,r%,r%",
         _ => "add r%,r%,r%",
     }
@@ -147,43 +132,93 @@ fn is_copy(op: Operation, b: u8) -> bool {
         )
 }
 
+/// `nor`.
+fn nor(out: &mut Output, rd: u8, rs: u8, rt: u8) -> Result<(), AllocError> {
+    if rt == 0 {
+        return complement(out, rs, rd);
+    }
+    if rs == 0 {
+        return complement(out, rt, rd);
+    }
+    out.statement("or r%,r%,r%", &[rs, rt, rd])?;
+    complement(out, rd, rd)
+}
+
+/// What is computed of two registers.
+fn compute_registers(
+    out: &mut Output,
+    op: Operation,
+    rd: u8,
+    rs: u8,
+    rt: u8,
+) -> Result<(), AllocError> {
+    if is_copy(op, rt) {
+        return copy(out, rs, rd);
+    }
+    if op == Operation::Nor {
+        return nor(out, rd, rs, rt);
+    }
+    out.statement(compute_text(op), &[rs, rt, rd])
+}
+
+/// What is computed of a register and a second operand.
+fn compute_operands(
+    out: &mut Output,
+    op: Operation,
+    rd: u8,
+    rs: u8,
+    second: Source,
+) -> Result<(), AllocError> {
+    let rt = operand(out, second)?;
+    compute_registers(out, op, rd, rs, rt)
+}
+
 /// What is computed of two words.
 fn compute(
     out: &mut Output,
     op: Operation,
-    rd: Register,
+    rd: u8,
     rs: Register,
     second: Source,
 ) -> Result<(), AllocError> {
     match (op, second) {
-        (Operation::Less | Operation::Lower, _) => return set(out, rd, &tested_by(op, rs, second)),
-        (Operation::Add, Source::Number(value)) => return add_constant(out, rs.0, value, rd.0),
-        (Operation::Sub, Source::Number(value)) => return add_constant(
-            out,
-            rs.0,
-            value.wrapping_neg(),
-            rd.0,
-        ),
-        (Operation::Or | Operation::Xor, Source::Number(value)) if rs == Register::ZERO => {
-            return constant(out, value, rd.0);
+        (Operation::Less | Operation::Lower, _) => set(out, rd, tested_by(op, rs, second)),
+        (Operation::Add, Source::Number(value)) => add_constant(out, rs.0, value, rd),
+        (Operation::Sub, Source::Number(value)) => {
+            add_constant(out, rs.0, value.wrapping_neg(), rd)
         }
-        _ => {}
+        (Operation::Or | Operation::Xor, Source::Number(value)) if rs == Register::ZERO => {
+            constant(out, value, rd)
+        }
+        _ => compute_operands(out, op, rd, rs.0, second),
     }
-    let b = operand(out, second)?;
-    if is_copy(op, b) {
-        return copy(out, rs.0, rd.0);
+}
+
+/// The multiple of 4 by which an operation moves the stack pointer, if it does so.
+fn moved_by(op: Operation, rs: Register, second: Source) -> Option<u32> {
+    let by = match (op, second) {
+        (Operation::Add, Source::Number(value)) => value,
+        (Operation::Sub, Source::Number(value)) => value.wrapping_neg(),
+        _ => return None,
+    };
+    if rs == Register::STACK && by % 4 == 0 {
+        Some(by)
+    } else {
+        None
     }
-    if op == Operation::Nor && (b == 0 || rs == Register::ZERO) {
-        return complement(out, if b == 0 { rs.0 } else { b }, rd.0);
+}
+
+/// A quarter of the stack pointer, behind what gave that.
+fn divide_stack(
+    out: &mut Output,
+    function: &Function,
+    rs: Register,
+    second: Source,
+) -> Result<(), AllocError> {
+    if rs == Register::FRAME && function.points && second == Source::Register(Register::ZERO) {
+        return copy(out, FRAME_WORDS, STACK_WORDS);
     }
-    out.statement(
-        compute_text(op),
-        &[i64::from(rs.0), i64::from(b), i64::from(rd.0)],
-    )?;
-    if op == Operation::Nor {
-        return complement(out, rd.0, rd.0);
-    }
-    Ok(())
+    out.statement("asr r29,#2,r%", &[STACK_WORDS])
 }
 
 /// The stack pointer moves, and its quarter with it.
@@ -194,23 +229,21 @@ fn move_stack(
     rs: Register,
     second: Source,
 ) -> Result<(), AllocError> {
-    let by = match (op, second) {
-        (Operation::Add, Source::Number(value)) => Some(value),
-        (Operation::Sub, Source::Number(value)) => Some(value.wrapping_neg()),
-        _ => None,
-    };
-    if let Some(by) = by {
-        if rs == Register::STACK && by % 4 == 0 {
-            let words = (by >> 2) | (if by >= 0x8000_0000 { 0xc000_0000 } else { 0 });
-            add_constant(out, rs.0, by, rs.0)?;
-            return add_constant(out, STACK_WORDS, words, STACK_WORDS);
-        }
+    if let Some(by) = moved_by(op, rs, second) {
+        add_constant(out, rs.0, by, rs.0)?;
+        return add_constant(out, STACK_WORDS, quarter(by), STACK_WORDS);
     }
-    compute(out, op, Register::STACK, rs, second)?;
-    if rs == Register::FRAME && function.points && second == Source::Register(Register::ZERO) {
-        return copy(out, FRAME_WORDS, STACK_WORDS);
+    compute(out, op, Register::STACK.0, rs, second)?;
+    divide_stack(out, function, rs, second)
+}
+
+/// A copy to the frame pointer, and of a quarter of it.
+fn move_frame(out: &mut Output, rs: Register) -> Result<(), AllocError> {
+    copy(out, rs.0, Register::FRAME.0)?;
+    if rs == Register::STACK {
+        return copy(out, STACK_WORDS, FRAME_WORDS);
     }
-    out.statement("asr r29,#2,r%", &[i64::from(STACK_WORDS)])
+    out.statement("asr r30,#2,r%", &[FRAME_WORDS])
 }
 
 /// A copy.
@@ -221,22 +254,13 @@ fn move_statement(
     rs: Register,
 ) -> Result<(), AllocError> {
     if rd == Register::STACK {
-        return move_stack(
-            out,
-            function,
-            Operation::Add,
-            rs,
-            Source::Register(Register::ZERO),
-        );
+        let zero = Source::Register(Register::ZERO);
+        return move_stack(out, function, Operation::Add, rs, zero);
     }
-    copy(out, rs.0, rd.0)?;
     if rd == Register::FRAME && function.points {
-        if rs == Register::STACK {
-            return copy(out, STACK_WORDS, FRAME_WORDS);
-        }
-        return out.statement("asr r30,#2,r%", &[i64::from(FRAME_WORDS)]);
+        return move_frame(out, rs);
     }
-    Ok(())
+    copy(out, rs.0, rd.0)
 }
 
 /// Calls a routine.
@@ -244,19 +268,19 @@ fn routine(out: &mut Output, which: Routine) -> Result<(), AllocError> {
     out.need(which)?;
     out.put("        call ")?;
     out.put(which.name())?;
-    out.lines(",r%\n", &[i64::from(THIRD)])
+    out.lines(",r27\n", &[])
 }
 
 /// A shift by a number.
 fn shift_by(out: &mut Output, op: Shift, rd: u8, rs: u8, count: u32) -> Result<(), AllocError> {
-    let (a, d, n) = (i64::from(rs), i64::from(rd), i64::from(count % 32));
-    if n == 0 {
+    let bits = i64::from(count % 32);
+    if bits == 0 {
         return copy(out, rs, rd);
     }
     match op {
-        Shift::Left => out.statement("sh r0,r%,#%,r%", &[a, 32 - n, d]),
-        Shift::Right => out.statement("sh r%,r0,#%,r%", &[a, n, d]),
-        Shift::Arithmetic => out.statement("asr r%,#%,r%", &[a, n, d]),
+        Shift::Left => out.statement_with("sh r0,r%,#@,r%", 32 - bits, &[rs, rd]),
+        Shift::Right => out.statement_with("sh r%,r0,#@,r%", bits, &[rs, rd]),
+        Shift::Arithmetic => out.statement_with("asr r%,#@,r%", bits, &[rs, rd]),
     }
 }
 
@@ -269,55 +293,74 @@ fn shift_by_register(
     count: u8,
 ) -> Result<(), AllocError> {
     let (which, table) = match op {
-        Shift::Left => (Routine::ShiftLeft, "ld t.sll[r%],r%"),
-        Shift::Right => (Routine::ShiftRight, "ld t.srl[r%],r%"),
-        Shift::Arithmetic => (Routine::ShiftArithmetic, "ld t.sra[r%],r%"),
+        Shift::Left => (Routine::ShiftLeft, "ld t.sll[r26],r26"),
+        Shift::Right => (Routine::ShiftRight, "ld t.srl[r26],r26"),
+        Shift::Arithmetic => (Routine::ShiftArithmetic, "ld t.sra[r26],r26"),
     };
-    let (x, t, link) = (i64::from(FIRST), i64::from(SECOND), i64::from(THIRD));
     out.need(which)?;
     out.lines(
-        "        sh r0,r%,#5,r%
-        sh r%,r0,#27,r%
+        "        sh r0,r%,#5,r26
+        sh r26,r0,#27,r26
 ",
-        &[i64::from(count), t, t, t],
+        &[count],
     )?;
-    out.statement(table, &[t, t])?;
+    out.statement(table, &[])?;
     out.lines(
-        "        add r%,r0,r%
-        callr r%,r%
-        add r%,r0,r%
+        "        add r%,r0,r1
+        callr r26,r27
+        add r1,r0,r%
 ",
-        &[i64::from(rs), x, t, link, x, i64::from(rd)],
+        &[rs, rd],
     )
 }
 
-/// A product or a quotient.
-fn long(
-    out: &mut Output,
-    op: Long,
-    rs: Register,
-    rt: Register,
-    live: u64,
-) -> Result<(), AllocError> {
-    let which = match op {
+/// The routine of a product or a quotient, behind which these registers are read.
+fn routine_of(op: Long, live: u64) -> Routine {
+    match op {
         Long::Product { .. } if live & bit(HI) == 0 => Routine::Low,
         Long::Product { signed: true } => Routine::SignedProduct,
         Long::Product { signed: false } => Routine::Product,
         Long::Quotient { signed: true } => Routine::SignedQuotient,
         Long::Quotient { signed: false } => Routine::Quotient,
-    };
+    }
+}
+
+/// A product or a quotient.
+fn long(out: &mut Output, which: Routine, rs: u8, rt: u8) -> Result<(), AllocError> {
     out.lines(
-        "        mov r%,r%
-        mov r%,r%
+        "        mov r%,r1
+        mov r%,r26
 ",
-        &[
-            i64::from(rs.0),
-            i64::from(FIRST),
-            i64::from(rt.0),
-            i64::from(SECOND),
-        ],
+        &[rs, rt],
     )?;
     routine(out, which)
+}
+
+/// The address of a label in a function.
+fn place_address(
+    out: &mut Output,
+    program: &Program,
+    rd: Register,
+    symbol: u32,
+) -> Result<(), AllocError> {
+    out.put("        la ")?;
+    out.name(&program.symbols, symbol)?;
+    out.lines(",r%\n", &[rd.0])
+}
+
+/// An address behind all data, which is not known yet: a word of data holds it.
+fn end_address(
+    out: &mut Output,
+    rd: Register,
+    base: Register,
+    offset: u32,
+) -> Result<(), AllocError> {
+    out.ends.insert(offset)?;
+    out.statement_with("ld k.end.@[r0],r%", i64::from(offset), &[rd.0])?;
+    if base == Register::ZERO {
+        return Ok(());
+    }
+    out.statement("add r%,r%,r%", &[base.0, rd.0, rd.0])
 }
 
 /// The address of a symbol, or a sum.
@@ -333,46 +376,38 @@ fn address(
         return add_constant(out, base.0, offset, rd.0);
     };
     match program.symbols.meaning(symbol) {
-        Meaning::Place { .. } => {
-            out.put("        la ")?;
-            out.name(&program.symbols, symbol)?;
-            out.lines(",r%\n", &[i64::from(rd.0)])
+        Meaning::Place { .. } => place_address(out, program, rd, symbol),
+        Meaning::End => end_address(out, rd, base, offset),
+        _ => {
+            let bytes = program.address(symbol).wrapping_add(offset);
+            add_constant(out, base.0, bytes, rd.0)
         }
-        Meaning::End => {
-            out.ends.insert(offset)?;
-            out.statement("ld k.end.%[r0],r%", &[i64::from(offset), i64::from(rd.0)])?;
-            if base == Register::ZERO {
-                return Ok(());
-            }
-            out.statement(
-                "add r%,r%,r%",
-                &[i64::from(base.0), i64::from(rd.0), i64::from(rd.0)],
-            )
-        }
-        _ => add_constant(
-            out,
-            base.0,
-            program.address(symbol).wrapping_add(offset),
-            rd.0,
-        ),
     }
 }
 
-/// A call.
+/// A call to a symbol, or to what a register points to.
+fn call_statement(
+    out: &mut Output,
+    program: &Program,
+    planned: &Planned,
+) -> Result<(), AllocError> {
+    match (planned.symbol, planned.plan.place) {
+        (Some(symbol), _) => out.statement_to("call ", &[], &program.symbols, symbol, ",r31\n"),
+        (None, Some(place)) => call_at(out, place),
+        (None, None) => Ok(()),
+    }
+}
+
+/// A call, behind which a quarter of the frame pointer is not known any more.
 fn call(
     out: &mut Output,
     program: &Program,
     function: &Function,
-    plan: &Plan,
-    symbol: Option<u32>,
+    planned: &Planned,
 ) -> Result<(), AllocError> {
-    match (symbol, plan.place) {
-        (Some(symbol), _) => out.statement_to("call ", &[], &program.symbols, symbol, ",r31\n")?,
-        (None, Some(place)) => call_at(out, place)?,
-        (None, None) => {}
-    }
+    call_statement(out, program, planned)?;
     if function.points {
-        return out.statement("asr r30,#2,r%", &[i64::from(FRAME_WORDS)]);
+        return out.statement("asr r30,#2,r%", &[FRAME_WORDS]);
     }
     Ok(())
 }
@@ -385,14 +420,10 @@ fn jump(
     symbol: Option<u32>,
 ) -> Result<(), AllocError> {
     match (to, symbol) {
-        (LinkFrom::Register(r), _) => out.statement("jr r%", &[i64::from(r.0)]),
-        (LinkFrom::Symbol, Some(symbol)) => out.statement_to(
-            "b ",
-            &[],
-            &program.symbols,
-            symbol,
-            "\n",
-        ),
+        (LinkFrom::Register(r), _) => out.statement("jr r%", &[r.0]),
+        (LinkFrom::Symbol, Some(symbol)) => {
+            out.statement_to("b ", &[], &program.symbols, symbol, "\n")
+        }
         (LinkFrom::Symbol, None) => Ok(()),
     }
 }
@@ -412,7 +443,7 @@ fn operation(
         (Operation::Add | Operation::Or, _, Source::Register(Register(0))) => {
             move_statement(out, function, rd, rs)
         }
-        _ => compute(out, op, rd, rs, second),
+        _ => compute(out, op, rd.0, rs, second),
     }
 }
 
@@ -435,18 +466,35 @@ fn shift(
 fn registers_alone(
     out: &mut Output,
     function: &Function,
-    instruction: &Instruction,
+    instruction: Instruction,
     live: u64,
 ) -> Result<(), AllocError> {
-    match *instruction {
+    match instruction {
         Instruction::Compute { op, rd, rs, second } => operation(out, function, op, rd, rs, second),
         Instruction::Shift { op, rd, rs, by } => shift(out, op, rd, rs, by),
         Instruction::Move { rd, rs } => move_statement(out, function, rd, rs),
         Instruction::Number { rd, value } => constant(out, value, rd.0),
-        Instruction::Long { op, rs, rt } => long(out, op, rs, rt, live),
+        Instruction::Long { op, rs, rt } => long(out, routine_of(op, live), rs.0, rt.0),
         Instruction::FromSpecial { special, rd } => copy(out, special_register(special), rd.0),
         Instruction::ToSpecial { special, rs } => copy(out, rs.0, special_register(special)),
         Instruction::Break => out.statement("halt", &[]),
+        _ => Ok(()),
+    }
+}
+
+/// Translates a load or a store.
+fn at_place(out: &mut Output, function: &Function, planned: &Planned) -> Result<(), AllocError> {
+    let Some(place) = planned.plan.place else {
+        return Ok(());
+    };
+    match planned.instruction {
+        Instruction::Load {
+            width,
+            rd,
+            base,
+            offset,
+        } => load_statement(out, function, width, rd, base, offset, place),
+        Instruction::Store { width, rs, .. } => store_statement(out, width, rs, place),
         _ => Ok(()),
     }
 }
@@ -455,21 +503,13 @@ fn registers_alone(
 fn branch_if_named(
     out: &mut Output,
     program: &Program,
-    found: &Comparison,
+    found: Comparison,
     symbol: Option<u32>,
 ) -> Result<(), AllocError> {
     match symbol {
         Some(symbol) => branch(out, program, found, symbol),
         None => Ok(()),
     }
-}
-
-/// A statement of a function: its instruction, the symbol that this names, and what is planned for it.
-#[derive(Clone, Copy)]
-pub(crate) struct Planned<'a> {
-    pub(crate) instruction: &'a Instruction,
-    pub(crate) symbol: Option<u32>,
-    pub(crate) plan: &'a Plan,
 }
 
 /// Translates an instruction.
@@ -479,28 +519,11 @@ fn kept(
     function: &Function,
     planned: &Planned,
 ) -> Result<(), AllocError> {
-    let Planned {
-        instruction,
-        symbol,
-        plan,
-    } = *planned;
-    match *instruction {
-        Instruction::Address { rd, base, offset } => address(
-            out, program, rd, base, offset, symbol,
-        ),
-        Instruction::Load {
-            width,
-            rd,
-            base,
-            offset,
-        } => match plan.place {
-            Some(place) => load_statement(out, function, width, rd, base, offset, place),
-            None => Ok(()),
-        },
-        Instruction::Store { width, rs, .. } => match plan.place {
-            Some(place) => store_statement(out, width, rs, place),
-            None => Ok(()),
-        },
+    match planned.instruction {
+        Instruction::Address { rd, base, offset } => {
+            address(out, program, rd, base, offset, planned.symbol)
+        }
+        Instruction::Load { .. } | Instruction::Store { .. } => at_place(out, function, planned),
         Instruction::Branch {
             condition,
             rs,
@@ -511,11 +534,25 @@ fn kept(
                 rs,
                 second,
             };
-            branch_if_named(out, program, &found, symbol)
+            branch_if_named(out, program, found, planned.symbol)
         }
-        Instruction::Jump(to) => jump(out, program, to, symbol),
-        Instruction::Call(_) => call(out, program, function, plan, symbol),
-        _ => registers_alone(out, function, instruction, plan.live),
+        Instruction::Jump(to) => jump(out, program, to, planned.symbol),
+        Instruction::Call(_) => call(out, program, function, planned),
+        _ => registers_alone(out, function, planned.instruction, planned.plan.live),
+    }
+}
+
+/// Translates what is left of a statement, behind the division that it needs.
+fn put_step(
+    out: &mut Output,
+    program: &Program,
+    function: &Function,
+    planned: &Planned,
+) -> Result<(), AllocError> {
+    match (planned.plan.step, planned.symbol) {
+        (Step::Gone, _) => Ok(()),
+        (Step::Fused(found), Some(symbol)) => branch(out, program, found, symbol),
+        _ => kept(out, program, function, planned),
     }
 }
 
@@ -527,11 +564,7 @@ pub(crate) fn translate_statement(
     planned: &Planned,
 ) -> Result<(), AllocError> {
     if let Some((from, into)) = planned.plan.divided {
-        out.statement("asr r%,#2,r%", &[i64::from(from), i64::from(into)])?;
+        out.statement("asr r%,#2,r%", &[from, into])?;
     }
-    match (planned.plan.step, planned.symbol) {
-        (Step::Gone, _) => Ok(()),
-        (Step::Fused(found), Some(symbol)) => branch(out, program, &found, symbol),
-        _ => kept(out, program, function, planned),
-    }
+    put_step(out, program, function, planned)
 }

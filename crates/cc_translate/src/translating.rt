@@ -95,11 +95,22 @@ fn source_of<'a>(
     Ok(text)
 }
 
+/// The source that texts become together, which are read into an empty program.
+fn source_from<'a>(
+    alloc: Global,
+    reader: &mut Reader<'a>,
+    texts: &[&'a [u8]],
+) -> Result<Vec<u8>, TranslateError<'a>>
+    ensures { IfErr result (λ e. IsTooMany e) }
+{
+    let (main, behind) = reader.read_all(texts)?;
+    source_of(alloc, &reader.program, main, behind)
+}
+
 /// The source that texts in a compiler's assembly for MIPS-I become together.
 pub fn translate<'a>(alloc: Global, texts: &[&'a [u8]]) -> Result<Vec<u8>, TranslateError<'a>>
     ensures { IfErr result (λ e. IsTooMany e) }
 {
     let mut reader = Reader::new(alloc)?;
-    let (main, behind) = reader.read_all(texts)?;
-    source_of(alloc, &reader.program, main, behind)
+    source_from(alloc, &mut reader, texts)
 }

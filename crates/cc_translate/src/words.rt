@@ -1,18 +1,25 @@
 //! The data of the translation.
 ghost use Rattle.std.specs.Prelude.{◌≤◌};
 
-use crate::output::{Mask, Output, Routine};
-use cc_program::{Meaning, Object, Program};
+use crate::output::{MASKS, Mask, Output, ROUTINES, Routine};
+use cc_program::{Meaning, Object, Program, Reference};
 use cc_rules::{kept_number, place_in, words_with};
 use std::alloc::{AllocError, Global};
 
-/// The words of all data, and for each word the symbol that it is the place of, by 1 more than its number, or 0.
+/// What is said of a word of data besides its bytes.
+#[derive(Clone, Copy)]
+struct Said {
+    /// 1 more than the number of the symbol that it is the place of, or 0.
+    place: u32,
+    /// 1 more than the number of the datum that begins there, or 0.
+    begins: u32,
+}
+
+/// The words of all data: their bytes, and what is said of each.
 #[derive(Drop)]
 struct Image {
     bytes: Vec<u8>,
-    places: Vec<u32>,
-    /// For each word 1 more than the number of the datum that begins there, or 0.
-    begins: Vec<u32>,
+    said: Vec<Said>,
 }
 
 /// The first byte behind the memory.
@@ -42,8 +49,28 @@ fn write_word(image: &mut Image, at: usize, word: u32) {
 
 /// Lets a word of the image be the place of a symbol.
 fn write_place(image: &mut Image, at: usize, symbol: u32) {
-    if let Some(place) = image.places.as_mut_slice().get_mut(at / 4) {
-        *place = symbol.saturating_add(1);
+    if let Some(said) = image.said.as_mut_slice().get_mut(at / 4) {
+        said.place = symbol.saturating_add(1);
+    }
+}
+
+/// Lets the datum with this number begin at a word of the image.
+fn write_begin(image: &mut Image, at: usize, number: u32) {
+    if let Some(said) = image.said.as_mut_slice().get_mut(at / 4) {
+        said.begins = number.saturating_add(1);
+    }
+}
+
+/// Writes a word of a datum that is a symbol.
+fn write_reference(image: &mut Image, program: &Program, one: Reference, start: usize, end: u32) {
+    let at = start.saturating_add(one.at as usize);
+    match program.symbols.meaning(one.symbol) {
+        Meaning::Place { .. } => write_place(image, at, one.symbol),
+        Meaning::End => write_word(image, at, end.wrapping_add(one.addend)),
+        _ => {
+            let address = program.address(one.symbol);
+            write_word(image, at, address.wrapping_add(one.addend));
+        }
     }
 }
 
@@ -51,16 +78,7 @@ fn write_place(image: &mut Image, at: usize, symbol: u32) {
 fn write_references(image: &mut Image, program: &Program, object: &Object, end: u32) {
     let start = place_in(object.standing.address);
     for one in &object.content.references {
-        let at = start.saturating_add(one.at as usize);
-        match program.symbols.meaning(one.symbol) {
-            Meaning::Place { .. } => write_place(image, at, one.symbol),
-            Meaning::End => write_word(image, at, end.wrapping_add(one.addend)),
-            _ => write_word(
-                image,
-                at,
-                program.address(one.symbol).wrapping_add(one.addend),
-            ),
-        }
+        write_reference(image, program, *one, start, end);
     }
 }
 
@@ -73,9 +91,7 @@ fn is_descriptor(program: &Program, object: &Object) -> bool {
 fn write_object(image: &mut Image, program: &Program, number: u32, object: &Object, end: u32) {
     let start = place_in(object.standing.address);
     if object.standing.address % 4 == 0 {
-        if let Some(place) = image.begins.as_mut_slice().get_mut(start / 4) {
-            *place = number.saturating_add(1);
-        }
+        write_begin(image, start, number);
     }
     if is_descriptor(program, object) {
         write_place(image, start, object.symbol);
@@ -85,21 +101,34 @@ fn write_object(image: &mut Image, program: &Program, number: u32, object: &Obje
     }
 }
 
-/// The image of all data, where `behind` is the first byte behind them and `end` the one behind what follows too.
-fn image_of(alloc: Global, program: &Program, behind: u32, end: u32) -> Result<Image, AllocError> {
-    let size = place_in(behind);
-    let mut image = Image {
-        bytes: vec![in alloc; 0u8; size]?,
-        places: vec![in alloc; 0u32; size / 4]?,
-        begins: vec![in alloc; 0u32; size / 4]?,
+/// An image of words of 0 that are nothing else.
+fn empty_image(alloc: Global, bytes: usize) -> Result<Image, AllocError> {
+    let nothing = Said {
+        place: 0,
+        begins: 0,
     };
+    let said = vec![in alloc; nothing; bytes / 4]?;
+    Ok(Image {
+        bytes: vec![in alloc; 0u8; bytes]?,
+        said,
+    })
+}
+
+/// Writes all data that are kept.
+fn write_objects(image: &mut Image, program: &Program, end: u32) {
     let mut number = 0u32;
     for object in &program.objects {
         if object.kept {
-            write_object(&mut image, program, number, object, end);
+            write_object(image, program, number, object, end);
         }
         number = number.saturating_add(1);
     }
+}
+
+/// The image of all data, where `behind` is the first byte behind them and `end` the one behind what follows too.
+fn image_of(alloc: Global, program: &Program, behind: u32, end: u32) -> Result<Image, AllocError> {
+    let mut image = empty_image(alloc, place_in(behind))?;
+    write_objects(&mut image, program, end);
     Ok(image)
 }
 
@@ -125,7 +154,7 @@ enum Writing {
 fn end_line(out: &mut Output, writing: Writing) -> Result<Writing, AllocError> {
     match writing {
         Writing::Nothing => {}
-        Writing::Zeros(count) => out.filled("        .space %\n", &[i64::from(count)])?,
+        Writing::Zeros(count) => out.filled("        .space @\n", i64::from(count), &[])?,
         Writing::Words(_) => out.put("\n")?,
     }
     Ok(Writing::Nothing)
@@ -162,14 +191,21 @@ fn before_word(out: &mut Output, writing: Writing) -> Result<Writing, AllocError
 }
 
 /// The label of a datum.
+fn put_object_label(
+    out: &mut Output,
+    program: &Program,
+    object: &Object,
+) -> Result<(), AllocError> {
+    if is_descriptor(program, object) {
+        out.put("d.")?;
+    }
+    out.label(&program.symbols, object.symbol)
+}
+
+/// The label of the datum with a number.
 fn put_label(out: &mut Output, program: &Program, number: u32) -> Result<(), AllocError> {
     match program.objects.get(number as usize) {
-        Some(object) => {
-            if is_descriptor(program, object) {
-                out.put("d.")?;
-            }
-            out.label(&program.symbols, object.symbol)
-        }
+        Some(object) => put_object_label(out, program, object),
         None => Ok(()),
     }
 }
@@ -194,16 +230,30 @@ fn put_word(
     Ok(writing)
 }
 
+/// Ends the line that is being written where a datum begins, and adds the label of that.
+fn before_begin(
+    out: &mut Output,
+    program: &Program,
+    writing: Writing,
+    begins: u32,
+) -> Result<Writing, AllocError> {
+    match kept_number(begins) {
+        Some(number) => {
+            end_line(out, writing)?;
+            put_label(out, program, number)?;
+            Ok(Writing::Nothing)
+        }
+        None => Ok(writing),
+    }
+}
+
 /// The words of an image, with the labels of the data.
 fn put_image(out: &mut Output, program: &Program, image: &Image) -> Result<(), AllocError> {
     let mut writing = Writing::Nothing;
-    for (i, (place, begins)) in image.places.iter().zip(image.begins.iter()).enumerate() {
-        if let Some(number) = kept_number(*begins) {
-            writing = end_line(out, writing)?;
-            put_label(out, program, number)?;
-        }
+    for (i, said) in image.said.iter().enumerate() {
+        writing = before_begin(out, program, writing, said.begins)?;
         let word = word_at(&image.bytes, i.saturating_mul(4));
-        writing = put_word(out, program, writing, *place, word)?;
+        writing = put_word(out, program, writing, said.place, word)?;
     }
     end_line(out, writing)?;
     Ok(())
@@ -212,33 +262,49 @@ fn put_image(out: &mut Output, program: &Program, image: &Image) -> Result<(), A
 /// A label of a number, and a word.
 fn put_named(out: &mut Output, label: &str, number: u32, value: u32) -> Result<(), AllocError> {
     out.put(label)?;
-    out.filled("%: .word %\n", &[i64::from(number), i64::from(value)])
+    out.number(i64::from(number))?;
+    out.filled(": .word @\n", i64::from(value), &[])
 }
 
 /// Whether a routine keeps words of its own.
 fn keeps_words(out: &Output) -> bool {
-    out.routines.contains(&Routine::SignedProduct)
-        || out.routines.contains(&Routine::SignedQuotient)
+    out.needs(Routine::SignedProduct) || out.needs(Routine::SignedQuotient)
 }
 
-/// How many data words follow those of the program.
-fn more_words(out: &Output) -> u64 {
-    let mut count = 1u64;
-    for which in Routine::ALL {
-        if out.routines.contains(&which) && shift_name(which).is_some() {
+/// How many words the tables of shifts have.
+fn shift_words(out: &Output) -> u64 {
+    let mut count = 0u64;
+    for which in &ROUTINES {
+        if shift_name(*which).is_some() && out.needs(*which) {
             count = count.saturating_add(32);
         }
     }
-    for mask in Mask::ALL {
-        if out.masks.contains(&mask) {
+    count
+}
+
+/// How many words the tables have that statements read.
+fn mask_words(out: &Output) -> u64 {
+    let mut count = 0u64;
+    for mask in &MASKS {
+        if out.needs_mask(*mask) {
             count = count.saturating_add(4);
         }
     }
-    if keeps_words(out) {
-        count = count.saturating_add(3);
-    }
-    let pooled = (out.numbers.len() as u64).saturating_add(out.ends.len() as u64);
-    count.saturating_add(pooled)
+    count
+}
+
+/// How many words hold numbers that statements load, and addresses behind all data.
+fn number_words(out: &Output) -> u64 {
+    (out.numbers.len() as u64).saturating_add(out.ends.len() as u64)
+}
+
+/// How many data words follow those of the program: one is the stack pointer at the start.
+fn more_words(out: &Output) -> u64 {
+    let own = if keeps_words(out) { 3u64 } else { 0 };
+    own.saturating_add(shift_words(out))
+        .saturating_add(mask_words(out))
+        .saturating_add(number_words(out))
+        .saturating_add(1)
 }
 
 /// The label of a shift's table.
@@ -254,40 +320,41 @@ fn shift_name(which: Routine) -> Option<&'static str> {
 /// The table of a shift: its place for each count.
 fn put_shift_table(out: &mut Output, which: Routine, label: &str) -> Result<(), AllocError> {
     out.put(label)?;
-    for count in 0..32i64 {
+    for count in 0..32u8 {
         out.put("        .word ")?;
         out.put(which.name())?;
-        out.filled(".n%\n", &[count])?;
+        out.filled(".n%\n", 0, &[count])?;
     }
     Ok(())
 }
 
 /// The tables of the shifts that are called.
 fn put_shift_tables(out: &mut Output) -> Result<(), AllocError> {
-    for which in Routine::ALL {
-        if let Some(label) = shift_name(which) {
-            if out.routines.contains(&which) {
-                put_shift_table(out, which, label)?;
+    for which in &ROUTINES {
+        if let Some(label) = shift_name(*which) {
+            if out.needs(*which) {
+                put_shift_table(out, *which, label)?;
             }
         }
     }
     Ok(())
 }
 
+/// A table that statements read.
+fn put_mask(out: &mut Output, mask: Mask) -> Result<(), AllocError> {
+    out.put(mask.name())?;
+    out.put(":\n")?;
+    for word in &mask.words() {
+        out.filled("        .word @\n", *word, &[])?;
+    }
+    Ok(())
+}
+
 /// The tables that statements read.
 fn put_masks(out: &mut Output) -> Result<(), AllocError> {
-    for mask in Mask::ALL {
-        if out.masks.contains(&mask) {
-            out.put(mask.name())?;
-            out.filled(
-                ":
-        .word %
-        .word %
-        .word %
-        .word %
-",
-                &mask.words(),
-            )?;
+    for mask in &MASKS {
+        if out.needs_mask(*mask) {
+            put_mask(out, *mask)?;
         }
     }
     Ok(())
@@ -315,7 +382,7 @@ fn put_numbers(out: &mut Output, end: u32) -> Result<(), AllocError> {
             put_named(out, "k.end.", number, end.wrapping_add(number))?;
         }
     }
-    out.filled("k.stack: .word %\n", &[i64::from(LIMIT - STACK_GAP)])
+    out.filled("k.stack: .word @\n", i64::from(LIMIT - STACK_GAP), &[])
 }
 
 /// How far below the end of the memory the stack begins.
@@ -328,6 +395,22 @@ pub(crate) fn end_of(out: &Output, behind: u64) -> u64
     behind.saturating_add(more_words(out).saturating_mul(4))
 }
 
+/// Adds an image and what follows it, up to the byte `end`.
+fn put_words(
+    out: &mut Output,
+    program: &Program,
+    image: &Image,
+    end: u32,
+) -> Result<(), AllocError> {
+    if out.input {
+        out.put(".input\n")?;
+    }
+    out.put(".data\n")?;
+    put_image(out, program, image)?;
+    put_tables(out)?;
+    put_numbers(out, end)
+}
+
 /// Adds the data, where those of the program end before the byte `behind`, and all before `end`.
 pub(crate) fn put_data(
     alloc: Global,
@@ -336,11 +419,6 @@ pub(crate) fn put_data(
     behind: u32,
     end: u32,
 ) -> Result<(), AllocError> {
-    if out.input {
-        out.put(".input\n")?;
-    }
-    out.put(".data\n")?;
-    put_image(out, program, &image_of(alloc, program, behind, end)?)?;
-    put_tables(out)?;
-    put_numbers(out, end)
+    let image = image_of(alloc, program, behind, end)?;
+    put_words(out, program, &image, end)
 }
