@@ -1,5 +1,5 @@
 -- Where a statement may go on.
-use Rattle.std.specs.Prelude.{ℕ, Bool, true, false, cond, eqb, Option, Some, None}
+use Rattle.std.specs.Prelude.{ℕ, Bool, true, false, cond, eqb, Some, None}
 use Rattle.mx_isa.specs.declared.inst.Cond.{Cond}
 use Rattle.mx_isa.specs.declared.inst.Cond.TheVariants.{Eq, Ge, Hs}
 use Rattle.mx_source.specs.declared.statement.Statement.{Statement}

@@ -1,7 +1,5 @@
-use Rattle.std.proofs.Common.{◌≡◌, ◌<◌, ◌≤◌, ◌+◌, ◌-◌, ℕ, List, true, false, inr, length, refl, sym, ap, ◌∙◌, subst, arith}
-use Rattle.std.specs.Prelude.{min, Option}
+use Rattle.std.proofs.Common.{◌≡◌, ◌<◌, ◌+◌, ◌-◌, ℕ, true, false, inr, length, refl, sym, ap, ◌∙◌, subst, arith}
 use Rattle.mx_turn.specs.Cycle.{MachineState}
-use Rattle.mx_turn.specs.Program.{state_after}
 use Rattle.mx_turn.specs.Run.{bits}
 use Rattle.mx_report.proofs.Runs.{state_at, console_end}
 use Rattle.lab_draw.specs.Frames.{AreFrames, IsEnd}

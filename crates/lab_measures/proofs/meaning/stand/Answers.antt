@@ -1,5 +1,5 @@
-use Rattle.std.proofs.Common.{◌≡◌, ℕ, List, [], sym, ap, ◌∙◌}
-use Rattle.mx_source.specs.Meaning.{Mark, Program, Run, program, start, run_for}
+use Rattle.std.proofs.Common.{◌≡◌, ℕ, [], sym, ap, ◌∙◌}
+use Rattle.mx_source.specs.Meaning.{Program, Run, program, run_for}
 use Rattle.mx_seq.specs.Seqs.{state_of}
 use Rattle.cmd_meaning.specs.Told.{steps_in}
 use Rattle.cmd_meaning.specs.Endings.{mark_of}

@@ -1,4 +1,4 @@
-use Rattle.std.proofs.Common.{List, None, ap, ◌∙◌}
+use Rattle.std.proofs.Common.{None, ap, ◌∙◌}
 use Rattle.std.specs.Option.{option_copied}
 use Rattle.mx_source.specs.Meaning.{given}
 use Rattle.mx_turn.specs.Handler.{shipped}

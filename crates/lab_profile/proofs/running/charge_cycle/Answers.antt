@@ -1,6 +1,5 @@
 use Rattle.std.proofs.Common.{◌≡◌, ◌+◌, ◌-◌, ◌*◌, ◌^◌, ◌≤◌, suc, ◌++◌, ◌∷◌, [], Bool, true, false, ap, ◌∙◌, subst, arith}
 use Rattle.std.specs.Prelude.{cond, eqb, ltb, ◌&&◌}
-use Rattle.mx_turn.specs.declared.Cycled.{Cycled}
 use Rattle.mx_turn.specs.Counted.{one}
 use Rattle.mx_turn.specs.Program.{answer_after}
 use Rattle.mx_turn.specs.Run.{bits}

@@ -1,4 +1,4 @@
-use Rattle.std.proofs.Common.{◌≡◌, refl, ap, ◌∙◌, arith}
+use Rattle.std.proofs.Common.{refl, ap, ◌∙◌, arith}
 use Rattle.mx_turn.specs.Cycle.{MachineState}
 use Rattle.mx_turn.specs.Run.{bits}
 use Rattle.lab_profile.proofs.Still.{no_tally, tally_end, waiting_end}

@@ -1,6 +1,4 @@
-use Rattle.std.proofs.Common.{◌≡◌, ◌≤◌, ◌<◌, ◌+◌, ◌-◌, suc, Bool, length, sym, subst, arith}
-use Rattle.std.specs.Prelude.{leb, min}
-use Rattle.std.proofs.lemmas.Bool.Decides.{nat_tests}
+use Rattle.std.proofs.Common.{◌≡◌, ◌-◌, Bool, length, sym, subst, arith}
 use Rattle.mx_turn.specs.Run.{bits}
 use Rattle.lab_draw.specs.Frames.{IsFrameOf, AreFrames}
 use Rattle.lab_draw.proofs.Recorded.{next_frame, length_after, past, within}
