@@ -14,6 +14,6 @@ items_of items f = cond (leb f.first f.end && leb f.end (length items)) (between
 abbrev pub is_used : List Symbol → ℕ → Bool
 is_used symbols number = unwrap_or (option_map (λ s. s.used) (slice_get symbols number)) false
 
--- no function, item or datum was read, and no name of a file
+-- no item, function or datum was read
 abbrev pub IsEmpty : Program → Type 0
 IsEmpty p = (p.items.items ≡ []) × (p.functions.items ≡ []) × (p.objects.items ≡ [])
