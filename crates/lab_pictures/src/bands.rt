@@ -1,270 +1,210 @@
 //! A drawing as a text of 100 columns, in bands of sixteen cycles.
 use crate::ending::push_ending;
 use crate::label::{push_address, push_fitted_word};
-use crate::marks::{cell_of, end_of, stage_name, without};
+use crate::marks::{cell_of, ended_before, stage_name, without};
 use crate::subject::Subject;
-use crate::whole::bytes_of;
+use crate::writer::Writer;
 use lab_draw::{Cell, Frame, Row};
 use mx_io::Memory;
-use std::alloc::{AllocError, Global};
-use std::ops::Range;
+use std::alloc::Global;
 
 /// The cycles of a band.
 const COLUMNS: usize = 16;
 
-/// The signs of a word at most.
+/// The columns before those of the cycles.
+const LABEL: usize = 36;
+
+/// The signs of a word, and of a line, at most.
 const WORD: usize = 20;
 
-/// What two lines begin with.
-const INTERRUPTS: &str = "interrupts";
+const LINE: usize = 5;
 
-const CONSOLE: &str = "console";
+/// The columns of a cell.
+const CELL: usize = 4;
 
-// What a cell shows, in at most four bytes.
-fn push_cell(line: &mut String, cell: Cell) -> Result<(), AllocError> {
+// Appends a word and a mark, and blanks up to the next cell.
+fn push_wide(text: &mut Writer, word: &str, mark: &str) {
+    let place = text.len();
+    text.push_str(word);
+    text.push_str(mark);
+    text.pad(place, CELL);
+}
+
+// Appends what a cell shows.
+fn push_cell(text: &mut Writer, cell: Cell) {
     match cell {
-        Cell::Nothing => push_wide(line, "", ""),
-        Cell::Waits => push_wide(line, "..", ""),
-        Cell::Live(number) => push_wide(line, stage_name(number), ""),
-        Cell::Squashed(number) => push_wide(line, stage_name(number), "*"),
-        Cell::Killed(number) => push_wide(line, stage_name(number), "!"),
+        Cell::Nothing => push_wide(text, "", ""),
+        Cell::Waits => push_wide(text, "..", ""),
+        Cell::Live(number) => push_wide(text, stage_name(number), ""),
+        Cell::Squashed(number) => push_wide(text, stage_name(number), "*"),
+        Cell::Killed(number) => push_wide(text, stage_name(number), "!"),
     }
-}
-
-// Appends a word and a mark, and blanks up to four bytes.
-fn push_wide(line: &mut String, word: &str, mark: &str) -> Result<(), AllocError> {
-    line.push_str(word)?;
-    line.push_str(mark)?;
-    for _ in word.len().saturating_add(mark.len())..4 {
-        line.push(' ')?;
-    }
-    Ok(())
-}
-
-// Appends a line without the blanks at its end.
-fn end_line(text: &mut String, line: &str) -> Result<(), AllocError> {
-    text.push_str(line.trim_end())?;
-    text.push('\n')
 }
 
 // Whether a row shows something in a band.
 fn is_seen(row: &Row, begins: usize, end: usize) -> bool {
-    let mut seen = false;
     for place in begins..end {
         if cell_of(row, place) != Cell::Nothing {
-            seen = true;
+            return true;
         }
     }
-    seen
+    false
 }
 
-// Appends what stands before the cycles' numbers.
-fn push_title(alloc: Global, line: &mut String, first: u64, last: u64) -> Result<(), AllocError> {
-    let title = format!(in alloc; "cycles {first} to {last}")?;
-    write!(line, "{title:<36}")
+// Appends what stands before the cycles' numbers: the first of them, and the last.
+fn push_title(text: &mut Writer, first: u64, last: u64) {
+    let place = text.len();
+    text.push_numbers(&["cycles ", " to "], &[first, last]);
+    text.pad(place, LABEL);
 }
 
-// Appends the cycles' numbers, of which the last three digits are shown.
-fn push_digits(line: &mut String, first: u64, last: u64) -> Result<(), AllocError> {
-    for cycle in first..=last {
-        let digits = cycle % 1000;
-        write!(line, "{digits:<4}")?;
-    }
-    Ok(())
+// Appends the last three digits of a cycle's number.
+fn push_digits(text: &mut Writer, cycle: u64) {
+    let place = text.len();
+    text.push_number(cycle % 1000);
+    text.pad(place, CELL);
 }
 
 // Appends the line of the cycles' numbers.
-fn push_numbers(
-    alloc: Global,
-    text: &mut String,
-    first: u64,
-    count: usize,
-) -> Result<(), AllocError> {
-    let last = first.saturating_add(count as u64).saturating_sub(1);
-    let mut line = String::new(alloc);
-    push_title(alloc, &mut line, first, last)?;
-    push_digits(&mut line, first, last)?;
-    end_line(text, line.as_str())
+fn push_numbers(text: &mut Writer, first: u64, count: usize) {
+    let end = first.saturating_add(count as u64);
+    push_title(text, first, end.saturating_sub(1));
+    for cycle in first..end {
+        push_digits(text, cycle);
+    }
+    text.end_line();
 }
 
-// What a cycle did beside its turn, in at most four bytes.
-fn push_event(line: &mut String, frame: &Frame) -> Result<(), AllocError> {
+// What a cycle did beside its turn.
+fn event_of(frame: &Frame) -> &'static str {
     if frame.cycled.taken {
-        push_wide(line, "int", "")
+        "int"
     } else if frame.requested {
-        push_wide(line, "req", "")
+        "req"
     } else {
-        push_wide(line, "", "")
+        ""
     }
 }
 
-// The byte that a cycle sent.
-fn push_sent(line: &mut String, frame: &Frame) -> Result<(), AllocError> {
-    match frame.cycled.byte {
-        Some(byte) => {
-            if byte > 32 && byte < 127 {
-                line.push('\'')?;
-                line.push(char::from(byte))?;
-                line.push_str("' ")
-            } else {
-                write!(line, "{byte:02x}  ")
-            }
-        }
-        None => push_wide(line, "", ""),
+// Appends a byte that was sent, as a character where it is one that can be seen.
+fn push_sent(text: &mut Writer, byte: u8) {
+    if byte > 32 && byte < 127 {
+        text.push('\'');
+        text.push(char::from(byte));
+        text.push_str("' ");
+    } else {
+        write!(text, "{byte:02x}  ");
     }
 }
 
-// Appends the columns of requests and interrupts.
-fn push_interrupts(line: &mut String, frames: &[Frame]) -> Result<(), AllocError> {
-    write!(line, "{INTERRUPTS:<36}")?;
+// Whether a request or an interrupt came in one of the cycles.
+fn is_interrupted(frames: &[Frame]) -> bool {
     for frame in frames {
-        push_event(line, frame)?;
+        if frame.requested || frame.cycled.taken {
+            return true;
+        }
     }
-    Ok(())
+    false
 }
 
-// Appends the columns of the bytes that were sent.
-fn push_console(line: &mut String, frames: &[Frame]) -> Result<(), AllocError> {
-    write!(line, "{CONSOLE:<36}")?;
+// Whether a byte was sent in one of the cycles.
+fn is_sending(frames: &[Frame]) -> bool {
     for frame in frames {
-        push_sent(line, frame)?;
-    }
-    Ok(())
-}
-
-// Appends the line of requests and interrupts, where there is one.
-fn push_events(alloc: Global, text: &mut String, frames: &[Frame]) -> Result<(), AllocError> {
-    if !frames
-        .iter()
-        .any(|frame| frame.requested || frame.cycled.taken)
-    {
-        return Ok(());
-    }
-    let mut line = String::new(alloc);
-    push_interrupts(&mut line, frames)?;
-    end_line(text, line.as_str())
-}
-
-// Appends the line of the console, where a byte was sent.
-fn push_bytes(alloc: Global, text: &mut String, frames: &[Frame]) -> Result<(), AllocError> {
-    if !frames.iter().any(|frame| frame.cycled.byte.is_some()) {
-        return Ok(());
-    }
-    let mut line = String::new(alloc);
-    push_console(&mut line, frames)?;
-    end_line(text, line.as_str())
-}
-
-// How many rows at the front end before a place.
-fn ended_before(rows: &[Row], place: usize) -> usize {
-    rows.iter().take_while(|row| end_of(row) <= place).count()
-}
-
-/// A drawing that is told in bands, and memory for its lines.
-#[derive(Clone, Copy)]
-struct Bands<'a> {
-    alloc: Global,
-    subject: &'a Subject<'a>,
-}
-
-impl Bands<'_> {
-    // Appends the word at an address, and blanks up to the next column.
-    fn push_word(&self, line: &mut String, address: Option<u32>) -> Result<(), AllocError> {
-        let mut word = String::new(self.alloc);
-        push_fitted_word(self.alloc, &mut word, self.subject, address, WORD)?;
-        write!(line, " {word:<20} ")
-    }
-
-    // Appends where the word at an address comes from, behind blanks.
-    fn push_origin(&self, line: &mut String, address: Option<u32>) -> Result<(), AllocError> {
-        let mut origin = String::new(self.alloc);
-        self.subject.push_origin(&mut origin, address)?;
-        write!(line, "{origin:>5} ")
-    }
-
-    // Appends the label of a row, and its cells in a band.
-    fn push_columns(
-        &self,
-        line: &mut String,
-        row: &Row,
-        band: Range<usize>,
-    ) -> Result<(), AllocError> {
-        push_address(line, row.address)?;
-        self.push_word(line, row.address)?;
-        self.push_origin(line, row.address)?;
-        for place in band {
-            push_cell(line, cell_of(row, place))?;
+        if frame.cycled.byte.is_some() {
+            return true;
         }
-        Ok(())
     }
+    false
+}
 
-    // Appends the line of a row in a band.
-    fn push_row(&self, text: &mut String, row: &Row, band: Range<usize>) -> Result<(), AllocError> {
-        let mut line = String::new(self.alloc);
-        self.push_columns(&mut line, row, band)?;
-        end_line(text, line.as_str())
+// Appends the line of requests and interrupts.
+fn push_interrupts(text: &mut Writer, frames: &[Frame]) {
+    text.push_padded("interrupts", LABEL);
+    for frame in frames {
+        push_wide(text, event_of(frame), "");
     }
+    text.end_line();
+}
 
-    // Appends the lines of the rows in a band.
-    fn push_rows(
-        &self,
-        text: &mut String,
-        rows: &[Row],
-        band: Range<usize>,
-    ) -> Result<(), AllocError> {
-        for row in rows {
-            if row.begins >= band.end {
-                return Ok(());
-            }
-            if is_seen(row, band.start, band.end) {
-                self.push_row(text, row, band.start..band.end)?;
-            }
+// Appends the line of the bytes that were sent.
+fn push_console(text: &mut Writer, frames: &[Frame]) {
+    text.push_padded("console", LABEL);
+    for frame in frames {
+        match frame.cycled.byte {
+            Some(byte) => push_sent(text, byte),
+            None => push_wide(text, "", ""),
         }
-        Ok(())
     }
+    text.end_line();
+}
 
-    // Appends the band from a place on, with the rows that have not ended before it.
-    fn push_band(
-        &self,
-        text: &mut String,
-        rows: &[Row],
-        begins: usize,
-        shown: &[Frame],
-    ) -> Result<(), AllocError> {
-        let first = u64::from(self.subject.from).saturating_add(begins as u64);
-        push_numbers(self.alloc, text, first, shown.len())?;
-        push_events(self.alloc, text, shown)?;
-        push_bytes(self.alloc, text, shown)?;
-        self.push_rows(text, rows, begins..begins.saturating_add(shown.len()))?;
-        text.push('\n')
+// Appends the lines above the rows: the cycles' numbers, and where there are any, requests and bytes that were sent.
+fn push_heads(text: &mut Writer, first: u64, frames: &[Frame]) {
+    push_numbers(text, first, frames.len());
+    if is_interrupted(frames) {
+        push_interrupts(text, frames);
     }
-
-    // Appends the bands.
-    fn push_bands(&self, text: &mut String, rows: &[Row]) -> Result<(), AllocError> {
-        let frames = self.subject.drawing.frames.as_slice();
-        let mut left = rows;
-        for (band, shown) in frames.chunks(COLUMNS).enumerate() {
-            let begins = band.saturating_mul(COLUMNS);
-            left = without(left, ended_before(left, begins));
-            self.push_band(text, left, begins, shown)?;
-        }
-        Ok(())
+    if is_sending(frames) {
+        push_console(text, frames);
     }
 }
 
-// Appends the whole text.
-fn push_text(
-    alloc: Global,
-    text: &mut String,
-    subject: &Subject,
-    rows: &[Row],
-) -> Result<(), AllocError> {
-    Bands { alloc, subject }.push_bands(text, rows)?;
-    text.push_str(
-        "IF RF ALU MEM WB: the stages; .. waits for the cache; * squashed; ! killed by an interrupt\n",
-    )?;
-    push_ending(text, subject)?;
-    text.push('\n')
+// Appends the label of a row: its address, its word and the line of the source.
+fn push_label(text: &mut Writer, subject: &Subject, address: Option<u32>) {
+    push_address(text, address);
+    text.push(' ');
+    let place = text.len();
+    push_fitted_word(text, subject, address, WORD);
+    text.pad(place, WORD);
+    text.push(' ');
+    subject.push_origin(text, address, LINE);
+    text.push(' ');
+}
+
+// Appends the line of a row in the band from a place to another.
+fn push_row(text: &mut Writer, subject: &Subject, row: &Row, begins: usize, end: usize) {
+    push_label(text, subject, row.address);
+    for place in begins..end {
+        push_cell(text, cell_of(row, place));
+    }
+    text.end_line();
+}
+
+// Appends the lines of the rows in the band from a place to another.
+fn push_rows(text: &mut Writer, subject: &Subject, rows: &[Row], begins: usize, end: usize) {
+    for row in rows {
+        if row.begins >= end {
+            return;
+        }
+        if is_seen(row, begins, end) {
+            push_row(text, subject, row, begins, end);
+        }
+    }
+}
+
+// Appends the band from a place on, with the rows that have not ended before it.
+fn push_band(text: &mut Writer, subject: &Subject, rows: &[Row], begins: usize, shown: &[Frame]) {
+    let first = u64::from(subject.from).saturating_add(begins as u64);
+    push_heads(text, first, shown);
+    push_rows(
+        text,
+        subject,
+        rows,
+        begins,
+        begins.saturating_add(shown.len()),
+    );
+    text.push('\n');
+}
+
+// Appends the bands.
+fn push_bands(text: &mut Writer, subject: &Subject, rows: &[Row]) {
+    let mut left = rows;
+    let mut begins = 0usize;
+    for shown in subject.drawing.frames.as_slice().chunks(COLUMNS) {
+        left = without(left, ended_before(left, begins.saturating_add(1)));
+        push_band(text, subject, left, begins, shown);
+        begins = begins.saturating_add(COLUMNS);
+    }
 }
 
 /// A drawing as a text of 100 columns: bands of sixteen cycles, a row a fetch, a cell a cycle.
@@ -273,7 +213,12 @@ fn push_text(
 ///
 /// `Memory` where there is no room for it.
 pub fn text(alloc: Global, subject: &Subject, rows: &[Row]) -> Result<Vec<u8>, Memory> {
-    let mut text = String::new(alloc);
-    let written = push_text(alloc, &mut text, subject, rows);
-    bytes_of(text, written)
+    let mut text = Writer::new(alloc);
+    push_bands(&mut text, subject, rows);
+    text.push_str(
+        "IF RF ALU MEM WB: the stages; .. waits for the cache; * squashed; ! killed by an interrupt\n",
+    );
+    push_ending(&mut text, subject);
+    text.push('\n');
+    text.into_bytes()
 }

@@ -5,31 +5,27 @@ use crate::page::{body, data_end, head, panels, tail, title_end};
 use crate::script::script;
 use crate::style::style;
 use crate::subject::Subject;
-use crate::whole::bytes_of;
+use crate::writer::Writer;
 use lab_draw::Row;
 use mx_io::Memory;
-use std::alloc::{AllocError, Global};
+use std::alloc::Global;
 
 // Appends what stands before the data.
-fn push_front(text: &mut String, name: &str) -> Result<(), AllocError> {
-    text.push_str(head())?;
-    push_escaped(text, name)?;
-    for part in [title_end(), style(), body()] {
-        text.push_str(part)?;
-    }
-    push_escaped(text, name)?;
-    text.push_str(panels())
+fn push_front(page: &mut Writer, name: &str) {
+    page.push_str(head());
+    push_escaped(page, name);
+    page.push_str(title_end());
+    page.push_str(style());
+    page.push_str(body());
+    push_escaped(page, name);
+    page.push_str(panels());
 }
 
-// Appends the whole page.
-fn push_page(text: &mut String, subject: &Subject, rows: &[Row]) -> Result<(), AllocError> {
-    push_front(text, subject.name())?;
-    text.push('{')?;
-    push_members(text, subject, rows)?;
-    for part in [data_end(), script(), tail()] {
-        text.push_str(part)?;
-    }
-    Ok(())
+// Appends what stands behind the data.
+fn push_back(page: &mut Writer) {
+    page.push_str(data_end());
+    page.push_str(script());
+    page.push_str(tail());
 }
 
 /// A drawing as a page of HTML that needs no server and no network: the data of the run, and a script that draws what is in
@@ -39,7 +35,10 @@ fn push_page(text: &mut String, subject: &Subject, rows: &[Row]) -> Result<(), A
 ///
 /// `Memory` where there is no room for it.
 pub fn html(alloc: Global, subject: &Subject, rows: &[Row]) -> Result<Vec<u8>, Memory> {
-    let mut text = String::new(alloc);
-    let written = push_page(&mut text, subject, rows);
-    bytes_of(text, written)
+    let mut page = Writer::new(alloc);
+    push_front(&mut page, subject.name());
+    page.push('{');
+    push_members(&mut page, subject, rows);
+    push_back(&mut page);
+    page.into_bytes()
 }

@@ -1,93 +1,61 @@
 //! The label of a row.
-use crate::subject::{Standing, Subject};
-use lab_words::push_instruction;
+use crate::subject::Subject;
+use crate::writer::Writer;
 use mx_code::decode;
-use mx_link::Origin;
-use std::alloc::{AllocError, Global};
-
-// Appends a word of an address.
-fn push_code_word(
-    text: &mut String,
-    subject: &Subject,
-    address: u32,
-    word: u32,
-) -> Result<(), AllocError> {
-    match decode(word) {
-        Some(inst) => push_instruction(text, subject.names, address, &inst),
-        None => write!(text, "{word:08x}"),
-    }
-}
-
-// Appends where a code word comes from.
-fn push_from(text: &mut String, subject: &Subject, origin: Origin) -> Result<(), AllocError> {
-    match origin {
-        Origin::Own(statement) => {
-            let line = subject.line_of(statement);
-            write!(text, "{line}")
-        }
-        Origin::Copy(statement) => {
-            let line = subject.line_of(statement);
-            write!(text, "+{line}")
-        }
-        Origin::Pad => text.push_str("-"),
-    }
-}
 
 /// Appends an address in hexadecimal; dashes where the frames end before it is known.
-pub fn push_address(text: &mut String, address: Option<u32>) -> Result<(), AllocError> {
+pub fn push_address(text: &mut Writer, address: Option<u32>) {
     match address {
         Some(address) => write!(text, "{address:08x}"),
         None => text.push_str("--------"),
     }
 }
 
-impl Subject<'_> {
-    /// Appends the word at an address, in assembly language.
-    pub fn push_word(&self, text: &mut String, address: Option<u32>) -> Result<(), AllocError> {
-        let Some(address) = address else {
-            return Ok(());
-        };
-        match self.standing(address) {
-            Standing::Handler(word) | Standing::Code(word, _) => {
-                push_code_word(text, self, address, word)
-            }
-            Standing::Outside => Ok(()),
+// How many signs a mark and a line take.
+fn signs_of(mark: &str, line: Option<u32>) -> usize {
+    match line {
+        Some(line) => {
+            let more = line.checked_ilog10().unwrap_or(0);
+            mark.len().saturating_add(1).saturating_add(more as usize)
         }
-    }
-
-    /// Appends where the word at an address comes from: a line, `+` and a line for a copy, `-` for a no-op that was put in, `h`
-    /// for the handler.
-    pub fn push_origin(&self, text: &mut String, address: Option<u32>) -> Result<(), AllocError> {
-        let Some(address) = address else {
-            return Ok(());
-        };
-        match self.standing(address) {
-            Standing::Handler(_) => text.push_str("h"),
-            Standing::Code(_, origin) => push_from(text, self, origin),
-            Standing::Outside => Ok(()),
-        }
+        None => mark.len(),
     }
 }
 
-// Appends a word where there is room for so many signs, else the front of it and two dots.
-fn push_fitted(text: &mut String, word: &str, room: usize) -> Result<(), AllocError> {
-    if word.len() <= room {
-        return text.push_str(word);
+// Appends a word of an address.
+fn push_code_word(text: &mut Writer, subject: &Subject, address: u32, word: u32) {
+    match decode(word) {
+        Some(inst) => text.push_instruction(subject.names, address, &inst),
+        None => write!(text, "{word:08x}"),
     }
-    text.push_str(word.get(..room.saturating_sub(2)).unwrap_or(""))?;
-    text.push_str("..")
+}
+
+impl Subject<'_> {
+    /// Appends the word at an address, in assembly language.
+    pub fn push_word(&self, text: &mut Writer, address: Option<u32>) {
+        if let Some(address) = address {
+            if let Some(word) = self.word_at(address) {
+                push_code_word(text, self, address, word);
+            }
+        }
+    }
+
+    /// Appends where the word at an address comes from, behind blanks where it takes less than a width: a line, `+` and a line for a
+    /// copy, `-` for a no-op that was put in, `h` for the handler.
+    pub fn push_origin(&self, text: &mut Writer, address: Option<u32>, width: usize) {
+        let (mark, line) = self.origin_of(address);
+        text.push_blanks(width.saturating_sub(signs_of(mark, line)));
+        text.push_str(mark);
+        if let Some(line) = line {
+            text.push_number(u64::from(line));
+        }
+    }
 }
 
 /// Appends the word at an address where there is room for so many signs: of a longer one, which a long name makes, the front
 /// and two dots.
-pub fn push_fitted_word(
-    alloc: Global,
-    text: &mut String,
-    subject: &Subject,
-    address: Option<u32>,
-    room: usize,
-) -> Result<(), AllocError> {
-    let mut word = String::new(alloc);
-    subject.push_word(&mut word, address)?;
-    push_fitted(text, word.as_str(), room)
+pub fn push_fitted_word(text: &mut Writer, subject: &Subject, address: Option<u32>, room: usize) {
+    let place = text.len();
+    subject.push_word(text, address);
+    text.fit(place, room);
 }

@@ -16,7 +16,7 @@ mod script;
 mod style;
 mod subject;
 mod waves;
-mod whole;
+mod writer;
 
 pub use bands::text;
 pub use document::html;

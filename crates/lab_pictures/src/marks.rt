@@ -23,14 +23,31 @@ pub fn cell_of(row: &Row, place: usize) -> Cell {
     }
 }
 
-/// The place behind a row's last cell.
-pub fn end_of(row: &Row) -> usize {
+// The place behind a row's last cell.
+fn end_of(row: &Row) -> usize {
     row.begins.saturating_add(row.cells.len())
+}
+
+/// How many rows at the front end before a place.
+pub fn ended_before(rows: &[Row], place: usize) -> usize {
+    let mut ended = 0usize;
+    for row in rows {
+        if end_of(row) >= place {
+            return ended;
+        }
+        ended = ended.saturating_add(1);
+    }
+    ended
 }
 
 /// Whether a row shows something at all.
 pub fn is_shown(row: &Row) -> bool {
-    row.cells.iter().any(|cell| *cell != Cell::Nothing)
+    for cell in row.cells.iter() {
+        if *cell != Cell::Nothing {
+            return true;
+        }
+    }
+    false
 }
 
 /// The rows behind the first ones.

@@ -2,12 +2,12 @@
 use crate::ending::push_ending;
 use crate::escape::push_escaped;
 use crate::label::{push_address, push_fitted_word};
-use crate::marks::{cell_of, is_shown, stage_name};
+use crate::marks::{is_shown, stage_name};
 use crate::subject::Subject;
-use crate::whole::bytes_of;
+use crate::writer::Writer;
 use lab_draw::{Cell, Frame, Row};
 use mx_io::Memory;
-use std::alloc::{AllocError, Global};
+use std::alloc::Global;
 
 /// The width of the labels, of a column, and the heights of a row and of the head.
 const LABEL: u64 = 330;
@@ -39,37 +39,46 @@ fn across(place: usize) -> u64 {
     LABEL.saturating_add((place as u64).saturating_mul(COLUMN))
 }
 
-/// Where a row begins.
-fn down(number: u64) -> u64 {
-    HEAD.saturating_add(number.saturating_mul(ROW))
+// Appends what stands before a word.
+fn push_open(text: &mut Writer, x: u64, y: u64) {
+    text.push_numbers(&["<text x=\"", "\" y=\"", "\">"], &[x, y]);
 }
 
-// Appends attributes that are numbers.
-fn push_numbers(text: &mut String, numbers: &[(&str, u64)]) -> Result<(), AllocError> {
-    for (name, number) in numbers {
-        let (name, number) = (*name, *number);
-        write!(text, " {name}=\"{number}\"")?;
-    }
-    Ok(())
+// Appends a word of the head or of a label.
+fn push_word(text: &mut Writer, x: u64, y: u64, word: &str) {
+    push_open(text, x, y);
+    text.push_str(word);
+    text.push_str(END);
+}
+
+// Appends what stands between two words, the second of which is at this place.
+fn push_next(text: &mut Writer, x: u64, y: u64) {
+    text.push_str(END);
+    push_open(text, x, y);
 }
 
 // Appends a cell with a look and a word in it.
-fn push_box(text: &mut String, x: u64, y: u64, look: &str, word: &str) -> Result<(), AllocError> {
-    let (width, height) = (COLUMN - 2, ROW - 2);
-    text.push_str("<rect")?;
-    push_numbers(
-        text,
-        &[("x", x), ("y", y), ("width", width), ("height", height)],
-    )?;
-    write!(text, " class=\"{look}\"/>")?;
+fn push_box(text: &mut Writer, x: u64, y: u64, look: &str, word: &str) {
+    text.push_numbers(
+        &[
+            "<rect x=\"",
+            "\" y=\"",
+            "\" width=\"",
+            "\" height=\"",
+            "\" class=\"",
+            look,
+            "\"/>",
+        ],
+        &[x, y, COLUMN - 2, ROW - 2],
+    );
     let middle = x.saturating_add(COLUMN / 2);
-    push_word(text, middle, y.saturating_add(12), word)
+    push_word(text, middle, y.saturating_add(12), word);
 }
 
 // Appends a cell.
-fn push_cell(text: &mut String, x: u64, y: u64, cell: Cell) -> Result<(), AllocError> {
+fn push_cell(text: &mut Writer, x: u64, y: u64, cell: Cell) {
     match cell {
-        Cell::Nothing => Ok(()),
+        Cell::Nothing => {}
         Cell::Waits => push_box(text, x, y, "q", "wait"),
         Cell::Live(number) => push_box(text, x, y, stage_name(number), stage_name(number)),
         Cell::Squashed(number) => push_box(text, x, y, "s", stage_name(number)),
@@ -77,207 +86,183 @@ fn push_cell(text: &mut String, x: u64, y: u64, cell: Cell) -> Result<(), AllocE
     }
 }
 
-// Appends a word of the head or of a label.
-fn push_word(text: &mut String, x: u64, y: u64, word: &str) -> Result<(), AllocError> {
-    push_open(text, x, y)?;
-    text.push_str(word)?;
-    text.push_str(END)
-}
-
-// Appends what stands before a word.
-fn push_open(text: &mut String, x: u64, y: u64) -> Result<(), AllocError> {
-    write!(text, "<text x=\"{x}\" y=\"{y}\">")
-}
-
-// Appends what stands between two words, the second of which is at this place.
-fn push_next(text: &mut String, x: u64, y: u64) -> Result<(), AllocError> {
-    text.push_str(END)?;
-    push_open(text, x, y)
-}
-
 // Appends the label of a row.
-fn push_label(
-    alloc: Global,
-    text: &mut String,
-    subject: &Subject,
-    row: &Row,
-    y: u64,
-) -> Result<(), AllocError> {
-    let base = y.saturating_add(12);
-    push_open(text, 6, base)?;
-    push_address(text, row.address)?;
-    push_next(text, 76, base)?;
-    push_fitted_word(alloc, text, subject, row.address, WORD)?;
-    push_next(text, 272, base)?;
-    subject.push_origin(text, row.address)?;
-    text.push_str(END)
+fn push_label(text: &mut Writer, subject: &Subject, address: Option<u32>, base: u64) {
+    push_open(text, 6, base);
+    push_address(text, address);
+    push_next(text, 76, base);
+    push_fitted_word(text, subject, address, WORD);
+    push_next(text, 272, base);
+    subject.push_origin(text, address, 0);
+    text.push_str(END);
 }
 
-// Appends the line on which a row's cells stand, from the first to the last one that shows something.
-fn push_track(text: &mut String, row: &Row, y: u64) -> Result<(), AllocError> {
+// The place of the last cell of a row that shows something; that of its first cell where none does.
+fn last_shown(row: &Row) -> usize {
     let mut last = row.begins;
     for (k, cell) in row.cells.iter().enumerate() {
         if *cell != Cell::Nothing {
             last = row.begins.saturating_add(k);
         }
     }
-    let (from, to) = (across(row.begins), across(last));
-    let middle = y.saturating_add(8);
-    text.push_str("<line class=\"l\"")?;
-    push_numbers(
-        text,
-        &[("x1", from), ("y1", middle), ("x2", to), ("y2", middle)],
-    )?;
-    text.push_str("/>")
+    last
+}
+
+// Appends the line on which a row's cells stand, from the first to the last one that shows something.
+fn push_track(text: &mut Writer, row: &Row, middle: u64) {
+    text.push_numbers(
+        &[
+            "<line class=\"l\" x1=\"",
+            "\" y1=\"",
+            "\" x2=\"",
+            "\" y2=\"",
+            "\"/>",
+        ],
+        &[across(row.begins), middle, across(last_shown(row)), middle],
+    );
+}
+
+// Appends the cells of a row.
+fn push_cells(text: &mut Writer, row: &Row, y: u64) {
+    let mut x = across(row.begins);
+    for cell in row.cells.iter() {
+        push_cell(text, x, y, *cell);
+        x = x.saturating_add(COLUMN);
+    }
 }
 
 // Appends a row.
-fn push_row(
-    alloc: Global,
-    text: &mut String,
-    subject: &Subject,
-    row: &Row,
-    number: u64,
-) -> Result<(), AllocError> {
-    let y = down(number);
-    push_label(alloc, text, subject, row, y)?;
-    push_track(text, row, y)?;
-    text.push_str("<g class=\"c\">")?;
-    for (k, cell) in row.cells.iter().enumerate() {
-        push_cell(text, across(row.begins.saturating_add(k)), y, *cell)?;
-    }
-    text.push_str("</g>\n")
+fn push_row(text: &mut Writer, subject: &Subject, row: &Row, y: u64) {
+    push_label(text, subject, row.address, y.saturating_add(12));
+    push_track(text, row, y.saturating_add(8));
+    text.push_str("<g class=\"c\">");
+    push_cells(text, row, y);
+    text.push_str("</g>\n");
 }
 
 // Appends the byte that a cycle sent, as a character where it is a letter, a digit or another sign that stands for itself.
-fn push_sent_byte(text: &mut String, x: u64, byte: u8) -> Result<(), AllocError> {
+fn push_sent_byte(text: &mut Writer, x: u64, byte: u8) {
+    text.push_numbers(&["<text class=\"g\" x=\"", "\" y=\"46\">"], &[x]);
     if byte.is_ascii_alphanumeric() {
-        let sign = char::from(byte);
-        write!(text, "<text class=\"g\" x=\"{x}\" y=\"46\">'{sign}'</text>")
+        text.push('\'');
+        text.push(char::from(byte));
+        text.push('\'');
     } else {
-        write!(
-            text,
-            "<text class=\"g\" x=\"{x}\" y=\"46\">{byte:02x}</text>"
-        )
+        write!(text, "{byte:02x}");
     }
+    text.push_str(END);
 }
 
 // Appends the column of a cycle in which an interrupt was taken.
-fn push_taken(text: &mut String, x: u64, height: u64) -> Result<(), AllocError> {
-    text.push_str("<rect class=\"i\"")?;
-    push_numbers(
-        text,
-        &[("x", x), ("y", 20), ("width", COLUMN), ("height", height)],
-    )?;
-    text.push_str("/>")?;
-    push_word(text, x, 32, "int")
+fn push_taken(text: &mut Writer, x: u64, height: u64) {
+    text.push_numbers(
+        &[
+            "<rect class=\"i\" x=\"",
+            "\" y=\"20\" width=\"",
+            "\" height=\"",
+            "\"/>",
+        ],
+        &[x, COLUMN, height],
+    );
+    push_word(text, x, 32, "int");
 }
 
-// Appends the head of a column: the number of its cycle, whether an interrupt was requested or taken, the byte that was sent.
-fn push_head(
-    text: &mut String,
-    frame: &Frame,
-    cycle: u64,
-    place: usize,
-    height: u64,
-) -> Result<(), AllocError> {
-    let x = across(place);
+// Appends the number of a cycle, where there is room for it.
+fn push_number(text: &mut Writer, cycle: u64, place: usize) {
     if cycle < WIDE || place % 2 == 0 {
-        write!(text, "<text x=\"{x}\" y=\"16\">{cycle}</text>")?;
+        text.push_numbers(
+            &["<text x=\"", "\" y=\"16\">", END],
+            &[across(place), cycle],
+        );
     }
+}
+
+// Appends what stands below the number of a cycle: whether an interrupt was requested or taken, and the byte that was sent.
+fn push_event(text: &mut Writer, frame: &Frame, x: u64, height: u64) {
     if frame.cycled.taken {
-        push_taken(text, x, height)?;
+        push_taken(text, x, height);
     } else if frame.requested {
-        push_word(text, x, 32, "req")?;
+        push_word(text, x, 32, "req");
     }
-    match frame.cycled.byte {
-        Some(byte) => push_sent_byte(text, x, byte),
-        None => Ok(()),
+    if let Some(byte) = frame.cycled.byte {
+        push_sent_byte(text, x, byte);
     }
 }
 
 // Appends the heads of the columns.
-fn push_heads(text: &mut String, subject: &Subject, height: u64) -> Result<(), AllocError> {
-    push_word(text, 6, 16, "cycle")?;
+fn push_heads(text: &mut Writer, subject: &Subject, height: u64) {
+    push_word(text, 6, 16, "cycle");
+    let mut cycle = u64::from(subject.from);
     for (place, frame) in subject.drawing.frames.iter().enumerate() {
-        let cycle = u64::from(subject.from).saturating_add(place as u64);
-        push_head(text, frame, cycle, place, height)?;
+        push_number(text, cycle, place);
+        push_event(text, frame, across(place), height);
+        cycle = cycle.saturating_add(1);
     }
-    text.push('\n')
+    text.push('\n');
 }
 
 // How many rows show something.
 fn count_shown(rows: &[Row]) -> u64 {
-    rows.iter().filter(|row| is_shown(row)).count() as u64
+    let mut count = 0u64;
+    for row in rows {
+        if is_shown(row) {
+            count = count.saturating_add(1);
+        }
+    }
+    count
 }
 
 // Appends the title and the description.
-fn push_told(text: &mut String, subject: &Subject) -> Result<(), AllocError> {
-    text.push_str("<title id=\"title\">")?;
-    push_escaped(text, subject.name())?;
+fn push_told(text: &mut Writer, subject: &Subject) {
+    text.push_str("<title id=\"title\">");
+    push_escaped(text, subject.name());
     text.push_str(
         ": a run, cycle by cycle</title>\n<desc id=\"desc\">A row a fetch, a column a cycle, a cell the stage that holds the fetch; ",
-    )?;
-    push_ending(text, subject)?;
-    text.push_str("</desc>\n")
+    );
+    push_ending(text, subject);
+    text.push_str("</desc>\n");
 }
 
 // Appends the foot: what the looks of the cells say, and where the run ends.
-fn push_foot(text: &mut String, subject: &Subject, bottom: u64) -> Result<(), AllocError> {
+fn push_foot(text: &mut Writer, subject: &Subject, bottom: u64) {
     push_word(
         text,
         6,
         bottom.saturating_add(18),
         "stages IF RF ALU MEM WB; dashed: waits for the cache; struck: squashed; red: killed by an interrupt",
-    )?;
-    let base = bottom.saturating_add(36);
-    write!(text, "<text x=\"6\" y=\"{base}\">")?;
-    push_ending(text, subject)?;
-    text.push_str(END)
+    );
+    push_open(text, 6, bottom.saturating_add(36));
+    push_ending(text, subject);
+    text.push_str(END);
 }
 
 // Appends what stands before the columns: the size of the picture, what it shows, and the looks of its cells.
-fn push_front(text: &mut String, subject: &Subject, height: u64) -> Result<(), AllocError> {
+fn push_front(text: &mut Writer, subject: &Subject, height: u64) {
     let width = across(subject.drawing.frames.len()).saturating_add(10);
-    text.push_str("<svg xmlns=\"http://www.w3.org/2000/svg\"")?;
-    push_numbers(text, &[("width", width), ("height", height)])?;
-    write!(text, " viewBox=\"0 0 {width} {height}\" ")?;
-    text.push_str("role=\"img\" aria-labelledby=\"title desc\">\n")?;
-    push_told(text, subject)?;
-    text.push_str(style())?;
-    text.push_str("<rect width=\"100%\" height=\"100%\" fill=\"#fff\"/>")
+    text.push_numbers(
+        &[
+            "<svg xmlns=\"http://www.w3.org/2000/svg\" width=\"",
+            "\" height=\"",
+            "\" viewBox=\"0 0 ",
+            " ",
+            "\" role=\"img\" aria-labelledby=\"title desc\">\n",
+        ],
+        &[width, height, width, height],
+    );
+    push_told(text, subject);
+    text.push_str(style());
+    text.push_str("<rect width=\"100%\" height=\"100%\" fill=\"#fff\"/>");
 }
 
 // Appends the rows that show something.
-fn push_rows(
-    alloc: Global,
-    text: &mut String,
-    subject: &Subject,
-    rows: &[Row],
-) -> Result<(), AllocError> {
-    let mut number = 0u64;
+fn push_rows(text: &mut Writer, subject: &Subject, rows: &[Row]) {
+    let mut y = HEAD;
     for row in rows {
         if is_shown(row) {
-            push_row(alloc, text, subject, row, number)?;
-            number = number.saturating_add(1);
+            push_row(text, subject, row, y);
+            y = y.saturating_add(ROW);
         }
     }
-    Ok(())
-}
-
-// Appends the picture.
-fn push_svg(
-    alloc: Global,
-    text: &mut String,
-    subject: &Subject,
-    rows: &[Row],
-) -> Result<(), AllocError> {
-    let bottom = down(count_shown(rows));
-    push_front(text, subject, bottom.saturating_add(FOOT))?;
-    push_heads(text, subject, bottom.saturating_sub(24))?;
-    push_rows(alloc, text, subject, rows)?;
-    push_foot(text, subject, bottom)?;
-    text.push_str("\n</svg>\n")
 }
 
 /// A drawing as an SVG picture: a row a fetch, a column a cycle.
@@ -286,7 +271,12 @@ fn push_svg(
 ///
 /// `Memory` where there is no room for it.
 pub fn svg(alloc: Global, subject: &Subject, rows: &[Row]) -> Result<Vec<u8>, Memory> {
-    let mut text = String::new(alloc);
-    let written = push_svg(alloc, &mut text, subject, rows);
-    bytes_of(text, written)
+    let mut text = Writer::new(alloc);
+    let bottom = HEAD.saturating_add(count_shown(rows).saturating_mul(ROW));
+    push_front(&mut text, subject, bottom.saturating_add(FOOT));
+    push_heads(&mut text, subject, bottom.saturating_sub(24));
+    push_rows(&mut text, subject, rows);
+    push_foot(&mut text, subject, bottom);
+    text.push_str("\n</svg>\n");
+    text.into_bytes()
 }

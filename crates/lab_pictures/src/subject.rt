@@ -6,6 +6,9 @@ use mx_isa::Inst;
 use mx_link::{Linked, Origin};
 use mx_turn::SHIPPED;
 
+/// The words of the handler, which stand at the addresses from 0 on.
+pub static HANDLER: [u32; 23] = SHIPPED;
+
 /// A linked source and cycles of its run.
 #[derive(Clone, Copy)]
 pub struct Subject<'a> {
@@ -24,15 +27,12 @@ pub struct Subject<'a> {
     pub drawing: &'a Drawing,
 }
 
-/// What stands at a code address.
-#[derive(Clone, Copy)]
-pub enum Standing {
-    /// A word of the handler.
-    Handler(u32),
-    /// A word of the program, and where it comes from.
-    Code(u32, Origin),
-    /// No word.
-    Outside,
+// The word at a place.
+fn word_in(words: &[u32], place: u32) -> Option<u32> {
+    match words.get(place as usize) {
+        Some(word) => Some(*word),
+        None => None,
+    }
 }
 
 impl Subject<'_> {
@@ -44,38 +44,55 @@ impl Subject<'_> {
         }
     }
 
-    /// What stands at a code address.
-    pub fn standing(&self, address: u32) -> Standing {
+    /// The word at a code address, of the program or of the handler.
+    pub fn word_at(&self, address: u32) -> Option<u32> {
         match address.checked_sub(4096) {
-            Some(k) => self.code_standing(k as usize),
-            None => match SHIPPED.get(address as usize) {
-                Some(word) => Standing::Handler(*word),
-                None => Standing::Outside,
-            },
+            Some(place) => word_in(self.linked.image.code.as_slice(), place),
+            None => word_in(&HANDLER, address),
         }
     }
 
     /// What the word at a code address does, where it is a word of an instruction.
     pub fn inst_at(&self, address: u32) -> Option<Inst> {
-        match self.standing(address) {
-            Standing::Handler(word) | Standing::Code(word, _) => decode(word),
-            Standing::Outside => None,
+        decode(self.word_at(address)?)
+    }
+
+    /// Where the word at a code address comes from: a line, with the mark `+` where the word is a copy, or a mark alone, which is `-` for a
+    /// no-op that was put in and `h` for the handler. Neither where no word stands there.
+    pub fn origin_of(&self, address: Option<u32>) -> (&'static str, Option<u32>) {
+        match address {
+            Some(address) if self.word_at(address).is_some() => self.origin_at(address),
+            _ => ("", None),
         }
     }
 
-    /// What stands at a place of the program's code.
-    fn code_standing(&self, k: usize) -> Standing {
-        match self.linked.image.code.get(k) {
-            Some(word) => match self.linked.origin.get(k) {
-                Some(origin) => Standing::Code(*word, *origin),
-                None => Standing::Code(*word, Origin::Pad),
-            },
-            None => Standing::Outside,
+    // Where the word at a code address comes from, where one stands there.
+    fn origin_at(&self, address: u32) -> (&'static str, Option<u32>) {
+        match address.checked_sub(4096) {
+            Some(place) => self.mark_of(self.code_origin(place)),
+            None => ("h", None),
         }
     }
 
-    /// The line of a statement; 0 where there is none.
-    pub fn line_of(&self, statement: u32) -> u32 {
+    // Where the word at a place of the program's code comes from.
+    fn code_origin(&self, place: u32) -> Origin {
+        match self.linked.origin.get(place as usize) {
+            Some(origin) => *origin,
+            None => Origin::Pad,
+        }
+    }
+
+    // The mark and the line of an origin.
+    fn mark_of(&self, origin: Origin) -> (&'static str, Option<u32>) {
+        match origin {
+            Origin::Own(statement) => ("", Some(self.line_of(statement))),
+            Origin::Copy(statement) => ("+", Some(self.line_of(statement))),
+            Origin::Pad => ("-", None),
+        }
+    }
+
+    // The line of a statement; 0 where there is none.
+    fn line_of(&self, statement: u32) -> u32 {
         match self.lines.get(statement as usize) {
             Some(line) => *line,
             None => 0,

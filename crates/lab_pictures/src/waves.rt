@@ -1,10 +1,10 @@
 //! A drawing as a value change dump, by IEEE 1364, which GTKWave reads.
 use crate::subject::Subject;
-use crate::whole::bytes_of;
+use crate::writer::Writer;
 use lab_draw::Frame;
 use mx_io::Memory;
 use mx_turn::Stage;
-use std::alloc::{AllocError, Global};
+use std::alloc::Global;
 
 /// The signals: their names, their widths and their letters. Each stage has its address and two marks.
 static SIGNALS: [(&str, u32, &str); 25] = [
@@ -80,79 +80,101 @@ fn values_of(frame: &Frame) -> [u32; 25] {
     ]
 }
 
+// Whether a value differs from the one that stood at its place before, or none did.
+fn differs(before: &[u32], place: usize, value: u32) -> bool {
+    match before.get(place) {
+        Some(old) => *old != value,
+        None => true,
+    }
+}
+
 // Appends the value of a signal.
-fn push_value(text: &mut String, width: u32, value: u32, letter: &str) -> Result<(), AllocError> {
+fn push_value(text: &mut Writer, width: u32, value: u32, letter: &str) {
     if width == 1 {
-        write!(text, "{value}{letter}\n")
+        write!(text, "{value}{letter}\n");
     } else {
-        write!(text, "b{value:b} {letter}\n")
+        write!(text, "b{value:b} {letter}\n");
     }
 }
 
 // Appends the signals that differ from what they were, or all of them where nothing was before.
-fn push_changes(text: &mut String, before: &[u32], now: &[u32]) -> Result<(), AllocError> {
-    for (k, (signal, value)) in SIGNALS.iter().zip(now).enumerate() {
-        let (_, width, letter) = *signal;
-        if before.get(k) != Some(value) {
-            push_value(text, width, *value, letter)?;
+fn push_changes(text: &mut Writer, before: &[u32], now: &[u32; 25]) {
+    for k in 0..25usize {
+        if differs(before, k, now[k]) {
+            let (_, width, letter) = SIGNALS[k];
+            push_value(text, width, now[k], letter);
         }
     }
-    Ok(())
+}
+
+// Appends the value of a register.
+fn push_register(text: &mut Writer, n: usize, value: u32) {
+    write!(text, "b{value:b} R{n}\n");
 }
 
 // Appends the registers that differ from what they were, or all of them where nothing was before. r0 is none of them.
-fn push_registers(text: &mut String, before: &[u32], now: &[u32]) -> Result<(), AllocError> {
-    for (n, value) in now.iter().enumerate().skip(1) {
-        if before.get(n) != Some(value) {
-            let value = *value;
-            write!(text, "b{value:b} R{n}\n")?;
+fn push_registers(text: &mut Writer, before: &[u32], now: &[u32; 32]) {
+    for n in 1..32usize {
+        if differs(before, n, now[n]) {
+            push_register(text, n, now[n]);
         }
     }
-    Ok(())
 }
 
 // Appends what a frame shows that differs from the one before it, or all of it where there is none.
-fn push_frame(text: &mut String, before: Option<&Frame>, frame: &Frame) -> Result<(), AllocError> {
+fn push_frame(text: &mut Writer, before: Option<&Frame>, frame: &Frame) {
     let now = values_of(frame);
     match before {
         Some(before) => {
-            push_changes(text, &values_of(before), &now)?;
-            push_registers(text, &before.registers, &frame.registers)
+            push_changes(text, &values_of(before), &now);
+            push_registers(text, &before.registers, &frame.registers);
         }
         None => {
-            push_changes(text, &[], &now)?;
-            push_registers(text, &[], &frame.registers)
+            push_changes(text, &[], &now);
+            push_registers(text, &[], &frame.registers);
         }
     }
 }
 
-// Appends the head, which declares the signals.
-fn push_head(text: &mut String) -> Result<(), AllocError> {
-    text.push_str(
-        "$comment a run of MIPS-X, a time unit a cycle $end\n$timescale 1 ns $end\n$scope module mx $end\n",
-    )?;
-    for signal in SIGNALS.iter() {
-        let (name, width, letter) = *signal;
-        write!(text, "$var wire {width} {letter} {name} $end\n")?;
+// Appends the declarations of the signals.
+fn push_signals(text: &mut Writer) {
+    for k in 0..25usize {
+        let (name, width, letter) = SIGNALS[k];
+        text.push_numbers(
+            &["$var wire ", " ", letter, " ", name, " $end\n"],
+            &[u64::from(width)],
+        );
     }
-    for n in 1..32usize {
-        write!(text, "$var wire 32 R{n} r{n} $end\n")?;
-    }
-    text.push_str("$upscope $end\n$enddefinitions $end\n")
 }
 
-// Appends the whole text.
-fn push_vcd(text: &mut String, subject: &Subject) -> Result<(), AllocError> {
-    push_head(text)?;
+// Appends the head, which declares the signals and the registers.
+fn push_head(text: &mut Writer) {
+    text.push_str(
+        "$comment a run of MIPS-X, a time unit a cycle $end\n$timescale 1 ns $end\n$scope module mx $end\n",
+    );
+    push_signals(text);
+    for n in 1..32u64 {
+        text.push_numbers(&["$var wire 32 R", " r", " $end\n"], &[n, n]);
+    }
+    text.push_str("$upscope $end\n$enddefinitions $end\n");
+}
+
+// Appends a time.
+fn push_time(text: &mut Writer, cycle: u64) {
+    text.push_numbers(&["#", "\n"], &[cycle]);
+}
+
+// Appends the frames, each behind its time, and the time of the end.
+fn push_frames(text: &mut Writer, subject: &Subject) {
     let mut before = None;
     let mut cycle = u64::from(subject.from);
     for frame in subject.drawing.frames.iter() {
-        write!(text, "#{cycle}\n")?;
-        push_frame(text, before, frame)?;
+        push_time(text, cycle);
+        push_frame(text, before, frame);
         before = Some(frame);
         cycle = cycle.saturating_add(1);
     }
-    write!(text, "#{cycle}\n")
+    push_time(text, cycle);
 }
 
 /// A drawing as a value change dump. The time is the cycle.
@@ -161,7 +183,8 @@ fn push_vcd(text: &mut String, subject: &Subject) -> Result<(), AllocError> {
 ///
 /// `Memory` where there is no room for it.
 pub fn vcd(alloc: Global, subject: &Subject) -> Result<Vec<u8>, Memory> {
-    let mut text = String::new(alloc);
-    let written = push_vcd(&mut text, subject);
-    bytes_of(text, written)
+    let mut text = Writer::new(alloc);
+    push_head(&mut text);
+    push_frames(&mut text, subject);
+    text.into_bytes()
 }
