@@ -1,7 +1,7 @@
 //! What a drawing shows of a fetch in a cycle.
 
 /// What a fetch does in a cycle. Its stage is a number: 0 is IF, 1 RF, 2 ALU, 3 MEM, 4 WB.
-#[derive(Clone, Copy, Debug, PartialEq, Eq)]
+#[derive(Clone, Copy, PartialEq)]
 pub enum Cell {
     /// It is in no stage, or the cycle is stalled and it is not what the cycle waits for.
     Nothing,

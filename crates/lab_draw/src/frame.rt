@@ -2,7 +2,7 @@
 use mx_turn::{Counts, Cycled, Latches};
 
 /// A cycle, and the machine after it.
-#[derive(Clone, Copy, Debug, PartialEq, Eq)]
+#[derive(Clone, Copy)]
 pub struct Frame {
     /// An interrupt request came in it.
     pub requested: bool,

@@ -5,7 +5,7 @@ ghost use Rattle.lab_draw.specs.Ways.{writes_to, is_loading, way_by};
 use mx_isa::{Inst, Reg};
 
 /// Where an operand of the word in ALU came from.
-#[derive(Clone, Copy, Debug, PartialEq, Eq)]
+#[derive(Clone, Copy)]
 pub enum Way {
     /// It is r0, or there is no such operand.
     Nowhere,

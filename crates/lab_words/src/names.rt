@@ -12,7 +12,7 @@ use mx_source::{Label, Name, Source};
 use std::alloc::{AllocError, Global};
 
 /// What a label names.
-#[derive(Clone, Copy, Debug, PartialEq, Eq)]
+#[derive(Clone, Copy)]
 pub enum NamedPlace {
     /// The address of a code word.
     Code(u32),
