@@ -90,22 +90,6 @@ fn note(before: &mut [u64], number: usize, read: u64) -> bool {
 /// How often the items are gone over at most.
 const MOST_ROUNDS: u32 = 1000;
 
-/// Goes over the items until nothing changes. Answers whether it came to that.
-fn settle(
-    before: &mut [u64],
-    symbols: &Symbols,
-    first: usize,
-    items: &[Item],
-    plans: &mut [Plan],
-) -> bool {
-    for _ in 0..MOST_ROUNDS {
-        if !round(before, symbols, first, items, plans) {
-            return true;
-        }
-    }
-    false
-}
-
 /// Lets the plan of each item of a function, whose first item has this number, say which registers are read behind it.
 pub(crate) fn note_live(
     alloc: Global,
@@ -115,10 +99,13 @@ pub(crate) fn note_live(
     plans: &mut [Plan],
 ) -> Result<(), AllocError> {
     let mut before = vec![in alloc; 0u64; items.len()]?;
-    if !settle(before.as_mut_slice(), symbols, first, items, plans) {
-        for plan in plans.iter_mut() {
-            plan.live = ALL;
+    for _ in 0..MOST_ROUNDS {
+        if !round(before.as_mut_slice(), symbols, first, items, plans) {
+            return Ok(());
         }
+    }
+    for plan in plans.iter_mut() {
+        plan.live = ALL;
     }
     Ok(())
 }

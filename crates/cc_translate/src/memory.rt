@@ -226,16 +226,13 @@ fn store_part(out: &mut Output, rs: u8, place: Place, bits: u8) -> Result<(), Al
     store(out, spot, word)
 }
 
-/// `lwl`: it loads from the address in r1. A word of a table says which bits the register keeps.
+/// `lwl`: it turns the word at the address in r1. A word of a table says which bits the register keeps.
 const LOAD_LEFT: &str = "        asr r1,#2,r26
         ld 0[r26],r26
         rotlb r26,r1,r26
         sh r0,r1,#2,r27
         sh r27,r0,#30,r27
         ld t.lwl[r27],r27
-        and r%,r27,r%
-        bic r26,r27,r26
-        or r%,r26,r%
 ";
 
 /// `lwr` likewise.
@@ -246,23 +243,20 @@ const LOAD_RIGHT: &str = "        asr r1,#2,r26
         sh r0,r1,#2,r27
         sh r27,r0,#30,r27
         ld t.lwr[r27],r27
-        and r%,r27,r%
+";
+
+/// What both do then: the register keeps these bits, and has the others of the turned word.
+const LOAD_MASKED: &str = "        and r%,r27,r%
         bic r26,r27,r26
         or r%,r26,r%
 ";
 
-/// `swl`: it stores to the address in r1. A word of a table says which bits come from the register.
+/// `swl`: it turns the register for the address in r1. A word of a table says which bits come from it.
 const STORE_LEFT: &str = "        sub r0,r1,r26
         rotlb r%,r26,r26
         sh r0,r1,#2,r27
         sh r27,r0,#30,r27
         ld t.swl[r27],r27
-        asr r1,#2,r1
-        ld 0[r1],r22
-        and r26,r27,r26
-        bic r22,r27,r22
-        or r26,r22,r26
-        st 0[r1],r26
 ";
 
 /// `swr` likewise.
@@ -271,7 +265,10 @@ const STORE_RIGHT: &str = "        not r1,r26
         sh r0,r1,#2,r27
         sh r27,r0,#30,r27
         ld t.swr[r27],r27
-        asr r1,#2,r1
+";
+
+/// What both do then: they store these bits of the turned register, and the others of the word that is there.
+const STORE_MASKED: &str = "        asr r1,#2,r1
         ld 0[r1],r22
         and r26,r27,r26
         bic r22,r27,r22
@@ -279,7 +276,7 @@ const STORE_RIGHT: &str = "        not r1,r26
         st 0[r1],r26
 ";
 
-/// The statements of `lwl`, `lwr`, `swl` or `swr`.
+/// The statements that `lwl`, `lwr`, `swl` or `swr` begins with.
 fn unaligned_text(mask: Mask) -> &'static str {
     match mask {
         Mask::LoadLeft => LOAD_LEFT,
@@ -289,13 +286,25 @@ fn unaligned_text(mask: Mask) -> &'static str {
     }
 }
 
-/// `lwl`, `lwr`, `swl` and `swr`.
-fn unaligned(out: &mut Output, register: u8, place: Place, mask: Mask) -> Result<(), AllocError> {
+/// What `lwl`, `lwr`, `swl` and `swr` begin with.
+fn turn_unaligned(out: &mut Output, place: Place, rs: u8, mask: Mask) -> Result<(), AllocError> {
     if let Place::Far { base, bytes } = place {
         add_constant(out, base, bytes, FIRST)?;
     }
     out.need_mask(mask)?;
-    out.lines(unaligned_text(mask), &[register; 4])
+    out.lines(unaligned_text(mask), &[rs])
+}
+
+/// `lwl` and `lwr`.
+fn load_unaligned(out: &mut Output, rd: u8, place: Place, mask: Mask) -> Result<(), AllocError> {
+    turn_unaligned(out, place, rd, mask)?;
+    out.lines(LOAD_MASKED, &[rd; 4])
+}
+
+/// `swl` and `swr`.
+fn store_unaligned(out: &mut Output, rs: u8, place: Place, mask: Mask) -> Result<(), AllocError> {
+    turn_unaligned(out, place, rs, mask)?;
+    out.lines(STORE_MASKED, &[])
 }
 
 /// A load from a place, which the base and the offset without the symbol's address were told of.
@@ -314,8 +323,8 @@ pub(crate) fn load_statement(
         Width::Half { signed: true } => load_part(out, rd.0, place, "asr r%,#16,r%"),
         Width::Half { signed: false } => load_part(out, rd.0, place, "sh r%,r0,#16,r%"),
         Width::Word => load_word(out, place, rd, restores_link(function, rd, base, offset)),
-        Width::Left => unaligned(out, rd.0, place, Mask::LoadLeft),
-        Width::Right => unaligned(out, rd.0, place, Mask::LoadRight),
+        Width::Left => load_unaligned(out, rd.0, place, Mask::LoadLeft),
+        Width::Right => load_unaligned(out, rd.0, place, Mask::LoadRight),
     }
 }
 
@@ -336,8 +345,8 @@ pub(crate) fn store_statement(
         Width::Byte { .. } => store_part(out, rs.0, place, 8),
         Width::Half { .. } => store_part(out, rs.0, place, 16),
         Width::Word => store_word(out, rs.0, place),
-        Width::Left => unaligned(out, rs.0, place, Mask::StoreLeft),
-        Width::Right => unaligned(out, rs.0, place, Mask::StoreRight),
+        Width::Left => store_unaligned(out, rs.0, place, Mask::StoreLeft),
+        Width::Right => store_unaligned(out, rs.0, place, Mask::StoreRight),
     }
 }
 

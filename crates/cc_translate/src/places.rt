@@ -52,33 +52,30 @@ fn far(base: Register, bytes: u32) -> Place {
     }
 }
 
+/// The byte of this number in a word that is so many words from four times what the register `base` holds, where a statement
+/// reaches that word.
+fn byte_in_reach(words: u32, base: u8, number: u32) -> Option<Place> {
+    if in_reach(words) {
+        Some(Place::Byte {
+            base,
+            words,
+            byte: byte_of(number),
+        })
+    } else {
+        None
+    }
+}
+
 /// The place at an offset from a base that holds a number.
 fn place_at_number(base: Register, value: u32, offset: u32) -> Place {
     let address = value.wrapping_add(offset);
-    let words = quarter(address);
-    if in_reach(words) {
-        Place::Byte {
-            base: 0,
-            words,
-            byte: byte_of(address),
-        }
-    } else {
-        far(base, offset)
-    }
+    byte_in_reach(quarter(address), 0, address).unwrap_or(far(base, offset))
 }
 
 /// The place at an offset from a base that is a multiple of 4, so many words from four times what the register `from` holds.
 fn place_of_byte(base: Register, from: u8, words: u32, offset: u32) -> Place {
     let words = words.wrapping_add(quarter(offset));
-    if in_reach(words) {
-        Place::Byte {
-            base: from,
-            words,
-            byte: byte_of(offset),
-        }
-    } else {
-        far(base, offset)
-    }
+    byte_in_reach(words, from, offset).unwrap_or(far(base, offset))
 }
 
 /// The same from a base that may be no multiple of 4.

@@ -13,6 +13,8 @@ struct Document<'a> {
     study: &'a Study,
 }
 
+impl Described for Document<'_> {}
+
 impl<'a> Document<'a> {
     // The members before the rows.
     fn members(&self) -> [(&'static str, Value<'a>); 6] {
@@ -47,8 +49,6 @@ impl Serialize for CacheRow {
         write_record(out, &members)
     }
 }
-
-impl Described for Document<'_> {}
 
 impl Serialize for Document<'_> {
     fn serialize<S: Serializer>(&self, out: &mut S) -> Result<(), S::Error> {

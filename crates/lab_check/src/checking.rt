@@ -64,22 +64,6 @@ fn told_faults<'a>(
     faults_told(alloc, faulty, &definitions)
 }
 
-// What is found in a text of these lines that is refused.
-fn told_refused<'a>(
-    alloc: Global,
-    lines: &[&'a [u8]],
-    text: &'a [u8],
-    at_most: usize,
-) -> Result<Checked<'a>, AllocError>
-    requires short { length text.now ≤ MAX_SOURCE_BYTES }
-    requires most { at_most ≤ MAX_SOURCE_BYTES }
-{
-    match check_text(alloc, text, at_most) {
-        Ok(faulty) => told_faults(alloc, lines, &faulty),
-        Err(_) => Err(AllocError),
-    }
-}
-
 // The first branch of a source that does not reach its target.
 fn overlong_in(alloc: Global, source: &Source) -> Result<Option<Notice>, AllocError> {
     let _statements = source.statements();
@@ -160,7 +144,10 @@ fn check_lines<'a>(
 {
     match assemble(alloc, text) {
         Ok(source) => told_source(alloc, lines, &source, at_most),
-        Err(AsmError::Refused { .. }) => told_refused(alloc, lines, text, at_most),
+        Err(AsmError::Refused { .. }) => match check_text(alloc, text, at_most) {
+            Ok(faulty) => told_faults(alloc, lines, &faulty),
+            Err(_) => Err(AllocError),
+        },
         Err(AsmError::Memory) => Err(AllocError),
     }
 }

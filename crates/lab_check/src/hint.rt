@@ -12,21 +12,24 @@ use mx_asm::statement_words;
 use mx_lines::{Fault, Word, spells};
 use std::alloc::{AllocError, Global};
 
+/// What may have been meant, if something is known.
+pub type Hint = Result<Option<String>, AllocError>;
+
 /// The directives of the language.
 const DIRECTIVES: [&str; 5] = [".code", ".data", ".word", ".space", ".input"];
 
 /// A hint that was made, if there was memory for it.
-pub fn hinted(text: Result<String, AllocError>) -> Result<Option<String>, AllocError> {
+pub fn hinted(text: Result<String, AllocError>) -> Hint {
     Ok(Some(text?))
 }
 
 /// A hint of these parts.
-pub fn said(alloc: Global, parts: &[&str]) -> Result<Option<String>, AllocError> {
+pub fn said(alloc: Global, parts: &[&str]) -> Hint {
     hinted(joined(alloc, parts))
 }
 
 /// A hint of these words, if there are any.
-pub fn said_if(alloc: Global, text: Option<&str>) -> Result<Option<String>, AllocError> {
+pub fn said_if(alloc: Global, text: Option<&str>) -> Hint {
     match text {
         Some(text) => said(alloc, &[text]),
         None => Ok(None),
@@ -34,7 +37,7 @@ pub fn said_if(alloc: Global, text: Option<&str>) -> Result<Option<String>, Allo
 }
 
 // The name that was meant in the place of a word.
-fn meant(alloc: Global, word: &str, names: &[&str]) -> Result<Option<String>, AllocError> {
+fn meant(alloc: Global, word: &str, names: &[&str]) -> Hint {
     match nearest(alloc, word, names)? {
         Some(name) => said(alloc, &["did you mean `", name, "`?"]),
         None => Ok(None),
@@ -93,23 +96,19 @@ fn is_before_mnemonic(words: &[Word]) -> bool {
 }
 
 // F3: a mnemonic like this one.
-fn mnemonic_meant(alloc: Global, word: &str) -> Result<Option<String>, AllocError> {
+fn mnemonic_meant(alloc: Global, word: &str) -> Hint {
     let names = mnemonics(alloc)?;
     meant(alloc, word, &names)
 }
 
 // F3: a mnemonic like this one, in small letters.
-fn slip_hint(alloc: Global, word: &str) -> Result<Option<String>, AllocError> {
+fn slip_hint(alloc: Global, word: &str) -> Hint {
     let lower = word.to_ascii_lowercase(alloc)?;
     mnemonic_meant(alloc, lower.as_str())
 }
 
 // F3: a word of another machine, a label without its colon, or a slip.
-fn mnemonic_hint(
-    alloc: Global,
-    words: &[Word],
-    token: &[u8],
-) -> Result<Option<String>, AllocError> {
+fn mnemonic_hint(alloc: Global, words: &[Word], token: &[u8]) -> Hint {
     let word = text_of(token);
     if let Some(instead) = mnemonic_instead(token) {
         return said(alloc, &[instead]);
@@ -133,7 +132,7 @@ fn register_number(token: &[u8]) -> Option<u32> {
 }
 
 // F5: a register of another machine, or a number with zeros in front.
-fn register_hint(alloc: Global, token: &[u8]) -> Result<Option<String>, AllocError> {
+fn register_hint(alloc: Global, token: &[u8]) -> Hint {
     if let Some(instead) = register_instead(token) {
         return said(alloc, &[instead]);
     }
@@ -154,11 +153,7 @@ fn range_told(name: &[u8]) -> Option<&'static str> {
 }
 
 // F7: where the label stands first.
-fn repeat_hint(
-    alloc: Global,
-    token: &[u8],
-    definitions: &[Definition],
-) -> Result<Option<String>, AllocError> {
+fn repeat_hint(alloc: Global, token: &[u8], definitions: &[Definition]) -> Hint {
     match first_definition(definitions, token) {
         Some(line) => hinted(numbered(alloc, "line ", line as usize, &[" defines it first"])),
         None => Ok(None),
@@ -166,7 +161,7 @@ fn repeat_hint(
 }
 
 // F8: a label in other letters.
-fn case_hint(alloc: Global, other: &Definition) -> Result<Option<String>, AllocError> {
+fn case_hint(alloc: Global, other: &Definition) -> Hint {
     let rest = [
         " defines `",
         text_of(other.name),
@@ -176,21 +171,13 @@ fn case_hint(alloc: Global, other: &Definition) -> Result<Option<String>, AllocE
 }
 
 // F8: a label like this one.
-fn label_meant(
-    alloc: Global,
-    token: &[u8],
-    definitions: &[Definition],
-) -> Result<Option<String>, AllocError> {
+fn label_meant(alloc: Global, token: &[u8], definitions: &[Definition]) -> Hint {
     let names = names_of(alloc, definitions)?;
     meant(alloc, text_of(token), &names)
 }
 
 // F8: a label in other letters, or a slip.
-fn label_hint(
-    alloc: Global,
-    token: &[u8],
-    definitions: &[Definition],
-) -> Result<Option<String>, AllocError> {
+fn label_hint(alloc: Global, token: &[u8], definitions: &[Definition]) -> Hint {
     match other_case(definitions, token) {
         Some(other) => case_hint(alloc, &other),
         None => label_meant(alloc, token, definitions),
@@ -198,7 +185,7 @@ fn label_hint(
 }
 
 // F11: a directive of another assembler, or a slip; of a directive that stands in another place its sentence says enough.
-fn directive_hint(alloc: Global, token: &[u8]) -> Result<Option<String>, AllocError> {
+fn directive_hint(alloc: Global, token: &[u8]) -> Hint {
     if let Some(instead) = directive_instead(token) {
         return said(alloc, &[instead]);
     }
@@ -209,12 +196,7 @@ fn directive_hint(alloc: Global, token: &[u8]) -> Result<Option<String>, AllocEr
 }
 
 /// What may have been meant by a faulty line of these words, in a sentence, where something is known.
-pub fn hint(
-    alloc: Global,
-    shown: &Shown,
-    words: &[Word],
-    definitions: &[Definition],
-) -> Result<Option<String>, AllocError> {
+pub fn hint(alloc: Global, shown: &Shown, words: &[Word], definitions: &[Definition]) -> Hint {
     let token = token_of(shown);
     match shown.fault {
         Fault::BadByte => said(alloc, &[byte_told(char_of(shown))]),

@@ -1,6 +1,6 @@
 //! What may have been meant by an operand that does not stand in its place.
 
-use crate::hint::{said, said_if};
+use crate::hint::{Hint, said, said_if};
 use crate::sentence::{name_of, text_of, token_of};
 use lab_faults::Shown;
 use mx_asm::{line_words, statement_words};
@@ -23,7 +23,7 @@ fn words_before(alloc: Global, shown: &Shown) -> Result<usize, AllocError> {
 }
 
 // A `,` was left out.
-fn comma_hint(alloc: Global, token: &[u8]) -> Result<Option<String>, AllocError> {
+fn comma_hint(alloc: Global, token: &[u8]) -> Hint {
     let word = text_of(token);
     match token {
         [b',' | b'[' | b']' | b':', ..] => Ok(None),
@@ -46,7 +46,7 @@ fn register_told(name: &[u8], token: &[u8]) -> Option<&'static str> {
 }
 
 // The `#` was left out, or a register stands where a number does.
-fn hash_hint(alloc: Global, name: &[u8], token: &[u8]) -> Result<Option<String>, AllocError> {
+fn hash_hint(alloc: Global, name: &[u8], token: &[u8]) -> Hint {
     let word = text_of(token);
     match token {
         [b'-' | b'0'..=b'9', ..] => {
@@ -83,12 +83,7 @@ fn place_told(role: Role, name: &[u8], token: &[u8]) -> Option<&'static str> {
 }
 
 // The hint where something else stands in a place.
-fn place_hint(
-    alloc: Global,
-    role: Role,
-    name: &[u8],
-    token: &[u8],
-) -> Result<Option<String>, AllocError> {
+fn place_hint(alloc: Global, role: Role, name: &[u8], token: &[u8]) -> Hint {
     match role {
         Role::Comma => comma_hint(alloc, token),
         Role::Hash => hash_hint(alloc, name, token),
@@ -97,12 +92,7 @@ fn place_hint(
 }
 
 // The hint where something else is shown, in the statement with this name and these places.
-fn hint_in(
-    alloc: Global,
-    roles: &[Role],
-    name: &[u8],
-    shown: &Shown,
-) -> Result<Option<String>, AllocError> {
+fn hint_in(alloc: Global, roles: &[Role], name: &[u8], shown: &Shown) -> Hint {
     let before = words_before(alloc, shown)?;
     if before == 0 {
         return Ok(None);
@@ -117,11 +107,7 @@ fn hint_in(
 }
 
 /// F4: what may have been meant by the word that does not stand in its place.
-pub fn operand_hint(
-    alloc: Global,
-    shown: &Shown,
-    words: &[Word],
-) -> Result<Option<String>, AllocError> {
+pub fn operand_hint(alloc: Global, shown: &Shown, words: &[Word]) -> Hint {
     match places(alloc, statement_words(words))? {
         Some(roles) => hint_in(alloc, &roles, name_of(words), shown),
         None => Ok(None),

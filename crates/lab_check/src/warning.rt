@@ -312,8 +312,8 @@ fn is_entry(source: &Source, name: &[u8]) -> bool {
     }
 }
 
-// Adds the labels that are not marked.
-fn add_unmarked(
+// Adds the labels that no operand names: those that are not marked.
+fn add_unused(
     found: &mut Vec<Notice>,
     source: &Source,
     definitions: &[Definition],
@@ -326,18 +326,6 @@ fn add_unmarked(
         }
     }
     Ok(())
-}
-
-// Adds the labels that no operand names.
-fn add_unused(
-    found: &mut Vec<Notice>,
-    alloc: Global,
-    source: &Source,
-    lines: &[&[u8]],
-) -> Result<(), AllocError> {
-    let definitions = definitions_of(alloc, lines)?;
-    let used = used_labels(alloc, source, lines)?;
-    add_unmarked(found, source, &definitions, &used)
 }
 
 // A statement may load from the address of the input.
@@ -376,7 +364,9 @@ fn add_warnings(
     lines: &[&[u8]],
 ) -> Result<(), AllocError> {
     add_flow(found, alloc, source)?;
-    add_unused(found, alloc, source, lines)?;
+    let definitions = definitions_of(alloc, lines)?;
+    let used = used_labels(alloc, source, lines)?;
+    add_unused(found, source, &definitions, &used)?;
     add_unread(found, source)
 }
 

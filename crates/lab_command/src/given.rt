@@ -21,54 +21,54 @@ pub enum Form {
     Callgrind,
 }
 
-// A form, and the word for it.
+/// A word of an option, and what it stands for.
 #[derive(Clone, Copy)]
-struct FormRow {
-    word: &'static str,
-    form: Form,
+pub struct WordRow<T> {
+    pub word: &'static str,
+    pub means: T,
+}
+
+/// What a word stands for; `other`, where it is in none of the rows.
+pub fn meant_by<T: Copy>(rows: &[WordRow<T>], word: &str, other: T) -> T {
+    for row in rows {
+        if row.word == word {
+            return row.means;
+        }
+    }
+    other
 }
 
 // The forms beside text.
-static FORMS: [FormRow; 7] = [
-    FormRow {
+static FORMS: [WordRow<Form>; 7] = [
+    WordRow {
         word: "json",
-        form: Form::Json,
+        means: Form::Json,
     },
-    FormRow {
+    WordRow {
         word: "csv",
-        form: Form::Csv,
+        means: Form::Csv,
     },
-    FormRow {
+    WordRow {
         word: "svg",
-        form: Form::Svg,
+        means: Form::Svg,
     },
-    FormRow {
+    WordRow {
         word: "html",
-        form: Form::Html,
+        means: Form::Html,
     },
-    FormRow {
+    WordRow {
         word: "kanata",
-        form: Form::Kanata,
+        means: Form::Kanata,
     },
-    FormRow {
+    WordRow {
         word: "vcd",
-        form: Form::Vcd,
+        means: Form::Vcd,
     },
-    FormRow {
+    WordRow {
         word: "callgrind",
-        form: Form::Callgrind,
+        means: Form::Callgrind,
     },
 ];
-
-// The form of a word; text, where it is in none of the rows.
-fn form_by(rows: &[FormRow], word: &str) -> Form {
-    for row in rows {
-        if row.word == word {
-            return row.form;
-        }
-    }
-    Form::Text
-}
 
 /// What is asked: a command, its words, and memory for the reply.
 #[derive(Clone, Copy)]
@@ -104,7 +104,7 @@ impl<'a, 'w> Asked<'a, 'w> {
 
     /// The form of what is printed.
     pub fn form(&self) -> Form {
-        form_by(&FORMS, self.word("as"))
+        meant_by(&FORMS, self.word("as"), Form::Text)
     }
 
     /// Whether an option without a value is there.

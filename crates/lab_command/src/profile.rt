@@ -1,5 +1,5 @@
 //! The reply of `profile`.
-use crate::given::{Asked, Form};
+use crate::given::{Asked, Form, WordRow, meant_by};
 use crate::printed::{or_memory, printed, run_status};
 use crate::runs::GivenRun;
 use cmd_answer::{Failure, Reply};
@@ -9,87 +9,53 @@ use lab_watch::Watcher;
 use mx_io::Memory;
 use std::alloc::Global;
 
-// Parts of a source, and the word for them.
-#[derive(Clone, Copy)]
-struct PartRow {
-    word: &'static str,
-    by: By,
-}
-
 // The parts beside lines.
-static PARTS: [PartRow; 3] = [
-    PartRow {
+static PARTS: [WordRow<By>; 3] = [
+    WordRow {
         word: "label",
-        by: By::Label,
+        means: By::Label,
     },
-    PartRow {
+    WordRow {
         word: "function",
-        by: By::Function,
+        means: By::Function,
     },
-    PartRow {
+    WordRow {
         word: "c",
-        by: By::C,
+        means: By::C,
     },
 ];
-
-// A column, and the word for it.
-#[derive(Clone, Copy)]
-struct ColumnRow {
-    word: &'static str,
-    column: Column,
-}
 
 // The columns beside the order of the source.
-static COLUMNS: [ColumnRow; 7] = [
-    ColumnRow {
+static COLUMNS: [WordRow<Column>; 7] = [
+    WordRow {
         word: "count",
-        column: Column::Count,
+        means: Column::Count,
     },
-    ColumnRow {
+    WordRow {
         word: "cycles",
-        column: Column::Cycles,
+        means: Column::Cycles,
     },
-    ColumnRow {
+    WordRow {
         word: "cpi",
-        column: Column::Cpi,
+        means: Column::Cpi,
     },
-    ColumnRow {
+    WordRow {
         word: "stalls",
-        column: Column::Stalls,
+        means: Column::Stalls,
     },
-    ColumnRow {
+    WordRow {
         word: "noops",
-        column: Column::Noops,
+        means: Column::Noops,
     },
-    ColumnRow {
+    WordRow {
         word: "squashed",
-        column: Column::Squashed,
+        means: Column::Squashed,
     },
-    ColumnRow {
+    WordRow {
         word: "killed",
-        column: Column::Killed,
+        means: Column::Killed,
     },
 ];
-
-// The parts of a word; lines, where it is in none of the rows.
-fn parts_by(rows: &[PartRow], word: &str) -> By {
-    for row in rows {
-        if row.word == word {
-            return row.by;
-        }
-    }
-    By::Line
-}
-
-// The column of a word; the order of the source, where it is in none of the rows.
-fn column_by(rows: &[ColumnRow], word: &str) -> Column {
-    for row in rows {
-        if row.word == word {
-            return row.column;
-        }
-    }
-    Column::Line
-}
 
 // The calls of a run.
 fn calls_in<W: Watcher>(alloc: Global, run: &GivenRun, watcher: W) -> Result<Calls, Memory> {
@@ -133,8 +99,8 @@ fn text_of<W: Watcher>(
         linked: &program.linked,
         profile,
     };
-    let by = parts_by(&PARTS, asked.word("by"));
-    let column = column_by(&COLUMNS, asked.word("sort"));
+    let by = meant_by(&PARTS, asked.word("by"), By::Line);
+    let column = meant_by(&COLUMNS, asked.word("sort"), Column::Line);
     match asked.form() {
         Form::Json => profile_json(alloc, &subject, by, column),
         Form::Callgrind => callgrind_of(alloc, run, &subject, by, watcher),

@@ -47,18 +47,7 @@ fn run_reply<W: Watcher>(
     }
 }
 
-// The reply of a command that tells of the run of a source, which is read first.
-fn read_run_reply<S: Shelf, W: Watcher>(
-    asked: &Asked,
-    command: RunCommand,
-    shelf: &mut S,
-    watcher: W,
-) -> Result<Reply, Failure> {
-    let run = read_run(asked, shelf)?;
-    run_reply(asked, command, &run, watcher)
-}
-
-// The same, after the words alone were looked at.
+// The reply of a command that tells of the run of a source, which is read once the words alone were looked at.
 fn of_run_reply<S: Shelf, W: Watcher>(
     asked: &Asked,
     command: RunCommand,
@@ -68,7 +57,8 @@ fn of_run_reply<S: Shelf, W: Watcher>(
     if matches!(command, RunCommand::Caches) {
         refuse_excess(asked)?;
     }
-    read_run_reply(asked, command, shelf, watcher)
+    let run = read_run(asked, shelf)?;
+    run_reply(asked, command, &run, watcher)
 }
 
 // The reply of a command. Another one is added here, or above, and in the table of commands.

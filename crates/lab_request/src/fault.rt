@@ -1,6 +1,4 @@
 //! What may be wrong with a field.
-ghost use Rattle.std.specs.Prelude.{◌≡◌};
-ghost use Rattle.lab_request.specs.Answers.{plain_words};
 
 use crate::Field;
 
@@ -25,6 +23,9 @@ pub struct Wrong {
 }
 
 impl Fault {
+    ghost use Rattle.std.specs.Prelude.{◌≡◌};
+    ghost use Rattle.lab_request.specs.Answers.{plain_words};
+
     /// Its words, before the range of a number.
     pub fn words(self) -> &'static str
         ensures { result.now ≡ plain_words self }

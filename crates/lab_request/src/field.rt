@@ -1,6 +1,4 @@
 //! The fields of a body.
-ghost use Rattle.std.specs.Prelude.{◌≡◌};
-ghost use Rattle.lab_request.specs.Fields.{field_name};
 
 /// A field.
 #[derive(Clone, Copy)]
@@ -19,6 +17,9 @@ pub enum Field {
 }
 
 impl Field {
+    ghost use Rattle.std.specs.Prelude.{◌≡◌};
+    ghost use Rattle.lab_request.specs.Fields.{field_name};
+
     /// Its name in a body, and as an option.
     pub fn name(self) -> &'static str
         ensures { result.now ≡ field_name self }

@@ -91,28 +91,15 @@ fn push_begin(alloc: Global, text: &mut Vec<u8>, given: &Given) -> Result<(), Me
     push_line(alloc, text, &members)
 }
 
-// Appends the lines of a run; answers whether it halted.
-fn push_run<M: Machine>(
-    alloc: Global,
-    text: &mut Vec<u8>,
-    machine: &mut M,
-    given: &Given,
-) -> Result<bool, Memory>
-    requires { M.cycles machine.old ≡ 0 }
-{
-    push_begin(alloc, text, given)?;
-    let halted = push_turns(alloc, text, machine, given)?;
-    let end = end_members(halted, machine.counts(), machine.md());
-    push_line(alloc, text, &end)?;
-    Ok(halted)
-}
-
 /// The trace of the run of a machine from its start, until it halts or the budget is spent: what it is given, a line for each
 /// turn, and how it ends.
 pub fn trace_of<M: Machine>(alloc: Global, machine: &mut M, given: &Given) -> Result<Traced, Memory>
     requires { M.cycles machine.old ≡ 0 }
 {
     let mut text = Vec::new(alloc);
-    let halted = push_run(alloc, &mut text, machine, given)?;
+    push_begin(alloc, &mut text, given)?;
+    let halted = push_turns(alloc, &mut text, machine, given)?;
+    let end = end_members(halted, machine.counts(), machine.md());
+    push_line(alloc, &mut text, &end)?;
     Ok(Traced { text, halted })
 }

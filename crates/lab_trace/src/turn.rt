@@ -29,29 +29,12 @@ pub(crate) struct Line<'m, 'a> {
 }
 
 // Writes a fetch.
-fn write_fetch<S: Serializer>(
-    out: &mut S,
-    name: &str,
-    address: u32,
-    squashed: bool,
-) -> Result<(), S::Error> {
+fn write_fetch<S: Serializer>(out: &mut S, address: u32, squashed: bool) -> Result<(), S::Error> {
     let members = [
         ("address", Value::Number(u64::from(address))),
         ("squashed", Value::Flag(squashed)),
     ];
-    out.key(name)?;
     write_record(out, &members)
-}
-
-// Writes what is written to a place.
-fn write_write<S: Serializer>(
-    out: &mut S,
-    name: &str,
-    to: u32,
-    value: u32,
-) -> Result<(), S::Error> {
-    let numbers = [("to", u64::from(to)), ("value", u64::from(value))];
-    write_object(out, name, &numbers)
 }
 
 // Writes a member, unless it is absent.
@@ -63,8 +46,14 @@ fn write_member<S: Serializer>(out: &mut S, name: &str, member: Member) -> Resul
         Member::Text(text) => write_text(out, name, text),
         Member::Words(words) => write_list(out, name, words),
         Member::Bytes(bytes) => write_list(out, name, bytes),
-        Member::Fetch(address, squashed) => write_fetch(out, name, address, squashed),
-        Member::Write(to, value) => write_write(out, name, to, value),
+        Member::Fetch(address, squashed) => {
+            out.key(name)?;
+            write_fetch(out, address, squashed)
+        }
+        Member::Write(to, value) => {
+            let numbers = [("to", u64::from(to)), ("value", u64::from(value))];
+            write_object(out, name, &numbers)
+        }
     }
 }
 

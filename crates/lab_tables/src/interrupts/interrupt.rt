@@ -6,13 +6,13 @@ use lab_measures::Row;
 #[derive(Clone, Copy)]
 pub(crate) struct Interrupt {
     /// The cycles in which it was taken and in which the handler's first word was fetched, and how long it waited for that.
-    pub(crate) taken: u64,
-    pub(crate) handler: u64,
-    pub(crate) wait: i64,
+    pub taken: u64,
+    pub handler: u64,
+    pub wait: i64,
     /// The word that was killed, whether it was squashed, and its line, 0 where it has none.
-    pub(crate) address: u32,
-    pub(crate) squashed: bool,
-    pub(crate) line: u32,
+    pub address: u32,
+    pub squashed: bool,
+    pub line: u32,
 }
 
 /// How the last request of a run became an interrupt, if it did and killed a word.
