@@ -2,10 +2,10 @@
 ghost use Rattle.std.specs.Prelude.{◌≤◌, length};
 ghost use Rattle.mx_io.specs.declared.limits.TheConstants.{MAX_SOURCE_BYTES};
 
-use crate::given::Asked;
-use crate::printed::{or_memory, printed};
 use cmd_answer::{Failure, FileKind, Reply, Status, read_file};
 use lab_check::{Checked, Form, MOST_LINES, check, findings_text};
+use lab_line::Asked;
+use lab_runs::{or_memory, printed};
 use mx_io::Shelf;
 use std::alloc::{AllocError, Global};
 

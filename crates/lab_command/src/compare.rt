@@ -2,13 +2,11 @@
 ghost use Rattle.std.specs.Prelude.{◌≤◌, length};
 ghost use Rattle.mx_io.specs.declared.limits.TheConstants.{MAX_FILE_BYTES};
 
-use crate::failure::named;
-use crate::given::{Asked, Form, file_by};
-use crate::printed::{or_memory, printed, unlinked};
-use crate::stimulus::{Stimulus, read_stimulus};
 use cmd_answer::{Failure, Reply, Status};
 use cmd_source::{Program, read_program};
+use lab_line::{Asked, Form, file_by, named};
 use lab_measures::{Comparison, Conditions, compare};
+use lab_runs::{Stimulus, or_memory, printed, read_stimulus, unlinked};
 use lab_tables::{
     Compared, comparison_json, comparison_text, comparisons_csv, comparisons_json, comparisons_text,
 };

@@ -2,11 +2,11 @@
 ghost use Rattle.std.specs.Prelude.{◌≤◌, vec_len};
 ghost use Rattle.mx_io.specs.declared.limits.TheConstants.{MAX_SOURCE_BYTES};
 
-use crate::given::{Asked, Form};
-use crate::printed::{or_memory, printed, refused};
 use cmd_answer::{Failure, FileKind, Reply, Status, read_file};
 use cmd_source::linked_text;
 use lab_disassemble::{Listing, image_listing, listing_json, listing_text, source_listing};
+use lab_line::{Asked, Form};
+use lab_runs::{or_memory, printed, refused};
 use mx_image::{ImageError, read_file as read_image_file};
 use mx_io::{Memory, Shelf};
 use std::alloc::{AllocError, Global};

@@ -2,12 +2,11 @@
 ghost use Rattle.std.specs.Prelude.{◌≤◌, length, IfOk};
 ghost use Rattle.mx_io.specs.declared.limits.TheConstants.{MAX_FILE_BYTES};
 
-use crate::given::Asked;
-use crate::printed::{answered, printed, refused, unlinked};
-use crate::stimulus::{Stimulus, read_stimulus};
 use cmd_answer::{Failure, Reply, Status, line_reply};
 use cmd_source::read_source;
+use lab_line::Asked;
 use lab_plans::planned_reply;
+use lab_runs::{Stimulus, answered, printed, read_stimulus, refused, unlinked};
 use lab_watch::Watcher;
 use mx_blocks::blocks;
 use mx_io::{Shelf, ShelfFault};

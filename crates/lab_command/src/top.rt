@@ -1,23 +1,14 @@
 //! The top call.
-use crate::caches::{caches_reply, refuse_excess};
 use crate::check::check_reply;
 use crate::compare::compare_reply;
 use crate::disassemble::disassemble_reply;
-use crate::draw::draw_reply;
-use crate::explain::explain_reply;
-use crate::failure::{Causes, error_text};
-use crate::given::Asked;
-use crate::interrupts::interrupts_reply;
 use crate::plans::plans_reply;
-use crate::profile::profile_reply;
-use crate::runs::{GivenRun, read_run};
-use crate::table::{COMMANDS, Command, RunCommand, command_named};
-use crate::trace::trace_reply;
-use crate::words::parse_words;
 use clap::error::ErrorKind;
 use clap::{ArgMatches, Error};
 use cmd_answer::{Failure, Reply, Status, replied};
+use lab_line::{Asked, Causes, Command, command_named, error_text, parse_words};
 use lab_output::{Answer, Destination, Ended, failed, is_error, put_out};
+use lab_runs::run_reply;
 use lab_watch::Watcher;
 use mx_io::{Memory, Shelf, Sink};
 use std::alloc::Global;
@@ -30,38 +21,8 @@ fn status_of(kind: ErrorKind) -> Status {
     }
 }
 
-// The reply of a command that tells of this run.
-fn run_reply<W: Watcher>(
-    asked: &Asked,
-    command: RunCommand,
-    run: &GivenRun,
-    watcher: W,
-) -> Result<Reply, Failure> {
-    match command {
-        RunCommand::Draw => draw_reply(asked, run, watcher),
-        RunCommand::Explain => explain_reply(asked, run, watcher),
-        RunCommand::Profile => profile_reply(asked, run, watcher),
-        RunCommand::Caches => caches_reply(asked, run, watcher),
-        RunCommand::Interrupts => interrupts_reply(asked, run, watcher),
-        RunCommand::Trace => trace_reply(asked, run, watcher),
-    }
-}
-
-// The reply of a command that tells of the run of a source, which is read once the words alone were looked at.
-fn of_run_reply<S: Shelf, W: Watcher>(
-    asked: &Asked,
-    command: RunCommand,
-    shelf: &mut S,
-    watcher: W,
-) -> Result<Reply, Failure> {
-    if matches!(command, RunCommand::Caches) {
-        refuse_excess(asked)?;
-    }
-    let run = read_run(asked, shelf)?;
-    run_reply(asked, command, &run, watcher)
-}
-
-// The reply of a command. Another one is added here, or above, and in the table of commands.
+// The reply of a command. Another one is added here, or beside those that tell of a run (`lab_runs`), and in the table of commands
+// (`lab_line`).
 fn answered_by<S: Shelf, W: Watcher>(
     asked: &Asked,
     shelf: &mut S,
@@ -72,7 +33,7 @@ fn answered_by<S: Shelf, W: Watcher>(
         Command::Compare => compare_reply(asked, shelf, watcher),
         Command::Disassemble => disassemble_reply(asked, shelf),
         Command::Plans => plans_reply(asked, shelf, watcher),
-        Command::OfRun(command) => of_run_reply(asked, command, shelf, watcher),
+        Command::OfRun(command) => run_reply(asked, command, shelf, watcher),
     }
 }
 
@@ -189,7 +150,7 @@ fn found_answer<'a, S: Shelf, T: Watcher, C: Causes>(
     let Some((name, found)) = matches.subcommand() else {
         return Err(Memory);
     };
-    match command_named(&COMMANDS, name) {
+    match command_named(name) {
         Some(command) => command_answer(alloc, command, found, shelf, watcher, causes),
         None => Err(Memory),
     }

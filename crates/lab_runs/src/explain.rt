@@ -1,13 +1,13 @@
 //! The reply of `explain`.
 ghost use Rattle.std.specs.Prelude.{◌≡◌, IfOk};
 ghost use Rattle.mx_turn.specs.Run.{run_of};
-ghost use Rattle.lab_command.specs.Runs.{loaded};
+ghost use Rattle.lab_runs.specs.Runs.{loaded};
 
-use crate::given::{Asked, Form};
 use crate::printed::{or_memory, printed};
 use crate::runs::GivenRun;
 use cmd_answer::{Failure, Reply, Status};
 use lab_explain::{Explained, explained_json, explained_text};
+use lab_line::{Asked, Form};
 use lab_measures::{Ran, Standing, run_machine, stand};
 use lab_watch::Watcher;
 use mx_io::Memory;

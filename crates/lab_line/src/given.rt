@@ -79,7 +79,7 @@ pub struct Asked<'a, 'w> {
 }
 
 /// The word of an option or a name; empty where there is none, which is the name of no file.
-pub fn word_given<'a>(matches: &ArgMatches<'a>, name: &str) -> &'a str {
+pub(crate) fn word_given<'a>(matches: &ArgMatches<'a>, name: &str) -> &'a str {
     matches.get_str(name).unwrap_or("")
 }
 

@@ -1,9 +1,9 @@
 //! The reply of `profile`.
-use crate::given::{Asked, Form, WordRow, meant_by};
 use crate::printed::{or_memory, printed, run_status};
 use crate::runs::GivenRun;
 use cmd_answer::{Failure, Reply};
 use lab_costs::{By, Subject, callgrind, profile_json, profile_text};
+use lab_line::{Asked, Form, WordRow, meant_by};
 use lab_profile::{Calls, Column, Profile, calls_of, profile_of};
 use lab_watch::Watcher;
 use mx_io::Memory;

@@ -1,9 +1,9 @@
 //! What comes to a run from outside.
 ghost use Rattle.std.specs.Prelude.{◌≤◌, vec_len};
 
-use crate::given::Asked;
 use cmd_answer::Failure;
 use cmd_simulate::{read_input, read_requests};
+use lab_line::Asked;
 use mx_board::Requests;
 use mx_io::Shelf;
 

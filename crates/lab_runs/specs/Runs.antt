@@ -16,7 +16,7 @@ use Rattle.mx_pipe.specs.Kept.{StandsFor}
 use Rattle.lab_watch.specs.declared.watched.Watched.{Watched}
 use Rattle.lab_watch.specs.Within.{within}
 use Rattle.cmd_source.specs.declared.sources.Program.{Program as SourceProgram}
-use Rattle.lab_command.specs.declared.runs.GivenRun.{GivenRun}
+use Rattle.lab_runs.specs.declared.runs.GivenRun.{GivenRun}
 
 -- the source is linked as the list scheduler has it
 abbrev pub IsLinkedSource : SourceProgram → Type 0

@@ -1,14 +1,14 @@
 //! The reply of `draw`.
 ghost use Rattle.std.specs.Prelude.{◌≤◌, ◌+◌, IfOk};
 ghost use Rattle.lab_draw.specs.Frames.{IsDrawing};
-ghost use Rattle.lab_command.specs.Runs.{loaded};
+ghost use Rattle.lab_runs.specs.Runs.{loaded};
 
-use crate::given::{Asked, Form};
 use crate::printed::printed;
 use crate::runs::GivenRun;
 use cmd_answer::{Failure, Reply, Status};
 use cmd_source::Program;
 use lab_draw::{Drawing, draw, rows_of};
+use lab_line::{Asked, Form};
 use lab_pictures::{PlaceNames, Subject, html, json, kanata, svg, text, vcd};
 use lab_watch::Watcher;
 use mx_io::Memory;

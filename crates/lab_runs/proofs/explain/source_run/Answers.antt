@@ -1,6 +1,6 @@
 -- The machine stands for the program that is loaded, so its run is that program's.
-use Rattle.lab_command.specs.Runs.{loaded}
-use Rattle.lab_command.proofs.explain.source_run.Goals as goal
+use Rattle.lab_runs.specs.Runs.{loaded}
+use Rattle.lab_runs.proofs.explain.source_run.Goals as goal
 
 pub returns-clause-cycles : goal.returns-clause-cycles
 returns-clause-cycles g c = c.in_ok-ran.ensures.cycles (loaded c.args.run.now) c.in_ok-machine.ensures

@@ -1,9 +1,9 @@
 //! The reply of `caches`.
-use crate::given::{Asked, Form};
 use crate::printed::{answered, or_memory, printed, run_status};
 use crate::runs::GivenRun;
 use cmd_answer::{Failure, Reply, Status, line_reply};
 use lab_caches::{Study, caches_json, caches_svg, caches_text, study_of};
+use lab_line::{Asked, Form};
 use lab_terms::{Geometry, geometries};
 use lab_watch::{Watched, Watcher};
 use mx_icache::LineCache;

@@ -6,7 +6,7 @@ use Rattle.mx_turn.specs.Handler.{shipped}
 use Rattle.mx_turn.specs.Program.{program_of}
 use Rattle.mx_pipe.specs.Kept.{StandsFor}
 use Rattle.lab_watch.specs.Within.{within}
-use Rattle.lab_command.proofs.runs.GivenRun.pipe.Goals as goal
+use Rattle.lab_runs.proofs.runs.GivenRun.pipe.Goals as goal
 
 pub returns : goal.returns
 returns g c =

@@ -1,8 +1,8 @@
 //! The reply of `trace`.
-use crate::given::Asked;
 use crate::printed::run_status;
 use crate::runs::GivenRun;
 use cmd_answer::{Failure, Reply};
+use lab_line::Asked;
 use lab_trace::{Given, Traced, trace_of};
 use lab_watch::Watcher;
 use mx_io::Memory;

@@ -1,12 +1,12 @@
 //! Sources with what their runs are given.
 ghost use Rattle.std.specs.Prelude.{◌≡◌, IfOk};
 ghost use Rattle.std.specs.Option.{option_copied};
-ghost use Rattle.lab_command.specs.Runs.{input_of, IsOfFile, IsLinkedSource, IsLoaded};
+ghost use Rattle.lab_runs.specs.Runs.{input_of, IsOfFile, IsLinkedSource, IsLoaded};
 
-use crate::given::Asked;
 use crate::stimulus::{Stimulus, read_stimulus};
 use cmd_answer::Failure;
 use cmd_source::{Program, read_program};
+use lab_line::Asked;
 use lab_watch::{Watched, Watcher, watched_pipe};
 use mx_icache::LineCache;
 use mx_io::{Memory, Shelf};

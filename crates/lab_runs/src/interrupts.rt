@@ -1,10 +1,10 @@
 //! The reply of `interrupts`.
 ghost use Rattle.std.specs.Prelude.{◌≤◌, ◌<◌, IfOk};
 
-use crate::given::{Asked, Form};
 use crate::printed::{or_memory, printed, refused, run_status};
 use crate::runs::GivenRun;
 use cmd_answer::{Failure, Reply, Status};
+use lab_line::{Asked, Form};
 use lab_measures::{Row, Run, Span, Sweep, Swept, cycles_in, pairs, run_with, singles};
 use lab_tables::{Places, places_of, sweep_csv, sweep_json, sweep_text};
 use lab_watch::Watcher;

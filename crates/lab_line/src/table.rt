@@ -35,7 +35,7 @@ pub enum RunCommand {
 
 /// What stands behind the name of a command.
 #[derive(Clone, Copy)]
-pub enum Names {
+pub(crate) enum Names {
     /// A source.
     Source,
     /// One source or more.
@@ -48,7 +48,7 @@ pub enum Names {
 
 /// What stands behind the name of an option.
 #[derive(Clone, Copy)]
-pub enum Takes {
+pub(crate) enum Takes {
     Nothing,
     File,
     /// A number, and the one that is taken where it is left out, if there is one.
@@ -67,7 +67,7 @@ pub enum Takes {
 
 /// An option, without its two hyphens.
 #[derive(Clone, Copy)]
-pub struct OptionRow {
+pub(crate) struct OptionRow {
     pub name: &'static str,
     pub takes: Takes,
     pub help: &'static str,
@@ -75,7 +75,7 @@ pub struct OptionRow {
 
 /// What the words of a command are.
 #[derive(Clone, Copy)]
-pub struct CommandRow {
+pub(crate) struct CommandRow {
     pub name: &'static str,
     pub command: Command,
     pub about: &'static str,
@@ -340,8 +340,9 @@ const TRACE: [OptionRow; 4] = [
 
 const PLANS: [OptionRow; 3] = [BUDGET, INTERRUPTS, INPUT];
 
-/// The commands, in the order in which help tells them. Another one is added here and in `top.rt`.
-pub static COMMANDS: [CommandRow; 10] = [
+/// The commands, in the order in which help tells them. Another one is added here and where it is answered: in `answers.rt` of
+/// `lab_runs`, or in `top.rt` of `lab_command`.
+pub(crate) static COMMANDS: [CommandRow; 10] = [
     CommandRow {
         name: "draw",
         command: Command::OfRun(RunCommand::Draw),
@@ -415,8 +416,8 @@ pub static COMMANDS: [CommandRow; 10] = [
 ];
 
 /// The command of this name, if there is one.
-pub fn command_named(rows: &[CommandRow], name: &str) -> Option<Command> {
-    for row in rows {
+pub fn command_named(name: &str) -> Option<Command> {
+    for row in &COMMANDS {
         if row.name == name {
             return Some(row.command);
         }

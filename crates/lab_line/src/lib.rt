@@ -1,0 +1,13 @@
+//! The words of the commands for people who look: which commands and options there are, what the words of one say, and which file
+//! is told of on standard error.
+#![tactic(auto)]
+
+mod failure;
+mod given;
+mod table;
+mod words;
+
+pub use failure::{Cause, Causes, Unknown, error_text, named};
+pub use given::{Asked, Form, WordRow, file_by, meant_by};
+pub use table::{Command, RunCommand, command_named};
+pub use words::parse_words;

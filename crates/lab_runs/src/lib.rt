@@ -1,0 +1,17 @@
+//! The commands that tell of the run of a source: what the words give it, and how each is answered.
+#![tactic(auto)]
+
+mod answers;
+mod caches;
+mod draw;
+mod explain;
+mod interrupts;
+mod printed;
+mod profile;
+mod runs;
+mod stimulus;
+mod trace;
+
+pub use answers::run_reply;
+pub use printed::{answered, or_memory, printed, refused, unlinked};
+pub use stimulus::{Stimulus, read_stimulus};
