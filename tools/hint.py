@@ -15,6 +15,7 @@ REFUSED, USAGE, OUT_OF_BUDGET, READ_FAULT, WRITE_FAULT, BAD_IMAGE, BAD_REQUESTS,
 MX = os.environ.get("MX_NAME", "./mx")
 # The commands that it has: C programs and the workbench stand in the repository alone.
 COMMANDS = {name: it for name, it in commands.COMMANDS.items() if MX == "./mx" or it.program in ("mx_run", "mx_lab")}
+STANDARD_INPUT = "/dev/stdin"
 # Words that name files which are read.
 READ = ("SOURCE", "FIRST", "SECOND", "IMAGE", "FILE")
 
@@ -50,6 +51,8 @@ def in_range(value, text):
 
 def of_label(label, source):
     """Returns what is wrong with the name of a label of a source, or None where nothing is."""
+    if not os.path.isfile(source):
+        return None
     try:
         with open(source, encoding="utf-8", errors="replace") as it:
             labels = re.findall(r"^\s*([^\s:;#]+):", it.read(), re.M)
@@ -103,11 +106,13 @@ def why_unread(file):
 def hints(status, name, words):
     """Yields lines that say what to do."""
     names, options = split(words)
-    source = next(iter(names), "SOURCE")
-    if status == REFUSED and name == "debug" and (why := of_label(names[-1], source)):
+    # (what came by a pipe is gone)
+    shown = ["SOURCE" if it == STANDARD_INPUT else it for it in names]
+    source = next(iter(shown), "SOURCE")
+    if status == REFUSED and name == "debug" and (why := of_label(names[-1], names[0])):
         yield why
     elif status == REFUSED:
-        for file in names if name in ("share", "join") else [source]:
+        for file in shown if name in ("share", "join") else [source]:
             yield f"{MX} check {file} tells every faulty line, and what is wrong with it"
     elif status == USAGE:
         yield of_words(name, names, options) or "these words are refused"

@@ -64,6 +64,18 @@ case ${{1-}} in
     -h | --help) exec cat "$here/share/zanderanvil/help/all" ;;
     '') cat "$here/share/zanderanvil/help/all"; exit 2 ;;
     {run})
+        # `-` is standard input, but for the file that build and migrate write
+        name=$1
+        left=$#
+        for word; do
+            shift
+            left=$((left - 1))
+            case $name,$left,$word in
+                build,0,- | migrate,0,-) ;;
+                *,-) word=/dev/stdin ;;
+            esac
+            set -- "$@" "$word"
+        done
         "$here/libexec/zanderanvil/mx_run" "$@"
         status=$?
         case $status in [1-9]) hint "$status" "$@" ;; esac
