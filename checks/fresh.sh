@@ -63,6 +63,10 @@ run "$clone" ./mx debug examples/countdown.s nxet
 tell 'a label that there is not' 1 'mx: there is no label nxet; did you mean next?'
 run "$clone" ./mx exec examples/hello.s
 tell 'a source in the place of an image' 7 'is no image file'
+run "$clone" sh -c './mx run - <examples/hello.s'
+tell 'standard input' 0 'cycles 12'
+run "$clone" sh -c 'cat README.md | ./mx share examples/hello.s -'
+tell 'faults of what comes by a pipe' 1 'mx: ./mx check SOURCE tells every faulty line'
 run "$clone" ./mx run README.md
 tell 'a source with faults' 1 'mx: ./mx check README.md tells every faulty line'
 run "$clone" ./mx run --budget=5 examples/hello.s
