@@ -1,4 +1,5 @@
 pub mod Bytes
 pub mod Conditions
 pub mod Marks
+pub mod Refusals
 pub mod Registers

@@ -1,5 +1,5 @@
 //! Why a line is not taken.
-ghost use Rattle.std.specs.Prelude.{◌≡◌};
+ghost use Rattle.std.specs.Prelude.{◌≡◌, Some};
 
 use std::alloc::{AllocError, AllocFailed};
 
@@ -26,8 +26,12 @@ pub enum Refusal {
 }
 
 impl Refusal {
-    /// What is said of it.
-    pub fn reason(self) -> &'static str {
+    ghost use Rattle.cc_lines.specs.Refusals;
+
+    /// What is said of it, and of no other.
+    pub fn reason(self) -> &'static str
+        ensures { Refusals.told_by result.now ≡ Some self }
+    {
         match self {
             Refusal::UnknownMnemonic => "an instruction that is not known",
             Refusal::UnknownDirective => "a directive that is not known",

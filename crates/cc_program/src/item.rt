@@ -1,10 +1,14 @@
 //! What functions and data are made of.
+ghost use Rattle.std.specs.Prelude.{◌≡◌, ◌≤◌, ◌^◌, IfOk, OnErr};
 
 use cc_lines::Instruction;
 use std::alloc::{AllocError, Global};
 
-/// The number of what stands behind so many others.
-pub(crate) fn number_behind(count: usize) -> Result<u32, AllocError> {
+/// The number of what stands behind so many others, if 32 bits hold it.
+pub(crate) fn number_behind(count: usize) -> Result<u32, AllocError>
+    ensures ok { IfOk result (λ number. number ≡ count) }
+    ensures err { OnErr result (2 ^ 32 ≤ count) }
+{
     match u32::try_from(count) {
         Ok(number) => Ok(number),
         Err(_) => Err(AllocError),

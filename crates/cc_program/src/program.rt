@@ -1,5 +1,5 @@
 //! A program as it was read.
-ghost use Rattle.std.specs.Prelude.{◌≡◌, IfOk};
+ghost use Rattle.std.specs.Prelude.{◌≡◌, IfOk, slice_get};
 ghost use Rattle.cc_program.specs.Programs;
 
 use crate::item::{Function, Item, Object};
@@ -32,7 +32,9 @@ impl<'a> Program<'a> {
     }
 
     /// The function with a number.
-    pub(crate) fn function(&self, number: u32) -> Option<Function> {
+    pub(crate) fn function(&self, number: u32) -> Option<Function>
+        ensures { result ≡ slice_get self.now.functions.items number }
+    {
         self.functions.get(number as usize).copied()
     }
 
@@ -47,7 +49,9 @@ impl<'a> Program<'a> {
     }
 
     /// The address of a symbol: of a function that of the word that holds its place. 0 where it has none.
-    pub fn address(&self, symbol: u32) -> u32 {
+    pub fn address(&self, symbol: u32) -> u32
+        ensures { result ≡ Programs.address_of self.now symbol }
+    {
         let object = match self.symbols.meaning(symbol) {
             Meaning::Object(object) => Some(object),
             Meaning::Function(function) => match self.function(function) {
@@ -66,7 +70,10 @@ impl<'a> Program<'a> {
         }
     }
 
-    fn descriptor(&self, symbol: u32) -> Option<u32> {
+    /// The datum that holds the place of a symbol.
+    fn descriptor(&self, symbol: u32) -> Option<u32>
+        ensures { result ≡ Programs.descriptor_of self.now.symbols.list.items symbol }
+    {
         match self.symbols.at(symbol) {
             Some(symbol) => symbol.descriptor,
             None => None,

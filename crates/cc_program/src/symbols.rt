@@ -1,5 +1,6 @@
 //! What names stand for.
-ghost use Rattle.std.specs.Prelude.{◌≡◌, slice_get};
+ghost use Rattle.std.specs.Prelude.{◌≡◌, IfOk, length, slice_get};
+ghost use Rattle.cc_program.specs.Changes;
 ghost use Rattle.cc_program.specs.Programs;
 
 use crate::item::number_behind;
@@ -41,7 +42,9 @@ pub struct Symbol<'a> {
 
 impl<'a> Symbol<'a> {
     /// Whether it is defined nowhere so far.
-    fn is_unknown(&self) -> bool {
+    fn is_unknown(&self) -> bool
+        ensures { result ≡ Changes.is_unknown self.now.meaning }
+    {
         matches!(self.meaning, Meaning::Unknown)
     }
 }
@@ -74,11 +77,16 @@ impl<'a> Symbols<'a> {
     }
 
     /// Begins a text, which has no names of its own yet.
-    pub(crate) fn begin_unit(&mut self) {
+    pub(crate) fn begin_unit(&mut self)
+        ensures { self.new.list.items ≡ self.old.list.items }
+    {
         self.own.clear();
     }
 
-    fn push(&mut self, name: &'a [u8], owner: u32) -> Result<u32, AllocError> {
+    fn push(&mut self, name: &'a [u8], owner: u32) -> Result<u32, AllocError>
+        ensures number { IfOk result (λ number. number ≡ length self.old.list.items) }
+        ensures kept { Changes.Extends self.old.list.items self.new.list.items }
+    {
         let number = number_behind(self.list.len())?;
         self.list.push(Symbol {
             name,
@@ -92,7 +100,9 @@ impl<'a> Symbols<'a> {
     }
 
     /// Makes a name one of the text with this number, counted from 1.
-    pub(crate) fn make_own(&mut self, name: &'a [u8], owner: u32) -> Result<(), AllocError> {
+    pub(crate) fn make_own(&mut self, name: &'a [u8], owner: u32) -> Result<(), AllocError>
+        ensures { Changes.Extends self.old.list.items self.new.list.items }
+    {
         if self.own.get(name).is_none() {
             let number = self.push(name, owner)?;
             self.own.insert(name, number)?;
@@ -101,7 +111,9 @@ impl<'a> Symbols<'a> {
     }
 
     /// The number of a name in the current text.
-    pub(crate) fn number(&mut self, name: &'a [u8]) -> Result<u32, AllocError> {
+    pub(crate) fn number(&mut self, name: &'a [u8]) -> Result<u32, AllocError>
+        ensures { Changes.Extends self.old.list.items self.new.list.items }
+    {
         if let Some(number) = self.own.get(name) {
             return Ok(*number);
         }
@@ -120,31 +132,42 @@ impl<'a> Symbols<'a> {
         self.list.get(number as usize).copied()
     }
 
+    /// What a symbol was defined as, which may be an alias.
+    fn own_meaning(&self, number: u32) -> Meaning
+        ensures { result ≡ Programs.own_meaning self.now.list.items number }
+    {
+        match self.list.get(number as usize) {
+            Some(symbol) => symbol.meaning,
+            None => Meaning::Unknown,
+        }
+    }
+
     /// The number of the symbol that a symbol is an alias of, or its own.
-    pub fn resolved(&self, number: u32) -> u32 {
+    pub fn resolved(&self, number: u32) -> u32
+        ensures { result ≡ Programs.resolved self.now.list.items number }
+    {
         let mut at = number;
         for _ in 0..MOST_ALIASES {
-            match self.list.get(at as usize) {
-                Some(symbol) => match symbol.meaning {
-                    Meaning::Alias(other) => at = other,
-                    _ => return at,
-                },
-                None => return at,
+            match self.own_meaning(at) {
+                Meaning::Alias(other) => at = other,
+                _ => return at,
             }
         }
         at
     }
 
     /// What a symbol stands for, aliases followed.
-    pub fn meaning(&self, number: u32) -> Meaning {
-        match self.list.get(self.resolved(number) as usize) {
-            Some(symbol) => symbol.meaning,
-            None => Meaning::Unknown,
-        }
+    pub fn meaning(&self, number: u32) -> Meaning
+        ensures { result ≡ Programs.meaning_of self.now.list.items number }
+    {
+        self.own_meaning(self.resolved(number))
     }
 
-    /// Defines a symbol. Answers false where it is defined already, and neither is weak.
-    pub(crate) fn define(&mut self, number: u32, meaning: Meaning, weak: bool) -> bool {
+    /// Defines a symbol. Answers false where it is defined already, and neither is weak, or where there is none.
+    pub(crate) fn define(&mut self, number: u32, meaning: Meaning, weak: bool) -> bool
+        ensures answer { result ≡ Changes.may_define self.old.list.items number weak }
+        ensures list { self.new.list.items ≡ Changes.changed (Changes.defined meaning weak) number self.old.list.items }
+    {
         match self.list.get_mut(number as usize) {
             Some(symbol) => {
                 if symbol.is_unknown() || (symbol.weak && !weak) {
@@ -160,7 +183,9 @@ impl<'a> Symbols<'a> {
     }
 
     /// Lets a symbol that is defined nowhere be one that need not be.
-    pub(crate) fn weaken(&mut self, number: u32) {
+    pub(crate) fn weaken(&mut self, number: u32)
+        ensures { self.new.list.items ≡ Changes.changed Changes.weakened number self.old.list.items }
+    {
         if let Some(symbol) = self.list.get_mut(number as usize) {
             if symbol.is_unknown() {
                 symbol.weak = true;
@@ -169,14 +194,16 @@ impl<'a> Symbols<'a> {
     }
 
     /// Marks a symbol as named.
-    pub(crate) fn use_it(&mut self, number: u32) {
+    pub(crate) fn use_it(&mut self, number: u32)
+        ensures { self.new.list.items ≡ Changes.changed Changes.marked (Programs.resolved self.old.list.items number) self.old.list.items }
+    {
         let resolved = self.resolved(number) as usize;
         if let Some(symbol) = self.list.get_mut(resolved) {
             symbol.used = true;
         }
     }
 
-    /// Whether something names a symbol.
+    /// Whether a symbol is marked as named.
     pub fn is_used(&self, number: u32) -> bool
         ensures { result ≡ Programs.is_used self.now.list.items number }
     {
@@ -187,7 +214,9 @@ impl<'a> Symbols<'a> {
     }
 
     /// Lets a datum hold the place of a symbol.
-    pub(crate) fn describe(&mut self, number: u32, object: u32) {
+    pub(crate) fn describe(&mut self, number: u32, object: u32)
+        ensures { self.new.list.items ≡ Changes.changed (Changes.described object) number self.old.list.items }
+    {
         if let Some(symbol) = self.list.get_mut(number as usize) {
             symbol.descriptor = Some(object);
         }

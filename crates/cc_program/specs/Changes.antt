@@ -1,0 +1,39 @@
+-- What becomes of symbols while texts are read, which only functions of this crate cite.
+use Rattle.std.specs.Prelude.{ℕ, Bool, true, false, ◌≡◌, not, ◌&&◌, ◌||◌, if◌then◌else◌, List, length, take, Some, option_map, unwrap_or, slice_get, slice_set}
+use Rattle.cc_program.specs.declared.symbols.Meaning.{Meaning}
+use Rattle.cc_program.specs.declared.symbols.Meaning.TheVariants.{Unknown}
+use Rattle.cc_program.specs.declared.symbols.Symbol.{Symbol}
+
+-- no text has defined it so far
+abbrev pub is_unknown : Meaning → Bool
+is_unknown Unknown = true
+is_unknown _ = false
+
+-- a definition is no second one: the symbol is defined nowhere so far, or one of the two is weak
+abbrev pub may_be_defined : Bool → Symbol → Bool
+may_be_defined weak symbol = is_unknown symbol.meaning || symbol.weak || weak
+
+abbrev pub may_define : List Symbol → ℕ → Bool → Bool
+may_define symbols number weak = unwrap_or (option_map (may_be_defined weak) (slice_get symbols number)) false
+
+-- the symbols, where the one with this number, if there is one, is what f makes of it
+abbrev pub changed : (Symbol → Symbol) → ℕ → List Symbol → List Symbol
+changed f number symbols = unwrap_or (option_map (λ s. slice_set symbols number (f s)) (slice_get symbols number)) symbols
+
+-- it stands for this, unless it was defined before and does not give way
+abbrev pub defined : Meaning → Bool → Symbol → Symbol
+defined meaning weak symbol =
+    if is_unknown symbol.meaning || (symbol.weak && not weak) then record symbol { meaning = meaning; weak = weak } else symbol
+
+abbrev pub weakened : Symbol → Symbol
+weakened symbol = if is_unknown symbol.meaning then record symbol { weak = true } else symbol
+
+abbrev pub marked : Symbol → Symbol
+marked symbol = record symbol { used = true }
+
+abbrev pub described : ℕ → Symbol → Symbol
+described datum symbol = record symbol { descriptor = Some datum }
+
+-- the symbols that stood there stand there
+abbrev pub Extends : List Symbol → List Symbol → Type 0
+Extends before after = take (length before) after ≡ before
