@@ -1,9 +1,10 @@
 //! What a source is refused for, as it is told.
 use crate::finding::{Finding, Found, Severity, Words};
-use crate::hint::hint;
+use crate::hint::push_hint;
 use crate::labels::Definition;
-use crate::sentence::{name_of, sentence};
+use crate::sentence::{name_of, push_sentence};
 use lab_faults::Shown;
+use lab_writer::Writer;
 use mx_asm::line_words;
 use mx_lines::{Fault, Word};
 use std::alloc::{AllocError, Global};
@@ -34,9 +35,11 @@ fn said_by(
     words: &[Word],
     definitions: &[Definition],
 ) -> Result<Words, AllocError> {
-    let message = sentence(alloc, shown, name_of(words))?;
-    let hint = hint(alloc, shown, words, definitions)?;
-    Ok(Words { message, hint })
+    let mut message = Writer::new(alloc);
+    let mut hint = Writer::new(alloc);
+    push_sentence(&mut message, shown, name_of(words));
+    push_hint(&mut hint, shown, words, definitions);
+    Words::new(message, hint)
 }
 
 // What is said of a faulty line.

@@ -1,5 +1,6 @@
 //! What `check` tells of a line.
 use lab_faults::marks_under;
+use lab_writer::Writer;
 use mx_faults::Span;
 use std::alloc::{AllocError, Global};
 
@@ -59,8 +60,20 @@ impl Finding<'_> {
 /// What is said of a line: what it is, and what may have been meant, if something is known.
 #[derive(Drop)]
 pub struct Words {
-    pub message: String,
-    pub hint: Option<String>,
+    message: String,
+    hint: Option<String>,
+}
+
+impl Words {
+    /// What was written of a line: nothing more is known of it where the hint is empty.
+    pub fn new(message: Writer, hint: Writer) -> Result<Words, AllocError> {
+        let message = message.into_text()?;
+        let hint = hint.into_text()?;
+        Ok(Words {
+            message,
+            hint: if hint.is_empty() { None } else { Some(hint) },
+        })
+    }
 }
 
 /// What is found at a line, before anything is said of it.

@@ -2,45 +2,22 @@
 
 use crate::foreign::{directive_instead, mnemonic_instead, register_instead};
 use crate::labels::{Definition, first_definition, names_of, other_case};
-use crate::operand::operand_hint;
+use crate::operand::push_operand_hint;
 use crate::sentence::{
     BYTE_ORDER_MARK, char_of, is_among, is_mnemonic, mnemonics, name_of, text_of, token_of,
 };
-use crate::texts::{joined, numbered};
 use lab_faults::{Shown, nearest};
+use lab_writer::Writer;
 use mx_asm::statement_words;
 use mx_lines::{Fault, Word, spells};
-use std::alloc::{AllocError, Global};
-
-/// What may have been meant, if something is known.
-pub type Hint = Result<Option<String>, AllocError>;
 
 /// The directives of the language.
 const DIRECTIVES: [&str; 5] = [".code", ".data", ".word", ".space", ".input"];
 
-/// A hint that was made, if there was memory for it.
-pub fn hinted(text: Result<String, AllocError>) -> Hint {
-    Ok(Some(text?))
-}
-
-/// A hint of these parts.
-pub fn said(alloc: Global, parts: &[&str]) -> Hint {
-    hinted(joined(alloc, parts))
-}
-
-/// A hint of these words, if there are any.
-pub fn said_if(alloc: Global, text: Option<&str>) -> Hint {
-    match text {
-        Some(text) => said(alloc, &[text]),
-        None => Ok(None),
-    }
-}
-
-// The name that was meant in the place of a word.
-fn meant(alloc: Global, word: &str, names: &[&str]) -> Hint {
-    match nearest(alloc, word, names)? {
-        Some(name) => said(alloc, &["did you mean `", name, "`?"]),
-        None => Ok(None),
+// Appends which name was meant in the place of a word, if one is near.
+fn push_meant(text: &mut Writer, word: &str, names: &[&str]) {
+    if let Some(Some(name)) = text.take(nearest(text.alloc(), word, names)) {
+        text.push_parts(&["did you mean `", name, "`?"]);
     }
 }
 
@@ -71,19 +48,19 @@ fn byte_told(typed: Option<&str>) -> &'static str {
     "behind a `;` any text may stand"
 }
 
-// F2: bytes at which no token begins.
-fn token_told(token: &[u8]) -> Option<&'static str> {
+// F2: what is said of bytes at which no token begins; nothing where nothing is known.
+fn token_told(token: &[u8]) -> &'static str {
     match token {
-        [b'(' | b')', ..] => Some("an address is OFFSET[R], as `4[r1]`"),
-        [b'$' | b'%', ..] => Some("a register is written `r1`, without a sign before it"),
-        [b'\'' | b'"', ..] => Some("a character is written as its number: 65 is `A`"),
-        [b'/' | b'*' | b'!' | b'@' | b'|', ..] => Some("a comment begins with `;`"),
-        [b'+', ..] => Some("a number that is not negative has no sign"),
-        [b'-', ..] => Some("a `-` stands directly before the digits of its number"),
-        [b'0'..=b'9', ..] => Some(
-            "a number is decimal, or hexadecimal behind `0x`; a name begins with a letter or `_`",
-        ),
-        _ => None,
+        [b'(' | b')', ..] => "an address is OFFSET[R], as `4[r1]`",
+        [b'$' | b'%', ..] => "a register is written `r1`, without a sign before it",
+        [b'\'' | b'"', ..] => "a character is written as its number: 65 is `A`",
+        [b'/' | b'*' | b'!' | b'@' | b'|', ..] => "a comment begins with `;`",
+        [b'+', ..] => "a number that is not negative has no sign",
+        [b'-', ..] => "a `-` stands directly before the digits of its number",
+        [b'0'..=b'9', ..] => {
+            "a number is decimal, or hexadecimal behind `0x`; a name begins with a letter or `_`"
+        }
+        _ => "",
     }
 }
 
@@ -95,28 +72,23 @@ fn is_before_mnemonic(words: &[Word]) -> bool {
     }
 }
 
-// F3: a mnemonic like this one.
-fn mnemonic_meant(alloc: Global, word: &str) -> Hint {
-    let names = mnemonics(alloc)?;
-    meant(alloc, word, &names)
-}
-
 // F3: a mnemonic like this one, in small letters.
-fn slip_hint(alloc: Global, word: &str) -> Hint {
-    let lower = word.to_ascii_lowercase(alloc)?;
-    mnemonic_meant(alloc, lower.as_str())
+fn push_mnemonic_like(text: &mut Writer, word: &str, names: &[&str]) {
+    if let Some(lower) = text.take(word.to_ascii_lowercase(text.alloc())) {
+        push_meant(text, &lower, names);
+    }
 }
 
 // F3: a word of another machine, a label without its colon, or a slip.
-fn mnemonic_hint(alloc: Global, words: &[Word], token: &[u8]) -> Hint {
+fn push_mnemonic_hint(text: &mut Writer, words: &[Word], token: &[u8]) {
     let word = text_of(token);
     if let Some(instead) = mnemonic_instead(token) {
-        return said(alloc, &[instead]);
+        text.push_str(instead);
+    } else if is_before_mnemonic(words) {
+        text.push_parts(&["a label has a `:` behind it: `", word, ":`"]);
+    } else if let Some(names) = text.take(mnemonics(text.alloc())) {
+        push_mnemonic_like(text, word, &names);
     }
-    if is_before_mnemonic(words) {
-        return said(alloc, &["a label has a `:` behind it: `", word, ":`"]);
-    }
-    slip_hint(alloc, word)
 }
 
 // The number of a register, behind another letter or zeros.
@@ -132,82 +104,71 @@ fn register_number(token: &[u8]) -> Option<u32> {
 }
 
 // F5: a register of another machine, or a number with zeros in front.
-fn register_hint(alloc: Global, token: &[u8]) -> Hint {
+fn push_register_hint(text: &mut Writer, token: &[u8]) {
     if let Some(instead) = register_instead(token) {
-        return said(alloc, &[instead]);
-    }
-    match register_number(token) {
-        Some(number) => hinted(numbered(alloc, "did you mean `r", number as usize, &["`?"])),
-        None => Ok(None),
+        text.push_str(instead);
+    } else if let Some(number) = register_number(token) {
+        text.push_numbers(&["did you mean `r", "`?"], &[u64::from(number)]);
     }
 }
 
-// F6: a number that is too wide for its place.
-fn range_told(name: &[u8]) -> Option<&'static str> {
+// F6: what is said of a number that is too wide for its place; nothing but for `addi`.
+fn range_told(name: &[u8]) -> &'static str {
     if spells(name, "addi") {
-        return Some(
-            "a wider number is a data word: `ld LABEL[r0],R` loads the word that `.word` puts there",
-        );
+        "a wider number is a data word: `ld LABEL[r0],R` loads the word that `.word` puts there"
+    } else {
+        ""
     }
-    None
 }
 
 // F7: where the label stands first.
-fn repeat_hint(alloc: Global, token: &[u8], definitions: &[Definition]) -> Hint {
-    match first_definition(definitions, token) {
-        Some(line) => hinted(numbered(alloc, "line ", line as usize, &[" defines it first"])),
-        None => Ok(None),
+fn push_first(text: &mut Writer, token: &[u8], definitions: &[Definition]) {
+    if let Some(line) = first_definition(definitions, token) {
+        text.push_numbers(&["line ", " defines it first"], &[u64::from(line)]);
     }
 }
 
-// F8: a label in other letters.
-fn case_hint(alloc: Global, other: &Definition) -> Hint {
-    let rest = [
-        " defines `",
-        text_of(other.name),
-        "`: in labels small and capital letters differ",
-    ];
-    hinted(numbered(alloc, "line ", other.line as usize, &rest))
-}
-
 // F8: a label like this one.
-fn label_meant(alloc: Global, token: &[u8], definitions: &[Definition]) -> Hint {
-    let names = names_of(alloc, definitions)?;
-    meant(alloc, text_of(token), &names)
+fn push_label_like(text: &mut Writer, token: &[u8], definitions: &[Definition]) {
+    if let Some(names) = text.take(names_of(text.alloc(), definitions)) {
+        push_meant(text, text_of(token), &names);
+    }
 }
 
 // F8: a label in other letters, or a slip.
-fn label_hint(alloc: Global, token: &[u8], definitions: &[Definition]) -> Hint {
+fn push_label_hint(text: &mut Writer, token: &[u8], definitions: &[Definition]) {
     match other_case(definitions, token) {
-        Some(other) => case_hint(alloc, &other),
-        None => label_meant(alloc, token, definitions),
+        Some(other) => {
+            text.push_numbers(&["line ", " defines `"], &[u64::from(other.line)]);
+            text.push_str(text_of(other.name));
+            text.push_str("`: in labels small and capital letters differ");
+        }
+        None => push_label_like(text, token, definitions),
     }
 }
 
 // F11: a directive of another assembler, or a slip; of a directive that stands in another place its sentence says enough.
-fn directive_hint(alloc: Global, token: &[u8]) -> Hint {
+fn push_directive_hint(text: &mut Writer, token: &[u8]) {
     if let Some(instead) = directive_instead(token) {
-        return said(alloc, &[instead]);
-    }
-    match token {
-        [b'.', ..] if !is_among(&DIRECTIVES, token) => meant(alloc, text_of(token), &DIRECTIVES),
-        _ => Ok(None),
+        text.push_str(instead);
+    } else if token.starts_with(b".") && !is_among(&DIRECTIVES, token) {
+        push_meant(text, text_of(token), &DIRECTIVES);
     }
 }
 
-/// What may have been meant by a faulty line of these words, in a sentence, where something is known.
-pub fn hint(alloc: Global, shown: &Shown, words: &[Word], definitions: &[Definition]) -> Hint {
+/// Appends what may have been meant by a faulty line of these words, in a sentence, where something is known.
+pub fn push_hint(text: &mut Writer, shown: &Shown, words: &[Word], definitions: &[Definition]) {
     let token = token_of(shown);
     match shown.fault {
-        Fault::BadByte => said(alloc, &[byte_told(char_of(shown))]),
-        Fault::BadToken => said_if(alloc, token_told(token)),
-        Fault::UnknownMnemonic => mnemonic_hint(alloc, words, token),
-        Fault::BadOperands => operand_hint(alloc, shown, words),
-        Fault::BadRegister => register_hint(alloc, token),
-        Fault::NumberOutOfRange => said_if(alloc, range_told(name_of(words))),
-        Fault::DuplicateLabel => repeat_hint(alloc, token, definitions),
-        Fault::UndefinedLabel => label_hint(alloc, token, definitions),
-        Fault::BadDirective => directive_hint(alloc, token),
-        _ => Ok(None),
+        Fault::BadByte => text.push_str(byte_told(char_of(shown))),
+        Fault::BadToken => text.push_str(token_told(token)),
+        Fault::UnknownMnemonic => push_mnemonic_hint(text, words, token),
+        Fault::BadOperands => push_operand_hint(text, shown, words),
+        Fault::BadRegister => push_register_hint(text, token),
+        Fault::NumberOutOfRange => text.push_str(range_told(name_of(words))),
+        Fault::DuplicateLabel => push_first(text, token, definitions),
+        Fault::UndefinedLabel => push_label_hint(text, token, definitions),
+        Fault::BadDirective => push_directive_hint(text, token),
+        _ => {}
     }
 }

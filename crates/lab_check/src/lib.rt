@@ -11,7 +11,6 @@ mod labels;
 mod operand;
 mod report;
 mod sentence;
-mod texts;
 mod warning;
 
 pub use checking::{Checked, check};

@@ -1,8 +1,8 @@
 //! What may have been meant by an operand that does not stand in its place.
 
-use crate::hint::{Hint, said, said_if};
 use crate::sentence::{name_of, text_of, token_of};
 use lab_faults::Shown;
+use lab_writer::Writer;
 use mx_asm::{line_words, statement_words};
 use mx_faults::{Role, places};
 use mx_lines::{Word, spells};
@@ -23,39 +23,39 @@ fn words_before(alloc: Global, shown: &Shown) -> Result<usize, AllocError> {
 }
 
 // A `,` was left out.
-fn comma_hint(alloc: Global, token: &[u8]) -> Hint {
-    let word = text_of(token);
+fn push_comma_hint(text: &mut Writer, token: &[u8]) {
     match token {
-        [b',' | b'[' | b']' | b':', ..] => Ok(None),
-        _ => said(alloc, &["a `,` is missing before `", word, "`"]),
+        [b',' | b'[' | b']' | b':', ..] => {}
+        _ => text.push_parts(&["a `,` is missing before `", text_of(token), "`"]),
     }
 }
 
-// A number, with or without its `#`, stands where a register does.
-fn register_told(name: &[u8], token: &[u8]) -> Option<&'static str> {
-    let [b'#' | b'-' | b'0'..=b'9', ..] = token else {
-        return None;
-    };
-    if spells(name, "add") {
-        Some("`addi R,#NUMBER,R` adds a number")
-    } else if spells(name, "sub") {
-        Some("`addi R,#-NUMBER,R` takes a number away")
-    } else {
-        Some("a register stands here: `addi r0,#NUMBER,R` puts a number into one")
+// What is said of a number, with or without its `#`, where a register stands; nothing of something else.
+fn register_told(name: &[u8], token: &[u8]) -> &'static str {
+    match token {
+        [b'#' | b'-' | b'0'..=b'9', ..] => {
+            if spells(name, "add") {
+                "`addi R,#NUMBER,R` adds a number"
+            } else if spells(name, "sub") {
+                "`addi R,#-NUMBER,R` takes a number away"
+            } else {
+                "a register stands here: `addi r0,#NUMBER,R` puts a number into one"
+            }
+        }
+        _ => "",
     }
 }
 
 // The `#` was left out, or a register stands where a number does.
-fn hash_hint(alloc: Global, name: &[u8], token: &[u8]) -> Hint {
-    let word = text_of(token);
+fn push_hash_hint(text: &mut Writer, name: &[u8], token: &[u8]) {
     match token {
         [b'-' | b'0'..=b'9', ..] => {
-            said(alloc, &["a number has a `#` before it: `#", word, "`"])
+            text.push_parts(&["a number has a `#` before it: `#", text_of(token), "`"]);
         }
         [b'r' | b'R', ..] if spells(name, "addi") => {
-            said(alloc, &["`add R,R,R` adds two registers"])
+            text.push_str("`add R,R,R` adds two registers");
         }
-        _ => Ok(None),
+        _ => {}
     }
 }
 
@@ -68,48 +68,46 @@ fn open_told(name: &[u8]) -> &'static str {
     }
 }
 
-// What is said where something else stands in a place.
-fn place_told(role: Role, name: &[u8], token: &[u8]) -> Option<&'static str> {
+// What is said where something else stands in a place; nothing where nothing is known.
+fn place_told(role: Role, name: &[u8], token: &[u8]) -> &'static str {
     match role {
         Role::Register => register_told(name, token),
-        Role::Open => Some(open_told(name)),
-        Role::Offset => Some("a number or a data label stands before the `[`, as `0[r1]`"),
+        Role::Open => open_told(name),
+        Role::Offset => "a number or a data label stands before the `[`, as `0[r1]`",
         Role::Immediate => {
-            Some("a number stands behind the `#`: `la LABEL,R` gives the address of a label")
+            "a number stands behind the `#`: `la LABEL,R` gives the address of a label"
         }
-        Role::CodeName | Role::AnyName => Some("the name of a label stands here"),
-        _ => None,
+        Role::CodeName | Role::AnyName => "the name of a label stands here",
+        _ => "",
     }
 }
 
-// The hint where something else stands in a place.
-fn place_hint(alloc: Global, role: Role, name: &[u8], token: &[u8]) -> Hint {
+// Appends the hint where something else stands in a place.
+fn push_place_hint(text: &mut Writer, role: Role, name: &[u8], token: &[u8]) {
     match role {
-        Role::Comma => comma_hint(alloc, token),
-        Role::Hash => hash_hint(alloc, name, token),
-        _ => said_if(alloc, place_told(role, name, token)),
+        Role::Comma => push_comma_hint(text, token),
+        Role::Hash => push_hash_hint(text, name, token),
+        _ => text.push_str(place_told(role, name, token)),
     }
 }
 
-// The hint where something else is shown, in the statement with this name and these places.
-fn hint_in(alloc: Global, roles: &[Role], name: &[u8], shown: &Shown) -> Hint {
-    let before = words_before(alloc, shown)?;
-    if before == 0 {
-        return Ok(None);
-    }
-    match roles.get(before - 1) {
-        Some(role) => place_hint(alloc, *role, name, token_of(shown)),
-        None => said(
-            alloc,
-            &["there is an operand too many; a comment begins with `;`"],
-        ),
+// Appends the hint where something else is shown, behind so many words of the statement with this name and these places.
+fn push_hint_behind(text: &mut Writer, before: usize, roles: &[Role], name: &[u8], token: &[u8]) {
+    let Some(place) = before.checked_sub(1) else {
+        return;
+    };
+    match roles.get(place) {
+        Some(role) => push_place_hint(text, *role, name, token),
+        None => text.push_str("there is an operand too many; a comment begins with `;`"),
     }
 }
 
-/// F4: what may have been meant by the word that does not stand in its place.
-pub fn operand_hint(alloc: Global, shown: &Shown, words: &[Word]) -> Hint {
-    match places(alloc, statement_words(words))? {
-        Some(roles) => hint_in(alloc, &roles, name_of(words), shown),
-        None => Ok(None),
+/// F4: appends what may have been meant by the word that does not stand in its place.
+pub fn push_operand_hint(text: &mut Writer, shown: &Shown, words: &[Word]) {
+    let alloc = text.alloc();
+    let roles = text.take(places(alloc, statement_words(words))).flatten();
+    let before = text.take(words_before(alloc, shown));
+    if let (Some(roles), Some(before)) = (roles, before) {
+        push_hint_behind(text, before, &roles, name_of(words), token_of(shown));
     }
 }

@@ -2,6 +2,7 @@
 use crate::finding::{Finding, Severity};
 use crate::json::Told;
 use lab_json::push_record;
+use lab_writer::Writer;
 use std::alloc::{AllocError, Global};
 
 /// How findings are printed.
@@ -37,108 +38,97 @@ fn colour_of(severity: Severity) -> &'static str {
 // What is printed, as far as it is.
 #[derive(Drop)]
 struct Report {
-    alloc: Global,
-    form: Form,
-    output: Vec<u8>,
+    text: Writer,
+    is_coloured: bool,
 }
 
 impl Report {
-    // Puts down bytes.
-    fn push(&mut self, bytes: &[u8]) -> Result<(), AllocError> {
-        self.output.extend_from_slice(bytes)
-    }
-
-    // Puts down texts, one behind the other.
-    fn push_texts(&mut self, texts: &[&str]) -> Result<(), AllocError> {
-        for text in texts {
-            self.push(text.as_bytes())?;
-        }
-        Ok(())
-    }
-
-    // Puts down what begins or ends a colour, where the form has colours.
-    fn push_colour(&mut self, colour: &str) -> Result<(), AllocError> {
-        if self.form == Form::Coloured {
-            self.push(colour.as_bytes())
-        } else {
-            Ok(())
+    // Puts down what begins or ends a colour, where there are colours.
+    fn push_colour(&mut self, colour: &str) {
+        if self.is_coloured {
+            self.text.push_str(colour);
         }
     }
 
-    // Puts down texts in a colour, where the form has colours.
-    fn push_in(&mut self, colour: &str, texts: &[&str]) -> Result<(), AllocError> {
-        self.push_colour(colour)?;
-        self.push_texts(texts)?;
-        self.push_colour(PLAIN)
-    }
-
-    // Puts down the line and the column of a finding.
-    fn push_numbers(&mut self, finding: &Finding) -> Result<(), AllocError> {
-        let (line, column) = (finding.line, finding.column());
-        let numbers = format!(in self.alloc; ":{line}:{column}:")?;
-        self.push(numbers.as_bytes())
+    // Puts down texts in a colour, where there are colours.
+    fn push_in(&mut self, colour: &str, texts: &[&str]) {
+        self.push_colour(colour);
+        self.text.push_parts(texts);
+        self.push_colour(PLAIN);
     }
 
     // Puts down where a finding is, and how grave.
-    fn push_place(&mut self, told: &Told) -> Result<(), AllocError> {
-        let severity = told.finding.severity;
-        self.push_colour(BOLD)?;
-        self.push(told.file.as_bytes())?;
-        self.push_numbers(told.finding)?;
-        self.push_colour(PLAIN)?;
-        self.push(b" ")?;
-        self.push_in(colour_of(severity), &[severity.word(), ":"])
+    fn push_place(&mut self, file: &str, finding: &Finding) {
+        let (line, column) = (u64::from(finding.line), finding.column() as u64);
+        self.push_colour(BOLD);
+        self.text.push_str(file);
+        self.text.push_numbers(&[":", ":", ":"], &[line, column]);
+        self.push_colour(PLAIN);
+        self.text.push(' ');
+        self.push_in(colour_of(finding.severity), &[finding.severity.word(), ":"]);
     }
 
-    // Puts down the number and the name of a finding, and what it is.
-    fn push_named<'t>(
-        &mut self,
-        code: &'t str,
-        name: &'t str,
-        message: &'t str,
-    ) -> Result<(), AllocError> {
-        self.push_texts(&[" ", code, " ", name, ": ", message, "\n    "])
-    }
-
-    // Puts down what a finding is, and the line.
-    fn push_message(&mut self, finding: &Finding) -> Result<(), AllocError> {
-        self.push_named(finding.code, finding.name, finding.message.as_str())?;
-        self.push(finding.text)?;
-        self.push(b"\n")
+    // Puts down the number and the name of a finding, what it is, and the line.
+    fn push_message(&mut self, finding: &Finding) {
+        self.text
+            .push_parts(&[" ", finding.code, " ", finding.name, ": "]);
+        self.text.push_str(&finding.message);
+        self.text.push_str("\n    ");
+        self.text.push_bytes(finding.text);
+        self.text.push('\n');
     }
 
     // Puts down the marks under a line, where there are some.
-    fn push_marks(&mut self, finding: &Finding) -> Result<(), AllocError> {
-        if finding.marks.is_empty() {
-            return Ok(());
+    fn push_marks(&mut self, finding: &Finding) {
+        if !finding.marks.is_empty() {
+            self.text.push_str("    ");
+            self.push_colour(colour_of(finding.severity));
+            self.text.push_bytes(&finding.marks);
+            self.push_colour(PLAIN);
+            self.text.push('\n');
         }
-        self.push(b"    ")?;
-        self.push_colour(colour_of(finding.severity))?;
-        self.push(&finding.marks)?;
-        self.push_colour(PLAIN)?;
-        self.push(b"\n")
     }
 
     // Puts down what may have been meant, where that is known.
-    fn push_hint(&mut self, finding: &Finding) -> Result<(), AllocError> {
-        let Some(hint) = &finding.hint else {
-            return Ok(());
-        };
-        self.push(b"    ")?;
-        self.push_in(CYAN, &["hint:"])?;
-        self.push_texts(&[" ", hint.as_str(), "\n"])
+    fn push_hint(&mut self, finding: &Finding) {
+        if let Some(hint) = &finding.hint {
+            self.text.push_str("    ");
+            self.push_in(CYAN, &["hint:"]);
+            self.text.push_parts(&[" ", hint.as_str(), "\n"]);
+        }
     }
 
     // Puts down a finding.
-    fn push_finding(&mut self, told: &Told) -> Result<(), AllocError> {
-        if self.form == Form::Json {
-            return push_record(self.alloc, &mut self.output, told);
-        }
-        self.push_place(told)?;
-        self.push_message(told.finding)?;
-        self.push_marks(told.finding)?;
-        self.push_hint(told.finding)
+    fn push_finding(&mut self, file: &str, finding: &Finding) {
+        self.push_place(file, finding);
+        self.push_message(finding);
+        self.push_marks(finding);
+        self.push_hint(finding);
     }
+}
+
+// Findings in a file, each with its line.
+fn lines_of(
+    alloc: Global,
+    file: &str,
+    findings: &[Finding],
+    is_coloured: bool,
+) -> Result<Vec<u8>, AllocError> {
+    let text = Writer::new(alloc);
+    let mut report = Report { text, is_coloured };
+    for finding in findings {
+        report.push_finding(file, finding);
+    }
+    report.text.into_bytes()
+}
+
+// Findings in a file as JSON, each on a line.
+fn records_of(alloc: Global, file: &str, findings: &[Finding]) -> Result<Vec<u8>, AllocError> {
+    let mut output = Vec::new(alloc);
+    for finding in findings {
+        push_record(alloc, &mut output, &Told { file, finding })?;
+    }
+    Ok(output)
 }
 
 /// What is printed of findings in a file.
@@ -148,14 +138,9 @@ pub fn findings_text(
     findings: &[Finding],
     form: Form,
 ) -> Result<Vec<u8>, AllocError> {
-    let output = Vec::new(alloc);
-    let mut report = Report {
-        alloc,
-        form,
-        output,
-    };
-    for finding in findings {
-        report.push_finding(&Told { file, finding })?;
+    match form {
+        Form::Text => lines_of(alloc, file, findings, false),
+        Form::Coloured => lines_of(alloc, file, findings, true),
+        Form::Json => records_of(alloc, file, findings),
     }
-    Ok(report.output)
 }

@@ -1,6 +1,6 @@
 //! What is wrong with a faulty line, in a sentence.
-use crate::texts::{joined, numbered};
 use lab_faults::Shown;
+use lab_writer::Writer;
 use mx_asm::statement_words;
 use mx_faults::Span;
 use mx_lines::{Fault, MNEMONICS, Mnemonic, Word, mnemonic_named, spells};
@@ -122,82 +122,57 @@ fn range_of(name: &[u8]) -> &'static str {
     }
 }
 
-// A token, and what is said of it.
-fn told_of(alloc: Global, token: &[u8], rest: &str) -> Result<String, AllocError> {
-    joined(alloc, &["`", text_of(token), "` ", rest])
+// Appends a part of a line between the marks of a quotation.
+fn push_quoted(text: &mut Writer, token: &[u8]) {
+    text.push_parts(&["`", text_of(token), "`"]);
 }
 
-// What does not stand in its place, and what stands behind the name before it.
-fn misplaced<'t>(
-    alloc: Global,
-    shown: &'t str,
-    form: &'t str,
-    name: &'t str,
-) -> Result<String, AllocError> {
-    let parts = [
-        "`",
-        shown,
-        "` does not stand in its place: ",
-        form,
-        " stands behind `",
-        name,
-        "`",
-    ];
-    joined(alloc, &parts)
+// Appends a token, and what is said of it.
+fn push_told(text: &mut Writer, token: &[u8], told: &str) {
+    push_quoted(text, token);
+    text.push_parts(&[" ", told]);
 }
 
-// A token that does not stand in its place.
-fn place_sentence(alloc: Global, name: &[u8], token: &[u8]) -> Result<String, AllocError> {
-    misplaced(alloc, text_of(token), form_of(name), text_of(name))
+// Appends a token that does not stand in its place, and what stands behind the name before it.
+fn push_misplaced(text: &mut Writer, name: &[u8], token: &[u8]) {
+    push_quoted(text, token);
+    text.push_parts(&[
+        " does not stand in its place: ",
+        form_of(name),
+        " stands behind ",
+    ]);
+    push_quoted(text, name);
 }
 
-// What is said of a name, and what stands behind it.
-fn formed<'t>(
-    alloc: Global,
-    name: &'t str,
-    told: &'t str,
-    form: &'t str,
-) -> Result<String, AllocError> {
-    joined(
-        alloc,
-        &["`", name, "` ", told, " ", form, " stands behind it"],
-    )
-}
-
-// A mnemonic or a directive, what is said of it, and what stands behind it.
-fn form_sentence(alloc: Global, name: &[u8], told: &str) -> Result<String, AllocError> {
-    formed(alloc, text_of(name), told, form_of(name))
+// Appends a mnemonic or a directive, what is said of it, and what stands behind it.
+fn push_form(text: &mut Writer, name: &[u8], told: &str) {
+    push_told(text, name, told);
+    text.push_parts(&[" ", form_of(name), " stands behind it"]);
 }
 
 // F4: a word that does not stand in its place, or a word that is missing.
-fn operands_sentence(alloc: Global, name: &[u8], token: &[u8]) -> Result<String, AllocError> {
+fn push_operands(text: &mut Writer, name: &[u8], token: &[u8]) {
     if name.is_empty() {
-        return told_of(
-            alloc,
+        push_told(
+            text,
             token,
             "stands where a mnemonic or a directive stands, which is a name",
         );
+    } else if token != name {
+        push_misplaced(text, name, token);
+    } else {
+        push_form(text, token, "has too few operands:");
     }
-    if token != name {
-        return place_sentence(alloc, name, token);
-    }
-    form_sentence(alloc, token, "has too few operands:")
-}
-
-// What is outside a range.
-fn outside<'t>(alloc: Global, shown: &'t str, range: &'t str) -> Result<String, AllocError> {
-    let parts = [
-        shown,
-        " is outside its range: a number from ",
-        range,
-        " stands here",
-    ];
-    joined(alloc, &parts)
 }
 
 // F6: a number that is too wide for its place.
-fn range_sentence(alloc: Global, name: &[u8], token: &[u8]) -> Result<String, AllocError> {
-    outside(alloc, text_of(token), range_of(name))
+fn push_range(text: &mut Writer, name: &[u8], token: &[u8]) {
+    text.push_str(text_of(token));
+    text.push_parts(&[
+        " is outside its range: a number from ",
+        range_of(name),
+        " stands here",
+    ]);
 }
 
 // F9: what is said of a label of the other kind.
@@ -218,24 +193,23 @@ fn statement_told(token: &[u8]) -> &'static str {
 }
 
 // F11: a label that begins with `.`, an unknown directive, or a statement that does not stand in its place.
-fn directive_sentence(alloc: Global, name: &[u8], token: &[u8]) -> Result<String, AllocError> {
+fn push_directive(text: &mut Writer, name: &[u8], token: &[u8]) {
     if spells(token, ".word") || spells(token, ".space") {
-        return form_sentence(
-            alloc,
+        push_form(
+            text,
             token,
             "stands in the data section, behind a line `.data`, and",
         );
-    }
-    if token == name {
-        return told_of(alloc, token, statement_told(token));
-    }
-    match token {
-        [b'.', ..] => told_of(
-            alloc,
+    } else if token == name {
+        push_told(text, token, statement_told(token));
+    } else if token.starts_with(b".") {
+        push_told(
+            text,
             token,
             "is no label: a label does not begin with a `.`",
-        ),
-        _ => place_sentence(alloc, name, token),
+        );
+    } else {
+        push_misplaced(text, name, token);
     }
 }
 
@@ -260,21 +234,16 @@ fn fault_told(fault: Fault) -> Option<&'static str> {
     }
 }
 
-// The sentence of a fault that a token shows.
-fn token_sentence(
-    alloc: Global,
-    fault: Fault,
-    name: &[u8],
-    token: &[u8],
-) -> Result<String, AllocError> {
+// Appends the sentence of a fault that a token shows.
+fn push_token(text: &mut Writer, fault: Fault, name: &[u8], token: &[u8]) {
     if let Some(told) = fault_told(fault) {
-        return told_of(alloc, token, told);
+        return push_told(text, token, told);
     }
     match fault {
-        Fault::BadOperands => operands_sentence(alloc, name, token),
-        Fault::NumberOutOfRange => range_sentence(alloc, name, token),
-        Fault::WrongLabelKind => told_of(alloc, token, kind_told(name)),
-        _ => directive_sentence(alloc, name, token),
+        Fault::BadOperands => push_operands(text, name, token),
+        Fault::NumberOutOfRange => push_range(text, name, token),
+        Fault::WrongLabelKind => push_told(text, token, kind_told(name)),
+        _ => push_directive(text, name, token),
     }
 }
 
@@ -298,38 +267,30 @@ pub fn char_of<'a>(shown: &Shown<'a>) -> Option<&'a str> {
 }
 
 // F1: the byte.
-fn byte_sentence(alloc: Global, shown: &Shown) -> Result<String, AllocError> {
-    let byte = match token_of(shown) {
-        [byte, ..] => *byte,
-        [] => 0,
-    };
+fn push_byte(text: &mut Writer, shown: &Shown) {
+    let byte = token_of(shown).first().copied().unwrap_or(0);
     match char_of(shown) {
         Some(typed) if byte > 126 && typed != BYTE_ORDER_MARK => {
-            joined(alloc, &["`", typed, "`", OUTSIDE_COMMENT])
+            text.push_parts(&["`", typed, "`", OUTSIDE_COMMENT]);
         }
-        _ => numbered(alloc, "byte ", usize::from(byte), &[OUTSIDE_COMMENT]),
+        _ => text.push_numbers(&["byte ", OUTSIDE_COMMENT], &[u64::from(byte)]),
     }
 }
 
-// A line that is too long.
-fn length_sentence(alloc: Global, line: &[u8]) -> Result<String, AllocError> {
-    let rest = [" bytes, and a line has at most 255"];
-    numbered(alloc, "the line has ", line.len(), &rest)
-}
-
-/// What is wrong with a faulty line whose statement begins with a name, and what stands in the place of what is wrong.
-pub fn sentence(alloc: Global, shown: &Shown, name: &[u8]) -> Result<String, AllocError> {
+/// Appends what is wrong with a faulty line whose statement begins with a name, and what stands in the place of what is wrong.
+pub fn push_sentence(text: &mut Writer, shown: &Shown, name: &[u8]) {
     match shown.fault {
-        Fault::BadByte => byte_sentence(alloc, shown),
-        Fault::TooManyInstructions => String::from_str(
-            alloc,
+        Fault::BadByte => push_byte(text, shown),
+        Fault::TooManyInstructions => text.push_str(
             "with this line there are more than 20000 instructions, which is all that a source may have",
         ),
-        Fault::DataFull => String::from_str(
-            alloc,
-            "there is no room for the data: the last word is at address 65535",
+        Fault::DataFull => {
+            text.push_str("there is no room for the data: the last word is at address 65535");
+        }
+        Fault::LineTooLong => text.push_numbers(
+            &["the line has ", " bytes, and a line has at most 255"],
+            &[shown.text.len() as u64],
         ),
-        Fault::LineTooLong => length_sentence(alloc, shown.text),
-        fault => token_sentence(alloc, fault, name, token_of(shown)),
+        fault => push_token(text, fault, name, token_of(shown)),
     }
 }

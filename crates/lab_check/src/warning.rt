@@ -1,11 +1,10 @@
 //! What is found in a source without faults: a branch that does not reach its target, and what is seldom meant.
 use crate::finding::{Finding, Found, Severity, Words};
-use crate::hint::said_if;
 use crate::labels::{Definition, definitions_of};
 use crate::sentence::{bytes_in, text_of};
-use crate::texts::joined;
 use lab_faults::line_at;
 use lab_terms::{Ways, reached, ways_of};
+use lab_writer::Writer;
 use mx_asm::{line_words, statement_words};
 use mx_faults::{Span, token_span};
 use mx_isa::{INPUT, Inst, Reg};
@@ -60,15 +59,15 @@ impl Kind {
         }
     }
 
-    // What helps, where that is the same wherever it is found.
-    fn hint(self) -> Option<&'static str> {
+    // What helps, where that is the same wherever it is found; else nothing.
+    fn hint(self) -> &'static str {
         match self {
             Kind::Displacement { .. } => {
-                Some("a `jr` goes to any place, which `la LABEL,R` puts into a register")
+                "a `jr` goes to any place, which `la LABEL,R` puts into a register"
             }
-            Kind::NoStatement | Kind::RunsPastEnd => Some("a `halt` there ends the run"),
-            Kind::UnreadInput => Some("`ld 254[r0],R` takes the next byte of the input"),
-            _ => None,
+            Kind::NoStatement | Kind::RunsPastEnd => "a `halt` there ends the run",
+            Kind::UnreadInput => "`ld 254[r0],R` takes the next byte of the input",
+            _ => "",
         }
     }
 }
@@ -126,36 +125,28 @@ fn found_at<'a>(alloc: Global, text: &'a [u8], notice: Notice) -> Result<Found<'
     })
 }
 
-// What is said of a branch from an address that does not reach its target.
-fn displacement_message(
-    alloc: Global,
-    from: u32,
-    to: u32,
-    told: &str,
-) -> Result<String, AllocError> {
-    format!(in alloc; "the branch at 0x{from:x} does not reach its target at 0x{to:x}: {told}")
-}
-
-// What is said of a label.
-fn label_message<'t>(alloc: Global, name: &'t str, told: &'t str) -> Result<String, AllocError> {
-    joined(alloc, &["the label `", name, "` ", told])
-}
-
-// What is said of what is found at a token.
-fn message_of(alloc: Global, kind: Kind, token: &[u8]) -> Result<String, AllocError> {
-    let told = kind.told();
+// Appends what is said of what is found at a token.
+fn push_message(text: &mut Writer, kind: Kind, token: &[u8]) {
     match kind {
-        Kind::Displacement { from, to } => displacement_message(alloc, from, to, told),
-        Kind::UnusedLabel(_) => label_message(alloc, text_of(token), told),
-        _ => joined(alloc, &[told]),
+        Kind::Displacement { from, to } => {
+            write!(
+                text,
+                "the branch at 0x{from:x} does not reach its target at 0x{to:x}: "
+            );
+        }
+        Kind::UnusedLabel(_) => text.push_parts(&["the label `", text_of(token), "` "]),
+        _ => {}
     }
+    text.push_str(kind.told());
 }
 
 // What is said of what is found at a token, and what helps.
 fn said_of(alloc: Global, kind: Kind, token: &[u8]) -> Result<Words, AllocError> {
-    let message = message_of(alloc, kind, token)?;
-    let hint = said_if(alloc, kind.hint())?;
-    Ok(Words { message, hint })
+    let mut message = Writer::new(alloc);
+    let mut hint = Writer::new(alloc);
+    push_message(&mut message, kind, token);
+    hint.push_str(kind.hint());
+    Words::new(message, hint)
 }
 
 /// What is found in a text of these lines, as it is told.

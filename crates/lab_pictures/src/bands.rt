@@ -3,10 +3,9 @@ use crate::ending::push_ending;
 use crate::label::{push_address, push_fitted_word};
 use crate::marks::{cell_of, ended_before, stage_name, without};
 use crate::subject::Subject;
-use crate::writer::Writer;
 use lab_draw::{Cell, Frame, Row};
-use mx_io::Memory;
-use std::alloc::Global;
+use lab_writer::Writer;
+use std::alloc::{AllocError, Global};
 
 /// The cycles of a band.
 const COLUMNS: usize = 16;
@@ -211,8 +210,8 @@ fn push_bands(text: &mut Writer, subject: &Subject, rows: &[Row]) {
 ///
 /// # Errors
 ///
-/// `Memory` where there is no room for it.
-pub fn text(alloc: Global, subject: &Subject, rows: &[Row]) -> Result<Vec<u8>, Memory> {
+/// `AllocError` where there is no room for it.
+pub fn text(alloc: Global, subject: &Subject, rows: &[Row]) -> Result<Vec<u8>, AllocError> {
     let mut text = Writer::new(alloc);
     push_bands(&mut text, subject, rows);
     text.push_str(

@@ -5,10 +5,9 @@ use crate::page::{body, data_end, head, panels, tail, title_end};
 use crate::script::script;
 use crate::style::style;
 use crate::subject::Subject;
-use crate::writer::Writer;
 use lab_draw::Row;
-use mx_io::Memory;
-use std::alloc::Global;
+use lab_writer::Writer;
+use std::alloc::{AllocError, Global};
 
 // Appends what stands before the data.
 fn push_front(page: &mut Writer, name: &str) {
@@ -33,8 +32,8 @@ fn push_back(page: &mut Writer) {
 ///
 /// # Errors
 ///
-/// `Memory` where there is no room for it.
-pub fn html(alloc: Global, subject: &Subject, rows: &[Row]) -> Result<Vec<u8>, Memory> {
+/// `AllocError` where there is no room for it.
+pub fn html(alloc: Global, subject: &Subject, rows: &[Row]) -> Result<Vec<u8>, AllocError> {
     let mut page = Writer::new(alloc);
     push_front(&mut page, subject.name());
     page.push('{');

@@ -1,6 +1,6 @@
 //! How a run ends, in words.
 use crate::subject::Subject;
-use crate::writer::Writer;
+use lab_writer::Writer;
 
 // Appends where the run halts.
 fn push_halt(text: &mut Writer, subject: &Subject) {

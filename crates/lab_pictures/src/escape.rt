@@ -1,5 +1,5 @@
 //! Text in HTML and SVG.
-use crate::writer::Writer;
+use lab_writer::Writer;
 
 /// Appends words as text of HTML or XML.
 pub fn push_escaped(text: &mut Writer, words: &str) {

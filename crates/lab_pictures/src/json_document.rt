@@ -1,10 +1,9 @@
 //! A drawing as JSON.
 use crate::members::{push_members, push_string};
 use crate::subject::Subject;
-use crate::writer::Writer;
 use lab_draw::Row;
-use mx_io::Memory;
-use std::alloc::Global;
+use lab_writer::Writer;
+use std::alloc::{AllocError, Global};
 
 // Appends the cycle in which the run halts, where it does within its budget.
 fn push_halt(text: &mut Writer, subject: &Subject) {
@@ -31,8 +30,8 @@ fn push_front(text: &mut Writer, subject: &Subject) {
 ///
 /// # Errors
 ///
-/// `Memory` where there is no room for it.
-pub fn json(alloc: Global, subject: &Subject, rows: &[Row]) -> Result<Vec<u8>, Memory> {
+/// `AllocError` where there is no room for it.
+pub fn json(alloc: Global, subject: &Subject, rows: &[Row]) -> Result<Vec<u8>, AllocError> {
     let mut text = Writer::new(alloc);
     push_front(&mut text, subject);
     push_members(&mut text, subject, rows);

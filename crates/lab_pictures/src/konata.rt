@@ -2,10 +2,9 @@
 use crate::label::push_address;
 use crate::marks::{cell_of, ended_before, is_shown, stage_name, without};
 use crate::subject::Subject;
-use crate::writer::Writer;
 use lab_draw::{Cell, Row};
-use mx_io::Memory;
-use std::alloc::Global;
+use lab_writer::Writer;
+use std::alloc::{AllocError, Global};
 
 // Appends the lines with which an instruction comes in: its number, and its label.
 fn push_begin(text: &mut Writer, subject: &Subject, row: &Row, number: u64) {
@@ -101,8 +100,8 @@ fn push_frames(text: &mut Writer, subject: &Subject, rows: &[Row]) {
 ///
 /// # Errors
 ///
-/// `Memory` where there is no room for it.
-pub fn kanata(alloc: Global, subject: &Subject, rows: &[Row]) -> Result<Vec<u8>, Memory> {
+/// `AllocError` where there is no room for it.
+pub fn kanata(alloc: Global, subject: &Subject, rows: &[Row]) -> Result<Vec<u8>, AllocError> {
     let mut text = Writer::new(alloc);
     text.push_numbers(&["Kanata\t0004\nC=\t", "\n"], &[u64::from(subject.from)]);
     push_frames(&mut text, subject, rows);

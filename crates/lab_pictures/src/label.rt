@@ -1,7 +1,10 @@
 //! The label of a row.
 use crate::subject::Subject;
-use crate::writer::Writer;
+use lab_words::{PlaceNames, push_instruction};
+use lab_writer::Writer;
 use mx_code::decode;
+use mx_isa::Inst;
+use std::alloc::{AllocError, Global};
 
 /// Appends an address in hexadecimal; dashes where the frames end before it is known.
 pub fn push_address(text: &mut Writer, address: Option<u32>) {
@@ -22,10 +25,32 @@ fn signs_of(mark: &str, line: Option<u32>) -> usize {
     }
 }
 
+/// The bytes of the text of most instructions at most.
+const INSTRUCTION: usize = 32;
+
+// The text of an instruction that stands at an address, in assembly language.
+fn text_of(
+    alloc: Global,
+    names: &PlaceNames,
+    address: u32,
+    inst: &Inst,
+) -> Result<String, AllocError> {
+    let mut text = String::with_capacity(alloc, INSTRUCTION)?;
+    push_instruction(&mut text, names, address, inst)?;
+    Ok(text)
+}
+
+// Appends the same.
+fn push_inst(text: &mut Writer, names: &PlaceNames, address: u32, inst: &Inst) {
+    if let Some(words) = text.take(text_of(text.alloc(), names, address, inst)) {
+        text.push_str(&words);
+    }
+}
+
 // Appends a word of an address.
 fn push_code_word(text: &mut Writer, subject: &Subject, address: u32, word: u32) {
     match decode(word) {
-        Some(inst) => text.push_instruction(subject.names, address, &inst),
+        Some(inst) => push_inst(text, subject.names, address, &inst),
         None => write!(text, "{word:08x}"),
     }
 }

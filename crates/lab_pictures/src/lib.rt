@@ -16,7 +16,6 @@ mod script;
 mod style;
 mod subject;
 mod waves;
-mod writer;
 
 pub use bands::text;
 pub use document::html;

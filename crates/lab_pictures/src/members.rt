@@ -1,9 +1,9 @@
 //! The data of a drawing as JSON, which the page of HTML holds and `json` hands out.
 use crate::ending::push_ending;
 use crate::subject::{HANDLER, Subject};
-use crate::writer::Writer;
 use lab_draw::{Cell, Frame, Row, Way, way_of};
 use lab_words::{NamedPlace, PlaceNames};
+use lab_writer::Writer;
 use mx_isa::{CODE_BASE, Inst};
 use mx_turn::{Latches, Stage};
 

@@ -4,10 +4,9 @@ use crate::escape::push_escaped;
 use crate::label::{push_address, push_fitted_word};
 use crate::marks::{is_shown, stage_name};
 use crate::subject::Subject;
-use crate::writer::Writer;
 use lab_draw::{Cell, Frame, Row};
-use mx_io::Memory;
-use std::alloc::Global;
+use lab_writer::Writer;
+use std::alloc::{AllocError, Global};
 
 /// The width of the labels, of a column, and the heights of a row and of the head.
 const LABEL: u64 = 330;
@@ -269,8 +268,8 @@ fn push_rows(text: &mut Writer, subject: &Subject, rows: &[Row]) {
 ///
 /// # Errors
 ///
-/// `Memory` where there is no room for it.
-pub fn svg(alloc: Global, subject: &Subject, rows: &[Row]) -> Result<Vec<u8>, Memory> {
+/// `AllocError` where there is no room for it.
+pub fn svg(alloc: Global, subject: &Subject, rows: &[Row]) -> Result<Vec<u8>, AllocError> {
     let mut text = Writer::new(alloc);
     let bottom = HEAD.saturating_add(count_shown(rows).saturating_mul(ROW));
     push_front(&mut text, subject, bottom.saturating_add(FOOT));

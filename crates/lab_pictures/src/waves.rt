@@ -1,10 +1,9 @@
 //! A drawing as a value change dump, by IEEE 1364, which GTKWave reads.
 use crate::subject::Subject;
-use crate::writer::Writer;
 use lab_draw::Frame;
-use mx_io::Memory;
+use lab_writer::Writer;
 use mx_turn::Stage;
-use std::alloc::Global;
+use std::alloc::{AllocError, Global};
 
 /// The signals: their names, their widths and their letters. Each stage has its address and two marks.
 static SIGNALS: [(&str, u32, &str); 25] = [
@@ -181,8 +180,8 @@ fn push_frames(text: &mut Writer, subject: &Subject) {
 ///
 /// # Errors
 ///
-/// `Memory` where there is no room for it.
-pub fn vcd(alloc: Global, subject: &Subject) -> Result<Vec<u8>, Memory> {
+/// `AllocError` where there is no room for it.
+pub fn vcd(alloc: Global, subject: &Subject) -> Result<Vec<u8>, AllocError> {
     let mut text = Writer::new(alloc);
     push_head(&mut text);
     push_frames(&mut text, subject);

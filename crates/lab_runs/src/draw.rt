@@ -3,7 +3,7 @@ ghost use Rattle.std.specs.Prelude.{◌≤◌, ◌+◌, IfOk};
 ghost use Rattle.lab_draw.specs.Frames.{IsDrawing};
 ghost use Rattle.lab_runs.specs.Runs.{loaded};
 
-use crate::printed::printed;
+use crate::printed::{or_memory, printed};
 use crate::runs::GivenRun;
 use cmd_answer::{Failure, Reply, Status};
 use cmd_source::Program;
@@ -60,14 +60,14 @@ fn drawing_of<W: Watcher>(
 fn form_of(alloc: Global, form: Form, subject: &Subject) -> Result<Vec<u8>, Memory> {
     let rows = rows_of(alloc, subject.drawing.frames.as_slice())?;
     let rows = rows.as_slice();
-    match form {
+    or_memory(match form {
         Form::Svg => svg(alloc, subject, rows),
         Form::Html => html(alloc, subject, rows),
         Form::Json => json(alloc, subject, rows),
         Form::Kanata => kanata(alloc, subject, rows),
         Form::Vcd => vcd(alloc, subject),
         _ => text(alloc, subject, rows),
-    }
+    })
 }
 
 // The picture of a drawing, in the form that the words ask for, with these names of places.

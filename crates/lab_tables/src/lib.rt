@@ -3,7 +3,6 @@
 
 mod compare;
 mod interrupts;
-mod lines;
 mod rows;
 
 pub use compare::{

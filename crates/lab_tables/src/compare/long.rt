@@ -2,8 +2,8 @@
 use super::schedulers::{SCHEDULERS, figures_at};
 use super::several::{Compared, Sums, sums_of};
 use super::table::{Cell, cycles_of, push_cells};
-use crate::lines::Lines;
 use lab_measures::{Comparison, Figures};
+use lab_writer::Writer;
 use std::alloc::{AllocError, Global};
 
 /// The head of the column of names.
@@ -35,41 +35,44 @@ fn cells_of(figures: &Figures, padded: &Figures) -> [Cell; 5] {
 }
 
 // Appends the misses and squashes of a run, or `-` where it has not halted.
-fn push_counts(table: &mut Lines, figures: &Figures) {
+fn push_counts(table: &mut Writer, figures: &Figures) {
     if figures.halted {
         table.push_cell(Some(figures.misses as i128), 9);
         table.push_cell(Some(figures.squashes as i128), 9);
     } else {
-        table.push("         -         -");
+        table.push_str("         -         -");
     }
-    table.push("\n");
+    table.push('\n');
 }
 
 // Appends a scheduler, beside the padded plans. Where a run has not halted, its columns have `-`.
-fn push_scheduler(table: &mut Lines, plans: &str, figures: &Figures, padded: &Figures) {
-    table.push("  ");
-    table.push_name(plans, 6);
+fn push_scheduler(table: &mut Writer, plans: &str, figures: &Figures, padded: &Figures) {
+    table.push_str("  ");
+    table.push_padded(plans, 6);
     push_cells(table, &cells_of(figures, padded));
     push_counts(table, figures);
 }
 
 // Appends the four schedulers, each under this name.
-fn push_schedulers(table: &mut Lines, name: &str, width: usize, comparison: &Comparison) {
+fn push_schedulers(table: &mut Writer, name: &str, width: usize, comparison: &Comparison) {
     for at in 0..SCHEDULERS.len() {
-        table.push_name(name, width);
+        table.push_padded(name, width);
         let figures = figures_at(comparison, at);
         push_scheduler(table, SCHEDULERS[at], figures, &comparison.padded);
     }
 }
 
 // Appends of how many sources the sums of the runs are, where it is not all.
-fn push_told(table: &mut Lines, halted: usize, sources: usize) {
+fn push_told(table: &mut Writer, halted: usize, sources: usize) {
     if halted < sources {
-        table.push("The sums of cycles, misses and squashes are of ");
-        table.push_number(halted as i128, 0);
-        table.push(" of the ");
-        table.push_number(sources as i128, 0);
-        table.push(" sources: those of which each run halted.\n");
+        table.push_numbers(
+            &[
+                "The sums of cycles, misses and squashes are of ",
+                " of the ",
+                " sources: those of which each run halted.\n",
+            ],
+            &[halted as u64, sources as u64],
+        );
     }
 }
 
@@ -85,7 +88,7 @@ fn told_sums(all: &Sums) -> Comparison {
 }
 
 // Appends the sums, and of how many sources those of the runs are.
-fn push_sums(table: &mut Lines, width: usize, all: &Sums) {
+fn push_sums(table: &mut Writer, width: usize, all: &Sums) {
     push_schedulers(table, ALL, width, &told_sums(all));
     push_told(table, all.halted, all.sources);
 }
@@ -102,9 +105,9 @@ fn width_for(compared: &[Compared]) -> usize {
 /// Several comparisons as a table, a row for each source and scheduler, and their sums.
 pub fn comparisons_text(alloc: Global, compared: &[Compared]) -> Result<Vec<u8>, AllocError> {
     let width = width_for(compared);
-    let mut table = Lines::new(alloc);
-    table.push_name(SOURCE, width);
-    table.push(HEAD);
+    let mut table = Writer::new(alloc);
+    table.push_padded(SOURCE, width);
+    table.push_str(HEAD);
     for one in compared {
         push_schedulers(&mut table, one.source, width, &one.comparison);
     }

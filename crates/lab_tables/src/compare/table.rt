@@ -1,7 +1,6 @@
 //! A comparison as a table.
-use crate::lines::Lines;
-use lab_json::Ratio;
 use lab_measures::{Comparison, Figures};
+use lab_writer::{Ratio, Writer};
 use std::alloc::{AllocError, Global};
 
 /// The head of the table. A column has a number, and its part in per cent.
@@ -59,18 +58,18 @@ pub(crate) fn column_of(figures: &Figures, padded: &Figures) -> [Cell; 13] {
 }
 
 // Appends a number and its part of a whole in per cent, rounded to a tenth, which is left out where there is no whole.
-fn push_number(table: &mut Lines, part: u64, whole: u64) {
+fn push_number(table: &mut Writer, part: u64, whole: u64) {
     table.push_cell(Some(part as i128), 9);
-    table.push_ratio(Ratio::Percent(part, whole), 5);
-    table.push(if whole == 0 { " " } else { "%" });
+    table.push_ratio(Ratio::Percent(part, whole), 5, "");
+    table.push_str(if whole == 0 { " " } else { "%" });
 }
 
 /// Appends cells. One without a number is `-`.
-pub(crate) fn push_cells(table: &mut Lines, cells: &[Cell]) {
+pub(crate) fn push_cells(table: &mut Writer, cells: &[Cell]) {
     for cell in cells {
         match cell {
             Some((part, whole)) => push_number(table, *part, *whole),
-            None => table.push("         -       "),
+            None => table.push_str("         -       "),
         }
     }
 }
@@ -94,21 +93,15 @@ fn cells_at(comparison: &Comparison, row: usize) -> [Cell; 4] {
     ]
 }
 
-// A row.
-fn row_of(alloc: Global, comparison: &Comparison, row: usize) -> Lines {
-    let mut line = Lines::new(alloc);
-    line.push(ROWS.get(row).copied().unwrap_or(""));
-    push_cells(&mut line, &cells_at(comparison, row));
-    line
-}
-
 /// A comparison as a table: code words, no-ops, what stands in the slots, and the run. A run that does not halt within the
 /// budget has no cycles.
 pub fn comparison_text(alloc: Global, comparison: &Comparison) -> Result<Vec<u8>, AllocError> {
-    let mut table = Lines::new(alloc);
-    table.push(HEAD);
-    for row in 0..ROWS.len() {
-        table.push_line(&row_of(alloc, comparison, row));
+    let mut table = Writer::new(alloc);
+    table.push_str(HEAD);
+    for (row, name) in ROWS.iter().enumerate() {
+        table.push_str(*name);
+        push_cells(&mut table, &cells_at(comparison, row));
+        table.end_line();
     }
     table.into_bytes()
 }

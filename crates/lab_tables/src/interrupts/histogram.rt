@@ -1,6 +1,6 @@
 //! How numbers are spread, as a picture of lines with bars.
-use crate::lines::Lines;
 use lab_measures::{Bin, Spread};
+use lab_writer::Writer;
 use std::alloc::{AllocError, Global};
 
 /// The most lines of a histogram, and the longest bar of one.
@@ -18,12 +18,12 @@ fn width_of(spread: &Spread) -> i64 {
 }
 
 // Appends the numbers that a line takes together, which begin with one.
-fn push_numbers(text: &mut Lines, first: i64, width: i64) {
-    text.push_number(first as i128, 7);
+fn push_numbers(text: &mut Writer, first: i64, width: i64) {
+    text.push_right(first as i128, 7);
     if width > 1 {
         let last = first.saturating_add(width.saturating_sub(1));
-        text.push(" to ");
-        text.push_number(last as i128, 7);
+        text.push_str(" to ");
+        text.push_right(last as i128, 7);
     }
 }
 
@@ -34,14 +34,14 @@ fn bar_of(runs: u64, most: u64) -> u64 {
 }
 
 // Appends a line: numbers from one on, and how many runs have them.
-fn push_bin(text: &mut Lines, bin: &Bin, width: i64, most: u64) {
+fn push_bin(text: &mut Writer, bin: &Bin, width: i64, most: u64) {
     push_numbers(text, bin.number, width);
     text.push_cell(Some(bin.runs as i128), 9);
-    text.push("  ");
+    text.push_str("  ");
     for _sign in 0..bar_of(bin.runs, most) {
-        text.push("#");
+        text.push('#');
     }
-    text.push("\n");
+    text.push('\n');
 }
 
 // Adds runs to the line of this number, which is the last, or behind the last.
@@ -87,7 +87,7 @@ fn most_in(bins: &[Bin]) -> u64 {
 }
 
 // Appends the lines.
-fn push_bins(text: &mut Lines, bins: &[Bin], width: i64) {
+fn push_bins(text: &mut Writer, bins: &[Bin], width: i64) {
     let most = most_in(bins);
     for bin in bins {
         push_bin(text, bin, width, most);
@@ -103,20 +103,19 @@ fn head_of(width: i64) -> &'static str {
     }
 }
 
-/// Appends a histogram, under this name.
-pub(crate) fn push_histogram(
-    alloc: Global,
-    text: &mut Lines,
-    name: &str,
-    spread: &Option<Spread>,
-) -> Result<(), AllocError> {
-    let Some(spread) = spread else {
-        return Ok(());
-    };
+// Appends a histogram of these numbers, under this name.
+fn push_spread(text: &mut Writer, name: &str, spread: &Spread) {
     let width = width_of(spread);
-    text.push(name);
-    text.push(head_of(width));
-    let bins = together(alloc, spread, width)?;
-    push_bins(text, bins.as_slice(), width);
-    Ok(())
+    text.push_str(name);
+    text.push_str(head_of(width));
+    if let Some(bins) = text.take(together(text.alloc(), spread, width)) {
+        push_bins(text, &bins, width);
+    }
+}
+
+/// Appends a histogram, under this name, where there are numbers.
+pub(crate) fn push_histogram(text: &mut Writer, name: &str, spread: &Option<Spread>) {
+    if let Some(spread) = spread {
+        push_spread(text, name, spread);
+    }
 }
