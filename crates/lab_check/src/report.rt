@@ -1,7 +1,6 @@
 //! What is printed of a text.
 use crate::finding::{Finding, Severity};
-use crate::json::Told;
-use lab_json::push_record;
+use crate::json::findings_json;
 use std::alloc::{AllocError, Global};
 
 /// How findings are printed.
@@ -80,11 +79,11 @@ impl Report {
     }
 
     // Puts down where a finding is, and how grave.
-    fn push_place(&mut self, told: &Told) -> Result<(), AllocError> {
-        let severity = told.finding.severity;
+    fn push_place(&mut self, file: &str, finding: &Finding) -> Result<(), AllocError> {
+        let severity = finding.severity;
         self.push_colour(BOLD)?;
-        self.push(told.file.as_bytes())?;
-        self.push_numbers(told.finding)?;
+        self.push(file.as_bytes())?;
+        self.push_numbers(finding)?;
         self.push_colour(PLAIN)?;
         self.push(b" ")?;
         self.push_in(colour_of(severity), &[severity.word(), ":"])
@@ -130,14 +129,11 @@ impl Report {
     }
 
     // Puts down a finding.
-    fn push_finding(&mut self, told: &Told) -> Result<(), AllocError> {
-        if self.form == Form::Json {
-            return push_record(self.alloc, &mut self.output, told);
-        }
-        self.push_place(told)?;
-        self.push_message(told.finding)?;
-        self.push_marks(told.finding)?;
-        self.push_hint(told.finding)
+    fn push_finding(&mut self, file: &str, finding: &Finding) -> Result<(), AllocError> {
+        self.push_place(file, finding)?;
+        self.push_message(finding)?;
+        self.push_marks(finding)?;
+        self.push_hint(finding)
     }
 }
 
@@ -148,6 +144,9 @@ pub fn findings_text(
     findings: &[Finding],
     form: Form,
 ) -> Result<Vec<u8>, AllocError> {
+    if form == Form::Json {
+        return findings_json(alloc, file, findings);
+    }
     let output = Vec::new(alloc);
     let mut report = Report {
         alloc,
@@ -155,7 +154,7 @@ pub fn findings_text(
         output,
     };
     for finding in findings {
-        report.push_finding(&Told { file, finding })?;
+        report.push_finding(file, finding)?;
     }
     Ok(report.output)
 }
