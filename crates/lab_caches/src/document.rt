@@ -35,17 +35,22 @@ fn write_cache(document: &mut Document, row: &CacheRow) {
     document.end_object();
 }
 
+// Writes all caches.
+fn write_caches(document: &mut Document, rows: &[CacheRow]) {
+    document.push_key("caches");
+    document.begin_list();
+    for row in rows {
+        write_cache(document, row);
+    }
+    document.end_list();
+}
+
 /// Caches as JSON, with the name of the source.
 pub fn caches_json(alloc: Global, source: &str, study: &Study) -> Result<Vec<u8>, Memory> {
     let mut document = Document::new(alloc);
     document.begin_object();
     write_front(&mut document, source, study);
-    document.push_key("caches");
-    document.begin_list();
-    for row in study.rows.iter() {
-        write_cache(&mut document, row);
-    }
-    document.end_list();
+    write_caches(&mut document, study.rows.as_slice());
     document.end_object();
     document.into_bytes()
 }

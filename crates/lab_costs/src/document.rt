@@ -67,6 +67,8 @@ fn write_row(alloc: Global, document: &mut Document, name: &[u8], line: u32, cos
         ("count", cost.executed),
         ("cycles", cost.cycles),
         ("stalls", cost.stalls),
+    ]);
+    document.push_numbers(&[
         ("noops", cost.noops),
         ("squashed", cost.cancelled),
         ("killed", cost.killed),

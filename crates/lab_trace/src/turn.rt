@@ -19,22 +19,12 @@ pub(crate) enum Member<'a> {
     Write(u32, u32),
 }
 
-// Writes a member that is a list of words.
-fn write_words(lines: &mut Document, name: &str, words: &[u32]) {
+// Writes a member that is a list of numbers.
+fn write_list<T: Copy + Into<u64>>(lines: &mut Document, name: &str, numbers: &[T]) {
     lines.push_key(name);
     lines.begin_list();
-    for word in words {
-        lines.push(Value::Number(u64::from(*word)));
-    }
-    lines.end_list();
-}
-
-// Writes a member that is a list of bytes.
-fn write_bytes(lines: &mut Document, name: &str, bytes: &[u8]) {
-    lines.push_key(name);
-    lines.begin_list();
-    for byte in bytes {
-        lines.push(Value::Number(u64::from(*byte)));
+    for number in numbers {
+        lines.push(Value::Number((*number).into()));
     }
     lines.end_list();
 }
@@ -55,8 +45,8 @@ fn write_member(lines: &mut Document, name: &str, member: Member) {
         Member::Flag(flag) => lines.push_member(name, Value::Flag(flag)),
         Member::Number(number) => lines.push_member(name, Value::Number(number)),
         Member::Text(text) => lines.push_member(name, Value::Text(text)),
-        Member::Words(words) => write_words(lines, name, words),
-        Member::Bytes(bytes) => write_bytes(lines, name, bytes),
+        Member::Words(words) => write_list(lines, name, words),
+        Member::Bytes(bytes) => write_list(lines, name, bytes),
         Member::Fetch(address, squashed) => write_fetch(lines, name, address, squashed),
         Member::Write(to, value) => {
             let numbers = [("to", u64::from(to)), ("value", u64::from(value))];
