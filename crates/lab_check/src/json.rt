@@ -1,40 +1,47 @@
-//! A finding as JSON.
+//! Findings as JSON.
 use crate::finding::Finding;
-use lab_json::{Value, write_record};
-use serde::{Described, Serialize, Serializer};
+use lab_json::{Document, Value};
+use std::alloc::{AllocError, Global};
 
-/// A finding in a file, as it is written.
-#[derive(Clone, Copy)]
-pub(crate) struct Told<'a> {
-    pub file: &'a str,
-    pub finding: &'a Finding<'a>,
-}
-
-// What may have been meant.
-fn hint_of<'a>(finding: &'a Finding) -> Value<'a> {
+// Writes what may have been meant, or null.
+fn write_hint(document: &mut Document, finding: &Finding) {
+    document.push_key("hint");
     match &finding.hint {
-        Some(hint) => Value::Text(hint.as_str()),
-        None => Value::Null,
+        Some(hint) => document.push(Value::Text(hint.as_str())),
+        None => document.push(Value::Null),
     }
 }
 
-impl Described for Told<'_> {}
+// Writes a finding in a file. Columns are counted in bytes, from 1.
+fn write_finding(document: &mut Document, file: &str, finding: &Finding) {
+    document.begin_object();
+    document.push_member("file", Value::Text(file));
+    document.push_numbers(&[
+        ("line", u64::from(finding.line)),
+        ("column", finding.column() as u64),
+        ("end_column", finding.end_column() as u64),
+    ]);
+    document.push_member("severity", Value::Text(finding.severity.word()));
+    document.push_member("code", Value::Text(finding.code));
+    document.push_member("name", Value::Text(finding.name));
+    document.push_member("message", Value::Text(finding.message.as_str()));
+    write_hint(document, finding);
+    document.end_object();
+    document.end_line();
+}
 
-impl Serialize for Told<'_> {
-    // Columns are counted in bytes, from 1.
-    fn serialize<S: Serializer>(&self, out: &mut S) -> Result<(), S::Error> {
-        let finding = self.finding;
-        let members = [
-            ("file", Value::Text(self.file)),
-            ("line", Value::Number(u64::from(finding.line))),
-            ("column", Value::Number(finding.column() as u64)),
-            ("end_column", Value::Number(finding.end_column() as u64)),
-            ("severity", Value::Text(finding.severity.word())),
-            ("code", Value::Text(finding.code)),
-            ("name", Value::Text(finding.name)),
-            ("message", Value::Text(finding.message.as_str())),
-            ("hint", hint_of(finding)),
-        ];
-        write_record(out, &members)
+/// Findings in a file: an object for each, on a line of its own.
+pub(crate) fn findings_json(
+    alloc: Global,
+    file: &str,
+    findings: &[Finding],
+) -> Result<Vec<u8>, AllocError> {
+    let mut document = Document::of_lines(alloc);
+    for finding in findings {
+        write_finding(&mut document, file, finding);
+    }
+    match document.into_bytes() {
+        Ok(text) => Ok(text),
+        Err(_) => Err(AllocError),
     }
 }

@@ -1,7 +1,6 @@
 //! What is printed of a text.
 use crate::finding::{Finding, Severity};
-use crate::json::Told;
-use lab_json::push_record;
+use crate::json::findings_json;
 use lab_writer::Writer;
 use std::alloc::{AllocError, Global};
 
@@ -122,15 +121,6 @@ fn lines_of(
     report.text.into_bytes()
 }
 
-// Findings in a file as JSON, each on a line.
-fn records_of(alloc: Global, file: &str, findings: &[Finding]) -> Result<Vec<u8>, AllocError> {
-    let mut output = Vec::new(alloc);
-    for finding in findings {
-        push_record(alloc, &mut output, &Told { file, finding })?;
-    }
-    Ok(output)
-}
-
 /// What is printed of findings in a file.
 pub fn findings_text(
     alloc: Global,
@@ -141,6 +131,6 @@ pub fn findings_text(
     match form {
         Form::Text => lines_of(alloc, file, findings, false),
         Form::Coloured => lines_of(alloc, file, findings, true),
-        Form::Json => records_of(alloc, file, findings),
+        Form::Json => findings_json(alloc, file, findings),
     }
 }

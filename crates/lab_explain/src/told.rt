@@ -1,10 +1,9 @@
 //! A run and a meaning, in words.
 use super::advice::{advice_of, name_of, reason_of};
-use lab_json::{Value, push_record, write_members};
+use lab_json::{Document, Value};
 use lab_measures::{Ran, Standing};
 use lab_terms::{Verdict, enough, verdict_of};
 use mx_source::Why;
-use serde::{Described, Serialize, Serializer};
 use std::alloc::{AllocError, Global};
 
 /// What is promised of a run that halts.
@@ -250,72 +249,59 @@ fn verdict_word(verdict: Verdict) -> &'static str {
     }
 }
 
-// A number, or null.
-fn number_or_null(number: Option<u64>) -> Value<'static> {
-    match number {
-        Some(number) => Value::Number(number),
-        None => Value::Null,
-    }
+// Writes how the run stands.
+fn write_standing(document: &mut Document, explained: &Explained) {
+    document.push_member("file", Value::Text(explained.file));
+    document.push_member("verdict", Value::Text(verdict_word(explained.verdict())));
+    document.push_numbers(&[
+        ("statements", u64::from(explained.standing.progress.steps)),
+        ("cycles", explained.ran.cycles),
+    ]);
+    document.push_member("halted", Value::Flag(explained.ran.halted));
+    document.push_numbers(&[
+        ("budget", u64::from(explained.budget)),
+        ("requests", u64::from(explained.requests)),
+    ]);
+    document.push_member("enough", Value::number(explained.enough()));
 }
 
-// The line of a statement at which a meaning is stuck, if there is one.
-fn line_or_null(line: u32) -> Value<'static> {
-    match line {
+// Writes the line of a statement, or null where there is none.
+fn write_line(document: &mut Document, line: u32) {
+    let value = match line {
         0 => Value::Null,
         _ => Value::Number(u64::from(line)),
-    }
-}
-
-// The members that tell where and why a meaning is stuck.
-fn stuck_members(line: u32, why: Option<Why>) -> [(&'static str, Value<'static>); 4] {
-    let told = match why {
-        Some(why) => [
-            line_or_null(line),
-            Value::Text(name_of(why)),
-            Value::Text(reason_of(why)),
-            Value::Text(advice_of(why)),
-        ],
-        None => [Value::Null; 4],
     };
-    [
-        ("line", told[0]),
-        ("why", told[1]),
-        ("message", told[2]),
-        ("hint", told[3]),
-    ]
+    document.push_member("line", value);
 }
 
-impl<'a> Explained<'a> {
-    // The members that tell how the run stands.
-    fn members(&self) -> [(&'static str, Value<'a>); 8] {
-        let steps = self.standing.progress.steps;
-        [
-            ("file", Value::Text(self.file)),
-            ("verdict", Value::Text(verdict_word(self.verdict()))),
-            ("statements", Value::Number(u64::from(steps))),
-            ("cycles", Value::Number(self.ran.cycles)),
-            ("halted", Value::Flag(self.ran.halted)),
-            ("budget", Value::Number(u64::from(self.budget))),
-            ("requests", Value::Number(u64::from(self.requests))),
-            ("enough", number_or_null(self.enough())),
-        ]
-    }
-}
-
-impl Described for Explained<'_> {}
-
-impl Serialize for Explained<'_> {
-    fn serialize<S: Serializer>(&self, out: &mut S) -> Result<(), S::Error> {
-        out.begin_map(Some(12))?;
-        write_members(out, &self.members())?;
-        write_members(out, &stuck_members(self.line, self.why()))?;
-        out.end_map()
+// Writes where and why a meaning is stuck; where it is not, each member is null.
+fn write_stuck(document: &mut Document, line: u32, why: Option<Why>) {
+    match why {
+        Some(why) => {
+            write_line(document, line);
+            document.push_member("why", Value::Text(name_of(why)));
+            document.push_member("message", Value::Text(reason_of(why)));
+            document.push_member("hint", Value::Text(advice_of(why)));
+        }
+        None => document.push_members(&[
+            ("line", Value::Null),
+            ("why", Value::Null),
+            ("message", Value::Null),
+            ("hint", Value::Null),
+        ]),
     }
 }
 
 /// The same as an object of JSON, on a line.
 pub fn explained_json(alloc: Global, explained: &Explained) -> Result<Vec<u8>, AllocError> {
-    let mut text = Vec::new(alloc);
-    push_record(alloc, &mut text, explained)?;
-    Ok(text)
+    let mut document = Document::of_lines(alloc);
+    document.begin_object();
+    write_standing(&mut document, explained);
+    write_stuck(&mut document, explained.line, explained.why());
+    document.end_object();
+    document.end_line();
+    match document.into_bytes() {
+        Ok(text) => Ok(text),
+        Err(_) => Err(AllocError),
+    }
 }

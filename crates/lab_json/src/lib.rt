@@ -1,13 +1,10 @@
-//! What documents in JSON are made of: members of objects, and a value as a text or as a line; and ratios in the columns of tables.
+//! Texts in JSON, as they are written; and ratios in the columns of tables.
 #![tactic(auto)]
 
-mod members;
+mod document;
 mod ratios;
-mod texts;
+mod value;
 
-pub use members::{
-    Value, write_flag, write_list, write_members, write_number_if_any, write_number_or_null,
-    write_numbers, write_object, write_record, write_text, write_text_or_null,
-};
+pub use document::Document;
 pub use ratios::{Ratio, push_ratio};
-pub use texts::{document_text, push_record};
+pub use value::Value;

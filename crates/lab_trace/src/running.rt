@@ -2,8 +2,8 @@
 ghost use Rattle.std.specs.Prelude.{◌≡◌};
 
 use super::committing::committed_in;
-use super::turn::{Line, Member, end_members, turn_members};
-use lab_json::push_record;
+use super::turn::{Member, end_members, turn_members, write_line};
+use lab_json::Document;
 use mx_board::Requests;
 use mx_code::Image;
 use mx_io::Memory;
@@ -17,18 +17,6 @@ pub struct Traced {
     pub halted: bool,
 }
 
-// Appends a line of these members.
-fn push_line(
-    alloc: Global,
-    text: &mut Vec<u8>,
-    members: &[(&'static str, Member)],
-) -> Result<(), Memory> {
-    match push_record(alloc, text, &Line { members }) {
-        Ok(()) => Ok(()),
-        Err(_) => Err(Memory),
-    }
-}
-
 /// What a run is given.
 #[derive(Clone, Copy)]
 pub struct Given<'a> {
@@ -40,13 +28,8 @@ pub struct Given<'a> {
     pub budget: u32,
 }
 
-// Appends the lines of the turns until the machine halts or the budget is spent; answers whether it halted.
-fn push_turns<M: Machine>(
-    alloc: Global,
-    text: &mut Vec<u8>,
-    machine: &mut M,
-    given: &Given,
-) -> Result<bool, Memory>
+// Writes the lines of the turns until the machine halts, the budget is spent or memory runs out; answers whether it halted.
+fn write_turns<M: Machine>(lines: &mut Document, machine: &mut M, given: &Given) -> bool
     requires { M.cycles machine.old ≡ 0 }
 {
     let mut stalls = 0u32;
@@ -60,14 +43,14 @@ fn push_turns<M: Machine>(
         let shown = machine.latches();
         let does = committed_in(given.image.code.as_slice(), shown.mem);
         let members = turn_members(machine, &cycled, does, &before, cycle, stalls);
-        push_line(alloc, text, &members)?;
+        write_line(lines, &members);
         before = shown;
         stalls = 0;
-        if cycled.halted {
-            return Ok(true);
+        if cycled.halted || lines.has_failed() {
+            return cycled.halted;
         }
     }
-    Ok(false)
+    false
 }
 
 // The input, if there is one.
@@ -78,8 +61,8 @@ fn input_of<'a>(input: Option<&'a [u8]>) -> Member<'a> {
     }
 }
 
-// Appends the first line: what a run is given.
-fn push_begin(alloc: Global, text: &mut Vec<u8>, given: &Given) -> Result<(), Memory> {
+// Writes the first line: what a run is given.
+fn write_begin(lines: &mut Document, given: &Given) {
     let members = [
         ("source", Member::Text(given.source)),
         ("code", Member::Words(given.image.code.as_slice())),
@@ -88,7 +71,7 @@ fn push_begin(alloc: Global, text: &mut Vec<u8>, given: &Given) -> Result<(), Me
         ("input", input_of(given.input)),
         ("requests", Member::Words(given.requests.list())),
     ];
-    push_line(alloc, text, &members)
+    write_line(lines, &members);
 }
 
 /// The trace of the run of a machine from its start, until it halts or the budget is spent: what it is given, a line for each
@@ -96,10 +79,13 @@ fn push_begin(alloc: Global, text: &mut Vec<u8>, given: &Given) -> Result<(), Me
 pub fn trace_of<M: Machine>(alloc: Global, machine: &mut M, given: &Given) -> Result<Traced, Memory>
     requires { M.cycles machine.old ≡ 0 }
 {
-    let mut text = Vec::new(alloc);
-    push_begin(alloc, &mut text, given)?;
-    let halted = push_turns(alloc, &mut text, machine, given)?;
-    let end = end_members(halted, machine.counts(), machine.md());
-    push_line(alloc, &mut text, &end)?;
+    let mut lines = Document::of_lines(alloc);
+    write_begin(&mut lines, given);
+    let halted = write_turns(&mut lines, machine, given);
+    write_line(
+        &mut lines,
+        &end_members(halted, machine.counts(), machine.md()),
+    );
+    let text = lines.into_bytes()?;
     Ok(Traced { text, halted })
 }

@@ -1,11 +1,8 @@
 //! The lines of a trace.
-use lab_json::{
-    Value, write_flag, write_list, write_numbers, write_object, write_record, write_text,
-};
+use lab_json::{Document, Value};
 use lab_terms::Committed;
 use mx_isa::Reg;
 use mx_turn::{Counts, Cycled, Latches, Machine, Stage};
-use serde::{Described, Serialize, Serializer};
 
 /// What a member of a line is. What is absent is not written.
 #[derive(Clone, Copy)]
@@ -22,51 +19,50 @@ pub(crate) enum Member<'a> {
     Write(u32, u32),
 }
 
-/// A line: an object of these members.
-#[derive(Clone, Copy)]
-pub(crate) struct Line<'m, 'a> {
-    pub(crate) members: &'m [(&'static str, Member<'a>)],
+// Writes a member that is a list of numbers.
+fn write_list<T: Copy + Into<u64>>(lines: &mut Document, name: &str, numbers: &[T]) {
+    lines.push_key(name);
+    lines.begin_list();
+    for number in numbers {
+        lines.push(Value::Number((*number).into()));
+    }
+    lines.end_list();
 }
 
-// Writes a fetch.
-fn write_fetch<S: Serializer>(out: &mut S, address: u32, squashed: bool) -> Result<(), S::Error> {
-    let members = [
+// Writes a member that is a fetch.
+fn write_fetch(lines: &mut Document, name: &str, address: u32, squashed: bool) {
+    lines.push_key(name);
+    lines.push_record(&[
         ("address", Value::Number(u64::from(address))),
         ("squashed", Value::Flag(squashed)),
-    ];
-    write_record(out, &members)
+    ]);
 }
 
 // Writes a member, unless it is absent.
-fn write_member<S: Serializer>(out: &mut S, name: &str, member: Member) -> Result<(), S::Error> {
+fn write_member(lines: &mut Document, name: &str, member: Member) {
     match member {
-        Member::Absent => Ok(()),
-        Member::Flag(flag) => write_flag(out, name, flag),
-        Member::Number(number) => write_numbers(out, &[(name, number)]),
-        Member::Text(text) => write_text(out, name, text),
-        Member::Words(words) => write_list(out, name, words),
-        Member::Bytes(bytes) => write_list(out, name, bytes),
-        Member::Fetch(address, squashed) => {
-            out.key(name)?;
-            write_fetch(out, address, squashed)
-        }
+        Member::Absent => {}
+        Member::Flag(flag) => lines.push_member(name, Value::Flag(flag)),
+        Member::Number(number) => lines.push_member(name, Value::Number(number)),
+        Member::Text(text) => lines.push_member(name, Value::Text(text)),
+        Member::Words(words) => write_list(lines, name, words),
+        Member::Bytes(bytes) => write_list(lines, name, bytes),
+        Member::Fetch(address, squashed) => write_fetch(lines, name, address, squashed),
         Member::Write(to, value) => {
             let numbers = [("to", u64::from(to)), ("value", u64::from(value))];
-            write_object(out, name, &numbers)
+            lines.push_object(name, &numbers);
         }
     }
 }
 
-impl Described for Line<'_, '_> {}
-
-impl Serialize for Line<'_, '_> {
-    fn serialize<S: Serializer>(&self, out: &mut S) -> Result<(), S::Error> {
-        out.begin_map(None)?;
-        for (name, member) in self.members {
-            write_member(out, *name, *member)?;
-        }
-        out.end_map()
+/// Writes a line: an object of these members.
+pub(crate) fn write_line(lines: &mut Document, members: &[(&'static str, Member)]) {
+    lines.begin_object();
+    for (name, member) in members {
+        write_member(lines, *name, *member);
     }
+    lines.end_object();
+    lines.end_line();
 }
 
 /// The last line: how the run ends.

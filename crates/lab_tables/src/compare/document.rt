@@ -1,26 +1,11 @@
 //! Comparisons as JSON.
 use super::schedulers::{SCHEDULERS, figures_at};
 use super::several::{Compared, Sums, sums_of};
-use lab_json::{document_text, write_flag, write_numbers, write_object, write_text};
+use lab_json::{Document, Value};
 use lab_measures::{Comparison, Figures};
 use lab_terms::{Slots, TransferSlots};
 use mx_io::Memory;
-use serde::{Described, Serialize, Serializer};
 use std::alloc::Global;
-
-/// A comparison, as it is written.
-#[derive(Clone, Copy)]
-struct Document<'a> {
-    source: &'a str,
-    comparison: &'a Comparison,
-}
-
-/// Comparisons of several sources and what they come to together, as they are written.
-#[derive(Clone, Copy)]
-struct LongDocument<'a> {
-    compared: &'a [Compared<'a>],
-    all: &'a Sums,
-}
 
 // How many words there are, and how many of them are the no-op or copies.
 fn words_of(figures: &Figures) -> [(&'static str, u64); 3] {
@@ -59,100 +44,59 @@ fn run_of(figures: &Figures) -> [(&'static str, u64); 3] {
     ]
 }
 
-// Writes what the code of a scheduler comes to.
-fn write_code<S: Serializer>(out: &mut S, figures: &Figures) -> Result<(), S::Error> {
-    write_numbers(out, &words_of(figures))?;
-    write_object(out, "branch_slots", &slots_of(figures.transfers))?;
-    write_object(out, "load_slots", &loads_of(figures.loads))
-}
-
-// Writes what its run comes to.
-fn write_run<S: Serializer>(out: &mut S, figures: &Figures) -> Result<(), S::Error> {
-    write_flag(out, "halted", figures.halted)?;
-    write_numbers(out, &run_of(figures))
-}
-
 // Writes the figures of a scheduler.
-fn write_figures<S: Serializer>(
-    out: &mut S,
-    plans: &str,
-    figures: &Figures,
-) -> Result<(), S::Error> {
-    out.begin_map(Some(10))?;
-    write_text(out, "plans", plans)?;
-    write_code(out, figures)?;
-    write_run(out, figures)?;
-    out.end_map()
+fn write_figures(document: &mut Document, plans: &str, figures: &Figures) {
+    document.begin_object();
+    document.push_member("plans", Value::Text(plans));
+    document.push_numbers(&words_of(figures));
+    document.push_object("branch_slots", &slots_of(figures.transfers));
+    document.push_object("load_slots", &loads_of(figures.loads));
+    document.push_member("halted", Value::Flag(figures.halted));
+    document.push_numbers(&run_of(figures));
+    document.end_object();
 }
 
-// Writes the four schedulers, behind which an object ends.
-fn end_with_schedulers<S: Serializer>(
-    out: &mut S,
-    comparison: &Comparison,
-) -> Result<(), S::Error> {
-    out.key("schedulers")?;
-    out.begin_seq(Some(SCHEDULERS.len()))?;
+// Writes the four schedulers.
+fn write_schedulers(document: &mut Document, comparison: &Comparison) {
+    document.push_key("schedulers");
+    document.begin_list();
     for at in 0..SCHEDULERS.len() {
-        write_figures(out, SCHEDULERS[at], figures_at(comparison, at))?;
+        write_figures(document, SCHEDULERS[at], figures_at(comparison, at));
     }
-    out.end_seq()?;
-    out.end_map()
-}
-
-// Writes a source and its comparison.
-fn write_compared<S: Serializer>(out: &mut S, one: &Compared) -> Result<(), S::Error> {
-    out.begin_map(Some(2))?;
-    write_text(out, "source", one.source)?;
-    end_with_schedulers(out, &one.comparison)
+    document.end_list();
 }
 
 // Writes each source and its comparison.
-fn write_sources<S: Serializer>(out: &mut S, compared: &[Compared]) -> Result<(), S::Error> {
-    out.key("sources")?;
-    out.begin_seq(Some(compared.len()))?;
+fn write_sources(document: &mut Document, compared: &[Compared]) {
+    document.push_key("sources");
+    document.begin_list();
     for one in compared {
-        write_compared(out, one)?;
+        document.begin_object();
+        document.push_member("source", Value::Text(one.source));
+        write_schedulers(document, &one.comparison);
+        document.end_object();
     }
-    out.end_seq()
+    document.end_list();
 }
 
 // Writes what several sources come to together.
-fn write_sums<S: Serializer>(out: &mut S, all: &Sums) -> Result<(), S::Error> {
-    let counts = [
+fn write_sums(document: &mut Document, all: &Sums) {
+    document.push_key("sums");
+    document.begin_object();
+    document.push_numbers(&[
         ("sources", all.sources as u64),
         ("halted", all.halted as u64),
-    ];
-    out.key("sums")?;
-    out.begin_map(Some(3))?;
-    write_numbers(out, &counts)?;
-    end_with_schedulers(out, &all.figures)
+    ]);
+    write_schedulers(document, &all.figures);
+    document.end_object();
 }
 
-// Begins a document.
-fn begin<S: Serializer>(out: &mut S) -> Result<(), S::Error> {
-    out.begin_map(Some(3))?;
-    write_text(out, "command", "compare")
-}
-
-impl Described for Document<'_> {}
-
-impl Serialize for Document<'_> {
-    fn serialize<S: Serializer>(&self, out: &mut S) -> Result<(), S::Error> {
-        begin(out)?;
-        write_text(out, "source", self.source)?;
-        end_with_schedulers(out, self.comparison)
-    }
-}
-
-impl Described for LongDocument<'_> {}
-
-impl Serialize for LongDocument<'_> {
-    fn serialize<S: Serializer>(&self, out: &mut S) -> Result<(), S::Error> {
-        begin(out)?;
-        write_sources(out, self.compared)?;
-        write_sums(out, self.all)?;
-        out.end_map()
-    }
+// A document of which the name of its command is written.
+fn document_of(alloc: Global) -> Document {
+    let mut document = Document::new(alloc);
+    document.begin_object();
+    document.push_member("command", Value::Text("compare"));
+    document
 }
 
 /// A comparison as JSON, with the name of its source.
@@ -161,11 +105,18 @@ pub fn comparison_json(
     source: &str,
     comparison: &Comparison,
 ) -> Result<Vec<u8>, Memory> {
-    document_text(alloc, &Document { source, comparison })
+    let mut document = document_of(alloc);
+    document.push_member("source", Value::Text(source));
+    write_schedulers(&mut document, comparison);
+    document.end_object();
+    document.into_bytes()
 }
 
 /// Comparisons of several sources as JSON, with their sums.
 pub fn comparisons_json(alloc: Global, compared: &[Compared]) -> Result<Vec<u8>, Memory> {
-    let all = &sums_of(compared);
-    document_text(alloc, &LongDocument { compared, all })
+    let mut document = document_of(alloc);
+    write_sources(&mut document, compared);
+    write_sums(&mut document, &sums_of(compared));
+    document.end_object();
+    document.into_bytes()
 }

@@ -1,5 +1,5 @@
 use Rattle.std.proofs.Common.{◌≤◌}
-use Rattle.lab_trace.proofs.running.push_turns.Given as goal
+use Rattle.lab_trace.proofs.running.write_turns.Given as goal
 
 -- no more cycles are counted than there were
 abbrev pub invariant-loop-cycle : goal.invariant-loop-cycle
