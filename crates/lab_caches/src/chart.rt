@@ -1,5 +1,6 @@
 //! Caches as a chart: misses by size.
 use super::study::{CacheRow, Study};
+use lab_writer::Writer;
 use std::alloc::{AllocError, Global};
 
 /// The sizes on the chart, in words.
@@ -61,100 +62,78 @@ fn share_of(rows: &[CacheRow], fetches: u64, size: u64, ways: u32) -> Option<u64
     None
 }
 
-// Appends a line across, so far down.
-fn push_rule(svg: &mut String, y: u64) -> Result<(), AllocError> {
-    let right = LEFT.saturating_add(WIDTH);
-    write!(svg, "<path d=\"M{LEFT} {y}H{right}\" stroke=\"#ccc\"/>\n")
-}
-
-// Appends what a line across stands for.
-fn push_share(svg: &mut String, y: u64, part: u64) -> Result<(), AllocError> {
-    let (ones, rest) = (part / 100, part % 100);
-    write!(
-        svg,
-        "<text x=\"62\" y=\"{y}\" text-anchor=\"end\">{ones}.{rest:02}%</text>\n"
-    )
-}
-
-// Appends the line across for a share, and what it stands for.
-fn push_line(svg: &mut String, part: u64, most: u64) -> Result<(), AllocError> {
+// Appends the line across for a share of the greatest one, and what it stands for.
+fn push_line(svg: &mut Writer, part: u64, most: u64) {
     let y = down(part, most);
-    push_rule(svg, y)?;
-    push_share(svg, y, part)
+    svg.push_numbers(
+        &["<path d=\"M", " ", "H", "\" stroke=\"#ccc\"/>\n"],
+        &[LEFT, y, LEFT.saturating_add(WIDTH)],
+    );
+    let (ones, rest) = (part / 100, part % 100);
+    svg.push_numbers(
+        &["<text x=\"62\" y=\"", "\" text-anchor=\"end\">"],
+        &[y, ones],
+    );
+    write!(svg, ".{rest:02}%</text>\n");
 }
 
 // Appends the lines across.
-fn push_lines(svg: &mut String, most: u64) -> Result<(), AllocError> {
+fn push_lines(svg: &mut Writer, most: u64) {
     for line in 0..=LINES {
-        push_line(svg, most.saturating_mul(line) / LINES, most)?;
+        push_line(svg, most.saturating_mul(line) / LINES, most);
     }
-    Ok(())
-}
-
-// Appends a size.
-fn push_size(svg: &mut String, index: u64, size: u64) -> Result<(), AllocError> {
-    let x = across(index);
-    write!(
-        svg,
-        "<text x=\"{x}\" y=\"342\" text-anchor=\"middle\">{size}</text>\n"
-    )
 }
 
 // Appends the sizes.
-fn push_sizes(svg: &mut String) -> Result<(), AllocError> {
+fn push_sizes(svg: &mut Writer) {
     for (index, size) in SIZES.iter().enumerate() {
-        push_size(svg, index as u64, *size)?;
+        svg.push_numbers(
+            &[
+                "<text x=\"",
+                "\" y=\"342\" text-anchor=\"middle\">",
+                "</text>\n",
+            ],
+            &[across(index as u64), *size],
+        );
     }
-    Ok(())
-}
-
-// Appends a point of a curve.
-fn push_point(svg: &mut String, x: u64, y: u64) -> Result<(), AllocError> {
-    write!(svg, "{x},{y} ")
 }
 
 // Appends the points of the curve of a number of ways.
-fn push_points(svg: &mut String, study: &Study, most: u64, ways: u32) -> Result<(), AllocError> {
+fn push_points(svg: &mut Writer, study: &Study, most: u64, ways: u32) {
     let rows = study.rows.as_slice();
     for (index, size) in SIZES.iter().enumerate() {
         if let Some(part) = share_of(rows, study.counts.fetches, *size, ways) {
-            push_point(svg, across(index as u64), down(part, most))?;
+            svg.push_numbers(&["", ",", " "], &[across(index as u64), down(part, most)]);
         }
     }
-    Ok(())
 }
 
 // Appends the key to the curve of a number of ways.
-fn push_key(svg: &mut String, ways: u32, colour: &str) -> Result<(), AllocError> {
+fn push_key(svg: &mut Writer, ways: u32, colour: &str) {
     let y = TOP.saturating_add(u64::from(ways).saturating_mul(18));
     write!(
         svg,
         "<text x=\"560\" y=\"{y}\" fill=\"{colour}\">{ways} ways</text>\n"
-    )
+    );
 }
 
 // Appends the curve of a number of ways, and the key to it.
-fn push_curve(
-    svg: &mut String,
-    study: &Study,
-    most: u64,
-    ways: u32,
-    colour: &str,
-) -> Result<(), AllocError> {
-    svg.push_str("<polyline fill=\"none\" stroke-width=\"2\" stroke=\"")?;
-    svg.push_str(colour)?;
-    svg.push_str("\" points=\"")?;
-    push_points(svg, study, most, ways)?;
-    svg.push_str("\"/>\n")?;
-    push_key(svg, ways, colour)
+fn push_curve(svg: &mut Writer, study: &Study, most: u64, ways: u32, colour: &str) {
+    svg.push_parts(&[
+        "<polyline fill=\"none\" stroke-width=\"2\" stroke=\"",
+        colour,
+        "\" points=\"",
+    ]);
+    push_points(svg, study, most, ways);
+    svg.push_str("\"/>\n");
+    push_key(svg, ways, colour);
 }
 
 // Appends the curves.
-fn push_curves(svg: &mut String, study: &Study, most: u64) -> Result<(), AllocError> {
+fn push_curves(svg: &mut Writer, study: &Study, most: u64) {
     for (ways, colour) in &CURVES {
-        push_curve(svg, study, most, *ways, *colour)?;
+        push_curve(svg, study, most, *ways, *colour);
     }
-    Ok(())
 }
 
 // The greatest share of all rows, at least a hundredth of a per cent.
@@ -166,19 +145,14 @@ fn greatest(study: &Study) -> u64 {
     most
 }
 
-// Appends the chart.
-fn push_chart(svg: &mut String, study: &Study) -> Result<(), AllocError> {
-    let most = greatest(study);
-    svg.push_str(HEAD)?;
-    push_lines(svg, most)?;
-    push_sizes(svg)?;
-    push_curves(svg, study, most)?;
-    svg.push_str("</svg>\n")
-}
-
 /// Caches as a chart in SVG: of each number of ways the misses in per cent of the fetches, by the size of the cache.
 pub fn caches_svg(alloc: Global, study: &Study) -> Result<Vec<u8>, AllocError> {
-    let mut svg = String::new(alloc);
-    push_chart(&mut svg, study)?;
-    Ok(svg.into_bytes())
+    let mut svg = Writer::new(alloc);
+    let most = greatest(study);
+    svg.push_str(HEAD);
+    push_lines(&mut svg, most);
+    push_sizes(&mut svg);
+    push_curves(&mut svg, study, most);
+    svg.push_str("</svg>\n");
+    svg.into_bytes()
 }

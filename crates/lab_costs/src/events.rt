@@ -1,12 +1,12 @@
 //! What a run cost, in the format of callgrind.
 use crate::grouping::{By, Grouping, grouping_by};
 use crate::positions::{Positions, positions_of};
-use crate::shown::Text;
+use crate::shown::push_last;
 use crate::subject::Subject;
 use lab_profile::{Called, Calls, LineCost};
+use lab_writer::Writer;
 use mx_isa::CODE_BASE;
 use mx_link::Origin;
-use mx_text::{push_decimal, push_named};
 use std::alloc::{AllocError, Global};
 
 /// What stands before the costs.
@@ -121,24 +121,23 @@ impl<'a> Names<'a> {
 }
 
 // Appends a file or a function that what follows belongs to.
-fn push_name(text: &mut Text, word: &[u8], name: &[u8]) -> Result<(), AllocError> {
-    text.push(word)?;
-    text.push_last(name)
+fn push_name(text: &mut Writer, word: &str, name: &[u8]) {
+    text.push_str(word);
+    push_last(text, name);
 }
 
 // Appends numbers, a blank before each, and the end of the line.
-fn push_numbers(text: &mut Text, numbers: &[u64]) -> Result<(), AllocError> {
+fn push_numbers(text: &mut Writer, numbers: &[u64]) {
     for number in numbers {
-        text.push(b" ")?;
-        push_decimal(text.alloc, &mut text.bytes, *number)?;
+        text.push_numbers(&[" "], &[*number]);
     }
-    text.push(b"\n")
+    text.push('\n');
 }
 
 // Appends a line of numbers.
-fn push_row(text: &mut Text, first: u64, rest: &[u64]) -> Result<(), AllocError> {
-    push_decimal(text.alloc, &mut text.bytes, first)?;
-    push_numbers(text, rest)
+fn push_row(text: &mut Writer, first: u64, rest: &[u64]) {
+    text.push_number(first);
+    push_numbers(text, rest);
 }
 
 // The numbers of a cost, by columns.
@@ -154,65 +153,48 @@ fn columns_of(cost: &LineCost) -> [u64; 6] {
 }
 
 // Appends a cost.
-fn push_cost(text: &mut Text, line: u32, cost: &LineCost) -> Result<(), AllocError> {
-    push_row(text, u64::from(line), &columns_of(cost))
+fn push_cost(text: &mut Writer, line: u32, cost: &LineCost) {
+    push_row(text, u64::from(line), &columns_of(cost));
 }
 
 // Appends the file and the function of what follows.
-fn push_place(text: &mut Text, file: &[u8], function: &[u8]) -> Result<(), AllocError> {
-    push_name(text, b"fl=", file)?;
-    push_name(text, b"fn=", function)
+fn push_place(text: &mut Writer, file: &[u8], function: &[u8]) {
+    push_name(text, "fl=", file);
+    push_name(text, "fn=", function);
 }
 
 // Appends what a statement cost by itself.
-fn push_own_cost(
-    text: &mut Text,
-    names: &Names,
-    statement: u32,
-    cost: &LineCost,
-) -> Result<(), AllocError> {
+fn push_own_cost(text: &mut Writer, names: &Names, statement: u32, cost: &LineCost) {
     let place = names.place(statement);
-    push_place(text, place.file, names.function(statement))?;
-    push_cost(text, place.line, cost)
+    push_place(text, place.file, names.function(statement));
+    push_cost(text, place.line, cost);
 }
 
 // Appends what the statements cost by themselves.
-fn push_own_costs(text: &mut Text, names: &Names, costs: &[LineCost]) -> Result<(), AllocError> {
+fn push_own_costs(text: &mut Writer, names: &Names, costs: &[LineCost]) {
     let mut statement = 0u32;
     for cost in costs {
         if cost.cycles > 0 {
-            push_own_cost(text, names, statement, cost)?;
+            push_own_cost(text, names, statement, cost);
         }
         statement = statement.saturating_add(1);
     }
-    Ok(())
 }
 
-// Appends how often a line calls another, and what that cost.
-fn push_called(text: &mut Text, site: u32, target: u32, called: Called) -> Result<(), AllocError> {
-    text.push(b"calls=")?;
-    push_row(text, called.count, &[u64::from(target)])?;
-    let costs = [called.cycles, called.executed];
-    push_row(text, u64::from(site), &costs)
-}
-
-// Appends what calls from one statement to another cost.
-fn push_call(
-    text: &mut Text,
-    names: &Names,
-    from: u32,
-    to: u32,
-    called: Called,
-) -> Result<(), AllocError> {
+// Appends what calls from one statement to another cost, and how often they were made.
+fn push_call(text: &mut Writer, names: &Names, from: u32, to: u32, called: Called) {
     let site = names.place(from);
-    push_place(text, site.file, names.function(from))?;
-    push_name(text, b"cfl=", names.file(to))?;
-    push_name(text, b"cfn=", names.function(to))?;
-    push_called(text, site.line, names.place(to).line, called)
+    push_place(text, site.file, names.function(from));
+    push_name(text, "cfl=", names.file(to));
+    push_name(text, "cfn=", names.function(to));
+    text.push_str("calls=");
+    push_row(text, called.count, &[u64::from(names.place(to).line)]);
+    let costs = [called.cycles, called.executed];
+    push_row(text, u64::from(site.line), &costs);
 }
 
 // Appends what the calls cost.
-fn push_calls(text: &mut Text, names: &Names, calls: &Calls) -> Result<(), AllocError> {
+fn push_calls(text: &mut Writer, names: &Names, calls: &Calls) {
     for index in 0..calls.costs.len() {
         let Some((ends, called)) = calls.costs.get_index(index) else {
             continue;
@@ -220,28 +202,26 @@ fn push_calls(text: &mut Text, names: &Names, calls: &Calls) -> Result<(), Alloc
         let from = names.statement_at(ends.0);
         let to = names.statement_at(ends.1);
         if let (Some(from), Some(to)) = (from, to) {
-            push_call(text, names, from, to, *called)?;
+            push_call(text, names, from, to, *called);
         }
     }
-    Ok(())
 }
 
 // Appends a cost that comes from no statement.
-fn push_rest(text: &mut Text, name: &[u8], cost: &LineCost) -> Result<(), AllocError> {
-    if cost.cycles == 0 {
-        return Ok(());
+fn push_rest(text: &mut Writer, name: &[u8], cost: &LineCost) {
+    if cost.cycles > 0 {
+        push_place(text, b"???", name);
+        push_cost(text, 0, cost);
     }
-    push_place(text, b"???", name)?;
-    push_cost(text, 0, cost)
 }
 
 // Appends what stands before the costs.
-fn push_head(text: &mut Text, file: &str, together: &LineCost) -> Result<(), AllocError> {
-    text.push(HEAD.as_bytes())?;
-    push_named(&mut text.bytes, b"cmd:", file.as_bytes())?;
-    text.push(EVENTS.as_bytes())?;
-    text.push(b"summary:")?;
-    push_numbers(text, &columns_of(together))
+fn push_head(text: &mut Writer, file: &str, together: &LineCost) {
+    text.push_str(HEAD);
+    text.push_parts(&["cmd: ", file, "\n"]);
+    text.push_str(EVENTS);
+    text.push_str("summary:");
+    push_numbers(text, &columns_of(together));
 }
 
 // The lines of C, if it is by these that costs are told.
@@ -265,31 +245,21 @@ fn names_of<'a>(alloc: Global, subject: &Subject<'a>, by: By) -> Result<Names<'a
     })
 }
 
-// Appends all of it, where these are the costs of the statements.
-fn push_profile(
-    text: &mut Text,
-    names: &Names,
-    calls: &Calls,
-    costs: &[LineCost],
-) -> Result<(), AllocError> {
-    let subject = &names.subject;
-    push_head(text, subject.file, &subject.together(costs))?;
-    push_own_costs(text, names, costs)?;
-    push_calls(text, names, calls)?;
-    push_rest(text, b"the handler", &subject.handler())?;
-    push_rest(text, b"behind the code", &subject.behind())
-}
-
-// The same as a text.
+// The same as a text, where these are the costs of the statements.
 fn text_of(
     alloc: Global,
     names: &Names,
     calls: &Calls,
     costs: &[LineCost],
 ) -> Result<Vec<u8>, AllocError> {
-    let mut text = Text::new(alloc);
-    push_profile(&mut text, names, calls, costs)?;
-    Ok(text.bytes)
+    let subject = &names.subject;
+    let mut text = Writer::new(alloc);
+    push_head(&mut text, subject.file, &subject.together(costs));
+    push_own_costs(&mut text, names, costs);
+    push_calls(&mut text, names, calls);
+    push_rest(&mut text, b"the handler", &subject.handler());
+    push_rest(&mut text, b"behind the code", &subject.behind());
+    text.into_bytes()
 }
 
 /// What a run cost and which calls it made, in the format of callgrind, by the lines of the source or by those of C. A function

@@ -1,26 +1,25 @@
 //! What a run cost, as a text.
 use crate::grouping::By;
 use crate::rows::{Row, rows_by};
-use crate::shown::{Text, push_columns, push_quotient};
+use crate::shown::{push_last, push_quotient};
 use crate::spans::lines_of;
 use crate::spent::spent_in;
 use crate::subject::Subject;
-use lab_json::Ratio;
 use lab_profile::{Column, LineCost, Profile, Spent};
+use lab_writer::{Ratio, Writer};
 use mx_isa::CODE_BASE;
 use mx_link::Origin;
 use mx_report::push_counts;
-use mx_text::{push_count, push_word};
+use mx_turn::Counts;
 use std::alloc::{AllocError, Global};
 
 /// The head of the table, but for what a row is named by.
 const HEAD: &str = "  line     count    cycles      %    CPI   stalls  no-ops squashed  killed  ";
 
-/// As wide as the column of a line.
-const NO_LINE: &str = "      ";
+/// How wide the column of a line is, and how wide the numbers of a row are together.
+const LINE: usize = 6;
 
-/// As wide as the numbers of a row.
-const GAP: &[u8] = b"                                                                            ";
+const NUMBERS: usize = 76;
 
 /// The head of what cycles were spent on.
 const SPENT: &str = "cycles by what they were spent on\n";
@@ -29,51 +28,33 @@ const SPENT: &str = "cycles by what they were spent on\n";
 const KILLED: &str = "words that an interrupt killed, or that were under way at the end";
 
 // Appends the column of a line, empty where there is none.
-fn push_line_column(cells: &mut String, line: u32) -> Result<(), AllocError> {
+fn push_line_column(text: &mut Writer, line: u32) {
     if line == 0 {
-        return cells.push_str(NO_LINE);
+        text.push_blanks(LINE);
+    } else {
+        text.push_right(line as i128, LINE);
     }
-    write!(cells, "{line:>6}")
 }
 
-// Appends the columns of a row.
-fn push_cells(cells: &mut String, line: u32, cost: &LineCost, all: u64) -> Result<(), AllocError> {
-    push_line_column(cells, line)?;
-    push_columns(cells, &[(cost.executed, 9), (cost.cycles, 9)])?;
-    push_quotient(cells, Ratio::Percent(cost.cycles, all))?;
-    push_quotient(cells, Ratio::Plain(cost.cycles, cost.executed))?;
-    let rest = [
+// Appends the columns of a row, and what it is named by.
+fn push_row(text: &mut Writer, line: u32, cost: &LineCost, all: u64, name: &[u8]) {
+    push_line_column(text, line);
+    text.push_columns(&[(cost.executed, 9), (cost.cycles, 9)]);
+    push_quotient(text, Ratio::Percent(cost.cycles, all));
+    push_quotient(text, Ratio::Plain(cost.cycles, cost.executed));
+    text.push_columns(&[
         (cost.stalls, 8),
         (cost.noops, 7),
         (cost.cancelled, 8),
         (cost.killed, 7),
-    ];
-    push_columns(cells, &rest)?;
-    cells.push_str("  ")
-}
-
-// Appends the columns of a row, and what it is named by.
-fn push_row(
-    text: &mut Text,
-    line: u32,
-    cost: &LineCost,
-    all: u64,
-    name: &[u8],
-) -> Result<(), AllocError> {
-    let mut cells = String::new(text.alloc);
-    push_cells(&mut cells, line, cost, all)?;
-    text.push(cells.as_bytes())?;
-    text.push_last(name)
+    ]);
+    text.push_str("  ");
+    push_last(text, name);
 }
 
 // Appends the row of a part of the source.
-fn push_part_row(
-    text: &mut Text,
-    subject: &Subject,
-    row: &Row,
-    all: u64,
-) -> Result<(), AllocError> {
-    push_row(text, row.line, &row.cost, all, row.name.bytes(subject))
+fn push_part_row(text: &mut Writer, subject: &Subject, row: &Row, all: u64) {
+    push_row(text, row.line, &row.cost, all, row.name.bytes(subject));
 }
 
 // The copies of the code, by their statements: a statement and the address of a copy of it.
@@ -110,44 +91,28 @@ fn copies_to(copies: &[(u32, u32)], from: usize, statement: usize) -> usize {
     copies.len()
 }
 
-// Appends the addresses of the copies from one index up to another.
-fn push_copies(
-    text: &mut Text,
-    copies: &[(u32, u32)],
-    from: usize,
-    to: usize,
-) -> Result<(), AllocError> {
-    let Some(copies) = copies.get(from..to) else {
-        return Ok(());
-    };
-    if copies.is_empty() {
-        return Ok(());
+// Appends the addresses of copies, where there are any.
+fn push_copies(text: &mut Writer, copies: &[(u32, u32)]) {
+    if !copies.is_empty() {
+        text.push_blanks(NUMBERS);
+        text.push_str("copies at");
+        for (_, address) in copies {
+            write!(text, " 0x{address:08x}");
+        }
+        text.push('\n');
     }
-    text.push(GAP)?;
-    text.push(b"copies at")?;
-    for (_, address) in copies {
-        text.push(b" 0x")?;
-        push_word(&mut text.bytes, *address)?;
-    }
-    text.push(b"\n")
 }
 
 // Appends a line of the source that has no statement; an empty one is left empty.
-fn push_bare_line(text: &mut Text, line: &[u8]) -> Result<(), AllocError> {
+fn push_bare_line(text: &mut Writer, line: &[u8]) {
     if !line.is_empty() {
-        text.push(GAP)?;
+        text.push_blanks(NUMBERS);
     }
-    text.push_last(line)
+    push_last(text, line);
 }
 
 // Appends all lines of the source, with the rows of those that have statements, and the addresses of the copies of them.
-fn push_lines(
-    text: &mut Text,
-    subject: &Subject,
-    rows: &[Row],
-    copies: &[(u32, u32)],
-    all: u64,
-) -> Result<(), AllocError> {
+fn push_lines(text: &mut Writer, subject: &Subject, rows: &[Row], copies: &[(u32, u32)], all: u64) {
     let lines = subject.source.lines();
     let (mut statement, mut copy, mut number) = (0, 0, 0u32);
     let mut rows = rows.iter();
@@ -156,26 +121,21 @@ fn push_lines(
         let next = statements_to(lines, statement, number);
         let row = if statement < next { rows.next() } else { None };
         match row {
-            Some(row) => push_part_row(text, subject, row, all)?,
-            None => push_bare_line(text, line)?,
+            Some(row) => push_part_row(text, subject, row, all),
+            None => push_bare_line(text, line),
         }
         let next_copy = copies_to(copies, copy, next);
-        push_copies(text, copies, copy, next_copy)?;
+        push_copies(text, copies.get(copy..next_copy).unwrap_or(&[]));
         statement = next;
         copy = next_copy;
     }
-    Ok(())
 }
 
 // Appends the source, with the rows and the copies of its statements.
-fn push_source(
-    text: &mut Text,
-    subject: &Subject,
-    rows: &[Row],
-    all: u64,
-) -> Result<(), AllocError> {
-    let copies = copies_in(text.alloc, subject.origin())?;
-    push_lines(text, subject, rows, copies.as_slice(), all)
+fn push_source(text: &mut Writer, subject: &Subject, rows: &[Row], all: u64) {
+    if let Some(copies) = text.take(copies_in(text.alloc(), subject.origin())) {
+        push_lines(text, subject, rows, &copies, all);
+    }
 }
 
 // What stands at the head of the last column.
@@ -188,15 +148,8 @@ fn named_by(by: By) -> &'static str {
     }
 }
 
-// Appends one line of what cycles were spent on.
-fn push_part(parts: &mut String, part: u64, all: u64, on: &str) -> Result<(), AllocError> {
-    write!(parts, "{part:>16}")?;
-    push_quotient(parts, Ratio::Percent(part, all))?;
-    write!(parts, "  {on}\n")
-}
-
 // Appends what the cycles were spent on.
-fn push_spent(text: &mut Text, on: Spent) -> Result<(), AllocError> {
+fn push_spent(text: &mut Writer, on: Spent) {
     let all = on.together();
     let told = [
         (on.instructions, "instructions"),
@@ -207,83 +160,83 @@ fn push_spent(text: &mut Text, on: Spent) -> Result<(), AllocError> {
         (on.misses, "waiting for a miss"),
         (all, "together"),
     ];
-    let mut parts = String::from_str(text.alloc, SPENT)?;
+    text.push_str(SPENT);
     for (part, words) in told {
-        push_part(&mut parts, part, all, words)?;
+        text.push_right(part as i128, 16);
+        push_quotient(text, Ratio::Percent(part, all));
+        text.push_parts(&["  ", words, "\n"]);
     }
-    text.push(parts.as_bytes())
+}
+
+// The counts of a run, a line for each.
+fn lines_of_counts(alloc: Global, counts: &Counts) -> Result<Vec<u8>, AllocError> {
+    let mut lines = Vec::new(alloc);
+    push_counts(alloc, &mut lines, counts)?;
+    Ok(lines)
 }
 
 // Appends the counts of the run.
-fn push_sums(text: &mut Text, profile: &Profile, noops: u64) -> Result<(), AllocError> {
-    let end = if profile.halted {
+fn push_sums(text: &mut Writer, profile: &Profile, noops: u64) {
+    text.push_str(if profile.halted {
         "halted\n"
     } else {
         "out of budget\n"
-    };
-    text.push(end.as_bytes())?;
-    push_counts(text.alloc, &mut text.bytes, &profile.counts)?;
-    push_count(text.alloc, &mut text.bytes, "waiting", profile.waiting)?;
-    push_count(text.alloc, &mut text.bytes, "noops passed", noops)
+    });
+    if let Some(lines) = text.take(lines_of_counts(text.alloc(), &profile.counts)) {
+        text.push_bytes(&lines);
+    }
+    text.push_numbers(
+        &["waiting ", "\nnoops passed ", "\n"],
+        &[profile.waiting, noops],
+    );
 }
 
 // Appends the rows of what comes from no statement, and that of all.
-fn push_rest(text: &mut Text, subject: &Subject, together: LineCost) -> Result<(), AllocError> {
+fn push_rest(text: &mut Writer, subject: &Subject, together: LineCost) {
     let rest = [
         (subject.handler(), "the handler"),
         (subject.behind(), "behind the code"),
         (together, "together"),
     ];
     for (cost, name) in rest {
-        push_row(text, 0, &cost, together.cycles, name.as_bytes())?;
+        push_row(text, 0, &cost, together.cycles, name.as_bytes());
     }
-    Ok(())
-}
-
-// Appends the head of the table.
-fn push_head(text: &mut Text, by: By) -> Result<(), AllocError> {
-    text.push(HEAD.as_bytes())?;
-    text.push(named_by(by).as_bytes())
 }
 
 /// What a run cost, and how that is printed.
 #[derive(Clone, Copy)]
 struct Table<'a> {
     subject: &'a Subject<'a>,
-    /// The costs of its statements.
-    costs: &'a [LineCost],
+    /// The rows of its parts.
+    rows: &'a [Row],
     by: By,
     column: Column,
+    /// The cost of all together.
+    together: LineCost,
 }
 
 // Appends the rows of the parts of the source.
-fn push_table(text: &mut Text, table: &Table) -> Result<(), AllocError> {
-    let (subject, costs) = (table.subject, table.costs);
-    let all = subject.together(costs).cycles;
-    let rows = rows_by(text.alloc, subject, costs, table.by, table.column)?;
+fn push_table(text: &mut Writer, table: &Table) {
+    let (subject, all) = (table.subject, table.together.cycles);
     if table.by == By::Line && table.column == Column::Line {
-        return push_source(text, subject, rows.as_slice(), all);
+        push_source(text, subject, table.rows, all);
+    } else {
+        for row in table.rows {
+            push_part_row(text, subject, row, all);
+        }
     }
-    for row in rows.iter() {
-        push_part_row(text, subject, row, all)?;
-    }
-    Ok(())
 }
 
-// Appends what stands behind the table.
-fn push_end(text: &mut Text, table: &Table) -> Result<(), AllocError> {
-    let (subject, costs) = (table.subject, table.costs);
-    let together = subject.together(costs);
-    push_rest(text, subject, together)?;
-    push_spent(text, spent_in(subject, costs))?;
-    push_sums(text, subject.profile, together.noops)
-}
-
-// Appends all of it.
-fn push_profile(text: &mut Text, table: &Table) -> Result<(), AllocError> {
-    push_head(text, table.by)?;
-    push_table(text, table)?;
-    push_end(text, table)
+// The text of a table, of a run whose cycles were spent on this.
+fn text_of(alloc: Global, table: &Table, spent: Spent) -> Result<Vec<u8>, AllocError> {
+    let (subject, together) = (table.subject, table.together);
+    let mut text = Writer::new(alloc);
+    text.push_parts(&[HEAD, named_by(table.by)]);
+    push_table(&mut text, table);
+    push_rest(&mut text, subject, together);
+    push_spent(&mut text, spent);
+    push_sums(&mut text, subject.profile, together.noops);
+    text.into_bytes()
 }
 
 /// What a run cost, by parts of its source in the order of a column, and the sums.
@@ -294,13 +247,13 @@ pub fn profile_text(
     column: Column,
 ) -> Result<Vec<u8>, AllocError> {
     let costs = subject.statement_costs(alloc)?;
-    let mut text = Text::new(alloc);
+    let rows = rows_by(alloc, subject, &costs, by, column)?;
     let table = Table {
         subject,
-        costs: costs.as_slice(),
+        rows: &rows,
         by,
         column,
+        together: subject.together(&costs),
     };
-    push_profile(&mut text, &table)?;
-    Ok(text.bytes)
+    text_of(alloc, &table, spent_in(subject, &costs))
 }

@@ -3,6 +3,7 @@ use super::advice::{advice_of, name_of, reason_of};
 use lab_json::{Document, Value};
 use lab_measures::{Ran, Standing};
 use lab_terms::{Verdict, enough, verdict_of};
+use lab_writer::Writer;
 use mx_source::Why;
 use std::alloc::{AllocError, Global};
 
@@ -57,187 +58,152 @@ impl Explained<'_> {
     }
 }
 
-// Appends parts.
-fn push_parts(text: &mut String, parts: &[&str]) -> Result<(), AllocError> {
-    for part in parts {
-        text.push_str(*part)?;
-    }
-    Ok(())
-}
-
-// Appends a number.
-fn push_number(text: &mut String, number: u64) -> Result<(), AllocError> {
-    write!(text, "{number}")
-}
-
 // Appends so many of something: `1 statement`.
-fn push_counted(text: &mut String, count: u64, name: &str) -> Result<(), AllocError> {
+fn push_counted(text: &mut Writer, count: u64, name: &str) {
     let plural = if count == 1 { "" } else { "s" };
-    push_number(text, count)?;
-    push_parts(text, &[" ", name, plural])
+    text.push_number(count);
+    text.push_parts(&[" ", name, plural]);
 }
 
 // Appends so many statements.
-fn push_statements(text: &mut String, count: u32) -> Result<(), AllocError> {
-    push_counted(text, u64::from(count), "statement")
+fn push_statements(text: &mut Writer, count: u32) {
+    push_counted(text, u64::from(count), "statement");
 }
 
 // Appends how the run of the machine ended.
-fn push_run(text: &mut String, ran: Ran) -> Result<(), AllocError> {
+fn push_run(text: &mut Writer, ran: Ran) {
     let (end, rest) = if ran.halted {
         ("halts", "")
     } else {
         ("has not halted", ", its budget")
     };
-    push_parts(text, &["the machine's run ", end, " after "])?;
-    push_counted(text, ran.cycles, "cycle")?;
-    text.push_str(rest)
+    text.push_parts(&["the machine's run ", end, " after "]);
+    push_counted(text, ran.cycles, "cycle");
+    text.push_str(rest);
 }
 
 // Appends where a meaning is stuck.
-fn push_place(text: &mut String, file: &str, line: u32) -> Result<(), AllocError> {
+fn push_place(text: &mut Writer, file: &str, line: u32) {
+    text.push_str(file);
     if line == 0 {
-        return push_parts(text, &[file, ": stuck behind the last statement after "]);
+        text.push_str(": stuck behind the last statement after ");
+    } else {
+        text.push_numbers(&[":", ": stuck after "], &[u64::from(line)]);
     }
-    push_parts(text, &[file, ":"])?;
-    push_number(text, u64::from(line))?;
-    text.push_str(": stuck after ")
 }
 
 // Appends the line at which a meaning is stuck, if there is one.
-fn push_line(alloc: Global, text: &mut String, explained: &Explained) -> Result<(), AllocError> {
-    if explained.line == 0 {
-        return Ok(());
+fn push_line(text: &mut Writer, explained: &Explained) {
+    if explained.line > 0 {
+        text.push_str("    ");
+        text.push_lossy(explained.text);
+        text.push('\n');
     }
-    let line = String::from_utf8_lossy(alloc, explained.text)?;
-    push_parts(text, &["    ", line.as_str(), "\n"])
-}
-
-// Appends why a meaning is stuck, behind where that is.
-fn push_reason(text: &mut String, why: Why) -> Result<(), AllocError> {
-    push_parts(text, &[": ", name_of(why), ": ", reason_of(why), "\n"])
-}
-
-// Appends what helps.
-fn push_advice(text: &mut String, why: Why) -> Result<(), AllocError> {
-    push_parts(text, &["what to do: ", advice_of(why), "\n"])
 }
 
 // Appends what is said of a source whose meaning is stuck.
-fn push_stuck(
-    alloc: Global,
-    text: &mut String,
-    explained: &Explained,
-    why: Why,
-) -> Result<(), AllocError> {
-    push_place(text, explained.file, explained.line)?;
-    push_statements(text, explained.standing.progress.steps)?;
-    push_reason(text, why)?;
-    push_line(alloc, text, explained)?;
-    push_advice(text, why)?;
-    push_run(text, explained.ran)?;
-    text.push_str("; nothing is promised of it, since the meaning is stuck\n")
+fn push_stuck(text: &mut Writer, explained: &Explained, why: Why) {
+    push_place(text, explained.file, explained.line);
+    push_statements(text, explained.standing.progress.steps);
+    text.push_parts(&[": ", name_of(why), ": ", reason_of(why), "\n"]);
+    push_line(text, explained);
+    text.push_parts(&["what to do: ", advice_of(why), "\n"]);
+    push_run(text, explained.ran);
+    text.push_str("; nothing is promised of it, since the meaning is stuck\n");
 }
 
 // Appends the budget that is enough under so many interrupt requests.
-fn push_enough(text: &mut String, steps: u32, requests: u32) -> Result<(), AllocError> {
-    text.push_str("; a budget of ")?;
-    push_number(text, enough(steps, requests))?;
-    text.push_str(" is enough with ")?;
-    push_counted(text, u64::from(requests), "interrupt request")
+fn push_enough(text: &mut Writer, steps: u32, requests: u32) {
+    text.push_numbers(
+        &["; a budget of ", " is enough with "],
+        &[enough(steps, requests)],
+    );
+    push_counted(text, u64::from(requests), "interrupt request");
 }
 
 // Appends the first line of what is said: the file, how its run stands, and how many statements its meaning has.
-fn push_first(text: &mut String, file: &str, told: &str, steps: u32) -> Result<(), AllocError> {
-    push_parts(text, &[file, ": ", told, " after "])?;
-    push_statements(text, steps)?;
-    text.push_str("\n")
+fn push_first(text: &mut Writer, file: &str, told: &str, steps: u32) {
+    text.push_parts(&[file, ": ", told, " after "]);
+    push_statements(text, steps);
+    text.push('\n');
 }
 
 // Appends what is said of a source whose meaning halts.
-fn push_halted(text: &mut String, explained: &Explained) -> Result<(), AllocError> {
+fn push_halted(text: &mut Writer, explained: &Explained) {
     let steps = explained.standing.progress.steps;
     let (told, promise) = if explained.ran.halted {
         ("halts as meant,", AS_MEANT)
     } else {
         ("out of budget; the meaning halts", BEGINNING)
     };
-    push_first(text, explained.file, told, steps)?;
-    push_run(text, explained.ran)?;
-    push_enough(text, steps, explained.requests)?;
-    push_parts(text, &["\n", promise, "\n"])
+    push_first(text, explained.file, told, steps);
+    push_run(text, explained.ran);
+    push_enough(text, steps, explained.requests);
+    text.push_parts(&["\n", promise, "\n"]);
 }
 
 // Appends what is said of a source whose meaning has not ended.
-fn push_unended(text: &mut String, explained: &Explained) -> Result<(), AllocError> {
+fn push_unended(text: &mut Writer, explained: &Explained) {
     let told = "out of budget; the meaning has not ended";
-    push_first(text, explained.file, told, explained.steps)?;
-    push_run(text, explained.ran)?;
-    push_parts(text, &["\n", BEGINNING, "; --budget N lets both go on\n"])
+    push_first(text, explained.file, told, explained.steps);
+    push_run(text, explained.ran);
+    text.push_parts(&["\n", BEGINNING, "; --budget N lets both go on\n"]);
 }
 
 // Appends whether the premise holds that is told behind it.
-fn push_mark(text: &mut String, holds: bool) -> Result<(), AllocError> {
+fn push_mark(text: &mut Writer, holds: bool) {
     text.push_str(if holds {
         "  holds: "
     } else {
         "  does not hold: "
-    })
+    });
 }
 
 // Appends the premise that the meaning is not stuck.
-fn push_stuck_premise(text: &mut String, steps: u32, holds: bool) -> Result<(), AllocError> {
-    push_mark(text, holds)?;
-    text.push_str("the meaning is not stuck within ")?;
-    push_number(text, u64::from(steps))?;
-    text.push_str(" statements, 64 more than the budget has cycles\n")
+fn push_stuck_premise(text: &mut Writer, steps: u32, holds: bool) {
+    push_mark(text, holds);
+    text.push_numbers(
+        &[
+            "the meaning is not stuck within ",
+            " statements, 64 more than the budget has cycles\n",
+        ],
+        &[u64::from(steps)],
+    );
 }
 
 // Appends the premise that the budget is enough.
-fn push_budget_premise(text: &mut String, budget: u32, bound: u64) -> Result<(), AllocError> {
+fn push_budget_premise(text: &mut Writer, budget: u32, bound: u64) {
     let budget = u64::from(budget);
-    push_mark(text, budget >= bound)?;
-    text.push_str("the budget, ")?;
-    push_number(text, budget)?;
-    text.push_str(", is at least ")?;
-    push_number(text, bound)?;
-    text.push_str(", so that the run has to halt\n")
+    push_mark(text, budget >= bound);
+    text.push_numbers(
+        &[
+            "the budget, ",
+            ", is at least ",
+            ", so that the run has to halt\n",
+        ],
+        &[budget, bound],
+    );
 }
 
 // Appends the premises of what is promised of `run`. The first two hold of each source that is run.
-fn push_premises(text: &mut String, explained: &Explained) -> Result<(), AllocError> {
-    text.push_str(PREMISES)?;
-    push_stuck_premise(text, explained.steps, explained.why().is_none())?;
-    match explained.enough() {
-        Some(bound) => push_budget_premise(text, explained.budget, bound),
-        None => Ok(()),
+fn push_premises(text: &mut Writer, explained: &Explained) {
+    text.push_str(PREMISES);
+    push_stuck_premise(text, explained.steps, explained.why().is_none());
+    if let Some(bound) = explained.enough() {
+        push_budget_premise(text, explained.budget, bound);
     }
-}
-
-// Appends how a source stands.
-fn push_verdict(alloc: Global, text: &mut String, explained: &Explained) -> Result<(), AllocError> {
-    match explained.verdict() {
-        Verdict::Stuck(why) => push_stuck(alloc, text, explained, why),
-        Verdict::Unended => push_unended(text, explained),
-        Verdict::AsMeant | Verdict::BudgetShort => push_halted(text, explained),
-    }
-}
-
-// Appends how a source stands, and the premises.
-fn push_explained(
-    alloc: Global,
-    text: &mut String,
-    explained: &Explained,
-) -> Result<(), AllocError> {
-    push_verdict(alloc, text, explained)?;
-    push_premises(text, explained)
 }
 
 /// How a source stands, in words.
 pub fn explained_text(alloc: Global, explained: &Explained) -> Result<Vec<u8>, AllocError> {
-    let mut text = String::new(alloc);
-    push_explained(alloc, &mut text, explained)?;
-    Ok(text.into_bytes())
+    let mut text = Writer::new(alloc);
+    match explained.verdict() {
+        Verdict::Stuck(why) => push_stuck(&mut text, explained, why),
+        Verdict::Unended => push_unended(&mut text, explained),
+        Verdict::AsMeant | Verdict::BudgetShort => push_halted(&mut text, explained),
+    }
+    push_premises(&mut text, explained);
+    text.into_bytes()
 }
 
 // The word of a verdict.
