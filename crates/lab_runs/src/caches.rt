@@ -1,5 +1,5 @@
 //! The reply of `caches`.
-use crate::printed::{answered, or_memory, printed, run_status};
+use crate::replies::{answered, or_memory, printed, run_status};
 use crate::runs::GivenRun;
 use cmd_answer::{Failure, Reply, Status, line_reply};
 use lab_caches::{Study, caches_json, caches_svg, caches_text, study_of};

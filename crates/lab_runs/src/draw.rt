@@ -3,7 +3,7 @@ ghost use Rattle.std.specs.Prelude.{◌≤◌, ◌+◌, IfOk};
 ghost use Rattle.lab_draw.specs.Frames.{IsDrawing};
 ghost use Rattle.lab_runs.specs.Runs.{loaded};
 
-use crate::printed::{or_memory, printed};
+use crate::replies::{or_memory, printed};
 use crate::runs::GivenRun;
 use cmd_answer::{Failure, Reply, Status};
 use cmd_source::Program;

@@ -3,7 +3,7 @@ ghost use Rattle.std.specs.Prelude.{◌≡◌, IfOk};
 ghost use Rattle.mx_turn.specs.Run.{run_of};
 ghost use Rattle.lab_runs.specs.Runs.{loaded};
 
-use crate::printed::{or_memory, printed};
+use crate::replies::{or_memory, printed};
 use crate::runs::GivenRun;
 use cmd_answer::{Failure, Reply, Status};
 use lab_explain::{Explained, explained_json, explained_text};

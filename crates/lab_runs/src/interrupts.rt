@@ -1,7 +1,7 @@
 //! The reply of `interrupts`.
 ghost use Rattle.std.specs.Prelude.{◌≤◌, ◌<◌, IfOk};
 
-use crate::printed::{or_memory, printed, refused, run_status};
+use crate::replies::{or_memory, printed, refused, run_status};
 use crate::runs::GivenRun;
 use cmd_answer::{Failure, Reply, Status};
 use lab_line::{Asked, Form};

@@ -6,12 +6,12 @@ mod caches;
 mod draw;
 mod explain;
 mod interrupts;
-mod printed;
 mod profile;
+mod replies;
 mod runs;
 mod stimulus;
 mod trace;
 
 pub use answers::run_reply;
-pub use printed::{answered, or_memory, printed, refused, unlinked};
+pub use replies::{answered, or_memory, printed, refused, unlinked};
 pub use stimulus::{Stimulus, read_stimulus};

@@ -1,5 +1,5 @@
 //! The reply of `profile`.
-use crate::printed::{or_memory, printed, run_status};
+use crate::replies::{or_memory, printed, run_status};
 use crate::runs::GivenRun;
 use cmd_answer::{Failure, Reply};
 use lab_costs::{By, Subject, callgrind, profile_json, profile_text};

@@ -1,5 +1,5 @@
 //! The reply of `trace`.
-use crate::printed::run_status;
+use crate::replies::run_status;
 use crate::runs::GivenRun;
 use cmd_answer::{Failure, Reply};
 use lab_line::Asked;
