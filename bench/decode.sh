@@ -3,7 +3,7 @@
 set -e
 words=${1:-100000000}
 cd "$(dirname "$0")/../crates/bench_decode"
-rt run -- 1000 >/dev/null 2>&1 # proves and builds it, where it is not built
+../../mx prove bench_decode >/dev/null 2>&1 # where it is not proved and built
 TIMEFORMAT=%U
 seconds=$( { time ./out/bench_decode "$words" >/dev/null; } 2>&1 )
 awk -v n="$words" -v s="$seconds" 'BEGIN { printf "%d words in %.2f processor seconds: %.1f million a second\n", n, s, n / s / 1e6 }'

@@ -4,7 +4,7 @@
 set -e
 cycles=${1:-200000000}
 cd "$(dirname "$0")/../crates/bench_turns"
-rt run -- 1000 >/dev/null 2>&1 # proves and builds it, where it is not built
+../../mx prove bench_turns >/dev/null 2>&1 # where it is not proved and built
 TIMEFORMAT=%U
 for machine in turns pipe; do
   for requests in 0 65536; do

@@ -4,7 +4,7 @@
 # as fit, and that many empty lines. `join` prints the canonical text too.
 set -e
 cd "$(dirname "$0")/../crates/mx_run"
-rt run -- run data/hello.s >/dev/null 2>&1 # proves and builds it, where it is not built
+../../mx prove mx_run >/dev/null 2>&1 # where it is not proved and built
 program=$PWD/out/mx_run
 folder=$(mktemp -d)
 trap 'rm -r "$folder"' EXIT

@@ -4,7 +4,7 @@
 set -e
 steps=${1:-100000000}
 cd "$(dirname "$0")/../crates/mx_run"
-rt run -- run data/hello.s >/dev/null 2>&1 # proves and builds it, where it is not built
+../../mx prove mx_run >/dev/null 2>&1 # where it is not proved and built
 program=$PWD/out/mx_run
 file=$(mktemp)
 trap 'rm "$file"' EXIT

@@ -7,7 +7,7 @@ cycles=${1:-100000000}
 runs=${2:-1}
 bench=$(cd "$(dirname "$0")" && pwd)
 cd "$bench/../crates/bench_turns"
-rt run -- 1000 >/dev/null 2>&1 # proves and builds it, where it is not built
+../../mx prove bench_turns >/dev/null 2>&1 # where it is not proved and built
 folder=$(mktemp -d)
 trap 'rm -r "$folder"' EXIT
 cc -O2 -o "$folder/turn_machine" "$bench/turn_machine.c"

@@ -1,6 +1,6 @@
 #!/usr/bin/env python3
-"""Proves and builds crates and those below them, side by side: each as soon as those that it stands on are done, and first those
-on which the longest chain of others waits.
+"""Proves and builds crates and those below them, side by side: each as soon as those that it stands on are done. Those that the
+first crate needs come first, and among them those on which the longest chain of others waits.
 
 usage: tools/prove.py [--for-check] CRATE .. LOG
 
@@ -57,24 +57,34 @@ def costs(crates, named, folder):
     return found
 
 
-def chains(crates, named, folder):
-    """Returns what the dearest chain of crates costs that begins with each of these."""
+def ranks(named, asked):
+    """Returns for each crate how many of those asked for come before the first that needs it."""
+    found = {}
+    for place, it in enumerate(asked):
+        for crate in [*crates_below([it], named), it]:
+            found.setdefault(crate, place)
+    return found
+
+
+def chains(crates, named, rank, folder):
+    """Returns what the dearest chain of crates costs that begins with each of these, and that the same one asked for needs."""
     cost, found = costs(crates, named, folder), {}
     for crate in reversed(crates):
-        above = [found[it] for it in found if crate in named[it]]
+        above = [found[it] for it in found if crate in named[it] and rank[it] == rank[crate]]
         found[crate] = cost[crate] + max(above, default=0)
     return found
 
 
-def prove(prover, crates, log):
+def prove(prover, crates, asked, log):
     """Proves these crates, tells each that is done, and returns whether all are."""
-    chain, began = chains(crates, prover.named, prover.files), time.monotonic()
+    rank, began = ranks(prover.named, asked), time.monotonic()
+    chain = chains(crates, prover.named, rank, prover.files)
     done, running, failed, idle = set(), {}, [], places()
     with concurrent.futures.ThreadPoolExecutor(idle) as pool, prover.commands:
         while True:
             started = {crate for crate, _ in running.values()} | done
             ready = [it for it in crates if it not in started and done.issuperset(prover.named[it])]
-            ready.sort(key=chain.get)
+            ready.sort(key=lambda it: (-rank[it], chain[it]))
             while ready and idle > 0 and not failed:
                 # (where there are more places than crates that can begin, a crate takes several; a program reads more than it checks)
                 share = max(1, min(idle // len(ready), MOST_JOBS))
@@ -118,7 +128,7 @@ def main(asked, log_name, for_check):
     prover = Rooms(rows, named, commands, crates) if for_check else Statements(rows, named, commands)
     try:
         with open(log_name, "a", encoding="utf-8") as log:
-            return 0 if prove(prover, crates, log) else 1
+            return 0 if prove(prover, crates, asked, log) else 1
     except KeyboardInterrupt:
         print("mx: stopped; the next call goes on behind the crates that are done", file=sys.stderr)
         return 1
