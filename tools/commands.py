@@ -94,7 +94,8 @@ COMMANDS = {
         Option("--as", "FORM", "text, json or csv (text)"), LAB_BUDGET, INPUT, OUTPUT)),
     "trace": Command("mx_lab", "SOURCE", "tells each turn of a run, for programs that replay it", (
         Option("--as", "FORM", "jsonl (jsonl)"), LAB_BUDGET, INTERRUPTS, INPUT, OUTPUT)),
-    "plans": Command("mx_lab", "SOURCE FILE", "runs a source by the plans of a scheduler of one's own", (LAB_BUDGET, INTERRUPTS, INPUT, OUTPUT)),
+    "plans": Command("mx_lab", "SOURCE FILE", "runs a source by the plans of a scheduler of one's own", (
+        Option("--print", "", "prints the list scheduler's own file, in place of FILE"), LAB_BUDGET, INTERRUPTS, INPUT, OUTPUT)),
     "serve": Command("serve", "[FILE]", "starts a workbench in the browser", (
         Option("--port", "N", "0 to 65,535 (a free one)"),
         Option("--host", "H", "the address to listen at (127.0.0.1)")),

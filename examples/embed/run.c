@@ -1,5 +1,5 @@
-/* Runs a source and prints its report. Build and run, after ./mx library lib:
-   cc -Ilib examples/embed/run.c lib/libzanderanvil.a -o run && ./run */
+/* Runs a source and prints its report. Build and run, after ./mx library built:
+   cc -Ibuilt examples/embed/run.c built/libzanderanvil.a -o run && ./run */
 #include <stdio.h>
 #include <zanderanvil.h>
 

@@ -1,6 +1,6 @@
 """Runs a source from Python, under two interrupts and by its meaning (docs/LIBRARY.md).
 
-    python3 examples/embed/run.py lib/libzanderanvil.so examples/countdown.s
+    python3 examples/embed/run.py built/libzanderanvil.so examples/countdown.s
 """
 import os
 import sys

@@ -2,7 +2,7 @@
 
     from zanderanvil import Zanderanvil
 
-    it = Zanderanvil("lib/libzanderanvil.so")
+    it = Zanderanvil("built/libzanderanvil.so")
     run = it.run(b"addi r0,#72,r1\\nst 255[r0],r1\\nhalt\\n", interrupts=[5])
     print(run.console, run.cycles)
 
