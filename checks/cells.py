@@ -77,6 +77,8 @@ def check_kanata(path, text):
 
 
 def main(words):
+    if len(words) != 3:
+        sys.exit(__doc__)
     if words[0] == "--kanata":
         check_kanata(words[1], words[2])
     else:

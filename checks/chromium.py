@@ -187,6 +187,8 @@ def tell(name, holds, seen=""):
 
 
 def main():
+    if len(sys.argv) < 3:
+        sys.exit(__doc__)
     page = Page(1600, 900)
     page.open(sys.argv[1])
     page.picture(sys.argv[2])

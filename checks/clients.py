@@ -301,6 +301,8 @@ def try_long(client):
 
 
 def main():
+    if len(sys.argv) != 2:
+        sys.exit(__doc__)
     count = int(sys.argv[1])
     with serving(f"{TOP}/examples/countdown.s") as (process, address):
         client, tally = Client(address), Tally()

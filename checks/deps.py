@@ -13,7 +13,9 @@ import re
 import sys
 
 TOP = os.path.dirname(os.path.dirname(os.path.abspath(__file__)))
-LINE = re.compile(r"([a-z_0-9]+)(?: staticlib)?:(.*)$")
+sys.path.insert(0, f"{TOP}/tools")
+from crates import read_crates  # noqa: E402
+
 LAYERS = ("mx", "law", "cmd", "lab", "cc", "embed", "test", "bench")
 NAMED = re.compile(r"\bRattle\.((?:%s)_[a-z_0-9]+)\.|\b((?:%s)_[a-z_0-9]+)::" % (("|".join(LAYERS),) * 2))
 ALLOWED = {
@@ -33,13 +35,6 @@ EXCEPT = {
 }
 # The top call and the four programs stand on all that they call.
 TOPS = {"mx_command": {"law", "cmd"}, "mx_run": {"cmd"}, "mx_lab": {"cmd", "lab"}, "mx_cc": {"cmd", "cc"}, "mx_serve": {"cmd", "lab", "embed"}}
-
-
-def listed():
-    """Returns the crates that each crate's line lists, in the file's order."""
-    with open(f"{TOP}/crates.txt", encoding="utf-8") as lines:
-        found = (LINE.match(line) for line in lines)
-        return {it.group(1): it.group(2).split() for it in found if it}
 
 
 def named(crate):
@@ -80,7 +75,7 @@ def faults(crates):
 
 
 def main():
-    lines = list(faults(listed()))
+    lines = list(faults(read_crates()))
     print("\n".join(lines), end="\n" if lines else "")
     sys.exit(1 if lines else 0)
 

@@ -88,6 +88,8 @@ def try_look(page, url, cycle, name):
 
 
 def main():
+    if len(sys.argv) != 4:
+        sys.exit(__doc__)
     file, folder, cycle = sys.argv[1], sys.argv[2], int(sys.argv[3])
     url = "file://" + os.path.abspath(file)
     page = Page(1500, 900)

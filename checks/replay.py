@@ -234,7 +234,10 @@ class Machine:
 
 def replay(lines):
     """Returns how many turns a trace has, each as the machine does it."""
-    machine = Machine(json.loads(next(lines)))
+    first = next(lines, None)
+    if first is None:
+        raise Differs("the trace is empty")
+    machine = Machine(json.loads(first))
     halted, number = False, 1
     for number, line in enumerate(lines, 2):
         told = json.loads(line)
@@ -259,7 +262,7 @@ def main():
     try:
         with (open(sys.argv[1], encoding="utf-8") if sys.argv[1:] else sys.stdin) as trace:
             turns, interrupts = replay(iter(trace))
-    except (Differs, OSError, ValueError) as fault:
+    except (Differs, KeyError, OSError, ValueError) as fault:
         sys.exit(f"{fault}")
     print(f"{turns} turns, {interrupts} interrupts: each as the machine does it")
 

@@ -472,6 +472,8 @@ def try_page(bench, url):
 
 
 def main():
+    if len(sys.argv) != 2:
+        sys.exit(__doc__)
     folder = sys.argv[1]
     with serving(f"{TOP}/examples/countdown.s") as (_, url):
         with opened(url, 1500, 900) as bench:

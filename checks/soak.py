@@ -287,4 +287,6 @@ def main(seed, count):
     print("bytes", len(console))
 
 
+if len(sys.argv) != 3:
+    sys.exit(__doc__)
 main(int(sys.argv[1]), int(sys.argv[2]))

@@ -14,10 +14,11 @@ fail() {
     exit "$2"
 }
 
-# The name of the file $1 in the folder of the work.
-name_of() {
-    printf %s "$1" | tr / _
-}
+# A list has a word a line, since a name may have blanks and the signs of patterns.
+line_feed='
+'
+IFS=$line_feed
+set -f
 
 # Compiles the file $1 to the assembly $2, with the options behind them.
 compile() {
@@ -35,12 +36,14 @@ compile_library() {
     [ -e "$library/done" ] && [ -z "$newer" ] && return
     rm -rf "$library"
     mkdir -p "$library" || exit 10
+    set +f
     for file in "$top"/lib/*.c; do
         compile "$file" "$library/$(basename "$file" .c).s" "$1" || exit 1
     done
     for file in "$top"/lib/*.s; do
         if [ -e "$file" ]; then cp "$file" "$library/" || exit 10; fi
     done
+    set -f
     : >"$library/done"
 }
 
@@ -53,16 +56,19 @@ place_in_c() {
         END { if (split(place, it, " ")) print names[it[1]] ":" it[2] }' "$1"
 }
 
-# Tells what $work/said has of a fault, by the names of the files as they were given, and by lines of C where they are C.
+# Tells what $work/said has of a fault, by the names of the files as they were given, and by lines of C where they are C. In the
+# folder of the work a file has its number as its name, and the assembly of a file in C has `.s` behind it.
 tell_fault() {
     IFS=: read -r name line rest <"$work/said"
+    number=0
     for file in $files; do
+        number=$((number + 1))
         case $name in
-            "$(name_of "$file")")
+            "$number")
                 echo "$file:$line:$rest"
                 return
                 ;;
-            "$(name_of "$file").s")
+            "$number.s")
                 place=$(place_in_c "$work/$name" "$line")
                 echo "${place:-$file}:$rest"
                 return
@@ -84,8 +90,10 @@ translate() {
     done
     compile_library "$level"
     names=
+    number=0
     for file in $files; do
-        name=$(name_of "$file")
+        number=$((number + 1))
+        name=$number
         case $file in
             *.s) cp "$file" "$work/$name" || exit 4 ;;
             *)
@@ -94,11 +102,13 @@ translate() {
                 compile "$file" "$work/$name" -g1 "$level" $options || exit 1
                 ;;
         esac
-        names="$names $name"
+        names=$names$line_feed$name
     done
+    set +f
     # shellcheck disable=SC2086
     (cd "$work" && "$top/mx" ${MX_FLAGS-} translate $names "$library"/*.s -o "$out") >"$work/said"
     status=$?
+    set -f
     case $status in
         0) ;;
         1) tell_fault ;;
@@ -129,8 +139,8 @@ case $command in
                     shift
                     ;;
                 -O*) level=$1 ;;
-                -*) options="$options $1" ;;
-                *) files="$files $1" ;;
+                -*) options=$options$line_feed$1 ;;
+                *) files=$files$line_feed$1 ;;
             esac
             shift
         done
@@ -140,7 +150,8 @@ case $command in
     c)
         files=$1
         shift
-        translate "$work/program" && "$top/mx" ${MX_FLAGS-} run "$work/program" "$@"
+        # (what that says must not name a file that is gone when it ends)
+        translate "$work/program" && MX_GONE=$work/program "$top/mx" ${MX_FLAGS-} run "$work/program" "$@"
         ;;
     *)
         fail "$use" 2

@@ -46,7 +46,7 @@ def split(words):
 def in_range(value, text):
     """Returns whether a value is a number of the range that the text of its option begins with."""
     least, most = (int(it.replace(",", "")) for it in re.match(r"([\d,]+) to ([\d,]+)", text).groups())
-    return value.removeprefix("+").isdigit() and least <= int(value) <= most
+    return re.fullmatch(r"\+?[0-9]{1,40}", value) is not None and least <= int(value) <= most
 
 
 def of_label(label, source):
@@ -106,8 +106,8 @@ def why_unread(file):
 def hints(status, name, words):
     """Yields lines that say what to do."""
     names, options = split(words)
-    # (what came by a pipe is gone)
-    shown = ["SOURCE" if it == STANDARD_INPUT else it for it in names]
+    # (what came by a pipe is gone, and so is the source of a program in C)
+    shown = ["SOURCE" if it in (STANDARD_INPUT, os.environ.get("MX_GONE")) else it for it in names]
     source = next(iter(shown), "SOURCE")
     if status == REFUSED and name == "debug" and (why := of_label(names[-1], names[0])):
         yield why

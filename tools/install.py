@@ -7,6 +7,7 @@ Below PREFIX: bin/zanderanvil, libexec/zanderanvil with the two programs, share/
 share/zanderanvil with syntax files for vim and for editors that read TextMate grammars. The mnemonics are read from the table of
 the assembler, the commands are those of tools/commands.py.
 """
+import contextlib
 import json
 import os
 import re
@@ -33,7 +34,9 @@ def version():
     """Returns the version and the commit."""
     with open(f"{TOP}/VERSION", encoding="utf-8") as it:
         number = it.read().strip()
-    commit = subprocess.run(["git", "-C", TOP, "rev-parse", "--short", "HEAD"], capture_output=True, text=True).stdout.strip()
+    commit = ""
+    with contextlib.suppress(FileNotFoundError):
+        commit = subprocess.run(["git", "-C", TOP, "rev-parse", "--short", "HEAD"], capture_output=True, text=True).stdout.strip()
     return f"{number} ({commit or 'no commit'})"
 
 
@@ -70,9 +73,8 @@ case ${{1-}} in
         for word; do
             shift
             left=$((left - 1))
-            case $name,$left,$word in
-                build,0,- | migrate,0,-) ;;
-                *,-) word=/dev/stdin ;;
+            case $word in
+                -) case $name,$left in build,0 | migrate,0) ;; *) word=/dev/stdin ;; esac ;;
             esac
             set -- "$@" "$word"
         done
@@ -248,4 +250,7 @@ def main(prefix):
 if __name__ == "__main__":
     if len(sys.argv) != 2:
         sys.exit(__doc__)
-    sys.exit(main(sys.argv[1]))
+    try:
+        sys.exit(main(sys.argv[1]))
+    except OSError as error:
+        sys.exit(f"mx: {error.strerror}: {error.filename}")

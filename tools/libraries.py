@@ -7,29 +7,11 @@ import signal
 import subprocess
 import tempfile
 
-TOP = os.path.dirname(os.path.dirname(os.path.abspath(__file__)))
+from crates import TOP, crates_below, kit_folder, read_crates, read_lines
+
 PARTS = ("src", "specs", "proofs")
 # The toolchain's own C code, which every program is linked with.
 OF_C = ("libos_c.a", "liblibc_c.a")
-
-
-def read_crates():
-    """Returns for each crate of crates.txt its line, and the crates of the repository that it names, in order from below."""
-    with open(f"{TOP}/crates.txt", encoding="utf-8") as lines:
-        rows = {line.split(":")[0].split()[0]: line for line in lines if ":" in line.split("#")[0]}
-    return rows, {crate: [it for it in line.split(":")[1].split() if it in rows] for crate, line in rows.items()}
-
-
-def crates_below(crates, named):
-    """Returns all crates that these stand on, in order from below."""
-    found = set()
-    left = [below for crate in crates for below in named[crate]]
-    while left:
-        it = left.pop()
-        if it not in found:
-            found.add(it)
-            left += named[it]
-    return [it for it in named if it in found]
 
 
 def is_program(folder):
@@ -84,11 +66,14 @@ class Commands:
 class Statements:
     """Proves crates by rattle itself, and keeps of each what others read of it, and a sum of all that its proof stands on."""
 
-    def __init__(self, rows, named, commands):
-        self.rows, self.named, self.commands, self.sums = rows, named, commands, {}
-        self.files = f"{TOP}/crates"
-        self.kit = os.path.dirname(subprocess.run(["rt", "doc"], capture_output=True, text=True, check=True).stdout.strip())
+    def __init__(self, commands):
+        self.lines, self.listed, self.commands, self.sums = read_lines(), read_crates(), commands, {}
+        self.files, self.kit = f"{TOP}/crates", kit_folder()
         self.version = subprocess.run(["rt", "version"], capture_output=True, check=True).stdout
+
+    def own(self, crate):
+        """Returns the crates of the repository that a crate's line lists."""
+        return [it for it in self.listed[crate] if it in self.listed]
 
     def library(self, crate):
         """Returns where the crate's library is kept."""
@@ -97,23 +82,23 @@ class Statements:
     def sum(self, crate):
         """Returns a sum of the toolchain, the crate's line and files, and the same of all crates below it."""
         if crate not in self.sums:
-            found = hashlib.sha256(self.version + self.rows[crate].encode())
+            found = hashlib.sha256(self.version + self.lines[crate].encode())
             for file in files_of(f"{self.files}/{crate}"):
                 with open(file, "rb") as it:
                     found.update(f"{os.path.relpath(file, self.files)}\0".encode() + hashlib.sha256(it.read()).digest())
-            for it in self.named[crate]:
+            for it in self.own(crate):
                 found.update(self.sum(it).encode())
             self.sums[crate] = found.hexdigest()
         return self.sums[crate]
 
     def words(self, crate, jobs):
         """Returns the words by which rattle reads the crate and the libraries below it."""
-        below = crates_below([crate], self.named)
-        libraries = ["std", *(it for it in self.rows[crate].split(":")[1].split() if it not in self.rows)]
+        libraries = ["std", *(it for it in self.listed[crate] if it not in self.listed)]
         words = ["--crate-name", crate, "src/main.rt" if is_program(f"{self.files}/{crate}") else "src/lib.rt"]
         words += [word for it in libraries for word in ("--extern", f"{it}={self.kit}/rlibs/{it}.rlib")]
-        words += [word for it in self.named[crate] for word in ("--extern", f"{it}={self.library(it)}")]
+        words += [word for it in self.own(crate) for word in ("--extern", f"{it}={self.library(it)}")]
         words += ["-L", f"dependency={self.kit}/rlibs"]
+        below = crates_below([crate], self.listed)
         words += [word for it in below for word in ("-L", f"dependency={os.path.dirname(self.library(it))}")]
         words += ["--antt-project", f"{self.kit}/rattle/logic/antt-project.json", "--logic-built", f"{self.kit}/logic_built"]
         return [*words, "--links", f"{crate}=", "--jobs", str(jobs)]
@@ -122,7 +107,7 @@ class Statements:
         """Proves and builds the crate, and returns the status and what was printed."""
         folder, toolchain = f"{self.files}/{crate}", ["--toolchain", f"{self.kit}/toolchain"]
         words = [f"{self.kit}/bin/rattle", "build", *self.words(crate, jobs)]
-        if "staticlib" in self.rows[crate].split(":")[0]:
+        if "staticlib" in self.lines[crate].split(":")[0]:
             return self.commands.run(folder, *words, "--crate-type", "staticlib", *toolchain, "-o", f"out/lib{crate}.a")
         if not is_program(folder):
             return self.commands.run(folder, *words, "--statements", "-o", self.library(crate))
@@ -155,8 +140,8 @@ class Statements:
 class Rooms:
     """Proves crates by rt, each in a room of its own, from a copy of all crates' files: what rt check and rt test take."""
 
-    def __init__(self, rows, named, commands, crates):
-        self.rows, self.named, self.commands = rows, named, commands
+    def __init__(self, commands, crates):
+        self.lines, self.listed, self.commands = read_lines(), read_crates(), commands
         # on the same disk as the repository, where that has a folder that nothing else reads
         self.folder = tempfile.mkdtemp(prefix="mx-prove-", dir=f"{TOP}/.git" if os.path.isdir(f"{TOP}/.git") else None)
         self.files = f"{self.folder}/files"
@@ -165,13 +150,13 @@ class Rooms:
 
     def furnish(self, crate):
         """Makes the crate's room, and returns its folder there, which has what earlier runs left in out/."""
-        room, below = f"{self.folder}/{crate}", crates_below([crate], self.named)
+        room, below = f"{self.folder}/{crate}", crates_below([crate], self.listed)
         for it in [*below, crate]:
             shutil.copytree(f"{self.files}/{it}", f"{room}/crates/{it}", copy_function=link)
         for it in below:
             shutil.copytree(f"{TOP}/crates/{it}/out/rlib", f"{room}/crates/{it}/out/rlib", copy_function=link)
         with open(f"{room}/crates.txt", "w", encoding="utf-8") as file:
-            file.writelines(self.rows[it] for it in [*below, crate])
+            file.writelines(self.lines[it] for it in [*below, crate])
         shutil.copy(f"{TOP}/HANDLES", room)
         if os.path.isdir(f"{TOP}/crates/{crate}/out"):
             shutil.move(f"{TOP}/crates/{crate}/out", f"{room}/crates/{crate}/out")

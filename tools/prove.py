@@ -18,7 +18,8 @@ import signal
 import sys
 import time
 
-from libraries import Commands, Rooms, Statements, crates_below, files_of, is_program, read_crates
+from crates import crates_below, read_crates
+from libraries import Commands, Rooms, Statements, files_of, is_program
 
 # From nothing on four processors; what is done is kept.
 ABOUT = "From nothing this takes a quarter of an hour to half an hour; what is done is kept"
@@ -46,44 +47,45 @@ def lines(folder):
     return found[True], found[False]
 
 
-def costs(crates, named, folder):
+def costs(crates, listed, folder):
     """Returns about what the check of each of these crates takes."""
     found, code = {}, {}
     for crate in crates:
         code[crate], proof = lines(f"{folder}/{crate}")
         found[crate] = COST_OF_LIBRARIES + COST_OF_CODE * code[crate] + COST_OF_PROOF * proof
         if is_program(f"{folder}/{crate}"):
-            found[crate] += COST_OF_COMPILING * sum(code[it] for it in crates_below([crate], named))
+            found[crate] += COST_OF_COMPILING * sum(code[it] for it in crates_below([crate], listed))
     return found
 
 
-def ranks(named, asked):
+def ranks(listed, asked):
     """Returns for each crate how many of those asked for come before the first that needs it."""
     found = {}
     for place, it in enumerate(asked):
-        for crate in [*crates_below([it], named), it]:
+        for crate in [*crates_below([it], listed), it]:
             found.setdefault(crate, place)
     return found
 
 
-def chains(crates, named, rank, folder):
+def chains(crates, listed, rank, folder):
     """Returns what the dearest chain of crates costs that begins with each of these, and that the same one asked for needs."""
-    cost, found = costs(crates, named, folder), {}
+    cost, found = costs(crates, listed, folder), {}
     for crate in reversed(crates):
-        above = [found[it] for it in found if crate in named[it] and rank[it] == rank[crate]]
+        above = [found[it] for it in found if crate in listed[it] and rank[it] == rank[crate]]
         found[crate] = cost[crate] + max(above, default=0)
     return found
 
 
 def prove(prover, crates, asked, log):
     """Proves these crates, tells each that is done, and returns whether all are."""
-    rank, began = ranks(prover.named, asked), time.monotonic()
-    chain = chains(crates, prover.named, rank, prover.files)
+    rank, began = ranks(prover.listed, asked), time.monotonic()
+    chain = chains(crates, prover.listed, rank, prover.files)
+    waits = {crate: [it for it in prover.listed[crate] if it in prover.listed] for crate in crates}
     done, running, failed, idle = set(), {}, [], places()
     with concurrent.futures.ThreadPoolExecutor(idle) as pool, prover.commands:
         while True:
             started = {crate for crate, _ in running.values()} | done
-            ready = [it for it in crates if it not in started and done.issuperset(prover.named[it])]
+            ready = [it for it in crates if it not in started and done.issuperset(waits[it])]
             ready.sort(key=lambda it: (-rank[it], chain[it]))
             while ready and idle > 0 and not failed:
                 # (where there are more places than crates that can begin, a crate takes several; a program reads more than it checks)
@@ -114,18 +116,18 @@ def interrupt(*_):
 
 
 def main(asked, log_name, for_check):
-    rows, named = read_crates()
-    unknown = [it for it in asked if it not in rows]
+    listed = read_crates()
+    unknown = [it for it in asked if it not in listed]
     if unknown:
         print(f"mx: crates.txt has no crate {', '.join(unknown)}", file=sys.stderr)
         return 1
-    below = crates_below(asked, named)
-    crates = [it for it in named if it in below or it in asked]
+    below = crates_below(asked, listed)
+    crates = [it for it in listed if it in below or it in asked]
     print(f"mx: {len(below)} crates stand below {' and '.join(asked)}. {ABOUT}", file=sys.stderr, flush=True)
     signal.signal(signal.SIGINT, interrupt)
     signal.signal(signal.SIGTERM, interrupt)
     commands = Commands()
-    prover = Rooms(rows, named, commands, crates) if for_check else Statements(rows, named, commands)
+    prover = Rooms(commands, crates) if for_check else Statements(commands)
     try:
         with open(log_name, "a", encoding="utf-8") as log:
             return 0 if prove(prover, crates, asked, log) else 1

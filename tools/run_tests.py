@@ -8,7 +8,6 @@ folder data/, with the words of its file args and the bytes of stdin, and what i
 """
 import concurrent.futures
 import os
-import re
 import shutil
 import subprocess
 import sys
@@ -16,8 +15,8 @@ import tempfile
 import time
 
 import unproved
+from crates import TOP, read_crates
 
-TOP = os.path.dirname(os.path.dirname(os.path.abspath(__file__)))
 LIMIT = 120
 
 
@@ -74,12 +73,16 @@ def work(crate):
 
 def crates():
     """Returns the crates that have tests, and the programs that measure nothing."""
-    names = re.findall(r"(?m)^([a-z_0-9]+)[ :]", read(f"{TOP}/crates.txt").decode())
+    names = read_crates()
     programs = [it for it in names if os.path.exists(f"{TOP}/crates/{it}/src/main.rt") and not it.startswith("bench_")]
     return [it for it in names if it in programs or has_tests(it)]
 
 
 def main(names):
+    unknown = [it for it in names if it not in crates()]
+    if unknown:
+        print(f"mx: there are no tests in {', '.join(unknown)}\n{__doc__}", file=sys.stderr)
+        return 2
     failed = 0
     with concurrent.futures.ThreadPoolExecutor(os.cpu_count()) as pool:
         for done in concurrent.futures.as_completed([pool.submit(work, it) for it in names or crates()]):

@@ -164,7 +164,7 @@ class Laboratory:
 
     def blocks(self, source: bytes) -> list[Block]:
         """The blocks of a source, as a scheduler gets them."""
-        texts = [LABEL.sub("", COMMENT.sub("", line)).strip() for line in source.decode("utf-8").splitlines()]
+        texts = [LABEL.sub("", COMMENT.sub("", line)).strip() for line in source.decode("utf-8", "replace").split("\n")]
         code = [text for text in texts if text and not text.startswith(".")]
         blocks = []
         for number, line in enumerate(self.printed("plans", SOURCE, "--print", files={SOURCE: source}).splitlines(), 1):
