@@ -119,13 +119,13 @@ class Statements:
         return status, said + more
 
     def prove(self, crate, jobs):
-        """Proves the crate where it is not what was proved, and returns whether it is proved, and what was printed."""
+        """Proves the crate, and returns whether it is proved, and what was printed: nothing where it is what was proved."""
         kept, wanted = f"{self.files}/{crate}/out/statements", self.sum(crate)
         os.makedirs(kept, exist_ok=True)
         if os.path.isfile(f"{kept}/sum"):
             with open(f"{kept}/sum", encoding="utf-8") as it:
                 if it.read() == wanted:
-                    return True, f"== {crate}\nnothing has changed since it was proved\n"
+                    return True, ""
             os.remove(f"{kept}/sum")
         status, said = self.build(crate, jobs)
         if status == 0:

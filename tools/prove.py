@@ -21,8 +21,8 @@ import time
 from crates import crates_below, read_crates
 from libraries import Commands, Rooms, Statements, files_of, is_program
 
-# From nothing on four processors; what is done is kept.
-ABOUT = "From nothing this takes a quarter of an hour to half an hour; what is done is kept"
+# On four processors; bench/README.md has the figures.
+ABOUT = "From nothing the toolchain takes some half an hour, and with the laboratory three quarters; what is done is kept"
 # What a check takes of memory, and how many jobs are of use to one.
 BYTES_A_JOB = 2_000_000_000
 MOST_JOBS = 4
@@ -97,6 +97,8 @@ def prove(prover, crates, asked, log):
             if not running:
                 # (what went wrong comes last)
                 log.writelines(failed)
+                if not failed:
+                    print(f"mx: all {len(crates)} are proved", file=sys.stderr)
                 return not failed
             for run in concurrent.futures.wait(running, return_when=concurrent.futures.FIRST_COMPLETED).done:
                 (crate, jobs), (is_proved, said) = running.pop(run), run.result()
@@ -108,7 +110,8 @@ def prove(prover, crates, asked, log):
                 else:
                     failed.append(said)
                     how = "is not proved,"
-                print(f"mx: {crate} {how} after {time.monotonic() - began:.0f} s", file=sys.stderr, flush=True)
+                if said:
+                    print(f"mx: {crate} {how} after {time.monotonic() - began:.0f} s", file=sys.stderr, flush=True)
 
 
 def interrupt(*_):
