@@ -30,6 +30,7 @@ refuses() {
 printf '        addi r0,#65,r1\n        st   255[r0],r1\n        halt\n' >ok.s
 printf '        b    nowhere\n' >bad.s
 printf 'x\n' >events
+head -c 4194305 /dev/zero >big
 mkdir folder
 refuses 2 "  tip: some similar subcommands exist: 'caches', 'check'" chek ok.s
 refuses 2 "  tip: a similar value exists: 'html'" draw ok.s --as htm
@@ -45,9 +46,18 @@ refuses 4 "no such file: none.s" compare ok.s none.s
 refuses 2 "--from 9 is more than --to 8" interrupts ok.s --from 9 --to 8
 refuses 2 "--from 500 is behind the last cycle of the undisturbed run, 11" interrupts ok.s --from 500
 refuses 4 "no such file: none.s" interrupts none.s
+refuses 4 "big: read fault: source too long" check big
+refuses 4 "big: read fault: source too long" disassemble big
+refuses 4 "big: read fault: source too long" compare ok.s big none.s
+refuses 4 "no such file: none" profile ok.s --interrupts none
+refuses 4 "big: read fault: interrupts too long" profile ok.s --interrupts big --input none
+refuses 4 "big: read fault: input too long" explain ok.s --input big
+refuses 4 "no such file: none" plans ok.s none
+refuses 4 "big: read fault: plans too long" plans ok.s big --input none
 if [ "$(id -u)" -ne 0 ]; then
     chmod 0 bad.s
     refuses 4 "permission denied: bad.s" check bad.s
+    refuses 4 "permission denied: bad.s" profile ok.s --interrupts bad.s --input none
 fi
 
 # Standard input, and a file for the output.

@@ -1,4 +1,6 @@
 //! What `check` tells of a line.
+ghost use Rattle.std.specs.Prelude.{◌≡◌, codes};
+
 use lab_faults::marks_under;
 use lab_writer::Writer;
 use mx_faults::Span;
@@ -13,7 +15,10 @@ pub enum Severity {
 
 impl Severity {
     /// Its word.
-    pub fn word(self) -> &'static str {
+    pub fn word(self) -> &'static str
+        ensures error { self ≡ Severity.Error → result.now ≡ codes "error" }
+        ensures warning { self ≡ Severity.Warning → result.now ≡ codes "warning" }
+    {
         match self {
             Severity::Error => "error",
             Severity::Warning => "warning",

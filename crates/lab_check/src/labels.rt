@@ -1,4 +1,6 @@
 //! The labels that a text defines.
+ghost use Rattle.std.specs.Prelude.{◌≡◌, find, option_map};
+ghost use Rattle.std.specs.Str.{bytes_eq, str_eq_ignore_ascii_case};
 
 use crate::sentence::text_of;
 use mx_asm::{begins_label, first_name, line_words};
@@ -57,7 +59,9 @@ pub fn definitions_of<'a>(
 }
 
 /// The line that defines a label first.
-pub fn first_definition(definitions: &[Definition], name: &[u8]) -> Option<u32> {
+pub fn first_definition(definitions: &[Definition], name: &[u8]) -> Option<u32>
+    ensures { result ≡ option_map (λ d. d.line) (find (λ d. bytes_eq d.name.now name.now) definitions.now) }
+{
     for definition in definitions {
         if definition.name == name {
             return Some(definition.line);
@@ -67,7 +71,9 @@ pub fn first_definition(definitions: &[Definition], name: &[u8]) -> Option<u32> 
 }
 
 /// The first label that is this name but for the case of its letters.
-pub fn other_case<'a>(definitions: &[Definition<'a>], name: &[u8]) -> Option<Definition<'a>> {
+pub fn other_case<'a>(definitions: &[Definition<'a>], name: &[u8]) -> Option<Definition<'a>>
+    ensures { result ≡ find (λ d. str_eq_ignore_ascii_case d.name.now name.now) definitions.now }
+{
     for definition in definitions {
         if definition.name.eq_ignore_ascii_case(name) {
             return Some(*definition);

@@ -266,11 +266,17 @@ pub fn char_of<'a>(shown: &Shown<'a>) -> Option<&'a str> {
     }
 }
 
+// A character that is none of ASCII can be shown: a terminal may obey the controls U+0080 to U+009F, and a byte order mark cannot
+// be seen.
+fn can_be_shown(typed: &str) -> bool {
+    !matches!(typed.as_bytes(), [0xc2, 0x80..=0x9f]) && typed != BYTE_ORDER_MARK
+}
+
 // F1: the byte.
 fn push_byte(text: &mut Writer, shown: &Shown) {
     let byte = token_of(shown).first().copied().unwrap_or(0);
     match char_of(shown) {
-        Some(typed) if byte > 126 && typed != BYTE_ORDER_MARK => {
+        Some(typed) if byte > 127 && can_be_shown(typed) => {
             text.push_parts(&["`", typed, "`", OUTSIDE_COMMENT]);
         }
         _ => text.push_numbers(&["byte ", OUTSIDE_COMMENT], &[u64::from(byte)]),

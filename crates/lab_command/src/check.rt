@@ -31,9 +31,15 @@ fn push_warnings(text: &mut String, warnings: usize) -> Result<(), AllocError> {
     }
 }
 
+// How many faulty lines or warnings are shown, beside a branch that does not reach its target.
+fn shown_in(checked: &Checked) -> usize {
+    let branches = usize::from(checked.is_overlong);
+    checked.findings.len().saturating_sub(branches)
+}
+
 // Appends how much of what was found is shown, where that is not all.
 fn push_shown(text: &mut String, checked: &Checked) -> Result<(), AllocError> {
-    if checked.faults.max(checked.warnings) > checked.findings.len() {
+    if checked.faults.max(checked.warnings) > shown_in(checked) {
         write!(
             text,
             ", of which the first {MOST_SHOWN} are shown: --all shows them all"

@@ -45,40 +45,17 @@ impl Causes for Unknown {
     }
 }
 
-/// The options that name files which are read.
-static READ: [&str; 5] = ["SOURCE", "IMAGE", "FILE", "interrupts", "input"];
+/// How a read fault begins that is of no source, and which option or argument names its file.
+static READ: [(&str, &str); 3] = [
+    ("read fault: interrupts ", "interrupts"),
+    ("read fault: input ", "input"),
+    ("read fault: plans ", "FILE"),
+];
 
-// The first of some files that cannot be read, and why.
-fn unread_among<'a, C: Causes>(
-    alloc: Global,
-    words: &[&'a str],
-    causes: C,
-) -> Option<(&'a str, Cause)> {
-    for word in words {
-        let name = file_by(*word);
-        if let Some(cause) = causes.cause(alloc, name) {
-            return Some((name, cause));
-        }
-    }
-    None
-}
+/// How a read fault ends whose cause is not its length, and what stands of one behind the name of one of several sources.
+const FAILED: &[u8] = b" failed\n";
 
-// The first of the files that cannot be read, and why.
-fn unread<'a, C: Causes>(
-    alloc: Global,
-    matches: &ArgMatches<'a>,
-    causes: C,
-) -> Option<(&'a str, Cause)> {
-    for option in &READ {
-        if let Some(words) = matches.get_strs(*option) {
-            let found = unread_among(alloc, words, causes);
-            if found.is_some() {
-                return found;
-            }
-        }
-    }
-    None
-}
+const SOURCE_FAILED: &[u8] = b": read fault: source failed\n";
 
 // The name of the source, or of the file that may be one; empty where the words name none, or several: what is said then
 // names the one that it is about.
@@ -90,6 +67,16 @@ fn source_named<'a>(matches: &ArgMatches<'a>) -> &'a str {
     }
 }
 
+// The name of the file that a read fault speaks of; empty where it is one of several sources.
+fn file_read<'a>(matches: &ArgMatches<'a>, said: &[u8]) -> &'a str {
+    for (begins, option) in &READ {
+        if said.starts_with(begins.as_bytes()) {
+            return word_given(matches, *option);
+        }
+    }
+    source_named(matches)
+}
+
 // The name of the file that a reply with this status speaks of; empty where it speaks of the words.
 fn file_of<'a>(matches: &ArgMatches<'a>, status: Status, said: &[u8]) -> &'a str {
     match status {
@@ -97,6 +84,7 @@ fn file_of<'a>(matches: &ArgMatches<'a>, status: Status, said: &[u8]) -> &'a str
         Status::BadImage => word_given(matches, "FILE"),
         Status::BadEvents if said.starts_with(b"plans") => word_given(matches, "FILE"),
         Status::BadEvents => word_given(matches, "interrupts"),
+        Status::ReadFault => file_read(matches, said),
         _ => source_named(matches),
     }
 }
@@ -118,19 +106,48 @@ pub fn named(alloc: Global, name: &str, said: &[u8]) -> Result<Vec<u8>, AllocErr
     Ok(text)
 }
 
-// What goes to standard error where a file cannot be read: why, and which, if that is known.
-fn unread_text<C: Causes>(
-    alloc: Global,
-    matches: &ArgMatches,
-    said: &[u8],
-    causes: C,
-) -> Result<Vec<u8>, AllocError> {
-    let Some((name, cause)) = unread(alloc, matches, causes) else {
-        return Vec::from_slice(alloc, said);
-    };
+// The name of one of several sources that what is said begins with, since it cannot be read; empty where it begins with none.
+fn name_before(said: &[u8]) -> &str {
+    match said.strip_suffix(SOURCE_FAILED) {
+        Some(name) => str::from_utf8(name).unwrap_or(""),
+        None => "",
+    }
+}
+
+// The first of two names, or the second where that is empty.
+fn first_named<'a>(first: &'a str, second: &'a str) -> &'a str {
+    if first.is_empty() { second } else { first }
+}
+
+// Why the file of this name cannot be read, where that is known and is not its length.
+fn cause_of<C: Causes>(alloc: Global, name: &str, said: &[u8], causes: C) -> Option<Cause> {
+    if said.ends_with(FAILED) {
+        causes.cause(alloc, name)
+    } else {
+        None
+    }
+}
+
+// A line: why a file cannot be read, and its name.
+fn cause_line(alloc: Global, cause: Cause, name: &str) -> Result<Vec<u8>, AllocError> {
     let mut line = named(alloc, cause.words(), name.as_bytes())?;
     line.push(b'\n')?;
     Ok(line)
+}
+
+// What goes to standard error where a file cannot be read: why, and its name, where that is known; else what is said, behind
+// the name.
+fn unread_text<C: Causes>(
+    alloc: Global,
+    name: &str,
+    said: &[u8],
+    causes: C,
+) -> Result<Vec<u8>, AllocError> {
+    let file = file_by(first_named(name, name_before(said)));
+    match cause_of(alloc, file, said, causes) {
+        Some(cause) => cause_line(alloc, cause, file),
+        None => named(alloc, name, said),
+    }
 }
 
 /// What goes to standard error where a command says this and ends with this status: the file, and why.
@@ -141,8 +158,10 @@ pub fn error_text<C: Causes>(
     said: &[u8],
     causes: C,
 ) -> Result<Vec<u8>, AllocError> {
+    let name = file_of(matches, status, said);
     if status == Status::ReadFault {
-        return unread_text(alloc, matches, said, causes);
+        unread_text(alloc, name, said, causes)
+    } else {
+        named(alloc, name, said)
     }
-    named(alloc, file_of(matches, status, said), said)
 }

@@ -1,4 +1,8 @@
 //! What the words give.
+ghost use Rattle.std.specs.Prelude.{◌≡◌, codes, find, if◌then◌else◌};
+ghost use Rattle.std.specs.Option.{option_map_or};
+ghost use Rattle.std.specs.Str.{bytes_eq};
+
 use crate::table::Command;
 use clap::ArgMatches;
 use std::alloc::Global;
@@ -29,7 +33,9 @@ pub struct WordRow<T> {
 }
 
 /// What a word stands for; `other`, where it is in none of the rows.
-pub fn meant_by<T: Copy>(rows: &[WordRow<T>], word: &str, other: T) -> T {
+pub fn meant_by<T: Copy>(rows: &[WordRow<T>], word: &str, other: T) -> T
+    ensures { result ≡ option_map_or (λ row. row.means) (find (λ row. bytes_eq row.word.now word.now) rows.now) other }
+{
     for row in rows {
         if row.word == word {
             return row.means;
@@ -84,7 +90,9 @@ pub(crate) fn word_given<'a>(matches: &ArgMatches<'a>, name: &str) -> &'a str {
 }
 
 /// The file of a word: `-` is standard input.
-pub fn file_by<'a>(word: &'a str) -> &'a str {
+pub fn file_by<'a>(word: &'a str) -> &'a str
+    ensures { result.now ≡ if bytes_eq word.entry.now (codes "-") then codes "/dev/stdin" else word.entry.now }
+{
     match word {
         STANDARD_INPUT => STANDARD_INPUT_FILE,
         word => word,

@@ -1,4 +1,6 @@
 //! The table of commands: their names, what stands behind them, and their options.
+ghost use Rattle.std.specs.Prelude.{◌≡◌, find, option_map};
+ghost use Rattle.std.specs.Str.{bytes_eq};
 
 /// The most cycles of a run.
 const MOST_BUDGET: i64 = 100_000_000;
@@ -415,12 +417,19 @@ pub(crate) static COMMANDS: [CommandRow; 10] = [
     },
 ];
 
-/// The command of this name, if there is one.
-pub fn command_named(name: &str) -> Option<Command> {
-    for row in &COMMANDS {
+// The command of this name in a table, if there is one.
+fn command_in(rows: &[CommandRow], name: &str) -> Option<Command>
+    ensures { result ≡ option_map (λ row. row.command) (find (λ row. bytes_eq row.name.now name.now) rows.now) }
+{
+    for row in rows {
         if row.name == name {
             return Some(row.command);
         }
     }
     None
+}
+
+/// The command of this name, if there is one.
+pub fn command_named(name: &str) -> Option<Command> {
+    command_in(&COMMANDS, name)
 }

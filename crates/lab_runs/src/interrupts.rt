@@ -1,15 +1,18 @@
 //! The reply of `interrupts`.
-ghost use Rattle.std.specs.Prelude.{◌≤◌, ◌<◌, IfOk};
+ghost use Rattle.std.specs.Prelude.{◌≡◌, ◌≤◌, ◌<◌, [], IfOk};
+ghost use Rattle.mx_turn.specs.Run.{run_of};
+ghost use Rattle.lab_runs.specs.Runs.{loaded};
 
 use crate::replies::{or_memory, printed, refused, run_status};
 use crate::runs::GivenRun;
 use cmd_answer::{Failure, Reply, Status};
 use lab_line::{Asked, Form};
-use lab_measures::{Row, Run, Span, Sweep, Swept, cycles_in, pairs, run_with, singles};
+use lab_measures::{Row, Span, Sweep, Swept, cycles_in, pairs, singles};
 use lab_tables::{Places, places_of, sweep_csv, sweep_json, sweep_text};
 use lab_watch::Watcher;
 use mx_board::Requests;
 use mx_io::Memory;
+use mx_report::{Driven, drive};
 use std::alloc::Global;
 
 /// The most runs.
@@ -70,16 +73,21 @@ struct Sought {
     is_pairs: bool,
 }
 
-// A run without requests.
-fn undisturbed_run(alloc: Global, run: &GivenRun) -> Result<Run, Memory> {
-    let none = Requests::none(alloc);
-    let image = &run.program.linked.image;
-    run_with(alloc, image, run.asked_input(), &none, run.budget)
+// The run without requests. A watcher is told how far it has come.
+fn undisturbed_run<W: Watcher>(alloc: Global, run: &GivenRun, watcher: W) -> Result<Driven, Memory>
+    ensures halted { IfOk result (λ d. d.halted ≡ (run_of (loaded run.now) [] run.now.budget).halted) }
+    ensures cycles { IfOk result (λ d. d.counts.cycles ≡ (run_of (loaded run.now) [] run.now.budget).counts.cycles) }
+    ensures console { IfOk result (λ d. d.console.items ≡ (run_of (loaded run.now) [] run.now.budget).console) }
+{
+    let requests = Requests::none(alloc);
+    let mut machine = run.pipe(alloc, watcher)?;
+    let driven = drive(alloc, &mut machine, &requests, run.budget, 0)?;
+    Ok(driven)
 }
 
 // The last cycle of the run without requests.
-fn last_cycle(run: &GivenRun, undisturbed: &Run) -> u32 {
-    let cycles = undisturbed.driven.counts.cycles.saturating_sub(1);
+fn last_cycle(run: &GivenRun, undisturbed: &Driven) -> u32 {
+    let cycles = undisturbed.counts.cycles.saturating_sub(1);
     cycles.min(u64::from(run.budget)) as u32
 }
 
@@ -97,7 +105,7 @@ fn sought_in(asked: &Asked, last: u32) -> Result<Sought, Failure>
 fn rows_of<W: Watcher>(
     alloc: Global,
     run: &GivenRun,
-    undisturbed: &Run,
+    undisturbed: &Driven,
     sought: &Sought,
     cycles: &[u32],
     watcher: W,
@@ -106,7 +114,7 @@ fn rows_of<W: Watcher>(
         image: &run.program.linked.image,
         input: run.asked_input(),
         budget: run.budget,
-        undisturbed: undisturbed.driven.console.as_slice(),
+        undisturbed: undisturbed.console.as_slice(),
         cycles,
     };
     if sought.is_pairs {
@@ -120,7 +128,7 @@ fn rows_of<W: Watcher>(
 fn sweep_of<W: Watcher>(
     alloc: Global,
     run: &GivenRun,
-    undisturbed: &Run,
+    undisturbed: &Driven,
     sought: &Sought,
     watcher: W,
 ) -> Result<Sweep, Failure>
@@ -129,8 +137,8 @@ fn sweep_of<W: Watcher>(
     let cycles = cycles_in(alloc, sought.span)?;
     let rows = rows_of(alloc, run, undisturbed, sought, cycles.as_slice(), watcher)?;
     Ok(Sweep {
-        cycles: undisturbed.driven.counts.cycles,
-        halted: undisturbed.driven.halted,
+        cycles: undisturbed.counts.cycles,
+        halted: undisturbed.halted,
         span: sought.span,
         is_pairs: sought.is_pairs,
         rows,
@@ -172,7 +180,7 @@ fn all_halted(rows: &[Row]) -> bool {
 fn sweep_reply<W: Watcher>(
     asked: &Asked,
     run: &GivenRun,
-    undisturbed: &Run,
+    undisturbed: &Driven,
     watcher: W,
 ) -> Result<Reply, Failure> {
     let sought = sought_in(asked, last_cycle(run, undisturbed))?;
@@ -187,6 +195,6 @@ pub fn interrupts_reply<W: Watcher>(
     run: &GivenRun,
     watcher: W,
 ) -> Result<Reply, Failure> {
-    let undisturbed = undisturbed_run(asked.alloc, run)?;
+    let undisturbed = undisturbed_run(asked.alloc, run, watcher)?;
     sweep_reply(asked, run, &undisturbed, watcher)
 }

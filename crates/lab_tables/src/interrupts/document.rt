@@ -1,4 +1,5 @@
 //! A sweep as JSON.
+use super::interrupt::interrupt_of;
 use super::places::Places;
 use lab_json::{Document, Value};
 use lab_measures::{Bin, Row, Spread, Sums, Sweep, sums_of};
@@ -53,18 +54,17 @@ fn write_requests(document: &mut Document, row: &Row) {
 // Writes how the last request of a run became an interrupt, or null.
 fn write_interrupt(document: &mut Document, row: &Row, places: &Places) {
     document.push_key("interrupt");
-    let (Some(entry), Some((address, squashed)), Some(wait)) = (row.entry, row.killed(), row.wait())
-    else {
-        return document.push(Value::Null);
-    };
-    document.push_record(&[
-        ("taken", Value::Number(entry.taken)),
-        ("handler", Value::Number(entry.fetched)),
-        ("wait", Value::Signed(wait)),
-        ("address", Value::Number(u64::from(address))),
-        ("squashed", Value::Flag(squashed)),
-        ("line", Value::Number(u64::from(places.line_at(address)))),
-    ]);
+    match interrupt_of(row, places) {
+        Some(interrupt) => document.push_record(&[
+            ("taken", Value::Number(interrupt.taken)),
+            ("handler", Value::Number(interrupt.handler)),
+            ("wait", Value::Signed(interrupt.wait)),
+            ("address", Value::Number(u64::from(interrupt.address))),
+            ("squashed", Value::Flag(interrupt.squashed)),
+            ("line", Value::Number(u64::from(interrupt.line))),
+        ]),
+        None => document.push(Value::Null),
+    }
 }
 
 // Writes a run.

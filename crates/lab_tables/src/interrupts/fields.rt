@@ -22,8 +22,8 @@ static COLUMNS: [&str; 13] = [
     "same_console",
 ];
 
-// A number with a sign, if there is one.
-fn signed(number: Option<i64>) -> Option<i128> {
+/// A number with a sign, if there is one.
+pub(crate) fn signed(number: Option<i64>) -> Option<i128> {
     match number {
         Some(number) => Some(number as i128),
         None => None,

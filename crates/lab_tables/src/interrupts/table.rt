@@ -1,4 +1,5 @@
 //! The runs of a sweep as a table.
+use super::fields::signed;
 use super::interrupt::{Interrupt, interrupt_of};
 use super::places::Places;
 use lab_measures::{Row, Sweep};
@@ -52,20 +53,12 @@ fn ending_of(row: &Row) -> &'static str {
     }
 }
 
-// Appends what a run costs, or `-`.
-fn push_cost(table: &mut Writer, cost: Option<i64>) {
-    match cost {
-        Some(cost) => table.push_cell(Some(cost as i128), 7),
-        None => table.push_cell(None, 7),
-    }
-}
-
 // Appends a run.
 fn push_row(table: &mut Writer, sweep: &Sweep, row: &Row, places: &Places) {
     push_requests(table, row);
     push_entry(table, row, places);
     table.push_cell(Some(row.cycles as i128), 10);
-    push_cost(table, sweep.cost(row));
+    table.push_cell(signed(sweep.cost(row)), 7);
     table.push_str(ending_of(row));
 }
 
