@@ -48,6 +48,7 @@ file missing.c 'int f(void);' 'int main(void) {' '    return f();' '}'
 file missing_datum.c 'extern int there;' 'int *at = &there;' 'int main(void) { return *at; }'
 file float.s 'main:' '        add.s $f0,$f2,$f4' '        jr $31'
 file system.s 'main:' '        li $2,4001' '        syscall'
+file 'with a blank [0-9].c' 'int f(void);' 'int main(void) {' '    return f();' '}'
 mkdir "$work/folder" && cp "$work/float.s" "$work/folder" || exit 1
 for command in cc c; do
     end=()
@@ -58,6 +59,8 @@ for command in cc c; do
     wrong 1 'float.s:2: add.s: floating-point registers are not taken; compile with -msoft-float' $command float.s "${end[@]}"
     wrong 1 'folder/float.s:2: add.s: floating-point registers are not taken; compile with -msoft-float' $command folder/float.s "${end[@]}"
     wrong 1 'system.s:3: syscall: an instruction of the system' $command system.s "${end[@]}"
+    wrong 1 'with a blank [0-9].c:3: jal: a symbol that is defined nowhere: f' $command 'with a blank [0-9].c' "${end[@]}"
+    wrong 4 'mx: *.c: there is no such file, or it cannot be read' $command '*.c' "${end[@]}"
     wrong 1 'missing.c:3: jal: a symbol that is defined nowhere: f' $command missing.c "${end[@]}"
     wrong 1 'missing_datum.c: .word: a symbol that is defined nowhere: there' $command missing_datum.c "${end[@]}"
 done

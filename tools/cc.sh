@@ -50,7 +50,7 @@ compile_library() {
 # The place in C that the line $2 of the assembly $1 of a file comes from, or nothing where gcc tells none, as of data.
 place_in_c() {
     awk -v last="$2" '
-        $1 == ".file" && NF == 3 { gsub("\"", "", $3); names[$2] = $3 }
+        $1 == ".file" && $2 ~ /^[0-9]+$/ { name = $0; sub(/^[^"]*"/, "", name); sub(/"[^"]*$/, "", name); names[$2] = name }
         NR <= last && $1 ~ /^\.(text|s?data|rdata|s?bss|section|previous)$/ { place = "" }
         NR <= last && $1 == ".loc" { place = $2 " " $3 }
         END { if (split(place, it, " ")) print names[it[1]] ":" it[2] }' "$1"
