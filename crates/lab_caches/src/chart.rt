@@ -1,5 +1,6 @@
 //! Caches as a chart: misses by size.
 use super::study::{CacheRow, Study};
+use lab_terms::Geometry;
 use lab_writer::Writer;
 use std::alloc::{AllocError, Global};
 
@@ -14,13 +15,16 @@ static CURVES: [(u32, &str); 4] = [
     (8, "#2f62a8"),
 ];
 
-/// Where the plane of the chart lies, and how large it is.
+/// Where the plane of the chart begins, from the left.
 const LEFT: u64 = 70;
 
+/// The same from above.
 const TOP: u64 = 40;
 
+/// How wide the plane is.
 const WIDTH: u64 = 480;
 
+/// How high it is.
 const HEIGHT: u64 = 280;
 
 /// How many lines go across the plane.
@@ -50,6 +54,21 @@ fn share(misses: u64, fetches: u64) -> u64 {
         .saturating_mul(10_000)
         .checked_div(fetches)
         .unwrap_or(0)
+}
+
+// Whether two caches have lines alike, of which a miss brings as many words.
+fn are_alike(one: Geometry, other: Geometry) -> bool {
+    one.line == other.line && one.brings == other.brings
+}
+
+// The rows of the caches that were asked for, whose lines are alike. The machine's own cache stands before them where its are
+// others, and is no point of a curve then.
+fn asked(rows: &[CacheRow]) -> &[CacheRow] {
+    match rows {
+        [own, .., last] if are_alike(own.geometry, last.geometry) => rows,
+        [_, rest @ ..] => rest,
+        [] => rows,
+    }
 }
 
 // The share of the cache of a size and a number of ways, if it was looked at.
@@ -100,7 +119,7 @@ fn push_sizes(svg: &mut Writer) {
 
 // Appends the points of the curve of a number of ways.
 fn push_points(svg: &mut Writer, study: &Study, most: u64, ways: u32) {
-    let rows = study.rows.as_slice();
+    let rows = asked(study.rows.as_slice());
     for (index, size) in SIZES.iter().enumerate() {
         if let Some(part) = share_of(rows, study.counts.fetches, *size, ways) {
             svg.push_numbers(&["", ",", " "], &[across(index as u64), down(part, most)]);
@@ -111,9 +130,10 @@ fn push_points(svg: &mut Writer, study: &Study, most: u64, ways: u32) {
 // Appends the key to the curve of a number of ways.
 fn push_key(svg: &mut Writer, ways: u32, colour: &str) {
     let y = TOP.saturating_add(u64::from(ways).saturating_mul(18));
+    let name = if ways == 1 { "way" } else { "ways" };
     write!(
         svg,
-        "<text x=\"560\" y=\"{y}\" fill=\"{colour}\">{ways} ways</text>\n"
+        "<text x=\"560\" y=\"{y}\" fill=\"{colour}\">{ways} {name}</text>\n"
     );
 }
 
@@ -136,10 +156,10 @@ fn push_curves(svg: &mut Writer, study: &Study, most: u64) {
     }
 }
 
-// The greatest share of all rows, at least a hundredth of a per cent.
+// The greatest share on the chart, at least a hundredth of a per cent.
 fn greatest(study: &Study) -> u64 {
     let mut most = 1;
-    for row in study.rows.iter() {
+    for row in asked(study.rows.as_slice()) {
         most = most.max(share(row.misses, study.counts.fetches));
     }
     most

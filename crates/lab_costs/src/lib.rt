@@ -16,6 +16,5 @@ mod text;
 pub use document::profile_json;
 pub use events::callgrind;
 pub use grouping::By;
-pub use spent::spent_in;
 pub use subject::Subject;
 pub use text::profile_text;

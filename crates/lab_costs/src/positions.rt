@@ -64,7 +64,7 @@ fn number_of(digits: &[u8]) -> Option<u32> {
 // What stands behind the mark of a comment line.
 fn name_in(line: &[u8]) -> Option<&[u8]> {
     match line {
-        [b';', b' ', name @ .., b'\r'] | [b';', b' ', name @ ..] => Some(name),
+        [b';', b' ', name @ ..] => Some(name),
         _ => None,
     }
 }

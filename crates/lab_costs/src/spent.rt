@@ -3,7 +3,7 @@ use crate::subject::Subject;
 use lab_profile::{LineCost, Spent, total};
 
 /// What the cycles of a run were spent on, where these are the costs of the statements.
-pub fn spent_in(subject: &Subject, costs: &[LineCost]) -> Spent {
+pub(crate) fn spent_in(subject: &Subject, costs: &[LineCost]) -> Spent {
     let code = total(costs).plus(subject.behind());
     let handler = subject.handler();
     let stalls = code.stalls.saturating_add(handler.stalls);

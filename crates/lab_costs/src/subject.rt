@@ -1,4 +1,6 @@
 //! What is told of.
+ghost use Rattle.std.specs.Prelude.{◌≡◌, slice_index};
+
 use lab_profile::{LineCost, Profile, cost_at, line_costs, total};
 use mx_link::{Linked, Origin};
 use mx_source::Source;
@@ -48,7 +50,9 @@ impl<'a> Subject<'a> {
     }
 
     /// The line of a statement; 0 where there is none.
-    pub(crate) fn line_of(&self, statement: u32) -> u32 {
+    pub(crate) fn line_of(&self, statement: u32) -> u32
+        ensures { result ≡ slice_index self.now.source.now.lines statement }
+    {
         self.source
             .lines()
             .get(statement as usize)

@@ -2,7 +2,7 @@
 use crate::grouping::By;
 use crate::rows::{Row, rows_by};
 use crate::shown::{push_last, push_quotient};
-use crate::spans::lines_of;
+use crate::spans::{lines_of, without_return};
 use crate::spent::spent_in;
 use crate::subject::Subject;
 use lab_profile::{Column, LineCost, Profile, Spent};
@@ -16,9 +16,10 @@ use std::alloc::{AllocError, Global};
 /// The head of the table, but for what a row is named by.
 const HEAD: &str = "  line     count    cycles      %    CPI   stalls  no-ops squashed  killed  ";
 
-/// How wide the column of a line is, and how wide the numbers of a row are together.
+/// How wide the column of a line is.
 const LINE: usize = 6;
 
+/// How wide the numbers of a row are together.
 const NUMBERS: usize = 76;
 
 /// The head of what cycles were spent on.
@@ -122,7 +123,7 @@ fn push_lines(text: &mut Writer, subject: &Subject, rows: &[Row], copies: &[(u32
         let row = if statement < next { rows.next() } else { None };
         match row {
             Some(row) => push_part_row(text, subject, row, all),
-            None => push_bare_line(text, line),
+            None => push_bare_line(text, without_return(line)),
         }
         let next_copy = copies_to(copies, copy, next);
         push_copies(text, copies.get(copy..next_copy).unwrap_or(&[]));

@@ -6,10 +6,13 @@ use mx_image::ImageFile;
 use mx_isa::CODE_BASE;
 use std::alloc::{AllocError, Global};
 
+/// How many links an image file has at most: one for each statement, and one behind the last.
+const MOST_LINKS: usize = 20_001;
+
 // The statements from one to another, if there is one.
 fn statements_between(first: usize, behind: usize) -> Option<(u32, u32)> {
     if first < behind {
-        Some((first.min(20_001) as u32, behind.min(20_001) as u32))
+        Some((first.min(MOST_LINKS) as u32, behind.min(MOST_LINKS) as u32))
     } else {
         None
     }

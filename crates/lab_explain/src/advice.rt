@@ -1,10 +1,14 @@
 //! Why a meaning is stuck, and what helps.
+ghost use Rattle.std.specs.Prelude.{◌≡◌};
+ghost use Rattle.cmd_meaning.specs.Told.{why_text};
 
 use cmd_meaning::why_text;
 use mx_source::Why;
 
 /// The name of a reason, as `meaning` prints it.
-pub fn name_of(why: Why) -> &'static str {
+pub fn name_of(why: Why) -> &'static str
+    ensures { result.now ≡ why_text why }
+{
     why_text(why)
 }
 

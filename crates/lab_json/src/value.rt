@@ -1,4 +1,5 @@
 //! What stands in a document.
+ghost use Rattle.std.specs.Prelude.{◌≡◌, MatchOption};
 
 /// A value that is neither an object nor a list.
 #[derive(Clone, Copy)]
@@ -12,7 +13,9 @@ pub enum Value<'a> {
 
 impl Value<'_> {
     /// A number, or null.
-    pub fn number(number: Option<u64>) -> Value<'static> {
+    pub fn number(number: Option<u64>) -> Value<'static>
+        ensures { MatchOption number (result ≡ Value.Null) (λ n. result ≡ Value.Number n) }
+    {
         match number {
             Some(number) => Value::Number(number),
             None => Value::Null,
@@ -20,7 +23,9 @@ impl Value<'_> {
     }
 
     /// A number with a sign, or null.
-    pub fn signed(number: Option<i64>) -> Value<'static> {
+    pub fn signed(number: Option<i64>) -> Value<'static>
+        ensures { MatchOption number (result ≡ Value.Null) (λ n. result ≡ Value.Signed n) }
+    {
         match number {
             Some(number) => Value::Signed(number),
             None => Value::Null,

@@ -13,9 +13,10 @@ const COLUMNS: usize = 16;
 /// The columns before those of the cycles.
 const LABEL: usize = 36;
 
-/// The signs of a word, and of a line, at most.
+/// The signs of a word at most.
 const WORD: usize = 20;
 
+/// The signs of a line's number, with its mark, at most.
 const LINE: usize = 5;
 
 /// The columns of a cell.

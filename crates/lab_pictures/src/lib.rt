@@ -21,7 +21,7 @@ pub use bands::text;
 pub use document::html;
 pub use json_document::json;
 pub use konata::kanata;
-pub use lab_words::{NamedPlace, PlaceNames};
+pub use lab_words::PlaceNames;
 pub use picture::svg;
 pub use subject::Subject;
 pub use waves::vcd;

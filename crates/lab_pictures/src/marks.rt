@@ -1,8 +1,12 @@
 //! The names of stages, and the cells of rows.
+ghost use Rattle.std.specs.Prelude.{◌≡◌, ◌-◌, ◌∷◌, [], codes, nat_lt, slice_get, slice_index_or, unwrap_or, if◌then◌else◌};
+
 use lab_draw::{Cell, Row};
 
 /// The name of a stage by its number.
-pub fn stage_name(number: u8) -> &'static str {
+pub fn stage_name(number: u8) -> &'static str
+    ensures { result.now ≡ unwrap_or (slice_get (codes "IF" ∷ codes "RF" ∷ codes "ALU" ∷ codes "MEM" ∷ []) number) (codes "WB") }
+{
     match number {
         0 => "IF",
         1 => "RF",
@@ -13,7 +17,9 @@ pub fn stage_name(number: u8) -> &'static str {
 }
 
 /// What a row shows in the frame of a place.
-pub fn cell_of(row: &Row, place: usize) -> Cell {
+pub fn cell_of(row: &Row, place: usize) -> Cell
+    ensures { result ≡ (if nat_lt place row.now.begins then Cell.Nothing else slice_index_or row.now.cells.items (place - row.now.begins) Cell.Nothing) }
+{
     match place.checked_sub(row.begins) {
         Some(k) => match row.cells.get(k) {
             Some(cell) => *cell,

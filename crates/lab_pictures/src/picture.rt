@@ -8,22 +8,26 @@ use lab_draw::{Cell, Frame, Row};
 use lab_writer::Writer;
 use std::alloc::{AllocError, Global};
 
-/// The width of the labels, of a column, and the heights of a row and of the head.
+/// The width of the labels.
 const LABEL: u64 = 330;
 
+/// The width of a column.
 const COLUMN: u64 = 34;
 
+/// The height of a row.
 const ROW: u64 = 18;
+
+/// The height of the head, which has the numbers of the cycles and what came in them.
+const HEAD: u64 = 58;
+
+/// The height of the foot.
+const FOOT: u64 = 48;
 
 /// The signs of a row's word at most.
 const WORD: usize = 29;
 
 /// What stands behind a word.
 const END: &str = "</text>";
-
-const HEAD: u64 = 58;
-
-const FOOT: u64 = 48;
 
 /// From here on a cycle has a number that is wider than a column, and only every second one is told.
 const WIDE: u64 = 100_000;

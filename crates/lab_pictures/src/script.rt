@@ -61,7 +61,8 @@ data.listing.forEach(([address, word, text, origin, line, a, b, kind], k) =>
 const rows = data.rows.map(([address, begins, cells], k) => ({ address, begins, cells, fetch: data.first + k }))
   .filter(row => row.cells.trim() !== '');
 rows.forEach((row, k) => { row.k = k; });
-const labels = new Map(data.labels.map(([name, address, kind]) => [kind + address, name]));
+// Of several labels of one place the first: they stand the other way round here, since a map keeps the last.
+const labels = new Map(data.labels.map(([name, address, kind]) => [kind + address, name]).reverse());
 
 // The registers as a cycle leaves them. Those of each 64th cycle are kept.
 const kept = [];

@@ -2,7 +2,7 @@
 use lab_draw::Drawing;
 use lab_words::PlaceNames;
 use mx_code::decode;
-use mx_isa::Inst;
+use mx_isa::{CODE_BASE, Inst};
 use mx_link::{Linked, Origin};
 use mx_turn::SHIPPED;
 
@@ -46,7 +46,7 @@ impl Subject<'_> {
 
     /// The word at a code address, of the program or of the handler.
     pub fn word_at(&self, address: u32) -> Option<u32> {
-        match address.checked_sub(4096) {
+        match address.checked_sub(CODE_BASE) {
             Some(place) => word_in(self.linked.image.code.as_slice(), place),
             None => word_in(&HANDLER, address),
         }
@@ -68,7 +68,7 @@ impl Subject<'_> {
 
     // Where the word at a code address comes from, where one stands there.
     fn origin_at(&self, address: u32) -> (&'static str, Option<u32>) {
-        match address.checked_sub(4096) {
+        match address.checked_sub(CODE_BASE) {
             Some(place) => self.mark_of(self.code_origin(place)),
             None => ("h", None),
         }
