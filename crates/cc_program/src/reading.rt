@@ -9,8 +9,8 @@ use crate::program::Program;
 use crate::reach::reach;
 use crate::symbols::Meaning;
 use cc_lines::{
-    Directive, DirectiveLine, Line, LineError, Lines, Refusal, Section, Statement, label_before,
-    line_read, without_comment,
+    Directive, DirectiveLine, Line, LineError, Lines, MOST_LABELS, Refusal, Section, Statement,
+    label_before, line_read, without_comment,
 };
 use cc_rules::{file_key, has_slot};
 use indexmap::IndexMap;
@@ -100,9 +100,6 @@ pub struct Reader<'a> {
     /// The names that it defines.
     labels: Vec<&'a [u8]>,
 }
-
-/// How many labels may stand in one line.
-const MOST_LABELS: u32 = 256;
 
 /// What a directive tells of its name: whether it is its text's own, and if not, whether it is weak.
 #[derive(Clone, Copy)]

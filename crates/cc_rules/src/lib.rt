@@ -7,6 +7,6 @@ mod numbers;
 
 pub use instructions::{has_slot, is_comparison, is_last, special_register};
 pub use numbers::{
-    FIRST_BYTE, aligned, byte_of, file_key, in_reach, index_within, kept_number, place_in, quarter,
-    signed, words_with,
+    FIRST_BYTE, LIMIT, aligned, byte_of, file_key, in_reach, index_within, kept_number, place_in,
+    quarter, signed, words_with,
 };

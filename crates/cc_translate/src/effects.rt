@@ -2,8 +2,10 @@
 
 use cc_lines::{Instruction, LinkFrom, Operation, Register, Source, Special, Width};
 
+/// The bit of LO.
 pub(crate) const LO: u8 = 32;
 
+/// The bit of HI.
 pub(crate) const HI: u8 = 33;
 
 /// What a call may read: the arguments, and register 15, by which nested functions get theirs.

@@ -3,7 +3,7 @@ ghost use Rattle.std.specs.Prelude.{◌≤◌};
 
 use crate::output::{MASKS, Mask, Output, ROUTINES, Routine};
 use cc_program::{Meaning, Object, Program, Reference};
-use cc_rules::{kept_number, place_in, words_with};
+use cc_rules::{LIMIT, kept_number, place_in, words_with};
 use std::alloc::{AllocError, Global};
 
 /// What is said of a word of data besides its bytes.
@@ -21,9 +21,6 @@ struct Image {
     bytes: Vec<u8>,
     said: Vec<Said>,
 }
-
-/// The first byte behind the memory.
-const LIMIT: u32 = 4 * 65536;
 
 /// Writes a byte of the image.
 fn write_byte(image: &mut Image, at: usize, byte: u8) {
