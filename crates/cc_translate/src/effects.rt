@@ -1,4 +1,5 @@
 //! Which registers instructions read and write, as sets: a bit each, with LO as 32 and HI as 33.
+ghost use Rattle.std.specs.Prelude.{◌≡◌, ◌^◌, ◌<◌};
 
 use cc_lines::{Instruction, LinkFrom, Operation, Register, Source, Special, Width};
 
@@ -21,7 +22,9 @@ pub(crate) const RETURNED: u64 = 0xf0ff_000c;
 pub(crate) const ALL: u64 = 0x3_ffff_ffff;
 
 /// The set of one register.
-pub(crate) fn bit(number: u8) -> u64 {
+pub(crate) fn bit(number: u8) -> u64
+    ensures { number < 64 → result ≡ 2 ^ number }
+{
     1u64.wrapping_shl(u32::from(number))
 }
 
