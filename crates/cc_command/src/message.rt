@@ -1,12 +1,9 @@
 //! What is said where texts are not translated.
 
-use cc_lines::{Lines, first_word, label_before, without_comment};
+use cc_lines::{Lines, MOST_LABELS, first_word, label_before, without_comment};
 use cc_program::Fault;
 use cc_translate::TranslateError;
 use std::alloc::{AllocError, Global};
-
-/// How many labels may stand in one line.
-const MOST_LABELS: u32 = 256;
 
 /// The mnemonic or directive of the line with a number of a text, or its last label where it has labels alone.
 fn word_of(text: &[u8], number: u32) -> &[u8] {

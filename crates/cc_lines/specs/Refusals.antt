@@ -19,6 +19,7 @@ sentences =
     ∷ (codes "delay slots are not taken; compile with -fno-delayed-branch", refusal.DelaySlots)
     ∷ (codes "a text without its end", refusal.BadText)
     ∷ (codes "a character that a name may not have", refusal.BadName)
+    ∷ (codes "a name that is too long", refusal.LongName)
     ∷ (codes "an instruction outside a function", refusal.OutsideFunction)
     ∷ (codes "data without a label before it", refusal.OutsideObject)
     ∷ (codes "a symbol in less than a word, or in a word that is not on a word's place", refusal.UnalignedSymbol)

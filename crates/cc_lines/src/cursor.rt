@@ -189,7 +189,7 @@ fn with_digit(value: u32, base: u32, byte: u8) -> Option<u32> {
 
 /// The number that digits spell in a base of at most 16, if it is below 2^32.
 fn digits(text: &[u8], base: u32) -> Option<u32>
-    ensures some { text.now ≡ [] → result ≡ None }
+    ensures none { text.now ≡ [] → result ≡ None }
 {
     if text.is_empty() {
         return None;
@@ -210,7 +210,7 @@ fn unsigned(text: &[u8]) -> Option<u32> {
     }
 }
 
-/// The word that a text spells as a number from -2^32 to 2^32 - 1, with a sign or without, modulo 2^32.
+/// The word that a text spells as a number from -(2^32 - 1) to 2^32 - 1, with a sign or without, modulo 2^32.
 pub(crate) fn number(text: &[u8]) -> Option<u32> {
     match text {
         [b'-', rest @ ..] => match unsigned(trimmed_front(rest)) {

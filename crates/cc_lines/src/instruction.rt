@@ -7,12 +7,16 @@ ghost use Rattle.cc_lines.specs.Conditions.{holds};
 pub struct Register(pub u8);
 
 impl Register {
+    /// It is always 0.
     pub const ZERO: Register = Register(0);
 
+    /// The stack pointer.
     pub const STACK: Register = Register(29);
 
+    /// The frame pointer, in functions that have one.
     pub const FRAME: Register = Register(30);
 
+    /// Where a call leaves the place to return to.
     pub const LINK: Register = Register(31);
 }
 

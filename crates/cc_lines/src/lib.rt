@@ -19,7 +19,7 @@ pub use instruction::{
     Condition, Instruction, LinkFrom, Long, Operation, Register, Shift, Source, Special, Statement,
     Width,
 };
-pub use line::{Line, first_word, label_before, line_read};
+pub use line::{Line, MOST_LABELS, first_word, label_before, line_read};
 pub use operand::{Values, Word};
 pub use quoted::push_quoted;
 pub use refusal::{LineError, Refusal};

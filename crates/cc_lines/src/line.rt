@@ -9,6 +9,9 @@ use crate::instruction::Statement;
 use crate::reading::statement_read;
 use crate::refusal::Refusal;
 
+/// How many labels may stand in one line.
+pub const MOST_LABELS: u32 = 256;
+
 /// What stands behind the labels of a line.
 #[derive(Clone, Copy)]
 pub enum Line<'a> {

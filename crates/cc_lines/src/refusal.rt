@@ -17,6 +17,7 @@ pub enum Refusal {
     DelaySlots,
     BadText,
     BadName,
+    LongName,
     OutsideFunction,
     OutsideObject,
     UnalignedSymbol,
@@ -46,6 +47,7 @@ impl Refusal {
             Refusal::DelaySlots => "delay slots are not taken; compile with -fno-delayed-branch",
             Refusal::BadText => "a text without its end",
             Refusal::BadName => "a character that a name may not have",
+            Refusal::LongName => "a name that is too long",
             Refusal::OutsideFunction => "an instruction outside a function",
             Refusal::OutsideObject => "data without a label before it",
             Refusal::UnalignedSymbol =>

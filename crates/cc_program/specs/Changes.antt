@@ -1,5 +1,6 @@
 -- What becomes of symbols while texts are read, which only functions of this crate cite.
-use Rattle.std.specs.Prelude.{ℕ, Bool, true, false, ◌≡◌, not, ◌&&◌, ◌||◌, if◌then◌else◌, List, length, take, Some, option_map, unwrap_or, slice_get, slice_set}
+use Rattle.std.specs.Prelude.{ℕ, Bool, true, false, ◌≡◌, ◌⊎◌, not, ◌&&◌, ◌||◌, if◌then◌else◌, List, [], ◌∷◌, ◌++◌, length, take, Some, None, option_map, unwrap_or, slice_get, slice_set}
+use Rattle.std.specs.Borrow.{Bor}
 use Rattle.cc_program.specs.declared.symbols.Meaning.{Meaning}
 use Rattle.cc_program.specs.declared.symbols.Meaning.TheVariants.{Unknown}
 use Rattle.cc_program.specs.declared.symbols.Symbol.{Symbol}
@@ -33,6 +34,14 @@ marked symbol = record symbol { used = true }
 
 abbrev pub described : ℕ → Symbol → Symbol
 described datum symbol = record symbol { descriptor = Some datum }
+
+-- a name that nothing defines or uses so far. The owner is 0 where texts share it
+abbrev pub fresh : Bor (List ℕ) → ℕ → Symbol
+fresh name owner = record { name = name; owner = owner; meaning = Unknown; weak = false; used = false; descriptor = None }
+
+-- the symbols are those before, or those and this one behind them
+abbrev pub MayGain : Symbol → List Symbol → List Symbol → Type 0
+MayGain symbol before after = (after ≡ before) ⊎ (after ≡ before ++ symbol ∷ [])
 
 -- the symbols that stood there stand there
 abbrev pub Extends : List Symbol → List Symbol → Type 0

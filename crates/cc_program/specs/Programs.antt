@@ -1,8 +1,9 @@
 -- What is asked of a program.
-use Rattle.std.specs.Prelude.{ℕ, Bool, false, ◌≡◌, ◌*◌, ◌&&◌, leb, cond, List, [], length, Option, Some, option_map, unwrap_or, slice_get}
+use Rattle.std.specs.Prelude.{ℕ, Bool, false, ◌≡◌, ◌&&◌, leb, cond, List, [], length, Option, Some, option_map, unwrap_or, slice_get}
 use Rattle.std.specs.Fn.{iterate}
 use Rattle.std.specs.List.{between}
 use Rattle.std.specs.Option.{option_and_then}
+use Rattle.cc_rules.specs.declared.numbers.TheConstants.{LIMIT}
 use Rattle.cc_program.specs.declared.item.Item.{Item}
 use Rattle.cc_program.specs.declared.item.Function.{Function}
 use Rattle.cc_program.specs.declared.program.Program.{Program}
@@ -55,11 +56,11 @@ datum_address p datum = unwrap_or (option_map (λ o. o.standing.address) (option
 abbrev pub place_of : Program → ℕ → Option ℕ
 place_of p number = option_and_then (λ f. descriptor_of p.symbols.list.items f.symbol) (slice_get p.functions.items number)
 
--- of a datum its own address, of a function that of the datum that holds its place, and the end of the 65536 words of memory; else 0
+-- of a datum its own address, of a function that of the datum that holds its place, and the end of memory; else 0
 abbrev pub address_in : Program → Meaning → ℕ
 address_in p (Object datum) = datum_address p (Some datum)
 address_in p (FunctionMeaning number) = datum_address p (place_of p number)
-address_in p Limit = 4 * 65536
+address_in p Limit = LIMIT
 address_in p _ = 0
 
 abbrev pub address_of : Program → ℕ → ℕ

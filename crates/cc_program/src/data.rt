@@ -75,7 +75,7 @@ impl<'a> Reader<'a> {
         size: u32,
         align: u32,
     ) -> Result<(), LineError> {
-        let symbol = self.program.symbols.number(name)?;
+        let symbol = self.symbol(name)?;
         let number = number_behind(self.program.objects.len())?;
         self.define(symbol, Meaning::Object(number), weak)?;
         let object = Object::new(self.alloc, symbol, self.position.unit, size, align);
@@ -115,7 +115,7 @@ impl<'a> Reader<'a> {
         match value {
             Word::Number(value) => push_number(self.content()?, bytes, value),
             Word::Symbol(name, addend) => {
-                let symbol = self.program.symbols.number(name)?;
+                let symbol = self.symbol(name)?;
                 push_symbol(self.content()?, bytes, symbol, addend, line)
             }
         }

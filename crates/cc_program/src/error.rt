@@ -1,6 +1,7 @@
 //! Why texts are not read.
 ghost use Rattle.cc_program.specs.declared.error.ReadError.TheVariants.{Memory};
 ghost use Rattle.std.specs.Prelude.{◌≡◌};
+ghost use Rattle.cc_program.specs.Errors;
 
 use cc_lines::{LineError, Refusal};
 use std::alloc::{AllocError, AllocFailed};
@@ -35,7 +36,9 @@ impl<'a> From<AllocError> for ReadError<'a> {
 }
 
 /// The error of a line.
-pub(crate) fn error_at<'a>(unit: u32, line: u32, error: LineError) -> ReadError<'a> {
+pub(crate) fn error_at<'a>(unit: u32, line: u32, error: LineError) -> ReadError<'a>
+    ensures { result ≡ Errors.error_at unit line error }
+{
     match error {
         LineError::Refused(refusal) => ReadError::Fault(Fault {
             unit,

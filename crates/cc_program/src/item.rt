@@ -1,5 +1,5 @@
 //! What functions and data are made of.
-ghost use Rattle.std.specs.Prelude.{◌≡◌, ◌≤◌, ◌^◌, IfOk, OnErr};
+ghost use Rattle.std.specs.Prelude.{◌≡◌, ◌≤◌, ◌^◌, false, None, [], IfOk, OnErr};
 
 use cc_lines::Instruction;
 use std::alloc::{AllocError, Global};
@@ -49,7 +49,9 @@ pub struct Function {
 
 impl Function {
     /// A function without items, which would begin with this one.
-    pub(crate) fn new(symbol: u32, unit: u32, first: usize) -> Function {
+    pub(crate) fn new(symbol: u32, unit: u32, first: usize) -> Function
+        ensures { result ≡ record { symbol = symbol; unit = unit; first = first; end = first; points = false; frame = 0; saved_link = None; kept = false } }
+    {
         Function {
             symbol,
             unit,
@@ -99,7 +101,12 @@ pub struct Object {
 
 impl Object {
     /// A datum of zeros that nothing was found to need.
-    pub(crate) fn new(alloc: Global, symbol: u32, unit: u32, size: u32, align: u32) -> Object {
+    pub(crate) fn new(alloc: Global, symbol: u32, unit: u32, size: u32, align: u32) -> Object
+        ensures names { (result.symbol ≡ symbol) × (result.unit ≡ unit) }
+        ensures zeros { (result.content.size ≡ size) × (result.content.bytes.items ≡ []) × (result.content.references.items ≡ []) }
+        ensures standing { result.standing ≡ record { align = align; address = 0 } }
+        ensures unkept { result.kept ≡ false }
+    {
         Object {
             symbol,
             unit,

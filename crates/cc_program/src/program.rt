@@ -4,6 +4,7 @@ ghost use Rattle.cc_program.specs.Programs;
 
 use crate::item::{Function, Item, Object};
 use crate::symbols::{Meaning, Symbols};
+use cc_rules::LIMIT;
 use indexmap::IndexMap;
 use std::alloc::{AllocError, Global};
 
@@ -58,7 +59,7 @@ impl<'a> Program<'a> {
                 Some(function) => self.descriptor(function.symbol),
                 None => None,
             },
-            Meaning::Limit => return 4 * 65536,
+            Meaning::Limit => return LIMIT,
             _ => None,
         };
         match object {

@@ -1,6 +1,7 @@
 //! Reading the texts.
-ghost use Rattle.std.specs.Prelude.{IfOk};
+ghost use Rattle.std.specs.Prelude.{◌≡◌, ◌<◌, ◌↔◌, IfOk};
 ghost use Rattle.cc_program.specs.Programs;
+ghost use Rattle.cc_rules.specs.Names;
 
 use crate::error::{ReadError, error_at};
 use crate::item::{Function, Item, number_behind};
@@ -9,10 +10,10 @@ use crate::program::Program;
 use crate::reach::reach;
 use crate::symbols::Meaning;
 use cc_lines::{
-    Directive, DirectiveLine, Line, LineError, Lines, Refusal, Section, Statement, label_before,
-    line_read, without_comment,
+    Directive, DirectiveLine, Line, LineError, Lines, MOST_LABELS, Refusal, Section, Statement,
+    label_before, line_read, without_comment,
 };
-use cc_rules::{file_key, has_slot};
+use cc_rules::{LONGEST_NAME, file_key, has_slot, spelled_len};
 use indexmap::IndexMap;
 use std::alloc::{AllocError, Global};
 
@@ -100,9 +101,6 @@ pub struct Reader<'a> {
     /// The names that it defines.
     labels: Vec<&'a [u8]>,
 }
-
-/// How many labels may stand in one line.
-const MOST_LABELS: u32 = 256;
 
 /// What a directive tells of its name: whether it is its text's own, and if not, whether it is weak.
 #[derive(Clone, Copy)]
@@ -224,6 +222,19 @@ impl<'a> Reader<'a> {
         }
     }
 
+    /// The number of a name, if lines of a source have room for it.
+    pub(crate) fn symbol(&mut self, name: &'a [u8]) -> Result<u32, LineError>
+        ensures { result ≡ Err (LineError.Refused Refusal.LongName) ↔ LONGEST_NAME < Names.spelled_len name.now }
+    {
+        if spelled_len(name) > LONGEST_NAME {
+            return Err(LineError::Refused(Refusal::LongName));
+        }
+        match self.program.symbols.number(name) {
+            Ok(number) => Ok(number),
+            Err(_) => Err(LineError::Memory),
+        }
+    }
+
     /// Lets a symbol stand for something.
     pub(crate) fn define(
         &mut self,
@@ -253,7 +264,7 @@ impl<'a> Reader<'a> {
     fn begin_function(&mut self, name: &'a [u8]) -> Result<(), LineError> {
         self.end_function();
         let weak = self.is_weak(name);
-        let symbol = self.program.symbols.number(name)?;
+        let symbol = self.symbol(name)?;
         let number = self.program.functions.len();
         let meaning = Meaning::Function(number_behind(number)?);
         self.define(symbol, meaning, weak)?;
@@ -267,7 +278,7 @@ impl<'a> Reader<'a> {
 
     /// A label in code that is local to its function.
     fn place_label(&mut self, name: &'a [u8]) -> Result<(), LineError> {
-        let symbol = self.program.symbols.number(name)?;
+        let symbol = self.symbol(name)?;
         let Some(function) = self.position.code.function else {
             return Ok(());
         };
@@ -305,7 +316,7 @@ impl<'a> Reader<'a> {
             return Err(LineError::Refused(refusal));
         }
         let symbol = match read.symbol {
-            Some(name) => Some(self.program.symbols.number(name)?),
+            Some(name) => Some(self.symbol(name)?),
             None => None,
         };
         self.program.items.push(Item::Code {
@@ -339,14 +350,14 @@ impl<'a> Reader<'a> {
     /// One name for another.
     fn alias(&mut self, name: &'a [u8], target: &'a [u8]) -> Result<(), LineError> {
         let weak = self.is_weak(name);
-        let number = self.program.symbols.number(name)?;
-        let other = self.program.symbols.number(target)?;
+        let number = self.symbol(name)?;
+        let other = self.symbol(target)?;
         self.define(number, Meaning::Alias(other), weak)
     }
 
     /// `.weak`.
     fn weaken(&mut self, name: &'a [u8]) -> Result<(), LineError> {
-        let number = self.program.symbols.number(name)?;
+        let number = self.symbol(name)?;
         self.program.symbols.weaken(number);
         Ok(())
     }

@@ -1,5 +1,5 @@
 //! What names stand for.
-ghost use Rattle.std.specs.Prelude.{◌≡◌, IfOk, length, slice_get};
+ghost use Rattle.std.specs.Prelude.{◌≡◌, ◌++◌, ◌∷◌, [], IfOk, OnOk, OnErr, length, slice_get};
 ghost use Rattle.cc_program.specs.Changes;
 ghost use Rattle.cc_program.specs.Programs;
 
@@ -83,9 +83,12 @@ impl<'a> Symbols<'a> {
         self.own.clear();
     }
 
+    /// Adds a name that nothing defines so far.
     fn push(&mut self, name: &'a [u8], owner: u32) -> Result<u32, AllocError>
         ensures number { IfOk result (λ number. number ≡ length self.old.list.items) }
         ensures kept { Changes.Extends self.old.list.items self.new.list.items }
+        ensures pushed { OnOk result (self.new.list.items ≡ self.old.list.items ++ Changes.fresh name.entry owner ∷ []) }
+        ensures failed { OnErr result (self.new.list.items ≡ self.old.list.items) }
     {
         let number = number_behind(self.list.len())?;
         self.list.push(Symbol {
@@ -101,7 +104,8 @@ impl<'a> Symbols<'a> {
 
     /// Makes a name one of the text with this number, counted from 1.
     pub(crate) fn make_own(&mut self, name: &'a [u8], owner: u32) -> Result<(), AllocError>
-        ensures { Changes.Extends self.old.list.items self.new.list.items }
+        ensures kept { Changes.Extends self.old.list.items self.new.list.items }
+        ensures gained { Changes.MayGain (Changes.fresh name.entry owner) self.old.list.items self.new.list.items }
     {
         if self.own.get(name).is_none() {
             let number = self.push(name, owner)?;
@@ -112,7 +116,8 @@ impl<'a> Symbols<'a> {
 
     /// The number of a name in the current text.
     pub(crate) fn number(&mut self, name: &'a [u8]) -> Result<u32, AllocError>
-        ensures { Changes.Extends self.old.list.items self.new.list.items }
+        ensures kept { Changes.Extends self.old.list.items self.new.list.items }
+        ensures gained { Changes.MayGain (Changes.fresh name.entry 0) self.old.list.items self.new.list.items }
     {
         if let Some(number) = self.own.get(name) {
             return Ok(*number);

@@ -6,6 +6,9 @@ ghost use Rattle.cc_rules.specs.Numbers;
 /// The first address of data, in bytes.
 pub const FIRST_BYTE: u64 = 1024;
 
+/// The first byte behind the memory, which has 65536 words.
+pub const LIMIT: u32 = 262_144;
+
 /// The farthest that a load or a store reaches, in words.
 const REACH: u32 = 65535;
 
@@ -60,7 +63,7 @@ pub fn aligned(at: u64, align: u32) -> u64
 
 /// Where an address is in the image of all data.
 pub fn place_in(address: u32) -> usize
-    ensures { result ≡ address - 1024 }
+    ensures { result ≡ address - FIRST_BYTE }
 {
     u64::from(address).saturating_sub(FIRST_BYTE) as usize
 }

@@ -1,9 +1,12 @@
 //! Which registers instructions read and write, as sets: a bit each, with LO as 32 and HI as 33.
+ghost use Rattle.std.specs.Prelude.{◌≡◌, ◌^◌, ◌<◌};
 
 use cc_lines::{Instruction, LinkFrom, Operation, Register, Source, Special, Width};
 
+/// The bit of LO.
 pub(crate) const LO: u8 = 32;
 
+/// The bit of HI.
 pub(crate) const HI: u8 = 33;
 
 /// What a call may read: the arguments, and register 15, by which nested functions get theirs.
@@ -19,7 +22,9 @@ pub(crate) const RETURNED: u64 = 0xf0ff_000c;
 pub(crate) const ALL: u64 = 0x3_ffff_ffff;
 
 /// The set of one register.
-pub(crate) fn bit(number: u8) -> u64 {
+pub(crate) fn bit(number: u8) -> u64
+    ensures { number < 64 → result ≡ 2 ^ number }
+{
     1u64.wrapping_shl(u32::from(number))
 }
 

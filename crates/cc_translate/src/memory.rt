@@ -8,12 +8,14 @@ use cc_program::Function;
 use cc_rules::signed;
 use std::alloc::AllocError;
 
-/// Registers for what a statement needs between its words. Texts of several statements name them as r1, r26 and r27, and r22
-/// where three are not enough.
+/// The first of the registers for what a statement needs between its words. Texts of several statements name them as r1, r26 and
+/// r27, and r22 where three are not enough.
 pub(crate) const FIRST: u8 = 1;
 
+/// The second one.
 pub(crate) const SECOND: u8 = 26;
 
+/// The third one.
 const THIRD: u8 = 27;
 
 /// The word of the input.

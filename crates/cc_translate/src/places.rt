@@ -1,10 +1,10 @@
 //! Where data are, with each pointer divided by 4 once as long as it is known.
 
-use crate::effects::{HI, bit, writes};
+use crate::effects::{HI, bit, of, writes};
 use crate::plan::{Place, Plan, Step};
 use cc_lines::{Instruction, LinkFrom, Long, Operation, Register, Source, Width};
 use cc_program::{Function, Item, Meaning, Program};
-use cc_rules::{byte_of, in_reach, quarter};
+use cc_rules::{byte_of, in_reach, is_last, quarter};
 
 /// The register with the stack pointer / 4.
 pub(crate) const STACK_WORDS: u8 = 28;
@@ -12,8 +12,13 @@ pub(crate) const STACK_WORDS: u8 = 28;
 /// The register with the frame pointer / 4, in functions that have one.
 pub(crate) const FRAME_WORDS: u8 = 23;
 
+/// The registers that take quotients of pointers in any function.
+const FIRST_QUOTIENT: u8 = 22;
+
+const SECOND_QUOTIENT: u8 = 27;
+
 /// The registers that take quotients of pointers: the last one only in functions without a frame pointer.
-static QUOTIENTS: [u8; 3] = [22, 27, FRAME_WORDS];
+static QUOTIENTS: [u8; 3] = [FIRST_QUOTIENT, SECOND_QUOTIENT, FRAME_WORDS];
 
 /// What is known of a register.
 #[derive(Clone, Copy)]
@@ -173,7 +178,7 @@ impl Knowledge {
             .as_slice()
             .get(usize::from(turn))
             .copied()
-            .unwrap_or(22);
+            .unwrap_or(FIRST_QUOTIENT);
         self.forget_base(register);
         register
     }
@@ -287,10 +292,10 @@ impl Knowledge {
     /// Forgets what is known of registers that are written, and by way of their quarters.
     fn forget_written(&mut self, written: u64) {
         self.forget(written);
-        if written & bit(29) != 0 {
+        if written & of(Register::STACK) != 0 {
             self.forget_base(STACK_WORDS);
         }
-        if self.points && written & bit(30) != 0 {
+        if self.points && written & of(Register::FRAME) != 0 {
             self.forget_base(FRAME_WORDS);
         }
     }
@@ -319,9 +324,9 @@ fn target(instruction: &Instruction) -> Option<Register> {
 }
 
 /// Registers that statements use between their words.
-static MOST_SCRATCH: [u8; 2] = [22, 27];
+static MOST_SCRATCH: [u8; 2] = [FIRST_QUOTIENT, SECOND_QUOTIENT];
 
-static SCRATCH: [u8; 1] = [27];
+static SCRATCH: [u8; 1] = [SECOND_QUOTIENT];
 
 /// Whether a load or a store is of a far datum.
 fn is_far(plan: &Plan) -> bool {
@@ -352,14 +357,6 @@ fn clobbered(instruction: &Instruction, plan: &Plan) -> &'static [u8] {
         Instruction::Call(_) => &QUOTIENTS,
         _ => &[],
     }
-}
-
-/// Whether what is known is lost behind an instruction.
-fn ends(instruction: &Instruction) -> bool {
-    matches!(
-        instruction,
-        Instruction::Jump(LinkFrom::Symbol | LinkFrom::Register(_)) | Instruction::Break
-    )
 }
 
 /// The address of the symbol of a statement: 0 where it has none, and none where it is a place.
@@ -431,7 +428,7 @@ fn place_one(
         place_datum(knowledge, datum, address.unwrap_or(0), plan);
     }
     knowledge.learn(instruction, plan, address);
-    if ends(instruction) {
+    if is_last(instruction) {
         knowledge.forget_all();
     }
 }

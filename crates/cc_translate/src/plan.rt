@@ -1,4 +1,6 @@
 //! What looking over several statements leaves for each of them.
+ghost use Rattle.std.specs.Prelude.{◌≡◌, ℕ, not};
+ghost use Rattle.cc_lines.specs.Conditions.{holds};
 
 use cc_lines::{Condition, Instruction, Register, Source};
 
@@ -23,7 +25,10 @@ pub(crate) struct Comparison {
 
 impl Comparison {
     /// The comparison that holds where this one does not.
-    pub(crate) fn opposite(self) -> Comparison {
+    pub(crate) fn opposite(self) -> Comparison
+        ensures condition { (a b : ℕ) → holds result.condition a b ≡ not (holds self.condition a b) }
+        ensures operands { (result.rs ≡ self.rs) × (result.second ≡ self.second) }
+    {
         Comparison {
             condition: self.condition.opposite(),
             rs: self.rs,

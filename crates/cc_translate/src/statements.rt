@@ -438,9 +438,9 @@ fn operation(
     second: Source,
 ) -> Result<(), AllocError> {
     match (op, rd, second) {
-        (_, Register(29), _) => move_stack(out, function, op, rs, second),
-        (_, Register(0), _) => Ok(()),
-        (Operation::Add | Operation::Or, _, Source::Register(Register(0))) => {
+        (_, Register::STACK, _) => move_stack(out, function, op, rs, second),
+        (_, Register::ZERO, _) => Ok(()),
+        (Operation::Add | Operation::Or, _, Source::Register(Register::ZERO)) => {
             move_statement(out, function, rd, rs)
         }
         _ => compute(out, op, rd.0, rs, second),

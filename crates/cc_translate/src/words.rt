@@ -3,7 +3,7 @@ ghost use Rattle.std.specs.Prelude.{◌≤◌};
 
 use crate::output::{MASKS, Mask, Output, ROUTINES, Routine};
 use cc_program::{Meaning, Object, Program, Reference};
-use cc_rules::{kept_number, place_in, words_with};
+use cc_rules::{LIMIT, kept_number, place_in, spelled_len, words_with};
 use std::alloc::{AllocError, Global};
 
 /// What is said of a word of data besides its bytes.
@@ -21,9 +21,6 @@ struct Image {
     bytes: Vec<u8>,
     said: Vec<Said>,
 }
-
-/// The first byte behind the memory.
-const LIMIT: u32 = 4 * 65536;
 
 /// Writes a byte of the image.
 fn write_byte(image: &mut Image, at: usize, byte: u8) {
@@ -210,6 +207,51 @@ fn put_label(out: &mut Output, program: &Program, number: u32) -> Result<(), All
     }
 }
 
+/// Goes on with a number that is not 0.
+fn put_number(out: &mut Output, writing: Writing, word: u32) -> Result<Writing, AllocError> {
+    let writing = before_word(out, writing)?;
+    out.number(i64::from(word))?;
+    Ok(writing)
+}
+
+/// The longest name that may share a line with other words, so that no line of them is too long.
+const LONGEST_SHARED: usize = 16;
+
+/// Whether the name of a symbol may share a line with other words.
+fn may_share(program: &Program, symbol: u32) -> bool {
+    match program.symbols.at(program.symbols.resolved(symbol)) {
+        Some(symbol) => spelled_len(symbol.name) <= LONGEST_SHARED,
+        None => true,
+    }
+}
+
+/// Goes on with the name of a symbol.
+fn put_name(
+    out: &mut Output,
+    program: &Program,
+    writing: Writing,
+    symbol: u32,
+) -> Result<Writing, AllocError> {
+    let writing = before_word(out, writing)?;
+    out.name(&program.symbols, symbol)?;
+    Ok(writing)
+}
+
+/// Goes on with the place of a symbol, which has a line of its own where its name is long.
+fn put_place(
+    out: &mut Output,
+    program: &Program,
+    writing: Writing,
+    symbol: u32,
+) -> Result<Writing, AllocError> {
+    if may_share(program, symbol) {
+        return put_name(out, program, writing, symbol);
+    }
+    let writing = end_line(out, writing)?;
+    let writing = put_name(out, program, writing, symbol)?;
+    end_line(out, writing)
+}
+
 /// Goes on with a word, which is the place of a symbol, or a number.
 fn put_word(
     out: &mut Output,
@@ -218,16 +260,11 @@ fn put_word(
     place: u32,
     word: u32,
 ) -> Result<Writing, AllocError> {
-    let symbol = kept_number(place);
-    if symbol.is_none() && word == 0 {
-        return put_zero(out, writing);
+    match kept_number(place) {
+        Some(symbol) => put_place(out, program, writing, symbol),
+        None if word == 0 => put_zero(out, writing),
+        None => put_number(out, writing, word),
     }
-    let writing = before_word(out, writing)?;
-    match symbol {
-        Some(symbol) => out.name(&program.symbols, symbol)?,
-        None => out.number(i64::from(word))?,
-    }
-    Ok(writing)
 }
 
 /// Ends the line that is being written where a datum begins, and adds the label of that.

@@ -1,0 +1,11 @@
+-- Why texts are not read, which only functions of this crate cite.
+use Rattle.std.specs.Prelude.{ℕ, None}
+use Rattle.cc_lines.specs.declared.refusal.LineError.{LineError}
+use Rattle.cc_lines.specs.declared.refusal.LineError.TheVariants.{Refused, Memory as LineMemory}
+use Rattle.cc_program.specs.declared.error.ReadError.{ReadError}
+use Rattle.cc_program.specs.declared.error.ReadError.TheVariants.{Fault, Memory}
+
+-- a line of a text is refused, or memory ran out
+abbrev pub error_at : ℕ → ℕ → LineError → ReadError
+error_at unit line (Refused refusal) = Fault (record { unit = unit; line = line; refusal = refusal; symbol = None })
+error_at unit line LineMemory = Memory
