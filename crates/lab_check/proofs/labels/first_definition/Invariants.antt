@@ -4,4 +4,5 @@ use Rattle.std.specs.Str.{bytes_eq}
 use Rattle.lab_check.proofs.labels.first_definition.Given as goal
 
 abbrev pub invariant-loop-definition : goal.invariant-loop-definition
-invariant-loop-definition l = find (λ definition. bytes_eq definition.name.now l.name) l.definitions ≡ find (λ definition. bytes_eq definition.name.now l.name) (drop l.definition-index l.definitions)
+invariant-loop-definition l =
+    find (λ d. bytes_eq d.name.now l.name) l.definitions ≡ find (λ d. bytes_eq d.name.now l.name) (drop l.definition-index l.definitions)
