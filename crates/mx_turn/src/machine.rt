@@ -63,6 +63,8 @@ pub trait Machine {
 
     /// As many cycles without a request as it does at once, at most `most`, which are those that `cycle` does one by one:
     /// their bytes go to the console, and it answers how many they are. It does not halt in them. 0 is always right.
+    ///
+    /// After an error, which is want of memory, no clause describes the machine: let it go, and do not use it again.
     fn advance(&mut self, most: u64, console: &mut Vec<u8>) -> Result<u64, AllocError>
         requires { cycles self.old + most ≤ 2 ^ 63 }
         ensures most { IfOk result (λ n. n ≤ most) }
