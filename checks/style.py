@@ -55,7 +55,7 @@ def sentences(text):
     text = re.sub(r"!?\[([^\]]*)\]\([^)]*\)", r"\1", text)
     text = re.sub(r"<[^<>]*>", " ", text)
     text = text.replace(" .. ", " ").replace("e.g.", "eg").replace("i.e.", "ie")
-    return [part.strip() for part in re.split(r"(?<=[.!?:])[\s*)]+(?=[A-Z0-9`*\[\"])", text) if part.strip()]
+    return [part.strip() for part in re.split(r"(?<=[.!?:])[\s*)]+(?=[A-Z0-9`*\[\"]|r\d)", text) if part.strip()]
 
 
 def length(sentence):
