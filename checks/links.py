@@ -8,24 +8,26 @@ It prints each finding as FILE:LINE: WHAT, then how many links, anchors and name
 nowhere, or if it followed none of a kind."""
 import os
 import re
-import subprocess
 import sys
 
 TOP = os.path.dirname(os.path.dirname(os.path.abspath(__file__)))
 
 # Names of files that a document shows as an example, or that a command makes.
-MADE = {"faulty.s", "x.s", "sorts.s", "second.c", "missing.c", "NAME.c", "OUT.s", "main.rs", "x.md", "f.s", "p.s", "run.sh"}
+MADE = {"_.s", "faulty.s", "x.s", "sorts.s", "second.c", "missing.c", "NAME.c", "OUT.s", "main.rs", "x.md", "f.s", "p.s", "run.sh"}
 KINDS = r"\.(?:md|py|sh|s|c|h|json|svg|png|rt|antt|txt|cff|edit|plans|html|mxi)$"
 ROOTS = ("docs/", "checks/", "tools/", "crates/", "examples/", "bench/", "lib/", "include/", "python/", "editors/")
 
 
-def tracked():
-    """Returns the files below git, and those that are new."""
-    out = subprocess.run(["git", "-C", TOP, "ls-files", "-co", "--exclude-standard"], capture_output=True, text=True, check=True)
-    return [name for name in out.stdout.split("\n") if name and os.path.exists(f"{TOP}/{name}")]
+def all_files():
+    """Returns the files of the repository, without what is built."""
+    found = []
+    for folder, inner, names in os.walk(TOP):
+        inner[:] = [name for name in inner if name not in (".git", ".mx", "out", "built", "__pycache__")]
+        found += [os.path.relpath(f"{folder}/{name}", TOP) for name in names]
+    return sorted(found)
 
 
-FILES = tracked()
+FILES = all_files()
 FOLDERS = {"/".join(name.split("/")[:depth]) for name in FILES for depth in range(1, name.count("/") + 1)}
 KNOWN = set(FILES) | FOLDERS
 
@@ -80,11 +82,14 @@ def names_a_file(span):
     return bool(re.search(KINDS, span) and re.search(r"\w\.\w", span)) or span.startswith(ROOTS)
 
 
-def main(words):
-    if "--help" in words:
+def main(arguments):
+    if "--help" in arguments:
         print(__doc__)
         return 0
-    chosen = {os.path.relpath(os.path.abspath(word), TOP) for word in words}
+    chosen = {os.path.relpath(os.path.abspath(name), TOP) for name in arguments}
+    for name in chosen - set(FILES):
+        print(f"links.py: there is no file {name}", file=sys.stderr)
+        return 2
     found, links, pointed, names = 0, 0, 0, 0
 
     def say(path, number, what):
@@ -118,7 +123,8 @@ def main(words):
                 unlinked = re.sub(r"\[[^\]]*\]\([^)]*\)", "", line)
                 for name in re.findall(r"[\w/.-]+\.md\b", unlinked):
                     say(path, number, f"{name} is named and not linked")
-    print(f"{links} links, {pointed} anchors and {names} names followed; {found} lead nowhere")
+    print(f"{links:,} links, {pointed:,} anchors and {names:,} names; {found} lead nowhere")
+    print(f"links: compared {links + names:,} links and names")
     return 1 if found or not chosen and not (links and pointed and names) else 0
 
 

@@ -4,14 +4,12 @@
 usage: checks/style.py [--list] [FILE ..]
 
 It reads every Markdown document, the texts of ./mx and of tools/*.py that are printed, the strings of the crates that print
-(cmd_, lab_, cc_, mx_run, mx_serve), and tools/serve/page.html. It prints each finding as FILE:LINE: RULE: TEXT, then how many
-sentences it read and how many findings there are, and ends with 1 if there is one, or if it read nothing of some kind.
+(cmd_, lab_, cc_, mx_run, mx_serve), and tools/serve/page.html. It prints each finding as FILE:LINE: RULE: TEXT. Then it prints
+how many sentences it read of each kind. It ends with 1 if there is a finding, or if it read no sentence of some kind.
 With --list it prints the sentences that it reads. With FILE it reads only these files."""
 import ast
-import glob
 import os
 import re
-import subprocess
 import sys
 
 TOP = os.path.dirname(os.path.dirname(os.path.abspath(__file__)))
@@ -43,15 +41,19 @@ EXCEPTIONS = [
 CRATES = ("cmd_", "lab_", "cc_", "mx_run", "mx_serve", "mx_faults", "mx_report", "mx_lab", "mx_cc")
 
 
-def tracked(pattern):
-    """Returns the files below git, and those that are new, that match a pattern."""
-    out = subprocess.run(["git", "-C", TOP, "ls-files", "-co", "--exclude-standard", pattern], capture_output=True, text=True, check=True)
-    return sorted({name for name in out.stdout.split("\n") if name and os.path.isfile(f"{TOP}/{name}")})
+def files_like(pattern):
+    """Returns the files of the repository whose names match a pattern, without what is built."""
+    found = []
+    for folder, inner, names in os.walk(TOP):
+        inner[:] = sorted(name for name in inner if name not in (".git", ".mx", "out", "built", "__pycache__"))
+        found += [os.path.relpath(f"{folder}/{name}", TOP) for name in names]
+    return sorted(name for name in found if re.fullmatch(pattern, name))
 
 
 def sentences(text):
     """Splits a text into sentences."""
     text = re.sub(r"`[^`]*`", "CODE", text)
+    text = re.sub(r"(?<=[.:] )!?\[[^\]]*\]\([^)]*\)", "Link", text)
     text = re.sub(r"!?\[([^\]]*)\]\([^)]*\)", r"\1", text)
     text = re.sub(r"<[^<>]*>", " ", text)
     text = text.replace(" .. ", " ").replace("e.g.", "eg").replace("i.e.", "ie")
@@ -177,11 +179,11 @@ def of_page(path):
 
 def sources():
     """Returns the kinds of text, each with its files and its reader."""
-    rattle = [path for path in tracked("crates/*/src/*.rt") if path.split("/")[1].startswith(CRATES) and "tests" not in path]
+    rattle = [path for path in files_like(r"crates/\w+/src/.*\.rt") if path.split("/")[1].startswith(CRATES) and "tests" not in path]
     return [
-        ("documents", tracked("*.md"), of_markdown),
+        ("documents", files_like(r".*\.md"), of_markdown),
         ("help", ["mx"], of_shell),
-        ("scripts", tracked("tools/*.py") + tracked("tools/serve/*.py"), of_python),
+        ("scripts", files_like(r"tools/(serve/)?\w+\.py"), of_python),
         ("messages", rattle, of_rattle),
         ("page", ["tools/serve/page.html"], of_page),
     ]
@@ -191,34 +193,38 @@ def excepted(path, rule, sentence):
     return any(path == file and name in (None, rule) and (piece is None or piece in sentence) for file, name, piece, _ in EXCEPTIONS)
 
 
-def main(words):
-    show, files = "--list" in words, [os.path.relpath(os.path.abspath(word), TOP) for word in words if word != "--list"]
-    if "--help" in words:
+def findings(sentence):
+    """Returns what the rules find in a sentence."""
+    found = [name for name, pattern in RULES if re.search(pattern, sentence)]
+    return found + [f"{length(sentence)} words"] if length(sentence) > LONGEST else found
+
+
+def main(arguments):
+    if "--help" in arguments:
         print(__doc__)
         return 0
-    found, empty, counts = 0, [], {}
+    show, chosen = "--list" in arguments, [os.path.relpath(os.path.abspath(name), TOP) for name in arguments if name != "--list"]
+    for name in chosen:
+        if not os.path.isfile(f"{TOP}/{name}"):
+            print(f"style.py: there is no file {name}", file=sys.stderr)
+            return 2
+    found, counts = 0, {}
     for kind, paths, reader in sources():
-        counts[kind] = 0
-        for path in paths:
-            if files and path not in files:
-                continue
-            for number, text in reader(path):
-                for sentence in sentences(text):
-                    counts[kind] += 1
-                    if show:
-                        print(f"{path}:{number}: {sentence}")
-                    rules = [name for name, pattern in RULES if re.search(pattern, sentence)]
-                    if length(sentence) > LONGEST:
-                        rules.append(f"{length(sentence)} words")
-                    for rule in rules:
-                        if not excepted(path, rule, sentence):
-                            found += 1
-                            print(f"{path}:{number}: {rule}: {sentence}")
-        if not counts[kind] and not files:
-            empty.append(kind)
+        read = [(path, number, sentence) for path in paths if path in chosen or not chosen
+                for number, text in reader(path) for sentence in sentences(text)]
+        counts[kind] = len(read)
+        for path, number, sentence in read:
+            if show:
+                print(f"{path}:{number}: {sentence}")
+            for rule in findings(sentence):
+                if not excepted(path, rule, sentence):
+                    found += 1
+                    print(f"{path}:{number}: {rule}: {sentence}")
+    empty = [kind for kind, count in counts.items() if not count and not chosen]
     for kind in empty:
         print(f"no sentence of {kind} was read")
-    print(", ".join(f"{number} sentences of {kind}" for kind, number in counts.items()) + f"; {found} findings")
+    print(", ".join(f"{count:,} of {kind}" for kind, count in counts.items()) + f"; {found} findings")
+    print(f"style: compared {sum(counts.values()):,} sentences")
     return 1 if found or empty or not sum(counts.values()) else 0
 
 

@@ -7,7 +7,9 @@ A block of code that is marked `console` has commands, each after `$ `, and afte
 standard error together. A line `..` is any number of lines. A command that does not end with 0 has a comment `# exit N`.
 The commands of a document run in a folder of their own, in order, which has links to the files of the repository: so a
 command may write a file, and no tracked file is changed. Commands in C need gcc-mips-linux-gnu, and are left out without it.
-It prints how many commands ran and how many lines it compared, and ends with 1 if one differs, or if a lesson has none."""
+The programs are those of MX_RUN, MX_LAB and MX_CC if these are set, else those that ./mx takes.
+It prints how many commands ran and how many lines it compared, and ends with 1 if one differs, or if a lesson has none.
+With MX_SAMPLE=1 it takes README and the first three lessons."""
 import os
 import re
 import shutil
@@ -18,6 +20,8 @@ from typing import NamedTuple
 
 TOP = os.path.dirname(os.path.dirname(os.path.abspath(__file__)))
 LESSONS = "docs/tutorial/"
+SAMPLE = r"README.md|docs/tutorial/[123]"
+PROGRAMS = {"mx_run": "MX_RUN", "mx_lab": "MX_LAB", "mx_cc": "MX_CC"}
 
 
 class Step(NamedTuple):
@@ -30,8 +34,12 @@ class Step(NamedTuple):
 
 def documents():
     """Returns the documents that show a command with its output."""
-    out = subprocess.run(["git", "-C", TOP, "ls-files", "-co", "--exclude-standard", "*.md"], capture_output=True, text=True, check=True)
-    return [name for name in out.stdout.split() if os.path.exists(f"{TOP}/{name}") and "```console" in open(f"{TOP}/{name}", encoding="utf-8").read()]
+    found = []
+    for folder, inner, names in os.walk(TOP):
+        inner[:] = sorted(name for name in inner if name not in (".git", ".mx", "out", "built", "crates"))
+        found += [os.path.relpath(f"{folder}/{name}", TOP) for name in sorted(names) if name.endswith(".md")]
+    found = [name for name in found if "```console" in open(f"{TOP}/{name}", encoding="utf-8").read()]
+    return [name for name in found if re.match(SAMPLE, name)] if os.environ.get("MX_SAMPLE") == "1" else found
 
 
 def steps(path):
@@ -56,11 +64,17 @@ def fits(wanted, printed):
 
 
 def room():
-    """Makes a folder with links to what is in the repository."""
-    folder = tempfile.mkdtemp()
+    """Makes a folder with links to what is in the repository. With programs that are given, ./mx there takes these."""
+    folder, given = tempfile.mkdtemp(), {name: os.environ[key] for name, key in PROGRAMS.items() if os.environ.get(key)}
     for name in os.listdir(TOP):
-        if name not in (".git", "out"):
+        if name not in (".git", "out") and not (given and name in (".mx", "mx")):
             os.symlink(f"{TOP}/{name}", f"{folder}/{name}")
+    if given:
+        shutil.copy(f"{TOP}/mx", f"{folder}/mx")
+        os.mkdir(f"{folder}/.mx")
+        for name, path in given.items():
+            shutil.copyfile(path, f"{folder}/.mx/{name}")
+            os.chmod(f"{folder}/.mx/{name}", 0o755)
     return folder
 
 
@@ -72,13 +86,15 @@ def run(command, folder):
     return done.returncode, done.stdout.decode("utf-8", "replace").split("\n")[:-1]
 
 
-def main(words):
-    if "--help" in words:
+def main(arguments):
+    if "--help" in arguments:
         print(__doc__)
         return 0
-    chosen = [os.path.relpath(os.path.abspath(word), TOP) for word in words] or documents()
-    for name in ("mx_run", "mx_lab"):
-        run(f"./mx --quick {'run examples/hello.s' if name == 'mx_run' else 'check examples/hello.s'}", TOP)
+    chosen = [os.path.relpath(os.path.abspath(name), TOP) for name in arguments] or documents()
+    for path in chosen:
+        if not os.path.isfile(f"{TOP}/{path}"):
+            print(f"tutorial.py: there is no document {path}", file=sys.stderr)
+            return 2
     has_gcc = shutil.which("mips-linux-gnu-gcc") is not None
     commands = lines = left = wrong = 0
     for path in chosen:
@@ -91,13 +107,14 @@ def main(words):
             commands, count, lines = commands + 1, count + 1, lines + len(step.wanted)
             if status != step.status or not fits(step.wanted, printed):
                 wrong += 1
-                print(f"{path}:{step.number}: {step.command}: exit {status} for {step.status}, and it prints")
+                print(f"{path}:{step.number}: {step.command}: exit {status}, expected {step.status}; it prints")
                 print("\n".join("    " + line for line in printed[:40]))
         shutil.rmtree(folder)
         if not count and path.startswith(LESSONS) and not left:
             wrong += 1
             print(f"{path} has no command")
-    print(f"{len(chosen)} documents, {commands} commands, {lines} lines compared, {left} left out; {wrong} differ")
+    print(f"{len(chosen)} documents, {commands} commands, {left} left out; {wrong} differ")
+    print(f"tutorial: compared {lines:,} lines")
     return 1 if wrong or not commands or not lines else 0
 
 
