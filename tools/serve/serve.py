@@ -1,7 +1,7 @@
 #!/usr/bin/env python3
 """The workbench: a server on this machine alone, whose answers are those of the built program mx_serve.
 
-usage: serve.py PROGRAM CC PROVED [--port N] [--host H] [FILE]      ./mx serve gives the first three
+usage: ./mx serve [--port N] [--host H] [FILE]
 
 It prints the address of its page, with a token that every request must have, and goes on until it is interrupted. Of the disk it
 reads FILE, and at its start its own page and the examples. What it writes are texts in C for gcc, in folders for temporary files, which
@@ -431,23 +431,23 @@ class Handler(http.server.BaseHTTPRequestHandler):
             pass  # it has gone, or goes on for too long
 
 
-def read_words(given):
-    """Returns what the command line says. ./mx names the programs, and whether they are proved, before what the user has typed."""
-    if len(given) < 3:
+def read_words():
+    """Returns what the command line says. ./mx names the programs in the environment, and whether they are proved."""
+    given = [os.environ.pop(f"MX_SERVE_{name}", "") for name in ("PROGRAM", "CC", "PROVED")]
+    if not given[0]:
         print("mx: start the workbench by ./mx serve", file=sys.stderr)
         sys.exit(WRONG_ARGUMENTS)
-    program, cc, proved, *typed = given
     parser = argparse.ArgumentParser(prog="mx serve", description="starts the workbench: a page in the browser, on this machine alone")
     parser.add_argument("--port", type=int, default=0, metavar="N", help="0 to 65535: the port; a free one if it is 0 or left out")
     parser.add_argument("--host", default="127.0.0.1", metavar="H", help="the address to listen at (127.0.0.1, which only this machine reaches)")
     parser.add_argument("file", nargs="?", metavar="FILE", help="the source that the page begins with; it is read only")
-    words = parser.parse_args(typed)
+    words = parser.parse_args()
     if not 0 <= words.port <= 65535:
         parser.error(f"invalid value '{words.port}' for '--port': expected 0 to 65,535")
     if not words.host.strip():
         # the system takes an empty name for every address of the machine
         parser.error(f"invalid value '{words.host}' for '--host': expected an address, such as 127.0.0.1")
-    words.program, words.cc, words.proved = program, cc, proved == "proved"
+    words.program, words.cc, words.proved = given[0], given[1], given[2] == "yes"
     return words
 
 
@@ -469,7 +469,7 @@ def listen_to_signals():
 
 
 def main():
-    words = read_words(sys.argv[1:])
+    words = read_words()
     _, most = resource.getrlimit(resource.RLIMIT_NOFILE)
     resource.setrlimit(resource.RLIMIT_NOFILE, (most, most))
     try:
