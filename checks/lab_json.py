@@ -32,7 +32,7 @@ except ImportError:
 
 LAB = common.program("mx_lab")
 # What a sample takes of the examples, and how few of them there may be at all.
-SAMPLE, FEWEST = ("full_slots.s", "two_loads.s"), 8
+SAMPLE, FEWEST = ("countdown.s", "echo.s", "full_slots.s"), 8
 COLUMNS = {"count": "executed", "squashed": "squashed", "squashes": "squashes", "cycles": "cycles"}
 WORD = 1 << 32
 
