@@ -201,7 +201,7 @@ def chart(studies):
     row, left, width, top = 18, 90, 620, 46
     height = top + row * len(studies) + 30
     out = [f'<svg xmlns="http://www.w3.org/2000/svg" width="{left + width + 40}" height="{height}" font-family="sans-serif" font-size="11">',
-           f'<rect width="100%" height="100%" fill="#ffffff"/>',
+           '<rect width="100%" height="100%" fill="#ffffff"/>',
            f'<text x="{left}" y="16" font-size="13">Cycles of each example at -O2, in per cent</text>']
     x = left
     for colour, part in zip(COLOURS, PARTS):
