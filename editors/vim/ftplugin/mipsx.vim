@@ -1,0 +1,7 @@
+" Settings of MIPS-X sources: comments, and :make with the checker.
+if exists("b:did_ftplugin") | finish | endif
+let b:did_ftplugin = 1
+setlocal commentstring=;\ %s
+setlocal comments=:;
+compiler zanderanvil
+let b:undo_ftplugin = "setlocal commentstring< comments< makeprg< errorformat<"
