@@ -304,6 +304,9 @@ def main(words):
     options = {it for it in words if it.startswith("-")}
     names = [it for it in words if not it.startswith("-")]
     known = {it.name: it for it in CHECKS}
+    if "--self-test" in options:
+        import planted
+        known.update(dict.fromkeys(it.name for it in planted.CASES))
     unknown = [it for it in options if it not in ("--full", "--self-test", "--list")] + [it for it in names if it not in known]
     if unknown or len(options) > 1:
         common.wrong_arguments(f"unknown check or option: {', '.join(unknown) or 'two options'}; checks/all.sh --list prints the checks")
@@ -321,7 +324,6 @@ def main(words):
         signal.signal(number, stop)
     try:
         if "--self-test" in options:
-            import planted
             return planted.run(runner, names)
         return report(work_through([known[it] for it in names] or CHECKS, runner))
     finally:
