@@ -104,8 +104,19 @@ CASES = (
           "FAILED: a request that was begun before keeps its connection", "FAILED: of 16 runs at most", "FAILED: refused: int a = 1'0")),
     Case("workbench", "serve.py", "another picture than the page's", """fake "$MX_LAB" 's/ALU/MEM/g'; MX_LAB=$fake checks/serve.py""",
          ("FAILED: the cells of cycle",)),
-    Case("completions", "completions.sh", "a command that bash does not offer",
-         "plant tools/install.py \"s/{' '.join(COMMANDS)} lab/{' '.join(list(COMMANDS)[1:])} lab/\"; checks/completions.sh", ("FAILED: bash: the command run",)),
+    Case("shells", "shells.sh", "a command that bash does not offer",
+         "plant tools/install.py \"s/{' '.join(COMMANDS)} lab/{' '.join(list(COMMANDS)[1:])} lab/\"; checks/shells.sh", ("FAILED: bash: the command run",)),
+    Case("proved", "proved.py", "a program whose checksum is not compared",
+         "plant tools/state.py 's/ and record\\[\"output\"\\] == sum_of(output))/)/'; checks/proved.py", ("FAILED",)),
+    Case("processes", "processes.py", "a run that outlives ./mx",
+         """plant mx 's/^        setpriv --pdeathsig TERM "\$@"$/        "$@"/; s/has setpriv; then setpriv --pdeathsig TERM/has setpriv; then/'
+         checks/processes.py""", ("FAILED",)),
+    Case("files", "files.py", "a file that is left", "plant tools/launch.py 's/        os.remove(fresh)$/        pass/'; checks/files.py", ("FAILED",)),
+    Case("completions", "completions.sh", "texts that are not quoted", """
+        plant tools/install.py "s/^    return \"'\" + text.replace.*/    return \"'\" + text + \"'\"/"; checks/completions.sh""", ("FAILED",)),
+    Case("Python", "python_module.py", "a refusal that cannot be pickled",
+         "plant python/zanderanvil/library.py '/def __reduce__/,/return Refusal/d'; checks/python_module.py", ("FAILED",)),
+    Case("messages", "messages.py", "a program that prints nothing", "MX_RUN=/bin/true MX_LAB=/bin/true checks/messages.py", ("FAILED",)),
     Case("lint", "lint.sh", "an import that is not used", "echo 'import os' >tools/unused.py; checks/lint.sh", ("imported but unused",)),
     Case("all", "all.py", "a check that compares nothing", """
         echo 'print("edits: all is well")' >checks/edits.py; checks/all.sh edits deps""", ("WRONG: edits", "it reports nothing that it compared", "WRONG: edits$")),

@@ -2,7 +2,7 @@
 # The completions of bash, zsh and fish, as `./mx install` writes them, each in the shells that are there; and that the manual page and the
 # syntax files have all commands and mnemonics.
 #
-# usage: checks/completions.sh
+# usage: checks/shells.sh
 top=$(CDPATH='' cd -- "$(dirname -- "$0")/.." && pwd -P) || exit 1
 # shellcheck source=checks/common.sh
 . "$top/checks/common.sh"
@@ -103,4 +103,4 @@ while read -r name; do
     grep -qw -- "$name" prefix/share/zanderanvil/vim/syntax/mipsx.vim && grep -qw -- "$name" prefix/share/zanderanvil/mipsx.tmLanguage.json
     tell $? "the syntax files have $name"
 done <mnemonics
-finish completions 'commands, options, files and mnemonics'
+finish shells 'commands, options, files and mnemonics'
