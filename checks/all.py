@@ -119,6 +119,8 @@ class Runner:
     def environment(self):
         """Returns the environment of a check, with a home and a folder for temporary files of its own."""
         with self.lock:
+            if self.is_ended:
+                raise KeyboardInterrupt
             self.count += 1
             at = f"{self.folder}/{self.count}"
         os.makedirs(f"{at}/home")
@@ -173,7 +175,7 @@ class Runner:
             self.is_ended = True
             for it in self.running:
                 end(it)
-        for _ in range(20):
+        for _ in range(50):
             shutil.rmtree(self.folder, ignore_errors=True)
             if not os.path.exists(self.folder):
                 break
@@ -317,9 +319,9 @@ def main(words):
     runner = Runner("--full" in options)
 
     def stop(_number, _frame):
-        # before the threads are waited for, which wait for what they run
+        # at once, since a way out of the threads would wait for what they run
         runner.end()
-        sys.exit(1)
+        os._exit(1)
 
     for number in (signal.SIGINT, signal.SIGTERM, signal.SIGHUP):
         signal.signal(number, stop)
