@@ -64,6 +64,7 @@ CHECKS = (
     Check("proved", ("proved.py",)),
     Check("processes", ("processes.py",)),
     Check("plan cases", ("plans.py",)),
+    Check("caches", ("caches.py",)),
     # the toolchain
     Check("rows", ("rows.sh",), ("mx_run",), 15),
     Check("edges", ("edge.sh",), ("mx_run",)),
