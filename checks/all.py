@@ -61,8 +61,6 @@ CHECKS = (
     Check("lint", ("lint.sh",)),
     Check("completions", ("completions.sh",)),
     Check("shells", ("shells.sh",)),
-    Check("proved", ("proved.py",)),
-    Check("processes", ("processes.py",)),
     Check("plan cases", ("plans.py",)),
     Check("caches", ("caches.py",)),
     # the toolchain
@@ -84,7 +82,10 @@ CHECKS = (
     Check("C commands", ("cc_uses.sh",), ("mx_run", "mx_cc"), 15),
     Check("library", ("embed.sh",), ("mx_run",)),
     Check("Python", ("python.sh",), ("mx_lab",)),
-    Check("files", ("files.py",), ("mx_run", "mx_lab")),
+    # processes that are ended, and files that are written meanwhile
+    Check("proved", ("proved.py",), is_alone=True),
+    Check("processes", ("processes.py",), is_alone=True),
+    Check("files", ("files.py",), ("mx_run", "mx_lab"), is_alone=True),
     # the workbench
     Check("workbench's faults", ("serve_faults.py",), ("mx_serve", "mx_cc"), is_alone=True),
     Check("clients", ("clients.py",), ("mx_serve", "mx_cc"), 15, is_alone=True),

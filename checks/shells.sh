@@ -18,7 +18,15 @@ import os
 import sys
 sys.path.insert(0, f"{sys.argv[1]}/tools")
 import install
-for path, text in install.texts().items():
+texts = {
+    "share/man/man1/zanderanvil.1": install.page_of_all("version"),
+    "share/bash-completion/completions/zanderanvil": install.bash(),
+    "share/zsh/site-functions/_zanderanvil": install.zsh(),
+    "share/fish/vendor_completions.d/zanderanvil.fish": install.fish(),
+    "share/zanderanvil/vim/syntax/mipsx.vim": install.vim(),
+    "share/zanderanvil/mipsx.tmLanguage.json": install.grammar(),
+}
+for path, text in texts.items():
     os.makedirs(os.path.dirname(f"prefix/{path}"), exist_ok=True)
     with open(f"prefix/{path}", "w", encoding="utf-8") as it:
         it.write(text)
