@@ -246,6 +246,9 @@ def faults_of_laws(walk):
 
 
 def main(arguments):
+    if arguments not in ([], ["--write"], ["--names"]):
+        print(f"reading.py: unknown arguments: {' '.join(arguments)}", file=sys.stderr)
+        return 2
     walk = walked()
     if arguments == ["--names"]:
         for part in sorted(walk.lines):
@@ -279,8 +282,8 @@ def main(arguments):
         faults.append("nothing was compared")
     for fault in faults:
         print(fault)
-    print(f"compared {names} definitions, {len(walk.constants)} constants, {quotes} quoted clauses and {trusted.compared(page)} trusted lines; "
-          + ", ".join(f"part {part} {total_of(walk, part)} lines" for part in "ABCD" + LATER))
+    print(", ".join(f"part {part} {total_of(walk, part):,} lines" for part in "ABCD" + LATER))
+    print(f"reading.py: compared {names:,} definitions, {len(walk.constants)} constants, {quotes} quoted clauses and {trusted.compared(page)} trusted lines")
     return 1 if faults else 0
 
 

@@ -113,7 +113,10 @@ def wrong_block(kind, what, block, folder, counts):
     return missing and f"{what} does not print: {missing}"
 
 
-def main():
+def main(arguments):
+    if arguments:
+        print(f"theorem.py: unknown arguments: {' '.join(arguments)}", file=sys.stderr)
+        return 2
     page = PAGE.read_text()
     counts = {"laws": 0, "names": 0, "quotes": 0, "runs": 0, "figures": 0, "left out": 0}
     faults = list(wrong_laws(page, counts)) + list(wrong_names(page, counts))
@@ -130,10 +133,11 @@ def main():
     faults += [f"no {it} were compared" for it in ("laws", "quotes") if not counts[it]]
     for fault in faults:
         print(f"docs/THEOREM.md: {fault}")
-    print("compared " + ", ".join(f"{number} {what}" for what, number in counts.items() if what != "left out")
-          + (f"; {counts['left out']} runs and figures were left out, since no program is built" if counts["left out"] else ""))
+    if counts["left out"]:
+        print(f"{counts['left out']} runs and figures were left out, since no program is built (MX_RUN, MX_LAB)")
+    print("theorem.py: compared " + ", ".join(f"{number} {what}" for what, number in counts.items() if what != "left out"))
     return 1 if faults else 0
 
 
 if __name__ == "__main__":
-    sys.exit(main())
+    sys.exit(main(sys.argv[1:]))
