@@ -214,11 +214,17 @@ def section(page, mark):
     return found[1] if found else None
 
 
+def comment_of(name):
+    """Returns the comment over a clause of the call."""
+    found = re.search(rf"((?: *// .*\n)+) *(?:ensures|requires) {name} \{{", TOP.read_text())
+    return " ".join(re.sub(r"(?m)^ *// ", "", found[1]).split()) if found else trusted.UNSAID
+
+
 def quote_table(page, mark, rows):
-    """Returns the table of quoted clauses, with the words that the page has for each name."""
+    """Returns the table of quoted clauses, with the words that the page has for each name; else those of the code."""
     words = {row[2].split(" ")[0]: row[1] for row in re.finditer(r"(?m)^\| (.*) \| `(.*)` \|$", section(page, mark) or "")}
     return ("| In words | In the code |\n|---|---|\n"
-            + "".join(f"| {words.get(row.split(' ')[0], trusted.UNSAID)} | `{row}` |\n" for row in rows))
+            + "".join(f"| {words.get(row.split(' ')[0]) or comment_of(row.split(' ')[0])} | `{row}` |\n" for row in rows))
 
 
 def wanted_sections(page, walk):
