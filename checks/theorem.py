@@ -49,8 +49,9 @@ def printed(line, folder):
     program = program_of(re.search(r"\./mx (\w+)", line)[1])
     if program is None:
         return None
-    # a source that the page makes is in the folder; ./mx itself turns `-` into /dev/stdin
-    line = re.sub(r" > \S+$", "", line).replace("./mx", program).replace(" chain.s", f" {folder}/chain.s")
+    line = re.sub(r" > \S+$", "", line).replace("./mx", program)
+    for made in pathlib.Path(folder).iterdir():
+        line = line.replace(f" {made.name}", f" {made}")
     return subprocess.run(["sh", "-c", line], cwd=ROOT, capture_output=True, text=True, timeout=SECONDS).stdout
 
 
