@@ -136,7 +136,7 @@ def total_of(walk, part):
 
 
 def counted(number, noun):
-    return f"{number:,} {noun}" if number != 1 else f"1 {noun}"
+    return f"{number:,} {noun}s" if number != 1 else f"1 {noun}"
 
 
 def part_table(walk, part):
@@ -149,7 +149,7 @@ def part_table(walk, part):
         says = file.says if file.says.endswith(".") else f"{file.says[:1].upper()}{file.says[1:]}."
         text += f"| `{file.path.relative_to(ROOT)}` | {says}{meant_of(walk, part, key)} | {lines_of(walk.lines[part][key])} |\n"
     for path in sorted(code):
-        text += f"| `{path.relative_to(ROOT)}` | the types {listed(sorted(code[path]))} | {sum(code[path].values())} |\n"
+        text += f"| `{path.relative_to(ROOT)}` | The types {listed(sorted(code[path]))}. | {sum(code[path].values())} |\n"
     return text
 
 
