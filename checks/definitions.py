@@ -11,7 +11,6 @@ import re
 
 ROOT = pathlib.Path(__file__).resolve().parent.parent
 IMPORT = re.compile(r"(?:ghost |pub )*use Rattle\.(\w+)\.(specs|proofs)\.([\w.]+?)(?:\.\{(.*)\}| as (\w+))?;?$")
-CODE_IMPORT = re.compile(r"^use (\w+)(?:::\w+)*::(?:\{([^}]*)\}|(\w+));$")
 RECORD = re.compile(r"^ *(?:pub )?(?:record|data) (\S+).* where$")
 DEFINED = re.compile(r"^(?:  (?=abbrev))?(?:(?:abbrev|unfoldable|pub) )*([^\s:(){}]+) : ")
 NAME = re.compile(r"[^\s(){},;\[\]]+")
