@@ -12,6 +12,9 @@ use_c='./mx c [options of gcc] FILE.c .. [--input FILE] [--budget N] [--interrup
 most_cycles=100000000       # the most that `run` takes
 most_statements=20,000
 
+# Whether a program is proved is not said where one is run like any other.
+export MX_QUIET=1
+
 # Says what is wrong, and ends with a status.
 fail() {
     echo "mx: $1" >&2
@@ -107,13 +110,13 @@ put_arguments() {
     printf '\t.globl\t_arguments\n\t.align\t2\n_arguments:\n'
     number=0
     for word; do
-        printf '\t.word\t$LA%d\n' $number
+        printf '\t.word\targument.%d\n' $number
         number=$((number + 1))
     done
     printf '\t.word\t0\n'
     number=0
     for word; do
-        printf '$LA%d:\n' $number
+        printf 'argument.%d:\n' $number
         printf '%s' "$word" | od -An -v -tu1 | tr -s ' ' "$line_feed" | sed -n 's/^[0-9][0-9]*$/\t.byte\t&/p'
         printf '\t.byte\t0\n'
         number=$((number + 1))
@@ -155,7 +158,7 @@ print_fault() {
 # the library to $work/program. What follows are the arguments of the program.
 translate() {
     for file in $files; do
-        [ -f "$file" ] && [ -r "$file" ] || fail "$file: there is no such file, or it cannot be read" 4
+        if [ ! -f "$file" ] || [ ! -r "$file" ]; then fail "$file: there is no such file, or it cannot be read" 4; fi
     done
     names=
     number=0
@@ -197,8 +200,8 @@ deliver() {
         cat "$work/program" >"$1" || fail "$1: this file cannot be written" 5
         return
     fi
-    whole=$(readlink -f -- "$1") && room=$(mktemp "$(dirname -- "$whole")/.mx-XXXXXX" 2>/dev/null) \
-        || fail "$1: this file cannot be written" 5
+    whole=$(readlink -f -- "$1") || fail "$1: this file cannot be written" 5
+    room=$(mktemp "$(dirname -- "$whole")/.mx-XXXXXX" 2>/dev/null) || fail "$1: this file cannot be written" 5
     if [ -e "$whole" ]; then
         if [ ! -w "$whole" ]; then
             rm -f "$room"
@@ -243,12 +246,15 @@ add_option() {
 
 # Runs $work/program with the options of `run` that follow, which leaves the report in $work/report.
 run_program() {
+    # shellcheck disable=SC2086
     MX_GONE=$work/program "$top/mx" ${MX_FLAGS-} run "$work/program" "$@" >"$work/report"
 }
 
-# The line of C that the address $1 of the linked program was called from.
+# The line of C of the call that left the address $1 of the linked program: the call is three words before it, since two follow it in
+# its delay slots.
 line_called() {
-    "$top/mx" ${MX_FLAGS-} list "$work/program" 2>/dev/null | LC_ALL=C awk -v address="$1" '
+    # shellcheck disable=SC2086
+    "$top/mx" ${MX_FLAGS-} list "$work/program" 2>/dev/null | LC_ALL=C awk -v address="$(printf %08x $((0x$1 - 3)))" '
         FILENAME == "-" { if ($1 == address && $3 ~ /^[0-9]+$/) line = $3; next }
         FNR >= line { exit }
         /^; .*:[0-9]+$/ { place = substr($0, 3) }
@@ -333,7 +339,7 @@ case $command in
         fi
         [ -n "$target" ] || fail "usage: $use_cc" 2
         for file in $files; do
-            [ ! "$file" -ef "$target" ] || fail "$target: this file is read, and -o would write it" 2
+            [ "$(readlink -f -- "$file")" != "$(readlink -f -- "$target")" ] || fail "$target: this file is read, and -o would write it" 2
         done
         first=${files#"$line_feed"}
         first=${first%%"$line_feed"*}
@@ -378,7 +384,7 @@ case $command in
             esac
             shift
         done
-        [ -n "$files" ] && [ -z "$preprocess" ] || fail "usage: $use_c" 2
+        if [ -z "$files" ] || [ -n "$preprocess" ]; then fail "usage: $use_c" 2; fi
         first=${files#"$line_feed"}
         first=${first%%"$line_feed"*}
         translate "$first" "$@" || exit $?

@@ -2,5 +2,6 @@
 int main(int argc, char **argv) {
     (void) argv;
     printf("before\n");
-    return -7 / (argc - 1);
+    printf("%d\n", -7 / (argc - 1));
+    return 0;
 }
