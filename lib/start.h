@@ -2,8 +2,12 @@
 #ifndef _START_H
 #define _START_H
 
-extern char _end[];                 /* by the translator: behind all data */
-extern char *_stack_limit;          /* the stack ends the program where it goes below this; the translator reads it by its name */
-extern void (*_at_exit)(void);      /* what exit calls first, if atexit was called */
+#include "heap.h"
+
+/* A function that makes a frame below this address ends the program. The translator reads it by its name. */
+extern char *_stack_limit;
+
+/* What exit calls first, if atexit was called. */
+extern void (*_at_exit)(void);
 
 #endif
