@@ -67,15 +67,16 @@ grep -q -x 'mx: the program did not end within 100 cycles: --budget N gives it m
 # what is written is whole, is the same where two write at once, and its size is printed
 ./mx cc "$work/echo.c" -o "$work/one.s" 2>"$work/said" || tell 'cc echo.c' "status $?"
 grep -q -x "mx: $work/one.s: [0-9]* statements of at most 20,000, for [0-9]* instructions; [0-9]* data words" "$work/said" || tell 'cc echo.c' "said $(cat "$work/said")"
-rm -rf "$top"/.mx/library-*
 pids=
 for number in 1 2 3 4; do
-    ./mx cc "$work/echo.c" -o "$work/at_once.$number.s" 2>/dev/null &
+    MX_LIBRARY=$work/kept ./mx cc "$work/echo.c" -o "$work/at_once.$number.s" 2>/dev/null &
     pids="$pids $!"
 done
 for pid in $pids; do wait "$pid" || tell 'four ./mx cc at once' "status $?"; done
 for number in 1 2 3 4; do same 'four ./mx cc at once' "$work/at_once.$number.s" "$work/one.s"; done
-[ "$(find "$top/.mx" -name 'new-library-*' | wc -l)" -eq 0 ] || tell 'four ./mx cc at once' 'a half made library is left'
+[ "$(find "$work/kept" -mindepth 1 -maxdepth 1 | wc -l)" -eq 1 ] || tell 'four ./mx cc at once' 'more than one library is left'
+MX_LIBRARY=/proc/none ./mx cc "$work/echo.c" -o "$work/unkept.s" 2>/dev/null || tell 'cc without a place for the library' "status $?"
+same 'cc without a place for the library' "$work/unkept.s" "$work/one.s"
 # -E preprocesses; options of gcc with a space
 ./mx cc -E -D WHAT=seventeen "$work/good.c" >"$work/told" || tell 'cc -E' "status $?"
 grep -q 'int main(void)' "$work/told" || tell 'cc -E' 'no program'
@@ -118,7 +119,7 @@ wrong 1 'folder/float.s:2: add.s: floating-point registers are not taken; compil
 wrong 5 'mx: nowhere/out.s: this file cannot be written' cc good.c -o nowhere/out.s
 wrong 2 'mx: usage: ./mx cc [options of gcc] FILE.c .. -o OUT.s' cc good.c
 wrong 2 'mx: good.c: this file is read, and -o would write it' cc good.c -o good.c
-wrong 2 'mx: good.c: this file is read, and -o would write it' cc good.c second.c -o ./good.c
+wrong 2 'mx: ./good.c: this file is read, and -o would write it' cc good.c second.c -o ./good.c
 [ "$(wc -l <"$work/good.c")" -eq 3 ] || tell 'cc good.c -o good.c' 'the file was written'
 mkdir -p "$top/.mx/probe" "$work/probe"
 wrong 2 'mx: -O/../../probe: unknown level: expected -O0, -O1, -O2, -O3, -Os, -Og or -Ofast' cc -O/../../probe good.c -o out.s

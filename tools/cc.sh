@@ -4,8 +4,10 @@
 #   tools/cc.sh TOP c [options] FILE.c .. [-- ARGUMENT ..]             compiles, and runs like the program itself
 #   tools/cc.sh TOP library                                            compiles the library, and prints the folder that has it
 # TOP is the repository's top folder. Files that end in .s are taken as assembly. ./mx is called for the programs mx_cc
-# (as `./mx translate`) and mx_run; MX_FLAGS, if it is set, is put before their command, as --quick is.
+# (as `./mx translate`) and mx_run; MX_FLAGS, if it is set, is put before their command, as --quick is. MX_LIBRARY names another
+# folder than .mx for the compiled library. Where it cannot be written, the library is compiled for one use.
 top=$1
+kept=${MX_LIBRARY:-$top/.mx}     # where the compiled library is kept
 gcc=mips-linux-gnu-gcc
 use_cc='./mx cc [options of gcc] FILE.c .. -o OUT.s'
 use_c='./mx c [options of gcc] FILE.c .. [--input FILE] [--budget N] [--interrupts FILE] [--report[=FILE]] [-- ARGUMENT ..]'
@@ -29,11 +31,11 @@ set -f
 
 # Compiles the file $1 to the assembly $2, with the options after them.
 compile() {
-    source=$1
-    target=$2
+    from=$1
+    to=$2
     shift 2
     # shellcheck disable=SC2046
-    "$gcc" -S $(cat "$top/lib/flags") -nostdinc -isystem "$top/lib/include" "$@" "$source" -o "$target"
+    "$gcc" -S $(cat "$top/lib/flags") -nostdinc -isystem "$top/lib/include" "$@" "$from" -o "$to"
 }
 
 # The names that the files of assembly define for others, sorted.
@@ -50,10 +52,10 @@ names_of() {
 # of, and it is renamed into its place when it is whole, so that two of these may work side by side.
 compile_library() {
     sum=$({ find "$top/lib" -type f -print | LC_ALL=C sort | tr '\n' '\0' | xargs -0 cat; "$gcc" --version; cat "$0"; } | cksum | tr ' ' '-')
-    library=$top/.mx/library-$sum
+    library=$kept/library-$sum
     [ -d "$library" ] && return
-    mkdir -p "$top/.mx" 2>/dev/null
-    new=$(mktemp -d "$top/.mx/new-library-XXXXXX" 2>/dev/null) || new=$work/library
+    mkdir -p "$kept" 2>/dev/null
+    new=$(mktemp -d "$kept/new-library-XXXXXX" 2>/dev/null) || new=$work/library
     mkdir -p "$new" || exit 10
     set +f
     for file in "$top"/lib/*.c; do
@@ -334,7 +336,7 @@ case $command in
         if [ -n "$preprocess" ]; then
             # shellcheck disable=SC2046,SC2086
             "$gcc" -E $(cat "$top/lib/flags") -nostdinc -isystem "$top/lib/include" "$level" $options $files >"$work/program" || exit 1
-            deliver "${target:-/dev/stdout}"
+            if [ -n "$target" ]; then deliver "$target"; else cat "$work/program" || exit 5; fi
             exit 0
         fi
         [ -n "$target" ] || fail "usage: $use_cc" 2
