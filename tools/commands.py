@@ -38,28 +38,29 @@ RUN = (
     Option("--dump", "A", "0 to 65,535: prints data words from this address on (no dump)"),
     Option("--count", "N", "1 to 65,536 words of the dump (1)"),
     Option("--trace", "N", "0 to 10,000 cycles, each with a line of its own (0)"),
+    OUTPUT,
 )
 
 COMMANDS = {
     "run": Command("mx_run", "SOURCE", "assembles, links and runs a source, and reports", RUN,
                    "Ends with 0 where the run halted, 3 where it is out of budget, 1 where the source is refused."),
     "meaning": Command("mx_run", "SOURCE", "executes a source one statement after the other", (
-        Option("--steps", "N", "0 to 100,000,064 statements (1,000,000)"), INPUT),
+        Option("--steps", "N", "0 to 100,000,064 statements (1,000,000)"), INPUT, OUTPUT),
         "Ends with 0 at a halt, 3 where it still runs, 9 where it is stuck."),
-    "list": Command("mx_run", "SOURCE", "lists the linked words, and where each comes from"),
+    "list": Command("mx_run", "SOURCE", "lists the linked words, and where each comes from", (OUTPUT,)),
     "build": Command("mx_run", "SOURCE IMAGE", "writes the linked program as a file"),
     "exec": Command("mx_run", "IMAGE", "runs such a file", RUN),
     "debug": Command("mx_run", "SOURCE LABEL", "stops the pipeline each time that it comes to a label", (
         Option("--stops", "N", "1 to 1,000 stops (1)"),
         Option("--watch", "A", "256 to 65,535: the data word that each stop shows (256)"),
-        BUDGET, INTERRUPTS, INPUT)),
-    "best": Command("mx_run", "SOURCE", "tells how far the scheduler is from the shortest plans"),
-    "share": Command("mx_run", "FIRST SECOND", "runs two sources on one machine", (BUDGET, INTERRUPTS)),
-    "join": Command("mx_run", "FIRST SECOND ..", "joins 2 to 16 texts to one source"),
+        BUDGET, INTERRUPTS, INPUT, OUTPUT)),
+    "best": Command("mx_run", "SOURCE", "tells how far the scheduler is from the shortest plans", (OUTPUT,)),
+    "share": Command("mx_run", "FIRST SECOND", "runs two sources on one machine", (BUDGET, INTERRUPTS, OUTPUT)),
+    "join": Command("mx_run", "FIRST SECOND ..", "joins 2 to 16 texts to one source", (OUTPUT,)),
     "migrate": Command("mx_run", "IMAGE NEW", "writes an image file in the newest version"),
-    "gen": Command("mx_run", "SEED COUNT", "prints a generated source",
+    "gen": Command("mx_run", "SEED COUNT", "prints a generated source", (OUTPUT,),
                    more="SEED is 0 to 4,294,967,295, COUNT 0 to 4,000."),
-    "soak": Command("mx_run", "SEED COUNT", "runs a generated source under a thousand interrupts",
+    "soak": Command("mx_run", "SEED COUNT", "runs a generated source under a thousand interrupts", (OUTPUT,),
                     more="SEED is 0 to 4,294,967,295, COUNT 0 to 4,000."),
     "draw": Command("mx_lab", "SOURCE", "draws a run by its cycles", (
         Option("--as", "FORM", "text, svg, html, json, kanata or vcd (text)"),

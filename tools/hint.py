@@ -21,6 +21,8 @@ MX = os.environ.get("MX_NAME", "./mx")
 # The commands that it has: C programs and the workbench are in the repository alone.
 COMMANDS = {name: it for name, it in commands.COMMANDS.items() if MX == "./mx" or it.program in ("mx_run", "mx_lab")}
 STANDARD_INPUT = "/dev/stdin"
+# The source that a program in C was translated to, which is gone once it has run.
+GONE = os.environ.get("MX_GONE")
 # Arguments that name files which are read.
 READ = ("SOURCE", "FIRST", "SECOND", "IMAGE", "FILE")
 OPTION_FILES = ("--interrupts", "--input")
@@ -103,7 +105,7 @@ def answer(program, *words):
     if path is None:
         return ""
     try:
-        how = {"stdin": subprocess.DEVNULL, "stdout": subprocess.PIPE, "stderr": subprocess.DEVNULL, "timeout": MOST_SECONDS}
+        how = {"stdin": None if STANDARD_INPUT in words else subprocess.DEVNULL, "stdout": subprocess.PIPE, "stderr": subprocess.DEVNULL, "timeout": MOST_SECONDS}
         return subprocess.run([path, *words], check=False, **how).stdout.decode(errors="replace")
     except (OSError, ValueError, subprocess.TimeoutExpired):
         return ""
@@ -196,8 +198,8 @@ def labels_of(source):
 
 
 def shown(name):
-    """Returns how a file is called in a message: what came by a pipe is standard input, or the C program that a source was made of."""
-    return os.environ.get("MX_SHOWN") or "standard input" if name in (STANDARD_INPUT, os.environ.get("MX_GONE")) else name
+    """Returns how a file is called in a message: standard input and the source of a program in C have no name."""
+    return "standard input" if name == STANDARD_INPUT else "the translated source" if name == GONE else name
 
 
 def is_image(file):
@@ -418,7 +420,8 @@ def main(words):
         print(f"    hint: {MX} --help lists the commands", file=sys.stderr)
         return 2
     for line in lines_for(int(status), name, rest):
-        print(line.encode(errors="replace").decode(errors="replace"), file=sys.stderr)
+        line = line.replace(STANDARD_INPUT, "<stdin>")
+        print(line.replace(GONE, "SOURCE") if GONE else line, file=sys.stderr)
     return 0
 
 
