@@ -23,7 +23,7 @@ class Command(NamedTuple):
     more: str = ""
 
 
-PAGES = {"mx_run": "COMMANDS", "mx_lab": "LAB", "mx_cc": "C", "serve": "SERVE"}
+PAGES = {"mx": "COMMANDS", "mx_run": "COMMANDS", "mx_lab": "LAB", "mx_cc": "C", "serve": "SERVE"}
 
 BUDGET = Option("--budget", "N", "0 to 100,000,000 cycles (1,000,000)")
 # The laboratory runs for a cycle at least.
@@ -109,10 +109,20 @@ COMMANDS = {
         Option("-o", "SOURCE", "the file that is written (standard output)"),)),
 }
 
+# The commands of ./mx itself, which no program answers.
+OWN = {
+    "prove": Command("mx", "[CRATE ..]", "proves and builds the programs, or the crates that are named; goes on where it was stopped"),
+    "test": Command("mx", "[CRATE ..]", "runs all tests and stored cases without proofs, or those of the crates that are named"),
+    "install": Command("mx", "PREFIX", "proves the toolchain and the laboratory, and puts them below a folder"),
+    "package": Command("mx", "DIR", "makes a Debian package of the proved toolchain and laboratory in a folder", (
+        Option("--unproved", "", "packages the programs that are built without proofs, and says so in the package's version"),)),
+    "library": Command("mx", "DIR", "leaves a proved library and its C header in a folder (docs/LIBRARY.md)"),
+}
+
 
 def help_of(name):
     """Returns the help of a command: its words, its options with their ranges and defaults."""
-    command = COMMANDS[name]
+    command = COMMANDS.get(name) or OWN[name]
     lines = [f"{name} {command.names}: {command.text}", "", f"usage: ./mx {name} {'[OPTIONS] ' if command.options else ''}{command.names}"]
     if command.options:
         wide = max(len(f"{it.name} {it.value}") for it in command.options)
@@ -121,13 +131,13 @@ def help_of(name):
     if command.more:
         lines += ["", command.more]
     page = PAGES[command.program]
-    end = "" if command.program in ("mx_cc", "serve") else "; `--` ends the options"
+    end = "" if command.program in ("mx", "mx_cc", "serve") else "; `--` ends the options"
     return "\n".join([*lines, "", f"docs/{page}.md has the whole of it{end}."])
 
 
 def main(words):
-    if len(words) != 1 or words[0] not in COMMANDS:
-        print(f"{__doc__.strip()}\n\n{', '.join(COMMANDS)}", file=sys.stderr)
+    if len(words) != 1 or words[0] not in {**COMMANDS, **OWN}:
+        print(f"{__doc__.strip()}\n\n{', '.join([*COMMANDS, *OWN])}", file=sys.stderr)
         return 2
     print(help_of(words[0]))
     return 0

@@ -91,9 +91,10 @@ def is_regular(file):
 
 
 def newest(program):
-    """Returns the program with this name that was built last, or None."""
-    here = os.path.dirname(os.path.abspath(__file__))
-    top = os.path.dirname(here)
+    """Returns the program with this name: the one that the environment names, or the one that was built last, or None."""
+    if named := os.environ.get(program.upper()):
+        return named
+    top = os.path.dirname(os.path.dirname(os.path.abspath(__file__)))
     places = [f"{top}/crates/{program}/out/{program}", f"{top}/.mx/{program}", f"{os.path.dirname(top)}/libexec/zanderanvil/{program}"]
     there = [it for it in places if is_regular(it) and os.access(it, os.X_OK)]
     return max(there, key=os.path.getmtime, default=None)
