@@ -13,14 +13,20 @@ PR_SET_PDEATHSIG = 1
 LAST_LINES = 20
 
 
+ENDING = (signal.SIGINT, signal.SIGTERM, signal.SIGHUP)
+
+
 def interrupt(number, _frame):
+    # (a second one must not disturb what the first one has begun: to end all and to clear up)
+    for it in ENDING:
+        signal.signal(it, signal.SIG_IGN)
     raise KeyboardInterrupt(number)
 
 
 def end_by_signals():
     """Lets an interrupt, a request to end, a closed terminal and the end of ./mx raise KeyboardInterrupt, so that what was started
     is ended too. A signal that is ignored at the start, as by nohup, stays ignored."""
-    for number in (signal.SIGINT, signal.SIGTERM, signal.SIGHUP):
+    for number in ENDING:
         if signal.getsignal(number) != signal.SIG_IGN:
             signal.signal(number, interrupt)
     with contextlib.suppress(OSError, AttributeError):
@@ -70,17 +76,15 @@ def end(command):
 
 @contextlib.contextmanager
 def locked(path, what):
-    """Holds the lock of a build while the block runs; a second caller waits, and says so. Gives whether it had to wait."""
+    """Holds the lock of a build while the block runs; a second caller waits, and says so."""
     os.makedirs(os.path.dirname(path), exist_ok=True)
     with open(path, "a", encoding="utf-8") as lock:
-        waited = False
         try:
             fcntl.flock(lock, fcntl.LOCK_EX | fcntl.LOCK_NB)
         except BlockingIOError:
             print(f"mx: another call {what}; waiting until it is done", file=sys.stderr, flush=True)
             fcntl.flock(lock, fcntl.LOCK_EX)
-            waited = True
-        yield waited
+        yield
 
 
 def print_failure(said):
