@@ -186,7 +186,7 @@ SENTENCES = [
     *sentence(".x: nop\n", "1:1", "F11", "invalid label '.x': a label does not begin with '.'"),
     *sentence("nop\n" * 20001, "20001:1", "F12", "too many instructions: a source has at most 20,000"),
     *sentence(".data\n.space 65280\n.word 1\n", "3:1", "F13", "the data section is full: its last word is at address 65,535"),
-    *sentence("nop " + "x" * 300 + "\n", "1:1", "F14", "the line has 304 bytes: a line has at most 255"),
+    *sentence("nop ; " + "x" * 300 + "\n", "1:1", "F14", "the line has 306 bytes: a line has at most 255"),
     *sentence("nop \x7f\n", "1:5", "F1", "invalid byte 127 outside a comment: expected a tab or a byte from 32 to 126"),
     *sentence("nop \u2212\n", "1:5", "F1", "invalid character '\u2212' outside a comment: expected a tab or a byte from 32 to 126"),
 ]
@@ -197,28 +197,12 @@ CHECKED = [
     ("ad r1,r1,r1\nhalt\n", ["    hint: did you mean 'add'?"]),
     (NINE, ["s.s:4:9: error[F11]: unknown directive '.text': expected .code, .data, .word, .space or .input",
             "s.s:5:9: note: these 9 faults follow from line 4", "10 lines have a fault"]),
-    ("l#oop: nop\nloop(: nop\nb loop\nhalt\n", ["s.s:3:3: note: this fault follows from line 2"]),
+    ("loop: addi r0,#1x,r1\nb loop\nhalt\n", ["s.s:2:3: note: this fault follows from line 1", "2 lines have a fault"]),
     (".data\n.text\n.data\nnop\n", ["s.s:4:1: error[F11]: instruction 'nop' in the data section"]),
     ("nop\n", ["s.s:1:1: warning[W1]: may run past the last instruction", "    hint: add 'halt' where the program ends"]),
     ("x: nop\nhalt\ny: nop\n", ["s.s:3:1: warning[W3]: unused label 'y'", "s.s:3:4: warning[W2]: unreachable instruction"]),
     (".input\nhalt\n", ["s.s:1:1: warning[W4]: the input is never read"]),
 ]
-
-
-def command_of(folder):
-    """Makes a copy of ./mx that runs the built programs as they are, and returns its path."""
-    with open(f"{common.TOP}/mx", encoding="utf-8") as it:
-        text = it.read()
-    programs = "choose_program() { proof=; case $1 in mx_run) program=$MX_RUN ;; *) program=$MX_LAB ;; esac; }\n"
-    text, tops = re.subn(r"(?m)^top=.*$", lambda _: f"top={common.TOP}", text)
-    text, places = re.subn(r"(?m)^choice=$", lambda _: f"{programs}choice=", text)
-    if (tops, places) != (1, 1):
-        common.wrong_arguments("mx has another form: its lines 'top=' and 'choice=' are not there once")
-    path = f"{folder}/mx"
-    with open(path, "w", encoding="utf-8") as it:
-        it.write(text)
-    os.chmod(path, 0o755)
-    return path
 
 
 def fill(folder, source):
@@ -244,7 +228,7 @@ def run(words, folder, given=""):
         standard_input.write(given)
         standard_input.seek(0)
         how = {"stdin": standard_input, "capture_output": True, "cwd": folder, "timeout": MAX_SECONDS}
-        said = subprocess.run([f"{folder}/mx", *words], check=False, **how)
+        said = subprocess.run([f"{common.TOP}/mx", *words], check=False, **how)
     if writer:
         writer.wait(MAX_SECONDS)
     return said.returncode, said.stdout.decode(errors="replace"), said.stderr.decode(errors="replace")
@@ -278,10 +262,9 @@ def compare_checked(source, lines, folder):
 
 
 def each(compare_one, things):
-    """Makes a folder with a copy of ./mx for each of some things, and compares it there."""
+    """Makes a folder for each of some things, and compares it there."""
     for it in things:
         with tempfile.TemporaryDirectory(prefix="messages-") as folder:
-            command_of(folder)
             compare_one(it, folder)
 
 
@@ -379,7 +362,6 @@ def main(words):
         each(lambda it, folder: compare_checked(*it, folder), CHECKED)
     if "errors" in parts:
         with tempfile.TemporaryDirectory(prefix="messages-") as folder:
-            command_of(folder)
             compare_errors(folder)
     return common.finish("messages.py", "messages")
 
