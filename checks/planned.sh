@@ -93,7 +93,7 @@ status=$?
 if [ "$status" -eq 0 ] && cmp -s out wanted; then tell ok 'the plans of the list scheduler'; else tell "status $status" 'the plans of the list scheduler'; fi
 "$lab" plans countdown.s missing >out 2>err
 status=$?
-if [ "$status" -eq 4 ] && [ "$(cat err)" = 'no such file: missing' ] && ! [ -s out ]; then tell ok 'no plan file'; else tell "status $status" 'no plan file'; fi
+if [ "$status" -eq 4 ] && [ "$(cat err)" = "zanderanvil: error: cannot read 'missing': no such file" ] && ! [ -s out ]; then tell ok 'no plan file'; else tell "status $status" 'no plan file'; fi
 
 # consoled FILE: what a program sent, of a report or of the text of a meaning, with a `?` for each byte 0
 consoled() { sed -n '/^console/,/^registers/p' "$1" | tr '\0' '?'; }
