@@ -3,16 +3,30 @@
 # wrong first: links, blanks in paths, missing tools and files. With the word `proved` also ./mx prove, and with `library` the
 # library: these take half an hour each. By hand, before each hand-in that touches ./mx or a stored run.
 # usage: checks/fresh.sh [proved] [library]
+for word in "$@"; do
+    case $word in
+        proved | library) ;;
+        *)
+            echo "checks/fresh.sh: unknown argument $word: proved and library are known" >&2
+            exit 2
+            ;;
+    esac
+done
 top=$(CDPATH='' cd -- "$(dirname -- "$0")/.." && pwd -P) || exit 1
 folder=$(mktemp -d) || exit 1
 trap 'rm -rf "$folder"' EXIT
 clone="$folder/a clone"
 git clone -q "$top" "$clone" || exit 1
 failed=0
+compared=0
 
-# Tells whether what was tried ended with the status $2 and with the text $3 in its output.
+# Tells whether what was tried ended with the status $2 and with the text $3, which is never empty, in its output.
 tell() {
-    if [ "$status" -eq "$2" ] && grep -qF -- "$3" "$folder/out"; then
+    compared=$((compared + 1))
+    if [ -z "$3" ]; then
+        echo "WRONG: $1: it looks for nothing"
+        failed=1
+    elif [ "$status" -eq "$2" ] && grep -qF -- "$3" "$folder/out"; then
         echo "ok: $1"
     else
         echo "WRONG: $1 (status $status)"
@@ -23,6 +37,8 @@ tell() {
 
 # Runs a command in the folder $1, and keeps its status and all that it prints.
 run() {
+    # (of the caller's programs none is taken)
+    unset MX_RUN MX_LAB MX_CC MX_SERVE MX_QUIET
     at=$1
     shift
     (cd "$at" && "$@") >"$folder/out" 2>&1
@@ -47,16 +63,15 @@ echo "   after $((($(date +%s%N) - began) / 1000000)) ms"
 ln -s "$clone/mx" "$folder/link"
 run "$folder" ./link run "a clone/examples/hello.s"
 tell 'through a link, from another folder, with blanks in the path' 0 'cycles 12'
-run "$clone/examples" ../mx build hello.s new.mxi
-tell 'a file that is not there yet is written where the command was typed' 0 ''
-[ -s "$clone/examples/new.mxi" ] || { echo 'WRONG: new.mxi is not there'; failed=1; }
+run "$clone/examples" sh -c '../mx build hello.s new.mxi && cmp new.mxi hello.mxi && echo "the same bytes"'
+tell 'a file that is not there yet is written where the command was typed' 0 'the same bytes'
 run "$clone" ./mx run missing.s
 tell 'a file that is not there' 4 'read fault: source failed'
-tell 'and which one' 4 'mx: no such file: missing.s'
+tell 'and which one' 4 "zanderanvil: error: cannot read 'missing.s': no such file"
 run "$clone" ./mx rnu examples/hello.s
-tell 'a command that there is not' 2 'mx: there is no command rnu; did you mean run?'
+tell 'a command that there is not' 2 "zanderanvil: error: unknown command 'rnu'; did you mean 'run'?"
 run "$clone" ./mx run --budgte 5 examples/hello.s
-tell 'an option that there is not' 2 'mx: run has no option --budgte; did you mean --budget?'
+tell 'an option that there is not' 2 "zanderanvil: error: unexpected argument '--budgte'; did you mean '--budget'?"
 run "$clone" ./mx run --budget 200000000 examples/hello.s
 tell 'a number out of range' 2 'mx: --budget is 200000000, and may be 0 to 100,000,000'
 run "$clone" ./mx debug examples/countdown.s nxet
@@ -75,23 +90,28 @@ run "$clone" ./mx run --help
 tell 'help of a command' 0 '--interrupts FILE'
 run "$clone" ./mx
 tell 'no words' 2 'usage: ./mx'
-run "$clone" env PATH=/nowhere /bin/sh ./mx --proved run examples/hello.s
-[ "$status" -ne 0 ] && echo 'ok: without tools it ends with a message' || { echo 'WRONG: without tools'; failed=1; }
-run "$clone" git status --porcelain
-[ -z "$(grep -v new.mxi "$folder/out")" ] && echo 'ok: nothing else was written' || { echo 'WRONG: files were left'; cat "$folder/out"; failed=1; }
+mkdir "$folder/bin"
+for it in dirname readlink cat find sha256sum; do ln -s "$(command -v "$it")" "$folder/bin/"; done
+run "$clone" env PATH="$folder/bin" /bin/sh ./mx --proved run examples/hello.s
+tell 'without the toolchain it says what to install' 10 'mx: the toolchain'"'"'s command rt is not there'
+run "$clone" sh -c 'git status --porcelain; echo "status of the clone"'
+grep -v -e new.mxi -e 'status of the clone' "$folder/out" && status=1
+tell 'nothing else was written' 0 'status of the clone'
 for word in "$@"; do
     case $word in
         proved)
             run "$clone" ./mx prove
-            tell './mx prove' 0 'is done'
+            tell './mx prove' 0 'are proved'
+            run "$clone" ./mx --version
+            tell 'the version says so' 0 'mx_run is proved'
             run "$clone" ./mx --proved run examples/hello.s
             tell 'the proved program' 0 'cycles 12'
             ;;
         library)
-            run "$clone" ./mx library lib
-            tell './mx library' 0 ''
-            [ -s "$clone/lib/libzanderanvil.so" ] || { echo 'WRONG: no library'; failed=1; }
+            run "$clone" sh -c './mx library lib && checks/embed.sh lib'
+            tell './mx library' 0 'embed: compared'
             ;;
     esac
 done
+[ "$failed" -eq 0 ] && echo "fresh: compared $compared results"
 exit "$failed"

@@ -12,13 +12,25 @@
 #include <stdint.h>
 #include <string.h>
 
+/* The version of this header and of its library, which is that of the file VERSION: major * 1000 + minor. A library with another major
+   number, which its soname has (libzanderanvil.so.1), does not fit. */
+#define ZANDERANVIL_VERSION_MAJOR 1
+#define ZANDERANVIL_VERSION_MINOR 0
+#define ZANDERANVIL_VERSION_TEXT "1.0"
+#define ZANDERANVIL_VERSION (ZANDERANVIL_VERSION_MAJOR * 1000 + ZANDERANVIL_VERSION_MINOR)
+
+/* How many bytes of stack a call needs of its thread, with those that the system takes of it: checks/embed.sh runs each command in a
+   thread with a stack of this size. */
+#define ZANDERANVIL_STACK 131072
+
 #ifdef __cplusplus
 extern "C" {
 #endif
 
 /*
  * Bytes that are lent for a call, which only reads them. `bytes` is never NULL, also where `length` is 0:
- * zanderanvil_text("") is an empty file.
+ * zanderanvil_text("") is an empty file. `length` is at most PTRDIFF_MAX, as the size of every object in C: of a larger one,
+ * which no object has, nothing is said.
  */
 typedef struct {
     const uint8_t *bytes;
@@ -93,7 +105,7 @@ typedef struct {
  * file         gets the file that `build` and `migrate` write, whatever its name
  * file_room    how many bytes `file` has room for
  *
- * No pointer is NULL, also where the room is 0. `output` overlaps neither `file` nor the call nor any of its bytes,
+ * No pointer is NULL, also where the room is 0, and a room is at most PTRDIFF_MAX. `output` overlaps neither `file` nor the call nor any of its bytes,
  * and neither does `file`. Nothing else is written: no byte behind those that the outcome counts in either buffer.
  * Not to be called from a signal handler, nor from the forked child of a process with threads.
  */

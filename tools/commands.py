@@ -23,7 +23,7 @@ class Command(NamedTuple):
     more: str = ""
 
 
-PAGES = {"mx_run": "COMMANDS", "mx_lab": "LAB", "mx_cc": "C", "serve": "SERVE"}
+PAGES = {"mx": "COMMANDS", "mx_run": "COMMANDS", "mx_lab": "LAB", "mx_cc": "C", "serve": "SERVE"}
 
 BUDGET = Option("--budget", "N", "0 to 100,000,000 cycles (1,000,000)")
 # The laboratory runs for a cycle at least.
@@ -38,41 +38,42 @@ RUN = (
     Option("--dump", "A", "0 to 65,535: prints data words from this address on (no dump)"),
     Option("--count", "N", "1 to 65,536 words of the dump (1)"),
     Option("--trace", "N", "0 to 10,000 cycles, each with a line of its own (0)"),
+    OUTPUT,
 )
 
 COMMANDS = {
     "run": Command("mx_run", "SOURCE", "assembles, links and runs a source, and reports", RUN,
                    "Ends with 0 where the run halted, 3 where it is out of budget, 1 where the source is refused."),
     "meaning": Command("mx_run", "SOURCE", "executes a source one statement after the other", (
-        Option("--steps", "N", "0 to 100,000,064 statements (1,000,000)"), INPUT),
+        Option("--steps", "N", "0 to 100,000,064 statements (1,000,000)"), INPUT, OUTPUT),
         "Ends with 0 at a halt, 3 where it still runs, 9 where it is stuck."),
-    "list": Command("mx_run", "SOURCE", "lists the linked words, and where each comes from"),
+    "list": Command("mx_run", "SOURCE", "lists the linked words, and where each comes from", (OUTPUT,)),
     "build": Command("mx_run", "SOURCE IMAGE", "writes the linked program as a file"),
     "exec": Command("mx_run", "IMAGE", "runs such a file", RUN),
     "debug": Command("mx_run", "SOURCE LABEL", "stops the pipeline each time that it comes to a label", (
         Option("--stops", "N", "1 to 1,000 stops (1)"),
         Option("--watch", "A", "256 to 65,535: the data word that each stop shows (256)"),
-        BUDGET, INTERRUPTS, INPUT)),
-    "best": Command("mx_run", "SOURCE", "tells how far the scheduler is from the shortest plans"),
-    "share": Command("mx_run", "FIRST SECOND", "runs two sources on one machine", (BUDGET, INTERRUPTS)),
-    "join": Command("mx_run", "FIRST SECOND ..", "joins 2 to 16 texts to one source"),
+        BUDGET, INTERRUPTS, INPUT, OUTPUT)),
+    "best": Command("mx_run", "SOURCE", "compares the scheduler with the shortest plans", (OUTPUT,)),
+    "share": Command("mx_run", "FIRST SECOND", "runs two sources on one machine", (BUDGET, INTERRUPTS, OUTPUT)),
+    "join": Command("mx_run", "FIRST SECOND ..", "joins 2 to 16 texts to one source", (OUTPUT,)),
     "migrate": Command("mx_run", "IMAGE NEW", "writes an image file in the newest version"),
-    "gen": Command("mx_run", "SEED COUNT", "prints a generated source",
+    "gen": Command("mx_run", "SEED COUNT", "prints a generated source", (OUTPUT,),
                    more="SEED is 0 to 4,294,967,295, COUNT 0 to 4,000."),
-    "soak": Command("mx_run", "SEED COUNT", "runs a generated source under a thousand interrupts",
+    "soak": Command("mx_run", "SEED COUNT", "runs a generated source under a thousand interrupts", (OUTPUT,),
                     more="SEED is 0 to 4,294,967,295, COUNT 0 to 4,000."),
     "draw": Command("mx_lab", "SOURCE", "draws a run by its cycles", (
         Option("--as", "FORM", "text, svg, html, json, kanata or vcd (text)"),
         Option("--from", "N", "0 to 100,000,000: the first cycle that is drawn (0)"),
         Option("--cycles", "N", "1 to 100,000 cycles (64)"),
         LAB_BUDGET, INTERRUPTS, INPUT, OUTPUT)),
-    "check": Command("mx_lab", "SOURCE", "tells every faulty line of a source, and what is wrong with it", (
+    "check": Command("mx_lab", "SOURCE", "shows every faulty line of a source, and what is wrong with it", (
         Option("--all", "", "shows more than the first twenty"),
         Option("--as", "FORM", "text or json (text)"),
         Option("--colour", "WHEN", "always or never: the text in the colours of a terminal (never; ./mx says always on a terminal)"), OUTPUT)),
-    "explain": Command("mx_lab", "SOURCE", "tells how a run stands beside what the source means", (
+    "explain": Command("mx_lab", "SOURCE", "compares a run with the sequential semantics", (
         Option("--as", "FORM", "text or json (text)"), LAB_BUDGET, INTERRUPTS, INPUT, OUTPUT)),
-    "profile": Command("mx_lab", "SOURCE", "tells what each part of a source costs in a run", (
+    "profile": Command("mx_lab", "SOURCE", "measures what each part of a source costs in a run", (
         Option("--by", "PART", "line, label, function, or c for lines of C (line)"),
         Option("--sort", "COLUMN", "line, count, cycles, cpi, stalls, noops, squashed or killed (line)"),
         Option("--as", "FORM", "text, json or callgrind (text)"), LAB_BUDGET, INTERRUPTS, INPUT, OUTPUT)),
@@ -80,19 +81,19 @@ COMMANDS = {
         Option("--as", "FORM", "text, json or csv (text)"), LAB_BUDGET, INTERRUPTS, INPUT, OUTPUT)),
     "disassemble": Command("mx_lab", "FILE", "lists the words of a source or an image in assembly language", (
         Option("--as", "FORM", "text or json (text)"), OUTPUT)),
-    "caches": Command("mx_lab", "SOURCE", "tells what other caches would make of a run", (
+    "caches": Command("mx_lab", "SOURCE", "measures a run with other caches", (
         Option("--line", "N", "1 to 64 words of a line (16)"),
         Option("--brings", "N", "1 to 64 words, at most those of a line, that a miss makes valid (2)"),
         Option("--penalty", "N", "0 to 1,000 cycles of a miss (2)"),
         Option("--as", "FORM", "text, json or svg (text)"), LAB_BUDGET, INPUT, OUTPUT)),
-    "interrupts": Command("mx_lab", "SOURCE", "tells what an interrupt costs, in each cycle of a run in turn", (
+    "interrupts": Command("mx_lab", "SOURCE", "measures what an interrupt costs in each cycle of a run", (
         Option("--from", "N", "0 to 100,000,000: the first cycle in which a request comes (0)"),
         Option("--to", "N", "0 to 100,000,000: the last one (that of the undisturbed run)"),
         Option("--step", "N", "1 to 100,000,000 cycles between the requests of two runs (1)"),
         Option("--pairs", "", "runs with a request in each two of the cycles"),
         Option("--rows", "", "prints a row for each run as well"),
         Option("--as", "FORM", "text, json or csv (text)"), LAB_BUDGET, INPUT, OUTPUT)),
-    "trace": Command("mx_lab", "SOURCE", "tells each turn of a run, for programs that replay it", (
+    "trace": Command("mx_lab", "SOURCE", "prints each turn of a run, for programs that replay it", (
         Option("--as", "FORM", "jsonl (jsonl)"), LAB_BUDGET, INTERRUPTS, INPUT, OUTPUT)),
     "plans": Command("mx_lab", "SOURCE FILE", "runs a source by the plans of a scheduler of one's own", (
         Option("--print", "", "prints the list scheduler's own file, in place of FILE"), LAB_BUDGET, INTERRUPTS, INPUT, OUTPUT)),
@@ -103,15 +104,25 @@ COMMANDS = {
     "cc": Command("mx_cc", "FILE.c .. -o SOURCE", "compiles with gcc, and translates to a source",
                   more="Options before the files are gcc's; without -O0, -O1, -O3 or -Os it is -O2. It needs the Debian package gcc-mips-linux-gnu."),
     "c": Command("mx_cc", "FILE.c", "compiles with gcc at -O2, and runs it", RUN,
-                 "The options stand behind the file. It needs the Debian package gcc-mips-linux-gnu."),
+                 "The options come after the file. It needs the Debian package gcc-mips-linux-gnu."),
     "translate": Command("mx_cc", "FILE.s ..", "translates a compiler's assembly for MIPS-I", (
         Option("-o", "SOURCE", "the file that is written (standard output)"),)),
+}
+
+# The commands of ./mx itself, which no program answers.
+OWN = {
+    "prove": Command("mx", "[CRATE ..]", "proves and builds the programs, or the crates that are named; goes on where it was stopped"),
+    "test": Command("mx", "[CRATE ..]", "runs all tests and stored cases without proofs, or those of the crates that are named"),
+    "install": Command("mx", "PREFIX", "proves the toolchain and the laboratory, and puts them below a folder"),
+    "package": Command("mx", "DIR", "makes a Debian package of the proved toolchain and laboratory in a folder", (
+        Option("--unproved", "", "packages the programs that are built without proofs, and says so in the package's version"),)),
+    "library": Command("mx", "DIR", "leaves a proved library and its C header in a folder (docs/LIBRARY.md)"),
 }
 
 
 def help_of(name):
     """Returns the help of a command: its words, its options with their ranges and defaults."""
-    command = COMMANDS[name]
+    command = COMMANDS.get(name) or OWN[name]
     lines = [f"{name} {command.names}: {command.text}", "", f"usage: ./mx {name} {'[OPTIONS] ' if command.options else ''}{command.names}"]
     if command.options:
         wide = max(len(f"{it.name} {it.value}") for it in command.options)
@@ -120,13 +131,13 @@ def help_of(name):
     if command.more:
         lines += ["", command.more]
     page = PAGES[command.program]
-    end = "" if command.program in ("mx_cc", "serve") else "; `--` ends the options"
+    end = "" if command.program in ("mx", "mx_cc", "serve") else "; `--` ends the options"
     return "\n".join([*lines, "", f"docs/{page}.md has the whole of it{end}."])
 
 
 def main(words):
-    if len(words) != 1 or words[0] not in COMMANDS:
-        print(f"{__doc__.strip()}\n\n{', '.join(COMMANDS)}", file=sys.stderr)
+    if len(words) != 1 or words[0] not in {**COMMANDS, **OWN}:
+        print(f"{__doc__.strip()}\n\n{', '.join([*COMMANDS, *OWN])}", file=sys.stderr)
         return 2
     print(help_of(words[0]))
     return 0

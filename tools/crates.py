@@ -25,7 +25,7 @@ def read_crates():
 
 
 def crates_below(asked, crates):
-    """Returns all crates of the repository that these stand on, in order from below."""
+    """Returns all crates of the repository that these depend on, in order from below."""
     found, left = set(), [below for crate in asked for below in crates[crate]]
     while left:
         it = left.pop()
@@ -33,3 +33,13 @@ def crates_below(asked, crates):
             found.add(it)
             left += crates[it]
     return [it for it in crates if it in found]
+
+
+def is_program(folder):
+    """Tells whether the crate in this folder is a program."""
+    return os.path.isfile(f"{folder}/src/main.rt")
+
+
+def is_static(line):
+    """Tells whether the crate of a line of crates.txt is a static library for other languages."""
+    return "staticlib" in line.split(":")[0]

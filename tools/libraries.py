@@ -1,27 +1,15 @@
 """The two ways in which tools/prove.py proves a crate over those below it, and what it keeps of it."""
 import contextlib
-import hashlib
 import os
 import shutil
-import signal
-import subprocess
 import tempfile
 
-from crates import TOP, crates_below, kit_folder, read_crates, read_lines
+import state
+from crates import TOP, crates_below, is_program, is_static, read_crates, read_lines
 
-PARTS = ("src", "specs", "proofs")
 # The toolchain's own C code, which every program is linked with.
 OF_C = ("libos_c.a", "liblibc_c.a")
-
-
-def is_program(folder):
-    """Tells whether the crate in this folder is a program."""
-    return os.path.isfile(f"{folder}/src/main.rt")
-
-
-def files_of(folder):
-    """Returns all files that the proof of the crate in this folder reads, in their order."""
-    return sorted(f"{at}/{name}" for part in PARTS for at, _, names in os.walk(f"{folder}/{part}") for name in names)
+CHANGED = "changed while proving: run it again"
 
 
 def link(source, target):
@@ -32,106 +20,78 @@ def link(source, target):
         shutil.copy2(source, target)
 
 
-class Commands:
-    """The toolchain's commands that are running: where the block that is given them is left, they end."""
+def library(files, crate):
+    """Returns where the library of a crate is kept, below the folder of all crates."""
+    return f"{files}/{crate}/out/statements/{crate}.rlib"
 
-    def __init__(self):
-        self.running, self.is_stopped = set(), False
 
-    def __enter__(self):
-        return self
-
-    def __exit__(self, *_):
-        self.stop()
-
-    def run(self, folder, *words):
-        """Runs a command in a folder, and returns its status and what it printed."""
-        if self.is_stopped:
-            return 1, ""
-        how = {"stdin": subprocess.DEVNULL, "stdout": subprocess.PIPE, "stderr": subprocess.STDOUT, "text": True, "errors": "replace"}
-        with subprocess.Popen(words, cwd=folder, start_new_session=True, **how) as command:
-            self.running.add(command)
-            said, _ = command.communicate()
-            self.running.discard(command)
-        return command.returncode, said
-
-    def stop(self):
-        """Ends them with all that they started, and starts no other."""
-        self.is_stopped = True
-        for command in list(self.running):
-            with contextlib.suppress(ProcessLookupError):
-                os.killpg(command.pid, signal.SIGKILL)
+def toolchain_words(crate, lines, listed, kit="KIT", files="FILES", jobs="JOBS"):
+    """Returns the commands, each as its words, that prove and build a crate in its folder. With the names that stand for the
+    folders of this machine they are what a record calls its flags."""
+    own = [it for it in listed[crate] if it in listed]
+    others = ["std", *(it for it in listed[crate] if it not in listed)]
+    is_main, toolchain = is_program(f"{TOP}/crates/{crate}"), ["--toolchain", f"{kit}/toolchain"]
+    words = [f"{kit}/bin/rattle", "build", "--crate-name", crate, "src/main.rt" if is_main else "src/lib.rt"]
+    words += [word for it in others for word in ("--extern", f"{it}={kit}/rlibs/{it}.rlib")]
+    words += [word for it in own for word in ("--extern", f"{it}={library(files, it)}")]
+    words += ["-L", f"dependency={kit}/rlibs"]
+    words += [word for it in crates_below([crate], listed) for word in ("-L", f"dependency={os.path.dirname(library(files, it))}")]
+    words += ["--antt-project", f"{kit}/rattle/logic/antt-project.json", "--logic-built", f"{kit}/logic_built"]
+    words += ["--links", f"{crate}=", "--jobs", str(jobs)]
+    if is_static(lines[crate]):
+        return [[*words, "--crate-type", "staticlib", *toolchain, "-o", f"out/lib{crate}.a"]]
+    if not is_main:
+        return [[*words, "--statements", "-o", library(files, crate)]]
+    link_words = [f"{kit}/bin/rattle-link", "--target", "x86_64-unknown-linux-gnu", *toolchain, "-o", f"out/{crate}", f"out/{crate}.o"]
+    return [[*words, *toolchain, "-o", f"out/{crate}.o"], [*link_words, *(f"{kit}/c/{it}" for it in OF_C)]]
 
 
 class Statements:
-    """Proves crates by rattle itself, and keeps of each what others read of it, and a sum of all that its proof stands on."""
+    """Proves crates by rattle itself, and keeps of each what others read of it, and a record of what was proved."""
 
     def __init__(self, commands):
-        self.lines, self.listed, self.commands, self.sums = read_lines(), read_crates(), commands, {}
-        self.files, self.kit = f"{TOP}/crates", kit_folder()
-        self.version = subprocess.run(["rt", "version"], capture_output=True, check=True).stdout
+        self.lines, self.listed, self.commands = read_lines(), read_crates(), commands
+        self.files, self.kit = f"{TOP}/crates", state.Kit()
+        # What all crates are made of as this begins: a crate that is proved over libraries must still be over the same at its end.
+        self.sources = state.Sources()
 
-    def own(self, crate):
-        """Returns the crates of the repository that a crate's line lists."""
-        return [it for it in self.listed[crate] if it in self.listed]
+    def flags(self, crate):
+        return state.flags_of(toolchain_words(crate, self.lines, self.listed))
 
-    def library(self, crate):
-        """Returns where the crate's library is kept."""
-        return f"{self.files}/{crate}/out/statements/{crate}.rlib"
+    def output(self, crate):
+        return state.output_of(crate, self.lines[crate])
 
-    def sum(self, crate):
-        """Returns a sum of the toolchain, the crate's line and files, and the same of all crates below it."""
-        if crate not in self.sums:
-            found = hashlib.sha256(self.version + self.lines[crate].encode())
-            for file in files_of(f"{self.files}/{crate}"):
-                with open(file, "rb") as it:
-                    found.update(f"{os.path.relpath(file, self.files)}\0".encode() + hashlib.sha256(it.read()).digest())
-            for it in self.own(crate):
-                found.update(self.sum(it).encode())
-            self.sums[crate] = found.hexdigest()
-        return self.sums[crate]
-
-    def words(self, crate, jobs):
-        """Returns the words by which rattle reads the crate and the libraries below it."""
-        libraries = ["std", *(it for it in self.listed[crate] if it not in self.listed)]
-        words = ["--crate-name", crate, "src/main.rt" if is_program(f"{self.files}/{crate}") else "src/lib.rt"]
-        words += [word for it in libraries for word in ("--extern", f"{it}={self.kit}/rlibs/{it}.rlib")]
-        words += [word for it in self.own(crate) for word in ("--extern", f"{it}={self.library(it)}")]
-        words += ["-L", f"dependency={self.kit}/rlibs"]
-        below = crates_below([crate], self.listed)
-        words += [word for it in below for word in ("-L", f"dependency={os.path.dirname(self.library(it))}")]
-        words += ["--antt-project", f"{self.kit}/rattle/logic/antt-project.json", "--logic-built", f"{self.kit}/logic_built"]
-        return [*words, "--links", f"{crate}=", "--jobs", str(jobs)]
+    def is_done(self, crate):
+        """Tells whether the crate is proved, and what that left is as its record says."""
+        return state.holds(state.record_of(crate), self.sources.whole(crate), self.kit.sum, self.flags(crate), self.output(crate))
 
     def build(self, crate, jobs):
         """Proves and builds the crate, and returns the status and what was printed."""
-        folder, toolchain = f"{self.files}/{crate}", ["--toolchain", f"{self.kit}/toolchain"]
-        words = [f"{self.kit}/bin/rattle", "build", *self.words(crate, jobs)]
-        if "staticlib" in self.lines[crate].split(":")[0]:
-            return self.commands.run(folder, *words, "--crate-type", "staticlib", *toolchain, "-o", f"out/lib{crate}.a")
-        if not is_program(folder):
-            return self.commands.run(folder, *words, "--statements", "-o", self.library(crate))
-        status, said = self.commands.run(folder, *words, *toolchain, "-o", f"out/{crate}.o")
-        if status:
-            return status, said
-        words = ["--target", "x86_64-unknown-linux-gnu", *toolchain, "-o", f"out/{crate}", f"out/{crate}.o"]
-        status, more = self.commands.run(folder, f"{self.kit}/bin/rattle-link", *words, *(f"{self.kit}/c/{it}" for it in OF_C))
-        return status, said + more
+        told = ""
+        for words in toolchain_words(crate, self.lines, self.listed, self.kit.folder, self.files, jobs):
+            status, said = self.commands.run(f"{self.files}/{crate}", *words)
+            told += said
+            if status:
+                return status, told
+        return 0, told
 
     def prove(self, crate, jobs):
         """Proves the crate, and returns whether it is proved, and what was printed: nothing where it is what was proved."""
-        kept, wanted = f"{self.files}/{crate}/out/statements", self.sum(crate)
-        os.makedirs(kept, exist_ok=True)
-        if os.path.isfile(f"{kept}/sum"):
-            with open(f"{kept}/sum", encoding="utf-8") as it:
-                if it.read() == wanted:
-                    return True, ""
-            os.remove(f"{kept}/sum")
+        if self.is_done(crate):
+            return True, ""
+        os.makedirs(os.path.dirname(state.record_of(crate)), exist_ok=True)
+        with contextlib.suppress(FileNotFoundError):
+            os.remove(state.record_of(crate))
         status, said = self.build(crate, jobs)
-        if status == 0:
-            with open(f"{kept}/sum", "w", encoding="utf-8") as it:
-                it.write(wanted)
-        return status == 0, f"== {crate}\n{said}"
+        said = f"== {crate}\n{said}"
+        if status:
+            return False, said
+        if not self.sources.is_same(crate, state.Sources()) or state.Kit().sum != self.kit.sum:
+            return False, f"{said}\nmx: {crate}: {CHANGED}\n"
+        if not state.sum_of(self.output(crate)):
+            return False, f"{said}\nmx: {crate}: the toolchain left no {self.output(crate)}\n"
+        state.write_record(state.record_of(crate), self.sources.whole(crate), self.kit.sum, self.flags(crate), self.output(crate))
+        return True, said
 
     def close(self):
         """Leaves what was built where it is."""
@@ -168,6 +128,10 @@ class Rooms:
         if os.path.isdir(f"{room}/crates/{crate}/out"):
             shutil.move(f"{room}/crates/{crate}/out", f"{TOP}/crates/{crate}/out")
         shutil.rmtree(room, ignore_errors=True)
+
+    def is_done(self, crate):
+        """Leaves it to rt what is done."""
+        return False
 
     def prove(self, crate, jobs):
         """Proves and builds the crate, and returns whether that went well, and what rt printed."""

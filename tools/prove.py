@@ -10,16 +10,18 @@ one rt works in a crate at a time, and it holds the crates below too: so each cr
 the files of the crate and of those below it, and links to what was built of these.
 
 A program is built to out/NAME, a static library to out/libNAME.a. What the toolchain prints goes to the file LOG. Standard error
-tells each crate that is done. The exit status is 0 where all are proved, else 1; after an interrupt what is done stays.
+has a line for each crate that is done. The exit status is 0 where all are proved, else 1; after an interrupt what is done stays.
+While it runs it holds the lock .mx/prove.lock. A crate whose files, or those below it, change while it is proved is not recorded.
 """
 import concurrent.futures
 import os
-import signal
 import sys
 import time
 
-from crates import crates_below, read_crates
-from libraries import Commands, Rooms, Statements, files_of, is_program
+from crates import TOP, crates_below, is_program, read_crates
+from libraries import Rooms, Statements
+from processes import Commands, end_by_signals, locked, print_failure
+from state import files_of
 
 # On four processors; bench/README.md has the figures.
 ABOUT = "From nothing the toolchain takes some half an hour, and with the laboratory three quarters; what is done is kept"
@@ -97,7 +99,9 @@ def prove(prover, crates, asked, log):
             if not running:
                 # (what went wrong comes last)
                 log.writelines(failed)
-                if not failed:
+                if failed:
+                    print_failure("\n".join(failed))
+                else:
                     print(f"mx: all {len(crates)} are proved", file=sys.stderr)
                 return not failed
             for run in concurrent.futures.wait(running, return_when=concurrent.futures.FIRST_COMPLETED).done:
@@ -114,8 +118,19 @@ def prove(prover, crates, asked, log):
                     print(f"mx: {crate} {how} after {time.monotonic() - began:.0f} s", file=sys.stderr, flush=True)
 
 
-def interrupt(*_):
-    raise KeyboardInterrupt
+def prove_locked(crates, asked, log_name, for_check):
+    """Proves these crates, and returns the exit status. The caller holds the lock."""
+    commands = Commands()
+    prover = Rooms(commands, crates) if for_check else Statements(commands)
+    try:
+        if all(map(prover.is_done, crates)):
+            print(f"mx: all {len(crates)} are proved", file=sys.stderr)
+            return 0
+        print(f"mx: {' and '.join(asked)} with the crates below: {len(crates)}. {ABOUT}", file=sys.stderr, flush=True)
+        with open(log_name, "w", encoding="utf-8") as log:
+            return 0 if prove(prover, crates, asked, log) else 1
+    finally:
+        prover.close()
 
 
 def main(asked, log_name, for_check):
@@ -124,21 +139,22 @@ def main(asked, log_name, for_check):
     if unknown:
         print(f"mx: crates.txt has no crate {', '.join(unknown)}", file=sys.stderr)
         return 1
+    end_by_signals()
     below = crates_below(asked, listed)
     crates = [it for it in listed if it in below or it in asked]
-    print(f"mx: {len(below)} crates stand below {' and '.join(asked)}. {ABOUT}", file=sys.stderr, flush=True)
-    signal.signal(signal.SIGINT, interrupt)
-    signal.signal(signal.SIGTERM, interrupt)
-    commands = Commands()
-    prover = Rooms(commands, crates) if for_check else Statements(commands)
     try:
-        with open(log_name, "a", encoding="utf-8") as log:
-            return 0 if prove(prover, crates, asked, log) else 1
+        # (in a clone that cannot be written there is nothing to hold a lock for where all is done, and else nothing to be done)
+        if not for_check and all(map(Statements(None).is_done, crates)):
+            print(f"mx: all {len(crates)} are proved", file=sys.stderr)
+            return 0
+        with locked(f"{TOP}/.mx/prove.lock", "proves"):
+            return prove_locked(crates, asked, log_name, for_check)
     except KeyboardInterrupt:
-        print("mx: stopped; the next call goes on behind the crates that are done", file=sys.stderr)
+        print("mx: stopped; the next call goes on after the crates that are done", file=sys.stderr)
         return 1
-    finally:
-        prover.close()
+    except OSError as error:
+        print(f"mx: {error.strerror}: {error.filename}", file=sys.stderr)
+        return 1
 
 
 if __name__ == "__main__":

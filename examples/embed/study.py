@@ -2,17 +2,20 @@
 
     python3 examples/embed/study.py ./mx examples/full_slots.s full_slots.svg
 """
+from __future__ import annotations
+
 import os
 import sys
+from typing import Optional
 
 try:
-    from zanderanvil import Laboratory
+    from zanderanvil import Block, Laboratory, Plan
 except ImportError:
     sys.path.insert(0, os.path.join(os.path.dirname(os.path.abspath(__file__)), "../../python"))
-    from zanderanvil import Laboratory
+    from zanderanvil import Block, Laboratory, Plan
 
 
-def transfers_first(block):
+def transfers_first(block: Block) -> Optional[Plan]:
     """A transfer before the two instructions in front of it, which go into its slots, the later one first; a plan that is not
     valid is rejected, so nothing here has to be right."""
     last = len(block.instructions) - 1

@@ -9,12 +9,26 @@
 `Laboratory` has the laboratory's commands, by its program. `sweep` runs many runs side by side, and `survey` many studies of
 the laboratory, by any executor of concurrent.futures.
 """
-from .laboratory import Block, Drawing, Laboratory, Planned
+import importlib.metadata
+import os
+
+from .laboratory import Block, Drawing, Laboratory, Plan, Planned, Scheduler
 from .library import Explained, Meaning, Refusal, Run, Zanderanvil
 from .sweep import Case, Row, Study, survey, sweep
 
 __all__ = [
-    "Block", "Case", "Drawing", "Explained", "Laboratory", "Meaning", "Planned", "Refusal", "Row", "Run", "Study", "Zanderanvil",
-    "survey", "sweep",
+    "Block", "Case", "Drawing", "Explained", "Laboratory", "Meaning", "Plan", "Planned", "Refusal", "Row", "Run", "Scheduler", "Study",
+    "Zanderanvil", "survey", "sweep",
 ]
-__version__ = "1.0"
+
+
+def _version() -> str:
+    """The version: in a checkout that of the file VERSION, and else of what is installed."""
+    folder = os.path.dirname(os.path.dirname(os.path.abspath(__file__)))
+    if os.path.isfile(os.path.join(folder, "pyproject.toml")):
+        with open(os.path.join(folder, "VERSION"), encoding="ascii") as file:
+            return file.read().strip()
+    return importlib.metadata.version("zanderanvil")
+
+
+__version__ = _version()

@@ -1,19 +1,26 @@
 """The laboratory's commands, by its program: profiles, comparisons, pictures and plans as Python values (docs/LAB.md)."""
 from __future__ import annotations
 
+import contextlib
 import json
 import os
 import re
 import shutil
+import signal
 import subprocess
+import sys
 import tempfile
-from dataclasses import dataclass
-from typing import Callable, Iterable, Mapping, Optional, Sequence, Union
+import threading
+from dataclasses import dataclass, field
+from typing import IO, Any, Callable, Dict, Iterable, List, Mapping, Optional, Sequence, Tuple, Union, cast
 
 from .library import DONE, OUT_OF_BUDGET, Refusal, Run, read_run
 
 FAULTY = 1
 SOURCE = "source.s"
+# What ./mx prints as it builds a program at its first call, for people who wait.
+PROGRESS = b"mx: "
+Record = Dict[str, Any]
 # What a line has that is no instruction.
 COMMENT = re.compile(r";.*")
 LABEL = re.compile(r"[\w.]+\s*:")
@@ -49,10 +56,13 @@ class Drawing:
     laboratory: "Laboratory"
     words: list[str]
     files: dict[str, bytes]
+    made: dict[str, str] = field(default_factory=dict, repr=False)
 
     def form(self, name: str) -> str:
-        """The picture as `svg`, `html`, `text`, `json`, `kanata` or `vcd`."""
-        return self.laboratory.printed(*self.words, "--as", name, files=self.files).decode("utf-8")
+        """The picture as `svg`, `html`, `text`, `json`, `kanata` or `vcd`. Each is made once."""
+        if name not in self.made:
+            self.made[name] = self.laboratory.printed(*self.words, "--as", name, files=self.files).decode("utf-8")
+        return self.made[name]
 
     def _repr_svg_(self) -> str:
         return self.form("svg")
@@ -68,94 +78,173 @@ class Drawing:
             file.write(self.form(name if name in known else "text"))
 
 
-def _flat(record: Mapping, before: str = "") -> dict:
+def _flat(record: Mapping[str, Any], before: str = "") -> Record:
     """A record without records in it: their members' names follow their own."""
-    flat: dict = {}
+    flat: Record = {}
     for name, value in record.items():
         flat.update(_flat(value, f"{before}{name}_") if isinstance(value, Mapping) else {before + name: value})
     return flat
 
 
+def _records(output: bytes) -> List[Record]:
+    """The JSON objects that a command printed: one for each line, or one for all."""
+    try:
+        try:
+            found = [json.loads(output)]
+        except ValueError:
+            found = [json.loads(line) for line in output.splitlines()]
+    except ValueError:
+        raise Refusal(DONE, b"the program printed no JSON: " + output[:100]) from None
+    if not all(isinstance(it, dict) for it in found):
+        raise Refusal(DONE, b"the program printed no JSON objects: " + output[:100])
+    return found
+
+
+def _rows(document: Record, name: str) -> List[Record]:
+    """The records of a document that has a list of them."""
+    rows = document.get(name)
+    if not isinstance(rows, list):
+        raise Refusal(DONE, f"the program printed a document without {name}".encode())
+    return rows
+
+
+def _end(process: subprocess.Popen[bytes]) -> None:
+    """Ends a process that leads a session of its own, and all that it started."""
+    with contextlib.suppress(ProcessLookupError):
+        os.killpg(process.pid, signal.SIGKILL)
+
+
+def _copy(source: IO[bytes], kept: List[bytes]) -> None:
+    """Keeps the lines of standard error, and prints those of a build as they come."""
+    for line in source:
+        kept.append(line)
+        if line.startswith(PROGRESS):
+            sys.stderr.write(line.decode("utf-8", "replace"))
+            sys.stderr.flush()
+
+
 class Laboratory:
     """The laboratory's program: a path or words to start it, or what the variable ZANDERANVIL_LAB names, or `zanderanvil` of the
-    PATH, as `./mx install` leaves it. `mx` of a checkout serves as well.
+    PATH, as `./mx install` leaves it. `mx` of a checkout serves as well; what it prints as it builds its program at the first call,
+    which takes minutes, goes to standard error.
 
-    Every method runs the program once, on files of its own. A source that is refused raises `Refusal`.
+    Every method runs the program once, on files of its own, for at most `timeout` seconds where that is given; after these the
+    program is ended, and TimeoutError is raised. A source that is refused raises `Refusal`, and so does a program that is no
+    laboratory.
     """
 
-    def __init__(self, program: Union[str, Sequence[str], None] = None) -> None:
+    def __init__(self, program: Union[str, Sequence[str], None] = None, timeout: Optional[float] = None) -> None:
         given = program or os.environ.get("ZANDERANVIL_LAB") or shutil.which("zanderanvil")
         if not given:
             raise FileNotFoundError("give the path of mx or mx_lab, set ZANDERANVIL_LAB to it, or install it (./mx install PREFIX)")
         words = [given] if isinstance(given, str) else list(given)
         self.program = [os.path.abspath(words[0]) if os.path.exists(words[0]) else words[0], *words[1:]]
+        self.timeout = timeout
+        self._is_known = False
 
-    def answer(self, *words: str, files: Mapping[str, bytes] = {}) -> tuple[int, bytes, bytes]:
+    def answer(self, *words: str, files: Optional[Mapping[str, bytes]] = None) -> Tuple[int, bytes, bytes]:
         """Answers a command as (status, output, errors), in a folder that holds just these files."""
         with tempfile.TemporaryDirectory(prefix="zanderanvil-") as folder:
-            for name, content in files.items():
+            for name, content in (files or {}).items():
                 with open(os.path.join(folder, name), "wb") as file:
                     file.write(content)
-            done = subprocess.run([*self.program, *words], cwd=folder, stdin=subprocess.DEVNULL, capture_output=True, check=False)
-        return done.returncode, done.stdout, done.stderr
+            return self._run(words, folder)
 
-    def printed(self, *words: str, files: Mapping[str, bytes] = {}) -> bytes:
+    def _run(self, words: Sequence[str], folder: str) -> Tuple[int, bytes, bytes]:
+        """Runs the program in a folder."""
+        errors: List[bytes] = []
+        # (what is printed goes to a file: so there is one pipe alone to be read as it comes)
+        with tempfile.TemporaryFile() as output, subprocess.Popen(
+            [*self.program, *words], cwd=folder, env={**os.environ, "MX_QUIET": "1"}, stdin=subprocess.DEVNULL, stdout=output,
+            stderr=subprocess.PIPE, start_new_session=True,
+        ) as process:
+            reader = threading.Thread(target=_copy, args=(cast("IO[bytes]", process.stderr), errors), daemon=True)
+            reader.start()
+            try:
+                status = process.wait(self.timeout)
+            except BaseException as error:
+                _end(process)
+                if isinstance(error, subprocess.TimeoutExpired):
+                    raise TimeoutError(f"{' '.join(words[:1])} took more than {self.timeout} seconds") from None
+                raise
+            reader.join()
+            output.seek(0)
+            return status, output.read(), b"".join(errors)
+
+    def _know(self) -> None:
+        """Raises `Refusal` where the program is no laboratory: one that prints nothing says nothing of a source."""
+        if not self._is_known:
+            self.document("disassemble", b"halt\n")
+            self._is_known = True
+
+    def printed(self, *words: str, files: Optional[Mapping[str, bytes]] = None) -> bytes:
         """What a command prints that ends well, out of budget among that."""
         status, output, errors = self.answer(*words, files=files)
         if status not in (DONE, OUT_OF_BUDGET):
             raise Refusal(status, errors or output)
         return output
 
-    def document(self, command: str, source: bytes, *options: str, **given) -> dict:
+    def document(self, command: str, source: bytes, *options: str, **given: Any) -> Record:
         """The JSON document of a command on a source (docs/JSON.md)."""
         words, files = self._lent(command, source, options, **given)
-        return json.loads(self.printed(*words, "--as", "json", files=files))
+        output = self.printed(*words, "--as", "json", files=files)
+        found = _records(output)
+        if len(found) != 1:
+            raise Refusal(DONE, b"the program printed no JSON document: " + output[:100])
+        return found[0]
 
-    def check(self, source: bytes) -> list[dict]:
+    def check(self, source: bytes) -> List[Record]:
         """The faults and warnings of a source, each with its place, its sentence and what may have been meant."""
         status, output, errors = self.answer("check", SOURCE, "--all", "--as", "json", files={SOURCE: source})
-        if status not in (DONE, FAULTY):
-            raise Refusal(status, errors)
-        return [json.loads(line) for line in output.splitlines()]
+        found = _records(output)
+        if status not in (DONE, FAULTY) or (status == FAULTY and not found):
+            raise Refusal(status, errors or output)
+        if not found:
+            self._know()
+        return found
 
-    def explain(self, source: bytes, **given) -> dict:
+    def explain(self, source: bytes, **given: Any) -> Record:
         """How a run stands to the meaning of its source; of a source that is stuck, the line and what helps."""
         return self.document("explain", source, **given)
 
-    def profile(self, source: bytes, by: str = "line", **given) -> list[dict]:
+    def profile(self, source: bytes, by: str = "line", **given: Any) -> List[Record]:
         """A record for each `line`, `label`, `function`, or line of C (`c`), with what its cycles were spent on."""
-        return self.document("profile", source, "--by", by, **given)["rows"]
+        return _rows(self.document("profile", source, "--by", by, **given), "rows")
 
-    def compare(self, sources: Union[bytes, Mapping[str, bytes]], **given) -> list[dict]:
+    def compare(self, sources: Union[bytes, Mapping[str, bytes]], **given: Any) -> List[Record]:
         """A record for each source, by its name where there are several, and each scheduler."""
         named = sources if isinstance(sources, Mapping) else {"": sources}
-        records = []
+        records: List[Record] = []
         for name, source in named.items():
-            for row in self.document("compare", source, **given)["schedulers"]:
+            for row in _rows(self.document("compare", source, **given), "schedulers"):
                 records.append({"source": name, **_flat(row)} if name else _flat(row))
         return records
 
-    def caches(self, source: bytes, line: int = 16, brings: int = 2, penalty: int = 2, **given) -> list[dict]:
+    def caches(self, source: bytes, line: int = 16, brings: int = 2, penalty: int = 2, **given: Any) -> List[Record]:
         """A record for each cache, with the misses and cycles that a run would have with it."""
         options = ("--line", str(line), "--brings", str(brings), "--penalty", str(penalty))
-        return self.document("caches", source, *options, **given)["caches"]
+        return _rows(self.document("caches", source, *options, **given), "caches")
 
-    def interrupts(self, source: bytes, first: int = 0, last: Optional[int] = None, step: int = 1, pairs: bool = False, **given) -> dict:
+    def interrupts(self, source: bytes, first: int = 0, last: Optional[int] = None, step: int = 1, pairs: bool = False,
+                   **given: Any) -> Record:
         """What a request costs in each cycle from the first to the last in turn, or in each two: sums, histograms, and each run."""
         options = ["--rows", "--from", str(first), "--step", str(step), *(["--pairs"] if pairs else [])]
         options += [] if last is None else ["--to", str(last)]
         return self.document("interrupts", source, *options, **given)
 
-    def disassemble(self, source: bytes) -> list[dict]:
+    def disassemble(self, source: bytes) -> List[Record]:
         """A record for each word of a source's image, or of an image file: address, word, text, labels, and what its place is."""
-        return self.document("disassemble", source)["words"]
+        return _rows(self.document("disassemble", source), "words")
 
-    def trace(self, source: bytes, **given) -> list[dict]:
+    def trace(self, source: bytes, **given: Any) -> List[Record]:
         """A record for the program, one for each turn of a run, and one for its end."""
         words, files = self._lent("trace", source, (), **given)
-        return [json.loads(line) for line in self.printed(*words, files=files).splitlines()]
+        found = _records(self.printed(*words, files=files))
+        if len(found) < 2:
+            raise Refusal(DONE, b"the program printed no trace")
+        return found
 
-    def draw(self, source: bytes, first: int = 0, cycles: int = 64, **given) -> Drawing:
+    def draw(self, source: bytes, first: int = 0, cycles: int = 64, **given: Any) -> Drawing:
         """The pipeline in so many cycles from the first one on."""
         words, files = self._lent("draw", source, ("--from", str(first), "--cycles", str(cycles)), **given)
         drawing = Drawing(self, words, files)
@@ -174,7 +263,7 @@ class Laboratory:
             code = code[size:]
         return blocks
 
-    def plans(self, source: bytes, scheduler: Scheduler, **given) -> Planned:
+    def plans(self, source: bytes, scheduler: Scheduler, **given: Any) -> Planned:
         """Runs a source by a scheduler's plans. A plan that is not valid is rejected, and its block is padded: so every run does
         what the source means, whatever the scheduler gives."""
         lines = []

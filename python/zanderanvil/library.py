@@ -2,13 +2,16 @@
 from __future__ import annotations
 
 import ctypes
+import mmap
 import os
 from dataclasses import dataclass, field
-from typing import Iterable, Optional, Union
+from typing import Dict, Iterable, List, Mapping, Optional, Tuple, Type, Union
 
 DONE, OUT_OF_BUDGET, MEMORY, NOT_TEXT, TOO_SHORT = 0, 3, 6, 10, 11
 
 FILES = ("source", "second", "input", "interrupts", "image")
+# How much an answer may have so that it comes at the first call. The system gives such memory only as it is written to.
+OUTPUT_ROOM, FILE_ROOM = 64 << 20, 2 << 20
 
 
 class _Bytes(ctypes.Structure):
@@ -32,6 +35,10 @@ class Refusal(Exception):
         super().__init__(output.decode("utf-8", "replace").strip() or f"status {status}")
         self.status = status
         self.output = output
+
+    def __reduce__(self) -> Tuple[Type[Refusal], Tuple[int, bytes]]:
+        """So that it goes from one process to another."""
+        return Refusal, (self.status, self.output)
 
 
 @dataclass
@@ -81,38 +88,62 @@ class Explained:
 class _Reader:
     """A printed text, from its front on."""
 
-    def __init__(self, text):
+    def __init__(self, text: bytes) -> None:
         self.text = text
 
-    def line(self):
+    def line(self) -> str:
         line, _, self.text = self.text.partition(b"\n")
         return line.decode("ascii")
 
-    def count(self, name):
+    def count(self, name: str) -> int:
         word, number = self.line().split(" ")
         if word != name:
-            raise ValueError(f"{name} is wanted, and {word} is there")
+            raise ValueError(f"{name} was expected, and {word} was found")
         return int(number)
 
-    def console(self):
+    def console(self) -> bytes:
         size = self.count("console")
         console, self.text = self.text[:size], self.text[size + 1 :]
         return console
 
-    def registers(self):
+    def registers(self) -> Tuple[List[Union[int, str]], int]:
         """r0 to r31, and MD; none where the text ends here."""
         if self.text == b"":
             return [], 0
         self.line()
         values = [self.line().split(" ", 1)[1] for _ in range(32)]
-        read = [value if value.startswith("code") else int(value, 16) for value in values]
-        return [0] + read[:31], read[31]
+        read: List[Union[int, str]] = [value if value.startswith("code") else int(value, 16) for value in values]
+        return [0, *read[:31]], _number(read[31])
+
+
+def _number(value: Union[int, str]) -> int:
+    """A register that holds no place of code, as MD never does, nor any of a run."""
+    if isinstance(value, str):
+        raise ValueError(f"a number was expected, and {value} was found")
+    return value
+
+
+class _Room:
+    """A buffer for an answer: memory that the system gives as it is written to."""
+
+    def __init__(self, size: int) -> None:
+        self.size = size
+        self.memory = mmap.mmap(-1, max(size, 1))
+        self.buffer = (ctypes.c_char * max(size, 1)).from_buffer(self.memory)
+
+    def take(self, length: int) -> bytes:
+        """The first bytes. The buffer is gone after that."""
+        taken = self.memory[:length]
+        del self.buffer
+        self.memory.close()
+        return taken
 
 
 def read_run(status: int, output: bytes, trace: int = 0) -> Run:
     """Reads the report of a run that ended with a status, with so many lines of its trace before it, or fewer where it halted."""
     told = _Reader(output)
-    lines, line = [], told.line()
+    lines: List[List[str]] = []
+    line = told.line()
     while len(lines) < trace and line not in ("halted", "out of budget"):
         lines.append(line.split(" "))
         line = told.line()
@@ -122,7 +153,7 @@ def read_run(status: int, output: bytes, trace: int = 0) -> Run:
     registers, md = told.registers()
     words = [line.split(" ") for line in told.text.decode("ascii").splitlines()[1:]]
     data = {int(address, 16): int(word, 16) for address, word in words}
-    return Run(status == DONE, counts, console, registers, md, data, lines)
+    return Run(status == DONE, counts, console, [_number(it) for it in registers], md, data, lines)
 
 
 # A block has at most 64 statements: a run is told by its meaning where that is not stuck within so many more than its budget.
@@ -140,28 +171,36 @@ class Zanderanvil:
         self._command = ctypes.CDLL(self.path).zanderanvil_command
         self._command.restype = _Outcome
         self._command.argtypes = [
-            ctypes.POINTER(_Call), ctypes.c_char_p, ctypes.c_size_t, ctypes.c_char_p, ctypes.c_size_t,
+            ctypes.POINTER(_Call), ctypes.POINTER(ctypes.c_char), ctypes.c_size_t, ctypes.POINTER(ctypes.c_char), ctypes.c_size_t,
         ]
 
-    def answer(self, words, room=65536, file_room=65536, **files):
+    def answer(self, words: Iterable[str], room: int = OUTPUT_ROOM, file_room: int = FILE_ROOM,
+               **files: bytes) -> Tuple[_Outcome, bytes, bytes]:
         """Answers a command as (outcome, output, file), in buffers of this room, whatever its status.
 
         The words are the command's, and the files are bytes by their names: source, second, input, interrupts, image.
         """
+        return self._answer(list(words), room, file_room, files)
+
+    def _answer(self, words: List[str], room: int, file_room: int, files: Mapping[str, bytes]) -> Tuple[_Outcome, bytes, bytes]:
         if any("\n" in word or word.endswith("\r") for word in words):
             raise ValueError("a word with a line end")
+        unknown = sorted(files.keys() - set(FILES))
+        if unknown:
+            raise TypeError(f"unknown file {unknown[0]}: there are {', '.join(FILES)}")
         text = "".join(word + "\n" for word in words).encode("utf-8", "surrogateescape")
         lent = {"words": text, **dict.fromkeys(FILES, b""), **files}
-        call = _Call(**{name: _Bytes(bytes_, len(bytes_)) for name, bytes_ in lent.items()})
-        output, file = ctypes.create_string_buffer(max(room, 1)), ctypes.create_string_buffer(max(file_room, 1))
-        outcome = self._command(ctypes.byref(call), output, room, file, file_room)
-        return outcome, output.raw[: outcome.output], file.raw[: outcome.file]
+        call = _Call(**{name: _Bytes(content, len(content)) for name, content in lent.items()})
+        output, file = _Room(room), _Room(file_room)
+        outcome: _Outcome = self._command(ctypes.byref(call), output.buffer, room, file.buffer, file_room)
+        return outcome, output.take(outcome.output), file.take(outcome.file)
 
-    def command(self, *words, **files):
-        """Answers a command as (status, output, file), in buffers that are long enough."""
-        outcome, output, file = self.answer(words, **files)
+    def command(self, *words: str, **files: bytes) -> Tuple[int, bytes, bytes]:
+        """Answers a command as (status, output, file), in buffers that are long enough: a second call is made only for an answer
+        of more than 64 MiB."""
+        outcome, output, file = self._answer(list(words), OUTPUT_ROOM, FILE_ROOM, files)
         if outcome.status == TOO_SHORT:
-            outcome, output, file = self.answer(words, outcome.output_needed, outcome.file_needed, **files)
+            outcome, output, file = self._answer(list(words), outcome.output_needed, outcome.file_needed, files)
         if outcome.status in (MEMORY, NOT_TEXT):
             raise Refusal(outcome.status, b"")
         return outcome.status, output, file
@@ -184,9 +223,9 @@ class Zanderanvil:
         if not output.startswith((b"halted\n", b"running\n", b"stuck ")):
             raise Refusal(status, output)
         told = _Reader(output)
-        ended, steps, console = told.line(), told.count("steps"), told.console()
+        ended, taken, console = told.line(), told.count("steps"), told.console()
         registers, md = told.registers()
-        return Meaning(ended, steps, console, registers, md)
+        return Meaning(ended, taken, console, registers, md)
 
     def explain(self, source: bytes, budget: int = 1000000, interrupts: Iterable[int] = (), input: Optional[bytes] = None) -> Explained:
         """Runs a source and its meaning, and tells how they stand to each other."""
@@ -213,12 +252,13 @@ class Zanderanvil:
         return file
 
     @staticmethod
-    def _lend(words, files, input):
+    def _lend(words: List[str], files: Dict[str, bytes], input: Optional[bytes]) -> None:
         if input is not None:
             words += ["--input", "input"]
             files["input"] = input
 
-    def _run(self, word, name, files, budget, interrupts, input, trace, dump, count):
+    def _run(self, word: str, name: str, files: Dict[str, bytes], budget: int, interrupts: Iterable[int], input: Optional[bytes],
+             trace: int, dump: Optional[int], count: int) -> Run:
         words = [word, name, "--budget", str(budget), "--trace", str(trace), "--interrupts", "interrupts"]
         files["interrupts"] = "".join(f"{cycle}\n" for cycle in interrupts).encode("ascii")
         self._lend(words, files, input)

@@ -1,13 +1,17 @@
 """Many runs side by side: over sources, budgets, inputs and interrupts; and over schedulers and caches, by the laboratory."""
 from __future__ import annotations
 
+import functools
 import itertools
 from concurrent.futures import Executor
 from dataclasses import dataclass, field
-from typing import Any, Callable, Iterable, Iterator, Mapping, Optional, Sequence
+from typing import Any, Callable, Dict, Iterable, Iterator, List, Mapping, Optional, Sequence, TypeVar
 
 from .laboratory import Laboratory
 from .library import Refusal, Run, Zanderanvil
+
+Given = TypeVar("Given")
+Found = TypeVar("Found")
 
 
 @dataclass(frozen=True)
@@ -28,7 +32,7 @@ class Row:
     case: Case
     run: Optional[Run] = None
     refused: Optional[str] = None
-    settings: dict = field(default_factory=dict)
+    settings: Dict[str, Any] = field(default_factory=dict)
 
 
 # One library a process: a handle of ctypes does not go from one to another.
@@ -51,11 +55,11 @@ def cases(sources: dict[str, bytes], interrupts: Iterable[Sequence[int]] = ((),)
         yield Case(name, source, tuple(requests), input, budget)
 
 
-def _by(executor: Optional[Executor], call: Callable, subject: str, listed: list) -> list:
+def _by(executor: Optional[Executor], call: Callable[[Given], Found], listed: Sequence[Given]) -> List[Found]:
     """What a call gives for each of these, in their order, by an executor, or one after the other without one."""
     if executor is None:
-        return [call(subject, one) for one in listed]
-    return [future.result() for future in [executor.submit(call, subject, one) for one in listed]]
+        return [call(one) for one in listed]
+    return [future.result() for future in [executor.submit(call, one) for one in listed]]
 
 
 def sweep(library: str, wanted: Iterable[Case], executor: Optional[Executor] = None) -> list[Row]:
@@ -63,7 +67,7 @@ def sweep(library: str, wanted: Iterable[Case], executor: Optional[Executor] = N
 
     A call of the library takes no lock and keeps nothing, so threads serve; it holds Python's lock while it starts alone.
     """
-    return _by(executor, run_case, library, list(wanted))
+    return _by(executor, functools.partial(run_case, library), list(wanted))
 
 
 @dataclass(frozen=True)
@@ -77,17 +81,19 @@ class Study:
     given: Mapping[str, Any] = field(default_factory=dict)
 
 
-def run_study(program: str, study: Study) -> list[dict]:
+def run_study(program: str, study: Study, timeout: Optional[float] = None) -> List[Dict[str, Any]]:
     """The records of one study, each with the name of its source and what it was given."""
     told = {name: value for name, value in study.given.items() if isinstance(value, (int, str))}
     try:
-        records = getattr(Laboratory(program), study.command)(study.source, **study.given)
-    except Refusal as refusal:
+        records = getattr(Laboratory(program, timeout), study.command)(study.source, **study.given)
+    except (Refusal, TimeoutError) as refusal:
         records = [{"refused": str(refusal)}]
     return [{"source": study.name, "command": study.command, **told, **record} for record in records]
 
 
-def survey(program: str, wanted: Iterable[Study], executor: Optional[Executor] = None) -> list[dict]:
+def survey(program: str, wanted: Iterable[Study], executor: Optional[Executor] = None,
+           timeout: Optional[float] = None) -> List[Dict[str, Any]]:
     """The records of all studies, in their order, by an executor of threads, processes or a cluster: each is a run of the
-    laboratory's program."""
-    return [record for records in _by(executor, run_study, program, list(wanted)) for record in records]
+    laboratory's program. One that takes more than `timeout` seconds has a record `refused`, as one of a faulty source has."""
+    call = functools.partial(run_study, program, timeout=timeout)
+    return [record for records in _by(executor, call, list(wanted)) for record in records]

@@ -1,0 +1,201 @@
+#!/usr/bin/env python3
+"""Runs a program's command, and lets it write its file completely or not at all.
+
+usage: tools/launch.py PROGRAM COMMAND [ARGUMENT ..]
+
+Where the command writes a file that is a regular one or is not there yet, the program writes a new file beside it, which takes its
+place once the program has ended and has not failed to write. Devices and pipes are written as they are; a link stays one, and the
+file that it leads to is replaced. A file that the command also reads is refused with one line on standard error, and status 2, or
+that of the environment's MX_TOLD; `migrate` alone may write over what it reads. Else the exit status is the program's. The program
+ends where this one is ended.
+"""
+import contextlib
+import os
+import pty
+import secrets
+import stat
+import subprocess
+import sys
+import tty
+
+import commands
+from processes import end_by_signals
+
+USAGE, WRITE_FAULT, NOT_STARTED = 2, 5, 10
+# Of a shell: the status of a program that a signal ended.
+BY_SIGNAL = 128
+MOST_LINKS = 40
+CHUNK = 65536
+# Their files are those of open descriptors: to replace one would not be to write to it.
+SPECIAL = ("/dev/", "/proc/")
+
+
+class Place:
+    """Where an argument names a file: the argument's number, and what comes before the name in it."""
+
+    def __init__(self, number, before, name):
+        self.number, self.before, self.name = number, before, name
+
+
+def read_arguments(arguments):
+    """Returns the places of the files that a command reads, and that of the one that it writes, None if there is none. Arguments that
+    the table of commands does not have are left to the program, which refuses them."""
+    command = commands.COMMANDS.get(arguments[0])
+    if command is None:
+        return [], None
+    options, names, reads, writes = {it.name: it.value for it in command.options}, [], [], []
+    number, is_ended = 1, False
+    while number < len(arguments):
+        word = arguments[number]
+        option, sign, value = word.partition("=") if word.startswith("--") else (word[:2], "", word[2:])
+        if is_ended or word == "-" or not word.startswith("-"):
+            names.append(Place(number, "", word))
+        elif word == "--":
+            is_ended = True
+        elif option == "-o" and word != "-o" and command.program == "mx_lab":
+            before = word[:3] if value.startswith("=") else option
+            writes.append(Place(number, before, word[len(before):]))
+        elif sign and option in options:
+            (writes if option == "--output" else reads if options[option] == "FILE" else []).append(Place(number, f"{option}=", value))
+        elif word == "-o" or word in options:
+            if word == "-o" or options[word]:
+                number += 1
+            if number < len(arguments) and (word in ("-o", "--output") or options[word] == "FILE"):
+                (writes if word in ("-o", "--output") else reads).append(Place(number, "", arguments[number]))
+        else:
+            return [], None
+        number += 1
+    if arguments[0] in ("build", "migrate"):
+        if len(names) != 2:
+            return [], None
+        writes.append(names.pop())
+    return reads + names, writes[0] if len(writes) == 1 else None
+
+
+def read_twice(arguments, reads, target):
+    """Tells whether the file that is written is one that is read."""
+    if arguments[0] == "migrate":
+        return False
+    for it in reads:
+        with contextlib.suppress(OSError):
+            if os.path.samefile("/dev/stdin" if it.name == "-" else it.name, target):
+                return True
+    return False
+
+
+def real_path(name):
+    """Returns the file that a name leads to, or None where that goes by a descriptor or a device."""
+    path = os.path.abspath(name)
+    for _ in range(MOST_LINKS):
+        path = os.path.join(os.path.realpath(os.path.dirname(path)), os.path.basename(path))
+        if path.startswith(SPECIAL):
+            return None
+        if not os.path.islink(path):
+            return path
+        path = os.path.normpath(os.path.join(os.path.dirname(path), os.readlink(path)))
+    return None
+
+
+def replaceable(name):
+    """Returns the file that is to be replaced where this name is written to, or None where it has to be written to as it is."""
+    path = real_path(name)
+    if not name or name.endswith("/") or path is None or not os.access(os.path.dirname(path), os.W_OK | os.X_OK):
+        return None
+    if not os.path.lexists(path):
+        return path
+    return path if stat.S_ISREG(os.stat(path).st_mode) and os.access(path, os.W_OK) else None
+
+
+def copy_errors(source, fresh, name):
+    """Copies what the program prints on standard error, with the name that the user gave in the place of the new file's."""
+    left = b""
+    while True:
+        try:
+            piece = os.read(source, CHUNK)
+        except OSError:
+            piece = b""  # (a terminal whose other end is closed)
+        text = (left + piece).replace(fresh, name)
+        # (a part of the name may be all that has come of it)
+        held = next((size for size in range(len(fresh) - 1, 0, -1) if piece and text.endswith(fresh[:size])), 0)
+        left, text = text[len(text) - held:], text[: len(text) - held]
+        with contextlib.suppress(OSError):
+            while text:
+                text = text[os.write(2, text):]
+        if not piece:
+            return
+
+
+def run(words, fresh=None, name=None):
+    """Runs a program to its end, and returns its status."""
+    ours, theirs = (None, None) if fresh is None else pty.openpty() if os.isatty(2) else os.pipe()
+    if fresh is not None and os.isatty(2):
+        tty.setraw(theirs)
+    try:
+        process = subprocess.Popen(words, stderr=theirs)
+    finally:
+        if theirs is not None:
+            os.close(theirs)
+    try:
+        if ours is not None:
+            copy_errors(ours, os.fsencode(fresh), os.fsencode(name))
+        status = process.wait()
+    except KeyboardInterrupt:
+        process.terminate()
+        process.wait()
+        raise
+    return status if status >= 0 else BY_SIGNAL - status
+
+
+def put(fresh, path):
+    """Puts a new file that is complete in the place of another, with that one's owner and permissions."""
+    with open(fresh, "rb") as it:
+        os.fsync(it.fileno())
+    with contextlib.suppress(OSError):
+        was = os.stat(path)
+        os.chmod(fresh, stat.S_IMODE(was.st_mode))
+        if (was.st_uid, was.st_gid) != (os.geteuid(), os.getegid()):
+            os.chown(fresh, was.st_uid, was.st_gid)
+    os.replace(fresh, path)
+
+
+def run_beside(program, arguments, target, path):
+    """Runs a program that writes a new file beside the one at this path, and replaces that one."""
+    fresh = os.path.join(os.path.dirname(path), f".mx-{secrets.token_hex(8)}")
+    changed = list(arguments)
+    changed[target.number] = target.before + fresh
+    try:
+        status = run([program, *changed], fresh, target.name)
+        if status != WRITE_FAULT and status < BY_SIGNAL and os.path.lexists(fresh):
+            try:
+                put(fresh, path)
+            except OSError as error:
+                print(f"mx: cannot be written: {target.name}: {error.strerror}", file=sys.stderr)
+                return WRITE_FAULT
+        return status
+    finally:
+        with contextlib.suppress(OSError):
+            os.remove(fresh)
+
+
+def main(program, arguments):
+    reads, target = read_arguments(arguments) if arguments else ([], None)
+    if target is None:
+        return run([program, *arguments])
+    if read_twice(arguments, reads, target.name):
+        print(f"mx: {target.name}: this file is read, and cannot be the output as well: give another name", file=sys.stderr)
+        return int(os.environ.get("MX_TOLD", USAGE))
+    path = None if target.name == "-" and arguments[0] not in ("build", "migrate") else replaceable(target.name)
+    return run([program, *arguments]) if path is None else run_beside(program, arguments, target, path)
+
+
+if __name__ == "__main__":
+    if len(sys.argv) < 2:
+        sys.exit(__doc__)
+    end_by_signals()
+    try:
+        sys.exit(main(sys.argv[1], sys.argv[2:]))
+    except KeyboardInterrupt as interrupt:
+        # (as a shell says of a program that a signal ended)
+        sys.exit(BY_SIGNAL + (interrupt.args[0] if interrupt.args else 2))
+    except OSError as error:
+        sys.exit(f"mx: {error.strerror}: {error.filename}")

@@ -1,0 +1,94 @@
+"""The processes that a tool starts: they end with it, whatever ends it."""
+import contextlib
+import ctypes
+import fcntl
+import os
+import signal
+import subprocess
+import sys
+
+# Of prctl: which signal this process gets as its parent ends.
+PR_SET_PDEATHSIG = 1
+# The lines of a log that say how a build ended.
+LAST_LINES = 20
+
+
+ENDING = (signal.SIGINT, signal.SIGTERM, signal.SIGHUP)
+
+
+def interrupt(number, _frame):
+    # (a second one must not disturb what the first one has begun: to end all and to clear up)
+    for it in ENDING:
+        signal.signal(it, signal.SIG_IGN)
+    raise KeyboardInterrupt(number)
+
+
+def end_by_signals():
+    """Lets an interrupt, a request to end, a closed terminal and the end of ./mx raise KeyboardInterrupt, so that what was started
+    is ended too. A signal that is ignored at the start, as by nohup, stays ignored."""
+    for number in ENDING:
+        if signal.getsignal(number) != signal.SIG_IGN:
+            signal.signal(number, interrupt)
+    with contextlib.suppress(OSError, AttributeError):
+        ctypes.CDLL(None).prctl(PR_SET_PDEATHSIG, signal.SIGTERM, 0, 0, 0)
+
+
+class Commands:
+    """The toolchain's commands that are running: where the block that is given them is left, they end."""
+
+    def __init__(self):
+        self.running, self.is_stopped = set(), False
+
+    def __enter__(self):
+        return self
+
+    def __exit__(self, *_):
+        self.stop()
+
+    def run(self, folder, *words, **how):
+        """Runs a command in a folder, and returns its status and what it printed."""
+        if self.is_stopped:
+            return 1, ""
+        how = {"stdin": subprocess.DEVNULL, "stdout": subprocess.PIPE, "stderr": subprocess.STDOUT, "text": True, "errors": "replace", **how}
+        with subprocess.Popen(words, cwd=folder, start_new_session=True, **how) as command:
+            self.running.add(command)
+            try:
+                said, _ = command.communicate()
+            except BaseException:
+                end(command)
+                raise
+            finally:
+                self.running.discard(command)
+        return command.returncode, said
+
+    def stop(self):
+        """Ends them with all that they started, and starts no other."""
+        self.is_stopped = True
+        for command in list(self.running):
+            end(command)
+
+
+def end(command):
+    """Ends a command that leads a session of its own, and all that it started."""
+    with contextlib.suppress(ProcessLookupError):
+        os.killpg(command.pid, signal.SIGKILL)
+
+
+@contextlib.contextmanager
+def locked(path, what):
+    """Holds the lock of a build while the block runs; a second caller waits, and says so."""
+    os.makedirs(os.path.dirname(path), exist_ok=True)
+    with open(path, "a", encoding="utf-8") as lock:
+        try:
+            fcntl.flock(lock, fcntl.LOCK_EX | fcntl.LOCK_NB)
+        except BlockingIOError:
+            print(f"mx: another call {what}; waiting until it is done", file=sys.stderr, flush=True)
+            fcntl.flock(lock, fcntl.LOCK_EX)
+        yield
+
+
+def print_failure(said):
+    """Prints how a build ended that failed."""
+    print("mx: that failed, and this is how it ended:", file=sys.stderr)
+    for line in said.splitlines()[-LAST_LINES:]:
+        print(line, file=sys.stderr)
