@@ -221,9 +221,9 @@ def main():
         for name, words in (("mx", [f"{tiny.top}/mx"]), ("zanderanvil", [f"{tiny.folder}/prefix/bin/zanderanvil"])):
             call = Caller(tiny, name, words)
             for case in (inputs_stay, full_disk, replaced):
-                case(tally, call)
+                tally.run(case, call)
         for case in (installs, libraries, real_programs):
-            case(tally, tiny)
+            tally.run(case, tiny)
     finally:
         tiny.remove()
     return tally.status()
