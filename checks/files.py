@@ -6,7 +6,9 @@ usage: checks/files.py
 The cases run in a small repository with a toolchain of this check (checks/tiny.py). Where the environment names programs (MX_RUN,
 MX_LAB), these run as well, on a disk that is full where this user may mount one.
 """
+import contextlib
 import os
+import pty
 import shutil
 import stat
 import subprocess
@@ -133,6 +135,26 @@ def replaced(tally, call):
     tally.need(not call.left(), f"{call.name}: nothing else is left", call.left())
 
 
+def on_terminal(tally, call):
+    """On a terminal the program still has one for its messages."""
+    call.put("s")
+    call.put("old")
+    for more, status in (({}, 0), ({"FULL": "yes"}, 5)):
+        pid, terminal = pty.fork()
+        if pid == 0:
+            os.chdir(call.folder)
+            os.execve(call.words[0], [*call.words, "draw", "s", "-o", "old"], call.tiny.environment(MX_QUIET="1", TERMINAL="yes", **more))
+        said = b""
+        with contextlib.suppress(OSError):
+            while piece := os.read(terminal, 4096):
+                said += piece
+        ended_with = os.waitstatus_to_exitcode(os.waitpid(pid, 0)[1])
+        os.close(terminal)
+        holds = ended_with == status and b"a terminal" in said and b".mx-" not in said and (status == 0 or b"cannot be written: old" in said)
+        tally.need(holds, f"{call.name}: messages on a terminal, with status {status}", f"{ended_with} {said!r}")
+    tally.need(call.has("old", "draw done\n") and not call.left(), f"{call.name}: and the file is as it should be")
+
+
 def installs(tally, tiny):
     """The installation, over one that runs."""
     prefix = f"{tiny.folder}/prefix"
@@ -220,7 +242,7 @@ def main():
         tiny.mx("install", f"{tiny.folder}/prefix")
         for name, words in (("mx", [f"{tiny.top}/mx"]), ("zanderanvil", [f"{tiny.folder}/prefix/bin/zanderanvil"])):
             call = Caller(tiny, name, words)
-            for case in (inputs_stay, full_disk, replaced):
+            for case in (inputs_stay, full_disk, replaced, on_terminal):
                 tally.run(case, call)
         for case in (installs, libraries, real_programs):
             tally.run(case, tiny)
