@@ -8,7 +8,12 @@ import re
 import sys
 
 LABEL, WIDTH = 36, 4
-STAGES = ("IF", "RF", "ALU", "MEM", "WB")
+
+
+def need(holds, seen):
+    """Ends the check where something does not hold."""
+    if not holds:
+        sys.exit(f"FAILED: {seen}")
 
 
 def rows_of_text(path):
@@ -40,15 +45,16 @@ def check_page(page, text, cycle):
     # Words far from the newest one are in no part of the listing that is in view.
     listed = {address for address, _ in seen}
     wanted = [(address, cell) for address, cell in wanted if address in listed]
-    assert len(wanted) >= 3, wanted
-    assert seen == wanted, (seen, wanted)
+    need(len(wanted) >= 3, wanted)
+    need(seen == wanted, (seen, wanted))
+    return len(wanted)
 
 
 def check_kanata(path, text):
     cycle, addresses, begins, open_rows = None, {}, {}, set()
     with open(path, encoding="ascii") as file:
         lines = [line.rstrip("\n").split("\t") for line in file]
-    assert lines[0] == ["Kanata", "0004"], lines[0]
+    need(lines and lines[0] == ["Kanata", "0004"], lines[:1])
     for words in lines[1:]:
         kind = words[0]
         if kind == "C=":
@@ -56,33 +62,33 @@ def check_kanata(path, text):
         elif kind == "C":
             cycle += int(words[1])
         elif kind == "I":
-            assert words[1] not in addresses and len(words) == 4
+            need(words[1] not in addresses and len(words) == 4, words)
             addresses[words[1]] = None
             open_rows.add(words[1])
         elif kind == "L":
             if words[2] == "0":
                 addresses[words[1]] = words[3].split(":")[0]
         elif kind == "S":
-            assert words[1] in open_rows and words[2] == "0"
+            need(words[1] in open_rows and words[2] == "0", words)
             if words[3] != "wait":
                 begins.setdefault(cycle, []).append((addresses[words[1]], words[3]))
         elif kind == "R":
             open_rows.remove(words[1])
-            assert words[3] in ("0", "1")
+            need(words[3] in ("0", "1"), words)
         else:
-            raise AssertionError(words)
+            need(False, words)
     wanted = {c: sorted(x for x in row if x[1] != "..") for c, row in rows_of_text(text).items()}
     wanted = {c: row for c, row in wanted.items() if row}
-    assert {c: sorted(row) for c, row in begins.items()} == wanted
+    need({c: sorted(row) for c, row in begins.items()} == wanted, "the stages of the Kanata file are those of the text")
+    return sum(map(len, wanted.values()))
 
 
 def main(words):
     if len(words) != 3:
         sys.exit(__doc__)
-    if words[0] == "--kanata":
-        check_kanata(words[1], words[2])
-    else:
-        check_page(words[0], words[1], int(words[2]))
+    count = check_kanata(words[1], words[2]) if words[0] == "--kanata" else check_page(words[0], words[1], int(words[2]))
+    need(count > 0, "nothing was compared")
+    print(f"cells: compared {count} cells")
 
 
 if __name__ == "__main__":

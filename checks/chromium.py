@@ -16,8 +16,23 @@ import tempfile
 import time
 import urllib.request
 
+from common import PATIENCE, need_tools, skip
+
 CONTRAST = 4.5  # the least contrast of a text
 NAMED = ("button", "textbox", "spinbutton", "slider", "combobox", "region")
+
+
+class NotStarted(SystemExit):
+    """Chromium is there, and does not start."""
+
+
+def need_chromium():
+    """Skips the check where there is no Chromium, or none that starts."""
+    need_tools("chromium")
+    try:
+        Page(200, 200).close()
+    except NotStarted as error:
+        skip(str(error))
 
 
 class Page:
@@ -25,9 +40,10 @@ class Page:
 
     def __init__(self, width, height, dark=False):
         self.folder = tempfile.TemporaryDirectory()
-        words = ["chromium", "--headless", "--no-sandbox", "--disable-gpu", "--remote-debugging-port=0", "--remote-allow-origins=*"]
-        words += ["--user-data-dir=" + self.folder.name, "about:blank"]
-        self.process = subprocess.Popen(words, stdout=subprocess.DEVNULL, stderr=subprocess.DEVNULL)
+        words = ["chromium", "--headless", "--no-sandbox", "--disable-gpu", "--disable-dev-shm-usage", "--remote-debugging-port=0"]
+        words += ["--remote-allow-origins=*", "--user-data-dir=" + self.folder.name, "about:blank"]
+        # It gets a home of its own, since this one may be read-only.
+        self.process = subprocess.Popen(words, stdout=subprocess.DEVNULL, stderr=subprocess.DEVNULL, env={**os.environ, "HOME": self.folder.name})
         port = self.port()
         self.connect(port)
         self.number = 0
@@ -40,13 +56,17 @@ class Page:
 
     def port(self):
         name = os.path.join(self.folder.name, "DevToolsActivePort")
-        for _ in range(300):
+        for _ in range(300 * PATIENCE):
             if os.path.exists(name):
-                lines = open(name).read().split("\n")
+                with open(name, encoding="ascii") as it:
+                    lines = it.read().split("\n")
                 if len(lines) > 1:
                     return int(lines[0])
+            if self.process.poll() is not None:
+                break
             time.sleep(0.1)
-        raise SystemExit("Chromium does not start")
+        self.close()
+        raise NotStarted("Chromium does not start")
 
     def connect(self, port):
         pages = []
@@ -175,16 +195,6 @@ STEP_TIME = """(() => {
   }
   return times.sort((a, b) => a - b)[100];
 })()"""
-
-failures = 0
-
-
-def tell(name, holds, seen=""):
-    global failures
-    if not holds:
-        failures += 1
-    print(f"{'ok' if holds else 'FAILED'}: {name}" + ("" if holds else f": {seen}"))
-
 
 def main():
     if len(sys.argv) < 3:

@@ -1,8 +1,8 @@
 #!/usr/bin/env python3
 """Tells where crates.txt is not what the folders say. It takes a second.
 
-A crate has to list each crate of the repository that it names, and may list only crates that stand above it in the file, which
-begins below. A prefix is a layer: mx_ parts of the toolchain and the machine, law_ laws alone, cmd_ what commands read and
+A crate has to list each crate of the repository that it names, and may list only crates that are above it in the file, which
+begins below, and only crates and libraries that a file of it names. A prefix is a layer: mx_ parts of the toolchain and the machine, law_ laws alone, cmd_ what commands read and
 answer, lab_ the commands for people who look, cc_ the translation of C's assembly, embed_ the library, test_ and bench_. ALLOWED says which layer may stand on which,
 and EXCEPT which crates go beyond it, with the reason in crates.txt.
 
@@ -14,10 +14,12 @@ import sys
 
 TOP = os.path.dirname(os.path.dirname(os.path.abspath(__file__)))
 sys.path.insert(0, f"{TOP}/tools")
+import common  # noqa: E402
 from crates import read_crates  # noqa: E402
 
 LAYERS = ("mx", "law", "cmd", "lab", "cc", "embed", "test", "bench")
-NAMED = re.compile(r"\bRattle\.((?:%s)_[a-z_0-9]+)\.|\b((?:%s)_[a-z_0-9]+)::" % (("|".join(LAYERS),) * 2))
+# A crate or library where a file names it: in proofs after `Rattle.`, in code before `::`.
+NAMED = re.compile(r"\bRattle\.([a-z][a-z_0-9]*)\.|\b([a-z][a-z_0-9]*)::")
 ALLOWED = {
     "mx": {"mx"},
     "law": {"mx", "law"},
@@ -38,7 +40,7 @@ TOPS = {"mx_command": {"law", "cmd"}, "mx_run": {"cmd"}, "mx_lab": {"cmd", "lab"
 
 
 def named(crate):
-    """Returns the names of crates that stand in a crate's files, outside comments."""
+    """Returns the names of crates and libraries in a crate's files, outside comments."""
     names = set()
     for at, folders, files in os.walk(f"{TOP}/crates/{crate}"):
         folders[:] = [it for it in folders if it not in ("out", "must-fail", "data")]
@@ -62,9 +64,18 @@ def faults(crates):
     above = set()
     for crate, below in crates.items():
         own = [it for it in below if it in crates]
-        missing = sorted((named(crate) & set(crates)) - set(own) - {crate})
+        names = named(crate)
+        missing = sorted((names & set(crates)) - set(own) - {crate})
         if missing:
             yield f"{crate} does not list {', '.join(missing)}"
+        unused = [it for it in below if it not in names]
+        if unused:
+            yield f"{crate} lists {', '.join(unused)}, which no file of it names"
+        twice = sorted({it for it in below if below.count(it) > 1})
+        if twice:
+            yield f"{crate} lists {', '.join(twice)} twice"
+        if not os.path.isdir(f"{TOP}/crates/{crate}"):
+            yield f"{crate} has no folder"
         late = [it for it in own if it not in above]
         if late:
             yield f"{crate} stands in crates.txt before {', '.join(late)}"
@@ -75,10 +86,15 @@ def faults(crates):
 
 
 def main():
-    lines = list(faults(read_crates()))
-    print("\n".join(lines), end="\n" if lines else "")
-    sys.exit(1 if lines else 0)
+    if sys.argv[1:]:
+        common.wrong_arguments(f"unexpected argument {sys.argv[1]}")
+    crates = read_crates()
+    lines = list(faults(crates))
+    lines += [f"{it} is not in crates.txt" for it in sorted(os.listdir(f"{TOP}/crates")) if it not in crates and os.path.isdir(f"{TOP}/crates/{it}/src")]
+    for line in lines:
+        common.tell("crates.txt", False, line)
+    return common.finish("deps", "crates and libraries that crates list", sum(map(len, crates.values())))
 
 
 if __name__ == "__main__":
-    main()
+    sys.exit(main())

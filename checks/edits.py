@@ -9,6 +9,8 @@ import glob
 import os
 import sys
 
+import common
+
 TOP = os.path.dirname(os.path.dirname(os.path.abspath(__file__)))
 
 
@@ -35,12 +37,13 @@ def fault_of(edit):
 
 
 def main():
+    if sys.argv[1:]:
+        common.wrong_arguments(f"unexpected argument {sys.argv[1]}")
     faults = {edit: fault_of(edit) for edit in sorted(glob.glob(f"{TOP}/crates/*/must-fail/*.edit"))}
     for edit, fault in faults.items():
         if fault:
-            print(f"{os.path.relpath(edit, TOP)}: {fault}")
-    print(f"{sum(not it for it in faults.values())} of {len(faults)} edits can be applied")
-    return 1 if any(faults.values()) else 0
+            common.tell(os.path.relpath(edit, TOP), False, fault)
+    return common.finish("edits", "edits with the files that they change", len(faults))
 
 
 if __name__ == "__main__":

@@ -1,10 +1,10 @@
 #!/usr/bin/env python3
-"""Holds what `mx_lab` prints as JSON, and its traces, against docs/lab.schema.json and each other. By hand, and no part of the gate.
+"""Compares what `mx_lab` prints as JSON, and its traces, with docs/lab.schema.json and each other.
 
 usage: checks/lab_json.py [SOURCE..]
 
 It needs mx_lab as ./mx leaves it, or the program that MX_LAB names, and Debian's python3-jsonschema. Without sources it takes those
-of examples/ that halt. Of each: every text fits the schema; a profile's columns are the sums of its words', and those of each row make its
+of examples/ that halt, a few of them in a sample. Of each: every text fits the schema; a profile's columns are the sums of its words', and those of each row make its
 cycles; of `caches` the machine's own has the run's figures; of `interrupts` some rows are those of single runs and their traces, and
 the sums those of the rows; of all sources together, `compare` has the rows of each by itself, and their sums; what `disassemble` prints assembles to its words by the table of
 docs/MACHINE.md; a trace is replayed by checks/replay.py, also with interrupts; callgrind_annotate, where it is installed, reads the
@@ -21,12 +21,18 @@ import subprocess
 import sys
 import tempfile
 
-import jsonschema
-
+import common
 import replay
+from common import TOP
 
-TOP = os.path.dirname(os.path.dirname(os.path.abspath(__file__)))
-LAB = os.environ.get("MX_LAB", f"{TOP}/crates/mx_lab/out/mx_lab")
+try:
+    import jsonschema
+except ImportError:
+    common.skip("python3-jsonschema is missing")
+
+LAB = common.program("mx_lab")
+# What a sample takes of the examples, and how few of them there may be at all.
+SAMPLE, FEWEST = ("countdown.s", "echo.s", "full_slots.s"), 8
 COLUMNS = {"count": "executed", "squashed": "squashed", "squashes": "squashes", "cycles": "cycles"}
 WORD = 1 << 32
 
@@ -216,7 +222,7 @@ def added(first, second):
 def check_several(sources, schema):
     """Compares sources together, and each by itself."""
     told = json.loads(printed("compare", *sources, "--as", "json"))
-    jsonschema.validate(told, schema)
+    schema.validate(told)
     alone = [json.loads(printed("compare", it, "--as", "json")) for it in sources]
     need(told["sources"] == [{"source": it["source"], "schedulers": it["schedulers"]} for it in alone], "the records of each source")
     sums, halted = None, 0
@@ -236,7 +242,7 @@ def check_several(sources, schema):
 def check_trace(source, words, schema):
     lines = printed("trace", source, *words).splitlines()
     for line in [lines[0], *lines[1:200], lines[-1]]:
-        jsonschema.validate(json.loads(line), schema)
+        schema.validate(json.loads(line))
     return replay.replay(iter(lines))
 
 
@@ -256,20 +262,21 @@ def check(source, schema, folder):
     found = {}
     for command, *words in texts:
         found[command] = json.loads(printed(command, source, *words, "--as", "json"))
-        jsonschema.validate(found[command], schema)
+        schema.validate(found[command])
         if command == "profile":
             check_profile(found[command])
     for command in ("explain", "draw"):
-        jsonschema.validate(json.loads(printed(command, source, "--as", "json")), schema)
+        schema.validate(json.loads(printed(command, source, "--as", "json")))
     for line in printed("check", source, "--as", "json", "--all").splitlines():
-        jsonschema.validate(json.loads(line), schema)
+        schema.validate(json.loads(line))
     check_words(found["disassemble"], data_labels(source))
     check_caches(found["caches"])
     for words in (["--step", str(1 + found["caches"]["cycles"] // 2000)], ["--pairs", "--step", str(1 + found["caches"]["cycles"] // 20)]):
         told = json.loads(printed("interrupts", source, *words, "--as", "json"))
-        jsonschema.validate(told, schema)
+        schema.validate(told)
         check_interrupts(source, told, found["disassemble"], folder)
     turns, _ = check_trace(source, [], schema)
+    need(turns > 0, f"the trace of {source} has turns")
     requests = f"{folder}/requests"
     with open(requests, "w", encoding="ascii") as file:
         file.writelines(f"{cycle}\n" for cycle in range(5, 3 * turns, 41))
@@ -289,16 +296,32 @@ def is_source(path):
     return ends_well("check", path) and ends_well("explain", path, "--budget", "10000")
 
 
+def sources_of_examples():
+    """The examples that are compared."""
+    names = [f"{TOP}/examples/{it}" for it in SAMPLE] if common.IS_SAMPLE else sorted(glob.glob(f"{TOP}/examples/*.s"))
+    found = [it for it in names if is_source(it)]
+    need(len(found) >= (len(SAMPLE) if common.IS_SAMPLE else FEWEST), f"the examples halt, but for modules: {found}")
+    return found
+
+
 def main():
+    for it in sys.argv[1:]:
+        if not os.path.isfile(it):
+            common.wrong_arguments(f"{it}: no such file")
     with open(f"{TOP}/docs/lab.schema.json", encoding="utf-8") as text:
         schema = json.load(text)
-    sources = sys.argv[1:] or [it for it in sorted(glob.glob(f"{TOP}/examples/*.s")) if is_source(it)]
+    # made once, since it is slow to make
+    kind = jsonschema.validators.validator_for(schema)
+    kind.check_schema(schema)
+    schema = kind(schema)
+    sources = sys.argv[1:] or sources_of_examples()
     with tempfile.TemporaryDirectory() as folder:
         for source in sources:
             check(source, schema, folder)
     if len(sources) > 1:
         check_several(sources, schema)
+    return common.finish("JSON", "sources, each with all its documents and traces", len(sources))
 
 
 if __name__ == "__main__":
-    main()
+    sys.exit(main())

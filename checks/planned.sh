@@ -1,23 +1,22 @@
 #!/bin/bash
-# `plans` of the built program, as ./mx leaves it: what it prints of plan files that are accepted, rejected and faulty, worked
-# out by hand, and that what examples/schedule.py proposes for the examples and for drawn sources is accepted and halts with
-# the console that the source means. `rt ci` does not call this, since it needs a built program.
-top=$(CDPATH= cd -- "$(dirname -- "$0")/.." && pwd) || exit 1
+# `plans` of the built program, as ./mx leaves it: what it prints of plan files that are accepted, rejected and faulty, computed
+# manually, and that what examples/schedule.py proposes for the examples and for generated sources is accepted and halts with
+# the console of the sequential semantics.
+#
+# usage: checks/planned.sh      the programs are those that MX_LAB and MX_RUN name, or those that ./mx has built
+top=$(CDPATH='' cd -- "$(dirname -- "$0")/.." && pwd) || exit 1
+# shellcheck source=checks/common.sh
+. "$top/checks/common.sh"
+[ $# -eq 0 ] || wrong_arguments "unexpected argument $1"
+need_tools python3
+choose_program mx_run "${MX_RUN-}"
+run=$program
+choose_program mx_lab "${MX_LAB-}"
+lab=$program
 folder=$(mktemp -d) || exit 1
 trap 'rm -rf "$folder"' EXIT
 cd "$folder" || exit 1
 cp "$top"/examples/*.s . || exit 1
-failures=0
-
-# tell OUTCOME NAME: prints whether a test held, where its outcome is `ok`
-tell() {
-    if [ "$1" = ok ]; then
-        echo "ok: $2"
-    else
-        echo "FAILED: $2: $1"
-        failures=$((failures + 1))
-    fi
-}
 
 # report CYCLES FETCHES MISSES SQUASHES WORDS NOOPS CONSOLE [NUMBER=WORD ..]: the report of a run that halts; registers that
 # are not given are 0
@@ -38,8 +37,8 @@ report() {
 # expect NAME STATUS SOURCE PLANS: `plans` of a file with these plans ends so, and prints what `wanted` holds; where the file is
 # faulty, that goes to standard error behind the file's name, and nothing is printed
 expect() {
-    printf -- "$4" >file
-    "$top/mx" plans "$3" file >out 2>err
+    printf '%b' "$4" >file
+    "$lab" plans "$3" file >out 2>err
     local status=$? told=out quiet=err
     [ "$2" -eq 0 ] || told=err quiet=out
     if [ "$status" -eq "$2" ] && cmp -s "$told" wanted && ! [ -s "$quiet" ]; then tell ok "$1"; else tell "status $status, $(head -n 1 "$told")" "$1"; fi
@@ -89,10 +88,10 @@ echo 'file: plans line 4: NoBlock' >wanted
 expect 'a line too many' 8 countdown.s '\n\n\n0\n'
 
 printf '0 1\n0 1 / - -\n/\n' >wanted
-"$top/mx" plans countdown.s --print >out 2>err
+"$lab" plans countdown.s --print >out 2>err
 status=$?
 if [ "$status" -eq 0 ] && cmp -s out wanted; then tell ok 'the plans of the list scheduler'; else tell "status $status" 'the plans of the list scheduler'; fi
-"$top/mx" plans countdown.s missing >out 2>err
+"$lab" plans countdown.s missing >out 2>err
 status=$?
 if [ "$status" -eq 4 ] && [ "$(cat err)" = 'no such file: missing' ] && ! [ -s out ]; then tell ok 'no plan file'; else tell "status $status" 'no plan file'; fi
 
@@ -101,16 +100,19 @@ consoled() { sed -n '/^console/,/^registers/p' "$1" | tr '\0' '?'; }
 
 # scheduled SOURCE: what the scheduler of the examples proposes is accepted, and the run has the console of the meaning
 scheduled() {
-    "$top/mx" plans "$1" --print | "$top/examples/schedule.py" "$1" >file
-    "$top/mx" plans "$1" file --input hello.s >out
-    "$top/mx" meaning "$1" --input hello.s >wanted
-    if grep -q '^plan ' out; then tell "$(head -n 1 out)" "the plans of schedule.py for $1"
-    elif [ "$(consoled out)" = "$(consoled wanted)" ]; then tell ok "the plans of schedule.py for $1"
-    else tell 'another console' "the plans of schedule.py for $1"; fi
+    local outcome=ok
+    if ! "$lab" plans "$1" --print >printed 2>err; then outcome="plans --print: $(head -n 1 err)"
+    elif ! "$top/examples/schedule.py" "$1" <printed >file 2>err; then outcome="schedule.py: $(head -n 1 err)"
+    elif ! "$lab" plans "$1" file --input hello.s >out 2>err; then outcome="plans: $(head -n 1 out err)"
+    elif ! "$run" meaning "$1" --input hello.s >wanted 2>err; then outcome="meaning: $(head -n 1 wanted err)"
+    elif grep -q '^plan ' out; then outcome=$(head -n 1 out)
+    elif [ -z "$(consoled wanted)" ]; then outcome='no console'
+    elif [ "$(consoled out)" != "$(consoled wanted)" ]; then outcome='another console'; fi
+    tell "$outcome" "the plans of schedule.py for $1"
 }
 for source in calls countdown echo full_slots greeting hello load_last two_loads; do scheduled "$source.s"; done
 for seed in {1..20}; do
-    "$top/mx" gen "$seed" 300 >"gen_$seed.s"
+    "$run" gen "$seed" 300 >"gen_$seed.s" || tell "status $?" "gen $seed"
     scheduled "gen_$seed.s"
 done
-[ "$failures" -eq 0 ]
+finish plans runs

@@ -1,8 +1,9 @@
 #!/usr/bin/env python3
-# A slow second reading of the rules on blocks, plans and copies, as conditions on finished lists. It prints
-# crates/test_plan_cases/data/plans.txt, always the same: checks/plans.py | cmp - crates/test_plan_cases/data/plans.txt
-# `checks/plans.py figures` prints instead how often the greedy plan of a drawn block is longer than a shortest one.
+# A slow second reading of the rules on blocks, plans and copies, as conditions on finished lists. Its cases have to be those of
+# crates/test_plan_cases/data/plans.txt: `checks/plans.py` compares them, and `checks/plans.py print` prints them.
+# `checks/plans.py figures` prints instead how often the greedy plan of a random block is longer than a shortest one.
 import random, sys
+import common
 from itertools import combinations
 MD = 32
 class I:
@@ -136,7 +137,7 @@ def answer(lines, insts, labelled, inp):
     out=[]
     for n,b in enumerate(bs):
         pi,pp=padded(b); gi,gp=plans[n]
-        assert valid(b,(pi,pp)) and valid(b,(gi,gp))
+        if not (valid(b,(pi,pp)) and valid(b,(gi,gp))): sys.exit('FAILED: a plan is not valid: '+show(gi))
         fr,c,sq=copies(bs,plans,starts,n)
         best=str(shortest(b)) if len(b.insts)<=8 else '-'
         out.append('%d: padded %s at %d, greedy %s at %d, best %s, backwards %s, copies %s %d%s'%(b.first,show(pi),pp,show(gi),gp,best,'accepted' if valid(b,backwards(b)) else 'rejected',show(fr),c,' squash' if sq else ''))
@@ -191,7 +192,7 @@ def figures(count=1000):
         labels=[('L0',0)]; n=rnd.randrange(8,40)
         insts=[draw(rnd,labels,False,[0,1,2,3,4,5]) for _ in range(n)]
         drawn+=[b for b in blocks(insts,{0},False) if 2<=len(b.insts)<=8]
-    drawn=drawn[:count]; by={}; longer=0; pad=list_=best=0
+    drawn=drawn[:count]; by={}; pad=list_=best=0
     for b in drawn:
         g,s=len(greedy(b)[0]),shortest(b); pad+=len(padded(b)[0]); list_+=g; best+=s
         by[g-s]=by.get(g-s,0)+1
@@ -199,6 +200,7 @@ def figures(count=1000):
     for d in sorted(by): print('longer by %d: %d'%(d,by[d]))
     print('padded %d\nlist %d\nbest %d'%(pad,list_,best))
 if sys.argv[1:]==['figures']: figures(); sys.exit()
+if sys.argv[1:] not in ([],['print']): common.wrong_arguments('unexpected argument '+sys.argv[1])
 def lit(*xs): return xs
 rnd=random.Random(20261127)
 out=[]
@@ -236,4 +238,8 @@ for c in range(300):
     out.append(case(rnd,rnd.randrange(1,15),inp,rnd.randrange(1,4),[0,1,2,3,4,5][:rnd.choice([4,6])]))
 for c in range(20):
     out.append(case(rnd,rnd.randrange(20,40),False,1,[0,1,2,3,4,5,6,7]))
-print('\n'.join(out))
+if sys.argv[1:]: print('\n'.join(out)); sys.exit()
+with open(common.TOP+'/crates/test_plan_cases/data/plans.txt',encoding='ascii') as text: kept=text.read().splitlines()
+for n in range(max(len(out),len(kept))):
+    if out[n:n+1]!=kept[n:n+1]: common.tell('line %d of plans.txt'%(n+1),False,out[n:n+1])
+sys.exit(common.finish('plan cases','sources with all their plans',min(len(out),len(kept))))

@@ -1,31 +1,37 @@
 #!/usr/bin/env python3
-"""Compares `profile` with `run`, `list`, `meaning` and a small interpreter on drawn sources. By hand, and no part of the gate.
+"""Compares `profile` with `run`, `list`, `meaning` and a small interpreter on generated sources.
 
 usage: checks/profiles.py [SOURCES]
 
-It needs mx_lab and mx_run as ./mx leaves them, or the programs that MX_LAB and MX_RUN name. The sources, 300 of them if no number is given, are those of `gen`, each with
-drawn interrupts. Of each profile: the sums are the counts of `run`; each line's count is how often the interpreter, which is
+It needs mx_lab and mx_run as ./mx leaves them, or the programs that MX_LAB and MX_RUN name. The sources, 300 of them if no number is
+given and 40 in a sample, are those of `gen`, each with random interrupts. Of each profile: the sums are the counts of `run`; each line's count is how often the interpreter, which is
 written from docs/SOURCE.md, executes it, and all together are the steps of `meaning`; the copies stand where `list` has them.
 """
-import os
 import random
 import re
 import subprocess
 import sys
 import tempfile
 
-TOP = os.path.dirname(os.path.dirname(os.path.abspath(__file__)))
+import common
+
 COST = re.compile(r".{6} +(\d+) +(\d+) +(?:\d+\.\d|-) +(?:\d+\.\d\d|-) +(\d+) +(\d+) +(\d+) +(\d+)  (.*)")
 HEAD = ["line", "count", "cycles", "%", "CPI", "stalls", "no-ops", "squashed", "killed", "source"]
 COUNTS = ("cycles", "fetches", "misses", "squashes", "interrupts")
 WORD = 2**32
+PROGRAMS = {it: common.program(it) for it in ("mx_lab", "mx_run")}
 
 
 def answered(program, *words):
     """Returns the exit status of a program and what it prints."""
-    named = os.environ.get(program.upper(), f"{TOP}/crates/{program}/out/{program}")
-    done = subprocess.run([named, *words], capture_output=True, check=False)
+    done = subprocess.run([PROGRAMS[program], *words], capture_output=True, check=False)
     return done.returncode, done.stdout.decode("latin-1")
+
+
+def need(holds, what, seen=""):
+    """Ends the check where something does not hold; an assertion would not, under PYTHONOPTIMIZE."""
+    if not holds:
+        sys.exit(f"FAILED: {what}" + (f": {seen}" if seen else ""))
 
 
 def signed(word):
@@ -91,14 +97,14 @@ def counts_of(text):
 def profiled(source, text):
     """Returns the costs and the copies of the lines of a profile, the costs of its named rows, and its counts."""
     rows = text.split("\n")
-    assert rows.pop(0).split() == HEAD
+    need(rows.pop(0).split() == HEAD, "the head of a profile")
     costs, copies, named = {}, {}, {}
     for number, line in enumerate(source.splitlines(), 1):
         row = rows.pop(0)
         found = COST.fullmatch(row)
-        assert (found[7] if found else row.lstrip()) == line, (row, line)
+        need((found[7] if found else row.lstrip()) == line, "the line of a row", (row, line))
         if found:
-            assert int(row[:6]) == number
+            need(int(row[:6]) == number, "the number of a row", row)
             costs[number] = [int(it) for it in found.groups()[:6]]
         if rows[0].strip().startswith("copies at "):
             copies[number] = [it.removeprefix("0x") for it in rows.pop(0).split()[2:]]
@@ -120,40 +126,51 @@ def check(seed, count, folder):
     meaning = Meaning(source)
     meaning.run()
     status, text = answered("mx_lab", "profile", path, "--interrupts", at)
-    costs, copies, named, counts = profiled(source, text)
     run = answered("mx_run", "run", path, "--interrupts", at)
+    need(status == run[0] == 0, f"gen {seed} {count} halts", (status, run[0]))
+    costs, copies, named, counts = profiled(source, text)
     ran = counts_of(run[1])
-    assert status == run[0] == 0
-    # the sums
-    assert {it: counts[it] for it in COUNTS} == {it: ran[it] for it in COUNTS}
-    columns = [sum(column) for column in zip(*costs.values(), named["the handler"], named["behind the code"])]
-    assert columns == named["together"]
-    # the cycles of a row are those of its other columns
-    for count, cycles, *others in [*costs.values(), *named.values()]:
-        assert cycles == count + sum(others)
-    assert columns[1] + counts["waiting"] == ran["cycles"]
-    assert columns[1] - columns[2] == ran["fetches"]
-    assert columns[3] == counts["noops passed"]
-    assert columns[4] <= 2 * ran["squashes"] and (ran["interrupts"] > 0) == (named["the handler"][1] > 0)
+    where = f"of gen {seed} {count}"
+    compare_sums(costs, named, counts, ran, where)
     # the lines
-    assert {number: cost[0] for number, cost in costs.items()} == {number: meaning.executed.get(number, 0) for number, *_ in meaning.items}
+    executed = {number: meaning.executed.get(number, 0) for number, *_ in meaning.items}
+    need({number: cost[0] for number, cost in costs.items()} == executed, f"how often each line is executed {where}")
     steps = counts_of(answered("mx_run", "meaning", path)[1])["steps"]
-    assert sum(cost[0] for cost in costs.values()) == steps
+    need(sum(cost[0] for cost in costs.values()) == steps, f"the steps {where}")
     listed = {}
     for address, line in re.findall(r"^([0-9a-f]{8}) [0-9a-f]{8} \+(\d+)$", answered("mx_run", "list", path)[1], re.M):
         listed.setdefault(int(line), []).append(address)
-    assert copies == listed
+    need(copies == listed, f"the copies {where}")
     return ran["interrupts"], sum(len(it) for it in copies.values()), ran["squashes"]
 
 
+def compare_sums(costs, named, counts, ran, where):
+    """Compares the sums of a profile with the counts of the run."""
+    need({it: counts[it] for it in COUNTS} == {it: ran[it] for it in COUNTS}, f"the counts {where}")
+    columns = [sum(column) for column in zip(*costs.values(), named["the handler"], named["behind the code"])]
+    need(columns == named["together"], f"the sums of the columns {where}")
+    # the cycles of a row are those of its other columns
+    for count, cycles, *others in [*costs.values(), *named.values()]:
+        need(cycles == count + sum(others), f"the cycles of a row {where}")
+    need(columns[1] + counts["waiting"] == ran["cycles"], f"all cycles {where}")
+    need(columns[1] - columns[2] == ran["fetches"], f"the fetches {where}")
+    need(columns[2] <= 2 * ran["misses"] <= columns[2] + counts["waiting"], f"the stalls {where}")
+    need(columns[3] == counts["noops passed"], f"the no-ops {where}")
+    need(columns[4] <= 2 * ran["squashes"] and (ran["interrupts"] > 0) == (named["the handler"][1] > 0), f"the squashed words {where}")
+
+
 def main(words):
-    sources = int(words[0]) if words else 300
+    if len(words) > 1 or words and not re.fullmatch("[1-9][0-9]{0,5}", words[0]):
+        common.wrong_arguments(f"expected a number of sources above 0, found {' '.join(words)}")
+    sources = int(words[0]) if words else 40 if common.IS_SAMPLE else 300
     totals = [0, 0, 0]
     with tempfile.TemporaryDirectory() as folder:
         for seed in range(1, sources + 1):
             found = check(seed, 1 + seed * 7 % 120, folder)
             totals = [a + b for a, b in zip(totals, found)]
-    print(f"{sources} sources agree: {totals[0]} interrupts, {totals[1]} copies, {totals[2]} squashes")
+    print(f"{totals[0]} interrupts, {totals[1]} copies, {totals[2]} squashes")
+    need(sources < 10 or all(totals), "interrupts, copies and squashes are among them")
+    return common.finish("profiles", "sources", sources)
 
 
-main(sys.argv[1:])
+sys.exit(main(sys.argv[1:]))

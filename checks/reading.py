@@ -1,143 +1,106 @@
 #!/usr/bin/env python3
-"""What has to be read to believe the headline: every definition that the clause `headline` of `command` leads to.
+"""What a reader has to read to believe the theorem of the shipped program: every definition that a clause of its call leads to.
 
-usage: checks/reading.py            refuses a list in docs/READING.md that is not that of the definitions
-       checks/reading.py --write    writes the tables of that page again
-       checks/reading.py --names    prints which definitions of each file are meant
+usage: checks/reading.py            refuses docs/READING.md where it differs from the code
+       checks/reading.py --write    writes the generated tables of that page again
+       checks/reading.py --names    prints which definitions of each file belong to which part
 
-It begins at the clause, follows each definition by its names, types of .rt files too, and leaves aside the assembler and the words
-of a command line (ASIDE). Lines are those of the definitions that are reached and of the comments over them, without imports and
-empty lines; of a file of code those of the types that are named.
+It begins at every clause of `command_on_system` (crates/mx_command/src/system.rt) and follows each definition by its names
+(definitions.py). It compares: the clauses and the fields that the page quotes; the files, names and lines of each part; the values of
+constants; the laws of terms that proofs give; and the trusted lines (trusted.py). Lines are those of the definitions that are reached
+and of the comments over them, without imports and empty lines; of a file of code those of the types that are named.
 """
-import pathlib
 import re
 import sys
 
-ROOT = pathlib.Path(__file__).resolve().parent.parent
+import trusted
+from definitions import NAME, ROOT, Walk, clauses_of, imports_of
+
 PAGE = ROOT / "docs/READING.md"
-TOP = ("mx_command", "src/top.rt", "headline")
-ASIDE = {"mx_lex": "the assembler", "mx_lines": "the assembler", "mx_asm": "the assembler", "cmd_table": "the words of a command line",
-         "cmd_line": "the words of a command line"}
-# The parts, by crates or by single files: how reports and interrupt files are spelled, what is claimed, the machine, and which words run.
+TOP = ROOT / "crates/mx_command/src/system.rt"
+CALL = "command_on_system"
+HEADLINE = ROOT / "crates/mx_command/specs/Headline.antt"
+# The types of the call itself, besides those that its clauses name.
+TYPES = (("mx_io", "real", "RealShelf"), ("mx_io", "real", "RealSink"), ("cmd_answer", "status", "Status"))
+# The first stage: what is claimed of `run`, the machine, which words run, and how reports and interrupt files are spelled.
 PARTS = {
     "D": ("mx_text", "mx_report", ("mx_board", "RequestFile"), ("cmd_simulate", "Simulated")),
     "A": ("mx_command", "law_end_to_end", "law_link", "mx_source", "mx_isa", "mx_io", "cmd_answer", "cmd_options", "cmd_simulate",
-          "cmd_meaning", ("mx_delay", "Prefixes")),
+          "cmd_source", "cmd_meaning", ("mx_delay", "Prefixes"), ("cmd_table", "Commands")),
     "B": ("mx_turn", "mx_pcchain", "mx_icache", "mx_board"),
     "C": ("mx_blocks", "mx_depend", "mx_validate", "mx_reorg", "mx_squash", "mx_layout", "mx_link", "law_schedule", "mx_delay", "mx_code"),
+    "E": ("mx_lex", "mx_lines", "mx_asm"),
+    "F": ("cmd_table", "cmd_line"),
 }
-SHOWN = "ABCD"
-IMPORT = re.compile(r"(?:ghost |pub )?use Rattle\.(\w+)\.specs\.([\w.]+?)\.\{(.*)\};?$")
-RECORD = re.compile(r"^ *(?:pub )?(?:record|data) (\S+).* where$")
-DEFINED = re.compile(r"^(?:  (?=abbrev))?(?:(?:abbrev|unfoldable|pub) )*([^\s:(){}]+) : ")
-NAME = re.compile(r"[^\s(){},;.]+")
+# The later stages: the assembler, the command line, two programs, stops, modules, shortest plans, and the other commands.
+LATER = "EFGHIJK"
+COMMANDS = {"Share": "G", "Debug": "H", "Join": "I", "Best": "J", "Meaning": "K", "Build": "K", "Exec": "K", "Listing": "K", "Gen": "K",
+            "Soak": "K", "Migrate": "K"}
+FIELDS = {"pair": "G", "stops": "H", "modules": "I", "best": "J"}
+# A term that a proof gives: the law that says what it is (its file, its name), and the definition that the law states.
+LAWS = {
+    ("law_schedule", "Scheduler", "scheduler"):
+        ("crates/mx_command/src/laws.rt", "greedy_layout_is", ("mx_command", "specs", "Layouts", "GreedyLayoutIs")),
+    ("mx_reorg", "ExistsPlans", "greedy_exists"):
+        ("crates/cmd_best/src/laws.rt", "lengths_are_of_plans", ("cmd_best", "specs", "Lengths", "GreedyLengthIs")),
+    ("mx_best", "Fewest", "shortest_of"):
+        ("crates/cmd_best/src/laws.rt", "lengths_are_of_plans", ("cmd_best", "specs", "Lengths", "ShortestLengthIs")),
+}
+# What the page writes in the place of longer terms, in this order.
+SHORT_CLAUSE = (("(map string_bytes words.now)", "words"), ("(log_of shelf.new)", "reads"), ("(answer_on words reads)", "answer"))
+SHORT_FIELD = (("accepted_run", "run"), ("a.limits.budget", "budget"), ("(length a.requests)", "k"), ("accepted_source", "source"),
+               ("a.input", "input"), ("a.sites", "sites"))
 
 
-def imports_of(lines):
-    """Returns for each name that lines import its crate, its module and the name that it has there."""
-    found = {}
-    for line in lines:
-        if use := IMPORT.match(line.strip()):
-            for item in use[3].split(", "):
-                name, _, other = item.partition(" as ")
-                found[other or name] = (use[1], use[2], name)
-    return found
+def by_command(text):
+    """The part of a line of a definition that goes over the commands."""
+    found = re.search(r"\(Some \((\w+)", text) or re.match(r"  (\w+) : \(", text)
+    return COMMANDS.get(found[1]) if found else None
 
 
-class File:
-    """The definitions of a file of specs by their names, its lines, and where its imports are from."""
-
-    def __init__(self, path):
-        lines = path.read_text().splitlines()
-        self.path = path
-        self.imports = imports_of(lines)
-        self.passed_on = imports_of([line for line in lines if line.startswith("pub use ")])
-        self.says = next((line[3:] for line in lines if line.startswith("-- ")), "")
-        self.defined = {}
-        self.lengths = {}
-        current = None
-        comments = 0
-        for line in lines:
-            if not line or line.startswith(("use ", "pub use ")):
-                continue
-            text = line.partition("--")[0]
-            if not text.strip():
-                comments += 1
-                continue
-            if found := RECORD.match(text) or DEFINED.match(text):
-                current = found[1]
-            if current:
-                self.defined.setdefault(current, set()).update(NAME.findall(text))
-                self.lengths[current] = self.lengths.get(current, 0) + 1 + comments
-                comments = 0
-
-    def lines_of(self, names):
-        """How many lines these definitions have, with the comments over them and within."""
-        return sum(self.lengths[it] for it in names)
-
-    def where(self, name):
-        """The definition that the name, or the variant of a type, belongs to."""
-        if name in self.defined:
-            return name
-        return next((known for known, words in self.defined.items() if name in words), None)
+def by_field(text):
+    """The part of a field of `Promised`."""
+    found = re.match(r"  pub (\w+) :", text)
+    return FIELDS.get(found[1]) if found else None
 
 
-def type_in_code(crate, module):
-    """Returns the file of a type of the code, the type's name, and how many lines it has."""
-    name = module.split(".")[-1] if not module.endswith("TheVariants") else module.split(".")[-2]
-    for path in sorted((ROOT / "crates" / crate / "src").rglob("*.rt")):
-        item = re.search(rf"(?ms)^pub (?:struct|enum) {name}\b.*?(?:^}}|;)$", path.read_text())
-        if item:
-            return path, name, item[0].count("\n") + 1
-    return None, name, 0
+SLICES = {("mx_command", "Protocols", "protocol_of"): by_command, ("cmd_table", "Commands", "Command"): by_command,
+          ("mx_command", "Promised", "Promised"): by_field}
 
 
-def names_of_clause():
-    """Returns the names that the clause cites, each with the place that it is imported from."""
-    text = (ROOT / "crates" / TOP[0] / TOP[1]).read_text()
-    clause = re.search(rf"ensures {TOP[2]} \{{(.*?)\}}\n\n", text, re.S)[1]
-    imports = imports_of(text.splitlines())
-    return [imports[it] for it in NAME.findall(clause) if it in imports and imports[it][0] != "std"]
+def first_part(crate, module):
+    """The part of a crate's module in the first stage."""
+    return next((part for part, own in PARTS.items() if (crate, module) in own or crate in own), "?")
 
 
-def reached():
-    """The names reached in each file of specs, and the types of the code."""
-    files = {(path.parts[-3], path.stem): File(path) for path in ROOT.glob("crates/*/specs/*.antt")}
-    found, types = {}, {}
-    left = names_of_clause()
-    while left:
-        crate, module, name = left.pop()
-        if module.startswith("declared."):
-            path, own, lines = type_in_code(crate, module)
-            if path:
-                types.setdefault((crate, path), {})[own] = lines
-            continue
-        file = files.get((crate, module))
-        if file and name in file.passed_on:
-            left.append(file.imports[name])
-            continue
-        name = file and file.where(name)
-        if name is None or name in found.setdefault((crate, module), set()):
-            continue
-        found[(crate, module)].add(name)
-        if crate in ASIDE:
-            continue
-        for word in file.defined[name]:
-            if word in file.defined:
-                left.append((crate, module, word))
-            elif word in file.imports:
-                left.append(file.imports[word])
-    return files, {key: names for key, names in found.items() if names}, types
+def aside_part(crate, module):
+    return "F" if crate in PARTS["F"] else "E"
+
+
+def walked():
+    """Follows all clauses, stage by stage."""
+    walk = Walk(SLICES, {term: [(*law[2], law[1])] for term, law in LAWS.items()})
+    imports = imports_of(TOP.read_text().splitlines())
+    start = [("mx_io" if crate == "mx_io" else crate, "specs", f"declared.{module}.{name}", name, CALL) for crate, module, name in TYPES]
+    for _, _, text in clauses_of(TOP, CALL):
+        names = {word.partition(".")[0] for word in NAME.findall(text)}
+        start += [(*imports[name], CALL) for name in names if name in imports]
+    walk.stage("ABCD", first_part, start)
+    walk.stage("E", aside_part)
+    walk.stage("F", lambda crate, module: "F")
+    for part in LATER[2:]:
+        walk.stage(part, lambda crate, module, own=part: own)
+    return walk
 
 
 def in_order(keys, files):
-    """Returns the files, each behind those that it imports."""
+    """Returns the files, each after those that it imports."""
     done = []
 
     def visit(key):
         if key in done or key not in keys:
             return
-        for crate, module, _ in files[key].imports.values():
+        for crate, _, module, _ in files[key].imports.values():
             if (crate, module) != key:
                 visit((crate, module))
         done.append(key)
@@ -147,64 +110,178 @@ def in_order(keys, files):
     return done
 
 
-def part_of(key):
-    """Returns the part that a file of this crate and name belongs to."""
-    return next((part for part, own in PARTS.items() if key in own or key[0] in own), None)
-
-
 def listed(names):
-    """Returns names as a page lists them."""
     return ", ".join(f"`{it}`" for it in names)
 
 
-def page_tables():
-    """Returns the text of the tables, the names of each file, and the lines of each part."""
-    files, found, types = reached()
-    read = {key for key in found if key[0] not in ASIDE}
-    text, sums = "", {}
-    for part in SHOWN:
-        keys = [it for it in in_order(read, files) if part_of(it) == part]
-        own = [it for it in sorted(types) if part_of((it[0], "")) == part]
-        lines = sum(files[it].lines_of(found[it]) for it in keys) + sum(sum(types[it].values()) for it in own)
-        sums[part] = lines
-        text += f"\n<!-- {part} -->\n\nDefinitions of {len(keys)} files and types of {len(own)} files of code, {lines} lines.\n\n| File | What it says | Lines |\n|---|---|---|\n"
-        for key in keys:
-            file = files[key]
-            says = file.says if file.says.endswith(".") else f"{file.says[:1].upper()}{file.says[1:]}."
-            meant = [it for it in file.defined if it in found[key]]
-            others = [it for it in file.defined if it not in found[key]]
-            only = "" if not others else f" All but {listed(others)}." if len(others) < len(meant) else f" Of it {listed(meant)}."
-            text += f"| `{file.path.relative_to(ROOT)}` | {says}{only} | {file.lines_of(found[key])} |\n"
-        for crate, path in own:
-            names = ", ".join(f"`{it}`" for it in sorted(types[(crate, path)]))
-            text += f"| `{path.relative_to(ROOT)}` | the types {names} | {sum(types[(crate, path)].values())} |\n"
-    stray = sorted(it for it in read | {(crate, "") for crate, _ in types} if part_of(it) is None and it[0] not in ASIDE)
-    aside = sorted(key for key in found if key[0] in ASIDE)
-    text += "\n<!-- aside -->\n\nSet aside: " + "; ".join(f"`{files[it].path.relative_to(ROOT)}`" for it in aside) + ".\n"
-    return text, found, sums, stray
+def meant_of(walk, part, key):
+    """Returns the sentence that says which definitions of a file belong to the part, if not all do."""
+    file, own = walk.files[key], walk.lines[part][key]
+    names = [it for it in file.defined if it in own]
+    cut = {it: len(own[it]) for it in names if len(own[it]) < len(file.defined[it])}
+    if len(names) == len(file.defined) and not cut:
+        return ""
+    shown = ", ".join(f"`{it}`" + (f" ({cut[it]} of {len(file.defined[it])} lines)" if it in cut else "") for it in names)
+    others = [it for it in file.defined if it not in own]
+    return f" All but {listed(others)}." if not cut and len(others) < len(names) else f" Of it {shown}."
 
 
-def main(words):
-    text, found, sums, stray = page_tables()
-    if words == ["--names"]:
-        for key in sorted(found):
-            print(f"{key[0]}/specs/{key[1]}.antt: {' '.join(sorted(found[key]))}")
+def lines_of(own):
+    return sum(line.count for lines in own.values() for line in lines)
+
+
+def total_of(walk, part):
+    return (sum(lines_of(own) for own in walk.lines.get(part, {}).values())
+            + sum(sum(own.values()) for own in walk.types.get(part, {}).values()))
+
+
+def counted(number, noun):
+    return f"{number:,} {noun}" if number != 1 else f"1 {noun}"
+
+
+def part_table(walk, part):
+    keys = in_order(walk.lines.get(part, {}), walk.files)
+    code = walk.types.get(part, {})
+    text = (f"{counted(total_of(walk, part), 'line')}, in definitions of {counted(len(keys), 'file')}"
+            f" and types of {counted(len(code), 'file')} of code.\n\n| File | What it says | Lines |\n|---|---|---|\n")
+    for key in keys:
+        file = walk.files[key]
+        says = file.says if file.says.endswith(".") else f"{file.says[:1].upper()}{file.says[1:]}."
+        text += f"| `{file.path.relative_to(ROOT)}` | {says}{meant_of(walk, part, key)} | {lines_of(walk.lines[part][key])} |\n"
+    for path in sorted(code):
+        text += f"| `{path.relative_to(ROOT)}` | the types {listed(sorted(code[path]))} | {sum(code[path].values())} |\n"
+    return text
+
+
+def constants_table(walk):
+    text = "| Constant | Value | File |\n|---|---|---|\n"
+    for (name, path), (value, _) in sorted(walk.constants.items(), key=lambda it: it[0]):
+        text += f"| `{name}` | `{value}` | `{path.relative_to(ROOT)}` |\n"
+    return text
+
+
+def terms_table(walk):
+    text = "| Definition | Takes | Law that says what it is |\n|---|---|---|\n"
+    for term, by in sorted(walk.terms.items()):
+        crate, module, name = term
+        law = f"`{LAWS[term][1]}` (`{LAWS[term][0]}`)" if term in LAWS else "none"
+        text += f"| `{by.split(': ')[1]}` (`{by.split(': ')[0]}`) | `{name}` of `crates/{crate}/proofs/{module}.antt` | {law} |\n"
+    return text
+
+
+def library_line(walk):
+    return f"{len(walk.library)} names: {listed(sorted(walk.library))}.\n"
+
+
+def generated(walk):
+    """Returns the text of each generated part of the page."""
+    texts = {part: part_table(walk, part) for part in "ABCD" + LATER}
+    both = total_of(walk, "A") + total_of(walk, "B")
+    texts["sums"] = (f"Parts A and B have {both:,} lines, parts C and D {total_of(walk, 'C') + total_of(walk, 'D'):,}, "
+                     f"and the others {sum(total_of(walk, part) for part in LATER):,}.\n")
+    texts["constants"] = constants_table(walk)
+    texts["terms"] = terms_table(walk)
+    texts["library"] = library_line(walk)
+    return texts
+
+
+def shortened(text, pairs):
+    for long, short in pairs:
+        text = text.replace(long, short)
+    return text
+
+
+def fields_of_headline():
+    """Returns the fields of `Headline`, each with its text."""
+    text = HEADLINE.read_text().partition("record Headline ")[2]
+    text = re.sub(r"--.*", "", text)
+    return [(it[1], " ".join(it[2].split())) for it in re.finditer(r"(?s)    pub (\w+) : (.*?)(?=\n    pub |\Z)", text)]
+
+
+def quoted():
+    """Returns what the page has to quote: for each table its rows, without what they mean."""
+    clauses = clauses_of(TOP, CALL)
+    return {
+        "clauses": [f"{name} {{ {shortened(text, SHORT_CLAUSE)} }}" for kind, name, text in clauses if kind == "ensures"],
+        "premises": [f"{name} {{ {shortened(text, SHORT_CLAUSE)} }}" for kind, name, text in clauses if kind == "requires"],
+        "fields": [f"{name} : {shortened(text, SHORT_FIELD)}" for name, text in fields_of_headline()],
+    }
+
+
+def section(page, mark):
+    """Returns what the page has between the mark and its end."""
+    found = re.search(rf"(?s)<!-- {re.escape(mark)} -->\n(.*?)<!-- end -->", page)
+    return found[1] if found else None
+
+
+def quote_table(page, mark, rows):
+    """Returns the table of quoted clauses, with the words that the page has for each name."""
+    words = {row[2].split(" ")[0]: row[1] for row in re.finditer(r"(?m)^\| (.*) \| `(.*)` \|$", section(page, mark) or "")}
+    return ("| In words | In the code |\n|---|---|\n"
+            + "".join(f"| {words.get(row.split(' ')[0], trusted.UNSAID)} | `{row}` |\n" for row in rows))
+
+
+def wanted_sections(page, walk):
+    texts = generated(walk)
+    for mark, rows in quoted().items():
+        texts[mark] = quote_table(page, mark, rows)
+    for path in trusted.FILES:
+        texts[f"trusted {path}"] = trusted.table(section(page, f"trusted {path}") or "", path)
+    return texts
+
+
+def faults_of_laws(walk):
+    """Says which law of a proof's term does not state the definition that takes it."""
+    for term in sorted(walk.terms):
+        if term not in LAWS:
+            continue
+        path, name, (crate, _, module, stated) = LAWS[term]
+        clauses = clauses_of(ROOT / path, name)
+        if not any(stated in text for _, _, text in clauses):
+            yield f"{path}: the law {name} does not state {stated}"
+        file = walk.files[(crate, module)]
+        taker = walk.terms[term].split(": ")[1]
+        if not any(taker in line.text for line in file.defined.get(stated, [])):
+            yield f"crates/{crate}/specs/{module}.antt: {stated} says nothing of {taker}"
+
+
+def main(arguments):
+    walk = walked()
+    if arguments == ["--names"]:
+        for part in sorted(walk.lines):
+            for key in sorted(walk.lines[part]):
+                print(f"{part} {key[0]}/specs/{key[1]}.antt: {' '.join(walk.lines[part][key])}")
         return 0
     page = PAGE.read_text()
-    own = re.findall(r"(?s)\n<!-- (\w+) -->\n(.*?)(?=\n<!-- |\n## |\Z)", page)
-    new = dict(re.findall(r"(?s)\n<!-- (\w+) -->\n(.*?)(?=\n<!-- |\Z)", text))
-    if words == ["--write"]:
-        for part, _ in own:
-            page = re.sub(rf"(?s)\n<!-- {part} -->\n.*?(?=\n<!-- |\n## |\Z)", lambda _: f"\n<!-- {part} -->\n{new[part]}", page)
+    wanted = wanted_sections(page, walk)
+    if arguments == ["--write"]:
+        for mark, text in wanted.items():
+            if section(page, mark) is not None:
+                page = re.sub(rf"(?s)<!-- {re.escape(mark)} -->\n.*?<!-- end -->", lambda _: f"<!-- {mark} -->\n\n{text}\n<!-- end -->", page)
         PAGE.write_text(page.rstrip() + "\n")
-        own = re.findall(r"(?s)\n<!-- (\w+) -->\n(.*?)(?=\n<!-- |\n## |\Z)", page)
-    wrong = [part for part in new if dict(own).get(part, "").strip() != new[part].strip()]
-    for part in wrong:
-        print(f"docs/READING.md: part {part} is not that of the definitions (checks/reading.py --write)")
-    for key in stray:
-        print(f"{key[0]}/specs/{key[1]}.antt is reached and in no part")
-    print(", ".join(f"part {part} {lines} lines" for part, lines in sums.items()))
-    return 1 if wrong or stray else 0
+    faults = list(walk.faults) + list(faults_of_laws(walk))
+    for mark, text in wanted.items():
+        own = section(page, mark)
+        if own is None:
+            faults.append(f"docs/READING.md has no section <!-- {mark} -->")
+        elif own.strip() != text.strip():
+            there, here = own.strip().splitlines(), text.strip().splitlines()
+            first = next((it for it in here if it not in there), next((it for it in there if it not in here), "the order of its lines"))
+            faults.append(f"docs/READING.md: '{mark}' differs from the code (checks/reading.py --write), first: {first}")
+        if trusted.UNSAID in (own or ""):
+            faults.append(f"docs/READING.md: a row of '{mark}' has no words yet")
+    strays = sorted({key for key in walk.lines.get("?", {})} | {it[0] for it in walk.later})
+    faults += [f"{it} is reached and belongs to no part" for it in strays]
+    faults += trusted.faults()
+    names = sum(len(own) for part in walk.lines.values() for own in part.values())
+    quotes = sum(len(rows) for rows in quoted().values())
+    if not names or not quotes or not walk.constants:
+        faults.append("nothing was compared")
+    for fault in faults:
+        print(fault)
+    print(f"compared {names} definitions, {len(walk.constants)} constants, {quotes} quoted clauses and {trusted.compared(page)} trusted lines; "
+          + ", ".join(f"part {part} {total_of(walk, part)} lines" for part in "ABCD" + LATER))
+    return 1 if faults else 0
 
 
 if __name__ == "__main__":

@@ -14,6 +14,8 @@ import os
 import re
 import sys
 
+import common
+
 TOP = os.path.dirname(os.path.dirname(os.path.abspath(__file__)))
 KEPT = f"{TOP}/checks/refused.txt"
 TOLD = re.compile(r"(?:rt: )?must-fail ([a-z0-9_]+)/(\S+)\.edit: (.*)")
@@ -86,8 +88,14 @@ def main(words):
     writes = "--write" in words
     logs = [it for it in words if it != "--write"]
     if not logs:
-        sys.exit(__doc__)
+        common.wrong_arguments("no log: usage: checks/refusals.py [--write] LOG..")
+    for it in logs:
+        if it != "-" and not os.path.exists(it):
+            common.wrong_arguments(f"{it}: no such file")
     found, before, bad = read(logs), kept(), 0
+    if not found:
+        print("refusals: nothing was compared: the logs have no edit")
+        return 1
     for name, goal in sorted(found.items()):
         was = before.get(name)
         if goal == UNREFUSED:
@@ -101,7 +109,7 @@ def main(words):
             print(f"{name}: refused elsewhere\n    before: {was}\n    now:    {goal}")
     missing = write(found, before) if writes else len(set(edits()) - set(before) - set(found))
     told = f", {missing} of {len(edits())} edits have no line" if missing else ""
-    print(f"{len(found)} edits in the logs{told}")
+    print(f"refusals: compared {len(found)} edits of the logs{told}")
     return 1 if bad or missing else 0
 
 

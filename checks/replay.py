@@ -1,5 +1,5 @@
 #!/usr/bin/env python3
-"""Replays a trace, and tells the first line in which it is not what docs/MACHINE.md says. By hand, and no part of the gate.
+"""Replays a trace, and reports the first line in which it is not what docs/MACHINE.md says.
 
 usage: checks/replay.py [TRACE]
 
@@ -264,7 +264,9 @@ def main():
             turns, interrupts = replay(iter(trace))
     except (Differs, KeyError, OSError, ValueError) as fault:
         sys.exit(f"{fault}")
-    print(f"{turns} turns, {interrupts} interrupts: each as the machine does it")
+    if turns == 0:
+        sys.exit("replay: nothing was compared")
+    print(f"replay: compared {turns} turns with {interrupts} interrupts")
 
 
 if __name__ == "__main__":

@@ -1,27 +1,21 @@
 #!/bin/bash
-# Worked runs by the built program, as ./mx leaves it, on real files. First the cases of crates/test_command_cases, which the
+# Computed runs by the built program, as ./mx leaves it, on real files. First the cases of crates/test_command_cases, which the
 # merge gate runs over files in memory; then what these cases cannot say: long sources, a run that is made twice and built
-# examples. `rt ci` does not call this, since it needs a built program.
+# examples.
+#
+# usage: checks/rows.sh      the program is the one that MX_RUN names, or the one that ./mx has built
 top=$(cd -- "$(dirname -- "$0")/.." && pwd) || exit 1
-program=$top/crates/mx_run/out/mx_run
+# shellcheck source=checks/common.sh
+. "$top/checks/common.sh"
+[ $# -eq 0 ] || wrong_arguments "unexpected argument $1"
+choose_program mx_run "${MX_RUN-}"
 cases=$top/crates/test_command_cases/data
 folder=$(mktemp -d) || exit 1
 trap 'rm -rf "$folder"' EXIT
 cd "$folder" || exit 1
-failures=0
-
-# tell OUTCOME NAME: prints whether a test held, where its outcome is `ok`
-tell() {
-    if [ "$1" = ok ]; then
-        echo "ok: $2"
-    else
-        echo "FAILED: $2: $1"
-        failures=$((failures + 1))
-    fi
-}
 
 # decode: the bytes that the standard input spells in hexadecimal
-decode() { printf "$(tr -d ' \n' | sed 's/../\\x&/g')"; }
+decode() { printf '%b' "$(tr -d ' \n' | sed 's/../\\x&/g')"; }
 
 # expect NAME STATUS TEXT: the last run ended so, and its first line is this
 expect() {
@@ -65,7 +59,7 @@ while IFS= read -r line; do
     count=$((count + 1))
     run_case "${line%% *}" "${rest%%:*}" "${words[@]}" || tell "status $status" "the case $line"
 done <"$cases/runs.txt"
-[ "$failures" -eq 0 ] && [ "$count" -gt 0 ] && tell ok "$count cases"
+if [ "$count" -eq 0 ]; then tell 'no case was found' 'the cases'; else compared=$((compared + count)); fi
 
 { echo 'bne r0,r0,E'; yes 'ld 256[r0],r1' | head -n 16382; echo 'E: halt'; } >source
 mx run source
@@ -136,4 +130,4 @@ for example in "$top"/examples/*.s; do
     tell "$outcome" "the image of $(basename "$example")"
 done
 
-[ "$failures" -eq 0 ]
+finish rows runs

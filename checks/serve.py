@@ -1,28 +1,28 @@
 #!/usr/bin/env python3
 """Drives the page of the workbench in headless Chromium, and compares what it shows with what the commands print.
 
-usage: checks/serve.py FOLDER
+usage: checks/serve.py [FOLDER]
 
 Pictures of the page, on three widths, light and dark, are left in FOLDER, to be looked at. It needs the program chromium, and the
-programs as ./mx leaves them."""
+programs as ./mx leaves them, or those that MX_SERVE, MX_RUN, MX_LAB and MX_CC name."""
 import contextlib
 import json
 import os
 import re
+import shutil
 import signal
+import socket
 import subprocess
 import sys
 import tempfile
 import time
 
-import chromium
+import common
 from cells import rows_of_text
-from chromium import CONTRAST, NAMED, STEP_TIME, TOO_FAINT, Page, tell
+from chromium import CONTRAST, NAMED, STEP_TIME, TOO_FAINT, Page, need_chromium
+from common import HAS_TIMES, IS_SAMPLE, PATIENCE, TOP, tell
 
-TOP = os.path.dirname(os.path.dirname(os.path.abspath(__file__)))
-MX = f"{TOP}/mx"
 MOVED, STEPS = 100, 30  # milliseconds from a key to the moved diagram, and of a step
-QUIET = {**os.environ, "MX_QUIET": "1"}
 # A sort that runs for about 2,000 cycles; in the mistaken one a register stands where a number has to.
 SORT = """        la   word,r1
         ld   0[r1],r2
@@ -70,16 +70,40 @@ int main(void) {
 """
 
 
-@contextlib.contextmanager
-def serving(*words):
-    """Starts the workbench, and yields its process and its address; in the end interrupts it."""
-    process = subprocess.Popen([MX, "serve", *words], stdout=subprocess.PIPE, stderr=subprocess.DEVNULL, text=True, env=QUIET)
+def need_kernel():
+    """Skips the check where the kernel has not what the workbench needs, or lets no server listen."""
     try:
-        yield process, process.stdout.readline().split()[-1]
+        os.close(os.pidfd_open(os.getpid()))
+        os.close(os.memfd_create("it"))
+        with socket.create_server(("127.0.0.1", 0)):
+            pass
+    except (AttributeError, OSError) as error:
+        common.skip(f"the workbench cannot run here: {error}")
+
+
+def environment(**given):
+    """Returns the environment in which ./mx starts the workbench, with other programs where they are given."""
+    cc = common.program("mx_cc") if shutil.which("mips-linux-gnu-gcc") else ""
+    names = {"MX_SERVE_PROGRAM": common.program("mx_serve"), "MX_SERVE_CC": cc, "MX_SERVE_PROVED": "", **given}
+    return {**os.environ, "PYTHONDONTWRITEBYTECODE": "1", **names}
+
+
+@contextlib.contextmanager
+def serving(*words, errors=subprocess.DEVNULL, before=None, **given):
+    """Starts the workbench, and yields its process and its address; in the end interrupts it."""
+    need_kernel()
+    program = [sys.executable, f"{TOP}/tools/serve/serve.py", *words]
+    process = subprocess.Popen(program, stdout=subprocess.PIPE, stderr=errors, text=True, env=environment(**given), preexec_fn=before)
+    try:
+        printed = process.stdout.readline().split()
+        if not printed:
+            sys.exit(f"FAILED: the workbench does not start: status {process.wait()}")
+        yield process, printed[-1]
     finally:
         if process.poll() is None:
             process.send_signal(signal.SIGINT)
-            process.wait(10)
+            process.wait(10 * PATIENCE)
+        process.stdout.close()
 
 
 def printed(source, *words):
@@ -90,7 +114,8 @@ def printed(source, *words):
         with open(f"{folder}/requests", "w", encoding="utf-8") as it:
             it.write(f"{REQUEST}\n")
         words = [word.replace("REQUESTS", f"{folder}/requests") for word in words]
-        ran = subprocess.run([MX, words[0], f"{folder}/source.s", *words[1:]], capture_output=True, env=QUIET, check=False)
+        program = common.program("mx_run" if words[0] == "run" else "mx_lab")
+        ran = subprocess.run([program, words[0], f"{folder}/source.s", *words[1:]], capture_output=True, check=False)
         return ran.stdout
 
 
@@ -108,7 +133,7 @@ MOVING = """new Promise(done => {
 
 def wait_for(bench, what, seconds=20):
     """Waits until something holds in the page, and tells whether it came to hold."""
-    ends = time.monotonic() + seconds
+    ends = time.monotonic() + seconds * PATIENCE
     while time.monotonic() < ends:
         if bench.ask(what):
             return True
@@ -256,10 +281,10 @@ def try_speed(bench):
         bench.ask("document.getElementById('source').focus(); document.getElementById('source').setSelectionRange(0, 0)")
         took.append(bench.ask(MOVING.replace("TYPED", digit)))
         settled(bench)
-    tell(f"from a key to the moved diagram at most {MOVED} ms, at the best of six", min(took) <= MOVED, took)
+    tell(f"from a key to the moved diagram at most {MOVED} ms, at the best of six", min(took) <= MOVED or not HAS_TIMES, took)
     go(bench, 0)
     took = bench.ask(STEP_TIME)
-    tell(f"a step takes at most {STEPS} ms", took <= STEPS, took)
+    tell(f"a step takes at most {STEPS} ms", took <= STEPS or not HAS_TIMES, took)
     print(f"    a step takes {took:.1f} ms")
 
 
@@ -471,18 +496,29 @@ def try_page(bench, url):
     tell("the page has no fault", not bench.faults, bench.faults)
 
 
-def main():
-    if len(sys.argv) != 2:
-        sys.exit(__doc__)
-    folder = sys.argv[1]
+def try_all(folder):
+    """Tries the page, and its look on the widths, of which a sample has one."""
     with serving(f"{TOP}/examples/countdown.s") as (_, url):
         with opened(url, 1500, 900) as bench:
             try_page(bench, url)
-        for width, height in ((1500, 900), (800, 1000), (390, 844)):
+        for width, height in ((390, 844),) if IS_SAMPLE else ((1500, 900), (800, 1000), (390, 844)):
             for scheme in ("light", "dark"):
                 with opened(url, width, height, scheme == "dark") as bench:
                     try_look(bench, width, os.path.join(folder, f"serve-{width}-{scheme}.png"))
-    return 1 if chromium.failures else 0
+
+
+def main():
+    if len(sys.argv) > 2:
+        common.wrong_arguments(f"unexpected argument {sys.argv[2]}")
+    if sys.argv[1:] and not os.path.isdir(sys.argv[1]):
+        common.wrong_arguments(f"{sys.argv[1]}: no such folder")
+    need_chromium()
+    if sys.argv[1:]:
+        try_all(sys.argv[1])
+    else:
+        with tempfile.TemporaryDirectory() as folder:
+            try_all(folder)
+    return common.finish("workbench", "properties of the page")
 
 
 if __name__ == "__main__":

@@ -1,17 +1,23 @@
 #!/usr/bin/env python3
-"""The counts of `soak SEED COUNT`, by an interpreter and a machine of their own, written from docs/ and not from the code.
+"""Compares what `soak SEED COUNT` prints with the counts of an interpreter and a machine written from docs/ and not from the code.
 
-usage: checks/soak.py SEED COUNT
+usage: checks/soak.py [SEED COUNT]
 
+It needs mx_run, as ./mx leaves it, or the program that MX_RUN names. Without arguments it takes SEEDS seeds, a few in a sample.
 The blocks, plans and copies are those of the second reading of the rules in plans.py. The rest is written from docs/COMMANDS.md
 (the generator), docs/SOURCE.md (the meaning) and docs/MACHINE.md (turns, interrupts, the cache and the handler).
 """
 import pathlib
+import re
+import subprocess
 import sys
 
+import common
+
+SEEDS, SAMPLE, LONGEST = 60, 10, 400
 RULES = {}
 exec(  # the part of plans.py that has the rules, without the cases that it draws
-    (pathlib.Path(__file__).parent / "plans.py").read_text().partition("# --- making sources")[0], RULES
+    (pathlib.Path(__file__).parent / "plans.py").read_text(encoding="utf-8").partition("# --- making sources")[0], RULES
 )
 Item = RULES["I"]
 WORD = 2**32
@@ -271,22 +277,32 @@ class Machine:
         self.stall = 0 if self.cache.holds(self.next[0]) else 2
 
 
-def main(seed, count):
+def counted(seed, count):
+    """Returns the lines that `soak` has to print."""
     items, labelled = generated(seed, count)
     steps, console = meaning(items)
     words = linked(items, labelled)
     machine = Machine(words)
     for cycle in range(9 * steps + 96016):
         machine.cycle(cycle % 97 == 0 and 0 < cycle <= 97000)
-    assert machine.halted and machine.console == console
-    print("steps", steps)
-    for name in ("cycles", "fetches", "misses", "squashes", "interrupts"):
-        print(name, getattr(machine, name))
-    print("words", len(words))
-    print("noops", words.count(None))
-    print("bytes", len(console))
+    if not machine.halted or machine.console != console:
+        sys.exit(f"FAILED: the machine of soak.py does not run gen {seed} {count} as it means")
+    names = ("cycles", "fetches", "misses", "squashes", "interrupts")
+    return [f"steps {steps}", *(f"{name} {getattr(machine, name)}" for name in names), f"words {len(words)}", f"noops {words.count(None)}",
+            f"bytes {len(console)}"]
 
 
-if len(sys.argv) != 3:
-    sys.exit(__doc__)
-main(int(sys.argv[1]), int(sys.argv[2]))
+def main(words):
+    if words and (len(words) != 2 or not all(re.fullmatch("[0-9]{1,9}", it) for it in words)):
+        common.wrong_arguments(f"expected a seed and a count, found {' '.join(words)}")
+    program = common.program("mx_run")
+    seeds = range(1, 1 + (SAMPLE if common.IS_SAMPLE else SEEDS))
+    for seed, count in [tuple(map(int, words))] if words else [(it, 1 + it * 37 % LONGEST) for it in seeds]:
+        ran = subprocess.run([program, "soak", str(seed), str(count)], stdin=subprocess.DEVNULL, capture_output=True, text=True, check=False)
+        wanted = counted(seed, count)
+        common.tell(f"soak {seed} {count}", (ran.returncode, ran.stdout.splitlines()) == (0, wanted), (ran.returncode, ran.stdout, wanted))
+    return common.finish("soak", "runs")
+
+
+if __name__ == "__main__":
+    sys.exit(main(sys.argv[1:]))

@@ -201,7 +201,7 @@ def chart(studies):
     row, left, width, top = 18, 90, 620, 46
     height = top + row * len(studies) + 30
     out = [f'<svg xmlns="http://www.w3.org/2000/svg" width="{left + width + 40}" height="{height}" font-family="sans-serif" font-size="11">',
-           f'<rect width="100%" height="100%" fill="#ffffff"/>',
+           '<rect width="100%" height="100%" fill="#ffffff"/>',
            f'<text x="{left}" y="16" font-size="13">Cycles of each example at -O2, in per cent</text>']
     x = left
     for colour, part in zip(COLOURS, PARTS):
@@ -255,34 +255,40 @@ def sums(studies):
 
 TEXT = """# What the reorganizer makes of compiled C
 
-`checks/study.py` writes this page and its chart. The programs are the {count} examples of `examples/c`, compiled by gcc at -O2, translated,
-and linked with the library; what `main` does not reach is left out. Each ran to its halt with its input. `C.md` says how C is translated.
+This page measures the reorganizer on {count} programs in C. [checks/study.py](../checks/study.py) writes it and its chart. The
+programs are those of `examples/c`, compiled by gcc at -O2, translated ([C](C.md)) and linked with the library. What `main` does not
+reach is left out. Each ran to its halt with its input.
 
-## What it says
+## Results
 
-- **Branch slots.** Of the two slots behind each branch, call and jump of the examples' own functions, {before:.0f} % hold an instruction
-  from before it, {copies:.0f} % a copy of one from its target, and {empty:.0f} % a no-op. gcc's own filler has one slot behind each to
-  fill, and fills {gcc_slots:.0f} % of them on the same C.
-- **Load slots.** {loads:.0f} % of the places behind a load hold an instruction that does not need what it loads. gcc's code for MIPS-I,
+- **Branch slots.** Of the two slots after each branch, call and jump of the examples' own functions, {before:.0f} % hold an
+  instruction from before it, {copies:.0f} % a copy of one from its target, and {empty:.0f} % a no-op. gcc's own filler has one slot
+  to fill, and fills {gcc_slots:.0f} % of them on the same C.
+- **Load slots.** {loads:.0f} % of the places after a load hold an instruction that does not need what it loads. gcc's code for MIPS-I,
   which has the same delay, leaves {gcc_loads:.0f} % of them without a no-op.
-- **Cycles.** Against source order with a no-op in each slot that needs one, the list scheduler saves {saved_list:.1f} % of the cycles, and
-  {saved_copies:.1f} % with copies from the target (means over the examples). Shortest plans for blocks of at most eight instructions save
-  {best_more:.1f} % more: for these blocks the method of 1983 leaves next to nothing.
-- **Where the rest goes.** A statement takes {cycles:.2f} cycles. {statements:.0f} % of the cycles execute a statement, {noops:.0f} % a
-  no-op, {squashed:.0f} % a word that a branch squashes, and {stalls:.0f} % wait for the instruction cache, which has 512 words. The cache
-  matters most where a program goes round through many functions, as {worst} does ({worst_stalls:.0f} %): there no scheduler helps but one
-  that makes the code shorter.
-- **In which functions.** {own:.0f} % of the cycles are those of the example's own functions and {routines:.0f} % those of the routines that
-  make products, quotients and shifts by a register; all others are the library's, most of them printf's and those of floating arithmetic.
+- **Cycles.** Compared with source order and no-ops, the list scheduler saves {saved_list:.1f} % of the cycles, and {saved_copies:.1f} %
+  with copies from the target (means over the examples). Shortest plans for blocks of at most eight instructions save
+  {best_more:.1f} % more. For these blocks the method of 1983 is close to the optimum.
+- **The rest.** A statement takes {cycles:.2f} cycles. {statements:.0f} % of the cycles execute a statement, {noops:.0f} % a no-op,
+  {squashed:.0f} % a squashed word, and {stalls:.0f} % wait for the instruction cache of 512 words. The cache matters most for a
+  program that cycles through many functions, as {worst} ({worst_stalls:.0f} %): there, only shorter code helps.
+- **Functions.** {own:.0f} % of the cycles belong to the example's own functions and {routines:.0f} % to the routines for products,
+  quotients and shifts by a register. The others belong to the library, most of them to printf and floating-point arithmetic.
 
 ![Where the cycles of each example go](study.svg)
 
 ## Words
 
-The words and the no-ops of the linked program, and of these those of the example's own functions; what the slots of branches and loads hold
-there, in per cent; and the same functions by gcc for MIPS-I, as its assembler leaves them, with gcc's filler (`-fdelayed-branch`) and
-without it: words, no-ops, and with the filler the slots behind branches and behind loads that hold no no-op, in per cent. gcc's products,
-quotients and bytes are one instruction each, so the two numbers of words do not tell how good either is.
+| Columns | What they count |
+|---|---|
+| words, no-ops | those of the linked program |
+| own words, own no-ops | those of the example's own functions |
+| before, target, empty, loads | what the slots of branches and loads hold there, in per cent |
+| gcc words, no-ops | the same functions by gcc for MIPS-I with its filler (`-fdelayed-branch`) |
+| unfilled words, no-ops | the same without the filler |
+| gcc slots, gcc loads | with the filler, slots after branches and after loads without a no-op, in per cent |
+
+gcc's products, quotients and bytes are one instruction each, so the two numbers of words are not comparable.
 
 | Program | words | no-ops | own words | own no-ops | before | target | empty | loads | gcc words | no-ops | unfilled words | no-ops | gcc slots | gcc loads |
 |---|---|---|---|---|---|---|---|---|---|---|---|---|---|---|
@@ -291,8 +297,8 @@ quotients and bytes are one instruction each, so the two numbers of words do not
 DYNAMIC = """
 ## Cycles
 
-Statements executed; cycles by the four plans of `compare` (`LAB.md`); misses of the instruction cache and squashes of the run, which is
-`copies`; and where its cycles go, in per cent: by what is done in them, and by whose functions they are.
+The columns are the executed statements; the cycles by the four plans of `compare` ([MEASUREMENTS](MEASUREMENTS.md#compare)); misses
+and squashes of the run, which is `copies`; and its cycles in per cent, by what they were spent on and by whose functions they are.
 
 | Program | statements | padded | list | copies | best | misses | squashes | statements % | no-ops % | squashed % | cache % | own % | routines % | library % |
 |---|---|---|---|---|---|---|---|---|---|---|---|---|---|---|

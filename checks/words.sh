@@ -1,30 +1,36 @@
 #!/bin/sh
-# What the laboratory does with words and files that cannot be used: what it tells, where, and with which status. By hand, and
-# no part of the gate: it needs a built mx_lab, that of ./mx or the one that MX_LAB names.
-
+# What the laboratory does with arguments and files that cannot be used: what it prints, where, and with which status.
+#
+# usage: checks/words.sh      the program is the one that MX_LAB names, or the one that ./mx has built
 top=$(CDPATH='' cd -- "$(dirname -- "$0")/.." && pwd -P) || exit 10
-program=${MX_LAB-$top/crates/mx_lab/out/mx_lab}
+# shellcheck source=checks/common.sh
+. "$top/checks/common.sh"
+[ $# -eq 0 ] || wrong_arguments "unexpected argument $1"
+choose_program mx_lab "${MX_LAB-}"
 work=$(mktemp -d) || exit 10
 trap 'rm -rf "$work"' EXIT
 cd "$work" || exit 10
-failed=0
 
-# Says what differs.
-differs() {
-    failed=$((failed + 1))
-    echo "words.sh: $1"
-}
-
-# With the words that follow it ends with the status $1, has the line $2 on standard error, and nothing on standard output.
+# With the arguments that follow it ends with the status $1, has the line $2 on standard error, and nothing on standard output.
 refuses() {
-    status=$1
+    wanted=$1
     line=$2
     shift 2
     "$program" "$@" >out 2>err </dev/null
     ended=$?
-    [ "$ended" -eq "$status" ] || differs "$*: status $ended, and not $status"
-    [ ! -s out ] || differs "$*: something on standard output"
-    grep -qxF -- "$line" err || differs "$*: not on standard error: $line"
+    outcome=ok
+    [ "$ended" -eq "$wanted" ] || outcome="status $ended for $wanted"
+    [ ! -s out ] || outcome='something on standard output'
+    grep -qxF -- "$line" err || outcome="not on standard error: $line"
+    tell "$outcome" "$*"
+}
+
+# same NAME STATUS FILE FILE: the status is 0, and the files are the same and not empty
+same() {
+    outcome=ok
+    [ "$2" -eq 0 ] || outcome="status $2"
+    cmp -s "$3" "$4" && [ -s "$3" ] || outcome="$3 and $4 differ, or are empty"
+    tell "$outcome" "$1"
 }
 
 printf '        addi r0,#65,r1\n        st   255[r0],r1\n        halt\n' >ok.s
@@ -61,17 +67,13 @@ if [ "$(id -u)" -ne 0 ]; then
 fi
 
 # Standard input, and a file for the output.
-"$program" profile ok.s >wanted || differs "profile ok.s: status $?"
-"$program" profile - <ok.s >got || differs "profile -: status $?"
-cmp -s wanted got || differs "profile - prints something else"
-"$program" profile ok.s -o got >out || differs "profile -o: status $?"
-cmp -s wanted got || differs "profile -o writes something else"
-[ ! -s out ] || differs "profile -o prints"
+"$program" profile ok.s >wanted || tell "status $?" 'profile ok.s'
+"$program" profile - <ok.s >got
+same 'profile - prints the same' $? wanted got
+"$program" profile ok.s -o got >out
+same 'profile -o writes the same' $? wanted got
+[ ! -s out ] || tell 'something on standard output' 'profile -o'
 cp got kept
-"$program" profile bad.s --output got 2>err && differs "profile bad.s: status 0"
-cmp -s kept got || differs "a refused source changes the file of -o"
-
-if [ "$failed" -gt 0 ]; then
-    exit 1
-fi
-echo 'words.sh: all as said'
+"$program" profile bad.s --output got 2>err && tell 'status 0' 'profile bad.s'
+same 'a refused source leaves the file of -o as it was' 0 kept got
+finish arguments runs

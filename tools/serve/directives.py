@@ -1,13 +1,19 @@
 """What a text in C may ask of its preprocessor: the headers of the library, and nothing else that names a file."""
 import bisect
+import itertools
 import re
 
 SPLICE = re.compile(r"\\[ \t\f\v]*\n")
 CONTROL = re.compile("[\x00-\x08\x0b\x0e-\x1f\r]")
 # What a line of C has before its end, as far as it matters here where a comment begins and where a string ends. A string that
 # is not ended ends with its line.
-TOKEN = re.compile(r"""/\*.*?(?:\*/|\Z) | //[^\n]* | (?P<raw>(?:u8|[uUL])?R"[^\n]*) | "(?:\\.|[^"\\\n])*"? | '(?:\\.|[^'\\\n])*'?
-    | (?P<name>[A-Za-z_$][A-Za-z0-9_$]*) | \n | .""", re.S | re.X)
+TOKENS = r"""/\*.*?(?:\*/|\Z) | //[^\n]* | (?P<raw>(?:u8|[uUL])?R"[^\n]*) | "(?:\\.|[^"\\\n])*"? | '(?:\\.|[^'\\\n])*'?
+    | (?P<name>[A-Za-z_$][A-Za-z0-9_$]*) | \n | ."""
+# A number. Since C23 a ' between digits belongs to it, in 1'000; before C23 it begins a character there. Which of both gcc takes
+# depends on its version, so a text has to be accepted in both readings.
+NUMBER = r"\.?[0-9](?:[eEpP][+-]|[A-Za-z0-9_.$])*"
+SEPARATED_NUMBER = r"\.?[0-9](?:[eEpP][+-]|'?[A-Za-z0-9_$]|\.)*"
+READINGS = [re.compile(f"{number} | {TOKENS}", re.S | re.X) for number in (NUMBER, SEPARATED_NUMBER)]
 DIRECTIVE = re.compile(r"\s*(?:\#|%:)\s*([A-Za-z_]\w*|\d+)?\s*(.*)", re.S)
 HEADER = re.compile(r"""<([^>"]*)>\s*|"([^"]*)"\s*""")
 PLAIN = {"define", "undef", "if", "ifdef", "ifndef", "elif", "elifdef", "elifndef", "else", "endif", "error", "warning", None}
@@ -48,10 +54,10 @@ class Lines:
         """Returns the number of the line of the text on which a place stands."""
         return self.text.count("\n", 0, place) + bisect.bisect_right(self.splices, place) + 1
 
-    def read(self):
-        """Yields each line with its place, and what else is refused as (place, why)."""
+    def read(self, tokens):
+        """Yields each line with its place, and what else is refused as (place, why), in one reading of the tokens."""
         line, begin = [], 0
-        for token in TOKEN.finditer(self.text):
+        for token in tokens.finditer(self.text):
             word = token.group()
             if token.lastgroup == "raw":
                 yield token.start(), None, "a raw string is not taken here"
@@ -72,9 +78,11 @@ def find_refused(text, headers):
     if found:
         yield text.count("\n", 0, found.start()) + 1, "a control character"
         return
-    lines = Lines(text)
-    for place, line, why in lines.read():
+    lines, refused = Lines(text), {}
+    for place, line, why in itertools.chain.from_iterable(map(lines.read, READINGS)):
         if why is None:
             why = why_refused(line, headers)
         if why is not None:
-            yield lines.number_of(place), why
+            refused.setdefault(place, why)
+    for place in sorted(refused):
+        yield lines.number_of(place), refused[place]

@@ -1,5 +1,6 @@
 """Starts programs on files in memory, within limits: the one that answers requests, and those of the translation."""
 import contextlib
+import errno
 import os
 import resource
 import select
@@ -8,6 +9,7 @@ import subprocess
 import threading
 from typing import NamedTuple
 
+import slots
 from fields import Refused
 
 # What the program answers, from the bytes of a body to those of an answer (crates/lab_request).
@@ -17,6 +19,8 @@ ANSWERED, REFUSED, NO_MEMORY = 0, 1, 6
 SECONDS = 60
 MOST_OUTPUT = 67_108_864
 MOST_MEMORY = 2_147_483_648
+# What nearly every run needs less than: it is tried with this first, so that many can run at once also on a small machine.
+LITTLE_MEMORY = 268_435_456
 CHUNK = 262_144
 
 
@@ -36,51 +40,71 @@ class Ran(NamedTuple):
 
 
 class Programs:
-    """The program that answers requests, and the runs that are going on."""
+    """The program that answers requests, and the runs that are going on. Each run has its share of the memory of all."""
 
     def __init__(self, program):
         self.program = program
-        self.running = set()
+        self.running, self.is_ending = set(), False
         self.lock = threading.Lock()
+        self.memory = slots.memory_of_runs()
+        # A run and its answer, which is kept in memory, on a small machine as on a large one.
+        self.most_memory = min(MOST_MEMORY, max(self.memory.most - MOST_OUTPUT, self.memory.most // 2))
 
     def answer(self, command, body, client):
         """Has a request of a command answered whose body is in a memory file. Returns the status of the answer, and the memory file
         with its bytes; the run ends where the client has gone."""
         output = memory_file("answer")
         try:
-            process = subprocess.Popen([self.program, command], stdin=body, stdout=output, stderr=subprocess.DEVNULL, start_new_session=True)
-            return status_of(self.wait(process, client)), output
-        except BaseException as error:
+            for memory in sorted({min(LITTLE_MEMORY, self.most_memory), self.most_memory}):
+                ended = self.run(command, (body, output), client, memory)
+                if ended != NO_MEMORY:
+                    break
+            return status_of(ended, memory), output
+        except BaseException:
             os.close(output)
-            if isinstance(error, FileNotFoundError):
-                raise Refused(500, "the program is not there: start ./mx serve again") from None
             raise
+
+    def run(self, command, files, client, memory):
+        """Runs the program from the beginning of its body to an answer, with this much memory, and returns its status."""
+        body, output = files
+        os.lseek(body, 0, os.SEEK_SET)
+        os.lseek(output, 0, os.SEEK_SET)
+        os.ftruncate(output, 0)
+        with self.memory.share(memory + MOST_OUTPUT, client):
+            process = start([self.program, command], stdin=body, stdout=output, stderr=subprocess.DEVNULL)
+            return self.wait(process, client, (SECONDS, memory, MOST_OUTPUT))
 
     def run_in(self, words, folder, client, limits=(SECONDS, MOST_MEMORY, MOST_OUTPUT)):
         """Runs a program in a folder, with nothing of this one's environment but the path, and returns how it ended."""
         environment = {"PATH": os.environ.get("PATH", os.defpath), "LC_ALL": "C.UTF-8", "TMPDIR": folder, "HOME": folder, "MX_QUIET": "1"}
-        output, errors = memory_file("output"), memory_file("errors")
+        seconds, memory, written = limits
+        limits = seconds, min(memory, self.most_memory), written
+        output, errors = memory_file("output"), None
         try:
-            process = subprocess.Popen(words, stdin=subprocess.DEVNULL, stdout=output, stderr=errors, cwd=folder, env=environment,
-                                       start_new_session=True)
-            return Ran(self.wait(process, client, limits), text_of(output), text_of(errors))
+            errors = memory_file("errors")
+            with self.memory.share(memory + 2 * written, client):
+                process = start(words, stdin=subprocess.DEVNULL, stdout=output, stderr=errors, cwd=folder, env=environment)
+                return Ran(self.wait(process, client, limits), text_of(output), text_of(errors))
         finally:
-            os.close(output)
-            os.close(errors)
+            for it in (output, errors):
+                if it is not None:
+                    os.close(it)
 
-    def wait(self, process, client, limits=(SECONDS, MOST_MEMORY, MOST_OUTPUT)):
+    def wait(self, process, client, limits):
         """Waits for a process within its limits, and returns its status; ends it where they are over, or where the client has gone.
         What it started ends with it."""
-        with self.lock:
-            self.running.add(process)
         try:
+            with self.lock:
+                self.running.add(process)
+                if self.is_ending:
+                    raise ConnectionError("the server ends")
             limit(process.pid, limits)
             self.watch(process, client)
         finally:
-            end(process)
-            process.wait()
             with self.lock:
                 self.running.discard(process)
+            end(process)
+            process.wait()
         if process.returncode < 0:
             seconds, _, output = limits
             raise Refused(507, f"the run was ended: it takes more than {seconds} seconds of a processor, or its answer {output} bytes")
@@ -102,16 +126,27 @@ class Programs:
             raise ConnectionError("the client has gone")
 
     def end(self):
-        """Ends all runs."""
+        """Ends all runs, and those that would begin."""
         with self.lock:
+            self.is_ending = True
             for process in self.running:
                 end(process)
 
 
-def status_of(ended):
+def start(words, **how):
+    """Starts a program in a session of its own."""
+    try:
+        return subprocess.Popen(words, start_new_session=True, **how)
+    except OSError as error:
+        if error.errno == errno.ENOENT and error.filename == words[0]:
+            raise Refused(500, f"the program {os.path.basename(words[0])} does not exist: start ./mx serve again") from None
+        raise Refused(500, f"the program {os.path.basename(words[0])} cannot be started: {error.strerror}") from None
+
+
+def status_of(ended, memory):
     """Returns the status of the answer that the program printed before it ended so."""
     if ended == NO_MEMORY:
-        raise Refused(507, f"the run was ended: it takes more than {MOST_MEMORY} bytes of memory")
+        raise Refused(507, f"the run was ended: it takes more than {memory} bytes of memory")
     if ended not in (ANSWERED, REFUSED):
         raise Refused(500, f"the program has ended with {ended}")
     return 200 if ended == ANSWERED else 400

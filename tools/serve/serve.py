@@ -9,6 +9,8 @@ it takes away.
 """
 import argparse
 import base64
+import contextlib
+import errno
 import glob
 import hashlib
 import hmac
@@ -19,10 +21,12 @@ import ipaddress
 import json
 import os
 import re
+import resource
 import secrets
 import signal
 import socket
 import socketserver
+import stat
 import sys
 import threading
 import time
@@ -30,17 +34,18 @@ from urllib.parse import parse_qs, urlsplit
 
 import fields
 import programs
+import slots
 import translate
 from fields import Refused
 
 FOLDER = os.path.dirname(os.path.abspath(__file__))
 TOP = os.path.dirname(os.path.dirname(FOLDER))
-MOST_CONNECTIONS = 16
-# As many more are told that there are too many; those beyond are closed.
-MOST_TOLD = 16
 HEAD_SECONDS, BODY_SECONDS, ANSWER_SECONDS, LINGER_SECONDS = 5, 10, 30, 1
+RETRY_SECONDS = 0.05
 MOST_SOURCE = 4_194_304
-READ_FAULT, NOT_STARTED = 4, 10
+WRONG_ARGUMENTS, READ_FAULT, NOT_STARTED = 2, 4, 10
+# How long requests have to clean up after an interrupt.
+END_SECONDS = 2
 COMMANDS = (*programs.COMMANDS, "translate")
 # No page of another server may hold the page, learn its address, or get what it is answered.
 HEADERS = {
@@ -92,12 +97,25 @@ def read_text(name):
 
 
 def read_source(name):
-    """Returns the text of a source, and raises OSError where it cannot be read or is too long."""
-    with open(name, "rb") as it:
-        content = it.read(MOST_SOURCE + 1)
+    """Returns the text of a source, and raises OSError where it cannot be read, is no regular file, or is too long."""
+    # A pipe that nobody writes to would keep an open without this flag waiting.
+    number = os.open(name, os.O_RDONLY | os.O_NONBLOCK | os.O_CLOEXEC)
+    try:
+        if not stat.S_ISREG(os.fstat(number).st_mode):
+            raise OSError(errno.EINVAL, "expected a regular file", name)
+        with open(number, "rb", closefd=False) as it:
+            content = it.read(MOST_SOURCE + 1)
+    finally:
+        os.close(number)
     if len(content) > MOST_SOURCE:
-        raise OSError(f"it has more than {MOST_SOURCE} bytes")
+        raise OSError(errno.EFBIG, f"it has more than {MOST_SOURCE:,} bytes", name)
     return content.decode("utf-8", "replace")
+
+
+def log(what):
+    """Says on standard error what has failed here."""
+    with contextlib.suppress(OSError):
+        print(f"mx: serve: {what}", file=sys.stderr, flush=True)
 
 
 class Workbench(socketserver.ThreadingTCPServer):
@@ -105,7 +123,8 @@ class Workbench(socketserver.ThreadingTCPServer):
     daemon_threads = True
     block_on_close = False
     allow_reuse_address = True
-    request_queue_size = 64
+    # Connections that wait here lose nothing while others are admitted.
+    request_queue_size = 256
 
     def __init__(self, words):
         self.address_family = socket.AF_INET6 if ":" in words.host else socket.AF_INET
@@ -118,11 +137,11 @@ class Workbench(socketserver.ThreadingTCPServer):
         self.page = read_text(f"{FOLDER}/page.html")
         self.policy = policy(self.page)
         self.examples = [*examples_in("examples", ".s"), *examples_in("examples/c", ".c")]
-        # The connections that are served, and those that are told that there are too many.
-        self.served, self.told = set(), set()
-        self.lock = threading.Lock()
+        self.slots = slots.Slots()
         # One body with a text in C is read at a time: its object takes some times its size, and hundredths of a second.
         self.reading = threading.Lock()
+        # Where no more files can be opened, this one is closed, so that a connection can be accepted and answered.
+        self.spare = os.open(os.devnull, os.O_RDONLY | os.O_CLOEXEC)
 
     def address(self):
         """Returns the address of the page."""
@@ -137,7 +156,7 @@ class Workbench(socketserver.ThreadingTCPServer):
         name = found.group(1).strip("[]").lower()
         if name in ("127.0.0.1", "localhost", self.host.lower()):
             return True
-        return self.host in ("0.0.0.0", "::", "") and is_address(name)
+        return self.server_address[0] in ("0.0.0.0", "::") and is_address(name)
 
     def page_now(self):
         """Returns the page with what it begins with."""
@@ -150,30 +169,67 @@ class Workbench(socketserver.ThreadingTCPServer):
                 pass  # it was there at the start; the page begins with an example
         return self.page.replace('"GIVEN"', json.dumps(given).replace("<", "\\u003c"), 1)
 
+    def get_request(self):
+        """Accepts a connection; where no file can be opened for it, it is answered so and closed."""
+        try:
+            return super().get_request()
+        except OSError as error:
+            if error.errno in (errno.EMFILE, errno.ENFILE):
+                self.refuse_without_files(error)
+            raise
+
+    def refuse_without_files(self, error):
+        """Answers the next connection that there are no more files."""
+        log(f"a connection is refused: {error.strerror}")
+        if self.spare is not None:
+            os.close(self.spare)
+            self.spare = None
+        try:
+            connection, _ = self.socket.accept()
+            answer_and_close(connection, error.strerror)
+        except OSError:
+            time.sleep(RETRY_SECONDS)
+        with contextlib.suppress(OSError):
+            self.spare = os.open(os.devnull, os.O_RDONLY | os.O_CLOEXEC)
+
     def process_request(self, request, client_address):
-        """Serves a connection in a thread of its own, while there are not too many."""
-        with self.lock:
-            for kept, most in ((self.served, MOST_CONNECTIONS), (self.told, MOST_TOLD)):
-                if len(kept) < most:
-                    kept.add(request)
-                    break
-            else:
-                kept = None
-        if kept is None:
-            self.shutdown_request(request)
-        else:
+        """Serves a connection in a thread of its own."""
+        self.slots.admit(request)
+        try:
             super().process_request(request, client_address)
+        except RuntimeError as error:
+            log(f"a connection is refused: {error}")
+            answer_and_close(request, str(error))
+            self.slots.leave(request)
 
     def shutdown_request(self, request):
+        self.slots.leave(request)
         super().shutdown_request(request)
-        with self.lock:
-            self.served.discard(request)
-            self.told.discard(request)
 
     def handle_error(self, request, client_address):
-        """A client that has gone, or does not read, is no fault of the server's."""
-        if not isinstance(sys.exc_info()[1], OSError):
-            super().handle_error(request, client_address)
+        """Logs what has failed. A client that has gone, or does not read, is no fault of the server's."""
+        error = sys.exc_info()[1]
+        if not isinstance(error, (ConnectionError, TimeoutError)):
+            log(f"a request failed: {type(error).__name__}: {error}")
+
+    def end(self):
+        """Ends all runs, waits a little for what answers requests, and takes away what those leave that go on."""
+        self.programs.end()
+        ends = time.monotonic() + END_SECONDS
+        while self.translator.folders and time.monotonic() < ends:
+            time.sleep(0.01)
+        self.translator.end()
+
+
+def answer_and_close(connection, what):
+    """Answers a connection for which there is no thread or no file that the server has failed."""
+    body = json.dumps({"error": f"the server has failed: {what}"}) + "\n"
+    head = "HTTP/1.1 500 Internal Server Error\r\nContent-Type: application/json\r\nConnection: close\r\n\r\n"
+    with connection, contextlib.suppress(OSError):
+        connection.settimeout(LINGER_SECONDS)
+        connection.sendall((head + body).encode())
+        connection.shutdown(socket.SHUT_WR)
+        connection.recv(65536)
 
 
 def examples_in(folder, suffix):
@@ -215,22 +271,35 @@ class Handler(http.server.BaseHTTPRequestHandler):
         """Reads a request, and answers it."""
         self.close_connection = True
         self.requestline, self.request_version, self.command = "", "HTTP/1.1", ""
+        self.is_answered = False
         try:
-            if self.request in self.server.told:
-                raise Refused(503, f"more than {MOST_CONNECTIONS} connections")
-            self.timed.give(HEAD_SECONDS)
-            self.raw_requestline = self.rfile.readline(65537)
-            if not self.raw_requestline:
-                return
-            if len(self.raw_requestline) > 65536:
-                raise Refused(414, "the address is too long")
-            if self.parse_request():
-                self.answer_request()
+            self.read_request()
         except TimeoutError:
             self.refuse(Refused(408, "the request takes too long"))
         except Refused as refused:
+            if refused.status == 500:
+                log(refused.wrong)
             self.refuse(refused)
+        except ConnectionError:
+            raise
+        except Exception as error:
+            # whatever fails here is no fault of the client's: it gets an answer, if it has none yet
+            log(f"a request failed: {type(error).__name__}: {error}")
+            if self.is_answered:
+                raise ConnectionError("an answer was cut off") from None
+            self.refuse(Refused(500, f"the server has failed: {getattr(error, 'strerror', None) or type(error).__name__}"))
         self.linger()
+
+    def read_request(self):
+        """Reads the head of a request, and has it answered."""
+        self.timed.give(HEAD_SECONDS)
+        self.raw_requestline = self.rfile.readline(65537)
+        if not self.raw_requestline:
+            return
+        if len(self.raw_requestline) > 65536:
+            raise Refused(414, "the address is too long")
+        if self.parse_request():
+            self.answer_request()
 
     def send_error(self, code, message=None, explain=None):
         """Answers what the library refuses of a head."""
@@ -285,6 +354,7 @@ class Handler(http.server.BaseHTTPRequestHandler):
             raise Refused(400, "the address is none") from None
         if not self.has_token(address):
             raise Refused(403, "no token, or another one")
+        self.server.slots.serve(self.request)
         named = address.path.removeprefix("/api/")
         if address.path != "/" and (named == address.path or named not in COMMANDS):
             raise Refused(404, "there is nothing at this path")
@@ -337,6 +407,7 @@ class Handler(http.server.BaseHTTPRequestHandler):
     def send_pieces(self, status, kind, pieces, headers=()):
         """Sends an answer, which the end of the connection ends."""
         ends = time.monotonic() + ANSWER_SECONDS
+        self.is_answered = True
         self.send_response(status)
         for name, value in {"Content-Type": kind, **HEADERS, **dict(headers)}.items():
             self.send_header(name, value)
@@ -361,17 +432,22 @@ class Handler(http.server.BaseHTTPRequestHandler):
 
 
 def read_words():
-    """Returns what the command line says. ./mx names the programs."""
+    """Returns what the command line says. ./mx names the programs in the environment, and whether they are proved."""
+    given = [os.environ.pop(f"MX_SERVE_{name}", "") for name in ("PROGRAM", "CC", "PROVED")]
+    if not given[0]:
+        print("mx: start the workbench by ./mx serve", file=sys.stderr)
+        sys.exit(WRONG_ARGUMENTS)
     parser = argparse.ArgumentParser(prog="mx serve", description="starts the workbench: a page in the browser, on this machine alone")
-    parser.add_argument("--port", type=int, default=0, metavar="N", help="0 to 65535: the port; a free one where it is 0 or left out")
+    parser.add_argument("--port", type=int, default=0, metavar="N", help="0 to 65535: the port; a free one if it is 0 or left out")
     parser.add_argument("--host", default="127.0.0.1", metavar="H", help="the address to listen at (127.0.0.1, which only this machine reaches)")
     parser.add_argument("file", nargs="?", metavar="FILE", help="the source that the page begins with; it is read only")
-    parser.add_argument("--program", required=True, help=argparse.SUPPRESS)
-    parser.add_argument("--cc", default="", help=argparse.SUPPRESS)
-    parser.add_argument("--proved", action="store_true", help=argparse.SUPPRESS)
     words = parser.parse_args()
     if not 0 <= words.port <= 65535:
-        parser.error("--port: no number from 0 to 65535")
+        parser.error(f"invalid value '{words.port}' for '--port': expected 0 to 65,535")
+    if not words.host.strip():
+        # the system takes an empty name for every address of the machine
+        parser.error(f"invalid value '{words.host}' for '--host': expected an address, such as 127.0.0.1")
+    words.program, words.cc, words.proved = given[0], given[1], given[2] == "yes"
     return words
 
 
@@ -379,27 +455,45 @@ def interrupted(_number, _frame):
     raise KeyboardInterrupt
 
 
+def fault_of(error):
+    """Returns what an error of the system says, with the file's name, if it has one."""
+    return f"{error.filename}: {error.strerror}" if error.filename is not None else str(error.strerror or error)
+
+
+def listen_to_signals():
+    """Has signals end the server as an interrupt does; a hang-up only if the one who started it does not ignore that."""
+    signal.signal(signal.SIGINT, interrupted)
+    signal.signal(signal.SIGTERM, interrupted)
+    if signal.getsignal(signal.SIGHUP) != signal.SIG_IGN:
+        signal.signal(signal.SIGHUP, interrupted)
+
+
 def main():
     words = read_words()
+    _, most = resource.getrlimit(resource.RLIMIT_NOFILE)
+    resource.setrlimit(resource.RLIMIT_NOFILE, (most, most))
     try:
         if words.file:
             read_source(words.file)
-    except OSError as error:
-        print(f"mx: {error}", file=sys.stderr)
+    except (OSError, ValueError) as error:
+        print(f"mx: {fault_of(error) if isinstance(error, OSError) else error}", file=sys.stderr)
         return READ_FAULT
     try:
         server = Workbench(words)
-    except OSError as error:
-        print(f"mx: {error}", file=sys.stderr)
+    except (OSError, UnicodeError) as error:
+        where = f"{words.host}, port {words.port}"
+        print(f"mx: the workbench cannot listen at {where}: {fault_of(error) if isinstance(error, OSError) else 'no address'}", file=sys.stderr)
         return NOT_STARTED
-    signal.signal(signal.SIGINT, interrupted)
-    signal.signal(signal.SIGTERM, interrupted)
     try:
+        listen_to_signals()
         print(f"The workbench is at {server.address()}", flush=True)
+        print(f"All runs together take at most {server.programs.memory.said()} of memory.", file=sys.stderr)
         print("Ctrl-C ends it.", file=sys.stderr, flush=True)
         server.serve_forever()
     except KeyboardInterrupt:
-        server.programs.end()
+        pass
+    finally:
+        server.end()
     return 0
 
 

@@ -5,7 +5,6 @@ import itertools
 import json
 import os
 import re
-import select
 import shutil
 import subprocess
 import sys
@@ -15,6 +14,7 @@ import time
 
 from directives import find_refused
 from fields import Refused
+from slots import has_gone
 
 FOLDER = os.path.dirname(os.path.abspath(__file__))
 TOP = os.path.dirname(os.path.dirname(FOLDER))
@@ -70,12 +70,6 @@ class Turns:
             with self.changed:
                 self.clients.discard(client)
                 self.changed.notify_all()
-
-
-def has_gone(connection):
-    poll = select.poll()
-    poll.register(connection, select.POLLRDHUP)
-    return bool(poll.poll(0))
 
 
 def objects_in(line):
@@ -143,6 +137,7 @@ class Translator:
     def __init__(self, program, programs, is_local):
         self.program, self.programs = program, programs
         self.turns, self.preparing = Turns(), threading.Lock()
+        self.folders = set()
         self.headers = set(os.listdir(f"{TOP}/lib/include"))
         with open(f"{TOP}/lib/flags", encoding="ascii") as it:
             self.flags = it.read().split()
@@ -164,8 +159,24 @@ class Translator:
         refused, content = list(itertools.islice(find_refused(text.decode(), self.headers), MOST_FAULTS)), text.splitlines()
         if refused:
             return self.document(None, [finding_of_line(line, why, content) for line, why in refused])
-        with self.turns.taken(client, connection), tempfile.TemporaryDirectory(prefix="mx-serve-") as folder:
+        with self.turns.taken(client, connection), self.folder() as folder:
             return self.document(*self.translate(text, folder, connection))
+
+    @contextlib.contextmanager
+    def folder(self):
+        """Has a folder for a text for a while; `end` takes it away as well."""
+        folder = tempfile.mkdtemp(prefix="mx-serve-")
+        self.folders.add(folder)
+        try:
+            yield folder
+        finally:
+            shutil.rmtree(folder, ignore_errors=True)
+            self.folders.discard(folder)
+
+    def end(self):
+        """Takes the folders away of texts that were still compiled."""
+        for folder in list(self.folders):
+            shutil.rmtree(folder, ignore_errors=True)
 
     def document(self, source, findings):
         told = {"command": "translate", "status": 1 if source is None else 0, "output": {"source": source, "findings": findings}}

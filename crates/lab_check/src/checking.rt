@@ -4,6 +4,7 @@ ghost use Rattle.mx_io.specs.declared.limits.TheConstants.{MAX_SOURCE_BYTES};
 
 use crate::error::fault_finding;
 use crate::finding::Finding;
+use crate::follow::causes_of;
 use crate::labels::{Definition, definitions_of};
 use crate::warning::{Notice, notice_finding, overlong, warnings};
 use lab_faults::{Findings, Shown, check_text};
@@ -31,21 +32,23 @@ fn fault_findings<'a>(
     alloc: Global,
     shown: &[Shown<'a>],
     definitions: &[Definition],
+    causes: &[Option<u32>],
 ) -> Result<Vec<Finding<'a>>, AllocError> {
     let mut findings = Vec::new(alloc);
-    for one in shown {
-        findings.push(fault_finding(alloc, one, definitions)?)?;
+    for (one, cause) in shown.iter().zip(causes) {
+        findings.push(fault_finding(alloc, one, definitions, *cause)?)?;
     }
     Ok(findings)
 }
 
-// The faulty lines that are shown, as they are told in a text that defines these labels.
+// The faulty lines that are shown, as they are told in a text that defines these labels, each with the line that it follows from.
 fn faults_told<'a>(
     alloc: Global,
     faulty: &Findings<'a>,
     definitions: &[Definition],
+    causes: &[Option<u32>],
 ) -> Result<Checked<'a>, AllocError> {
-    let findings = fault_findings(alloc, &faulty.shown, definitions)?;
+    let findings = fault_findings(alloc, &faulty.shown, definitions, causes)?;
     Ok(Checked {
         findings,
         faults: faulty.count,
@@ -61,7 +64,8 @@ fn told_faults<'a>(
     faulty: &Findings<'a>,
 ) -> Result<Checked<'a>, AllocError> {
     let definitions = definitions_of(alloc, lines)?;
-    faults_told(alloc, faulty, &definitions)
+    let causes = causes_of(alloc, lines, &faulty.shown)?;
+    faults_told(alloc, faulty, &definitions, &causes)
 }
 
 // The first branch of a source that does not reach its target.

@@ -16,7 +16,7 @@ fn number_and_name(fault: Fault) -> (&'static str, &'static str) {
 }
 
 // What is found at a faulty line.
-fn found_at<'a>(shown: &Shown<'a>) -> Found<'a> {
+fn found_at<'a>(shown: &Shown<'a>, follows: Option<u32>) -> Found<'a> {
     let (code, name) = number_and_name(shown.fault);
     Found {
         line: shown.line,
@@ -25,6 +25,21 @@ fn found_at<'a>(shown: &Shown<'a>) -> Found<'a> {
         severity: Severity::Error,
         code,
         name,
+        follows,
+    }
+}
+
+// The hint of a faulty line of these words: the line from which its fault follows, or what may have been meant.
+fn push_help(
+    hint: &mut Writer,
+    shown: &Shown,
+    words: &[Word],
+    definitions: &[Definition],
+    follows: Option<u32>,
+) {
+    match follows {
+        Some(line) => hint.push_numbers(&["this follows from line ", ""], &[u64::from(line)]),
+        None => push_hint(hint, shown, words, definitions),
     }
 }
 
@@ -34,26 +49,33 @@ fn said_by(
     shown: &Shown,
     words: &[Word],
     definitions: &[Definition],
+    follows: Option<u32>,
 ) -> Result<Words, AllocError> {
     let mut message = Writer::new(alloc);
     let mut hint = Writer::new(alloc);
     push_sentence(&mut message, shown, name_of(words));
-    push_hint(&mut hint, shown, words, definitions);
+    push_help(&mut hint, shown, words, definitions, follows);
     Words::new(message, hint)
 }
 
 // What is said of a faulty line.
-fn said_of(alloc: Global, shown: &Shown, definitions: &[Definition]) -> Result<Words, AllocError> {
+fn said_of(
+    alloc: Global,
+    shown: &Shown,
+    definitions: &[Definition],
+    follows: Option<u32>,
+) -> Result<Words, AllocError> {
     let words = line_words(alloc, shown.text)?;
-    said_by(alloc, shown, &words, definitions)
+    said_by(alloc, shown, &words, definitions, follows)
 }
 
-/// A faulty line, as it is told.
+/// The finding of a faulty line, whose fault may follow from another line.
 pub fn fault_finding<'a>(
     alloc: Global,
     shown: &Shown<'a>,
     definitions: &[Definition],
+    follows: Option<u32>,
 ) -> Result<Finding<'a>, AllocError> {
-    let said = said_of(alloc, shown, definitions)?;
-    found_at(shown).told(alloc, said)
+    let said = said_of(alloc, shown, definitions, follows)?;
+    found_at(shown, follows).told(alloc, said)
 }

@@ -42,6 +42,8 @@ pub struct Finding<'a> {
     pub name: &'static str,
     pub message: String,
     pub hint: Option<String>,
+    /// The line from which it follows, where it is no fault of its own.
+    pub follows: Option<u32>,
 }
 
 impl Finding<'_> {
@@ -53,7 +55,7 @@ impl Finding<'_> {
         }
     }
 
-    /// The column behind the last byte that is marked; behind the line where none is.
+    /// The column after the last byte that is marked; after the line where none is.
     pub fn end_column(&self) -> usize {
         match self.span {
             Some(span) => span.end.saturating_add(1),
@@ -90,6 +92,7 @@ pub struct Found<'a> {
     pub severity: Severity,
     pub code: &'static str,
     pub name: &'static str,
+    pub follows: Option<u32>,
 }
 
 impl<'a> Found<'a> {
@@ -107,6 +110,7 @@ impl<'a> Found<'a> {
             name: self.name,
             message,
             hint,
+            follows: self.follows,
         })
     }
 }

@@ -17,7 +17,7 @@ const DIRECTIVES: [&str; 5] = [".code", ".data", ".word", ".space", ".input"];
 // Appends which name was meant in the place of a word, if one is near.
 fn push_meant(text: &mut Writer, word: &str, names: &[&str]) {
     if let Some(Some(name)) = text.take(nearest(text.alloc(), word, names)) {
-        text.push_parts(&["did you mean `", name, "`?"]);
+        text.push_parts(&["did you mean '", name, "'?"]);
     }
 }
 
@@ -27,13 +27,10 @@ static SIGNS: [(&str, &str); 6] = [
         BYTE_ORDER_MARK,
         "this is a byte order mark: store the text as UTF-8 without one",
     ),
-    (
-        "\u{a0}",
-        "this is a no-break space: a space or a tab stands between words",
-    ),
-    ("\u{2212}", "a minus is written `-`"),
-    ("\u{2013}", "a minus is written `-`"),
-    ("\u{2014}", "a minus is written `-`"),
+    ("\u{a0}", "this is a no-break space: write a space or a tab"),
+    ("\u{2212}", "a minus is written '-'"),
+    ("\u{2013}", "a minus is written '-'"),
+    ("\u{2014}", "a minus is written '-'"),
     ("\r", "a line ends with LF, or with CR and LF"),
 ];
 
@@ -45,20 +42,20 @@ fn byte_told(typed: Option<&str>) -> &'static str {
             return *told;
         }
     }
-    "behind a `;` any text may stand"
+    "any text may follow a ';'"
 }
 
 // F2: what is said of bytes at which no token begins; nothing where nothing is known.
 fn token_told(token: &[u8]) -> &'static str {
     match token {
-        [b'(' | b')', ..] => "an address is OFFSET[R], as `4[r1]`",
-        [b'$' | b'%', ..] => "a register is written `r1`, without a sign before it",
-        [b'\'' | b'"', ..] => "a character is written as its number: 65 is `A`",
-        [b'/' | b'*' | b'!' | b'@' | b'|', ..] => "a comment begins with `;`",
+        [b'(' | b')', ..] => "an address is OFFSET[R], as '4[r1]'",
+        [b'$' | b'%', ..] => "a register is written 'r1', without a sign before it",
+        [b'\'' | b'"', ..] => "a character is written as its number: 65 is 'A'",
+        [b'/' | b'*' | b'!' | b'@' | b'|', ..] => "a comment begins with ';'",
         [b'+', ..] => "a number that is not negative has no sign",
-        [b'-', ..] => "a `-` stands directly before the digits of its number",
+        [b'-', ..] => "a '-' comes directly before the digits of its number",
         [b'0'..=b'9', ..] => {
-            "a number is decimal, or hexadecimal behind `0x`; a name begins with a letter or `_`"
+            "a number is decimal, or hexadecimal after '0x'; a name begins with a letter or '_'"
         }
         _ => "",
     }
@@ -85,13 +82,13 @@ fn push_mnemonic_hint(text: &mut Writer, words: &[Word], token: &[u8]) {
     if let Some(instead) = mnemonic_instead(token) {
         text.push_str(instead);
     } else if is_before_mnemonic(words) {
-        text.push_parts(&["a label has a `:` behind it: `", word, ":`"]);
+        text.push_parts(&["a label ends with a ':': '", word, ":'"]);
     } else if let Some(names) = text.take(mnemonics(text.alloc())) {
         push_mnemonic_like(text, word, &names);
     }
 }
 
-// The number of a register, behind another letter or zeros.
+// The number of a register, after another letter or zeros.
 fn register_number(token: &[u8]) -> Option<u32> {
     let digits = match token {
         [b'r' | b'R' | b'x' | b'X', digits @ ..] => text_of(digits),
@@ -108,20 +105,20 @@ fn push_register_hint(text: &mut Writer, token: &[u8]) {
     if let Some(instead) = register_instead(token) {
         text.push_str(instead);
     } else if let Some(number) = register_number(token) {
-        text.push_numbers(&["did you mean `r", "`?"], &[u64::from(number)]);
+        text.push_numbers(&["did you mean 'r", "'?"], &[u64::from(number)]);
     }
 }
 
 // F6: what is said of a number that is too wide for its place; nothing but for `addi`.
 fn range_told(name: &[u8]) -> &'static str {
     if spells(name, "addi") {
-        "a wider number is a data word: `ld LABEL[r0],R` loads the word that `.word` puts there"
+        "a wider number is a data word: 'ld LABEL[r0],R' loads the word that '.word' puts there"
     } else {
         ""
     }
 }
 
-// F7: where the label stands first.
+// F7: which line defines the label first.
 fn push_first(text: &mut Writer, token: &[u8], definitions: &[Definition]) {
     if let Some(line) = first_definition(definitions, token) {
         text.push_numbers(&["line ", " defines it first"], &[u64::from(line)]);
@@ -139,15 +136,15 @@ fn push_label_like(text: &mut Writer, token: &[u8], definitions: &[Definition]) 
 fn push_label_hint(text: &mut Writer, token: &[u8], definitions: &[Definition]) {
     match other_case(definitions, token) {
         Some(other) => {
-            text.push_numbers(&["line ", " defines `"], &[u64::from(other.line)]);
+            text.push_numbers(&["line ", " defines '"], &[u64::from(other.line)]);
             text.push_str(text_of(other.name));
-            text.push_str("`: in labels small and capital letters differ");
+            text.push_str("': in labels small and capital letters differ");
         }
         None => push_label_like(text, token, definitions),
     }
 }
 
-// F11: a directive of another assembler, or a slip; of a directive that stands in another place its sentence says enough.
+// F11: a directive of another assembler, or a slip; the sentence of a directive in another place says enough.
 fn push_directive_hint(text: &mut Writer, token: &[u8]) {
     if let Some(instead) = directive_instead(token) {
         text.push_str(instead);

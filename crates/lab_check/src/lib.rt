@@ -4,6 +4,7 @@
 mod checking;
 mod error;
 mod finding;
+mod follow;
 mod foreign;
 mod hint;
 mod json;

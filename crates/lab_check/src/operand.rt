@@ -1,4 +1,4 @@
-//! What may have been meant by an operand that does not stand in its place.
+//! What may have been meant by an operand that is not in its place.
 
 use crate::sentence::{name_of, text_of, token_of};
 use lab_faults::Shown;
@@ -16,7 +16,7 @@ fn front_of<'a>(shown: &Shown<'a>) -> &'a [u8] {
     }
 }
 
-// How many words of the statement stand before the bytes that are shown.
+// How many words of the statement come before the bytes that are shown.
 fn words_before(alloc: Global, shown: &Shown) -> Result<usize, AllocError> {
     let words = line_words(alloc, front_of(shown))?;
     Ok(statement_words(&words).len())
@@ -26,63 +26,61 @@ fn words_before(alloc: Global, shown: &Shown) -> Result<usize, AllocError> {
 fn push_comma_hint(text: &mut Writer, token: &[u8]) {
     match token {
         [b',' | b'[' | b']' | b':', ..] => {}
-        _ => text.push_parts(&["a `,` is missing before `", text_of(token), "`"]),
+        _ => text.push_parts(&["a ',' is missing before '", text_of(token), "'"]),
     }
 }
 
-// What is said of a number, with or without its `#`, where a register stands; nothing of something else.
+// What is said of a number, with or without its `#`, in the place of a register; nothing of something else.
 fn register_told(name: &[u8], token: &[u8]) -> &'static str {
     match token {
         [b'#' | b'-' | b'0'..=b'9', ..] => {
             if spells(name, "add") {
-                "`addi R,#NUMBER,R` adds a number"
+                "'addi R,#NUMBER,R' adds a number"
             } else if spells(name, "sub") {
-                "`addi R,#-NUMBER,R` takes a number away"
+                "'addi R,#-NUMBER,R' takes a number away"
             } else {
-                "a register stands here: `addi r0,#NUMBER,R` puts a number into one"
+                "'addi r0,#NUMBER,R' puts a number into a register"
             }
         }
         _ => "",
     }
 }
 
-// The `#` was left out, or a register stands where a number does.
+// The `#` was left out, or a register is in the place of a number.
 fn push_hash_hint(text: &mut Writer, name: &[u8], token: &[u8]) {
     match token {
         [b'-' | b'0'..=b'9', ..] => {
-            text.push_parts(&["a number has a `#` before it: `#", text_of(token), "`"]);
+            text.push_parts(&["a number has a '#' before it: '#", text_of(token), "'"]);
         }
         [b'r' | b'R', ..] if spells(name, "addi") => {
-            text.push_str("`add R,R,R` adds two registers");
+            text.push_str("'add R,R,R' adds two registers");
         }
         _ => {}
     }
 }
 
-// What stands where an address begins.
+// What is expected where an address begins.
 fn open_told(name: &[u8]) -> &'static str {
     if spells(name, "st") {
-        "the address stands first: `st OFFSET[R],R`"
+        "the address comes first: 'st OFFSET[R],R'"
     } else {
-        "the address stands first: `ld OFFSET[R],R`"
+        "the address comes first: 'ld OFFSET[R],R'"
     }
 }
 
-// What is said where something else stands in a place; nothing where nothing is known.
+// What is said of something else in a place; nothing where nothing is known.
 fn place_told(role: Role, name: &[u8], token: &[u8]) -> &'static str {
     match role {
         Role::Register => register_told(name, token),
         Role::Open => open_told(name),
-        Role::Offset => "a number or a data label stands before the `[`, as `0[r1]`",
-        Role::Immediate => {
-            "a number stands behind the `#`: `la LABEL,R` gives the address of a label"
-        }
-        Role::CodeName | Role::AnyName => "the name of a label stands here",
+        Role::Offset => "a number or a data label comes before the '[', as '0[r1]'",
+        Role::Immediate => { "a number follows the '#': 'la LABEL,R' gives the address of a label" }
+        Role::CodeName | Role::AnyName => "expected the name of a label",
         _ => "",
     }
 }
 
-// Appends the hint where something else stands in a place.
+// Appends the hint for something else in a place.
 fn push_place_hint(text: &mut Writer, role: Role, name: &[u8], token: &[u8]) {
     match role {
         Role::Comma => push_comma_hint(text, token),
@@ -91,23 +89,23 @@ fn push_place_hint(text: &mut Writer, role: Role, name: &[u8], token: &[u8]) {
     }
 }
 
-// Appends the hint where something else is shown, behind so many words of the statement with this name and these places.
-fn push_hint_behind(text: &mut Writer, before: usize, roles: &[Role], name: &[u8], token: &[u8]) {
+// Appends the hint where something else is shown, after so many words of the statement with this name and these places.
+fn push_hint_after(text: &mut Writer, before: usize, roles: &[Role], name: &[u8], token: &[u8]) {
     let Some(place) = before.checked_sub(1) else {
         return;
     };
     match roles.get(place) {
         Some(role) => push_place_hint(text, *role, name, token),
-        None => text.push_str("there is an operand too many; a comment begins with `;`"),
+        None => text.push_str("there is an operand too many; a comment begins with ';'"),
     }
 }
 
-/// F4: appends what may have been meant by the word that does not stand in its place.
+/// F4: appends what may have been meant by the word that is not in its place.
 pub fn push_operand_hint(text: &mut Writer, shown: &Shown, words: &[Word]) {
     let alloc = text.alloc();
     let roles = text.take(places(alloc, statement_words(words))).flatten();
     let before = text.take(words_before(alloc, shown));
     if let (Some(roles), Some(before)) = (roles, before) {
-        push_hint_behind(text, before, &roles, name_of(words), token_of(shown));
+        push_hint_after(text, before, &roles, name_of(words), token_of(shown));
     }
 }

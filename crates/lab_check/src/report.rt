@@ -56,7 +56,7 @@ impl Report {
         self.push_colour(PLAIN);
     }
 
-    // Puts down where a finding is, and how grave.
+    // Puts down where a finding is.
     fn push_place(&mut self, file: &str, finding: &Finding) {
         let (line, column) = (u64::from(finding.line), finding.column() as u64);
         self.push_colour(BOLD);
@@ -64,14 +64,17 @@ impl Report {
         self.text.push_numbers(&[":", ":", ":"], &[line, column]);
         self.push_colour(PLAIN);
         self.text.push(' ');
-        self.push_in(colour_of(finding.severity), &[finding.severity.word(), ":"]);
     }
 
-    // Puts down the number and the name of a finding, what it is, and the line.
+    // Puts down how grave a finding is and its code.
+    fn push_severity(&mut self, finding: &Finding) {
+        let texts = [finding.severity.word(), "[", finding.code, "]:"];
+        self.push_in(colour_of(finding.severity), &texts);
+    }
+
+    // Puts down what a finding is, and the line.
     fn push_message(&mut self, finding: &Finding) {
-        self.text
-            .push_parts(&[" ", finding.code, " ", finding.name, ": "]);
-        self.text.push_str(&finding.message);
+        self.text.push_parts(&[" ", finding.message.as_str()]);
         self.text.push_str("\n    ");
         self.text.push_bytes(finding.text);
         self.text.push('\n');
@@ -100,9 +103,64 @@ impl Report {
     // Puts down a finding.
     fn push_finding(&mut self, file: &str, finding: &Finding) {
         self.push_place(file, finding);
+        self.push_severity(finding);
         self.push_message(finding);
         self.push_marks(finding);
         self.push_hint(finding);
+    }
+
+    // Puts down that so many findings, of which this is the first one, follow from a line.
+    fn push_followers(&mut self, file: &str, first: &Finding, cause: u32, count: u64) {
+        self.push_place(file, first);
+        self.push_in(CYAN, &["note:"]);
+        let cause = u64::from(cause);
+        match count {
+            1 => self
+                .text
+                .push_numbers(&[" this fault follows from line ", "\n"], &[cause]),
+            _ => self.text.push_numbers(
+                &[" these ", " faults follow from line ", "\n"],
+                &[count, cause],
+            ),
+        }
+    }
+}
+
+// How many findings at the front of a list follow from a line.
+fn followers(findings: &[Finding], cause: u32) -> usize {
+    let mut count = 0usize;
+    for finding in findings {
+        if finding.follows != Some(cause) {
+            return count;
+        }
+        count = count.saturating_add(1);
+    }
+    count
+}
+
+// The finding at a place follows from the same line as the one before it.
+fn continues(findings: &[Finding], at: usize) -> bool {
+    match (at.checked_sub(1), findings.get(at)) {
+        (Some(before), Some(finding)) => match findings.get(before) {
+            Some(earlier) => finding.follows == earlier.follows,
+            None => false,
+        },
+        _ => false,
+    }
+}
+
+// Puts down the finding at a place, or how many from there on follow from the same line.
+fn push_at(report: &mut Report, file: &str, findings: &[Finding], at: usize) {
+    let Some(finding) = findings.get(at) else {
+        return;
+    };
+    match finding.follows {
+        None => report.push_finding(file, finding),
+        Some(_) if continues(findings, at) => {}
+        Some(cause) => {
+            let count = followers(findings.get(at..).unwrap_or(&[]), cause);
+            report.push_followers(file, finding, cause, count as u64);
+        }
     }
 }
 
@@ -115,8 +173,8 @@ fn lines_of(
 ) -> Result<Vec<u8>, AllocError> {
     let text = Writer::new(alloc);
     let mut report = Report { text, is_coloured };
-    for finding in findings {
-        report.push_finding(file, finding);
+    for at in 0..findings.len() {
+        push_at(&mut report, file, findings, at);
     }
     report.text.into_bytes()
 }

@@ -10,11 +10,10 @@ use std::str;
 /// The byte order mark, which cannot be seen.
 pub const BYTE_ORDER_MARK: &str = "\u{feff}";
 
-/// What is said of a byte or a character that stands outside a comment alone.
-const OUTSIDE_COMMENT: &str =
-    " stands outside a comment, where tabs and the bytes 32 to 126 may stand";
+/// What is expected in the place of a byte or a character that only a comment may have.
+const OUTSIDE_COMMENT: &str = " outside a comment: expected a tab or a byte from 32 to 126";
 
-// The operands that stand behind a mnemonic.
+// The operands of a mnemonic.
 fn operands_of(mnemonic: Mnemonic) -> &'static str {
     match mnemonic {
         Mnemonic::Compute(_) => "R,R,R",
@@ -28,7 +27,7 @@ fn operands_of(mnemonic: Mnemonic) -> &'static str {
         Mnemonic::LoadAddress | Mnemonic::Call => "LABEL,R",
         Mnemonic::Goto => "LABEL",
         Mnemonic::JumpReg => "R",
-        Mnemonic::Nop | Mnemonic::Halt | Mnemonic::System => "nothing",
+        Mnemonic::Nop | Mnemonic::Halt | Mnemonic::System => "no operands",
     }
 }
 
@@ -69,7 +68,7 @@ pub fn is_among(names: &[&str], name: &[u8]) -> bool {
     false
 }
 
-/// The operands that stand behind a mnemonic or a directive.
+/// The operands that a mnemonic or a directive expects.
 pub fn form_of(name: &[u8]) -> &'static str {
     if spells(name, ".space") {
         return "NUMBER";
@@ -79,7 +78,7 @@ pub fn form_of(name: &[u8]) -> &'static str {
     }
     match mnemonic_named(name) {
         Some(mnemonic) => operands_of(mnemonic),
-        None => "nothing",
+        None => "no operands",
     }
 }
 
@@ -109,22 +108,22 @@ pub fn name_of<'a>(words: &[Word<'a>]) -> &'a [u8] {
     }
 }
 
-// The numbers that may stand behind a mnemonic or a directive.
+// The numbers that an operand of a mnemonic or a directive may be.
 fn range_of(name: &[u8]) -> &'static str {
     if spells(name, "asr") || spells(name, "sh") {
         "0 to 31"
     } else if spells(name, ".space") {
-        "0 to 65280"
+        "0 to 65,280"
     } else if spells(name, ".word") {
-        "-2147483648 to 4294967295"
+        "-2,147,483,648 to 4,294,967,295"
     } else {
-        "-65536 to 65535"
+        "-65,536 to 65,535"
     }
 }
 
 // Appends a part of a line between the marks of a quotation.
 fn push_quoted(text: &mut Writer, token: &[u8]) {
-    text.push_parts(&["`", text_of(token), "`"]);
+    text.push_parts(&["'", text_of(token), "'"]);
 }
 
 // Appends a token, and what is said of it.
@@ -133,116 +132,116 @@ fn push_told(text: &mut Writer, token: &[u8], told: &str) {
     text.push_parts(&[" ", told]);
 }
 
-// Appends a token that does not stand in its place, and what stands behind the name before it.
-fn push_misplaced(text: &mut Writer, name: &[u8], token: &[u8]) {
+// Appends what is wrong, the token, and what was expected.
+fn push_wrong(text: &mut Writer, wrong: &str, token: &[u8], expected: &str) {
+    text.push_parts(&[wrong, " "]);
     push_quoted(text, token);
-    text.push_parts(&[
-        " does not stand in its place: ",
-        form_of(name),
-        " stands behind ",
-    ]);
+    text.push_str(expected);
+}
+
+// Appends what a mnemonic or a directive expects, and the token that was found in its place.
+fn push_misplaced(text: &mut Writer, name: &[u8], token: &[u8]) {
     push_quoted(text, name);
+    text.push_parts(&[" expects ", form_of(name), "; found "]);
+    push_quoted(text, token);
 }
 
-// Appends a mnemonic or a directive, what is said of it, and what stands behind it.
-fn push_form(text: &mut Writer, name: &[u8], told: &str) {
-    push_told(text, name, told);
-    text.push_parts(&[" ", form_of(name), " stands behind it"]);
-}
-
-// F4: a word that does not stand in its place, or a word that is missing.
+// F4: a word that is not in its place, or a word that is missing.
 fn push_operands(text: &mut Writer, name: &[u8], token: &[u8]) {
     if name.is_empty() {
-        push_told(
-            text,
-            token,
-            "stands where a mnemonic or a directive stands, which is a name",
-        );
+        text.push_str("expected an instruction or a directive; found ");
+        push_quoted(text, token);
     } else if token != name {
         push_misplaced(text, name, token);
     } else {
-        push_form(text, token, "has too few operands:");
+        text.push_parts(&["too few operands: expected ", form_of(name)]);
     }
 }
 
 // F6: a number that is too wide for its place.
 fn push_range(text: &mut Writer, name: &[u8], token: &[u8]) {
-    text.push_str(text_of(token));
-    text.push_parts(&[
-        " is outside its range: a number from ",
-        range_of(name),
-        " stands here",
-    ]);
+    text.push_parts(&["number ", text_of(token), " is out of range"]);
+    text.push_parts(&[": expected ", range_of(name)]);
 }
 
 // F9: what is said of a label of the other kind.
 fn kind_told(name: &[u8]) -> &'static str {
     if spells(name, "ld") || spells(name, "st") {
-        "is a code label: an offset is a number or a data label"
+        "is a code label: expected a number or a data label"
     } else {
-        "is a data label: a target is a code label"
+        "is a data label: expected a code label"
     }
 }
 
-// What is said of a statement that does not stand in its place, or of an unknown directive.
-fn statement_told(token: &[u8]) -> &'static str {
-    match token {
-        [b'.', ..] => "is no directive: those are .code, .data, .word, .space and .input",
-        _ => "stands in the code section: a line `.code` goes back to it",
+// F5: the registers that an instruction with this name may have in the place of a wrong one.
+fn registers_of(name: &[u8]) -> &'static str {
+    if spells(name, "movfrs") || spells(name, "movtos") {
+        ": expected r0 to r31, or md in the place of the special register"
+    } else {
+        ": expected r0 to r31"
     }
 }
 
-// F11: a label that begins with `.`, an unknown directive, or a statement that does not stand in its place.
+// F11: a name that is no directive, or an instruction in the data section.
+fn push_statement(text: &mut Writer, token: &[u8]) {
+    if token.starts_with(b".") {
+        let known = ": expected .code, .data, .word, .space or .input";
+        push_wrong(text, "unknown directive", token, known);
+    } else {
+        push_wrong(text, "instruction", token, " in the data section");
+    }
+}
+
+// F11: a directive of the data section, in the other one or without its operands.
+fn push_data_directive(text: &mut Writer, token: &[u8]) {
+    push_quoted(text, token);
+    text.push_parts(&[
+        " belongs after a '.data' line, and expects ",
+        form_of(token),
+    ]);
+}
+
+// F11: a label that begins with `.`, an unknown directive, or a statement in the other section.
 fn push_directive(text: &mut Writer, name: &[u8], token: &[u8]) {
     if spells(token, ".word") || spells(token, ".space") {
-        push_form(
-            text,
-            token,
-            "stands in the data section, behind a line `.data`, and",
-        );
+        push_data_directive(text, token);
     } else if token == name {
-        push_told(text, token, statement_told(token));
+        push_statement(text, token);
     } else if token.starts_with(b".") {
-        push_told(
-            text,
-            token,
-            "is no label: a label does not begin with a `.`",
-        );
+        let expected = ": a label does not begin with '.'";
+        push_wrong(text, "invalid label", token, expected);
     } else {
         push_misplaced(text, name, token);
     }
 }
 
-// What is said of a token, where it is the same whatever stands before it.
-fn fault_told(fault: Fault) -> Option<&'static str> {
-    match fault {
-        Fault::BadToken => Some("is no token: a name, a number or one of , [ ] # : stands here"),
-        Fault::UnknownMnemonic => {
-            Some("is no mnemonic: a statement begins with a mnemonic or a directive")
+// F2: bytes that are no token.
+fn push_invalid(text: &mut Writer, token: &[u8]) {
+    match token {
+        [b'0'..=b'9', ..] => push_wrong(text, "invalid number", token, ""),
+        _ => {
+            let expected = ": expected a name, a number or one of , [ ] # :";
+            push_wrong(text, "invalid token", token, expected);
         }
-        Fault::BadRegister => {
-            Some("is no register: those are r0 to r31, and md where a special name stands")
-        }
-        Fault::DuplicateLabel => {
-            Some("is a label already: each label is defined once in a text")
-        }
-        Fault::UndefinedLabel => Some("is defined nowhere: a label of the text stands here"),
-        Fault::SystemInstruction => {
-            Some("belongs to the system: a source moves md alone, and has no jpc and jpcrs")
-        }
-        _ => None,
     }
 }
 
 // Appends the sentence of a fault that a token shows.
 fn push_token(text: &mut Writer, fault: Fault, name: &[u8], token: &[u8]) {
-    if let Some(told) = fault_told(fault) {
-        return push_told(text, token, told);
-    }
     match fault {
+        Fault::BadToken => push_invalid(text, token),
+        Fault::UnknownMnemonic => push_wrong(text, "unknown instruction", token, ""),
         Fault::BadOperands => push_operands(text, name, token),
+        Fault::BadRegister => push_wrong(text, "invalid register", token, registers_of(name)),
         Fault::NumberOutOfRange => push_range(text, name, token),
+        Fault::DuplicateLabel => push_wrong(text, "duplicate label", token, ""),
+        Fault::UndefinedLabel => push_wrong(text, "undefined label", token, ""),
         Fault::WrongLabelKind => push_told(text, token, kind_told(name)),
+        Fault::SystemInstruction => push_told(
+            text,
+            token,
+            "is reserved for the system: a source moves md only, and has no jpc and jpcrs",
+        ),
         _ => push_directive(text, name, token),
     }
 }
@@ -277,24 +276,24 @@ fn push_byte(text: &mut Writer, shown: &Shown) {
     let byte = token_of(shown).first().copied().unwrap_or(0);
     match char_of(shown) {
         Some(typed) if byte > 127 && can_be_shown(typed) => {
-            text.push_parts(&["`", typed, "`", OUTSIDE_COMMENT]);
+            text.push_parts(&["invalid character '", typed, "'", OUTSIDE_COMMENT]);
         }
-        _ => text.push_numbers(&["byte ", OUTSIDE_COMMENT], &[u64::from(byte)]),
+        _ => text.push_numbers(&["invalid byte ", OUTSIDE_COMMENT], &[u64::from(byte)]),
     }
 }
 
-/// Appends what is wrong with a faulty line whose statement begins with a name, and what stands in the place of what is wrong.
+/// Appends what is wrong with a faulty line whose statement begins with a name, and what was expected.
 pub fn push_sentence(text: &mut Writer, shown: &Shown, name: &[u8]) {
     match shown.fault {
         Fault::BadByte => push_byte(text, shown),
-        Fault::TooManyInstructions => text.push_str(
-            "with this line there are more than 20000 instructions, which is all that a source may have",
-        ),
+        Fault::TooManyInstructions => {
+            text.push_str("too many instructions: a source has at most 20,000");
+        }
         Fault::DataFull => {
-            text.push_str("there is no room for the data: the last word is at address 65535");
+            text.push_str("the data section is full: its last word is at address 65,535");
         }
         Fault::LineTooLong => text.push_numbers(
-            &["the line has ", " bytes, and a line has at most 255"],
+            &["the line has ", " bytes: a line has at most 255"],
             &[shown.text.len() as u64],
         ),
         fault => push_token(text, fault, name, token_of(shown)),

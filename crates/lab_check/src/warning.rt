@@ -45,17 +45,15 @@ impl Kind {
         }
     }
 
-    // What is said: of a label and of a branch behind what they are.
+    // What is said: of a branch after what it is.
     fn told(self) -> &'static str {
         match self {
-            Kind::Displacement { .. } => "it goes 32768 words back and 32767 on",
-            Kind::NoStatement => "there is no statement: a run is stuck at once",
-            Kind::RunsPastEnd => {
-                "a run may go on behind the last statement from here, where it is stuck"
-            }
-            Kind::Unreached => "no run comes to this statement",
-            Kind::UnusedLabel(_) => "is used nowhere",
-            Kind::UnreadInput => "the source has an input, and no statement reads it",
+            Kind::Displacement { .. } => "branch range is -32768 to 32767 words",
+            Kind::NoStatement => "no instruction: execution is stuck at once",
+            Kind::RunsPastEnd => "may run past the last instruction",
+            Kind::Unreached => "unreachable instruction",
+            Kind::UnusedLabel(_) => "unused label ",
+            Kind::UnreadInput => "the input is never read",
         }
     }
 
@@ -63,10 +61,10 @@ impl Kind {
     fn hint(self) -> &'static str {
         match self {
             Kind::Displacement { .. } => {
-                "a `jr` goes to any place, which `la LABEL,R` puts into a register"
+                "'jr R' goes to any code address, which 'la LABEL,R' puts into a register"
             }
-            Kind::NoStatement | Kind::RunsPastEnd => "a `halt` there ends the run",
-            Kind::UnreadInput => "`ld 254[r0],R` takes the next byte of the input",
+            Kind::NoStatement | Kind::RunsPastEnd => "add 'halt' where the program ends",
+            Kind::UnreadInput => "'ld 254[r0],R' takes the next byte of the input",
             _ => "",
         }
     }
@@ -122,6 +120,7 @@ fn found_at<'a>(alloc: Global, text: &'a [u8], notice: Notice) -> Result<Found<'
         severity: kind.severity(),
         code,
         name,
+        follows: None,
     })
 }
 
@@ -134,10 +133,12 @@ fn push_message(text: &mut Writer, kind: Kind, token: &[u8]) {
                 "the branch at 0x{from:x} does not reach its target at 0x{to:x}: "
             );
         }
-        Kind::UnusedLabel(_) => text.push_parts(&["the label `", text_of(token), "` "]),
         _ => {}
     }
     text.push_str(kind.told());
+    if let Kind::UnusedLabel(_) = kind {
+        text.push_parts(&["'", text_of(token), "'"]);
+    }
 }
 
 // What is said of what is found at a token, and what helps.
@@ -171,7 +172,7 @@ fn is_so(row: &[bool], at: usize) -> bool {
     row.get(at).copied().unwrap_or(false)
 }
 
-// A statement with these ways, one of so many, may go on behind the last one.
+// A statement with these ways, one of so many, may run past the last one.
 fn leaves(ways: Ways, at: usize, count: usize) -> bool {
     let is_last = at.saturating_add(1) == count;
     let is_target = match ways.target {
@@ -181,7 +182,7 @@ fn leaves(ways: Ways, at: usize, count: usize) -> bool {
     (ways.on && is_last) || is_target
 }
 
-// A run may come to the statement at a place, and from there go on behind the last one.
+// A run may come to the statement at a place, and from there run past the last one.
 fn may_leave(statements: &[Statement], reached: &[bool], at: usize) -> bool {
     match statements.get(at) {
         Some(statement) if is_so(reached, at) => {
@@ -221,7 +222,7 @@ fn add_statements(
     Ok(())
 }
 
-// Adds the statements that may go on behind the last one, and those that no run comes to.
+// Adds the statements that may run past the last one, and those that no run comes to.
 fn add_reached(
     found: &mut Vec<Notice>,
     source: &Source,
@@ -361,7 +362,7 @@ fn add_warnings(
     add_unread(found, source)
 }
 
-/// What is seldom meant in a source, of a text of these lines: a run may go on behind its last statement, no run comes to
+/// What is seldom meant in a source, of a text of these lines: a run may go past its last statement, no run comes to
 /// a statement, a label is used nowhere, an input is never read; in this order, each by its lines.
 pub fn warnings(
     alloc: Global,

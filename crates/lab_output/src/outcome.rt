@@ -1,7 +1,8 @@
 //! The end of a command.
-ghost use Rattle.std.specs.Prelude.{◌≡◌, ◌≢◌, ◌++◌, ◌∷◌, [], List, ℕ, Some};
+ghost use Rattle.std.specs.Prelude.{◌≡◌, ◌≢◌, ◌++◌, ◌∷◌, ◌⊎◌, [], List, ℕ, Some, codes};
+ghost use Rattle.mx_io.specs.Counts.{Rose};
 ghost use Rattle.mx_io.specs.Writes.{written_of};
-ghost use Rattle.lab_output.specs.Files.{file_named};
+ghost use Rattle.lab_output.specs.Files.{file_named, IsFileError, IsLine};
 
 use cmd_answer::Status;
 use mx_io::{Shelf, ShelfFault, Sink, put_all};
@@ -35,7 +36,8 @@ pub struct Ended {
 
 // A command that ended so, with nothing for standard error.
 fn quietly(alloc: Global, status: Status) -> Ended
-    ensures { result.status ≡ status }
+    ensures status { result.status ≡ status }
+    ensures quiet { result.errors.items ≡ [] }
 {
     Ended {
         status,
@@ -45,7 +47,8 @@ fn quietly(alloc: Global, status: Status) -> Ended
 
 /// A command that ended so, with a line for standard error, where there is memory for it.
 pub fn failed(alloc: Global, status: Status, words: &str, name: &str) -> Ended
-    ensures { result.status ≡ status }
+    ensures status { result.status ≡ status }
+    ensures line { IsLine words.now name.now result.errors.items }
 {
     match format!(in alloc; "{words}{name}\n") {
         Ok(line) => Ended {
@@ -65,8 +68,10 @@ fn kept(status: Status, errors: Vec<u8>) -> Ended
 
 // Puts out a text.
 fn print<W: Sink>(alloc: Global, status: Status, said: &[u8], out: &mut W) -> Ended
-    ensures { result.status ≢ Status.WriteFault
+    ensures printed { result.status ≢ Status.WriteFault
         → (result.status ≡ status) × (W.written out.new ≡ W.written out.old ++ said.now) }
+    ensures fault { result.status ≡ Status.WriteFault → (status ≡ Status.WriteFault) ⊎ Rose (W.faults out.old) (W.faults out.new) }
+    ensures line { IsLine (codes "write fault: standard output") [] result.errors.items }
 {
     match put_all(out, said) {
         Ok(()) => quietly(alloc, status),
@@ -81,8 +86,11 @@ fn print<W: Sink>(alloc: Global, status: Status, said: &[u8], out: &mut W) -> En
 
 // Writes a text to a file.
 fn write<S: Shelf>(alloc: Global, status: Status, said: &[u8], name: &str, shelf: &mut S) -> Ended
-    ensures { result.status ≢ Status.WriteFault → result.status ≢ Status.Memory
+    ensures filed { result.status ≢ Status.WriteFault → result.status ≢ Status.Memory
         → (result.status ≡ status) × ((S.told shelf.new).wrote ≡ (S.told shelf.old).wrote ++ written_of name.now said.now ∷ []) }
+    ensures fault { result.status ≡ Status.WriteFault
+        → (status ≡ Status.WriteFault) ⊎ Rose (S.write_faults shelf.old) (S.write_faults shelf.new) }
+    ensures line { IsFileError name.now result.errors.items }
 {
     match shelf.write(name, said) {
         Ok(()) => quietly(alloc, status),
@@ -111,6 +119,14 @@ pub fn put_out<S: Shelf, W: Sink>(
         → (result.status ≡ answer.entry.status)
         × ((S.told shelf.new).wrote ≡ (S.told shelf.old).wrote ++ written_of name answer.entry.said.items ∷ []) }
     ensures alone { answer.entry.to ≡ Destination.Output → S.told shelf.new ≡ S.told shelf.old }
+
+    // A fault of writing comes only where the output or the file store counted one, and standard error gets its line.
+    ensures print_fault { answer.entry.to ≡ Destination.Output → result.status ≡ Status.WriteFault
+        → (answer.entry.status ≡ Status.WriteFault) ⊎ Rose (W.faults out.old) (W.faults out.new) }
+    ensures print_line { answer.entry.to ≡ Destination.Output → IsLine (codes "write fault: standard output") [] result.errors.items }
+    ensures file_fault { (name : List ℕ) → file_named answer.entry.to ≡ Some name → result.status ≡ Status.WriteFault
+        → (answer.entry.status ≡ Status.WriteFault) ⊎ Rose (S.write_faults shelf.old) (S.write_faults shelf.new) }
+    ensures file_line { (name : List ℕ) → file_named answer.entry.to ≡ Some name → IsFileError name result.errors.items }
 {
     let Answer { status, said, to } = answer;
     match to {
