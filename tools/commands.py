@@ -23,7 +23,7 @@ class Command(NamedTuple):
     more: str = ""
 
 
-PAGES = {"mx_run": "COMMANDS", "mx_lab": "LAB", "mx_cc": "C", "serve": "SERVE"}
+PAGES = {"mx": "COMMANDS", "mx_run": "COMMANDS", "mx_lab": "LAB", "mx_cc": "C", "serve": "SERVE"}
 
 BUDGET = Option("--budget", "N", "0 to 100,000,000 cycles (1,000,000)")
 # The laboratory runs for a cycle at least.
@@ -38,28 +38,29 @@ RUN = (
     Option("--dump", "A", "0 to 65,535: prints data words from this address on (no dump)"),
     Option("--count", "N", "1 to 65,536 words of the dump (1)"),
     Option("--trace", "N", "0 to 10,000 cycles, each with a line of its own (0)"),
+    OUTPUT,
 )
 
 COMMANDS = {
     "run": Command("mx_run", "SOURCE", "assembles, links and runs a source, and reports", RUN,
                    "Ends with 0 where the run halted, 3 where it is out of budget, 1 where the source is refused."),
     "meaning": Command("mx_run", "SOURCE", "executes a source one statement after the other", (
-        Option("--steps", "N", "0 to 100,000,064 statements (1,000,000)"), INPUT),
+        Option("--steps", "N", "0 to 100,000,064 statements (1,000,000)"), INPUT, OUTPUT),
         "Ends with 0 at a halt, 3 where it still runs, 9 where it is stuck."),
-    "list": Command("mx_run", "SOURCE", "lists the linked words, and where each comes from"),
+    "list": Command("mx_run", "SOURCE", "lists the linked words, and where each comes from", (OUTPUT,)),
     "build": Command("mx_run", "SOURCE IMAGE", "writes the linked program as a file"),
     "exec": Command("mx_run", "IMAGE", "runs such a file", RUN),
     "debug": Command("mx_run", "SOURCE LABEL", "stops the pipeline each time that it comes to a label", (
         Option("--stops", "N", "1 to 1,000 stops (1)"),
         Option("--watch", "A", "256 to 65,535: the data word that each stop shows (256)"),
-        BUDGET, INTERRUPTS, INPUT)),
-    "best": Command("mx_run", "SOURCE", "tells how far the scheduler is from the shortest plans"),
-    "share": Command("mx_run", "FIRST SECOND", "runs two sources on one machine", (BUDGET, INTERRUPTS)),
-    "join": Command("mx_run", "FIRST SECOND ..", "joins 2 to 16 texts to one source"),
+        BUDGET, INTERRUPTS, INPUT, OUTPUT)),
+    "best": Command("mx_run", "SOURCE", "tells how far the scheduler is from the shortest plans", (OUTPUT,)),
+    "share": Command("mx_run", "FIRST SECOND", "runs two sources on one machine", (BUDGET, INTERRUPTS, OUTPUT)),
+    "join": Command("mx_run", "FIRST SECOND ..", "joins 2 to 16 texts to one source", (OUTPUT,)),
     "migrate": Command("mx_run", "IMAGE NEW", "writes an image file in the newest version"),
-    "gen": Command("mx_run", "SEED COUNT", "prints a generated source",
+    "gen": Command("mx_run", "SEED COUNT", "prints a generated source", (OUTPUT,),
                    more="SEED is 0 to 4,294,967,295, COUNT 0 to 4,000."),
-    "soak": Command("mx_run", "SEED COUNT", "runs a generated source under a thousand interrupts",
+    "soak": Command("mx_run", "SEED COUNT", "runs a generated source under a thousand interrupts", (OUTPUT,),
                     more="SEED is 0 to 4,294,967,295, COUNT 0 to 4,000."),
     "draw": Command("mx_lab", "SOURCE", "draws a run by its cycles", (
         Option("--as", "FORM", "text, svg, html, json, kanata or vcd (text)"),
@@ -108,10 +109,20 @@ COMMANDS = {
         Option("-o", "SOURCE", "the file that is written (standard output)"),)),
 }
 
+# The commands of ./mx itself, which no program answers.
+OWN = {
+    "prove": Command("mx", "[CRATE ..]", "proves and builds the programs, or the crates that are named; goes on where it was stopped"),
+    "test": Command("mx", "[CRATE ..]", "runs all tests and stored cases without proofs, or those of the crates that are named"),
+    "install": Command("mx", "PREFIX", "proves the toolchain and the laboratory, and puts them below a folder"),
+    "package": Command("mx", "DIR", "makes a Debian package of the proved toolchain and laboratory in a folder", (
+        Option("--unproved", "", "packages the programs that are built without proofs, and says so in the package's version"),)),
+    "library": Command("mx", "DIR", "leaves a proved library and its C header in a folder (docs/LIBRARY.md)"),
+}
+
 
 def help_of(name):
     """Returns the help of a command: its words, its options with their ranges and defaults."""
-    command = COMMANDS[name]
+    command = COMMANDS.get(name) or OWN[name]
     lines = [f"{name} {command.names}: {command.text}", "", f"usage: ./mx {name} {'[OPTIONS] ' if command.options else ''}{command.names}"]
     if command.options:
         wide = max(len(f"{it.name} {it.value}") for it in command.options)
@@ -120,13 +131,13 @@ def help_of(name):
     if command.more:
         lines += ["", command.more]
     page = PAGES[command.program]
-    end = "" if command.program in ("mx_cc", "serve") else "; `--` ends the options"
+    end = "" if command.program in ("mx", "mx_cc", "serve") else "; `--` ends the options"
     return "\n".join([*lines, "", f"docs/{page}.md has the whole of it{end}."])
 
 
 def main(words):
-    if len(words) != 1 or words[0] not in COMMANDS:
-        print(f"{__doc__.strip()}\n\n{', '.join(COMMANDS)}", file=sys.stderr)
+    if len(words) != 1 or words[0] not in {**COMMANDS, **OWN}:
+        print(f"{__doc__.strip()}\n\n{', '.join([*COMMANDS, *OWN])}", file=sys.stderr)
         return 2
     print(help_of(words[0]))
     return 0

@@ -24,7 +24,7 @@ from processes import end_by_signals
 TOP = os.path.dirname(os.path.dirname(os.path.abspath(__file__)))
 PROGRAMS = ("mx_run", "mx_lab")
 # The tools that bin/zanderanvil calls.
-TOOLS = ("commands.py", "hint.py", "launch.py", "processes.py")
+TOOLS = ("commands.py", "errors.py", "hint.py", "launch.py", "processes.py")
 WRITE_FAULT = 5
 # What C programs need beside their translator stands in the repository alone.
 COMMANDS = {name: it for name, it in commands.COMMANDS.items() if it.program in PROGRAMS}
@@ -50,6 +50,7 @@ while [ -h "$self" ]; do
     case $link in /*) self=$link ;; *) self=$(dirname -- "$self")/$link ;; esac
 done
 here=$(CDPATH='' cd -- "$(dirname -- "$self")/.." && pwd -P) || exit 10
+export MX_NAME=zanderanvil
 # Runs a program whose command writes a file, which it writes completely or not at all: that takes Python.
 launch() {{
     if command -v python3 >/dev/null 2>&1; then
@@ -78,12 +79,37 @@ toolchain() {{
 }}
 # Says on standard error what to do about a command that ended with the status $1.
 hint() {{
-    command -v python3 >/dev/null 2>&1 && MX_NAME=zanderanvil python3 -B "$here/share/zanderanvil/hint.py" "$@"
+    command -v python3 >/dev/null 2>&1 && python3 -B "$here/share/zanderanvil/hint.py" "$@"
+}}
+# Ends with an error, and the status $2.
+fail() {{
+    echo "zanderanvil: error: $1" >&2
+    exit "$2"
+}}
+# Runs the toolchain. What it prints goes to the file $target, if one is named, once the command has not failed.
+toolchain_into() {{
+    case $target in '' | -) toolchain "$@"; return ;; esac
+    printed=$(mktemp) || exit 10
+    trap 'rm -f "$printed"' EXIT
+    toolchain "$@" >"$printed"
+    status=$?
+    case $status in
+        0 | 3 | 9) {{ cat "$printed" >"$target"; }} 2>/dev/null || fail "cannot write '$target'" 5 ;;
+        *) cat "$printed" ;;
+    esac
+    return "$status"
 }}
 case ${{1-}},${{2-}},$# in
     {helps}) exec cat "$here/share/zanderanvil/help/$1" ;;
 esac
 case ${{1-}} in
+    explain)
+        # the code of a fault, which is no file
+        if [ $# -eq 2 ] && [ ! -e "$2" ] && command -v python3 >/dev/null 2>&1 && python3 -B "$here/share/zanderanvil/errors.py" "$2"; then
+            exit 0
+        fi
+        laboratory "$@"
+        ;;
     {lab}) laboratory "$@" ;;
     lab) shift; laboratory "$@" ;;
     --version)
@@ -97,15 +123,27 @@ case ${{1-}} in
         # `-` is standard input, but for the file that build and migrate write
         name=$1
         left=$#
+        target=
+        option=
         for word; do
             shift
             left=$((left - 1))
+            case $option,$name,$word in
+                -o*,*) target=$word option= && continue ;;
+                --,*,* | ,build,* | ,migrate,*) ;;
+                ,*,-o | ,*,--output) option=-o && continue ;;
+                ,*,-o=*) target=${{word#-o=}} && continue ;;
+                ,*,-o*) target=${{word#-o}} && continue ;;
+                ,*,--output=*) target=${{word#--output=}} && continue ;;
+                ,*,--) option=-- ;;
+            esac
             case $word in
                 -) case $name,$left in build,0 | migrate,0) ;; *) word=/dev/stdin ;; esac ;;
             esac
             set -- "$@" "$word"
         done
-        toolchain "$@"
+        [ "$option" != -o ] || fail "missing value for '-o': expected a file" 2
+        toolchain_into "$@"
         status=$?
         case $status in 99) exit 2 ;; [1-9]) hint "$status" "$@" ;; esac
         exit "$status"
@@ -278,9 +316,8 @@ def proved_programs():
     return found
 
 
-def contents(version):
-    """Returns for each file that is installed, by its path below the prefix, its bytes."""
-    programs = proved_programs()
+def contents(version, programs):
+    """Returns for each file that is installed, by its path below the prefix, its bytes. The programs are given by their names."""
     texts = {
         "bin/zanderanvil": launcher(version),
         "share/man/man1/zanderanvil.1": page_of_all(version),
@@ -290,6 +327,7 @@ def contents(version):
         "share/zanderanvil/vim/syntax/mipsx.vim": vim(),
         "share/zanderanvil/mipsx.tmLanguage.json": grammar(),
         "share/zanderanvil/help/all": screen(),
+        "share/zanderanvil/ERRORS.md": read(f"{TOP}/docs/ERRORS.md").replace("./mx", "zanderanvil"),
         "share/zanderanvil/proved": "".join(f"{hashlib.sha256(it).hexdigest()}  {name}\n" for name, it in programs.items()),
         **{f"share/zanderanvil/{name}": read(f"{TOP}/tools/{name}") for name in TOOLS},
     }
@@ -339,7 +377,7 @@ class Installation:
 def main(prefix, version):
     end_by_signals()
     prefix = os.path.abspath(prefix)
-    files, installation = contents(version), Installation(prefix)
+    files, installation = contents(version, proved_programs()), Installation(prefix)
     try:
         for name, content in files.items():
             installation.write(name, content)

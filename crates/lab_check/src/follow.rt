@@ -4,7 +4,8 @@
 //! A line that does not split into tokens defines no label, which makes a fault of each line that names its label.
 
 use crate::sentence::{is_mnemonic, text_of, token_of};
-use lab_faults::{Shown, line_at, nearest};
+use lab_faults::{Shown, line_at};
+use lab_slips::nearest;
 use mx_asm::{line_words, statement_words};
 use mx_lines::{Fault, Word, spells};
 use std::alloc::{AllocError, Global};

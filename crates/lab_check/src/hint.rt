@@ -6,7 +6,8 @@ use crate::operand::push_operand_hint;
 use crate::sentence::{
     BYTE_ORDER_MARK, char_of, is_among, is_mnemonic, mnemonics, name_of, text_of, token_of,
 };
-use lab_faults::{Shown, nearest};
+use lab_faults::Shown;
+use lab_slips::nearest;
 use lab_writer::Writer;
 use mx_asm::statement_words;
 use mx_lines::{Fault, Word, spells};

@@ -6,7 +6,7 @@ use cmd_answer::{Failure, FileKind, Reply, Status, read_file};
 use lab_check::{Checked, Form, MOST_LINES, check, findings_text};
 use lab_line::Asked;
 use lab_runs::{or_memory, printed};
-use mx_io::Shelf;
+use mx_io::{Memory, Shelf};
 use std::alloc::{AllocError, Global};
 
 /// How many faulty lines and how many warnings are shown.
@@ -116,6 +116,20 @@ fn text_reply(asked: &Asked, text: &[u8]) -> Result<Reply, Failure>
         form_given(asked),
     );
     printed(status_of(&checked), or_memory(said))
+}
+
+/// What `check` prints of a text with an error; nothing of another one.
+pub(crate) fn errors_text(alloc: Global, name: &str, text: &[u8]) -> Result<Option<Vec<u8>>, Memory>
+    requires { length text.now ≤ MAX_SOURCE_BYTES }
+{
+    let checked = check(alloc, text, MOST_SHOWN)?;
+    if status_of(&checked) == Status::Done {
+        return Ok(None);
+    }
+    match report(alloc, name, &checked, Form::Text) {
+        Ok(said) => Ok(Some(said)),
+        Err(_) => Err(Memory),
+    }
 }
 
 /// The reply to `check SOURCE`.

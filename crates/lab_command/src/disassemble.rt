@@ -12,7 +12,7 @@ use mx_io::{Memory, Shelf};
 use std::alloc::{AllocError, Global};
 
 /// What an image file begins with.
-const MAGIC: &[u8] = b"MXIM";
+pub(crate) const MAGIC: &[u8] = b"MXIM";
 
 // A listing, or that there was no memory for it.
 fn listed(listing: Result<Listing, AllocError>) -> Result<Listing, Failure> {

@@ -5,6 +5,7 @@ mod check;
 mod compare;
 mod disassemble;
 mod plans;
+mod refusal;
 mod top;
 
 pub use cmd_answer::Status;

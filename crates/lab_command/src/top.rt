@@ -3,15 +3,19 @@ use crate::check::check_reply;
 use crate::compare::compare_reply;
 use crate::disassemble::disassemble_reply;
 use crate::plans::plans_reply;
+use crate::refusal::refusal_text;
 use clap::error::ErrorKind;
 use clap::{ArgMatches, Error};
 use cmd_answer::{Failure, Reply, Status, replied};
-use lab_line::{Asked, Causes, Command, command_named, error_text, parse_words};
+use lab_line::{
+    Asked, Causes, Command, command_named, error_text, parse_words, refused_name, unwritten_text,
+    usage_text,
+};
 use lab_output::{Answer, Destination, Ended, failed, is_error, put_out};
 use lab_runs::run_reply;
 use lab_watch::Watcher;
 use mx_io::{Memory, Shelf, Sink};
-use std::alloc::Global;
+use std::alloc::{AllocError, Global};
 
 // The status of words that ask for no command: those that ask for help or the version are answered by it.
 fn status_of(kind: ErrorKind) -> Status {
@@ -37,15 +41,12 @@ fn answered_by<S: Shelf, W: Watcher>(
     }
 }
 
-// The answer to what a command says of what it cannot use.
-fn error_answer<'a, C: Causes>(
-    alloc: Global,
-    matches: &ArgMatches<'a>,
+// An answer for standard error.
+fn error_answer<'a>(
     status: Status,
-    said: &[u8],
-    causes: C,
+    said: Result<Vec<u8>, AllocError>,
 ) -> Result<Answer<'a>, Memory> {
-    match error_text(alloc, matches, status, said, causes) {
+    match said {
         Ok(said) => Ok(Answer {
             status,
             said,
@@ -55,23 +56,63 @@ fn error_answer<'a, C: Causes>(
     }
 }
 
+// What `check` prints of a source of which this is said, if it is refused and can be read once more.
+fn refusal<S: Shelf, C: Causes>(
+    alloc: Global,
+    matches: &ArgMatches,
+    status: Status,
+    said: &[u8],
+    shelf: &mut S,
+    causes: C,
+) -> Result<Option<Vec<u8>>, Memory> {
+    if status != Status::Refused {
+        return Ok(None);
+    }
+    match refused_name(alloc, matches, said) {
+        Ok(name) => refusal_text(alloc, shelf, &name, causes),
+        Err(_) => Err(Memory),
+    }
+}
+
+// The answer to what a command says of what it cannot use.
+fn refused_answer<'a, S: Shelf, C: Causes>(
+    alloc: Global,
+    matches: &ArgMatches<'a>,
+    status: Status,
+    said: &[u8],
+    shelf: &mut S,
+    causes: C,
+) -> Result<Answer<'a>, Memory> {
+    match refusal(alloc, matches, status, said, shelf, causes)? {
+        Some(text) => error_answer(status, Ok(text)),
+        None => error_answer(status, error_text(alloc, matches, status, said, causes)),
+    }
+}
+
+// How a reply ends, and what it gives.
+fn parts_of(reply: Reply) -> (Status, Vec<u8>) {
+    match reply {
+        Reply::Prints { status, output } => (status, output),
+        Reply::Writes { bytes, .. } => (Status::Done, bytes),
+    }
+}
+
 // The answer that a reply is, with what goes to standard error in the place of what it says.
-fn answer_of<'a, C: Causes>(
+fn answer_of<'a, S: Shelf, C: Causes>(
     alloc: Global,
     command: Command,
     matches: &ArgMatches<'a>,
     reply: Reply,
+    shelf: &mut S,
     causes: C,
 ) -> Result<Answer<'a>, Memory> {
-    let Reply::Prints { status, output } = reply else {
-        return Err(Memory);
-    };
+    let (status, said) = parts_of(reply);
     if is_error(matches!(command, Command::Check), status) {
-        error_answer(alloc, matches, status, &output, causes)
+        refused_answer(alloc, matches, status, &said, shelf, causes)
     } else {
         Ok(Answer {
             status,
-            said: output,
+            said,
             to: destination(matches),
         })
     }
@@ -85,28 +126,38 @@ fn destination<'a>(matches: &ArgMatches<'a>) -> Destination<'a> {
     }
 }
 
-// Where it goes what words that ask for no command are told.
-fn side_of<'a>(status: Status) -> Destination<'a> {
-    if is_error(false, status) {
-        Destination::Errors
-    } else {
-        Destination::Output
+// The answer to words that ask for help or the version.
+fn help_answer<'a>(alloc: Global, error: &Error) -> Result<Answer<'a>, Memory> {
+    match format!(in alloc; "{error}") {
+        Ok(text) => Ok(Answer {
+            status: Status::Done,
+            said: text.into_bytes(),
+            to: Destination::Output,
+        }),
+        Err(_) => Err(Memory),
+    }
+}
+
+// The answer where there are no words: help, on standard error.
+fn bare_answer<'a>(alloc: Global, error: &Error) -> Result<Answer<'a>, Memory> {
+    match format!(in alloc; "{error}") {
+        Ok(text) => error_answer(Status::Usage, Ok(text.into_bytes())),
+        Err(_) => Err(Memory),
     }
 }
 
 // The answer to words that ask for no command.
-fn words_answer<'a>(alloc: Global, error: &Error) -> Result<Answer<'a>, Memory> {
-    if error.kind() == ErrorKind::OutOfMemory {
-        return Err(Memory);
-    }
-    let status = status_of(error.kind());
-    match format!(in alloc; "{error}") {
-        Ok(text) => Ok(Answer {
-            status,
-            said: text.into_bytes(),
-            to: side_of(status),
-        }),
-        Err(_) => Err(Memory),
+fn words_answer<'a, C: Causes>(
+    alloc: Global,
+    words: &[String],
+    error: &Error,
+    causes: C,
+) -> Result<Answer<'a>, Memory> {
+    match error.kind() {
+        ErrorKind::OutOfMemory => Err(Memory),
+        kind if status_of(kind) == Status::Done => help_answer(alloc, error),
+        _ if words.is_empty() => bare_answer(alloc, error),
+        _ => error_answer(Status::Usage, usage_text(alloc, causes.caller(), words)),
     }
 }
 
@@ -136,23 +187,32 @@ fn command_answer<'a, S: Shelf, T: Watcher, C: Causes>(
     causes: C,
 ) -> Result<Answer<'a>, Memory> {
     let reply = reply_of(alloc, command, matches, shelf, watcher)?;
-    answer_of(alloc, command, matches, reply, causes)
+    answer_of(alloc, command, matches, reply, shelf, causes)
+}
+
+// The command that was found in the words, and what follows it.
+fn found_in<'m, 'a>(matches: &'m ArgMatches<'a>) -> Option<(Command, &'m ArgMatches<'a>)> {
+    match matches.subcommand() {
+        Some((name, found)) => match command_named(name) {
+            Some(command) => Some((command, found)),
+            None => None,
+        },
+        None => None,
+    }
 }
 
 // The answer to what was found in the words.
 fn found_answer<'a, S: Shelf, T: Watcher, C: Causes>(
     alloc: Global,
+    words: &[String],
     matches: &ArgMatches<'a>,
     shelf: &mut S,
     watcher: T,
     causes: C,
 ) -> Result<Answer<'a>, Memory> {
-    let Some((name, found)) = matches.subcommand() else {
-        return Err(Memory);
-    };
-    match command_named(name) {
-        Some(command) => command_answer(alloc, command, found, shelf, watcher, causes),
-        None => Err(Memory),
+    match found_in(matches) {
+        Some((command, found)) => command_answer(alloc, command, found, shelf, watcher, causes),
+        None => error_answer(Status::Usage, usage_text(alloc, causes.caller(), words)),
     }
 }
 
@@ -165,9 +225,33 @@ fn answer_to<'a, S: Shelf, T: Watcher, C: Causes>(
     causes: C,
 ) -> Result<Answer<'a>, Memory> {
     match parse_words(alloc, words) {
-        Ok(matches) => found_answer(alloc, &matches, shelf, watcher, causes),
-        Err(error) => words_answer(alloc, &error),
+        Ok(matches) => found_answer(alloc, words, &matches, shelf, watcher, causes),
+        Err(error) => words_answer(alloc, words, &error, causes),
     }
+}
+
+// How a command ended, where what it answered went there: what could not be written is named.
+fn named_end(alloc: Global, ended: Ended, to: Destination) -> Ended {
+    if ended.status != Status::WriteFault {
+        return ended;
+    }
+    let name = match to {
+        Destination::File(name) => Some(name),
+        Destination::Output | Destination::Errors => None,
+    };
+    match unwritten_text(alloc, name) {
+        Ok(errors) => Ended {
+            status: Status::WriteFault,
+            errors,
+        },
+        Err(_) => ended,
+    }
+}
+
+// Puts out an answer.
+fn end_of<S: Shelf, W: Sink>(alloc: Global, answer: Answer, shelf: &mut S, out: &mut W) -> Ended {
+    let to = answer.to;
+    named_end(alloc, put_out(alloc, answer, shelf, out), to)
 }
 
 /// Runs the command that the words, those after the program's name, ask for. It reads files from the shelf, tells the
@@ -185,7 +269,12 @@ pub fn lab<S: Shelf, W: Sink, T: Watcher, C: Causes>(
     let answer = answer_to(alloc, words, shelf, watcher, causes);
     watcher.done();
     match answer {
-        Ok(answer) => put_out(alloc, answer, shelf, out),
-        Err(_) => failed(alloc, Status::Memory, "no memory", ""),
+        Ok(answer) => end_of(alloc, answer, shelf, out),
+        Err(_) => failed(
+            alloc,
+            Status::Memory,
+            "zanderanvil: error: ",
+            "out of memory",
+        ),
     }
 }

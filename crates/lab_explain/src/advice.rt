@@ -15,34 +15,34 @@ pub fn name_of(why: Why) -> &'static str
 /// The reason, in a sentence.
 pub fn reason_of(why: Why) -> &'static str {
     match why {
-        Why::PastEnd => "the run goes on behind the last statement, where there is none",
-        Why::CodeOperand => "an operand is a place of code, with which nothing is computed",
+        Why::PastEnd => "execution runs past the last instruction",
+        Why::CodeOperand => "arithmetic on a code address",
         Why::LoadOutside => {
-            "the address of the load is outside the data, which are 256 to 65535, and is no input"
+            "the load is outside the data, 256 to 65,535, and not from the input"
         }
         Why::StoreOutside => {
-            "the address of the store is outside the data, which are 256 to 65535, and not the console, 255"
+            "the store is outside the data, 256 to 65,535, and not to the console, 255"
         }
-        Why::CodeToConsole => "a place of code is sent to the console, which takes numbers",
-        Why::JumpNotCode => "the register of the jump holds a number, and not a place of code",
+        Why::CodeToConsole => "a code address is sent to the console, which takes numbers",
+        Why::JumpNotCode => "the jump goes to a number, not to a code address",
     }
 }
 
 /// What helps.
 pub fn advice_of(why: Why) -> &'static str {
     match why {
-        Why::PastEnd => "write a `halt` where the program ends",
+        Why::PastEnd => "add 'halt' where the program ends",
         Why::CodeOperand => {
-            "places of code, by `la`, `.word`, `call` and `callr`, are copied by `mov`, stored, loaded and jumped to alone"
+            "code addresses, from 'la', '.word', 'call' and 'callr', can only be copied by 'mov', stored, loaded and jumped to"
         }
         Why::LoadOutside => {
-            "look at the register and the offset; address 254 is the input in a source with a line `.input` alone"
+            "check the register and the offset; address 254 is the input only in a source with a line '.input'"
         }
-        Why::StoreOutside => "look at the register and the offset",
+        Why::StoreOutside => "check the register and the offset",
         Why::CodeToConsole =>
-            "look at the register that is sent: `la` of a data label gives a number",
+            "check the register that is sent: 'la' of a data label gives a number",
         Why::JumpNotCode => {
-            "`call LABEL,R`, `callr R,R` and `la LABEL,R` make places: the register was changed since, or never set"
+            "'call LABEL,R', 'callr R,R' and 'la LABEL,R' make code addresses: the register was changed since, or never set"
         }
     }
 }

@@ -19,7 +19,7 @@ const PREMISES: &str =
     "premises of what is promised of `run`:\n  holds: the text has no fault\n  holds: each branch reaches its target\n";
 
 /// How a source stands: its file, its meaning after so many steps at most, the run of its linked program within a budget,
-/// how many interrupts are requested, and, where the meaning is stuck, the number of the line and the line; 0 behind the
+/// how many interrupts are requested, and, where the meaning is stuck, the number of the line and the line; 0 past the
 /// last statement.
 #[derive(Clone, Copy)]
 pub struct Explained<'a> {
@@ -86,7 +86,7 @@ fn push_run(text: &mut Writer, ran: Ran) {
 fn push_place(text: &mut Writer, file: &str, line: u32) {
     text.push_str(file);
     if line == 0 {
-        text.push_str(": stuck behind the last statement after ");
+        text.push_str(": stuck past the last instruction after ");
     } else {
         text.push_numbers(&[":", ": stuck after "], &[u64::from(line)]);
     }

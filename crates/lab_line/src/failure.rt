@@ -1,8 +1,15 @@
-//! What goes to standard error.
+//! What goes to standard error where a command cannot be answered.
 use crate::given::{file_by, word_given};
 use clap::ArgMatches;
 use cmd_answer::Status;
+use lab_writer::Writer;
 use std::alloc::{AllocError, Global};
+
+/// What a message begins with that is about no line of a file.
+const ERROR: &str = "zanderanvil: error: ";
+
+/// The name that the commands are called by in the repository.
+const IN_REPOSITORY: &str = "./mx";
 
 /// Why a file cannot be read.
 #[derive(Clone, Copy)]
@@ -17,25 +24,19 @@ pub enum Cause {
     Other,
 }
 
-impl Cause {
-    // Its words.
-    fn words(self) -> &'static str {
-        match self {
-            Cause::Missing => "no such file",
-            Cause::Denied => "permission denied",
-            Cause::Folder => "a folder, and no file",
-            Cause::Other => "cannot be read",
-        }
-    }
-}
-
-/// Who is asked why a file cannot be read.
+/// What only the caller knows: the files of the system, and the name that the commands are called by.
 pub trait Causes: Copy + Drop {
     /// Why the file of this name cannot be read, if that is so and is known.
     fn cause(&self, alloc: Global, name: &str) -> Option<Cause>;
+
+    /// Whether the file of this name can be read once more: a pipe cannot.
+    fn is_kept(&self, name: &str) -> bool;
+
+    /// The name that the commands are called by.
+    fn caller(&self) -> &str;
 }
 
-/// Nobody knows.
+/// Files that are kept in memory, and of which no cause is known.
 #[derive(Clone, Copy)]
 pub struct Unknown;
 
@@ -43,19 +44,34 @@ impl Causes for Unknown {
     fn cause(&self, _alloc: Global, _name: &str) -> Option<Cause> {
         None
     }
+
+    fn is_kept(&self, _name: &str) -> bool {
+        true
+    }
+
+    fn caller(&self) -> &str {
+        IN_REPOSITORY
+    }
 }
 
-/// How a read fault begins that is of no source, and which option or argument names its file.
-static READ: [(&str, &str); 3] = [
-    ("read fault: interrupts ", "interrupts"),
-    ("read fault: input ", "input"),
-    ("read fault: plans ", "FILE"),
+/// What the faults of the lines of an interrupt or a plan file say, and what they mean.
+static LINE_FAULTS: [(&str, &str); 7] = [
+    ("BadLine", "expected a cycle: a decimal number"),
+    ("TooMany", "a file has at most 65,536 cycles"),
+    (
+        "NotAscending",
+        "expected a cycle after the one of the line before",
+    ),
+    ("BadWord", "expected a number from 0 to 63, '-' or '/'"),
+    ("TooLong", "a plan has at most 131 words"),
+    ("TwoPlaces", "a plan has one '/'"),
+    ("NoBlock", "the source has no block for this plan"),
 ];
 
-/// How a read fault ends whose cause is not its length, and what stands of one behind the name of one of several sources.
-const FAILED: &[u8] = b" failed\n";
-
-const SOURCE_FAILED: &[u8] = b": read fault: source failed\n";
+// Bytes as a text, without the end of its line; none where they are not UTF-8.
+fn text_of(said: &[u8]) -> &str {
+    str::from_utf8(said).unwrap_or("").trim_end()
+}
 
 // The name of the source, or of the file that may be one; empty where the words name none, or several: what is said then
 // names the one that it is about.
@@ -67,50 +83,19 @@ fn source_named<'a>(matches: &ArgMatches<'a>) -> &'a str {
     }
 }
 
-// The name of the file that a read fault speaks of; empty where it is one of several sources.
-fn file_read<'a>(matches: &ArgMatches<'a>, said: &[u8]) -> &'a str {
-    for (begins, option) in &READ {
-        if said.starts_with(begins.as_bytes()) {
-            return word_given(matches, *option);
-        }
-    }
-    source_named(matches)
+// A file that cannot be read.
+#[derive(Clone, Copy)]
+struct Unread<'a> {
+    name: &'a str,
+    is_source: bool,
+    is_too_long: bool,
 }
 
-// The name of the file that a reply with this status speaks of; empty where it speaks of the words.
-fn file_of<'a>(matches: &ArgMatches<'a>, status: Status, said: &[u8]) -> &'a str {
-    match status {
-        Status::Usage => "",
-        Status::BadImage => word_given(matches, "FILE"),
-        Status::BadEvents if said.starts_with(b"plans") => word_given(matches, "FILE"),
-        Status::BadEvents => word_given(matches, "interrupts"),
-        Status::ReadFault => file_read(matches, said),
-        _ => source_named(matches),
-    }
-}
-
-// Appends a name and a colon, unless the name is empty.
-fn push_name(text: &mut Vec<u8>, name: &str) -> Result<(), AllocError> {
-    if name.is_empty() {
-        return Ok(());
-    }
-    text.extend_from_slice(name.as_bytes())?;
-    text.extend_from_slice(b": ")
-}
-
-/// Bytes with a name before them, unless it is empty.
-pub fn named(alloc: Global, name: &str, said: &[u8]) -> Result<Vec<u8>, AllocError> {
-    let mut text = Vec::new(alloc);
-    push_name(&mut text, name)?;
-    text.extend_from_slice(said)?;
-    Ok(text)
-}
-
-// The name of one of several sources that what is said begins with, since it cannot be read; empty where it begins with none.
-fn name_before(said: &[u8]) -> &str {
-    match said.strip_suffix(SOURCE_FAILED) {
-        Some(name) => str::from_utf8(name).unwrap_or(""),
-        None => "",
+// What is said, and the name of one of several sources before it, empty where there is none.
+fn named_part<'a>(said: &'a str, sign: &str) -> (&'a str, &'a str) {
+    match said.split_once(sign) {
+        Some((name, rest)) => (name, rest),
+        None => ("", said),
     }
 }
 
@@ -119,38 +104,144 @@ fn first_named<'a>(first: &'a str, second: &'a str) -> &'a str {
     if first.is_empty() { second } else { first }
 }
 
-// Why the file of this name cannot be read, where that is known and is not its length.
-fn cause_of<C: Causes>(alloc: Global, name: &str, said: &[u8], causes: C) -> Option<Cause> {
-    if said.ends_with(FAILED) {
-        causes.cause(alloc, name)
+// The file that a read fault speaks of, by its kind, where `before` is the name that was said of a source.
+fn unread_of<'a>(matches: &ArgMatches<'a>, kind: &str, before: &'a str) -> Unread<'a> {
+    let is_too_long = kind.ends_with("too long");
+    let name = if kind.starts_with("interrupts") {
+        word_given(matches, "interrupts")
+    } else if kind.starts_with("input") {
+        word_given(matches, "input")
+    } else if kind.starts_with("plans") {
+        word_given(matches, "FILE")
     } else {
-        None
+        first_named(before, source_named(matches))
+    };
+    Unread {
+        name,
+        is_source: kind.starts_with("source"),
+        is_too_long,
     }
 }
 
-// A line: why a file cannot be read, and its name.
-fn cause_line(alloc: Global, cause: Cause, name: &str) -> Result<Vec<u8>, AllocError> {
-    let mut line = named(alloc, cause.words(), name.as_bytes())?;
-    line.push(b'\n')?;
-    Ok(line)
+// Appends that a file is too large.
+fn push_too_large(text: &mut Writer, unread: Unread) {
+    text.push_parts(&["'", unread.name, "' is too large: "]);
+    text.push_str(if unread.is_source {
+        "a source has at most 4,194,304 bytes"
+    } else {
+        "such a file has at most 1,048,576 bytes"
+    });
 }
 
-// What goes to standard error where a file cannot be read: why, and its name, where that is known; else what is said, behind
-// the name.
-fn unread_text<C: Causes>(
-    alloc: Global,
-    name: &str,
-    said: &[u8],
-    causes: C,
-) -> Result<Vec<u8>, AllocError> {
-    let file = file_by(first_named(name, name_before(said)));
-    match cause_of(alloc, file, said, causes) {
-        Some(cause) => cause_line(alloc, cause, file),
-        None => named(alloc, name, said),
+// Appends that a file cannot be read, and why, where that is known.
+fn push_cause(text: &mut Writer, name: &str, cause: Option<Cause>) {
+    let why = match cause {
+        Some(Cause::Folder) => return text.push_parts(&["'", name, "' is a directory"]),
+        Some(Cause::Missing) => ": no such file",
+        Some(Cause::Denied) => ": permission denied",
+        Some(Cause::Other) | None => "",
+    };
+    text.push_parts(&["cannot read '", name, "'", why]);
+}
+
+// Appends what is wrong with a file that cannot be read.
+fn push_unread<C: Causes>(text: &mut Writer, unread: Unread, causes: C) {
+    text.push_str(ERROR);
+    if unread.is_too_long {
+        push_too_large(text, unread);
+    } else {
+        let cause = causes.cause(text.alloc(), file_by(unread.name));
+        push_cause(text, unread.name, cause);
     }
 }
 
-/// What goes to standard error where a command says this and ends with this status: the file, and why.
+// What the fault of a line of an interrupt or a plan file means; nothing where it is none of these.
+fn meaning_of(fault: &str) -> &'static str {
+    for (name, meaning) in &LINE_FAULTS {
+        if *name == fault {
+            return *meaning;
+        }
+    }
+    ""
+}
+
+// Appends the code of a fault and what it means.
+fn push_code(text: &mut Writer, code: &str, meaning: &str) {
+    text.push_str("[");
+    text.push_str(code);
+    text.push_str("]: ");
+    text.push_str(meaning);
+}
+
+// Appends what is wrong with a line: the code of its fault and what that means.
+fn push_fault(text: &mut Writer, fault: &str) {
+    let meaning = meaning_of(fault);
+    if fault.starts_with("displacement") {
+        push_code(text, "L1", fault);
+        text.push_str(": branch range is -32768 to 32767 words");
+    } else if meaning.is_empty() {
+        let (code, name) = named_part(fault, " ");
+        push_code(text, code, name);
+    } else {
+        push_code(text, fault, meaning);
+    }
+}
+
+// Appends what is said of a line of a file, `N: FAULT`.
+fn push_line(text: &mut Writer, name: &str, said: &str) {
+    let (number, fault) = named_part(said, ": ");
+    text.push_str(name);
+    text.push_str(":");
+    text.push_str(number);
+    text.push_str(": error");
+    push_fault(text, fault);
+}
+
+// Appends what is said of no line.
+fn push_error(text: &mut Writer, said: &str) {
+    text.push_str(ERROR);
+    text.push_str(said);
+}
+
+// Appends what is said of a source.
+fn push_source(text: &mut Writer, name: &str, said: &str) {
+    if let Some(line) = said.strip_prefix("line ") {
+        push_line(text, name, line);
+    } else if let Some((before, line)) = said.rsplit_once(": line ") {
+        push_line(text, before, line);
+    } else {
+        push_error(text, said);
+    }
+}
+
+// Appends what is said of a file that is no image file.
+fn push_image(text: &mut Writer, name: &str, said: &str) {
+    let (_, why) = named_part(said, "image: ");
+    push_error(text, "'");
+    text.push_str(name);
+    text.push_str("' is not a valid image file: ");
+    text.push_str(why);
+}
+
+// Appends what is said of a line of an interrupt or a plan file.
+fn push_event(text: &mut Writer, matches: &ArgMatches, said: &str) {
+    if let Some(rest) = said.strip_prefix("plans line ") {
+        push_line(text, word_given(matches, "FILE"), rest);
+    } else if let Some(rest) = said.strip_prefix("interrupts line ") {
+        push_line(text, word_given(matches, "interrupts"), rest);
+    } else {
+        push_error(text, said);
+    }
+}
+
+// Appends what a read fault says.
+fn push_read_fault<C: Causes>(text: &mut Writer, matches: &ArgMatches, said: &str, causes: C) {
+    let (before, kind) = named_part(said, "read fault: ");
+    let unread = unread_of(matches, kind, before.trim_end_matches(": "));
+    push_unread(text, unread, causes);
+}
+
+/// What goes to standard error where a command says this and ends with this status: the file and the line, and what is wrong.
 pub fn error_text<C: Causes>(
     alloc: Global,
     matches: &ArgMatches,
@@ -158,10 +249,62 @@ pub fn error_text<C: Causes>(
     said: &[u8],
     causes: C,
 ) -> Result<Vec<u8>, AllocError> {
-    let name = file_of(matches, status, said);
-    if status == Status::ReadFault {
-        unread_text(alloc, name, said, causes)
-    } else {
-        named(alloc, name, said)
+    let mut text = Writer::new(alloc);
+    let said = text_of(said);
+    match status {
+        Status::Usage => push_error(&mut text, said),
+        Status::BadImage => push_image(&mut text, word_given(matches, "FILE"), said),
+        Status::BadEvents => push_event(&mut text, matches, said),
+        Status::ReadFault => push_read_fault(&mut text, matches, said, causes),
+        _ => push_source(&mut text, source_named(matches), said),
     }
+    text.push('\n');
+    text.into_bytes()
+}
+
+// The name of the source of which this is said, where it is one of several.
+fn name_before(said: &str) -> &str {
+    match said.rsplit_once(": line ") {
+        Some((name, _)) => name,
+        None => "",
+    }
+}
+
+/// The name of the source that is refused, where a command says this of it.
+pub fn refused_name(
+    alloc: Global,
+    matches: &ArgMatches,
+    said: &[u8],
+) -> Result<String, AllocError> {
+    let name = source_named(matches);
+    String::from_str(
+        alloc,
+        if name.is_empty() {
+            name_before(text_of(said))
+        } else {
+            name
+        },
+    )
+}
+
+/// Bytes with a name before them, unless it is empty.
+pub fn named(alloc: Global, name: &str, said: &[u8]) -> Result<Vec<u8>, AllocError> {
+    let mut text = Writer::new(alloc);
+    if !name.is_empty() {
+        text.push_str(name);
+        text.push_str(": ");
+    }
+    text.push_bytes(said);
+    text.into_bytes()
+}
+
+/// What goes to standard error where output cannot be written: to standard output, or to the file of a name.
+pub fn unwritten_text(alloc: Global, name: Option<&str>) -> Result<Vec<u8>, AllocError> {
+    let mut text = Writer::new(alloc);
+    push_error(&mut text, "cannot write ");
+    match name {
+        Some(name) => text.push_parts(&["'", name, "'\n"]),
+        None => text.push_str("to standard output\n"),
+    }
+    text.into_bytes()
 }
