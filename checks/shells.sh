@@ -1,9 +1,9 @@
 #!/bin/bash
 # The completions of the installed zanderanvil: each shell that is here has to read its file, bash and fish complete commands, options
 # and files whose names have blanks and apostrophes, and zsh takes each list of options as it is written.
-# usage: checks/completions.sh
+# usage: checks/shells.sh
 top=$(cd -- "$(dirname -- "$0")/.." && pwd -P) || exit 1
-[ $# -eq 0 ] || { echo 'usage: checks/completions.sh' >&2; exit 2; }
+[ $# -eq 0 ] || { echo 'usage: checks/shells.sh' >&2; exit 2; }
 folder=$(mktemp -d) || exit 1
 trap 'rm -rf "$folder"' EXIT
 compared=0
@@ -82,7 +82,7 @@ else
 fi
 [ -z "$skipped" ] || echo "skipped:$skipped is not there"
 if [ "$failed" -ne 0 ] || [ "$compared" -eq 0 ]; then
-    echo "completions: $failed of $compared failed"
+    echo "shells: $failed of $compared failed"
     exit 1
 fi
-echo "completions: compared $compared results"
+echo "shells: compared $compared results"
