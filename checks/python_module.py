@@ -186,14 +186,13 @@ def main():
         print(__doc__.strip(), file=sys.stderr)
         return 2
     tally = Tally("python_module")
-    refusals(tally)
+    tally.run(refusals)
     with tempfile.TemporaryDirectory(prefix="mx-python-") as folder:
-        programs(tally, folder)
-        library(tally, folder)
-        versions(tally, folder)
-    types(tally)
+        for case in (programs, library, versions):
+            tally.run(case, folder)
+    tally.run(types)
     if os.environ.get("MX_LAB"):
-        real(tally)
+        tally.run(real)
     return tally.status()
 
 
