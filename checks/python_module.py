@@ -146,6 +146,8 @@ def versions(tally, folder):
     version = read(f"{TOP}/VERSION").strip()
     major, minor = version.split(".")
     tally.need(zanderanvil.__version__ == version, "the module has the version of VERSION", zanderanvil.__version__)
+    project = re.search(r'^version = "(.*)"$', read(f"{TOP}/python/pyproject.toml"), re.M)
+    tally.need(project is not None and project[1] == version, "pyproject.toml has the version of VERSION", project)
     header = dict(re.findall(r'#define ZANDERANVIL_VERSION(_MAJOR|_MINOR|_TEXT|) (.*)', read(f"{TOP}/include/zanderanvil.h")))
     tally.need(header.get("_MAJOR") == major and header.get("_MINOR") == minor and header.get("_TEXT") == f'"{version}"',
                "the header has it", header)
