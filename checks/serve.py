@@ -310,7 +310,7 @@ def try_markup(bench):
         wait_for(bench, "state.isSettled || document.querySelector('.wrong') !== null", 60)
         bench.settle()
         made = bench.ask("[document.querySelectorAll('img, b, i:not(.cost i)').length, document.title]")
-        tell(f"what a text holds is no markup, in {language}", made == [0, "Zanderanvil: the workbench"], made)
+        tell(f"what a text holds is no markup, in {language}", made[0] == 0 and made[1].endswith(" - Zanderanvil"), made)
 
 
 def choose(bench, field, value):
