@@ -18,7 +18,7 @@ LONGEST = 40
 # A rule: its name, and what it finds in a sentence whose code spans are replaced by CODE.
 RULES = [
     ("stands", r"\b(stands?|stood)\b(?! alone)"),
-    ("tells", r"\b(tells?|told)\b"),
+    ("tells", r"(?<![\w${])(tells?|told)\b(?![=(])"),
     ("behind", r"\bbehind\b"),
     ("wants", r"\b(wants?|wanted)\b"),
     ("nothing of", r"\bnothing of\b"),
@@ -162,7 +162,7 @@ def of_rattle(path):
         if line.lstrip().startswith("//"):
             continue
         for quoted in re.findall(r'"((?:[^"\\]|\\.)*)"', line):
-            if re.search(r"[a-z] [a-z]", quoted):
+            if re.search(r"[a-z] [a-z]", quoted) and not re.search(r"\{[^}]*:[^}]*[;}]", quoted):     # a style sheet is no text
                 yield number, quoted.replace("`{}`", "CODE")
 
 
