@@ -14,6 +14,9 @@ import sys
 
 TOP = os.path.dirname(os.path.dirname(os.path.abspath(__file__)))
 LONGEST = 40
+# How many words the documents may have, without code, printed output, what a check writes from the code, and the page on the proof.
+MOST_WORDS = 45_000
+COUNTED = r"(README|CONTRIBUTING|CHANGELOG)\.md|docs/(?!THEOREM).*\.md|bench/.*\.md"
 
 # A rule: its name, and what it finds in a sentence whose code spans are replaced by CODE.
 RULES = [
@@ -76,12 +79,12 @@ def of_markdown(path):
         return text
 
     blank = True
-    generated = False
-    for number, line in enumerate(open(f"{TOP}/{path}", encoding="utf-8"), 1):
-        line = line.rstrip("\n")
+    text = open(f"{TOP}/{path}", encoding="utf-8").read()
+    has_ends, generated = "<!-- end -->" in text, False
+    for number, line in enumerate(text.split("\n"), 1):
         # what a check writes from the code, between two marks, changes with the code and not with the page
         if line.startswith("<!-- "):
-            generated = line != "<!-- end -->"
+            generated = has_ends and line != "<!-- end -->"
         if generated or line.startswith("<!-- "):
             continue
         if line.lstrip().startswith("```"):
@@ -183,6 +186,11 @@ def of_page(path):
                 yield number, text.strip()
 
 
+def words_of_documents():
+    """Counts the words of the documents."""
+    return sum(len(re.findall(r"[^\s|]*[A-Za-z0-9][^\s|]*", text)) for path in files_like(COUNTED) for _, text in of_markdown(path))
+
+
 def sources():
     """Returns the kinds of text, each with its files and its reader."""
     rattle = [path for path in files_like(r"crates/\w+/src/.*\.rt") if path.split("/")[1].startswith(CRATES) and "tests" not in path]
@@ -229,7 +237,11 @@ def main(arguments):
     empty = [kind for kind, count in counts.items() if not count and not chosen]
     for kind in empty:
         print(f"no sentence of {kind} was read")
-    print(", ".join(f"{count:,} of {kind}" for kind, count in counts.items()) + f"; {found} findings")
+    words = 0 if chosen else words_of_documents()
+    if words > MOST_WORDS:
+        found += 1
+        print(f"the documents have {words:,} words, and may have {MOST_WORDS:,}")
+    print(", ".join(f"{count:,} of {kind}" for kind, count in counts.items()) + f"; {words:,} words in documents; {found} findings")
     print(f"style: compared {sum(counts.values()):,} sentences")
     return 1 if found or empty or not sum(counts.values()) else 0
 
