@@ -38,7 +38,12 @@ RULES = [
 # What may stay: a file, a rule, a piece of the sentence, and the reason.
 EXCEPTIONS = [
     ("docs/STYLE.md", None, None, "the page itself names what it rules out"),
-    ("docs/GLOSSARY.md", "tells", "CODE, which is named", "explains a name of the code"),
+    ("crates/lab_costs/src/document.rt", "behind", "behind the code", "the name of a row, as the field `behind` of its JSON"),
+    ("crates/lab_costs/src/events.rt", "behind", "behind the code", "the same row for callgrind"),
+    ("crates/lab_costs/src/text.rt", "behind", "behind the code", "the same row as text"),
+    ("crates/lab_plans/src/verdicts.rt", "stands", None, "the sentences of the seven rules are exact by contract (specs/Verdicts.antt)"),
+    ("crates/lab_terms/src/places.rt", "behind", "no-op behind a load", "the text of a place is exact by contract (specs/Places.antt)"),
+    ("crates/lab_runs/src/interrupts.rt", "behind", "behind the last cycle", "changes with the contracts of lab_runs, which are being written"),
 ]
 
 CRATES = ("cmd_", "lab_", "cc_", "mx_run", "mx_serve", "mx_faults", "mx_report", "mx_lab", "mx_cc")
@@ -188,7 +193,7 @@ def of_page(path):
 
 def words_of_documents():
     """Counts the words of the documents."""
-    return sum(len(re.findall(r"[^\s|]*[A-Za-z0-9][^\s|]*", text)) for path in files_like(COUNTED) for _, text in of_markdown(path))
+    return sum(len(re.findall(r"[^\s|]*[A-Za-z][^\s|]*", text)) for path in files_like(COUNTED) for _, text in of_markdown(path))
 
 
 def sources():
