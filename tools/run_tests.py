@@ -3,8 +3,8 @@
 
 usage: tools/run_tests.py [CRATE ..]      without names: each program that has stored output, and each crate with tests
 
-A program is built without its proof (tools/unproved.py), and run as the gate runs it: in a folder that holds the files of its
-folder data/, with the words of its file args and the bytes of stdin, and what it prints and its status have to be the stored ones.
+A program is built without its proof (tools/unproved.py), and run as the gate runs it: in a folder with the files of its folder
+data/, the arguments of its file args and the bytes of stdin. Its output and its status have to be the stored ones.
 """
 import concurrent.futures
 import os

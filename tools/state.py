@@ -7,7 +7,7 @@ A record has four checksums: of the sources (the crate and all crates below it: 
 crates.txt, HANDLES), of the toolchain, of the flags, and of the output. It is written once a build is done and the first three are
 the same as before the build. Nothing here goes by dates.
 
-SEEN is what ./mx saw of all these files on the disk (sizes, times and numbers) before it called this; where the record holds, SEEN is
+SEEN is what ./mx saw of all these files on the disk (sizes, times and numbers) before it called this. If the record holds, SEEN is
 kept in .mx/seen, so that ./mx need not call again while it sees the same. A file that changed a moment ago may change once more
 without a trace in its times, so SEEN is then not kept.
 """
