@@ -67,11 +67,11 @@ run "$clone/examples" sh -c '../mx build hello.s new.mxi && cmp new.mxi hello.mx
 tell 'a file that is not there yet is written where the command was typed' 0 'the same bytes'
 run "$clone" ./mx run missing.s
 tell 'a file that is not there' 4 'read fault: source failed'
-tell 'and which one' 4 'mx: no such file: missing.s'
+tell 'and which one' 4 "zanderanvil: error: cannot read 'missing.s': no such file"
 run "$clone" ./mx rnu examples/hello.s
-tell 'a command that there is not' 2 'mx: there is no command rnu; did you mean run?'
+tell 'a command that there is not' 2 "zanderanvil: error: unknown command 'rnu'; did you mean 'run'?"
 run "$clone" ./mx run --budgte 5 examples/hello.s
-tell 'an option that there is not' 2 'mx: run has no option --budgte; did you mean --budget?'
+tell 'an option that there is not' 2 "zanderanvil: error: unexpected argument '--budgte'; did you mean '--budget'?"
 run "$clone" ./mx run --budget 200000000 examples/hello.s
 tell 'a number out of range' 2 'mx: --budget is 200000000, and may be 0 to 100,000,000'
 run "$clone" ./mx debug examples/countdown.s nxet

@@ -295,7 +295,7 @@ def expanded(line):
 
 def examples_of(section):
     """Returns the examples of a section."""
-    form = r"(?ms)^(Faulty|Corrected)(?:, in `([^`]+)`)?( \(hexadecimal\))?(?:, by `([^`]+)`)?:\n\n((?:    [^\n]*\n|\n)+)"
+    form = r"(?ms)^(Faulty|Corrected)(?:, in ([\w.]+))?( \(hexadecimal\))?(?:, by `([^`]+)`)?:\n\n((?:    [^\n]*\n|\n)+)"
     examples = []
     for kind, name, is_hexadecimal, command, text in re.findall(form, section):
         lines = re.sub(r"(?m)^    ", "", text).strip("\n").split("\n")

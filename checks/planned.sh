@@ -77,14 +77,14 @@ expect 'a shortest plan of two loads' 0 two_loads.s '1 0 3 2\n'
 } >wanted
 expect 'a load directly before a reader' 0 two_loads.s '0 1 2 3\n'
 
-echo 'file: plans line 2: BadWord' >wanted
+echo "file:2: error[BadWord]: expected a number from 0 to 63, '-' or '/'" >wanted
 expect 'a word that is none' 8 countdown.s '0 1\n0 x / - -\n'
 expect 'the number 64' 8 countdown.s '0 1\n0 64 / - -\n'
-echo 'file: plans line 1: TooLong' >wanted
+echo 'file:1: error[TooLong]: a plan has at most 131 words' >wanted
 expect '132 words' 8 countdown.s "$(printf -- '- %.0s' {1..132})\n"
-echo 'file: plans line 2: TwoPlaces' >wanted
+echo "file:2: error[TwoPlaces]: a plan has one '/'" >wanted
 expect 'two places of a branch' 8 countdown.s '0 1\n0 / 1 / - -\n'
-echo 'file: plans line 4: NoBlock' >wanted
+echo 'file:4: error[NoBlock]: the source has no block for this plan' >wanted
 expect 'a line too many' 8 countdown.s '\n\n\n0\n'
 
 printf '0 1\n0 1 / - -\n/\n' >wanted
@@ -93,7 +93,7 @@ status=$?
 if [ "$status" -eq 0 ] && cmp -s out wanted; then tell ok 'the plans of the list scheduler'; else tell "status $status" 'the plans of the list scheduler'; fi
 "$lab" plans countdown.s missing >out 2>err
 status=$?
-if [ "$status" -eq 4 ] && [ "$(cat err)" = 'no such file: missing' ] && ! [ -s out ]; then tell ok 'no plan file'; else tell "status $status" 'no plan file'; fi
+if [ "$status" -eq 4 ] && [ "$(cat err)" = "zanderanvil: error: cannot read 'missing': no such file" ] && ! [ -s out ]; then tell ok 'no plan file'; else tell "status $status" 'no plan file'; fi
 
 # consoled FILE: what a program sent, of a report or of the text of a meaning, with a `?` for each byte 0
 consoled() { sed -n '/^console/,/^registers/p' "$1" | tr '\0' '?'; }

@@ -38,32 +38,32 @@ printf '        b    nowhere\n' >bad.s
 printf 'x\n' >events
 head -c 4194305 /dev/zero >big
 mkdir folder
-refuses 2 "  tip: some similar subcommands exist: 'caches', 'check'" chek ok.s
-refuses 2 "  tip: a similar value exists: 'html'" draw ok.s --as htm
-refuses 2 "error: the following required arguments were not provided:" check
-refuses 4 "no such file: none.s" check none.s
-refuses 4 "no such file: none" draw ok.s --input none
-refuses 4 "a folder, and no file: folder" explain folder
-refuses 1 "bad.s: line 1: F8 UndefinedLabel" draw bad.s
-refuses 8 "events: interrupts line 1: BadLine" profile ok.s --interrupts events
-refuses 5 "cannot be written: folder" draw ok.s -o folder
-refuses 1 "bad.s: line 1: F8 UndefinedLabel" compare ok.s bad.s
-refuses 4 "no such file: none.s" compare ok.s none.s
-refuses 2 "--from 9 is more than --to 8" interrupts ok.s --from 9 --to 8
-refuses 2 "--from 500 is behind the last cycle of the undisturbed run, 11" interrupts ok.s --from 500
-refuses 4 "no such file: none.s" interrupts none.s
-refuses 4 "big: read fault: source too long" check big
-refuses 4 "big: read fault: source too long" disassemble big
-refuses 4 "big: read fault: source too long" compare ok.s big none.s
-refuses 4 "no such file: none" profile ok.s --interrupts none
-refuses 4 "big: read fault: interrupts too long" profile ok.s --interrupts big --input none
-refuses 4 "big: read fault: input too long" explain ok.s --input big
-refuses 4 "no such file: none" plans ok.s none
-refuses 4 "big: read fault: plans too long" plans ok.s big --input none
+refuses 2 "zanderanvil: error: unknown command 'chek'; did you mean 'check'?" chek ok.s
+refuses 2 "zanderanvil: error: invalid value 'htm' for '--as': expected text, svg, html, json, kanata or vcd; did you mean 'html'?" draw ok.s --as htm
+refuses 2 "zanderanvil: error: missing argument SOURCE" check
+refuses 4 "zanderanvil: error: cannot read 'none.s': no such file" check none.s
+refuses 4 "zanderanvil: error: cannot read 'none': no such file" draw ok.s --input none
+refuses 4 "zanderanvil: error: 'folder' is a directory" explain folder
+refuses 1 "bad.s:1:14: error[F8]: undefined label 'nowhere'" draw bad.s
+refuses 8 "events:1: error[BadLine]: expected a cycle: a decimal number" profile ok.s --interrupts events
+refuses 5 "zanderanvil: error: cannot write 'folder'" draw ok.s -o folder
+refuses 1 "bad.s:1:14: error[F8]: undefined label 'nowhere'" compare ok.s bad.s
+refuses 4 "zanderanvil: error: cannot read 'none.s': no such file" compare ok.s none.s
+refuses 2 "zanderanvil: error: --from 9 is more than --to 8" interrupts ok.s --from 9 --to 8
+refuses 2 "zanderanvil: error: --from 500 is behind the last cycle of the undisturbed run, 11" interrupts ok.s --from 500
+refuses 4 "zanderanvil: error: cannot read 'none.s': no such file" interrupts none.s
+refuses 4 "zanderanvil: error: 'big' is too large: a source has at most 4,194,304 bytes" check big
+refuses 4 "zanderanvil: error: 'big' is too large: a source has at most 4,194,304 bytes" disassemble big
+refuses 4 "zanderanvil: error: 'big' is too large: a source has at most 4,194,304 bytes" compare ok.s big none.s
+refuses 4 "zanderanvil: error: cannot read 'none': no such file" profile ok.s --interrupts none
+refuses 4 "zanderanvil: error: 'big' is too large: such a file has at most 1,048,576 bytes" profile ok.s --interrupts big --input none
+refuses 4 "zanderanvil: error: 'big' is too large: such a file has at most 1,048,576 bytes" explain ok.s --input big
+refuses 4 "zanderanvil: error: cannot read 'none': no such file" plans ok.s none
+refuses 4 "zanderanvil: error: 'big' is too large: such a file has at most 1,048,576 bytes" plans ok.s big --input none
 if [ "$(id -u)" -ne 0 ]; then
     chmod 0 bad.s
-    refuses 4 "permission denied: bad.s" check bad.s
-    refuses 4 "permission denied: bad.s" profile ok.s --interrupts bad.s --input none
+    refuses 4 "zanderanvil: error: cannot read 'bad.s': permission denied" check bad.s
+    refuses 4 "zanderanvil: error: cannot read 'bad.s': permission denied" profile ok.s --interrupts bad.s --input none
 fi
 
 # Standard input, and a file for the output.

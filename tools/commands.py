@@ -54,7 +54,7 @@ COMMANDS = {
         Option("--stops", "N", "1 to 1,000 stops (1)"),
         Option("--watch", "A", "256 to 65,535: the data word that each stop shows (256)"),
         BUDGET, INTERRUPTS, INPUT, OUTPUT)),
-    "best": Command("mx_run", "SOURCE", "tells how far the scheduler is from the shortest plans", (OUTPUT,)),
+    "best": Command("mx_run", "SOURCE", "compares the scheduler with the shortest plans", (OUTPUT,)),
     "share": Command("mx_run", "FIRST SECOND", "runs two sources on one machine", (BUDGET, INTERRUPTS, OUTPUT)),
     "join": Command("mx_run", "FIRST SECOND ..", "joins 2 to 16 texts to one source", (OUTPUT,)),
     "migrate": Command("mx_run", "IMAGE NEW", "writes an image file in the newest version"),
@@ -67,13 +67,13 @@ COMMANDS = {
         Option("--from", "N", "0 to 100,000,000: the first cycle that is drawn (0)"),
         Option("--cycles", "N", "1 to 100,000 cycles (64)"),
         LAB_BUDGET, INTERRUPTS, INPUT, OUTPUT)),
-    "check": Command("mx_lab", "SOURCE", "tells every faulty line of a source, and what is wrong with it", (
+    "check": Command("mx_lab", "SOURCE", "shows every faulty line of a source, and what is wrong with it", (
         Option("--all", "", "shows more than the first twenty"),
         Option("--as", "FORM", "text or json (text)"),
         Option("--colour", "WHEN", "always or never: the text in the colours of a terminal (never; ./mx says always on a terminal)"), OUTPUT)),
-    "explain": Command("mx_lab", "SOURCE", "tells how a run stands beside what the source means", (
+    "explain": Command("mx_lab", "SOURCE", "compares a run with the sequential semantics", (
         Option("--as", "FORM", "text or json (text)"), LAB_BUDGET, INTERRUPTS, INPUT, OUTPUT)),
-    "profile": Command("mx_lab", "SOURCE", "tells what each part of a source costs in a run", (
+    "profile": Command("mx_lab", "SOURCE", "measures what each part of a source costs in a run", (
         Option("--by", "PART", "line, label, function, or c for lines of C (line)"),
         Option("--sort", "COLUMN", "line, count, cycles, cpi, stalls, noops, squashed or killed (line)"),
         Option("--as", "FORM", "text, json or callgrind (text)"), LAB_BUDGET, INTERRUPTS, INPUT, OUTPUT)),
@@ -81,19 +81,19 @@ COMMANDS = {
         Option("--as", "FORM", "text, json or csv (text)"), LAB_BUDGET, INTERRUPTS, INPUT, OUTPUT)),
     "disassemble": Command("mx_lab", "FILE", "lists the words of a source or an image in assembly language", (
         Option("--as", "FORM", "text or json (text)"), OUTPUT)),
-    "caches": Command("mx_lab", "SOURCE", "tells what other caches would make of a run", (
+    "caches": Command("mx_lab", "SOURCE", "measures a run with other caches", (
         Option("--line", "N", "1 to 64 words of a line (16)"),
         Option("--brings", "N", "1 to 64 words, at most those of a line, that a miss makes valid (2)"),
         Option("--penalty", "N", "0 to 1,000 cycles of a miss (2)"),
         Option("--as", "FORM", "text, json or svg (text)"), LAB_BUDGET, INPUT, OUTPUT)),
-    "interrupts": Command("mx_lab", "SOURCE", "tells what an interrupt costs, in each cycle of a run in turn", (
+    "interrupts": Command("mx_lab", "SOURCE", "measures what an interrupt costs in each cycle of a run", (
         Option("--from", "N", "0 to 100,000,000: the first cycle in which a request comes (0)"),
         Option("--to", "N", "0 to 100,000,000: the last one (that of the undisturbed run)"),
         Option("--step", "N", "1 to 100,000,000 cycles between the requests of two runs (1)"),
         Option("--pairs", "", "runs with a request in each two of the cycles"),
         Option("--rows", "", "prints a row for each run as well"),
         Option("--as", "FORM", "text, json or csv (text)"), LAB_BUDGET, INPUT, OUTPUT)),
-    "trace": Command("mx_lab", "SOURCE", "tells each turn of a run, for programs that replay it", (
+    "trace": Command("mx_lab", "SOURCE", "prints each turn of a run, for programs that replay it", (
         Option("--as", "FORM", "jsonl (jsonl)"), LAB_BUDGET, INTERRUPTS, INPUT, OUTPUT)),
     "plans": Command("mx_lab", "SOURCE FILE", "runs a source by the plans of a scheduler of one's own", (
         Option("--print", "", "prints the list scheduler's own file, in place of FILE"), LAB_BUDGET, INTERRUPTS, INPUT, OUTPUT)),
@@ -104,7 +104,7 @@ COMMANDS = {
     "cc": Command("mx_cc", "FILE.c .. -o SOURCE", "compiles with gcc, and translates to a source",
                   more="Options before the files are gcc's; without -O0, -O1, -O3 or -Os it is -O2. It needs the Debian package gcc-mips-linux-gnu."),
     "c": Command("mx_cc", "FILE.c", "compiles with gcc at -O2, and runs it", RUN,
-                 "The options stand behind the file. It needs the Debian package gcc-mips-linux-gnu."),
+                 "The options come after the file. It needs the Debian package gcc-mips-linux-gnu."),
     "translate": Command("mx_cc", "FILE.s ..", "translates a compiler's assembly for MIPS-I", (
         Option("-o", "SOURCE", "the file that is written (standard output)"),)),
 }

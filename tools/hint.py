@@ -4,7 +4,7 @@
 usage: tools/hint.py STATUS COMMAND ARGUMENTS ..
 
 A refused source is shown as `check` shows it, by the laboratory where its program is there. Else, and for all other files, the
-toolchain is asked again for the line that it printed, and only about regular files: a pipe cannot be read a second time.
+toolchain repeats the line that it printed, and only about regular files: a pipe cannot be read a second time.
 """
 import difflib
 import os

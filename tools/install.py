@@ -170,14 +170,14 @@ def roff(text):
 def page_of_all(version):
     """Returns the manual page zanderanvil(1)."""
     lines = [f'.TH ZANDERANVIL 1 "" "zanderanvil {version}"', ".SH NAME",
-             "zanderanvil \\- toolchain and simulator for MIPS\\-X, proved", ".SH SYNOPSIS", ".B zanderanvil", "COMMAND WORDS",
+             "zanderanvil \\- toolchain and simulator for MIPS\\-X, proved", ".SH SYNOPSIS", ".B zanderanvil", "COMMAND ARGUMENTS",
              ".SH DESCRIPTION", roff("Assembles sequential sources, rearranges each basic block for the pipeline without interlocks, links "
                                      "them, and runs them cycle by cycle, with interrupts at the cycles asked for."), ".SH COMMANDS"]
     for name, it in COMMANDS.items():
         lines += [".TP", f".B {roff(name)} {roff(it.names)}", roff(it.text) + "."]
         for option in it.options:
             lines += [".RS", ".TP", f".B {roff(option.name)} {roff(option.value)}", roff(option.text), ".RE"]
-    lines += [".SH EXIT STATUS", roff("0 done, 1 a refused source, 2 the words, 3 out of budget, 4 a read fault, 5 a write fault, "
+    lines += [".SH EXIT STATUS", roff("0 done, 1 a refused source, 2 wrong arguments, 3 out of budget, 4 a read fault, 5 a write fault, "
                                       "6 no memory, 7 a faulty image file, 8 a faulty interrupt or plan file, 9 a stuck meaning.")]
     return "\n".join(lines) + "\n"
 

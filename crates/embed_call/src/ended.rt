@@ -1,5 +1,5 @@
 //! The end of a call.
-ghost use Rattle.std.specs.Prelude.{◌≡◌, ◌≢◌, false, Err, IfOk, map, string_bytes};
+ghost use Rattle.std.specs.Prelude.{◌≡◌, ◌≢◌, true, false, Err, IfOk, map, string_bytes};
 ghost use Rattle.std.specs.Str.{IsUtf8};
 ghost use Rattle.std.specs.Str.Lines.{lines};
 ghost use Rattle.cmd_table.specs.Asked.{command_of};
@@ -34,8 +34,10 @@ pub enum CallFault {
     Memory,
 }
 
+// Whether memory ran out: that status alone has no answer, and every other one is handed on.
 fn is_memory(status: Status) -> bool
-    ensures { result ≡ false → status ≢ Status.Memory }
+    ensures memory { result ≡ true → status ≡ Status.Memory }
+    ensures answer { result ≡ false → status ≢ Status.Memory }
 {
     matches!(status, Status::Memory)
 }

@@ -16,7 +16,7 @@ const BEGINNING: &str = "what the run has sent is the beginning of what the mean
 
 /// The premises, and those that hold of each source that is run.
 const PREMISES: &str =
-    "premises of what is promised of `run`:\n  holds: the text has no fault\n  holds: each branch reaches its target\n";
+    "premises of the main theorem of `run`:\n  holds: the text has no fault\n  holds: each branch reaches its target\n";
 
 /// How a source stands: its file, its meaning after so many steps at most, the run of its linked program within a budget,
 /// how many interrupts are requested, and, where the meaning is stuck, the number of the line and the line; 0 past the
@@ -109,7 +109,7 @@ fn push_stuck(text: &mut Writer, explained: &Explained, why: Why) {
     push_line(text, explained);
     text.push_parts(&["what to do: ", advice_of(why), "\n"]);
     push_run(text, explained.ran);
-    text.push_str("; nothing is promised of it, since the meaning is stuck\n");
+    text.push_str("; nothing is guaranteed about it, since the meaning is stuck\n");
 }
 
 // Appends the budget that is enough under so many interrupt requests.
@@ -185,7 +185,7 @@ fn push_budget_premise(text: &mut Writer, budget: u32, bound: u64) {
     );
 }
 
-// Appends the premises of what is promised of `run`. The first two hold of each source that is run.
+// Appends the premises of the main theorem of `run`. The first two hold of each source that is run.
 fn push_premises(text: &mut Writer, explained: &Explained) {
     text.push_str(PREMISES);
     push_stuck_premise(text, explained.steps, explained.why().is_none());

@@ -2,7 +2,6 @@ pub mod Readings
 pub mod Own
 pub mod Ended
 mod Within
-mod WholeLog
 pub mod GreedyLayouts
 pub mod Links
 pub mod Laid

@@ -26,8 +26,8 @@ pub use Rattle.mx_image.specs.Contents.{contents_of, LinksFit}
 pub use Rattle.mx_image.specs.Files.{file_refusal, file_in, file_bytes}
 pub use Rattle.mx_io.specs.Counts.{Rose}
 pub use Rattle.mx_io.specs.Reads.{Read}
-pub use Rattle.mx_io.specs.RealShelf.{log_of, wrote_of, told_of}
-pub use Rattle.mx_io.specs.RealSink.{handed_to}
+pub use Rattle.mx_io.specs.RealShelf.{log_of, wrote_of, told_of, write_faults_of}
+pub use Rattle.mx_io.specs.RealSink.{handed_to, faults_of}
 pub use Rattle.mx_io.specs.Shelves.{Counts}
 pub use Rattle.mx_isa.specs.Board.{board}
 pub use Rattle.mx_layout.specs.Layout.{IsLayout, blocks_in}

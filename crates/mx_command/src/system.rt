@@ -1,7 +1,7 @@
 //! The top call on the files and the standard output of the system: the theorem of the program as it is shipped.
-ghost use Rattle.std.specs.Prelude.{◌≡◌, ◌≢◌, [], map, string_bytes};
+ghost use Rattle.std.specs.Prelude.{◌≡◌, ◌≢◌, ◌⊎◌, true, [], map, string_bytes};
 ghost use Rattle.mx_command.specs.Terms.{log_of, wrote_of, told_of, handed_to, files_of, PutsPrefix, AreAsked, Agree, command_of, Held, command_protocol};
-ghost use Rattle.mx_command.specs.Terms.{Promised, IsTaken, answer_on};
+ghost use Rattle.mx_command.specs.Terms.{Promised, IsTaken, answer_on, Rose, faults_of, write_faults_of, writes_a_file};
 
 use crate::command;
 use cmd_answer::Status;
@@ -31,6 +31,10 @@ pub fn command_on_system<R: Files + Print>(
     // So all is promised of whatever the names hold that agrees with what it gave.
     ensures promised { IsTaken result → (held : Held) → Agree held (log_of shelf.new)
         → Promised (command_of (map string_bytes words.now)) held result (told_of shelf.old) (told_of shelf.new) [] (handed_to out.new) }
+
+    // A write fault is one of the output, or of the files where the command writes a file, counted in this call.
+    ensures write_fault { result ≡ Status.WriteFault → Rose (faults_of out.old) (faults_of out.new)
+        ⊎ ((writes_a_file (command_of (map string_bytes words.now)) ≡ true) × Rose (write_faults_of shelf.old) (write_faults_of shelf.new)) }
 
     // Where the system refused to take more, it took a prefix of that output, where memory ran out no byte; and it took a
     // file only where the command is done.

@@ -10,14 +10,15 @@ use Rattle.mx_serve.specs.declared.serving.Served.TheVariants.{Answered, Refused
 use Rattle.mx_serve.specs.Ends.{ends_in}
 use Rattle.mx_serve.specs.Serving.{standard_input, most_body, IsPrinted, IsServed}
 
-pub served_so : (command : Command) (log log' : List Read) (out out' body : List ℕ) (answer : Answer)
+pub served_so : (command : Command) (log log' : List Read) (out out' : List ℕ) (faults faults' : ℕ) (body : List ℕ) (answer : Answer)
     → log' ≡ log ++ read_of standard_input most_body (Ok body) ∷ [] → (((d : Data) → ¬ Reads body d) → Refuses not_json answer)
     → ((d : Data) → Reads body d → Comes ends_in command d (refusal_of command d) answer)
-    → (served : Served) → IsPrinted answer out out' served → IsServed command log log' out out' served
-served_so command log log' out out' body answer read refuses comes Answered printed =
+    → (served : Served) → IsPrinted answer out out' faults faults' served → IsServed command log log' out out' faults faults' served
+served_so command log log' out out' faults faults' body answer read refuses comes Answered printed =
     record { body = body; read = read; answer = answer; not_json = refuses; comes = comes; printed = printed }
-served_so command log log' out out' body answer read refuses comes Refused printed =
+served_so command log log' out out' faults faults' body answer read refuses comes Refused printed =
     record { body = body; read = read; answer = answer; not_json = refuses; comes = comes; printed = printed }
-served_so command log log' out out' body answer read refuses comes Unread printed = tt
-served_so command log log' out out' body answer read refuses comes Unprinted printed = tt
-served_so command log log' out out' body answer read refuses comes NoMemory printed = tt
+served_so command log log' out out' faults faults' body answer read refuses comes Unprinted printed =
+    record { body = body; read = read; answer = answer; not_json = refuses; comes = comes; printed = printed }
+served_so command log log' out out' faults faults' body answer read refuses comes Unread printed = absurd printed
+served_so command log log' out out' faults faults' body answer read refuses comes NoMemory printed = absurd printed

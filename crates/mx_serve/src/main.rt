@@ -2,34 +2,15 @@
 //! of its answer go to standard output.
 #![tactic(auto)]
 
+mod asked;
 mod programs;
 mod serving;
 
-use crate::serving::{Served, serve};
+use crate::asked::command_of;
+use crate::serving::serve;
 use cmd_answer::{Status, command_words};
-use lab_request::Command;
 use mx_io::{RealShelf, RealSink};
 use std::process::ExitCode;
-
-/// The exit status where the request is refused.
-const REFUSED: u8 = 1;
-
-// The exit status of how a request was served.
-fn number_of(served: Served) -> u8 {
-    match served {
-        Served::Answered => Status::Done.number(),
-        Served::Refused => REFUSED,
-        Served::Unread => Status::ReadFault.number(),
-        Served::Unprinted => Status::WriteFault.number(),
-        Served::NoMemory => Status::Memory.number(),
-    }
-}
-
-// The command that the first word names.
-fn command_of(words: &[String]) -> Option<Command> {
-    let word = words.first()?;
-    Command::named(word.as_str())
-}
 
 fn main(rt: HostRuntime) -> ExitCode {
     let words = match command_words(&rt) {
@@ -41,7 +22,7 @@ fn main(rt: HostRuntime) -> ExitCode {
             let mut shelf = RealShelf::new(&rt);
             let mut out = RealSink::new(&rt);
             let served = serve(rt.alloc(), command, &mut shelf, &mut out);
-            ExitCode::from(number_of(served))
+            ExitCode::from(served.number())
         }
         None => ExitCode::from(Status::Usage.number()),
     }

@@ -1,11 +1,13 @@
 //! Who runs the commands of requests: the toolchain and the laboratory.
 ghost use Rattle.std.specs.Prelude.{◌≡◌, ℕ, false, IfOk, map, string_bytes};
 ghost use Rattle.mx_io.specs.MemoryShelf.{held_in, fails_at};
+ghost use Rattle.cmd_answer.specs.Exit.{exit_number};
+ghost use Rattle.embed_call.specs.TextSink.{written_in};
 ghost use Rattle.mx_serve.specs.Ends.{RunEnds};
 
 use cmd_answer::Status;
 use embed_call::{Ended as Answered, QuietShelf, TextSink, ended_on};
-use lab_command::{Unknown, lab};
+use lab_command::{Ended as LabEnded, Unknown, lab};
 use lab_request::{Command, Commands, Ended};
 use lab_watch::Unwatched;
 use mx_io::{Memory, MemoryShelf};
@@ -28,14 +30,10 @@ fn toolchain_ends(alloc: Global, words: &[String], files: MemoryShelf) -> Result
     })
 }
 
-// How a command of the laboratory ends. Want of memory is none of its answers.
-fn laboratory_ends(
-    alloc: Global,
-    words: &[String],
-    mut files: MemoryShelf,
-) -> Result<Ended, Memory> {
-    let mut out = TextSink::new(alloc);
-    let ended = lab(alloc, words, &mut files, &mut out, Unwatched, Unknown);
+// A command of the laboratory that ended so, with all that it put out. Want of memory is none of its answers.
+fn handed_on(ended: LabEnded, out: TextSink) -> Result<Ended, Memory>
+    ensures { IfOk result (λ e. (e.status ≡ exit_number ended.status) × (e.output.items ≡ written_in out) × (e.errors ≡ ended.errors)) }
+{
     if ended.status == Status::Memory {
         return Err(Memory);
     }
@@ -47,6 +45,17 @@ fn laboratory_ends(
         }),
         None => Err(Memory),
     }
+}
+
+// How a command of the laboratory ends.
+fn laboratory_ends(
+    alloc: Global,
+    words: &[String],
+    mut files: MemoryShelf,
+) -> Result<Ended, Memory> {
+    let mut out = TextSink::new(alloc);
+    let ended = lab(alloc, words, &mut files, &mut out, Unwatched, Unknown);
+    handed_on(ended, out)
 }
 
 impl Commands for Programs {

@@ -1,8 +1,9 @@
 //! One request, from standard input to standard output.
 ghost use Rattle.std.specs.Prelude.{◌≡◌};
-ghost use Rattle.mx_serve.specs.Serving.{IsPrinted, IsServed};
+ghost use Rattle.mx_serve.specs.Serving.{IsPrinted, IsServed, served_number};
 
 use crate::programs::Programs;
+use cmd_answer::Status;
 use lab_request::{Answer, Command, answer_body};
 use mx_io::{Shelf, ShelfFault, Sink, put_all};
 use std::alloc::Global;
@@ -28,9 +29,24 @@ pub enum Served {
     NoMemory,
 }
 
+impl Served {
+    /// The exit status of the program.
+    pub fn number(self) -> u8
+        ensures { result ≡ served_number self }
+    {
+        match self {
+            Served::Answered => Status::Done.number(),
+            Served::Refused => Status::Refused.number(),
+            Served::Unread => Status::ReadFault.number(),
+            Served::Unprinted => Status::WriteFault.number(),
+            Served::NoMemory => Status::Memory.number(),
+        }
+    }
+}
+
 // Prints an answer.
 fn print<W: Sink>(answer: &Answer, out: &mut W) -> Served
-    ensures { IsPrinted answer.now (W.written out.old) (W.written out.new) result }
+    ensures { IsPrinted answer.now (W.written out.old) (W.written out.new) (W.faults out.old) (W.faults out.new) result }
 {
     match put_all(out, answer.document.as_slice()) {
         Ok(()) if answer.is_refused => Served::Refused,
@@ -46,7 +62,8 @@ pub fn serve<S: Shelf, W: Sink>(
     shelf: &mut S,
     out: &mut W,
 ) -> Served
-    ensures { IsServed command (S.counts shelf.old).log (S.counts shelf.new).log (W.written out.old) (W.written out.new) result }
+    ensures { IsServed command (S.counts shelf.old).log (S.counts shelf.new).log (W.written out.old) (W.written out.new)
+        (W.faults out.old) (W.faults out.new) result }
 {
     let body = match shelf.read(alloc, STANDARD_INPUT, MOST_BODY) {
         Ok(body) => body,

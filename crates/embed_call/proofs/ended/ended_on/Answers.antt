@@ -38,7 +38,7 @@ returns c =
     let putting : ¬ Rose (faults_of out) (faults_of out') = no_rise (faults_of out) (faults_of out') c.in-Some.ensures.1 in
     let quiet : AreQuiet (counts_of before) (counts_of after) 0 0 (faults_of out) (faults_of out') =
     record { reading = calm; writing = calm; putting = putting } in
-    let not_memory : status ≢ Memory = c.is_memory.ensures c.if-is_memory.false in
+    let not_memory : status ≢ Memory = c.is_memory.ensures.answer c.if-is_memory.false in
     let promised : Promised asked (held_in before) status (told_of before) (told_of after) (written_in out) (written_in out') =
     ⊎_elim (λ m. absurd (not_memory m)) (λ p. p) (told.promised_held refl (inl quiet)) in
     let delivered = promised.delivered in
