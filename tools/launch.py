@@ -22,7 +22,7 @@ import tempfile
 import tty
 
 import commands
-from processes import end_by_signals
+from processes import end_by_signals, held
 
 USAGE, WRITE_FAULT = 2, 5
 # Done, out of budget, stuck: what a command of the toolchain then prints is its answer.
@@ -149,18 +149,18 @@ def run(words, fresh=None, name=None, output=None):
     ours, theirs = (None, None) if fresh is None else pty.openpty() if os.isatty(2) else os.pipe()
     if fresh is not None and os.isatty(2):
         tty.setraw(theirs)
+    process = None
     try:
-        process = subprocess.Popen(words, stdout=output, stderr=theirs)
-    finally:
-        if theirs is not None:
-            os.close(theirs)
-    try:
+        with held():
+            process = subprocess.Popen(words, stdout=output, stderr=theirs)
         if ours is not None:
+            os.close(theirs)
             copy_errors(ours, os.fsencode(fresh), os.fsencode(name))
         status = process.wait()
     except KeyboardInterrupt:
-        process.terminate()
-        process.wait()
+        if process:
+            process.terminate()
+            process.wait()
         raise
     return status if status >= 0 else BY_SIGNAL - status
 
