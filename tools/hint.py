@@ -106,8 +106,9 @@ def answer(program, *words):
     if path is None:
         return ""
     try:
-        how = {"stdin": None if STANDARD_INPUT in words else subprocess.DEVNULL, "stdout": subprocess.PIPE, "stderr": subprocess.DEVNULL, "timeout": MOST_SECONDS}
-        return subprocess.run([path, *words], check=False, **how).stdout.decode(errors="replace")
+        given = None if STANDARD_INPUT in words else subprocess.DEVNULL
+        said = subprocess.run([path, *words], stdin=given, stdout=subprocess.PIPE, stderr=subprocess.DEVNULL, timeout=MOST_SECONDS, check=False)
+        return said.stdout.decode(errors="replace")
     except (OSError, ValueError, subprocess.TimeoutExpired):
         return ""
 
