@@ -5,7 +5,7 @@
 # Both counts are of the very assembly that gcc writes for a program and the library of lib: one of its translation, by `meaning`,
 # and one as the assembler of MIPS-I takes it, by a plugin of qemu-mips (mips_count.c) which tells no-ops apart. It needs the
 # packages gcc-mips-linux-gnu and qemu-user, and the programs that checks/cc.sh takes, by MX_RUN and MX_CC.
-top=$(CDPATH= cd -- "$(dirname -- "$0")/.." && pwd) || exit 1
+top=$(CDPATH='' cd -- "$(dirname -- "$0")/.." && pwd) || exit 1
 export MX_RUN=${MX_RUN:-$top/crates/mx_run/out/mx_run}
 export MX_CC=${MX_CC:-$top/crates/mx_cc/out/mx_cc}
 for program in mips-linux-gnu-gcc qemu-mips cc python3 "$MX_RUN" "${MX_CC%% *}"; do

@@ -1,16 +1,8 @@
 #!/bin/sh
-# Runs each check that needs nothing but the built programs, and ends with 1 where one fails.
-# usage: checks/all.sh
+# Runs all checks side by side, and ends with 1 where one fails: usage and what each compares are in checks/all.py and checks/README.md.
 top=$(CDPATH='' cd -- "$(dirname -- "$0")/.." && pwd -P) || exit 1
-failed=
-for check in deps.py edits.py reading.py rows.sh edge.sh words.sh planned.sh profiles.py memory.sh; do
-    if "$top/checks/$check" >"/tmp/mx-check.$$" 2>&1; then
-        echo "ok: $check"
-    else
-        echo "WRONG: $check"
-        tail -n 20 "/tmp/mx-check.$$"
-        failed=yes
-    fi
-done
-rm -f "/tmp/mx-check.$$"
-[ -z "$failed" ]
+if ! command -v python3 >/dev/null 2>&1 || ! python3 -c 'import sys; sys.exit(sys.version_info < (3, 9))'; then
+    echo 'skipped: all checks: Python 3.9 or later is missing'
+    exit 0
+fi
+exec python3 -B "$top/checks/all.py" "$@"

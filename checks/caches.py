@@ -15,7 +15,7 @@ import sys
 HERE = pathlib.Path(__file__).resolve().parent
 CASES = HERE.parent / "crates/test_lab_cases/data/sources.txt"
 SOAK = {"__file__": str(HERE / "soak.py"), "__name__": "soak"}
-exec((HERE / "soak.py").read_text().partition("\nif len(sys.argv)")[0], SOAK)
+exec((HERE / "soak.py").read_text(encoding="utf-8"), SOAK)
 SIZES, WAYS = (128, 256, 512, 1024, 2048), (1, 2, 4, 8)
 SHIPPED = (4, 8, 16, 2, 2)
 HEAD = "   words  sets  ways  line  brings  penalty     misses  of fetches      cycles     CPF"
@@ -121,10 +121,11 @@ def main(writes):
         elif made != stored:
             print(f"{words}: the stored answer is another one")
             print("\n".join(f"  stored {it}\n  model  {other}" for it, other in zip(stored.split(" / "), made.split(" / ")) if it != other))
-    print(f"caches: {compared} rows, of which {replacing} are of caches that replaced a line; {differing} cases differ", file=sys.stderr)
+    print(f"caches: compared {compared} rows, of which {replacing} are of caches that replaced a line; {differing} cases differ", file=sys.stderr)
     return compared == 0 or replacing == 0 or differing > 0 and not writes
 
 
 if sys.argv[1:] not in ([], ["--write"]):
-    sys.exit(__doc__)
+    print(f"caches.py: unexpected argument {sys.argv[1]}", file=sys.stderr)
+    sys.exit(2)
 sys.exit(main(bool(sys.argv[1:])))

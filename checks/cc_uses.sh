@@ -1,6 +1,7 @@
 #!/bin/bash
 # ./mx c and ./mx cc as README types them, and wrong uses of both, each with the status and the one line that it has to give;
-# and that a wrong use writes no file. It takes the programs that ./mx takes, so it builds them where they are not there:
+# that a wrong use writes no file and removes none; and the programs of checks/cc/cases (checks/cc_cases.py). It takes the programs
+# that ./mx takes, so it builds them where they are not there:
 #     checks/cc_uses.sh
 # It needs the Debian package gcc-mips-linux-gnu.
 top=$(CDPATH= cd -- "$(dirname -- "$0")/.." && pwd) || exit 1
@@ -35,6 +36,11 @@ file() {
     printf '%s\n' "$@" >"$work/$name"
 }
 
+# Whether the files $2 and $3 have the same bytes, of the use $1.
+same() {
+    cmp -s "$2" "$3" || tell "$1" "other bytes than expected: $(head -c 200 "$2")"
+}
+
 cd "$top" || exit 1
 ./mx c examples/c/queens.c >"$work/told" || tell 'c examples/c/queens.c' "status $?"
 grep -q '^92 ways$' "$work/told" || tell 'c examples/c/queens.c' 'another console'
@@ -42,6 +48,50 @@ grep -q '^92 ways$' "$work/told" || tell 'c examples/c/queens.c' 'another consol
 grep -q '^qsort     sorted, from -987 to 997$' "$work/told" || tell 'cc examples/c/sorts.c' 'another console'
 
 file good.c 'int main(void) {' '    return 0;' '}'
+file echo.c '#include <stdio.h>' 'int main(int argc, char **argv) {' '    int byte;' '    while ((byte = getchar()) != EOF)' '        putchar(byte);' \
+    '    return argc + argv[1][0];' '}'
+# its console, its input and its status are those of the program
+printf 'two\nlines\0and no end' >"$work/given"
+./mx c "$work/echo.c" -- x y <"$work/given" >"$work/told" 2>"$work/said"
+got=$?
+[ $got -eq $((3 + 120)) ] || tell 'c echo.c -- x y' "status $got"
+same 'c echo.c -- x y' "$work/told" "$work/given"
+[ ! -s "$work/said" ] || tell 'c echo.c -- x y' "said $(head -n 1 "$work/said")"
+./mx c "$work/echo.c" --input "$work/given" --report="$work/report" -- a </dev/null >"$work/told"
+same 'c echo.c --input' "$work/told" "$work/given"
+grep -q '^cycles [0-9]' "$work/report" || tell 'c echo.c --report' 'no cycles'
+./mx c "$work/echo.c" --budget 100 -- a </dev/null >"$work/told" 2>"$work/said"
+got=$?
+[ $got -eq 3 ] || tell 'c --budget 100' "status $got"
+grep -q -x 'mx: the program did not end within 100 cycles: --budget N gives it more, up to 100,000,000' "$work/said" || tell 'c --budget 100' "said $(cat "$work/said")"
+# what is written is whole, is the same where two write at once, and its size is printed
+./mx cc "$work/echo.c" -o "$work/one.s" 2>"$work/said" || tell 'cc echo.c' "status $?"
+grep -q -x "mx: $work/one.s: [0-9]* statements of at most 20,000, for [0-9]* instructions; [0-9]* data words" "$work/said" || tell 'cc echo.c' "said $(cat "$work/said")"
+pids=
+for number in 1 2 3 4; do
+    MX_LIBRARY=$work/kept ./mx cc "$work/echo.c" -o "$work/at_once.$number.s" 2>/dev/null &
+    pids="$pids $!"
+done
+for pid in $pids; do wait "$pid" || tell 'four ./mx cc at once' "status $?"; done
+for number in 1 2 3 4; do same 'four ./mx cc at once' "$work/at_once.$number.s" "$work/one.s"; done
+[ "$(find "$work/kept" -mindepth 1 -maxdepth 1 | wc -l)" -eq 1 ] || tell 'four ./mx cc at once' 'more than one library is left'
+MX_LIBRARY=/proc/none ./mx cc "$work/echo.c" -o "$work/unkept.s" 2>/dev/null || tell 'cc without a place for the library' "status $?"
+same 'cc without a place for the library' "$work/unkept.s" "$work/one.s"
+# -E preprocesses; options of gcc with a space
+./mx cc -E -D WHAT=seventeen "$work/good.c" >"$work/told" || tell 'cc -E' "status $?"
+grep -q 'int main(void)' "$work/told" || tell 'cc -E' 'no program'
+# a disk that is full, and a file that may not be written, keep what is there
+mkdir "$work/locked" && echo kept >"$work/locked/out.s" && chmod 555 "$work/locked"
+if ! touch "$work/locked/probe" 2>/dev/null; then
+    ./mx cc "$work/good.c" -o "$work/locked/out.s" 2>/dev/null
+    got=$?
+    [ $got -eq 5 ] || tell 'cc -o in a locked folder' "status $got"
+fi
+chmod 755 "$work/locked" && rm -f "$work/locked/probe"
+[ "$(cat "$work/locked/out.s")" = kept ] || tell 'cc -o in a locked folder' 'the old file is gone'
+./mx cc "$work/good.c" -o /dev/full 2>"$work/said"
+got=$?
+[ $got -eq 5 ] || tell 'cc -o /dev/full' "status $got"
 file second.c '' 'int main(void) { return 1; }'
 file broken.c 'int main(void) {' '    return count;' '}'
 file missing.c 'int f(void);' 'int main(void) {' '    return f();' '}'
@@ -67,6 +117,15 @@ done
 wrong 1 'second.c:2: main: a symbol that is defined twice' cc good.c second.c -o out.s
 wrong 1 'folder/float.s:2: add.s: floating-point registers are not taken; compile with -msoft-float' cc good.c folder/float.s -o out.s
 wrong 5 'mx: nowhere/out.s: this file cannot be written' cc good.c -o nowhere/out.s
-wrong 2 'mx: usage: ./mx cc [options of gcc] FILE.c .. -o OUT.s, or ./mx c FILE.c [options of run]' cc good.c
+wrong 2 'mx: usage: ./mx cc [options of gcc] FILE.c .. -o OUT.s' cc good.c
+wrong 2 'mx: good.c: this file is read, and -o would write it' cc good.c -o good.c
+wrong 2 'mx: ./good.c: this file is read, and -o would write it' cc good.c second.c -o ./good.c
+[ "$(wc -l <"$work/good.c")" -eq 3 ] || tell 'cc good.c -o good.c' 'the file was written'
+mkdir -p "$top/.mx/probe" "$work/probe"
+wrong 2 'mx: -O/../../probe: unknown level: expected -O0, -O1, -O2, -O3, -Os, -Og or -Ofast' cc -O/../../probe good.c -o out.s
+wrong 2 'mx: -c: this option of gcc is not taken: ./mx cc writes a source, and -E preprocesses' cc -c good.c -o out.s
+[ -d "$top/.mx/probe" ] || tell 'cc -O/../../probe' 'a folder was removed'
+rmdir "$top/.mx/probe"
+"$top/checks/cc_cases.py" || failed=$((failed + 1))
 echo "$failed failed"
 [ $failed -eq 0 ]

@@ -95,8 +95,9 @@ ANSWERS = set()
 
 def good(client):
     status, body = client.send(client.post({"source": SOURCE, "budget": random.randrange(20, 1000)}))
-    ANSWERS.add(tuple(json.loads(body)))
-    return status if json.loads(body)["text"].startswith("halted\ncycles 12\n") else 0
+    told = json.loads(body)
+    ANSWERS.add(tuple(told))
+    return status if told.get("text", "").startswith("halted\ncycles 12\n") else 0
 
 
 def drawn(client):

@@ -44,17 +44,13 @@ def compile_to(source, level, to, more=()):
         raise Fault(f'gcc: {done.stderr.decode()[:300]}')
 
 
-def compile_library(level, folder):
-    """The assembly of the library, whose own assembly is taken as it is."""
-    os.makedirs(folder, exist_ok=True)
-    files = []
-    for name in sorted(os.listdir(LIBRARY)):
-        if name.endswith('.c'):
-            files.append(f'{folder}/{name[:-2]}.s')
-            compile_to(f'{LIBRARY}/{name}', level, files[-1])
-        elif name.endswith('.s'):
-            files.append(f'{LIBRARY}/{name}')
-    return files
+def compile_library(_level=None, _folder=None):
+    """The assembly of the library, which ./mx cc compiles once, at -O2, for programs of any level."""
+    done = shell([f'{TOP}/tools/cc.sh', TOP, 'library'])
+    if done.returncode:
+        raise Fault(f'the library: {done.stderr.decode()[:300]}')
+    folder = done.stdout.decode().rstrip('\n')
+    return [f'{folder}/{name}' for name in sorted(os.listdir(folder)) if name.endswith('.s')]
 
 
 def translate(files, to):

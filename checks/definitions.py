@@ -11,7 +11,6 @@ import re
 
 ROOT = pathlib.Path(__file__).resolve().parent.parent
 IMPORT = re.compile(r"(?:ghost |pub )*use Rattle\.(\w+)\.(specs|proofs)\.([\w.]+?)(?:\.\{(.*)\}| as (\w+))?;?$")
-CODE_IMPORT = re.compile(r"^use (\w+)(?:::\w+)*::(?:\{([^}]*)\}|(\w+));$")
 RECORD = re.compile(r"^ *(?:pub )?(?:record|data) (\S+).* where$")
 DEFINED = re.compile(r"^(?:  (?=abbrev))?(?:(?:abbrev|unfoldable|pub) )*([^\s:(){}]+) : ")
 NAME = re.compile(r"[^\s(){},;\[\]]+")
@@ -51,6 +50,7 @@ class File:
         lines = path.read_text().splitlines()
         self.path = path
         self.imports = imports_of(lines)
+        self.unread = [line for line in lines if line.startswith(("use ", "pub use ")) and not IMPORT.match(line)]
         self.passed_on = imports_of([line for line in lines if line.startswith("pub use ")])
         self.says = next((line[3:] for line in lines if line.startswith("-- ")), "")
         self.defined = {}
@@ -219,6 +219,8 @@ class Walk:
     def definition(self, crate, module, own):
         """Notes the lines of a definition that belong to the parts of this stage, and returns the names in them."""
         file = self.files[(crate, module)]
+        for line in file.unread:
+            self.fault(f"crates/{crate}/specs/{module}.antt: this import is not read: {line}")
         pick = self.slices.get((crate, module, own), lambda text: None)
         found = []
         left = False

@@ -136,7 +136,7 @@ def total_of(walk, part):
 
 
 def counted(number, noun):
-    return f"{number:,} {noun}" if number != 1 else f"1 {noun}"
+    return f"{number:,} {noun}s" if number != 1 else f"1 {noun}"
 
 
 def part_table(walk, part):
@@ -149,7 +149,7 @@ def part_table(walk, part):
         says = file.says if file.says.endswith(".") else f"{file.says[:1].upper()}{file.says[1:]}."
         text += f"| `{file.path.relative_to(ROOT)}` | {says}{meant_of(walk, part, key)} | {lines_of(walk.lines[part][key])} |\n"
     for path in sorted(code):
-        text += f"| `{path.relative_to(ROOT)}` | the types {listed(sorted(code[path]))} | {sum(code[path].values())} |\n"
+        text += f"| `{path.relative_to(ROOT)}` | The types {listed(sorted(code[path]))}. | {sum(code[path].values())} |\n"
     return text
 
 
@@ -214,11 +214,17 @@ def section(page, mark):
     return found[1] if found else None
 
 
+def comment_of(name):
+    """Returns the comment over a clause of the call."""
+    found = re.search(rf"((?: *// .*\n)+) *(?:ensures|requires) {name} \{{", TOP.read_text())
+    return " ".join(re.sub(r"(?m)^ *// ", "", found[1]).split()) if found else trusted.UNSAID
+
+
 def quote_table(page, mark, rows):
-    """Returns the table of quoted clauses, with the words that the page has for each name."""
+    """Returns the table of quoted clauses, with the words that the page has for each name; else those of the code."""
     words = {row[2].split(" ")[0]: row[1] for row in re.finditer(r"(?m)^\| (.*) \| `(.*)` \|$", section(page, mark) or "")}
     return ("| In words | In the code |\n|---|---|\n"
-            + "".join(f"| {words.get(row.split(' ')[0], trusted.UNSAID)} | `{row}` |\n" for row in rows))
+            + "".join(f"| {words.get(row.split(' ')[0]) or comment_of(row.split(' ')[0])} | `{row}` |\n" for row in rows))
 
 
 def wanted_sections(page, walk):
@@ -246,6 +252,9 @@ def faults_of_laws(walk):
 
 
 def main(arguments):
+    if arguments not in ([], ["--write"], ["--names"]):
+        print(f"reading.py: unknown arguments: {' '.join(arguments)}", file=sys.stderr)
+        return 2
     walk = walked()
     if arguments == ["--names"]:
         for part in sorted(walk.lines):
@@ -279,8 +288,8 @@ def main(arguments):
         faults.append("nothing was compared")
     for fault in faults:
         print(fault)
-    print(f"compared {names} definitions, {len(walk.constants)} constants, {quotes} quoted clauses and {trusted.compared(page)} trusted lines; "
-          + ", ".join(f"part {part} {total_of(walk, part)} lines" for part in "ABCD" + LATER))
+    print(", ".join(f"part {part} {total_of(walk, part):,} lines" for part in "ABCD" + LATER))
+    print(f"reading.py: compared {names:,} definitions, {len(walk.constants)} constants, {quotes} quoted clauses and {trusted.compared(page)} trusted lines")
     return 1 if faults else 0
 
 

@@ -262,7 +262,7 @@ reach is left out. Each ran to its halt with its input.
 ## Results
 
 - **Branch slots.** Of the two slots after each branch, call and jump of the examples' own functions, {before:.0f} % hold an
-  instruction from before it, {copies:.0f} % a copy of one from its target, and {empty:.0f} % a no-op. gcc's own filler has one slot
+  instruction from before it, {copies:.0f} % a copy of one from its target, and {empty:.0f} % a no-op. The filler of gcc has one slot
   to fill, and fills {gcc_slots:.0f} % of them on the same C.
 - **Load slots.** {loads:.0f} % of the places after a load hold an instruction that does not need what it loads. gcc's code for MIPS-I,
   which has the same delay, leaves {gcc_loads:.0f} % of them without a no-op.

@@ -76,8 +76,14 @@ def of_markdown(path):
         return text
 
     blank = True
+    generated = False
     for number, line in enumerate(open(f"{TOP}/{path}", encoding="utf-8"), 1):
         line = line.rstrip("\n")
+        # what a check writes from the code, between two marks, changes with the code and not with the page
+        if line.startswith("<!-- "):
+            generated = line != "<!-- end -->"
+        if generated or line.startswith("<!-- "):
+            continue
         if line.lstrip().startswith("```"):
             if lines:
                 yield start, flush()

@@ -110,7 +110,10 @@ def faults():
     return found
 
 
-def main():
+def main(arguments):
+    if arguments:
+        print(f"trusted.py: unknown arguments: {' '.join(arguments)}", file=sys.stderr)
+        return 2
     page = PAGE.read_text()
     wrong = list(faults())
     number = 0
@@ -124,9 +127,9 @@ def main():
             wrong.append(f"docs/READING.md has no table of {path}")
     for it in wrong:
         print(it)
-    print(f"compared {number} trusted lines of {len(FILES)} files")
+    print(f"trusted.py: compared {number} trusted lines of {len(FILES)} files")
     return 1 if wrong or not number else 0
 
 
 if __name__ == "__main__":
-    sys.exit(main())
+    sys.exit(main(sys.argv[1:]))

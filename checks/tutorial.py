@@ -7,7 +7,7 @@ A block of code that is marked `console` has commands, each after `$ `, and afte
 standard error together. A line `..` is any number of lines. A command that does not end with 0 has a comment `# exit N`.
 The commands of a document run in a folder of their own, in order, which has links to the files of the repository: so a
 command may write a file, and no tracked file is changed. Commands in C need gcc-mips-linux-gnu, and are left out without it.
-The programs are those of MX_RUN, MX_LAB and MX_CC if these are set, else those that ./mx takes.
+The programs are those that ./mx takes: of MX_RUN, MX_LAB and MX_CC if these are set.
 It prints how many commands ran and how many lines it compared, and ends with 1 if one differs, or if a lesson has none.
 With MX_SAMPLE=1 it takes README and the first three lessons."""
 import os
@@ -21,7 +21,6 @@ from typing import NamedTuple
 TOP = os.path.dirname(os.path.dirname(os.path.abspath(__file__)))
 LESSONS = "docs/tutorial/"
 SAMPLE = r"README.md|docs/tutorial/[123]"
-PROGRAMS = {"mx_run": "MX_RUN", "mx_lab": "MX_LAB", "mx_cc": "MX_CC"}
 
 
 class Step(NamedTuple):
@@ -64,17 +63,11 @@ def fits(wanted, printed):
 
 
 def room():
-    """Makes a folder with links to what is in the repository. With programs that are given, ./mx there takes these."""
-    folder, given = tempfile.mkdtemp(), {name: os.environ[key] for name, key in PROGRAMS.items() if os.environ.get(key)}
+    """Makes a folder with links to what is in the repository."""
+    folder = tempfile.mkdtemp()
     for name in os.listdir(TOP):
-        if name not in (".git", "out") and not (given and name in (".mx", "mx")):
+        if name not in (".git", "out"):
             os.symlink(f"{TOP}/{name}", f"{folder}/{name}")
-    if given:
-        shutil.copy(f"{TOP}/mx", f"{folder}/mx")
-        os.mkdir(f"{folder}/.mx")
-        for name, path in given.items():
-            shutil.copyfile(path, f"{folder}/.mx/{name}")
-            os.chmod(f"{folder}/.mx/{name}", 0o755)
     return folder
 
 

@@ -1,12 +1,8 @@
-/* The end of the program. The status stands in register 2 when the machine halts, as it does when main returns. */
+/* The end of a program that fails. The status is in register 2 when the machine halts. */
 #include <stdio.h>
 #include <stdlib.h>
 
 #define ABORTED 134     /* what a shell tells of a program that aborts */
-
-void exit(int status) {
-    _Exit(status);
-}
 
 void abort(void) {
     _Exit(ABORTED);

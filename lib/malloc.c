@@ -1,6 +1,7 @@
 /* The heap: what lies between the data and the stack. It is one row of blocks, each a head and then what the program
    got; the first free one that is large enough is taken. A free block takes in those behind it when it is met. */
 #include "heap.h"
+#include "start.h"
 #include <errno.h>
 #include <stdint.h>
 #include <stdlib.h>
@@ -14,6 +15,7 @@ typedef union {
 } head;
 
 #define HEAD sizeof(head)
+#define MARGIN 1024                 /* bytes below the stack that the heap leaves to the functions that are called next */
 
 static head *first, *past;          /* the row, and where it ends */
 static head *hint;                  /* no block before it is free */
@@ -51,6 +53,15 @@ static void *no_memory(void) {
     return NULL;
 }
 
+/* Lets the stack end at an address: no function may make a frame below it from now on. Answers 0 where the stack is there already. */
+static int reserve(char *end) {
+    if (end > (char *) __builtin_frame_address(0) - MARGIN)
+        return 0;
+    if (end > _stack_limit)
+        _stack_limit = end;
+    return 1;
+}
+
 void *malloc(size_t size) {
     if (!first)
         begin();
@@ -67,6 +78,8 @@ void *malloc(size_t size) {
         is_first = 0;
         if (block->size < needed)
             continue;
+        if (!reserve((char *) block + needed + HEAD))
+            return no_memory();
         split(block, needed);
         block->size |= IS_USED;
         if (block == hint)

@@ -1,5 +1,5 @@
  # What C cannot say: the end of the program, a byte of the input, and jumps out of functions. It is written as gcc
- # writes assembly, since the translator reads both alike. A break ends the program, and register 2 then tells its
+ # writes assembly, since the translator reads both alike. `break 1023` ends the program, and register 2 then has its
  # status. A jmp_buf is the number of its slot in jump.c, the stack pointer, the frame pointer and registers 16 to 21, a
  # word each (22 and 23 are the translator's). A place of code is only stored, loaded and jumped to.
 	.text
@@ -13,7 +13,7 @@ _Exit:
 	.mask	0x00000000,0
 	.fmask	0x00000000,0
 	move	$2,$4
-	break
+	break	1023
 	.end	_Exit
 	.size	_Exit, .-_Exit
 

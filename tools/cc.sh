@@ -1,12 +1,21 @@
 #!/bin/sh
 # C programs, for ./mx:
-#   tools/cc.sh TOP cc [options of gcc] FILE.c .. -o OUT.s    compiles, and translates to one source
-#   tools/cc.sh TOP c FILE.c [options of run]                 compiles one file at -O2, and runs it
+#   tools/cc.sh TOP cc [options of gcc] FILE.c .. -o OUT.s             compiles, and translates to one source
+#   tools/cc.sh TOP c [options] FILE.c .. [-- ARGUMENT ..]             compiles, and runs like the program itself
+#   tools/cc.sh TOP library                                            compiles the library, and prints the folder that has it
 # TOP is the repository's top folder. Files that end in .s are taken as assembly. ./mx is called for the programs mx_cc
-# (as `./mx translate`) and mx_run; MX_FLAGS, if it is set, stands before their command, as --quick does.
+# (as `./mx translate`) and mx_run; MX_FLAGS, if it is set, is put before their command, as --quick is. MX_LIBRARY names another
+# folder than .mx for the compiled library. Where it cannot be written, the library is compiled for one use.
 top=$1
+kept=${MX_LIBRARY:-$top/.mx}     # where the compiled library is kept
 gcc=mips-linux-gnu-gcc
-use='usage: ./mx cc [options of gcc] FILE.c .. -o OUT.s, or ./mx c FILE.c [options of run]'
+use_cc='./mx cc [options of gcc] FILE.c .. -o OUT.s'
+use_c='./mx c [options of gcc] FILE.c .. [--input FILE] [--budget N] [--interrupts FILE] [--report[=FILE]] [-- ARGUMENT ..]'
+most_cycles=100000000       # the most that `run` takes
+most_statements=20,000
+
+# Whether a program is proved is not said where one is run like any other.
+export MX_QUIET=1
 
 # Says what is wrong, and ends with a status.
 fail() {
@@ -14,40 +23,109 @@ fail() {
     exit "$2"
 }
 
-# A list has a word a line, since a name may have blanks and the signs of patterns.
+# A list has an item a line, since a name may have blanks and the signs of patterns.
 line_feed='
 '
 IFS=$line_feed
 set -f
 
-# Compiles the file $1 to the assembly $2, with the options behind them.
+# Compiles the file $1 to the assembly $2, with the options after them.
 compile() {
-    source=$1
-    target=$2
+    from=$1
+    to=$2
     shift 2
     # shellcheck disable=SC2046
-    "$gcc" -S $(cat "$top/lib/flags") -nostdinc -isystem "$top/lib/include" "$@" "$source" -o "$target"
+    "$gcc" -S $(cat "$top/lib/flags") -nostdinc -isystem "$top/lib/include" "$@" "$from" -o "$to"
 }
 
-# Leaves the assembly of the library at the level $1 in the folder $library, where it is not there or older than its source.
+# The names that the files of assembly define for others, sorted.
+names_of() {
+    LC_ALL=C awk '
+        FNR == 1 { split("", global) }
+        $1 == ".globl" || $1 == ".global" || $1 == ".weak" { global[$2] = 1 }
+        $1 == ".comm" { split($2, part, ","); print part[1] }
+        /^[A-Za-z_.$][A-Za-z0-9_.$]*:/ { name = $0; sub(/:.*/, "", name); if (name in global) print name }
+    ' "$@" | LC_ALL=C sort -u
+}
+
+# Leaves the assembly of the library, compiled at -O2, in the folder $library. Its name is that of a checksum of all that it is made
+# of, and it is renamed into its place when it is whole, so that two of these may work side by side.
 compile_library() {
-    library=$top/.mx/library$1
-    newer=$(find "$top/lib" -type f -newer "$library/done" -print 2>&1 | head -n 1)
-    [ -e "$library/done" ] && [ -z "$newer" ] && return
-    rm -rf "$library"
-    mkdir -p "$library" || exit 10
+    sum=$({ find "$top/lib" -type f -print | LC_ALL=C sort | tr '\n' '\0' | xargs -0 cat; "$gcc" --version; cat "$0"; } | cksum | tr ' ' '-')
+    library=$kept/library-$sum
+    [ -d "$library" ] && return
+    mkdir -p "$kept" 2>/dev/null
+    new=$(mktemp -d "$kept/new-library-XXXXXX" 2>/dev/null) || new=$work/library
+    mkdir -p "$new" || exit 10
     set +f
     for file in "$top"/lib/*.c; do
-        compile "$file" "$library/$(basename "$file" .c).s" "$1" || exit 1
+        compile "$file" "$new/$(basename "$file" .c).s" -O2 || exit 1
     done
-    for file in "$top"/lib/*.s; do
-        if [ -e "$file" ]; then cp "$file" "$library/" || exit 10; fi
-    done
+    cp "$top"/lib/*.s "$new/" && names_of "$new"/*.s >"$new/names" || exit 10
     set -f
-    : >"$library/done"
+    chmod 755 "$new"
+    case $new in
+        "$work"/*) library=$new ;;
+        *)
+            # where another one was faster, its library is the same
+            mv -T "$new" "$library" 2>/dev/null || rm -rf "$new"
+            ;;
+    esac
 }
 
-# The place in C that the line $2 of the assembly $1 of a file comes from, or nothing where gcc tells none, as of data.
+# Leaves the library for the names in the file $1, which the program defines itself, in the folder $library: what the library defines
+# under such a name gets another one, so that the library goes on to call its own. Only of malloc and its like the program's take
+# the place of the library's everywhere, since what one gives the other frees.
+rename_library() {
+    mkdir "$work/renamed" || exit 10
+    set +f
+    for file in "$library"/*.s; do
+        LC_ALL=C awk -v list="$1" '
+            BEGIN {
+                while ((getline name <list) > 0) { taken[name] = 1 }
+                everywhere = " malloc calloc realloc free aligned_alloc "
+            }
+            function renamed(text, all,    out, name) {
+                out = ""
+                while (match(text, /[A-Za-z_.$][A-Za-z0-9_.$]*/)) {
+                    name = substr(text, RSTART, RLENGTH)
+                    if (name in taken && (all || !index(everywhere, " " name " "))) name = "_library." name
+                    out = out substr(text, 1, RSTART - 1) name
+                    text = substr(text, RSTART + RLENGTH)
+                }
+                return out text
+            }
+            /^[A-Za-z_.$]/ { print renamed($0, 1); next }
+            $1 ~ /^\.(ascii|asciz|string|file|loc|ident|section)$/ { print; next }
+            $1 ~ /^\.(globl|global|weak|ent|end|type|size|comm|local)$/ { print renamed($0, 1); next }
+            match($0, /^[ \t]*[^ \t]+[ \t]+/) { print substr($0, 1, RLENGTH) renamed(substr($0, RLENGTH + 1), 0); next }
+            { print }
+        ' "$file" >"$work/renamed/$(basename "$file")" || exit 10
+    done
+    set -f
+    library=$work/renamed
+}
+
+# The assembly of the arguments that a program finds: their number and their bytes.
+put_arguments() {
+    printf '\t.data\n\t.globl\t_argument_count\n\t.align\t2\n_argument_count:\n\t.word\t%d\n' $#
+    printf '\t.globl\t_arguments\n\t.align\t2\n_arguments:\n'
+    number=0
+    for word; do
+        printf '\t.word\targument.%d\n' $number
+        number=$((number + 1))
+    done
+    printf '\t.word\t0\n'
+    number=0
+    for word; do
+        printf 'argument.%d:\n' $number
+        printf '%s' "$word" | od -An -v -tu1 | tr -s ' ' "$line_feed" | sed -n 's/^[0-9][0-9]*$/\t.byte\t&/p'
+        printf '\t.byte\t0\n'
+        number=$((number + 1))
+    done
+}
+
+# The place in C that the line $2 of the assembly $1 of a file comes from, or nothing where gcc names none, as of data.
 place_in_c() {
     awk -v last="$2" '
         $1 == ".file" && $2 ~ /^[0-9]+$/ { name = $0; sub(/^[^"]*"/, "", name); sub(/"[^"]*$/, "", name); names[$2] = name }
@@ -56,9 +134,9 @@ place_in_c() {
         END { if (split(place, it, " ")) print names[it[1]] ":" it[2] }' "$1"
 }
 
-# Tells what $work/said has of a fault, by the names of the files as they were given, and by lines of C where they are C. In the
-# folder of the work a file has its number as its name, and the assembly of a file in C has `.s` behind it.
-tell_fault() {
+# Prints what $work/said has of a fault, by the names of the files as they were given, and by lines of C where they are C. In the
+# folder of the work a file has its number as its name, and the assembly of a file in C has `.s` after it.
+print_fault() {
     IFS=: read -r name line rest <"$work/said"
     number=0
     for file in $files; do
@@ -79,23 +157,18 @@ tell_fault() {
 }
 
 # Compiles the files of the list $files at the level $level with the options of the list $options, and translates them with
-# the library to the file $1.
+# the library to $work/program. What follows are the arguments of the program.
 translate() {
-    case $1 in
-        /*) out=$1 ;;
-        *) out=$PWD/$1 ;;
-    esac
     for file in $files; do
-        [ -f "$file" ] && [ -r "$file" ] || fail "$file: there is no such file, or it cannot be read" 4
+        if [ ! -f "$file" ] || [ ! -r "$file" ]; then fail "$file: there is no such file, or it cannot be read" 4; fi
     done
-    compile_library "$level"
     names=
     number=0
     for file in $files; do
         number=$((number + 1))
         name=$number
         case $file in
-            *.s) cp "$file" "$work/$name" || exit 4 ;;
+            *.s) cp -- "$file" "$work/$name" || exit 4 ;;
             *)
                 name=$name.s
                 # shellcheck disable=SC2086
@@ -104,21 +177,127 @@ translate() {
         esac
         names=$names$line_feed$name
     done
+    compile_library
+    # shellcheck disable=SC2086
+    (cd "$work" && names_of $names | LC_ALL=C comm -12 - "$library/names") >"$work/taken"
+    [ -s "$work/taken" ] && rename_library "$work/taken"
+    put_arguments "$@" >"$work/arguments"
     set +f
     # shellcheck disable=SC2086
-    (cd "$work" && "$top/mx" ${MX_FLAGS-} translate $names "$library"/*.s -o "$out") >"$work/said"
+    (cd "$work" && "$top/mx" ${MX_FLAGS-} translate $names arguments "$library"/*.s -o program) >"$work/said"
     status=$?
     set -f
     case $status in
         0) ;;
-        1) tell_fault ;;
-        5) fail "$1: this file cannot be written" 5 ;;
-        *) cat "$work/said" ;;
+        1) print_fault >&2 ;;
+        5) fail 'the folder for temporary files is full' 5 ;;
+        *) cat "$work/said" >&2 ;;
     esac
     return $status
 }
 
-[ $# -ge 3 ] || fail "$use" 2
+# Gives the file $1 what $work/program has: all of it, or nothing where it cannot be written.
+deliver() {
+    if [ -e "$1" ] && [ ! -f "$1" ]; then
+        cat "$work/program" >"$1" || fail "$1: this file cannot be written" 5
+        return
+    fi
+    whole=$(readlink -f -- "$1") || fail "$1: this file cannot be written" 5
+    room=$(mktemp "$(dirname -- "$whole")/.mx-XXXXXX" 2>/dev/null) || fail "$1: this file cannot be written" 5
+    if [ -e "$whole" ]; then
+        if [ ! -w "$whole" ]; then
+            rm -f "$room"
+            fail "$1: this file cannot be written" 5
+        fi
+        chmod --reference="$whole" "$room"
+    else
+        chmod "$(printf %o $((0666 & ~0$(umask))))" "$room"
+    fi
+    if ! cat "$work/program" >"$room" 2>/dev/null || ! mv -f "$room" "$whole"; then
+        rm -f "$room"
+        fail "$1: this file cannot be written" 5
+    fi
+}
+
+# How large the translation is: its last line says so.
+print_size() {
+    tail -n 1 "$work/program" | sed -n "s|^; \([0-9]*\) statements, \([0-9]*\) instructions, \([0-9]*\) data words\$|mx: $1: \1 statements of at most $most_statements, for \2 instructions; \3 data words|p" >&2
+}
+
+# Reads an option of gcc that has the next word as its value. Answers whether it is one.
+has_value() {
+    case $1 in
+        -I | -D | -U | -include | -imacros | -isystem | -idirafter | -iquote) return 0 ;;
+        *) return 1 ;;
+    esac
+}
+
+# Adds the option $1 of gcc.
+add_option() {
+    case $1 in
+        -O | -O0 | -O1 | -O2 | -O3 | -Os | -Og | -Oz | -Ofast) level=$1 ;;
+        -O*) fail "$1: unknown level: expected -O0, -O1, -O2, -O3, -Os, -Og or -Ofast" 2 ;;
+        -E) preprocess=-E ;;
+        -c | -S | -M | -MM | -MD | -MMD | -MF* | -shared | -static | -r | -save-temps* | -pipe | -o*)
+            fail "$1: this option of gcc is not taken: ./mx cc writes a source, and -E preprocesses" 2
+            ;;
+        -l*) ;;
+        *) options=$options$line_feed$1 ;;
+    esac
+}
+
+# Runs $work/program with the options of `run` that follow, which leaves the report in $work/report.
+run_program() {
+    # shellcheck disable=SC2086
+    MX_GONE=$work/program "$top/mx" ${MX_FLAGS-} run "$work/program" "$@" >"$work/report"
+}
+
+# The line of C of the call that left the address $1 of the linked program: the call is three words before it, since two follow it in
+# its delay slots.
+line_called() {
+    # shellcheck disable=SC2086
+    "$top/mx" ${MX_FLAGS-} list "$work/program" 2>/dev/null | LC_ALL=C awk -v address="$(printf %08x $((0x$1 - 3)))" '
+        FILENAME == "-" { if ($1 == address && $3 ~ /^[0-9]+$/) line = $3; next }
+        FNR >= line { exit }
+        /^; .*:[0-9]+$/ { place = substr($0, 3) }
+        END { print place }' - "$work/program"
+}
+
+# Why a program was ended, which has this status in r2.
+reason_of() {
+    case $1 in
+        136) echo 'a division by zero' ;;
+        133) echo 'a trap, as of __builtin_trap' ;;
+        139) echo 'a null pointer is used, or the stack is full' ;;
+        *) echo 'a trap' ;;
+    esac
+}
+
+# Ends as the program did whose report is $work/report: its console goes to standard output, and its status is the exit status.
+end_like_program() {
+    at=$(LC_ALL=C grep -a -b -m 1 '^console [0-9][0-9]*$' "$work/report") || fail "$(head -n 1 "$work/report")" 10
+    from=${at%%:*}
+    header=${at#*:}
+    count=${header#console }
+    from=$((from + ${#header} + 2))
+    tail -c "+$from" "$work/report" | head -c "$count" || exit 5
+    tail -c "+$((from + count))" "$work/report" >"$work/registers"
+    case $report in
+        '') ;;
+        -) { head -c "$((from - 1))" "$work/report"; tail -c "+$((from + count))" "$work/report"; } >&2 ;;
+        *) cp "$work/report" "$report" || fail "$report: this file cannot be written" 5 ;;
+    esac
+    [ "$(head -n 1 "$work/report")" = halted ] || fail "the program did not end within $budget cycles: --budget N gives it more, up to 100,000,000" 3
+    status=$((0x$(sed -n 's/^r2 //p' "$work/registers" | head -n 1)))
+    link=$(sed -n 's/^r27 //p' "$work/registers" | head -n 1)
+    if [ "$link" != 00000000 ]; then
+        place=$(line_called "$link")
+        echo "mx: ${place:+$place: }$(reason_of $status)" >&2
+    fi
+    exit $((status & 255))
+}
+
+[ $# -ge 2 ] || fail "usage: $use_cc, or $use_c" 2
 command -v "$gcc" >/dev/null 2>&1 || fail 'install the Debian package gcc-mips-linux-gnu' 10
 work=$(mktemp -d) || exit 10
 trap 'rm -rf "$work"' EXIT
@@ -129,31 +308,109 @@ level=-O2
 options=
 files=
 target=
+preprocess=
 case $command in
     cc)
         while [ $# -gt 0 ]; do
             case $1 in
                 -o)
-                    [ $# -ge 2 ] || fail "$use" 2
+                    [ $# -ge 2 ] || fail "usage: $use_cc" 2
                     target=$2
                     shift
                     ;;
-                -O*) level=$1 ;;
-                -*) options=$options$line_feed$1 ;;
+                -?*)
+                    if has_value "$1"; then
+                        [ $# -ge 2 ] || fail "usage: $use_cc" 2
+                        options=$options$line_feed$1
+                        shift
+                        options=$options$line_feed$1
+                    else
+                        add_option "$1"
+                    fi
+                    ;;
                 *) files=$files$line_feed$1 ;;
             esac
             shift
         done
-        if [ -z "$target" ] || [ -z "$files" ]; then fail "$use" 2; fi
-        translate "$target"
+        [ -n "$files" ] || fail "usage: $use_cc" 2
+        if [ -n "$preprocess" ]; then
+            # shellcheck disable=SC2046,SC2086
+            "$gcc" -E $(cat "$top/lib/flags") -nostdinc -isystem "$top/lib/include" "$level" $options $files >"$work/program" || exit 1
+            if [ -n "$target" ]; then deliver "$target"; else cat "$work/program" || exit 5; fi
+            exit 0
+        fi
+        [ -n "$target" ] || fail "usage: $use_cc" 2
+        for file in $files; do
+            [ "$(readlink -f -- "$file")" != "$(readlink -f -- "$target")" ] || fail "$target: this file is read, and -o would write it" 2
+        done
+        first=${files#"$line_feed"}
+        first=${first%%"$line_feed"*}
+        first=${first##*/}
+        translate "${first%.*}" || exit $?
+        deliver "$target"
+        print_size "$target"
         ;;
     c)
-        files=$1
-        shift
-        # (what that says must not name a file that is gone when it ends)
-        translate "$work/program" && MX_GONE=$work/program "$top/mx" ${MX_FLAGS-} run "$work/program" "$@"
+        runs=
+        budget=$most_cycles
+        report=
+        input=
+        while [ $# -gt 0 ]; do
+            case $1 in
+                --)
+                    shift
+                    break
+                    ;;
+                --budget | --input | --interrupts)
+                    [ $# -ge 2 ] || fail "usage: $use_c" 2
+                    case $1 in
+                        --budget) budget=$2 ;;
+                        --input) input=$2 ;;
+                        *) runs=$runs$line_feed$1$line_feed$2 ;;
+                    esac
+                    shift
+                    ;;
+                --report) report=- ;;
+                --report=?*) report=${1#--report=} ;;
+                -?*)
+                    if has_value "$1"; then
+                        [ $# -ge 2 ] || fail "usage: $use_c" 2
+                        options=$options$line_feed$1
+                        shift
+                        options=$options$line_feed$1
+                    else
+                        add_option "$1"
+                    fi
+                    ;;
+                *) files=$files$line_feed$1 ;;
+            esac
+            shift
+        done
+        if [ -z "$files" ] || [ -n "$preprocess" ]; then fail "usage: $use_c" 2; fi
+        first=${files#"$line_feed"}
+        first=${first%%"$line_feed"*}
+        translate "$first" "$@" || exit $?
+        if grep -q -x .input "$work/program"; then
+            runs=$runs$line_feed--input$line_feed${input:--}
+        elif [ -n "$input" ]; then
+            runs=$runs$line_feed--input$line_feed$input
+        fi
+        # shellcheck disable=SC2086
+        run_program --budget "$budget" $runs
+        status=$?
+        case $status in
+            0 | 3) end_like_program ;;
+            *)
+                cat "$work/report" >&2
+                exit $status
+                ;;
+        esac
+        ;;
+    library)
+        compile_library
+        echo "$library"
         ;;
     *)
-        fail "$use" 2
+        fail "usage: $use_cc, or $use_c" 2
         ;;
 esac

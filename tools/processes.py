@@ -45,15 +45,16 @@ class Commands:
     def __exit__(self, *_):
         self.stop()
 
-    def run(self, folder, *words, **how):
-        """Runs a command in a folder, and returns its status and what it printed."""
+    def run(self, folder, *words, given=None, seconds=None, **how):
+        """Runs a command in a folder, with what it is given on standard input, and returns its status and what it printed. It is ended
+        after so many seconds, where they are said."""
         if self.is_stopped:
             return 1, ""
         how = {"stdin": subprocess.DEVNULL, "stdout": subprocess.PIPE, "stderr": subprocess.STDOUT, "text": True, "errors": "replace", **how}
         with subprocess.Popen(words, cwd=folder, start_new_session=True, **how) as command:
             self.running.add(command)
             try:
-                said, _ = command.communicate()
+                said, _ = command.communicate(given, seconds)
             except BaseException:
                 end(command)
                 raise

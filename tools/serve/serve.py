@@ -373,10 +373,10 @@ class Handler(http.server.BaseHTTPRequestHandler):
     def read_body(self):
         """Returns the body of a request."""
         if self.headers.get("Transfer-Encoding") is not None:
-            raise Refused(411, "the length of the body is to be told")
+            raise Refused(411, "the header Content-Length is missing or invalid")
         length = self.headers.get("Content-Length", "")
         if not re.fullmatch("[0-9]{1,12}", length, re.ASCII):
-            raise Refused(411, "the length of the body is to be told")
+            raise Refused(411, "the header Content-Length is missing or invalid")
         if int(length) > fields.MOST_BODY:
             raise Refused(413, f"a body has at most {fields.MOST_BODY} bytes")
         self.timed.give(BODY_SECONDS)

@@ -57,6 +57,18 @@ fn fault_line(
     Ok(line)
 }
 
+/// The line for a source of too many statements, with the function that crosses the limit.
+fn too_many(alloc: Global, count: u32, crossing: Option<&[u8]>) -> Result<Vec<u8>, AllocError> {
+    let text = format!(in alloc; "{count} statements, and a source has at most 20000")?;
+    let mut line = text.into_bytes();
+    if let Some(name) = crossing {
+        line.extend_from_slice(b"; this function crosses the limit: ")?;
+        line.extend_from_slice(name)?;
+    }
+    line.push(b'\n')?;
+    Ok(line)
+}
+
 /// The line for what is wrong, or nothing where memory ran out.
 pub(crate) fn message(
     alloc: Global,
@@ -67,8 +79,8 @@ pub(crate) fn message(
     let text = match *error {
         TranslateError::Fault(fault) => return fault_line(alloc, names, texts, &fault),
         TranslateError::NoMain => format!(in alloc; "no file defines main\n")?,
-        TranslateError::Statements(count) => {
-            format!(in alloc; "{count} statements, and a source has at most 20000\n")?
+        TranslateError::Statements(count, crossing) => {
+            return too_many(alloc, count, crossing);
         }
         TranslateError::Words(count) => {
             format!(in alloc;

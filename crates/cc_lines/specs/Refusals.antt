@@ -26,6 +26,9 @@ sentences =
     ∷ (codes "a symbol that is defined twice", refusal.DefinedTwice)
     ∷ (codes "a symbol that is defined nowhere", refusal.Undefined)
     ∷ (codes "a label that is no place to go to", refusal.NoPlace)
+    ∷ (codes "a halfword or a word at an address that is not a multiple of its size", refusal.Misaligned)
+    ∷ (codes "a load or a store in code", refusal.CodeAsData)
+    ∷ (codes "a function that runs before or after main, which the start of the library does", refusal.Constructor)
     ∷ []
 
 -- the first refusal of which a sentence is said. Where each refusal's sentence leads back to it, no two say the same

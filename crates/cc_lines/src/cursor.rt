@@ -181,43 +181,64 @@ fn digit(byte: u8, base: u32) -> Option<u32>
     if value < base { Some(value) } else { None }
 }
 
-/// The number behind whose digits in a base one more stands, if it is below 2^32.
-fn with_digit(value: u32, base: u32, byte: u8) -> Option<u32> {
+/// The number with these digits in a base and one more after them, if it is below 2^64.
+fn with_digit(value: u64, base: u32, byte: u8) -> Option<u64> {
     let digit = digit(byte, base)?;
-    value.checked_mul(base)?.checked_add(digit)
+    value
+        .checked_mul(u64::from(base))?
+        .checked_add(u64::from(digit))
 }
 
-/// The number that digits spell in a base of at most 16, if it is below 2^32.
-fn digits(text: &[u8], base: u32) -> Option<u32>
+/// The number that digits spell in a base of at most 16, if it is below 2^64.
+fn digits(text: &[u8], base: u32) -> Option<u64>
     ensures none { text.now ≡ [] → result ≡ None }
 {
     if text.is_empty() {
         return None;
     }
-    let mut value = 0u32;
+    let mut value = 0u64;
     for byte in text {
         value = with_digit(value, base, *byte)?;
     }
     Some(value)
 }
 
-/// The number that a text spells, below 2^32, without a sign: decimal, octal behind a `0`, hexadecimal behind `0x`.
-fn unsigned(text: &[u8]) -> Option<u32> {
+/// The number that a text spells, below 2^64, without a sign: decimal, octal after a `0`, binary after `0b`, hexadecimal after
+/// `0x`.
+fn unsigned(text: &[u8]) -> Option<u64> {
     match text {
         [b'0', b'x' | b'X', rest @ ..] => digits(rest, 16),
+        [b'0', b'b' | b'B', rest @ ..] => digits(rest, 2),
         [b'0', _, ..] => digits(text, 8),
         _ => digits(text, 10),
     }
 }
 
+/// The number that a text spells, with a sign or without: whether it is negative, and its amount below 2^64.
+fn signed_number(text: &[u8]) -> Option<(bool, u64)> {
+    match text {
+        [b'-', rest @ ..] => Some((true, unsigned(trimmed_front(rest))?)),
+        [b'+', rest @ ..] => Some((false, unsigned(trimmed_front(rest))?)),
+        _ => Some((false, unsigned(text)?)),
+    }
+}
+
 /// The word that a text spells as a number from -(2^32 - 1) to 2^32 - 1, with a sign or without, modulo 2^32.
 pub(crate) fn number(text: &[u8]) -> Option<u32> {
-    match text {
-        [b'-', rest @ ..] => match unsigned(trimmed_front(rest)) {
-            Some(word) => Some(word.wrapping_neg()),
-            None => None,
-        },
-        [b'+', rest @ ..] => unsigned(trimmed_front(rest)),
-        _ => unsigned(text),
+    let (negative, amount) = signed_number(text)?;
+    match u32::try_from(amount) {
+        Ok(word) if negative => Some(word.wrapping_neg()),
+        Ok(word) => Some(word),
+        Err(_) => None,
     }
+}
+
+/// The double word that a text spells as a number from -(2^64 - 1) to 2^64 - 1, with a sign or without, modulo 2^64.
+pub(crate) fn wide_number(text: &[u8]) -> Option<u64> {
+    let (negative, amount) = signed_number(text)?;
+    Some(if negative {
+        amount.wrapping_neg()
+    } else {
+        amount
+    })
 }

@@ -12,6 +12,8 @@ pub enum Section {
     Data,
     /// Notes for debuggers and linkers, which are left out.
     Notes,
+    /// Functions that run before `main`, or after it, those with the least order first.
+    Calls { after: bool, order: u32 },
 }
 
 /// What a directive says. The name and the text that it is about stand beside it, in its line.
@@ -29,13 +31,16 @@ pub enum Directive {
     Common { size: u32, align: u32, local: bool },
     /// The next data stands at a multiple of so many bytes.
     Align(u32),
-    Space(u32),
-    /// Values of so many bytes each.
-    Data(u8),
+    /// So many bytes with one value.
+    Space { size: u32, fill: u8 },
+    /// Values of so many bytes each, which are at multiples of their size where they are `aligned`.
+    Data { bytes: u8, aligned: bool },
     /// Quoted texts, ended by a byte 0 each or not.
     Text { ended: bool },
     /// One name for what another names.
     Alias,
+    /// A name for where it is in its section.
+    Here,
     /// `.set reorder` and `.set noreorder`: whether jumps have no delay slots, or have.
     Reorder(bool),
     /// The line of the source file with this number that the next statements come from.
@@ -68,6 +73,7 @@ enum Form {
     Mask,
     Common { local: bool },
     Align,
+    ByteAlign,
     Space,
     Set,
     Location,
@@ -75,18 +81,57 @@ enum Form {
 }
 
 /// The words of each form.
-const FORMS: [(&[&str], Form); 23] = [
+const FORMS: [(&[&str], Form); 27] = [
     (&[".loc"], Form::Location),
     (
-        &[".word", ".4byte", ".long", ".int"],
-        Form::Says(Directive::Data(4)),
+        &[".word", ".long", ".int"],
+        Form::Says(Directive::Data {
+            bytes: 4,
+            aligned: true,
+        }),
     ),
     (
-        &[".half", ".2byte", ".short", ".hword"],
-        Form::Says(Directive::Data(2)),
+        &[".4byte"],
+        Form::Says(Directive::Data {
+            bytes: 4,
+            aligned: false,
+        }),
     ),
-    (&[".byte"], Form::Says(Directive::Data(1))),
-    (&[".dword", ".8byte"], Form::Says(Directive::Data(8))),
+    (
+        &[".half", ".short", ".hword"],
+        Form::Says(Directive::Data {
+            bytes: 2,
+            aligned: true,
+        }),
+    ),
+    (
+        &[".2byte"],
+        Form::Says(Directive::Data {
+            bytes: 2,
+            aligned: false,
+        }),
+    ),
+    (
+        &[".byte"],
+        Form::Says(Directive::Data {
+            bytes: 1,
+            aligned: false,
+        }),
+    ),
+    (
+        &[".dword", ".quad"],
+        Form::Says(Directive::Data {
+            bytes: 8,
+            aligned: true,
+        }),
+    ),
+    (
+        &[".8byte"],
+        Form::Says(Directive::Data {
+            bytes: 8,
+            aligned: false,
+        }),
+    ),
     (&[".ascii"], Form::Says(Directive::Text { ended: false })),
     (
         &[".asciz", ".asciiz", ".string"],
@@ -94,6 +139,7 @@ const FORMS: [(&[&str], Form); 23] = [
     ),
     (&[".space", ".zero", ".skip"], Form::Space),
     (&[".align", ".p2align"], Form::Align),
+    (&[".balign"], Form::ByteAlign),
     (&[".comm"], Form::Common { local: false }),
     (&[".lcomm"], Form::Common { local: true }),
     (&[".text"], Form::Says(Directive::Section(Section::Code))),
@@ -193,16 +239,79 @@ fn holds_notes(name: &[u8]) -> bool {
     false
 }
 
+/// What the names of sections of functions that run before or after `main` begin with; whether they run after it, and whether the
+/// section with the highest number comes first.
+const CALLS: [(&str, bool, bool); 5] = [
+    (".preinit_array", false, false),
+    (".init_array", false, false),
+    (".ctors", false, true),
+    (".fini_array", true, false),
+    (".dtors", true, true),
+];
+
+/// The order of a section of such functions without a number, which come last before `main`.
+const LAST_ORDER: u32 = 65535;
+
+/// The order of a section of such functions, of whose name this is the part after its kind.
+fn order_of(text: &[u8], reversed: bool) -> u32 {
+    let order = match text {
+        [b'.', digits @ ..] => decimal(digits).unwrap_or(LAST_ORDER),
+        _ => return LAST_ORDER,
+    };
+    if reversed {
+        LAST_ORDER.saturating_sub(order)
+    } else {
+        order
+    }
+}
+
+/// The number that decimal digits spell, of which the first may be zeros.
+fn decimal(digits: &[u8]) -> Option<u32> {
+    let mut value = 0u32;
+    for digit in digits {
+        if !digit.is_ascii_digit() {
+            return None;
+        }
+        value = value
+            .checked_mul(10)?
+            .checked_add(u32::from(digit.wrapping_sub(b'0')))?;
+    }
+    Some(value)
+}
+
+/// The section of functions that run before or after `main` with this name, if it is one.
+fn calls_named(name: &[u8]) -> Option<Section> {
+    for (front, after, reversed) in &CALLS {
+        if name.starts_with(front.as_bytes()) {
+            let order = order_of(name.get(front.len()..).unwrap_or(&[]), *reversed);
+            return Some(Section::Calls {
+                after: *after,
+                order,
+            });
+        }
+    }
+    None
+}
+
 /// The section that a name and its flags tell.
 fn section_named(text: &[u8]) -> Section {
     let name = first_part(text);
-    if name.starts_with(b".text") {
+    if let Some(section) = calls_named(name) {
+        return section;
+    }
+    if name.starts_with(b".text") || holds_code(text) {
         Section::Code
     } else if holds_notes(name) {
         Section::Notes
     } else {
         Section::Data
     }
+}
+
+/// Whether the flags after a section's name, in quotes, say that it holds code.
+fn holds_code(text: &[u8]) -> bool {
+    let flags = first_part(split_at_byte(text, b',').1);
+    flags.starts_with(b"\"") && flags.contains(&b'x')
 }
 
 /// `.set`: one name for another, or a mode of the assembler.
@@ -220,10 +329,10 @@ fn set_read(text: &[u8]) -> Result<Directive, Refusal> {
     alias_read(trimmed(name), trimmed(target))
 }
 
-/// One name for another. A name for the place where it stands is no name for a symbol.
+/// One name for another, or for where it is itself.
 fn alias_read(name: &[u8], target: &[u8]) -> Result<Directive, Refusal> {
     if target == b".".as_slice() {
-        return Ok(Directive::Ignored);
+        return named(name, Directive::Here);
     }
     match value_read(target)? {
         Value::Symbol(0) => named(name, Directive::Alias),
@@ -278,10 +387,24 @@ fn align_read(text: &[u8]) -> Result<Directive, Refusal> {
     }
 }
 
-/// So many bytes of 0.
+/// `.balign 4`: to a multiple of a number that is a power of two; 0 says nothing.
+fn byte_align_read(text: &[u8]) -> Result<Directive, Refusal> {
+    match number_read(first_part(text))? {
+        0 => Ok(Directive::Align(1)),
+        align @ 1..=32768 if align.is_power_of_two() => Ok(Directive::Align(align)),
+        _ => Err(Refusal::BadNumber),
+    }
+}
+
+/// So many bytes of 0, or of the number after a comma, of which the low byte counts.
 fn space_read(text: &[u8]) -> Result<Directive, Refusal> {
     let size = number_read(first_part(text))?;
-    Ok(Directive::Space(size))
+    let fill = split_at_byte(text, b',').1;
+    if fill.is_empty() {
+        return Ok(Directive::Space { size, fill: 0 });
+    }
+    let [.., fill] = number_read(trimmed(fill))?.to_be_bytes();
+    Ok(Directive::Space { size, fill })
 }
 
 /// `.loc 1 12 3`.
@@ -311,6 +434,7 @@ fn said_by(form: Form, text: &[u8]) -> Result<Directive, Refusal> {
         Form::Mask => mask_read(text),
         Form::Common { local } => common_read(text, local),
         Form::Align => align_read(text),
+        Form::ByteAlign => byte_align_read(text),
         Form::Space => space_read(text),
         Form::Set => set_read(text),
         Form::Location => location_read(text),

@@ -180,7 +180,8 @@ pub enum Instruction {
     },
     Jump(LinkFrom),
     Call(LinkFrom),
-    Break,
+    /// A trap, with the code that it has.
+    Break(u32),
     Nop,
 }
 

@@ -8,6 +8,8 @@ use crate::table::{is_among, meaning_of};
 #[derive(Clone, Copy)]
 pub(crate) enum Mnemonic {
     Compute(Operation),
+    /// The same, whose number has 16 bits.
+    Immediate(Operation),
     Shift(Shift),
     Move,
     Negate,
@@ -31,7 +33,7 @@ pub(crate) enum Mnemonic {
 }
 
 /// The mnemonics of each meaning, but for branches on a condition.
-const MNEMONICS: [(&[&str], Mnemonic); 42] = [
+const MNEMONICS: [(&[&str], Mnemonic); 48] = [
     (&["lw"], Mnemonic::Load(Width::Word)),
     (&["lb"], Mnemonic::Load(Width::Byte { signed: true })),
     (&["lbu"], Mnemonic::Load(Width::Byte { signed: false })),
@@ -44,17 +46,20 @@ const MNEMONICS: [(&[&str], Mnemonic); 42] = [
     (&["sh"], Mnemonic::Store(Width::Half { signed: false })),
     (&["swl"], Mnemonic::Store(Width::Left)),
     (&["swr"], Mnemonic::Store(Width::Right)),
-    (
-        &["addiu", "addu", "addi", "add"],
-        Mnemonic::Compute(Operation::Add),
-    ),
+    (&["addu", "add"], Mnemonic::Compute(Operation::Add)),
+    (&["addiu", "addi"], Mnemonic::Immediate(Operation::Add)),
     (&["subu", "sub"], Mnemonic::Compute(Operation::Sub)),
-    (&["and", "andi"], Mnemonic::Compute(Operation::And)),
-    (&["or", "ori"], Mnemonic::Compute(Operation::Or)),
-    (&["xor", "xori"], Mnemonic::Compute(Operation::Xor)),
+    (&["and"], Mnemonic::Compute(Operation::And)),
+    (&["andi"], Mnemonic::Immediate(Operation::And)),
+    (&["or"], Mnemonic::Compute(Operation::Or)),
+    (&["ori"], Mnemonic::Immediate(Operation::Or)),
+    (&["xor"], Mnemonic::Compute(Operation::Xor)),
+    (&["xori"], Mnemonic::Immediate(Operation::Xor)),
     (&["nor"], Mnemonic::Compute(Operation::Nor)),
-    (&["slt", "slti"], Mnemonic::Compute(Operation::Less)),
-    (&["sltu", "sltiu"], Mnemonic::Compute(Operation::Lower)),
+    (&["slt"], Mnemonic::Compute(Operation::Less)),
+    (&["slti"], Mnemonic::Immediate(Operation::Less)),
+    (&["sltu"], Mnemonic::Compute(Operation::Lower)),
+    (&["sltiu"], Mnemonic::Immediate(Operation::Lower)),
     (&["move"], Mnemonic::Move),
     (&["negu", "neg"], Mnemonic::Negate),
     (&["not"], Mnemonic::Not),

@@ -3,7 +3,9 @@ ghost use Rattle.std.specs.Prelude.{◌≡◌, ◌<◌, ◌==◌, [], length, If
 ghost use Rattle.std.specs.List.{after_first};
 ghost use Rattle.cc_lines.specs.Registers.{IsTaken};
 
-use crate::cursor::{is_named, number, split_at_byte, split_name, trimmed, trimmed_front};
+use crate::cursor::{
+    is_named, number, split_at_byte, split_name, trimmed, trimmed_front, wide_number,
+};
 use crate::instruction::Register;
 use crate::refusal::Refusal;
 
@@ -29,11 +31,13 @@ pub(crate) enum Value {
     Symbol(u32),
 }
 
-/// What a data directive may hold: a number, or a symbol with an addend.
+/// What a data directive may hold: a number, a symbol with an addend, or the distance from one symbol to another.
 #[derive(Clone, Copy)]
 pub enum Word<'a> {
-    Number(u32),
+    /// Modulo 2^64.
+    Number(u64),
     Symbol(&'a [u8], u32),
+    Distance { from: &'a [u8], to: &'a [u8] },
 }
 
 /// The values of a data directive, one after the other.
@@ -45,6 +49,29 @@ pub struct Values<'a> {
 
 /// The names of registers that have one besides their number.
 const NAMED: [(&str, u8); 5] = [("zero", 0), ("sp", 29), ("fp", 30), ("s8", 30), ("ra", 31)];
+
+/// The letters of registers that are named by a letter and a digit: the letter, the first digit and the last, and the number of the
+/// first register.
+const LETTERED: [(u8, u8, u8, u8); 5] = [
+    (b'v', b'0', b'1', 2),
+    (b'a', b'0', b'3', 4),
+    (b't', b'0', b'7', 8),
+    (b's', b'0', b'7', 16),
+    (b't', b'8', b'9', 24),
+];
+
+/// The number of the register that a letter and a digit name.
+fn lettered(letter: u8, digit: u8) -> Option<u8>
+    ensures register { IfSome result (λ n. n < 32) }
+{
+    for (own, first, last, number) in &LETTERED {
+        if letter == *own && *first <= digit && digit <= *last {
+            let value = number.wrapping_add(digit.wrapping_sub(*first));
+            return if value < 32 { Some(value) } else { None };
+        }
+    }
+    None
+}
 
 /// The number of a register's name, in which the `$` is left out.
 fn register_number(name: &[u8]) -> Option<u8>
@@ -61,6 +88,7 @@ fn register_number(name: &[u8]) -> Option<u8>
             let value = (*tens - b'0') * 10 + (*units - b'0');
             if value < 32 { Some(value) } else { None }
         }
+        [letter, digit] => lettered(*letter, *digit),
         _ => None,
     }
 }
@@ -138,6 +166,47 @@ pub(crate) fn value_read(text: &[u8]) -> Result<Value, Refusal> {
     }
 }
 
+/// The text between parentheses that enclose all of a text, or the text itself.
+fn unparenthesized(text: &[u8]) -> &[u8] {
+    match text {
+        [b'(', inner @ .., b')'] => trimmed(inner),
+        _ => text,
+    }
+}
+
+/// The name of the symbol that a text subtracts from the one at its front, if it does so.
+fn subtracted(text: &[u8]) -> Option<&[u8]> {
+    let [b'-', rest @ ..] = trimmed(split_name(text).1) else {
+        return None;
+    };
+    let inner = unparenthesized(trimmed(rest));
+    let (name, behind) = split_name(inner);
+    match name {
+        [first, ..] if !first.is_ascii_digit() && trimmed(behind).is_empty() => Some(name),
+        _ => None,
+    }
+}
+
+/// What a data directive holds.
+fn word_read(text: &[u8]) -> Result<Word<'_>, Refusal> {
+    if let [b'0'..=b'9' | b'-' | b'+', ..] = text {
+        return match wide_number(text) {
+            Some(value) => Ok(Word::Number(value)),
+            None => Err(Refusal::BadNumber),
+        };
+    }
+    if let Some(from) = subtracted(text) {
+        return Ok(Word::Distance {
+            from,
+            to: split_name(text).0,
+        });
+    }
+    Ok(match value_read(text)? {
+        Value::Number(value) => Word::Number(u64::from(value)),
+        Value::Symbol(addend) => Word::Symbol(split_name(text).0, addend),
+    })
+}
+
 /// The operand in memory with this base, before which the text stands.
 fn memory_read(before: &[u8], base: Register) -> Result<Operand, Refusal> {
     if before.is_empty() {
@@ -198,10 +267,6 @@ impl<'a> Values<'a> {
         }
         let (first, rest) = split_at_byte(self.rest, b',');
         self.rest = rest;
-        let text = trimmed(first);
-        Ok(Some(match value_read(text)? {
-            Value::Number(value) => Word::Number(value),
-            Value::Symbol(addend) => Word::Symbol(split_name(text).0, addend),
-        }))
+        Ok(Some(word_read(trimmed(first))?))
     }
 }

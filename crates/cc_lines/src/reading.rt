@@ -2,7 +2,7 @@
 
 use crate::cursor::{split_at_byte, split_name, trimmed};
 use crate::instruction::{
-    Condition, Instruction, LinkFrom, Operation, Register, Source, Statement,
+    Condition, Instruction, LinkFrom, Operation, Register, Shift, Source, Statement,
 };
 use crate::mnemonic::{Mnemonic, mnemonic_named};
 use crate::operand::{Operand, operand_read};
@@ -170,6 +170,55 @@ fn call(operands: Operands) -> Result<Instruction, Refusal> {
     }
 }
 
+/// Whether the number of an instruction with 16 bits for it is one: for operations on bits from 0 to 65,535, for others from -32,768 to
+/// 32,767.
+fn fits_in_half(op: Operation, value: u32) -> bool {
+    match op {
+        Operation::And | Operation::Or | Operation::Xor | Operation::Nor => value <= 65535,
+        _ => value <= 32767 || value >= 0xffff_8000,
+    }
+}
+
+/// An operation on a register and a number with 16 bits.
+fn immediate(op: Operation, operands: Operands) -> Result<Instruction, Refusal> {
+    let (rd, rs, second) = three(operands)?;
+    match second {
+        Source::Number(value) if !fits_in_half(op, value) => Err(Refusal::BadNumber),
+        _ => Ok(Instruction::Compute { op, rd, rs, second }),
+    }
+}
+
+/// A shift, by 0 to 31 where that is a number.
+fn shift(op: Shift, operands: Operands) -> Result<Instruction, Refusal> {
+    let (rd, rs, by) = three(operands)?;
+    match by {
+        Source::Number(count) if count > 31 => Err(Refusal::BadNumber),
+        _ => Ok(Instruction::Shift { op, rd, rs, by }),
+    }
+}
+
+/// A trap with its code.
+fn trap(operands: Operands) -> Result<Instruction, Refusal> {
+    match operands {
+        Operands::None => Ok(Instruction::Break(0)),
+        Operands::One(Operand::Number(code))
+        | Operands::Two(Operand::Number(code), Operand::Number(_)) => {
+            Ok(Instruction::Break(code))
+        }
+        _ => Err(Refusal::BadOperands),
+    }
+}
+
+/// The upper half of a register's word.
+fn upper(operands: Operands) -> Result<Instruction, Refusal> {
+    match operands {
+        Operands::Two(Operand::Register(_), Operand::Number(number)) if number > 65535 => Err(
+            Refusal::BadNumber,
+        ),
+        _ => number(operands, 65536),
+    }
+}
+
 /// A number into a register.
 fn number(operands: Operands, factor: u32) -> Result<Instruction, Refusal> {
     match operands {
@@ -232,10 +281,8 @@ fn registers_alone(mnemonic: Mnemonic, operands: Operands) -> Result<Instruction
             let (rd, rs, second) = three(operands)?;
             Instruction::Compute { op, rd, rs, second }
         }
-        Mnemonic::Shift(op) => {
-            let (rd, rs, by) = three(operands)?;
-            Instruction::Shift { op, rd, rs, by }
-        }
+        Mnemonic::Immediate(op) => immediate(op, operands)?,
+        Mnemonic::Shift(op) => shift(op, operands)?,
         Mnemonic::Long(op) => {
             let (rs, rt) = long(operands)?;
             Instruction::Long { op, rs, rt }
@@ -248,7 +295,7 @@ fn registers_alone(mnemonic: Mnemonic, operands: Operands) -> Result<Instruction
             special,
             rs: one(operands)?,
         },
-        Mnemonic::Break => Instruction::Break,
+        Mnemonic::Break => trap(operands)?,
         _ => Instruction::Nop,
     })
 }
@@ -257,7 +304,7 @@ fn registers_alone(mnemonic: Mnemonic, operands: Operands) -> Result<Instruction
 fn instruction_of(mnemonic: Mnemonic, operands: Operands) -> Result<Instruction, Refusal> {
     match mnemonic {
         Mnemonic::Number => number(operands, 1),
-        Mnemonic::Upper => number(operands, 65536),
+        Mnemonic::Upper => upper(operands),
         Mnemonic::Address | Mnemonic::Load(_) | Mnemonic::Store(_) => at_place(mnemonic, operands),
         Mnemonic::Branch(condition) => branch(condition, operands),
         Mnemonic::BranchZero(condition) => branch_zero(condition, operands),
@@ -268,14 +315,14 @@ fn instruction_of(mnemonic: Mnemonic, operands: Operands) -> Result<Instruction,
     }
 }
 
-/// Whether an instruction names the symbol of its last operand. `break` and `nop` may stand before any operands.
+/// Whether an instruction names the symbol of its last operand. `nop` may stand before any operands.
 fn names_symbol(instruction: Instruction, operands: Operands) -> bool {
     let last = match operands {
         Operands::None => return false,
         Operands::One(last) | Operands::Two(_, last) | Operands::Three(_, _, last) => last,
     };
     match instruction {
-        Instruction::Break | Instruction::Nop => false,
+        Instruction::Break(_) | Instruction::Nop => false,
         _ => matches!(
             last,
             Operand::Symbol(_) | Operand::Memory { named: true, .. }

@@ -24,6 +24,9 @@ pub enum Refusal {
     DefinedTwice,
     Undefined,
     NoPlace,
+    Misaligned,
+    CodeAsData,
+    Constructor,
 }
 
 impl Refusal {
@@ -55,6 +58,11 @@ impl Refusal {
             Refusal::DefinedTwice => "a symbol that is defined twice",
             Refusal::Undefined => "a symbol that is defined nowhere",
             Refusal::NoPlace => "a label that is no place to go to",
+            Refusal::Misaligned =>
+                "a halfword or a word at an address that is not a multiple of its size",
+            Refusal::CodeAsData => "a load or a store in code",
+            Refusal::Constructor =>
+                "a function that runs before or after main, which the start of the library does",
         }
     }
 }

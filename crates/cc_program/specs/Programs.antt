@@ -8,7 +8,7 @@ use Rattle.cc_program.specs.declared.item.Item.{Item}
 use Rattle.cc_program.specs.declared.item.Function.{Function}
 use Rattle.cc_program.specs.declared.program.Program.{Program}
 use Rattle.cc_program.specs.declared.symbols.Meaning.{Meaning}
-use Rattle.cc_program.specs.declared.symbols.Meaning.TheVariants.{Unknown, Function as FunctionMeaning, Object, Alias, Limit}
+use Rattle.cc_program.specs.declared.symbols.Meaning.TheVariants.{Unknown, Function as FunctionMeaning, Place, Object, Alias, Limit}
 use Rattle.cc_program.specs.declared.symbols.Symbol.{Symbol}
 use Rattle.cc_program.specs.declared.symbols.TheConstants.{MOST_ALIASES}
 
@@ -56,15 +56,16 @@ datum_address p datum = unwrap_or (option_map (λ o. o.standing.address) (option
 abbrev pub place_of : Program → ℕ → Option ℕ
 place_of p number = option_and_then (λ f. descriptor_of p.symbols.list.items f.symbol) (slice_get p.functions.items number)
 
--- of a datum its own address, of a function that of the datum that holds its place, and the end of memory; else 0
-abbrev pub address_in : Program → Meaning → ℕ
-address_in p (Object datum) = datum_address p (Some datum)
-address_in p (FunctionMeaning number) = datum_address p (place_of p number)
-address_in p Limit = LIMIT
-address_in p _ = 0
+-- of a datum its own address, of a function or a label in one that of the datum that holds its place, and the end of memory; else 0
+abbrev pub address_in : Program → ℕ → Meaning → ℕ
+address_in p symbol (Object datum) = datum_address p (Some datum)
+address_in p symbol (FunctionMeaning number) = datum_address p (place_of p number)
+address_in p symbol (Place item function) = datum_address p (descriptor_of p.symbols.list.items symbol)
+address_in p symbol Limit = LIMIT
+address_in p symbol _ = 0
 
 abbrev pub address_of : Program → ℕ → ℕ
-address_of p number = address_in p (meaning_of p.symbols.list.items number)
+address_of p number = address_in p (resolved p.symbols.list.items number) (meaning_of p.symbols.list.items number)
 
 -- no item, function or datum was read
 abbrev pub IsEmpty : Program → Type 0

@@ -1,9 +1,10 @@
 //! Reading data.
 
-use crate::item::{Content, Object, Reference, number_behind};
+use crate::item::{Content, Object, Reference, Startup, number_behind};
 use crate::reading::Reader;
 use crate::symbols::Meaning;
 use cc_lines::{Directive, LineError, Refusal, Section, Values, Word, push_quoted};
+use cc_rules::aligned;
 
 /// How many bytes a datum has at most: more than any memory.
 const MOST_BYTES: u32 = 1_048_576;
@@ -28,47 +29,58 @@ fn measure(content: &mut Content) -> Result<(), LineError> {
     }
 }
 
-/// Adds a word's low bytes, most significant first.
-fn push_number(content: &mut Content, bytes: u8, value: u32) -> Result<(), LineError> {
-    let word = value.to_be_bytes();
-    if bytes == 8 {
-        let high = if value >= 0x8000_0000 { 255 } else { 0 };
-        content.bytes.extend_from_slice(&[high; 4])?;
+/// The largest number of 32 bits.
+const MOST_WORD: u64 = 0xffff_ffff;
+
+/// Whether a number modulo 2^64 is one from -(2^32 - 1) to 2^32 - 1.
+fn is_word(value: u64) -> bool {
+    value <= MOST_WORD || value >= 0u64.wrapping_sub(MOST_WORD)
+}
+
+/// Adds a number's low bytes, most significant first.
+fn push_number(content: &mut Content, bytes: u8, value: u64) -> Result<(), LineError> {
+    if bytes < 8 && !is_word(value) {
+        return Err(LineError::Refused(Refusal::BadNumber));
     }
-    let skipped = match bytes {
-        1 => 3,
-        2 => 2,
-        _ => 0,
-    };
+    let all = value.to_be_bytes();
+    let skipped = 8usize.saturating_sub(usize::from(bytes));
     content
         .bytes
-        .extend_from_slice(word.as_slice().get(skipped..).unwrap_or(&[]))?;
+        .extend_from_slice(all.as_slice().get(skipped..).unwrap_or(&[]))?;
     measure(content)
 }
 
-/// Adds a symbol's word.
-fn push_symbol(
-    content: &mut Content,
-    bytes: u8,
-    symbol: u32,
-    addend: u32,
-    line: u32,
-) -> Result<(), LineError> {
+/// Brings a datum to a multiple of so many bytes: all of it, and with zeros what is added next.
+fn pad(object: &mut Object, align: u32) -> Result<(), LineError> {
+    object.standing.align = object.standing.align.max(align);
+    let size = aligned(u64::from(object.content.size), align);
+    match u32::try_from(size) {
+        Ok(size) => {
+            object.content.size = size;
+            Ok(())
+        }
+        Err(_) => Err(LineError::Refused(Refusal::BadNumber)),
+    }
+}
+
+/// Adds a word for a symbol, or for a distance.
+fn push_reference(content: &mut Content, bytes: u8, one: Reference) -> Result<(), LineError> {
     if bytes != 4 || content.size % 4 != 0 {
         return Err(LineError::Refused(Refusal::UnalignedSymbol));
     }
     content.references.push(Reference {
         at: content.size,
-        symbol,
-        addend,
-        line,
+        symbol: one.symbol,
+        addend: one.addend,
+        from: one.from,
+        line: one.line,
     })?;
     push_number(content, 4, 0)
 }
 
 impl<'a> Reader<'a> {
     /// Adds a datum of zeros. Where it is weak, texts may share it.
-    pub(crate) fn add_object(
+    fn add_object(
         &mut self,
         name: &'a [u8],
         weak: bool,
@@ -83,19 +95,66 @@ impl<'a> Reader<'a> {
         Ok(())
     }
 
-    /// Begins a datum at its label.
+    /// Adds a datum that texts may share: the largest size and alignment that they name count.
+    pub(crate) fn add_common(
+        &mut self,
+        name: &'a [u8],
+        size: u32,
+        align: u32,
+    ) -> Result<(), LineError> {
+        let symbol = self.symbol(name)?;
+        if let Meaning::Object(number) = self.program.symbols.meaning(symbol) {
+            if let Some(object) = self.program.objects.as_mut_slice().get_mut(number as usize) {
+                object.content.size = object.content.size.max(size);
+                object.standing.align = object.standing.align.max(align);
+                return Ok(());
+            }
+        }
+        self.add_object(name, true, size, align)
+    }
+
+    /// The datum that lines add to, if it has no bytes so far.
+    fn begun(&self) -> Option<usize> {
+        let number = self.position.data.object?;
+        let object = self.program.objects.get(number)?;
+        if object.content.size == 0 {
+            Some(number)
+        } else {
+            None
+        }
+    }
+
+    /// A label of data: of a new datum, or one more of a datum that has no bytes so far.
     pub(crate) fn begin_object(&mut self, name: &'a [u8]) -> Result<(), LineError> {
-        let number = self.program.objects.len();
         let weak = self.is_weak(name);
+        if let Some(number) = self.begun() {
+            let symbol = self.symbol(name)?;
+            return self.define(symbol, Meaning::Object(number_behind(number)?), weak);
+        }
+        let before = self.position.data.object;
+        let number = self.program.objects.len();
         let align = self.position.data.align;
         self.position.data.align = 1;
         self.add_object(name, weak, 0, align)?;
+        self.follow(number, before)?;
         self.position.data.object = Some(number);
         Ok(())
     }
 
-    /// What a line of data adds to.
-    fn content(&mut self) -> Result<&mut Content, LineError> {
+    /// Lets the datum with a number follow another one.
+    fn follow(&mut self, number: usize, before: Option<usize>) -> Result<(), LineError> {
+        let Some(before) = before else {
+            return Ok(());
+        };
+        let before = number_behind(before)?;
+        if let Some(object) = self.program.objects.as_mut_slice().get_mut(number) {
+            object.after = Some(before);
+        }
+        Ok(())
+    }
+
+    /// The datum that a line of data adds to.
+    fn object(&mut self) -> Result<&mut Object, LineError> {
         let outside = LineError::Refused(Refusal::OutsideObject);
         if self.position.sections.now != Section::Data {
             return Err(outside);
@@ -104,25 +163,74 @@ impl<'a> Reader<'a> {
             return Err(outside);
         };
         match self.program.objects.as_mut_slice().get_mut(number) {
-            Some(object) => Ok(&mut object.content),
+            Some(object) => Ok(object),
             None => Err(outside),
         }
     }
 
-    /// Adds one value.
-    fn push_value(&mut self, bytes: u8, value: Word<'a>) -> Result<(), LineError> {
-        let line = self.position.line;
-        match value {
-            Word::Number(value) => push_number(self.content()?, bytes, value),
-            Word::Symbol(name, addend) => {
-                let symbol = self.symbol(name)?;
-                push_symbol(self.content()?, bytes, symbol, addend, line)
-            }
-        }
+    /// What a line of data adds to.
+    fn content(&mut self) -> Result<&mut Content, LineError> {
+        Ok(&mut self.object()?.content)
     }
 
-    /// Adds values.
-    fn push_values(&mut self, bytes: u8, text: &'a [u8]) -> Result<(), LineError> {
+    /// Adds one value.
+    fn push_value(&mut self, bytes: u8, value: Word<'a>) -> Result<(), LineError> {
+        let (symbol, addend, from) = match value {
+            Word::Number(value) => return push_number(self.content()?, bytes, value),
+            Word::Symbol(name, addend) => (self.symbol(name)?, addend, None),
+            Word::Distance { from, to } => {
+                let to = self.symbol(to)?;
+                (to, 0, Some(self.symbol(from)?))
+            }
+        };
+        let one = Reference {
+            at: 0,
+            symbol,
+            addend,
+            from,
+            line: self.position.line,
+        };
+        push_reference(self.content()?, bytes, one)
+    }
+
+    /// Adds the functions that values name to those that run before or after `main`.
+    fn push_calls(&mut self, after: bool, order: u32, text: &'a [u8]) -> Result<(), LineError> {
+        let mut values = Values::new(text);
+        for _ in 0..values.most() {
+            match values.next_value()? {
+                Some(Word::Symbol(name, 0)) => self.push_call(after, order, name)?,
+                Some(Word::Number(0)) => {}
+                Some(_) => return Err(LineError::Refused(Refusal::BadOperands)),
+                None => break,
+            }
+        }
+        Ok(())
+    }
+
+    /// Adds a function to those that run before or after `main`.
+    fn push_call(&mut self, after: bool, order: u32, name: &'a [u8]) -> Result<(), LineError> {
+        let symbol = self.symbol(name)?;
+        self.program.calls.push(Startup {
+            symbol,
+            after,
+            order,
+            unit: self.position.unit,
+            line: self.position.line,
+        })?;
+        Ok(())
+    }
+
+    /// Adds values, each at a multiple of its size where they are aligned.
+    fn push_values(
+        &mut self,
+        bytes: u8,
+        is_aligned: bool,
+        text: &'a [u8],
+    ) -> Result<(), LineError> {
+        if let Section::Calls { after, order } = self.position.sections.now {
+            return self.push_calls(after, order, text);
+        }
+        self.align(if is_aligned { u32::from(bytes) } else { 1 })?;
         fill(self.content()?)?;
         let mut values = Values::new(text);
         for _ in 0..values.most() {
@@ -134,26 +242,46 @@ impl<'a> Reader<'a> {
         Ok(())
     }
 
-    /// Adds bytes of 0.
-    fn add_space(&mut self, size: u32) -> Result<(), LineError> {
+    /// Adds bytes with one value.
+    fn add_space(&mut self, size: u32, byte: u8) -> Result<(), LineError> {
+        self.align(1)?;
         let content = self.content()?;
-        content.size = content.size.saturating_add(size);
-        Ok(())
+        if byte == 0 {
+            content.size = content.size.saturating_add(size);
+            return Ok(());
+        }
+        if size > MOST_BYTES {
+            return Err(LineError::Refused(Refusal::BadNumber));
+        }
+        fill(content)?;
+        for _ in 0..size {
+            content.bytes.push(byte)?;
+        }
+        measure(content)
     }
 
     /// Adds quoted texts.
     fn push_text(&mut self, quoted: &[u8], ended: bool) -> Result<(), LineError> {
+        self.align(1)?;
         let content = self.content()?;
         fill(content)?;
         push_quoted(&mut content.bytes, quoted, ended)?;
         measure(content)
     }
 
-    /// Lets the next datum stand at a multiple of so many bytes.
-    fn align(&mut self, align: u32) {
+    /// Lets what follows be at a multiple of so many bytes: the next datum, or what is added to this one.
+    fn align_next(&mut self, align: u32) {
         if self.position.sections.now == Section::Data {
             self.position.data.align = self.position.data.align.max(align);
         }
+    }
+
+    /// Lets what is added to a datum be at a multiple of so many bytes, and of what the last `.align` asked for.
+    fn align(&mut self, align: u32) -> Result<(), LineError> {
+        let align = align.max(self.position.data.align);
+        pad(self.object()?, align)?;
+        self.position.data.align = 1;
+        Ok(())
     }
 
     /// A directive that lays down data, or says nothing that matters here.
@@ -166,10 +294,10 @@ impl<'a> Reader<'a> {
             return Ok(());
         }
         match directive {
-            Directive::Align(align) => self.align(align),
-            Directive::Data(bytes) => return self.push_values(bytes, text),
+            Directive::Align(align) => self.align_next(align),
+            Directive::Data { bytes, aligned } => return self.push_values(bytes, aligned, text),
             Directive::Text { ended } => return self.push_text(text, ended),
-            Directive::Space(size) => return self.add_space(size),
+            Directive::Space { size, fill } => return self.add_space(size, fill),
             _ => {}
         }
         Ok(())

@@ -42,15 +42,21 @@ pub struct Function {
     /// Whether register 30 is its frame pointer.
     pub points: bool,
     pub frame: u32,
-    /// Where register 31 is saved, from the stack pointer on.
+    /// Where register 31 is saved, from the stack pointer on, as `.mask` says.
+    pub masked_link: Option<u32>,
+    /// Where a statement of the function saves it: the one that `.mask` speaks of, or the first.
     pub saved_link: Option<u32>,
+    /// Whether it calls.
+    pub calls: bool,
+    /// Whether the addresses of some of its labels are values.
+    pub computes: bool,
     pub kept: bool,
 }
 
 impl Function {
     /// A function without items, which would begin with this one.
     pub(crate) fn new(symbol: u32, unit: u32, first: usize) -> Function
-        ensures { result ≡ record { symbol = symbol; unit = unit; first = first; end = first; points = false; frame = 0; saved_link = None; kept = false } }
+        ensures { result ≡ record { symbol = symbol; unit = unit; first = first; end = first; points = false; frame = 0; masked_link = None; saved_link = None; calls = false; computes = false; kept = false } }
     {
         Function {
             symbol,
@@ -59,18 +65,32 @@ impl Function {
             end: first,
             points: false,
             frame: 0,
+            masked_link: None,
             saved_link: None,
+            calls: false,
+            computes: false,
             kept: false,
         }
     }
 }
 
-/// A word of data that is a symbol and an addend.
+/// A word of data that is a symbol and an addend, less the symbol `from`, if there is one.
 #[derive(Clone, Copy)]
 pub struct Reference {
     pub at: u32,
     pub symbol: u32,
     pub addend: u32,
+    pub from: Option<u32>,
+    pub line: u32,
+}
+
+/// A function that runs before `main`, or after it, those with the least order first.
+#[derive(Clone, Copy)]
+pub struct Startup {
+    pub symbol: u32,
+    pub after: bool,
+    pub order: u32,
+    pub unit: u32,
     pub line: u32,
 }
 
@@ -96,6 +116,8 @@ pub struct Object {
     pub unit: u32,
     pub content: Content,
     pub standing: Standing,
+    /// The datum of the same section that it follows, if there is one: where it is empty, it is at the end of that.
+    pub after: Option<u32>,
     pub kept: bool,
 }
 
@@ -105,7 +127,7 @@ impl Object {
         ensures names { (result.symbol ≡ symbol) × (result.unit ≡ unit) }
         ensures zeros { (result.content.size ≡ size) × (result.content.bytes.items ≡ []) × (result.content.references.items ≡ []) }
         ensures standing { result.standing ≡ record { align = align; address = 0 } }
-        ensures unkept { result.kept ≡ false }
+        ensures unkept { (result.after ≡ None) × (result.kept ≡ false) }
     {
         Object {
             symbol,
@@ -116,6 +138,7 @@ impl Object {
                 references: Vec::new(alloc),
             },
             standing: Standing { align, address: 0 },
+            after: None,
             kept: false,
         }
     }

@@ -27,5 +27,31 @@ pub(crate) fn lay_out(program: &mut Program) -> u64 {
         }
         least = *most;
     }
+    place_empty(program);
     aligned(at, 4)
+}
+
+/// Where an empty datum is that follows another one: at the end of that.
+fn end_before(program: &Program, number: usize) -> Option<u32> {
+    let object = program.objects.get(number)?;
+    if object.content.size > 0 {
+        return None;
+    }
+    let before = program.objects.get(object.after? as usize)?;
+    if !before.kept {
+        return None;
+    }
+    let end = before.standing.address.saturating_add(before.content.size);
+    u32::try_from(aligned(u64::from(end), object.standing.align)).ok()
+}
+
+/// Gives each empty datum that follows another one the address of that one's end.
+fn place_empty(program: &mut Program) {
+    for number in 0..program.objects.len() {
+        if let Some(address) = end_before(program, number) {
+            if let Some(object) = program.objects.as_mut_slice().get_mut(number) {
+                object.standing.address = address;
+            }
+        }
+    }
 }

@@ -9,10 +9,11 @@ mod layout;
 mod program;
 mod reach;
 mod reading;
+mod startup;
 mod symbols;
 
 pub use error::{Fault, ReadError};
-pub use item::{Content, Function, Item, Object, Reference, Standing};
+pub use item::{Content, Function, Item, Object, Reference, Standing, Startup};
 pub use program::Program;
 pub use reading::Reader;
 pub use symbols::{Meaning, Symbol, Symbols};

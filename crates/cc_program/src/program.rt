@@ -2,7 +2,7 @@
 ghost use Rattle.std.specs.Prelude.{◌≡◌, IfOk, slice_get};
 ghost use Rattle.cc_program.specs.Programs;
 
-use crate::item::{Function, Item, Object};
+use crate::item::{Function, Item, Object, Startup};
 use crate::symbols::{Meaning, Symbols};
 use cc_rules::LIMIT;
 use indexmap::IndexMap;
@@ -15,6 +15,10 @@ pub struct Program<'a> {
     pub items: Vec<Item>,
     pub functions: Vec<Function>,
     pub objects: Vec<Object>,
+    /// The functions that run before `main`, and after it.
+    pub calls: Vec<Startup>,
+    /// The datum that holds the lowest address that the stack may take, if there is one.
+    pub stack_limit: Option<u32>,
     pub files: IndexMap<u64, &'a [u8]>,
 }
 
@@ -28,6 +32,8 @@ impl<'a> Program<'a> {
             items: Vec::new(alloc),
             functions: Vec::new(alloc),
             objects: Vec::new(alloc),
+            calls: Vec::new(alloc),
+            stack_limit: None,
             files: IndexMap::new(alloc),
         })
     }
@@ -49,7 +55,7 @@ impl<'a> Program<'a> {
             .unwrap_or(&[])
     }
 
-    /// The address of a symbol: of a function that of the word that holds its place. 0 where it has none.
+    /// The address of a symbol: of a function, or of a label in one, that of the word that holds its place. 0 where it has none.
     pub fn address(&self, symbol: u32) -> u32
         ensures { result ≡ Programs.address_of self.now symbol }
     {
@@ -59,6 +65,7 @@ impl<'a> Program<'a> {
                 Some(function) => self.descriptor(function.symbol),
                 None => None,
             },
+            Meaning::Place { .. } => self.descriptor(self.symbols.resolved(symbol)),
             Meaning::Limit => return LIMIT,
             _ => None,
         };

@@ -3,6 +3,7 @@
 use crate::error::{Fault, ReadError};
 use crate::item::{Item, Object, Reference, number_behind};
 use crate::program::Program;
+use crate::startup::add_lists;
 use crate::symbols::Meaning;
 use cc_lines::{Instruction, Refusal, Register};
 use cc_rules::is_last;
@@ -17,6 +18,10 @@ enum Use {
     Memory,
     /// Its address is taken, with so much added.
     Address(u32),
+    /// A jump table has it, without an addend.
+    Table,
+    /// A word of data is the distance to it or from it.
+    Distance,
 }
 
 /// Something that a statement or a word of data names.
@@ -75,22 +80,60 @@ fn note_items(named: &mut Vec<Named>, unit: u32, items: &[Item]) -> Result<bool,
     Ok(goes_on)
 }
 
+/// How a word of data names its symbol.
+fn use_in(one: &Reference, is_table: bool) -> Use {
+    if one.from.is_some() {
+        Use::Distance
+    } else if is_table && one.addend == 0 {
+        Use::Table
+    } else {
+        Use::Address(one.addend)
+    }
+}
+
 /// What the words of a datum name.
 fn note_references(
     named: &mut Vec<Named>,
     unit: u32,
     references: &[Reference],
+    is_table: bool,
 ) -> Result<(), AllocError> {
     for one in references {
-        let how = Use::Address(one.addend);
         named.push(Named {
             symbol: one.symbol,
             unit,
             line: one.line,
-            how,
+            how: use_in(one, is_table),
         })?;
+        if let Some(from) = one.from {
+            named.push(Named {
+                symbol: from,
+                unit,
+                line: one.line,
+                how: Use::Distance,
+            })?;
+        }
     }
     Ok(())
+}
+
+/// Whether a datum with this name is a compiler's table of places that it jumps to: `$L12`.
+fn names_table(name: &[u8]) -> bool {
+    match name {
+        [b'$', b'L', digit, ..] => digit.is_ascii_digit(),
+        _ => false,
+    }
+}
+
+/// Whether a datum is a table of places that are jumped to.
+fn is_table(program: &Program, number: usize) -> bool {
+    let Some(object) = program.objects.get(number) else {
+        return false;
+    };
+    match program.symbols.at(object.symbol) {
+        Some(symbol) => names_table(symbol.name),
+        None => false,
+    }
 }
 
 /// Keeps a function, and the next one where control may go on into it.
@@ -119,48 +162,161 @@ fn keep_function(
     Ok(())
 }
 
-/// Keeps a datum.
-fn keep_object(named: &mut Vec<Named>, object: &mut Object) -> Result<(), AllocError> {
+/// Keeps a datum. Answers the one that has to be kept with it: that which it follows, if it is empty.
+fn keep_object(
+    named: &mut Vec<Named>,
+    object: &mut Object,
+    is_table: bool,
+) -> Result<Option<u32>, AllocError> {
     if object.kept {
-        return Ok(());
+        return Ok(None);
     }
     object.kept = true;
-    note_references(named, object.unit, &object.content.references)
+    note_references(named, object.unit, &object.content.references, is_table)?;
+    Ok(if object.content.size == 0 {
+        object.after
+    } else {
+        None
+    })
 }
 
-/// Gives a function a word of data that holds its place, if it has none.
-fn describe(alloc: Global, program: &mut Program, function: u32) -> Result<(), AllocError> {
-    let Some(function) = program.function(function) else {
-        return Ok(());
-    };
-    match program.symbols.at(function.symbol) {
-        Some(symbol) if symbol.descriptor.is_none() => {}
+/// Keeps a datum, and those that it follows as long as they are empty.
+fn keep_objects(
+    program: &mut Program,
+    named: &mut Vec<Named>,
+    number: u32,
+) -> Result<(), AllocError> {
+    let mut at = number;
+    for _ in 0..program.objects.len() {
+        let is_table = is_table(program, at as usize);
+        let Some(object) = program.objects.as_mut_slice().get_mut(at as usize) else {
+            break;
+        };
+        match keep_object(named, object, is_table)? {
+            Some(before) => at = before,
+            None => break,
+        }
+    }
+    Ok(())
+}
+
+/// Gives the symbol of a function, or of a label in one, a word of data that holds its place, if it has none.
+fn describe(
+    alloc: Global,
+    program: &mut Program,
+    symbol: u32,
+    unit: u32,
+) -> Result<(), AllocError> {
+    match program.symbols.at(symbol) {
+        Some(found) if found.descriptor.is_none() => {}
         _ => return Ok(()),
     }
     let number = number_behind(program.objects.len())?;
-    let mut object = Object::new(alloc, function.symbol, function.unit, 4, 4);
+    let mut object = Object::new(alloc, symbol, unit, 4, 4);
     object.kept = true;
     program.objects.push(object)?;
-    program.symbols.describe(function.symbol, number);
+    program.symbols.describe(symbol, number);
     Ok(())
+}
+
+/// Keeps a function that is named so.
+fn keep_named_function(
+    alloc: Global,
+    program: &mut Program,
+    named: &mut Vec<Named>,
+    number: u32,
+    one: Named,
+) -> Result<(), AllocError> {
+    if !one.is_jump() {
+        if let Some(function) = program.function(number) {
+            describe(alloc, program, function.symbol, function.unit)?;
+        }
+    }
+    keep_function(program, named, number)
+}
+
+/// Keeps the function of a label that is named so.
+fn keep_place(
+    alloc: Global,
+    program: &mut Program,
+    named: &mut Vec<Named>,
+    number: u32,
+    one: Named,
+) -> Result<(), AllocError> {
+    if matches!(one.how, Use::Address(_) | Use::Distance) {
+        if let Some(function) = program.functions.as_mut_slice().get_mut(number as usize) {
+            function.computes = true;
+        }
+        let symbol = program.symbols.resolved(one.symbol);
+        describe(alloc, program, symbol, one.unit)?;
+    }
+    keep_function(program, named, number)
+}
+
+/// The label that a word of a jump table names, if the addresses of labels of its function are values, so that a jump to it has to
+/// go the same way.
+fn computed_label(program: &Program, symbol: u32) -> Option<u32> {
+    let Meaning::Place { function, .. } = program.symbols.meaning(symbol) else {
+        return None;
+    };
+    let function = program.function(function)?;
+    if function.computes {
+        Some(program.symbols.resolved(symbol))
+    } else {
+        None
+    }
+}
+
+/// The labels that words of jump tables name which are jumped to by their addresses.
+fn computed_labels(alloc: Global, program: &Program) -> Result<Vec<(u32, u32)>, AllocError> {
+    let mut labels = Vec::new(alloc);
+    for object in &program.objects {
+        if object.kept {
+            for one in &object.content.references {
+                if let Some(label) = computed_label(program, one.symbol) {
+                    labels.push((label, object.unit))?;
+                }
+            }
+        }
+    }
+    Ok(labels)
+}
+
+/// Gives each label that is jumped to by its address a word of data that holds its place.
+fn describe_labels(alloc: Global, program: &mut Program) -> Result<(), AllocError> {
+    let labels = computed_labels(alloc, program)?;
+    for (label, unit) in &labels {
+        describe(alloc, program, *label, *unit)?;
+    }
+    Ok(())
+}
+
+/// Why a function, or a label in one, may not be named so, if it may not.
+fn refusal_in_code(how: Use, is_label: bool) -> Option<Refusal> {
+    match how {
+        Use::Jump | Use::Table | Use::Address(0) => None,
+        Use::Distance if is_label => None,
+        Use::Memory => Some(Refusal::CodeAsData),
+        _ => Some(Refusal::LabelArithmetic),
+    }
 }
 
 /// Why a symbol may not be named so, if it may not.
 fn refusal_of(program: &Program, one: Named) -> Option<Refusal> {
-    let jumps = one.is_jump();
     match program.symbols.meaning(one.symbol) {
-        Meaning::Function(_) => None,
-        Meaning::Place { .. } => match one.how {
-            Use::Jump | Use::Address(0) => None,
-            _ => Some(Refusal::LabelArithmetic),
+        Meaning::Function(_) => refusal_in_code(one.how, false),
+        Meaning::Place { .. } => refusal_in_code(one.how, true),
+        Meaning::Object(_) | Meaning::Limit => match one.how {
+            Use::Jump => Some(Refusal::NoPlace),
+            Use::Distance => Some(Refusal::LabelArithmetic),
+            _ => None,
         },
-        Meaning::Object(_) | Meaning::Limit => { if jumps { Some(Refusal::NoPlace) } else { None } }
         Meaning::End => match one.how {
-            Use::Address(_) => None,
+            Use::Address(_) | Use::Table => None,
             _ => Some(Refusal::NoPlace),
         },
-        _ => match program.symbols.at(one.symbol) {
-            Some(symbol) if symbol.weak && !jumps => None,
+        _ => match program.symbols.at(program.symbols.resolved(one.symbol)) {
+            Some(symbol) if symbol.weak => None,
             _ => Some(Refusal::Undefined),
         },
     }
@@ -174,19 +330,9 @@ fn keep(
     one: Named,
 ) -> Result<(), AllocError> {
     match program.symbols.meaning(one.symbol) {
-        Meaning::Function(number) => {
-            if !one.is_jump() {
-                describe(alloc, program, number)?;
-            }
-            keep_function(program, named, number)
-        }
-        Meaning::Place { function, .. } => keep_function(program, named, function),
-        Meaning::Object(number) => {
-            match program.objects.as_mut_slice().get_mut(number as usize) {
-                Some(object) => keep_object(named, object),
-                None => Ok(()),
-            }
-        }
+        Meaning::Function(number) => keep_named_function(alloc, program, named, number, one),
+        Meaning::Place { function, .. } => keep_place(alloc, program, named, function, one),
+        Meaning::Object(number) => keep_objects(program, named, number),
         _ => Ok(()),
     }
 }
@@ -232,6 +378,14 @@ fn keep_all<'a>(
     function: u32,
 ) -> Result<(), ReadError<'a>> {
     keep_function(program, named, function)?;
+    if let Some(limit) = program.stack_limit {
+        named.push(Named {
+            symbol: limit,
+            unit: 0,
+            line: 0,
+            how: Use::Memory,
+        })?;
+    }
     keep_named(alloc, program, named)
 }
 
@@ -245,13 +399,49 @@ fn keep_from<'a>(
     keep_all(alloc, program, &mut named, function)
 }
 
-/// Keeps what `main` reaches. Answers its symbol.
-pub(crate) fn reach<'a>(alloc: Global, program: &mut Program<'a>) -> Result<u32, ReadError<'a>> {
+/// The name of the function that calls `main`, where a library has one.
+const START: &[u8] = b"_start";
+
+/// Where the program begins: at the library's start, or at `main`; and the number of that function.
+fn entry<'a>(program: &mut Program<'a>) -> Result<(u32, u32), ReadError<'a>> {
     let main = program.symbols.number(b"main")?;
     let Meaning::Function(number) = program.symbols.meaning(main) else {
         return Err(ReadError::NoMain);
     };
-    program.symbols.use_it(main);
+    let start = program.symbols.number(START)?;
+    if let Meaning::Function(number) = program.symbols.meaning(start) {
+        return Ok((start, number));
+    }
+    match program.calls.get(0).copied() {
+        Some(call) => Err(ReadError::Fault(Fault {
+            unit: call.unit,
+            line: call.line,
+            refusal: Refusal::Constructor,
+            symbol: None,
+        })),
+        None => Ok((main, number)),
+    }
+}
+
+/// The name of the datum that holds the lowest address that the stack may take, where a library has one.
+const STACK_LIMIT: &[u8] = b"_stack_limit";
+
+/// Keeps the datum that holds the lowest address of the stack, if there is one, since each function that makes a frame reads it.
+fn keep_limit(program: &mut Program) -> Result<(), AllocError> {
+    let limit = program.symbols.number(STACK_LIMIT)?;
+    if let Meaning::Object(_) = program.symbols.meaning(limit) {
+        program.stack_limit = Some(limit);
+    }
+    Ok(())
+}
+
+/// Keeps what the beginning of the program reaches. Answers the symbol of that.
+pub(crate) fn reach<'a>(alloc: Global, program: &mut Program<'a>) -> Result<u32, ReadError<'a>> {
+    let (symbol, number) = entry(program)?;
+    add_lists(alloc, program)?;
+    keep_limit(program)?;
+    program.symbols.use_it(symbol);
     keep_from(alloc, program, number)?;
-    Ok(main)
+    describe_labels(alloc, program)?;
+    Ok(symbol)
 }

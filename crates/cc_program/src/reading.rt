@@ -10,8 +10,8 @@ use crate::program::Program;
 use crate::reach::reach;
 use crate::symbols::Meaning;
 use cc_lines::{
-    Directive, DirectiveLine, Line, LineError, Lines, MOST_LABELS, Refusal, Section, Statement,
-    label_before, line_read, without_comment,
+    Directive, DirectiveLine, Instruction, Line, LineError, Lines, MOST_LABELS, Refusal, Register,
+    Section, Statement, Width, label_before, line_read, without_comment,
 };
 use cc_rules::{LONGEST_NAME, file_key, has_slot, spelled_len};
 use indexmap::IndexMap;
@@ -30,12 +30,6 @@ impl Sections {
         self.before = self.now;
         self.now = section;
     }
-
-    /// Goes back to the section before.
-    fn go_back(&mut self) {
-        let before = self.before;
-        self.go_to(before);
-    }
 }
 
 /// The datum that lines of data add to, and the next one: at a multiple of so many bytes.
@@ -43,6 +37,16 @@ impl Sections {
 pub(crate) struct InData {
     pub object: Option<usize>,
     pub align: u32,
+}
+
+impl InData {
+    /// In no datum, and the next one anywhere.
+    fn new() -> InData {
+        InData {
+            object: None,
+            align: 1,
+        }
+    }
 }
 
 /// The function that statements stand in.
@@ -77,10 +81,7 @@ impl Position {
                 function: None,
                 reorder: true,
             },
-            data: InData {
-                object: None,
-                align: 1,
-            },
+            data: InData::new(),
         }
     }
 
@@ -116,7 +117,10 @@ fn told_by(directive: Directive) -> Told {
     match directive {
         Directive::Global => Told::Shared,
         Directive::Weak => Told::Weak,
-        Directive::Local | Directive::Alias | Directive::Common { local: true, .. } => Told::Own,
+        Directive::Local
+        | Directive::Alias
+        | Directive::Here
+        | Directive::Common { local: true, .. } => Told::Own,
         _ => Told::Nothing,
     }
 }
@@ -124,6 +128,24 @@ fn told_by(directive: Directive) -> Told {
 /// Whether a line without labels may tell of names.
 fn may_tell(line: &[u8]) -> bool {
     line.starts_with(b".") || line.contains(&b'=')
+}
+
+/// Notes what a statement says of its function: whether it calls, and where it saves register 31.
+fn note_statement(function: &mut Function, instruction: &Instruction) {
+    match *instruction {
+        Instruction::Call(_) => function.calls = true,
+        Instruction::Store {
+            width: Width::Word,
+            rs: Register::LINK,
+            base: Register::STACK,
+            offset,
+        } => {
+            if function.saved_link.is_none() || function.masked_link == Some(offset) {
+                function.saved_link = Some(offset);
+            }
+        }
+        _ => {}
+    }
 }
 
 impl<'a> Reader<'a> {
@@ -295,8 +317,23 @@ impl<'a> Reader<'a> {
             Section::Code if name.starts_with(b"$") => self.place_label(name),
             Section::Code => self.begin_function(name),
             Section::Data => self.begin_object(name),
-            Section::Notes => Ok(()),
+            Section::Notes | Section::Calls { .. } => Ok(()),
         }
+    }
+
+    /// A name for where it is in its section, in code a label of its function.
+    fn here(&mut self, name: &'a [u8]) -> Result<(), LineError> {
+        if self.position.sections.now == Section::Code {
+            self.place_label(name)
+        } else {
+            self.label(name)
+        }
+    }
+
+    /// Goes to a section, which ends the datum that lines add to.
+    fn go_to(&mut self, section: Section) {
+        self.position.sections.go_to(section);
+        self.position.data = InData::new();
     }
 
     /// Why an instruction is not taken here, if it is not.
@@ -319,6 +356,11 @@ impl<'a> Reader<'a> {
             Some(name) => Some(self.symbol(name)?),
             None => None,
         };
+        if let Some(number) = self.position.code.function {
+            if let Some(function) = self.program.functions.as_mut_slice().get_mut(number) {
+                note_statement(function, &read.instruction);
+            }
+        }
         self.program.items.push(Item::Code {
             instruction: read.instruction,
             symbol,
@@ -341,7 +383,7 @@ impl<'a> Reader<'a> {
                 Directive::Mask {
                     saves_link: true,
                     offset,
-                } => function.saved_link = Some(function.frame.wrapping_add(offset)),
+                } => function.masked_link = Some(function.frame.wrapping_add(offset)),
                 _ => {}
             }
         }
@@ -380,16 +422,17 @@ impl<'a> Reader<'a> {
     /// A directive.
     fn directive(&mut self, read: DirectiveLine<'a>) -> Result<(), LineError> {
         match read.directive {
-            Directive::Section(section) => self.position.sections.go_to(section),
-            Directive::Previous => self.position.sections.go_back(),
+            Directive::Section(section) => self.go_to(section),
+            Directive::Previous => self.go_to(self.position.sections.before),
             Directive::Reorder(reorder) => self.position.code.reorder = reorder,
             Directive::Frame { .. } | Directive::Mask { .. } => self.note_frame(read.directive),
             Directive::Weak => return self.weaken(read.name),
             Directive::Alias => return self.alias(read.name, read.text),
+            Directive::Here => return self.here(read.name),
             Directive::Location { file, line } => return self.note_location(file, line),
             Directive::File(number) => return self.note_file(number, read.text),
             Directive::Common { size, align, .. } => {
-                return self.add_object(read.name, true, size, align);
+                return self.add_common(read.name, size, align);
             }
             _ => return self.data_directive(read.directive, read.text),
         }

@@ -21,7 +21,7 @@ is_comparison _ = false
 -- nothing behind it follows on it
 abbrev pub is_last : Instruction → Bool
 is_last (Jump to) = true
-is_last Break = true
+is_last (Break code) = true
 is_last _ = false
 
 -- MIPS-I has a delay slot behind it

@@ -15,7 +15,7 @@ pub fn is_comparison(op: Operation) -> bool
 pub fn is_last(instruction: &Instruction) -> bool
     ensures { result ≡ Views.is_last instruction.now }
 {
-    matches!(instruction, Instruction::Jump(_) | Instruction::Break)
+    matches!(instruction, Instruction::Jump(_) | Instruction::Break(_))
 }
 
 /// Whether an instruction has a delay slot.

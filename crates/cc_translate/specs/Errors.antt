@@ -6,6 +6,6 @@ use Rattle.cc_translate.specs.declared.translating.TheConstants.{MOST_STATEMENTS
 
 -- a number of statements or of words that is told is more than there may be
 abbrev pub IsTooMany : TranslateError → Type 0
-IsTooMany (Statements count) = MOST_STATEMENTS < count
+IsTooMany (Statements count crossing) = MOST_STATEMENTS < count
 IsTooMany (Words count) = MOST_WORDS < count
 IsTooMany _ = Unit {0}

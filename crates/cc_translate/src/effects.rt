@@ -89,7 +89,7 @@ pub(crate) fn reads(instruction: &Instruction) -> u64 {
         Instruction::Call(LinkFrom::Symbol) => ARGUMENTS,
         Instruction::Number { .. }
         | Instruction::Jump(LinkFrom::Symbol)
-        | Instruction::Break
+        | Instruction::Break(_)
         | Instruction::Nop => 0,
     }
 }
@@ -110,7 +110,7 @@ pub(crate) fn writes(instruction: &Instruction) -> u64 {
         Instruction::Store { .. }
         | Instruction::Branch { .. }
         | Instruction::Jump(_)
-        | Instruction::Break
+        | Instruction::Break(_)
         | Instruction::Nop => 0,
     }
 }

@@ -12,8 +12,8 @@ pub enum TranslateError<'a> {
     Fault(Fault<'a>),
     /// No text defines `main`.
     NoMain,
-    /// So many statements, and a source has fewer.
-    Statements(u32),
+    /// So many statements, and a source has fewer; and the function with which there were too many, if it is one of the texts.
+    Statements(u32, Option<&'a [u8]>),
     /// So many data words, and a source has fewer, or leaves no room for the stack.
     Words(u64),
     Memory,

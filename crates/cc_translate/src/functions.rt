@@ -96,11 +96,13 @@ fn put_item(
         Item::Code {
             instruction,
             symbol,
-            ..
+            line,
         } => {
+            out.instructions = out.instructions.saturating_add(1);
             let planned = Planned {
                 instruction,
                 symbol,
+                line,
                 plan,
             };
             translate_statement(out, program, function, &planned)

@@ -74,7 +74,7 @@ fn breaks(item: &Item, symbols: &Symbols) -> bool {
             Instruction::Branch { .. }
                 | Instruction::Jump(_)
                 | Instruction::Call(_)
-                | Instruction::Break
+                | Instruction::Break(_)
         ),
     }
 }

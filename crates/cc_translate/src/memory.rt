@@ -1,7 +1,6 @@
 //! Loads and stores.
 
 use crate::output::{Mask, Output};
-use crate::places::STACK_WORDS;
 use crate::plan::Place;
 use cc_lines::{Register, Width};
 use cc_program::Function;
@@ -132,9 +131,6 @@ fn load_word(
     load(out, spot, rd.0)?;
     if is_link {
         return store(out, spot, 0);
-    }
-    if rd == Register::STACK {
-        return out.statement("asr r29,#2,r%", &[STACK_WORDS]);
     }
     Ok(())
 }
@@ -352,9 +348,36 @@ pub(crate) fn store_statement(
     }
 }
 
-/// Goes to the place that the descriptor at a place holds; register 31 takes the link.
+/// Calls the function whose place the word at a place holds; register 31 takes the link.
 pub(crate) fn call_at(out: &mut Output, place: Place) -> Result<(), AllocError> {
     let spot = spot_of(out, place)?;
     load(out, spot, SECOND)?;
     out.statement("callr r%,r31", &[SECOND])
+}
+
+/// Goes to the label whose place the word at a place holds.
+pub(crate) fn jump_at(out: &mut Output, place: Place) -> Result<(), AllocError> {
+    let spot = spot_of(out, place)?;
+    load(out, spot, SECOND)?;
+    out.statement("jr r%", &[SECOND])
+}
+
+/// The first word that a program may load and store, but for those of input and console.
+const FIRST_WORD: u32 = 254;
+
+/// Whether a place is one that no datum has, as that of a null pointer.
+pub(crate) fn is_null(place: Place) -> bool {
+    match place {
+        Place::Byte { base: 0, words, .. } => words < FIRST_WORD,
+        _ => false,
+    }
+}
+
+/// Whether a datum of this width at a place is not at a multiple of its size.
+pub(crate) fn is_misaligned(width: Width, place: Place) -> bool {
+    match (width, place) {
+        (Width::Half { .. }, Place::Byte { byte, .. }) => byte % 2 != 0,
+        (Width::Word, Place::Byte { byte, .. }) => byte != 0,
+        _ => false,
+    }
 }

@@ -1,5 +1,6 @@
 //! The text of the translation.
 
+use cc_lines::Refusal;
 use cc_program::Symbols;
 use indexmap::IndexSet;
 use itoa::Buffer;
@@ -17,10 +18,15 @@ pub(crate) enum Routine {
     ShiftLeft,
     ShiftRight,
     ShiftArithmetic,
+    /// What ends the program at a trap, a quotient by 0, a load or a store at a null pointer, and a full stack.
+    Trap,
+    Zero,
+    Null,
+    Stack,
 }
 
 /// All routines, in the order in which they stand in the text.
-pub(crate) static ROUTINES: [Routine; 8] = [
+pub(crate) static ROUTINES: [Routine; 12] = [
     Routine::Low,
     Routine::SignedProduct,
     Routine::Product,
@@ -29,6 +35,10 @@ pub(crate) static ROUTINES: [Routine; 8] = [
     Routine::ShiftLeft,
     Routine::ShiftRight,
     Routine::ShiftArithmetic,
+    Routine::Trap,
+    Routine::Zero,
+    Routine::Null,
+    Routine::Stack,
 ];
 
 impl Routine {
@@ -43,6 +53,10 @@ impl Routine {
             Routine::ShiftLeft => "m.sll",
             Routine::ShiftRight => "m.srl",
             Routine::ShiftArithmetic => "m.sra",
+            Routine::Trap => "m.trap",
+            Routine::Zero => "m.zero",
+            Routine::Null => "m.null",
+            Routine::Stack => "m.stack",
         }
     }
 }
@@ -91,6 +105,10 @@ impl Mask {
 pub(crate) struct Output {
     pub text: Vec<u8>,
     pub statements: u32,
+    /// How many instructions of the assembly they come from.
+    pub instructions: u32,
+    /// The symbol of the function with which there were too many statements.
+    pub crossing: Option<u32>,
     /// The numbers that statements load from data, in order.
     pub numbers: IndexSet<u32>,
     /// The addends to the first byte behind all data that statements load from data.
@@ -101,6 +119,8 @@ pub(crate) struct Output {
     pub labels: u32,
     /// Whether it reads input.
     pub input: bool,
+    /// The text and the line of the first statement that is not translated, and why.
+    pub fault: Option<(u32, u32, Refusal)>,
 }
 
 /// How many statements lines are: those that are no labels.
@@ -123,12 +143,22 @@ impl Output {
         Output {
             text: Vec::new(alloc),
             statements: 0,
+            instructions: 0,
+            crossing: None,
             numbers: IndexSet::new(alloc),
             ends: IndexSet::new(alloc),
             routines: Vec::new(alloc),
             masks: Vec::new(alloc),
             labels: 0,
             input: false,
+            fault: None,
+        }
+    }
+
+    /// Notes why the statement of a line is not translated, if it is the first one.
+    pub(crate) fn refuse(&mut self, unit: u32, line: u32, refusal: Refusal) {
+        if self.fault.is_none() {
+            self.fault = Some((unit, line, refusal));
         }
     }
 

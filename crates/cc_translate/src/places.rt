@@ -26,8 +26,9 @@ enum Known {
     Nothing,
     /// It holds this number.
     Number(u32),
-    /// A quarter of what it holds is at so many words from what another register holds; and whether it is a multiple of 4.
-    Words { base: u8, words: u32, whole: bool },
+    /// It holds so many bytes more than four times what another register holds; or, where that is not `whole`, a quarter of it is so
+    /// many bytes, a multiple of 4, from what the other one holds.
+    Bytes { base: u8, bytes: u32, whole: bool },
 }
 
 /// What is known between two statements.
@@ -38,6 +39,8 @@ struct Knowledge {
     turn: u8,
     /// Whether register 30 is the frame pointer.
     points: bool,
+    /// Whether the addresses of labels are values, by which jumps go.
+    computes: bool,
 }
 
 /// Where the datum of an instruction is told to be: at an offset from a base.
@@ -77,15 +80,15 @@ fn place_at_number(base: Register, value: u32, offset: u32) -> Place {
     byte_in_reach(quarter(address), 0, address).unwrap_or(far(base, offset))
 }
 
-/// The place at an offset from a base that is a multiple of 4, so many words from four times what the register `from` holds.
-fn place_of_byte(base: Register, from: u8, words: u32, offset: u32) -> Place {
-    let words = words.wrapping_add(quarter(offset));
-    byte_in_reach(words, from, offset).unwrap_or(far(base, offset))
+/// The place at an offset from a base that is so many bytes from four times what the register `from` holds.
+fn place_of_byte(base: Register, from: u8, bytes: u32, offset: u32) -> Place {
+    let number = bytes.wrapping_add(offset);
+    byte_in_reach(quarter(number), from, number).unwrap_or(far(base, offset))
 }
 
-/// The same from a base that may be no multiple of 4.
-fn place_of_word(base: Register, from: u8, words: u32, offset: u32) -> Place {
-    let words = words.wrapping_add(quarter(offset));
+/// The same from a base of which only a quarter is known to be there.
+fn place_of_word(base: Register, from: u8, bytes: u32, offset: u32) -> Place {
+    let words = quarter(bytes.wrapping_add(offset));
     if in_reach(words) && offset % 4 == 0 {
         Place::Turned {
             base: from,
@@ -99,11 +102,12 @@ fn place_of_word(base: Register, from: u8, words: u32, offset: u32) -> Place {
 
 impl Knowledge {
     /// What is known at the start of a function.
-    fn new(points: bool) -> Knowledge {
+    fn new(points: bool, computes: bool) -> Knowledge {
         Knowledge {
             known: [Known::Nothing; 32],
             turn: 0,
             points,
+            computes,
         }
     }
 
@@ -127,9 +131,9 @@ impl Knowledge {
             return Known::Number(0);
         }
         match self.always_divided(register) {
-            Some(base) => Known::Words {
+            Some(base) => Known::Bytes {
                 base,
-                words: 0,
+                bytes: 0,
                 whole: true,
             },
             None => self
@@ -151,7 +155,7 @@ impl Knowledge {
     /// Forgets what is known by way of a register that changes.
     fn forget_base(&mut self, changed: u8) {
         for known in self.known.iter_mut() {
-            if let Known::Words { base, .. } = *known {
+            if let Known::Bytes { base, .. } = *known {
                 if base == changed {
                     *known = Known::Nothing;
                 }
@@ -190,9 +194,9 @@ impl Knowledge {
             return (far(base, offset), None);
         }
         let into = self.next_quotient();
-        let known = Known::Words {
+        let known = Known::Bytes {
             base: into,
-            words: 0,
+            bytes: 0,
             whole: false,
         };
         self.note(base, known);
@@ -208,16 +212,16 @@ impl Knowledge {
     fn place(&mut self, base: Register, offset: u32) -> (Place, Option<(u8, u8)>) {
         match self.of(base) {
             Known::Number(value) => (place_at_number(base, value, offset), None),
-            Known::Words {
+            Known::Bytes {
                 base: from,
-                words,
+                bytes,
                 whole: true,
-            } => (place_of_byte(base, from, words, offset), None),
-            Known::Words {
+            } => (place_of_byte(base, from, bytes, offset), None),
+            Known::Bytes {
                 base: from,
-                words,
+                bytes,
                 whole: false,
-            } => (place_of_word(base, from, words, offset), None),
+            } => (place_of_word(base, from, bytes, offset), None),
             Known::Nothing => self.place_by_quotient(base, offset),
         }
     }
@@ -226,9 +230,9 @@ impl Knowledge {
     fn sum(&self, rs: Register, number: u32) -> Known {
         match self.of(rs) {
             Known::Number(value) => Known::Number(value.wrapping_add(number)),
-            Known::Words { base, words, whole } if number % 4 == 0 => Known::Words {
+            Known::Bytes { base, bytes, whole } if whole || number % 4 == 0 => Known::Bytes {
                 base,
-                words: words.wrapping_add(quarter(number)),
+                bytes: bytes.wrapping_add(number),
                 whole,
             },
             _ => Known::Nothing,
@@ -359,12 +363,12 @@ fn clobbered(instruction: &Instruction, plan: &Plan) -> &'static [u8] {
     }
 }
 
-/// The address of the symbol of a statement: 0 where it has none, and none where it is a place.
+/// The address of the symbol of a statement: 0 where it has none, and none where it is not known yet.
 fn address_of(program: &Program, symbol: Option<u32>) -> Option<u32> {
     match symbol {
         None => Some(0),
         Some(symbol) => match program.symbols.meaning(symbol) {
-            Meaning::Place { .. } | Meaning::End => None,
+            Meaning::End => None,
             _ => Some(program.address(symbol)),
         },
     }
@@ -376,8 +380,15 @@ fn is_unaligned(width: Width) -> bool {
 }
 
 /// Where the datum of an instruction is told to be, if it has one.
-fn datum_of(instruction: &Instruction) -> Option<Datum> {
+fn datum_of(instruction: &Instruction, computes: bool) -> Option<Datum> {
     match *instruction {
+        Instruction::Jump(LinkFrom::Register(base)) if computes && base != Register::LINK => {
+            Some(Datum {
+                base,
+                offset: 0,
+                unaligned: false,
+            })
+        }
         Instruction::Load {
             base,
             offset,
@@ -424,7 +435,7 @@ fn place_one(
     plan: &mut Plan,
 ) {
     let address = address_of(program, symbol);
-    if let Some(datum) = datum_of(instruction) {
+    if let Some(datum) = datum_of(instruction, knowledge.computes) {
         place_datum(knowledge, datum, address.unwrap_or(0), plan);
     }
     knowledge.learn(instruction, plan, address);
@@ -458,7 +469,7 @@ pub(crate) fn find_places(
     items: &[Item],
     plans: &mut [Plan],
 ) {
-    let mut knowledge = Knowledge::new(function.points);
+    let mut knowledge = Knowledge::new(function.points, function.computes);
     for (item, plan) in items.iter().zip(plans.iter_mut()) {
         place_item(program, &mut knowledge, item, plan);
     }

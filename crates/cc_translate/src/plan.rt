@@ -77,5 +77,6 @@ impl Plan {
 pub(crate) struct Planned {
     pub instruction: Instruction,
     pub symbol: Option<u32>,
+    pub line: u32,
     pub plan: Plan,
 }

@@ -130,6 +130,7 @@ m.multu.d:
 
 /// A quotient of signed numbers and its remainder, by those of their amounts.
 static SIGNED_QUOTIENT: &str = "m.div:
+        beq r26,r0,m.zero
         or r1,r26,r24
         bge r24,r0,m.divu
         xor r1,r26,r24
@@ -160,6 +161,7 @@ m.div.d:
 static QUOTIENT: [(&str, u32); 5] = [
     (
         "m.divu:
+        beq r26,r0,m.zero
         sh r1,r0,#8,r25
         bhs r25,r26,m.divu.b
         sh r1,r0,#4,r24
@@ -281,8 +283,25 @@ fn put_shift(out: &mut Output, which: Routine) -> Result<(), AllocError> {
     Ok(())
 }
 
+/// What ends a program that cannot go on, with a status in r2: 128 and the number of the signal that other systems give. r27 keeps the
+/// address that the routine was called from, or of a full stack the one that the function was called from.
+fn end_text(which: Routine) -> Option<&'static str> {
+    match which {
+        Routine::Trap => Some("m.trap:\n        addi r0,#133,r2\n        halt\n"),
+        Routine::Zero => Some("m.zero:\n        addi r0,#136,r2\n        halt\n"),
+        Routine::Null => Some("m.null:\n        addi r0,#139,r2\n        halt\n"),
+        Routine::Stack => {
+            Some("m.stack:\n        mov r31,r27\n        addi r0,#139,r2\n        halt\n")
+        }
+        _ => None,
+    }
+}
+
 /// Adds a routine.
 fn put_routine(out: &mut Output, which: Routine) -> Result<(), AllocError> {
+    if let Some(text) = end_text(which) {
+        return out.lines(text, &[]);
+    }
     match which {
         Routine::Low => put_text(out, LOW),
         Routine::Product => put_text(out, PRODUCT),
@@ -300,6 +319,9 @@ fn need_called(out: &mut Output) -> Result<(), AllocError> {
     }
     if out.needs(Routine::SignedQuotient) {
         out.need(Routine::Quotient)?;
+    }
+    if out.needs(Routine::Quotient) {
+        out.need(Routine::Zero)?;
     }
     Ok(())
 }

@@ -3,13 +3,15 @@
 use crate::effects::{HI, bit};
 use crate::fusing::tested_by;
 use crate::memory::{
-    FIRST, SECOND, add_constant, call_at, constant, copy, load_statement, store_statement,
+    FIRST, SECOND, add_constant, call_at, constant, copy, is_misaligned, is_null, jump_at,
+    load_statement, store_statement,
 };
 use crate::output::{Output, Routine};
 use crate::places::{FRAME_WORDS, STACK_WORDS};
-use crate::plan::{Comparison, Planned, Step};
+use crate::plan::{Comparison, Place, Planned, Step};
 use cc_lines::{
-    Condition, Instruction, LinkFrom, Long, Operation, Register, Shift, Source, Special,
+    Condition, Instruction, LinkFrom, Long, Operation, Refusal, Register, Shift, Source, Special,
+    Width,
 };
 use cc_program::{Function, Meaning, Program};
 use cc_rules::{quarter, special_register};
@@ -208,33 +210,64 @@ fn moved_by(op: Operation, rs: Register, second: Source) -> Option<u32> {
     }
 }
 
-/// A quarter of the stack pointer, behind what gave that.
-fn divide_stack(
-    out: &mut Output,
-    function: &Function,
-    rs: Register,
-    second: Source,
-) -> Result<(), AllocError> {
-    if rs == Register::FRAME && function.points && second == Source::Register(Register::ZERO) {
-        return copy(out, FRAME_WORDS, STACK_WORDS);
-    }
+/// A quarter of the stack pointer, after what gave that.
+fn divide_stack(out: &mut Output) -> Result<(), AllocError> {
     out.statement("asr r29,#2,r%", &[STACK_WORDS])
+}
+
+/// How many bytes below the lowest address of the stack a function may take that calls no other.
+const RED_ZONE: u32 = 256;
+
+/// Whether a function may go beyond the stack's lowest address by moving the stack pointer by so many bytes, modulo 2^32.
+fn may_overflow(function: &Function, by: u32) -> bool {
+    let down = by.wrapping_neg();
+    down < 0x8000_0000 && down > 0 && (function.calls || down > RED_ZONE)
+}
+
+/// Ends the program where the stack pointer is below the lowest address of the stack.
+fn check_stack(out: &mut Output, program: &Program) -> Result<(), AllocError> {
+    let Some(limit) = program.stack_limit else {
+        return Ok(());
+    };
+    let word = i64::from(program.address(limit) / 4);
+    out.statement_with("ld @[r0],r%", word, &[SECOND])?;
+    out.need(Routine::Stack)?;
+    out.statement("blo r29,r%,m.stack", &[SECOND])
+}
+
+/// The stack pointer moves by a number, and its quarter with it.
+fn move_stack_by(
+    out: &mut Output,
+    program: &Program,
+    function: &Function,
+    by: u32,
+) -> Result<(), AllocError> {
+    add_constant(out, Register::STACK.0, by, Register::STACK.0)?;
+    add_constant(out, STACK_WORDS, quarter(by), STACK_WORDS)?;
+    if may_overflow(function, by) {
+        return check_stack(out, program);
+    }
+    Ok(())
 }
 
 /// The stack pointer moves, and its quarter with it.
 fn move_stack(
     out: &mut Output,
+    program: &Program,
     function: &Function,
     op: Operation,
     rs: Register,
     second: Source,
 ) -> Result<(), AllocError> {
     if let Some(by) = moved_by(op, rs, second) {
-        add_constant(out, rs.0, by, rs.0)?;
-        return add_constant(out, STACK_WORDS, quarter(by), STACK_WORDS);
+        return move_stack_by(out, program, function, by);
     }
     compute(out, op, Register::STACK.0, rs, second)?;
-    divide_stack(out, function, rs, second)
+    if rs == Register::FRAME && function.points && second == Source::Register(Register::ZERO) {
+        return copy(out, FRAME_WORDS, STACK_WORDS);
+    }
+    divide_stack(out)?;
+    check_stack(out, program)
 }
 
 /// A copy to the frame pointer, and of a quarter of it.
@@ -249,13 +282,14 @@ fn move_frame(out: &mut Output, rs: Register) -> Result<(), AllocError> {
 /// A copy.
 fn move_statement(
     out: &mut Output,
+    program: &Program,
     function: &Function,
     rd: Register,
     rs: Register,
 ) -> Result<(), AllocError> {
     if rd == Register::STACK {
         let zero = Source::Register(Register::ZERO);
-        return move_stack(out, function, Operation::Add, rs, zero);
+        return move_stack(out, program, function, Operation::Add, rs, zero);
     }
     if rd == Register::FRAME && function.points {
         return move_frame(out, rs);
@@ -336,18 +370,6 @@ fn long(out: &mut Output, which: Routine, rs: u8, rt: u8) -> Result<(), AllocErr
     routine(out, which)
 }
 
-/// The address of a label in a function.
-fn place_address(
-    out: &mut Output,
-    program: &Program,
-    rd: Register,
-    symbol: u32,
-) -> Result<(), AllocError> {
-    out.put("        la ")?;
-    out.name(&program.symbols, symbol)?;
-    out.lines(",r%\n", &[rd.0])
-}
-
 /// An address behind all data, which is not known yet: a word of data holds it.
 fn end_address(
     out: &mut Output,
@@ -376,13 +398,17 @@ fn address(
         return add_constant(out, base.0, offset, rd.0);
     };
     match program.symbols.meaning(symbol) {
-        Meaning::Place { .. } => place_address(out, program, rd, symbol),
         Meaning::End => end_address(out, rd, base, offset),
         _ => {
             let bytes = program.address(symbol).wrapping_add(offset);
             add_constant(out, base.0, bytes, rd.0)
         }
     }
+}
+
+/// Whether a symbol is one that need not be defined, and is not.
+fn is_nowhere(program: &Program, symbol: u32) -> bool {
+    matches!(program.symbols.meaning(symbol), Meaning::Unknown)
 }
 
 /// A call to a symbol, or to what a register points to.
@@ -392,7 +418,9 @@ fn call_statement(
     planned: &Planned,
 ) -> Result<(), AllocError> {
     match (planned.symbol, planned.plan.place) {
+        (Some(symbol), _) if is_nowhere(program, symbol) => routine(out, Routine::Null),
         (Some(symbol), _) => out.statement_to("call ", &[], &program.symbols, symbol, ",r31\n"),
+        (None, Some(place)) if is_null(place) => routine(out, Routine::Null),
         (None, Some(place)) => call_at(out, place),
         (None, None) => Ok(()),
     }
@@ -418,9 +446,16 @@ fn jump(
     program: &Program,
     to: LinkFrom,
     symbol: Option<u32>,
+    place: Option<Place>,
 ) -> Result<(), AllocError> {
     match (to, symbol) {
-        (LinkFrom::Register(r), _) => out.statement("jr r%", &[r.0]),
+        (LinkFrom::Register(r), _) => match place {
+            Some(place) => jump_at(out, place),
+            None => out.statement("jr r%", &[r.0]),
+        },
+        (LinkFrom::Symbol, Some(symbol)) if is_nowhere(program, symbol) => {
+            routine(out, Routine::Null)
+        }
         (LinkFrom::Symbol, Some(symbol)) => {
             out.statement_to("b ", &[], &program.symbols, symbol, "\n")
         }
@@ -431,6 +466,7 @@ fn jump(
 /// Translates an operation on a register and a second operand.
 fn operation(
     out: &mut Output,
+    program: &Program,
     function: &Function,
     op: Operation,
     rd: Register,
@@ -438,12 +474,24 @@ fn operation(
     second: Source,
 ) -> Result<(), AllocError> {
     match (op, rd, second) {
-        (_, Register::STACK, _) => move_stack(out, function, op, rs, second),
+        (_, Register::STACK, _) => move_stack(out, program, function, op, rs, second),
         (_, Register::ZERO, _) => Ok(()),
         (Operation::Add | Operation::Or, _, Source::Register(Register::ZERO)) => {
-            move_statement(out, function, rd, rs)
+            move_statement(out, program, function, rd, rs)
         }
-        _ => compute(out, op, rd.0, rs, second),
+        _ => {
+            compute(out, op, rd.0, rs, second)?;
+            divide_written(out, function, rd)
+        }
+    }
+}
+
+/// A quarter of a register, after what gave it, where one is kept.
+fn divide_written(out: &mut Output, function: &Function, rd: Register) -> Result<(), AllocError> {
+    match rd {
+        Register::STACK => divide_stack(out),
+        Register::FRAME if function.points => out.statement("asr r30,#2,r%", &[FRAME_WORDS]),
+        _ => Ok(()),
     }
 }
 
@@ -462,6 +510,29 @@ fn shift(
     }
 }
 
+/// The code of the trap that ends the program as it ends by itself, with its status in r2.
+const END: u32 = 1023;
+
+/// The codes of the traps of a compiler for an overflow and for a quotient by 0.
+const OVERFLOW: u32 = 6;
+
+const ZERO: u32 = 7;
+
+/// A trap. Where the program ends by itself, r27 is 0.
+fn trap(out: &mut Output, code: u32) -> Result<(), AllocError> {
+    match code {
+        END => {
+            copy(out, Register::ZERO.0, LINK_OF_ROUTINES)?;
+            out.statement("halt", &[])
+        }
+        OVERFLOW | ZERO => routine(out, Routine::Zero),
+        _ => routine(out, Routine::Trap),
+    }
+}
+
+/// The register with the link of routines.
+const LINK_OF_ROUTINES: u8 = 27;
+
 /// Translates an instruction over registers alone.
 fn registers_alone(
     out: &mut Output,
@@ -470,32 +541,68 @@ fn registers_alone(
     live: u64,
 ) -> Result<(), AllocError> {
     match instruction {
-        Instruction::Compute { op, rd, rs, second } => operation(out, function, op, rd, rs, second),
-        Instruction::Shift { op, rd, rs, by } => shift(out, op, rd, rs, by),
-        Instruction::Move { rd, rs } => move_statement(out, function, rd, rs),
-        Instruction::Number { rd, value } => constant(out, value, rd.0),
+        Instruction::Shift { op, rd, rs, by } => {
+            shift(out, op, rd, rs, by)?;
+            divide_written(out, function, rd)
+        }
+        Instruction::Number { rd, value } => {
+            constant(out, value, rd.0)?;
+            divide_written(out, function, rd)
+        }
         Instruction::Long { op, rs, rt } => long(out, routine_of(op, live), rs.0, rt.0),
-        Instruction::FromSpecial { special, rd } => copy(out, special_register(special), rd.0),
+        Instruction::FromSpecial { special, rd } => {
+            copy(out, special_register(special), rd.0)?;
+            divide_written(out, function, rd)
+        }
         Instruction::ToSpecial { special, rs } => copy(out, rs.0, special_register(special)),
-        Instruction::Break => out.statement("halt", &[]),
+        Instruction::Break(code) => trap(out, code),
         _ => Ok(()),
     }
 }
 
 /// Translates a load or a store.
-fn at_place(out: &mut Output, function: &Function, planned: &Planned) -> Result<(), AllocError> {
+fn at_place(
+    out: &mut Output,
+    function: &Function,
+    planned: &Planned,
+    width: Width,
+) -> Result<(), AllocError> {
     let Some(place) = planned.plan.place else {
         return Ok(());
     };
+    if is_null(place) {
+        return routine(out, Routine::Null);
+    }
+    if is_misaligned(width, place) {
+        out.refuse(function.unit, planned.line, Refusal::Misaligned);
+        return Ok(());
+    }
     match planned.instruction {
         Instruction::Load {
-            width,
             rd,
             base,
             offset,
-        } => load_statement(out, function, width, rd, base, offset, place),
-        Instruction::Store { width, rs, .. } => store_statement(out, width, rs, place),
+            ..
+        } => {
+            load_statement(out, function, width, rd, base, offset, place)?;
+            divide_loaded(out, function, width, rd)
+        }
+        Instruction::Store { rs, .. } => store_statement(out, width, rs, place),
         _ => Ok(()),
+    }
+}
+
+/// A quarter of a register that a load gave, where one is kept: a frame pointer is loaded as a function ends, and its quarter is
+/// not needed then.
+fn divide_loaded(
+    out: &mut Output,
+    function: &Function,
+    width: Width,
+    rd: Register,
+) -> Result<(), AllocError> {
+    match (width, rd) {
+        (Width::Word, Register::FRAME) => Ok(()),
+        _ => divide_written(out, function, rd),
     }
 }
 
@@ -521,9 +628,16 @@ fn kept(
 ) -> Result<(), AllocError> {
     match planned.instruction {
         Instruction::Address { rd, base, offset } => {
-            address(out, program, rd, base, offset, planned.symbol)
+            address(out, program, rd, base, offset, planned.symbol)?;
+            divide_written(out, function, rd)
         }
-        Instruction::Load { .. } | Instruction::Store { .. } => at_place(out, function, planned),
+        Instruction::Load { width, .. } | Instruction::Store { width, .. } => {
+            at_place(out, function, planned, width)
+        }
+        Instruction::Compute { op, rd, rs, second } => {
+            operation(out, program, function, op, rd, rs, second)
+        }
+        Instruction::Move { rd, rs } => move_statement(out, program, function, rd, rs),
         Instruction::Branch {
             condition,
             rs,
@@ -536,7 +650,7 @@ fn kept(
             };
             branch_if_named(out, program, found, planned.symbol)
         }
-        Instruction::Jump(to) => jump(out, program, to, planned.symbol),
+        Instruction::Jump(to) => jump(out, program, to, planned.symbol, planned.plan.place),
         Instruction::Call(_) => call(out, program, function, planned),
         _ => registers_alone(out, function, planned.instruction, planned.plan.live),
     }

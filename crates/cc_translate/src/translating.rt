@@ -7,7 +7,7 @@ use crate::functions::translate_function;
 use crate::output::Output;
 use crate::routines::put_routines;
 use crate::words::{end_of, put_data};
-use cc_program::{Program, Reader};
+use cc_program::{Fault, Program, Reader};
 use cc_rules::FIRST_BYTE;
 use std::alloc::{AllocError, Global};
 
@@ -40,6 +40,9 @@ fn put_code(
     for function in &program.functions {
         if function.kept {
             translate_function(alloc, out, program, function)?;
+            if out.statements > MOST_STATEMENTS && out.crossing.is_none() {
+                out.crossing = Some(function.symbol);
+            }
         }
     }
     put_routines(out)
@@ -60,7 +63,22 @@ fn put_rest<'a>(
         return Err(TranslateError::Words(words));
     }
     put_data(alloc, out, program, behind as u32, end as u32)?;
+    put_size(out, words)?;
     Ok(())
+}
+
+/// The name of the function with which there were too many statements.
+fn crossing_name<'a>(out: &Output, program: &Program<'a>) -> Option<&'a [u8]> {
+    Some(program.symbols.at(out.crossing?)?.name)
+}
+
+/// Adds a comment with the size of the source.
+fn put_size(out: &mut Output, words: u64) -> Result<(), AllocError> {
+    let statements = i64::from(out.statements);
+    out.filled("; @ statements, ", statements, &[])?;
+    let instructions = i64::from(out.instructions);
+    out.filled("@ instructions, ", instructions, &[])?;
+    out.filled("@ data words\n", words.cast_signed(), &[])
 }
 
 /// Adds code and data.
@@ -74,8 +92,17 @@ fn put_all<'a>(
     ensures { IfErr result (λ e. IsTooMany e) }
 {
     put_code(alloc, out, program, main)?;
+    if let Some((unit, line, refusal)) = out.fault {
+        return Err(TranslateError::Fault(Fault {
+            unit,
+            line,
+            refusal,
+            symbol: None,
+        }));
+    }
     if out.statements > MOST_STATEMENTS {
-        return Err(TranslateError::Statements(out.statements));
+        let crossing = crossing_name(out, program);
+        return Err(TranslateError::Statements(out.statements, crossing));
     }
     put_rest(alloc, out, program, behind)
 }

@@ -61,12 +61,20 @@ fn write_begin(image: &mut Image, at: usize, number: u32) {
 /// Writes a word of a datum that is a symbol.
 fn write_reference(image: &mut Image, program: &Program, one: Reference, start: usize, end: u32) {
     let at = start.saturating_add(one.at as usize);
+    let address = program.address(one.symbol);
     match program.symbols.meaning(one.symbol) {
-        Meaning::Place { .. } => write_place(image, at, one.symbol),
+        Meaning::Place { .. } if address == 0 => write_place(image, at, one.symbol),
         Meaning::End => write_word(image, at, end.wrapping_add(one.addend)),
         _ => {
-            let address = program.address(one.symbol);
-            write_word(image, at, address.wrapping_add(one.addend));
+            let from = match one.from {
+                Some(from) => program.address(from),
+                None => 0,
+            };
+            write_word(
+                image,
+                at,
+                address.wrapping_add(one.addend).wrapping_sub(from),
+            );
         }
     }
 }
@@ -79,9 +87,12 @@ fn write_references(image: &mut Image, program: &Program, object: &Object, end: 
     }
 }
 
-/// Whether a datum holds the place of a function.
+/// Whether a datum holds the place of a function, or of a label in one.
 fn is_descriptor(program: &Program, object: &Object) -> bool {
-    matches!(program.symbols.meaning(object.symbol), Meaning::Function(_))
+    matches!(
+        program.symbols.meaning(object.symbol),
+        Meaning::Function(_) | Meaning::Place { .. }
+    )
 }
 
 /// Writes a datum.

@@ -1,4 +1,5 @@
         .globl main
-main:   jr $31
-        .rdata
-table:  .word $L2-$L1
+main:   la $2,table
+        jr $31
+table2: .rdata
+table:  .word table-main

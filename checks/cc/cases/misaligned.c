@@ -1,0 +1,5 @@
+int main(void) {
+    char room[8];
+    *(short *) (room + 3) = 5;
+    return room[4];
+}

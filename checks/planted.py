@@ -1,0 +1,200 @@
+"""Plants a fault for each check in a copy of the repository, and runs the check: it has to fail, and to report that fault.
+
+It is run by `checks/all.sh --self-test`. A case is a script for bash that begins in the copy. `plant FILE EXPRESSION` changes a file by sed,
+`fake NAME EXPRESSION` leaves in $fake a program that prints what mx_run or mx_lab prints, changed by sed.
+"""
+import concurrent.futures
+import os
+import re
+import shutil
+import threading
+from typing import NamedTuple
+
+import common
+from common import TOP
+
+NOT_PLANTED, MINUTES = 99, 20
+BEGIN = r"""
+plant() {
+    cp "$1" "$work/before" || exit 99
+    sed -i "$2" "$1" && ! cmp -s "$1" "$work/before" || { echo "nothing was planted in $1"; exit 99; }
+}
+fake() {
+    fake=$work/fake
+    printf '%s\n' "$2" >"$fake.sed"
+    printf '#!/bin/sh\n"%s" "$@" >"%s.$$"\nstatus=$?\nsed -f "%s.sed" <"%s.$$"\nrm -f "%s.$$"\nexit "$status"\n' "$1" "$fake" "$fake" "$fake" "$fake" >"$fake"
+    chmod +x "$fake"
+}
+"""
+
+
+class Case(NamedTuple):
+    """A planted fault: the check's name in all.py and its file, what is planted, the script, and what the check has to print, each."""
+    name: str
+    file: str
+    what: str
+    script: str
+    wanted: tuple
+
+
+CASES = (
+    Case("deps", "deps.py", "a library that no file names", "plant crates.txt 's/^mx_code: mx_isa$/& memchr/'; checks/deps.py",
+         ("mx_code lists memchr, which no file of it names",)),
+    Case("deps", "deps.py", "a crate that is not listed", "plant crates.txt 's/^mx_delay: mx_isa$/mx_delay:/'; checks/deps.py",
+         ("mx_delay does not list mx_isa",)),
+    Case("edits", "edits.py", "an edit of a text that is not there",
+         "plant \"$(ls crates/*/must-fail/*.edit | head -n 1)\" 's/^old: /old: no such text /'; checks/edits.py", ("has its text 0 times",)),
+    Case("edits", "edits.py", "no edits", "rm -f crates/*/must-fail/*.edit; checks/edits.py", ("nothing was compared",)),
+    Case("refusals", "refusals.py", "a log without edits", "checks/refusals.py /dev/null", ("nothing was compared",)),
+    Case("refusals", "refusals.py", "a log that is not there", "checks/refusals.py none", ("none: no such file",)),
+    Case("refusals", "refusals.py", "an edit that another goal refuses", """
+        name=$(head -n 1 checks/refused.txt | cut -d ' ' -f 1)
+        echo "must-fail $name.edit: refused, as it must be: src/x.rt:1:1: error: another goal" >log; checks/refusals.py log""", ("refused elsewhere",)),
+    Case("refusals", "refusals.py", "an edit that is not refused", """
+        name=$(head -n 1 checks/refused.txt | cut -d ' ' -f 1)
+        echo "must-fail $name.edit: accepted" >log; checks/refusals.py log""", ("not refused",)),
+    Case("plan cases", "plans.py", "another line", "plant crates/test_plan_cases/data/plans.txt '5s/greedy/greedier/'; checks/plans.py",
+         ("FAILED: line 5 of plans.txt",)),
+    Case("caches", "caches.py", "another number of misses", """
+        plant crates/test_lab_cases/data/sources.txt '/^caches source/s/\\([0-9]\\) /\\19 /5'; checks/caches.py""", ("the stored answer is another one",)),
+    Case("rows", "rows.sh", "a program that prints nothing, and no cases", """
+        : >crates/test_command_cases/data/runs.txt; MX_RUN=/bin/true checks/rows.sh""", ("no case was found", "runs differ")),
+    Case("rows", "rows.sh", "an argument", "checks/rows.sh typo", ("unexpected argument typo",)),
+    Case("edges", "edge.sh", "a program that prints nothing, and no image files", """
+        : >crates/test_command_cases/data/images.txt; MX_RUN=/bin/true checks/edge.sh""", ("no case was found", "runs differ")),
+    Case("arguments", "words.sh", "a program that prints nothing", "MX_LAB=/bin/true checks/words.sh", ("runs differ",)),
+    Case("arguments", "words.sh", "a program that is not there", "MX_LAB=/none checks/words.sh", ("/none cannot be run",)),
+    Case("plans", "planned.sh", "two programs that print nothing", "MX_LAB=/bin/true MX_RUN=/bin/true checks/planned.sh",
+         ("FAILED: the plans of schedule.py for calls.s", "runs differ")),
+    Case("plans", "planned.sh", "a program that fails", "MX_LAB=/bin/false checks/planned.sh", ("FAILED: the plans of schedule.py for calls.s",)),
+    Case("profiles", "profiles.py", "no sources", "checks/profiles.py 0", ("expected a number of sources above 0",)),
+    Case("profiles", "profiles.py", "false misses, without assertions", """
+        fake "$MX_LAB" 's/^misses /misses 9/'; PYTHONOPTIMIZE=1 MX_LAB=$fake checks/profiles.py 3""", ("FAILED: the counts",)),
+    Case("profiles", "profiles.py", "a false column, without assertions", """
+        fake "$MX_LAB" '2s/ 2 / 3 /'; PYTHONOPTIMIZE=1 MX_LAB=$fake checks/profiles.py 3""", ("FAILED",)),
+    Case("JSON", "lab_json.py", "a program that fails", "MX_LAB=/bin/false checks/lab_json.py", ("not so: the examples halt",)),
+    Case("JSON", "lab_json.py", "false cycles", """
+        fake "$MX_LAB" 's/"cycles": *\\([0-9]\\)/"cycles": 9\\1/'; MX_LAB=$fake checks/lab_json.py examples/countdown.s""", ("not so",)),
+    Case("JSON", "lab_json.py", "a source that is not there", "checks/lab_json.py none.s", ("none.s: no such file",)),
+    Case("JSON", "replay.py", "a false turn of a trace", """
+        "$MX_LAB" trace examples/countdown.s >trace; plant trace '9s/"fetch": *[0-9]*/"fetch": 4242/'; checks/replay.py trace""", ("is wanted",)),
+    Case("JSON", "replay.py", "an empty trace", "checks/replay.py /dev/null", ("the trace is empty",)),
+    Case("soak", "soak.py", "false cycles", """fake "$MX_RUN" 's/^cycles /cycles 1/'; MX_RUN=$fake checks/soak.py 7 40""", ("FAILED: soak 7 40",)),
+    Case("soak", "soak.py", "a program that fails", "MX_RUN=/bin/false checks/soak.py", ("runs differ",)),
+    Case("memory", "memory.sh", "a command that is none", "checks/memory.sh typo", ("typo",)),
+    Case("drawing", "cells.py", "a stage in the wrong place", """
+        "$MX_LAB" draw examples/countdown.s --as text >text && "$MX_LAB" draw examples/countdown.s --as kanata >kanata
+        plant text 's/ALU/MEM/'; PYTHONOPTIMIZE=1 checks/cells.py --kanata kanata text""", ("FAILED",)),
+    Case("drawing", "draw.sh", "a program that prints nothing", "PATH=/usr/bin:/bin MX_LAB=/bin/true checks/draw.sh", ("FAILED: text is written",)),
+    Case("clients", "clients.py", "no requests", "checks/clients.py 0", ("expected at least",)),
+    Case("clients", "clients.py", "a program that fails", "MX_SERVE=/bin/false checks/clients.py 100", ("FAILED: 100 requests",)),
+    Case("clients", "clients.py", "a run that goes on without its client, and a client that fails by itself", """
+        plant tools/serve/programs.py 's/poll.register(client, select.POLLRDHUP)/pass/'
+        plant checks/clients.py 's/"a page": (200, lambda client: /&None + /'
+        MX_TIMES=yes checks/clients.py 100""", ("TypeError", "FAILED: no run is left")),
+    Case("workbench's faults", "serve_faults.py", "a file that hangs, an empty address, options of ./mx, hidden faults", """
+        plant tools/serve/serve.py 's/os.O_RDONLY | os.O_NONBLOCK | os.O_CLOEXEC)$/os.O_RDONLY)/'
+        plant tools/serve/serve.py 's/if not words.host.strip():/if False:/'
+        plant tools/serve/serve.py 's/^    parser.add_argument("file"/    parser.add_argument("--proved", action="store_true")\\n&/'
+        plant tools/serve/serve.py 's/^        self.server.slots.serve(self.request)$/        pass/'
+        plant tools/serve/serve.py 's/^            if refused.status == 500:$/            if False:/'
+        plant tools/serve/slots.py 's/while self.taken + size > self.most:/while False:/'
+        plant tools/serve/directives.py 's/for number in (NUMBER, SEPARATED_NUMBER)/for number in (NUMBER,)/'
+        plant tools/serve/translate.py 's/^            shutil.rmtree(folder, ignore_errors=True)$/            pass/'
+        MX_TIMES=yes checks/serve_faults.py""",
+         ("FAILED: fifo as FILE", "FAILED: '--host ' is refused", "FAILED: '--proved' is refused", "FAILED: it is logged",
+          "FAILED: a request that was begun before keeps its connection", "FAILED: of 16 runs at most", "FAILED: refused: int a = 1'0")),
+    Case("workbench", "serve.py", "another picture than the page's", """fake "$MX_LAB" 's/ALU/MEM/g'; MX_LAB=$fake checks/serve.py""",
+         ("FAILED: the cells of cycle",)),
+    Case("shells", "shells.sh", "a command that bash does not offer",
+         "plant tools/install.py \"s/quoted(' '.join(COMMANDS) + ' lab/quoted(' '.join(list(COMMANDS)[1:]) + ' lab/\"; checks/shells.sh",
+         ("FAILED: bash: the command run",)),
+    Case("proved", "proved.py", "a program whose checksum is not compared",
+         "plant tools/state.py 's/ and record\\[\"output\"\\] == sum_of(output))/)/'; checks/proved.py", ("FAILED",)),
+    Case("processes", "processes.py", "a run that outlives ./mx",
+         """plant mx 's/^        setpriv --pdeathsig TERM "\$@"$/        "$@"/; s/has setpriv; then setpriv --pdeathsig TERM/has setpriv; then/'
+         checks/processes.py""", ("FAILED",)),
+    Case("files", "files.py", "a file that is left", "plant tools/launch.py 's/        os.remove(fresh)$/        pass/'; checks/files.py", ("FAILED",)),
+    Case("completions", "completions.sh", "texts that are not quoted", """
+        plant tools/install.py "s/^    return \"'\" + text.replace.*/    return \"'\" + text + \"'\"/"; checks/completions.sh""", ("FAILED",)),
+    Case("Python", "python_module.py", "a refusal that cannot be pickled",
+         "plant python/zanderanvil/library.py '/def __reduce__/,/return Refusal/d'; checks/python_module.py", ("FAILED",)),
+    Case("messages", "messages.py", "a program that prints nothing", "MX_RUN=/bin/true MX_LAB=/bin/true checks/messages.py", ("FAILED",)),
+    Case("lint", "lint.sh", "an import that is not used", "echo 'import os' >tools/unused.py; checks/lint.sh", ("imported but unused",)),
+    Case("all", "all.py", "a check that compares nothing", """
+        echo 'print("edits: all is well")' >checks/edits.py; checks/all.sh edits deps""", ("WRONG: edits", "it reports nothing that it compared", "WRONG: edits$")),
+    Case("all", "all.py", "a check that fails", "plant crates.txt 's/^mx_delay: mx_isa$/mx_delay:/'; checks/all.sh deps", ("1 fail",)),
+    Case("all", "all.py", "an unknown name", "checks/all.sh typo", ("unknown check or option: typo",)),
+    Case("C programs", "cc.sh", "an example that is none", "checks/cc.sh 0 typo", ("typo",)),
+    # those of the documents
+    Case("style", "style.py", "a word that is not to be used", "echo 'This stands here.' >>README.md; checks/style.py", ("README.md",)),
+    Case("links", "links.py", "a link to no file", "echo '[x](docs/NOWHERE.md)' >>README.md; checks/links.py", ("NOWHERE",)),
+    Case("tutorial", "tutorial.py", "another number", """
+        plant docs/tutorial/1-first-program.md 's/^cycles 12$/cycles 13/'; checks/tutorial.py docs/tutorial/1-first-program.md""", ("cycles 1[23]",)),
+    Case("editors", "editors.py", "a mnemonic that is none",
+         "plant editors/vscode/syntaxes/mipsx.tmLanguage.json 's/|halt|/|hold|/'; checks/editors.py", ("hold|halt",)),
+    Case("reading", "reading.py", "a definition that is not listed", "plant docs/READING.md 's/, `reading_of`//'; checks/reading.py", ("READING.md|reading_of",)),
+    Case("trusted parts", "trusted.py", "a call that is not listed", """
+        plant crates/mx_command/src/system.rt 's/^    command(alloc, words, shelf, out)/    let mut log = mx_io::ByteLog::new();\\n&/'; checks/trusted.py""",
+         ("ByteLog|log",)),
+    Case("theorem", "theorem.py", "another bound", "plant docs/THEOREM.md 's/^bound n k = 9/bound n k = 8/'; checks/theorem.py", ("bound",)),
+    Case("promises", "promises.py", "a name that is none", "plant docs/PROMISES.md 's/`run_is_delay`/`run_was_delay`/'; checks/promises.py", ("run_was_delay",)),
+)
+
+
+def copy(to):
+    """Makes a copy of the repository without what is built."""
+    ignored = shutil.ignore_patterns("out", ".git", ".mx", "__pycache__")
+    shutil.copytree(TOP, to, ignore=ignored, symlinks=True)
+
+
+def try_case(runner, number, case):
+    """Returns what became of a planted fault: `ok`, `WRONG` or `skipped`, and why."""
+    if not os.path.exists(f"{TOP}/checks/{case.file}"):
+        return "skipped", f"{case.file} is not there"
+    at = f"{runner.folder}/planted-{number}"
+    os.makedirs(f"{at}/work")
+    copy(f"{at}/copy")
+    words = ["bash", "-c", BEGIN + case.script]
+    status, said = runner.run(words, MINUTES, f"{at}/copy", runner.programs, top=TOP, work=f"{at}/work", MX_SAMPLE="1")
+    shutil.rmtree(at, ignore_errors=True)
+    if status == common.SKIPPED:
+        return "skipped", said.strip().splitlines()[-1]
+    tail = "\n".join(f"    {it[:300]}" for it in said.splitlines()[-15:])
+    if status is None:
+        return "WRONG", f"it takes too long\n{tail}"
+    if status == NOT_PLANTED:
+        return "WRONG", f"the fault could not be planted\n{tail}"
+    if status == 0:
+        return "WRONG", f"the fault is not found\n{tail}"
+    missing = [it for it in case.wanted if not re.search(it, said, re.M)]
+    if missing:
+        return "WRONG", f"status {status}, but it does not print {missing}\n{tail}"
+    return "ok", f"status {status}"
+
+
+def run(runner, names):
+    """Tries the planted faults of the checks with these names, of all without; returns the exit status."""
+    if shutil.which("bash") is None:
+        print("skipped: bash is missing")
+        return 0
+    import all as checks  # the module that called this one
+    for name in checks.PROGRAMS:
+        path, wrong = checks.prepare(name, runner)
+        if path is None:
+            print(f"WRONG: {name} cannot be built: {wrong}")
+            return 1
+        runner.programs[name] = path
+    counts, lock = {"ok": 0, "WRONG": 0, "skipped": 0}, threading.Lock()
+
+    def go(number, case):
+        state, why = try_case(runner, number, case)
+        with lock:
+            counts[state] += 1
+            print(f"{state}: {case.name}: {case.what}: {why}", flush=True)
+
+    with concurrent.futures.ThreadPoolExecutor(max(1, (os.cpu_count() or 2) // 2)) as pool:
+        for it in [pool.submit(go, number, case) for number, case in enumerate(CASES) if not names or case.name in names]:
+            it.result()
+    print(f"self-test: compared {counts['ok']} planted faults that were found; {counts['WRONG']} were not, {counts['skipped']} are skipped")
+    return 1 if counts["WRONG"] or not counts["ok"] else 0

@@ -1,0 +1,4 @@
+        .globl main
+main:   jr $31
+        .section .ctors,"aw"
+        .word main

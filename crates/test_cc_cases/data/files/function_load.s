@@ -1,0 +1,3 @@
+        .globl main
+main:   lw $2,main
+        jr $31

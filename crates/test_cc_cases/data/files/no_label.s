@@ -1,0 +1,7 @@
+        .globl main
+main:   la $2,text
+        jr $31
+        .data
+text:   .asciiz "text"
+        .rdata
+        .word 5
