@@ -261,8 +261,16 @@ def work_through(checks, runner):
             results[name] = result
             print_result(name, result)
 
+    again = []
+
     def go(check):
-        keep(check.name, runner.check(check))
+        result = runner.check(check)
+        if result.state == "WRONG":
+            # it may lack memory or time beside the others, but not twice
+            print_result(f"{check.name}, the first time", result)
+            again.append(check)
+        else:
+            keep(check.name, result)
 
     needed = [it for it in PROGRAMS if any(it in check.programs for check in checks)]
     together = [it for it in checks if not it.is_alone]
@@ -281,6 +289,8 @@ def work_through(checks, runner):
         going += [pool.submit(go, it) for it in together if it.programs]
         for it in going:
             it.result()
+    for check in again:
+        keep(check.name, runner.check(check))
     for check in checks:
         if check.is_alone:
             result = runner.check(check)
