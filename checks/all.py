@@ -69,6 +69,7 @@ CHECKS = (
     Check("memory", ("memory.sh",), ("mx_run",)),
     Check("soak", ("soak.py",), ("mx_run",)),
     Check("messages", ("messages.py",), ("mx_run", "mx_lab")),
+    Check("package", ("package.py",), ("mx_run", "mx_lab")),
     Check("tutorial", ("tutorial.py",), PROGRAMS),
     # the laboratory
     Check("arguments", ("words.sh",), ("mx_lab",)),

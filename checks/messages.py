@@ -272,6 +272,16 @@ def compare_writing():
     common.tell("gen 7 40 >/dev/full", (full.returncode, full.stderr) == (5, wanted), full.stderr)
 
 
+def compare_alone(folder):
+    """Compares what is said of a refused source where the laboratory is not built."""
+    fill(folder, "main:\tfrob r1\n")
+    for name, wanted in (("s.s", "s.s:1:7: error[F3]: unknown instruction 'frob'\n    main:\tfrob r1\n         \t^^^^\n"),
+                         ("bad.s", "bad.s:1: error[F8]: undefined label\n"), ("far.s", "far.s:1: error[L1]: the branch at 0x1000 ")):
+        how = {"capture_output": True, "text": True, "cwd": folder, "env": {**os.environ, "MX_LAB": "/none"}}
+        said = subprocess.run([f"{common.TOP}/mx", "run", name], check=False, **how)
+        common.tell(f"run {name} without the laboratory", said.returncode == 1 and said.stderr.startswith(wanted), said.stderr)
+
+
 def each(compare_one, things):
     """Makes a folder for each of some things, and compares it there."""
     for it in things:
@@ -369,6 +379,8 @@ def main(words):
     if "mx_run" in parts:
         each(compare, TOOLCHAIN)
         compare_writing()
+        with tempfile.TemporaryDirectory(prefix="messages-") as folder:
+            compare_alone(folder)
     if "mx_lab" in parts:
         each(compare, LABORATORY + SENTENCES)
         each(lambda it, folder: compare_checked(*it, folder), CHECKED)
