@@ -63,31 +63,52 @@ float fminf(float x, float y);
 float fmaxf(float x, float y);
 float sqrtf(float x);
 
-/* Near the exact value, by a few units of the last place. */
+/* Within one unit in the last place. */
 double exp(double x);
 double exp2(double x);
+double expm1(double x);
 double log(double x);
 double log2(double x);
 double log10(double x);
-double pow(double x, double y);
+double log1p(double x);
+double cbrt(double x);
 double sin(double x);
 double cos(double x);
 double tan(double x);
 double asin(double x);
 double acos(double x);
 double atan(double x);
-double atan2(double y, double x);
 double sinh(double x);
 double cosh(double x);
 double tanh(double x);
+double asinh(double x);
+double acosh(double x);
+double atanh(double x);
+double pow(double x, double y);
 double hypot(double x, double y);
+double atan2(double y, double x);
 float expf(float x);
+float exp2f(float x);
+float expm1f(float x);
 float logf(float x);
-float powf(float x, float y);
+float log2f(float x);
+float log10f(float x);
+float log1pf(float x);
+float cbrtf(float x);
 float sinf(float x);
 float cosf(float x);
 float tanf(float x);
+float asinf(float x);
+float acosf(float x);
 float atanf(float x);
+float sinhf(float x);
+float coshf(float x);
+float tanhf(float x);
+float asinhf(float x);
+float acoshf(float x);
+float atanhf(float x);
+float powf(float x, float y);
+float hypotf(float x, float y);
 float atan2f(float y, float x);
 
 #endif
