@@ -25,10 +25,12 @@ ONE = {
     'sin': 'bits e-1074:1023 -10:10 -1e9:1e9', 'cos': 'bits e-1074:1023 -10:10 -1e9:1e9', 'tan': 'bits e-1074:1023 -10:10 -1e9:1e9',
     'asin': 'bits e-1074:0 -1:1', 'acos': 'bits e-1074:0 -1:1 0.999:1', 'atan': 'bits e-1074:1023 -4:4',
     'sinh': 'bits e-60:10 -711:711 -1:1', 'cosh': 'bits e-60:10 -711:711 -1:1', 'tanh': 'bits e-60:6 -30:30 -1:1',
-    'asinh': 'bits e-1074:1023 -4:4', 'acosh': 'bits e0:1023 1:2 1:100', 'atanh': 'bits e-1074:0 -1:1',
+    'asinh': 'bits e-1074:1023 -4:4', 'acosh': 'bits e0:1023 1:2 1:100', 'atanh': 'bits e-1074:0 -1:1', 'logb': 'bits e-1074:1023', 'sqrt': 'bits e-1074:1023 n0:1000', 'rint': 'bits -100:100', 'round': 'bits -100:100',
 }
 TWO = {
     'pow': 'bits,bits 0.5:2,-1000:1000 e-1074:1023,e-10:10 0.999:1.001,e0:20 0:100,n-320:320 n-100:100,n-60:60 n2:10,-1080:1080',
+    'remainder': 'bits,bits e-20:40,e-20:20 n-1000:1000,n-30:30', 'fmod': 'bits,bits e-20:40,e-20:20 n-1000:1000,n-30:30',
+    'fdim': 'bits,bits -4:4,-4:4',
     'hypot': 'bits,bits e-1074:1023,e-1074:1023 e-10:10,e-10:10 n0:1000,n0:1000', 'atan2': 'bits,bits e-1074:1023,e-1074:1023 -4:4,-4:4',
 }
 SPECIALS = ['0.0', '-0.0', '1.0', '-1.0', '0.5', '-0.5', '2.0', '-2.0', '3.0', '-3.0', '10.0', '1000.0', '1e8', '1e22', '0x1p-1074', '-0x1p-1074',
@@ -101,6 +103,27 @@ static double judge(const char *name, double x, double y, double got, int error,
 
 #define EACH_SPECIAL (int) (sizeof specials / sizeof *specials)
 
+double our_fma(double, double, double);
+double our_nextafter(double, double);
+
+/* fma and nextafter have to be the same number: the host's is right. */
+static void three(long many) {
+    static const struct range wide = {BITS, 0, 0}, near = {EXPONENT, -3, 3};
+    long worst = failures;
+    for (long i = 0; i < many; i++) {
+        struct range range = i & 1 ? wide : near;
+        double x = take(range), y = take(range), z = i % 3 == 0 ? -x * y * (1 + take(near) * 0x1p-52) : i % 3 == 1 ? -x * y : take(range);
+        double got = our_fma(x, y, z), wanted = fma(x, y, z);
+        double step = our_nextafter(x, z), wanted_step = nextafter(x, z);
+        compared += 2;
+        if (memcmp(&step, &wanted_step, sizeof step) && !(isnan(step) && isnan(wanted_step)) && failures++ < 20)
+            printf("FAILED: nextafter(%a, %a): %a, expected %a\n", x, z, step, wanted_step);
+        if (memcmp(&got, &wanted, sizeof got) && !(isnan(got) && isnan(wanted)) && failures++ < 20)
+            printf("FAILED: fma(%a, %a, %a): %a, expected %a\n", x, y, z, got, wanted);
+    }
+    printf("fma and nextafter: %ld differ\n", failures - worst);
+}
+
 static void one(const char *name, double (*ours)(double), long double (*theirs)(long double), double (*plain)(double), const struct range *ranges, int count, long many) {
     double worst = 0, at = 0;
     for (long i = -EACH_SPECIAL; i < many; i++) {
@@ -154,6 +177,8 @@ def driver(names):
             listed = [range_of(it) for group in ranges.split() for it in group.split(',')]
             text += f'double our_{name}({parameters});\nstatic const struct range of_{name}[] = {{{", ".join(listed)}}};\n'
             calls.append(f'    {("one", "two")[count - 1]}("{name}", our_{name}, {name}l, {name}, of_{name}, {len(ranges.split())}, {MANY});\n')
+    if 'fma' in names:
+        calls.append(f'    three({MANY});\n')
     return text + 'int main(void) {\n' + ''.join(calls) + '    printf("%ld answers compared, %ld failed\\n", compared, failures);\n    return failures || !compared;\n}\n'
 
 
@@ -180,8 +205,8 @@ def main():
     if not shutil.which('gcc'):
         print('mathematics.py: gcc is missing; nothing is compared')
         return 77
-    names = sys.argv[1:] or [*ONE, *TWO]
-    unknown = [name for name in names if name not in ONE and name not in TWO]
+    names = sys.argv[1:] or [*ONE, *TWO, 'fma']
+    unknown = [name for name in names if name not in ONE and name not in TWO and name != 'fma']
     if unknown:
         print(f'mathematics.py: {unknown[0]}: not a function of the list')
         return 2

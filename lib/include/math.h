@@ -11,18 +11,37 @@ typedef double double_t;
 #define NAN __builtin_nanf("")
 
 #define M_E 2.7182818284590452354
+#define M_LOG2E 1.4426950408889634074
+#define M_LOG10E 0.43429448190325182765
 #define M_LN2 0.69314718055994530942
 #define M_LN10 2.30258509299404568402
 #define M_PI 3.14159265358979323846
 #define M_PI_2 1.57079632679489661923
 #define M_PI_4 0.78539816339744830962
+#define M_1_PI 0.31830988618379067154
+#define M_2_PI 0.63661977236758134308
+#define M_2_SQRTPI 1.12837916709551257390
 #define M_SQRT2 1.41421356237309504880
+#define M_SQRT1_2 0.70710678118654752440
 
 #define FP_NAN 0
 #define FP_INFINITE 1
 #define FP_ZERO 2
 #define FP_SUBNORMAL 3
 #define FP_NORMAL 4
+#define FP_ILOGB0 (-2147483647)
+#define FP_ILOGBNAN 2147483647
+
+#define MATH_ERRNO 1
+#define MATH_ERREXCEPT 2
+#define math_errhandling MATH_ERRNO
+
+#define isgreater(x, y) __builtin_isgreater(x, y)
+#define isgreaterequal(x, y) __builtin_isgreaterequal(x, y)
+#define isless(x, y) __builtin_isless(x, y)
+#define islessequal(x, y) __builtin_islessequal(x, y)
+#define islessgreater(x, y) __builtin_islessgreater(x, y)
+#define isunordered(x, y) __builtin_isunordered(x, y)
 
 int _classify(double x);
 int _classifyf(float x);
@@ -52,6 +71,35 @@ double copysign(double x, double sign);
 double fmin(double x, double y);
 double fmax(double x, double y);
 double sqrt(double x);
+double fdim(double x, double y);
+double fma(double x, double y, double z);
+double remainder(double x, double y);
+double remquo(double x, double y, int *quotient);
+double nextafter(double x, double y);
+double logb(double x);
+double scalbln(double x, long exponent);
+double nan(const char *text);
+int ilogb(double x);
+long long llround(double x);
+long long llrint(double x);
+float fdimf(float x, float y);
+float fmaf(float x, float y, float z);
+float remainderf(float x, float y);
+float remquof(float x, float y, int *quotient);
+float nextafterf(float x, float y);
+float logbf(float x);
+float rintf(float x);
+float nearbyintf(float x);
+float modff(float x, float *whole);
+float frexpf(float x, int *exponent);
+float ldexpf(float x, int exponent);
+float scalbnf(float x, int exponent);
+float scalblnf(float x, long exponent);
+int ilogbf(float x);
+long lroundf(float x);
+long lrintf(float x);
+long long llroundf(float x);
+long long llrintf(float x);
 float fabsf(float x);
 float floorf(float x);
 float ceilf(float x);
