@@ -49,5 +49,14 @@ int main(void) {
     SHOW(asinh(1e-3 * one));
     SHOW(acosh(1.5 * one));
     SHOW(atanh(0.5 * one));
+    SHOW(tgamma(5.5 * one));
+    SHOW(tgamma(-1.5 * one));
+    SHOW(erf(0.5 * one));
+    SHOW(erfc(3 * one));
+    SHOW(fma(one + 0x1p-30, one - 0x1p-30, -1));
+    SHOW(remainder(7.5 * one, 2));
+    SHOW(nextafter(one, 2) - 1);
+    SHOW(fdim(3 * one, 1) + ilogb(1e10 * one) + llround(2.5 * one) + isgreater(one, none));
+    SHOW(fmaf(3 * one, 2, 1) + floorf(sinhf(one)) + tgammaf(4 * one) + rintf(2.5f * one));
     return 0;
 }
