@@ -197,7 +197,7 @@ def compile_all(names, work):
         subprocess.run(['gcc', '-O2', '-ffp-contract=off', '-fno-builtin', '-w', '-nostdinc', '-isystem', f'{LIBRARY}/include', '-include', f'{work}/names.h',
                         '-c', source, '-o', f'{work}/{os.path.basename(source)}.o'], check=True)
     objects = [f'{work}/{os.path.basename(source)}.o' for source in sources]
-    subprocess.run(['gcc', '-O2', '-w', f'{work}/driver.c', f'{work}/errno.c', *objects, '-o', f'{work}/program', '-lm'], check=True)
+    subprocess.run(['gcc', '-O2', '-fno-builtin', '-w', f'{work}/driver.c', f'{work}/errno.c', *objects, '-o', f'{work}/program', '-lm'], check=True)
     return f'{work}/program'
 
 

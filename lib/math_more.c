@@ -9,7 +9,12 @@
 double fdim(double x, double y) {
     if (isnan(x) || isnan(y))
         return x + y;
-    return x > y ? x - y : 0;
+    if (!(x > y))
+        return 0;
+    double difference = x - y;
+    if (isinf(difference) && isfinite(x) && isfinite(y))
+        errno = ERANGE;
+    return difference;
 }
 
 long long llround(double x) {
