@@ -6,7 +6,9 @@ usage: checks/files.py
 The cases run in a small repository with a toolchain of this check (checks/tiny.py). Where the environment names programs (MX_RUN,
 MX_LAB), these run as well, on a disk that is full where this user may mount one.
 """
+import contextlib
 import os
+import pty
 import shutil
 import stat
 import subprocess
@@ -63,7 +65,7 @@ def inputs_stay(tally, call):
             make(call.path("s"), call.path(name))
         ran = call(*words)
         lines = ran.stderr.splitlines()
-        refused = ran.returncode == 2 and len(lines) == 1 and "this file is read" in lines[0] and not ran.stdout
+        refused = ran.returncode == 2 and len(lines) == 1 and "is both an input and the output" in lines[0] and not ran.stdout
         tally.need(refused and call.has("s") and call.has("i"), f"{call.name} {' '.join(words)} is refused", ran)
     os.remove(call.path("second"))
     call.put("line")
@@ -131,6 +133,55 @@ def replaced(tally, call):
         ran = call("draw", "s", "-o", name)
         tally.need(ran.returncode == 0 and call.has(name, "draw done\n"), f"{call.name}: a file with the name {name[:10]!r}", ran)
     tally.need(not call.left(), f"{call.name}: nothing else is left", call.left())
+
+
+def printed(tally, call):
+    """What a command of the toolchain prints goes to the file of -o, unless it fails."""
+    call.put("s")
+    for words in (("run", "s", "-o", "out"), ("run", "-oout", "s"), ("list", "s", "--output=out"), ("meaning", "--output", "out", "s")):
+        call.put("out")
+        ran = call(*words)
+        tally.need(ran.returncode == 0 and not ran.stdout and call.has("out", f"{words[0]} done\n"), f"{call.name} {' '.join(words)}", ran)
+    ran = call("run", "s", "-o", "out", STATUS="3")
+    tally.need(ran.returncode == 3 and call.has("out", "run done\n"), f"{call.name}: also of a run out of budget", ran)
+    call.put("out")
+    ran = call("run", "s", "-o", "out", STATUS="1")
+    tally.need(ran.returncode == 1 and ran.stdout == "run done\n" and call.has("out"), f"{call.name}: a refused source goes to standard output", ran)
+    for words in (("run", "s", "-o", "s"), ("share", "t", "s", "-os"), ("run", "t", "--input", "s", "--output=s")):
+        ran = call(*words)
+        tally.need(ran.returncode == 2 and call.has("s") and "both an input" in ran.stderr, f"{call.name} {' '.join(words)} is refused", ran)
+    ran = call("run", "s", "-o", "/dev/stdout")
+    tally.need(ran.returncode == 0 and ran.stdout == "run done\n", f"{call.name}: a pipe is written", ran)
+    for words in (("run", "s", "-o"), ("run", "s", "-o", "")):
+        ran = call(*words)
+        tally.need(ran.returncode == 2 and "missing value" in ran.stderr, f"{call.name} {' '.join(words)} without a file", ran)
+    ran = call("run", "s", "-o", "none/out")
+    tally.need(ran.returncode == 5 and "none/out" in ran.stderr, f"{call.name}: a folder that is not there is named", ran)
+    old = os.umask(0o077)
+    ran = call("run", "s", "-o", "private")
+    os.umask(old)
+    tally.need(stat.S_IMODE(os.stat(call.path("private")).st_mode) == 0o600, f"{call.name}: a new file has the permissions of new files", ran)
+    tally.need(not call.left(), f"{call.name}: nothing else is left", call.left())
+
+
+def on_terminal(tally, call):
+    """On a terminal the program still has one for its messages."""
+    call.put("s")
+    call.put("old")
+    for more, status in (({}, 0), ({"FULL": "yes"}, 5)):
+        pid, terminal = pty.fork()
+        if pid == 0:
+            os.chdir(call.folder)
+            os.execve(call.words[0], [*call.words, "draw", "s", "-o", "old"], call.tiny.environment(MX_QUIET="1", TERMINAL="yes", **more))
+        said = b""
+        with contextlib.suppress(OSError):
+            while piece := os.read(terminal, 4096):
+                said += piece
+        ended_with = os.waitstatus_to_exitcode(os.waitpid(pid, 0)[1])
+        os.close(terminal)
+        holds = ended_with == status and b"a terminal" in said and b".mx-" not in said and (status == 0 or b"cannot be written: old" in said)
+        tally.need(holds, f"{call.name}: messages on a terminal, with status {status}", f"{ended_with} {said!r}")
+    tally.need(call.has("old", "draw done\n") and not call.left(), f"{call.name}: and the file is as it should be")
 
 
 def installs(tally, tiny):
@@ -220,10 +271,10 @@ def main():
         tiny.mx("install", f"{tiny.folder}/prefix")
         for name, words in (("mx", [f"{tiny.top}/mx"]), ("zanderanvil", [f"{tiny.folder}/prefix/bin/zanderanvil"])):
             call = Caller(tiny, name, words)
-            for case in (inputs_stay, full_disk, replaced):
-                case(tally, call)
+            for case in (inputs_stay, full_disk, replaced, printed, on_terminal):
+                tally.run(case, call)
         for case in (installs, libraries, real_programs):
-            case(tally, tiny)
+            tally.run(case, tiny)
     finally:
         tiny.remove()
     return tally.status()

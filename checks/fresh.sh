@@ -73,17 +73,17 @@ tell 'a command that there is not' 2 "zanderanvil: error: unknown command 'rnu';
 run "$clone" ./mx run --budgte 5 examples/hello.s
 tell 'an option that there is not' 2 "zanderanvil: error: unexpected argument '--budgte'; did you mean '--budget'?"
 run "$clone" ./mx run --budget 200000000 examples/hello.s
-tell 'a number out of range' 2 'mx: --budget is 200000000, and may be 0 to 100,000,000'
+tell 'a number out of range' 2 "invalid value '200000000' for '--budget': expected 0 to 100,000,000"
 run "$clone" ./mx debug examples/countdown.s nxet
-tell 'a label that there is not' 1 'mx: there is no label nxet; did you mean next?'
+tell 'a label that there is not' 1 "undefined label 'nxet' in examples/countdown.s; did you mean 'next'?"
 run "$clone" ./mx exec examples/hello.s
-tell 'a source in the place of an image' 7 'is no image file'
+tell 'a source in the place of an image' 7 'is not a valid image file'
 run "$clone" sh -c './mx run - <examples/hello.s'
 tell 'standard input' 0 'cycles 12'
 run "$clone" sh -c 'cat README.md | ./mx share examples/hello.s -'
-tell 'faults of what comes by a pipe' 1 'mx: ./mx check SOURCE tells every faulty line'
+tell 'faults of what comes by a pipe' 1 'program 2 line 1: F4 BadOperands'
 run "$clone" ./mx run README.md
-tell 'a source with faults' 1 'mx: ./mx check README.md tells every faulty line'
+tell 'a source with faults' 1 'hint: ./mx check README.md shows every faulty line'
 run "$clone" ./mx run --budget=5 examples/hello.s
 tell 'an option with =' 3 'cycles 5'
 run "$clone" ./mx run --help
@@ -93,7 +93,7 @@ tell 'no words' 2 'usage: ./mx'
 mkdir "$folder/bin"
 for it in dirname readlink cat find sha256sum; do ln -s "$(command -v "$it")" "$folder/bin/"; done
 run "$clone" env PATH="$folder/bin" /bin/sh ./mx --proved run examples/hello.s
-tell 'without the toolchain it says what to install' 10 'mx: the toolchain'"'"'s command rt is not there'
+tell 'without the toolchain it says what to install' 10 'zanderanvil: error: the command rt is missing'
 run "$clone" sh -c 'git status --porcelain; echo "status of the clone"'
 grep -v -e new.mxi -e 'status of the clone' "$folder/out" && status=1
 tell 'nothing else was written' 0 'status of the clone'

@@ -112,7 +112,7 @@ TOOLCHAIN = [
     Case("run ok.s --interrupts late", 8, "late:2: error[NotAscending]: expected a cycle after the one of the line before",
          "interrupts line 2: NotAscending\n"),
     Case("build ok.s folder", 5, "zanderanvil: error: cannot write 'folder'"),
-    Case("run ok.s -o folder", 5, "zanderanvil: error: cannot write 'folder'"),
+    Case("run ok.s -o folder", 5, "zanderanvil: error: cannot write 'folder': Is a directory"),
     Case("run ok.s -o new", 0, None),
     Case("explain F99", 4, "zanderanvil: error: cannot read 'F99': no such file"),
     Case("test --help", 0, None, ANY),
@@ -261,6 +261,27 @@ def compare_checked(source, lines, folder):
     common.tell(f"check: {lines[0]}", not lost, f"not printed: {lost}, but {printed[:6]}")
 
 
+def compare_writing():
+    """Compares what is said where standard output takes no more: a pipe to head, and a full device."""
+    quiet = subprocess.run(["sh", "-c", f"{common.TOP}/mx gen 7 4000 | head -n 1 >/dev/null"], capture_output=True, text=True, check=False)
+    common.tell("gen 7 4000 | head", not quiet.stderr, quiet.stderr)
+    folder = subprocess.run([f"{common.TOP}/mx", "gen", "7", "40", "-o", "/"], capture_output=True, text=True, check=False)
+    common.tell("gen 7 40 -o /", (folder.returncode, folder.stderr) == (5, "zanderanvil: error: cannot write '/': Is a directory\n"), folder.stderr)
+    full = subprocess.run(["sh", "-c", f"{common.TOP}/mx gen 7 40 >/dev/full"], capture_output=True, text=True, check=False)
+    wanted = "zanderanvil: error: cannot write to standard output\n"
+    common.tell("gen 7 40 >/dev/full", (full.returncode, full.stderr) == (5, wanted), full.stderr)
+
+
+def compare_alone(folder):
+    """Compares what is said of a refused source where the laboratory is not built."""
+    fill(folder, "main:\tfrob r1\n")
+    for name, wanted in (("s.s", "s.s:1:7: error[F3]: unknown instruction 'frob'\n    main:\tfrob r1\n         \t^^^^\n"),
+                         ("bad.s", "bad.s:1: error[F8]: undefined label\n"), ("far.s", "far.s:1: error[L1]: the branch at 0x1000 ")):
+        how = {"capture_output": True, "text": True, "cwd": folder, "env": {**os.environ, "MX_LAB": "/none"}}
+        said = subprocess.run([f"{common.TOP}/mx", "run", name], check=False, **how)
+        common.tell(f"run {name} without the laboratory", said.returncode == 1 and said.stderr.startswith(wanted), said.stderr)
+
+
 def each(compare_one, things):
     """Makes a folder for each of some things, and compares it there."""
     for it in things:
@@ -357,6 +378,9 @@ def main(words):
     os.environ.update(MX_RUN=common.program("mx_run"), MX_LAB=common.program("mx_lab"), MX_QUIET="1", NO_COLOR="1")
     if "mx_run" in parts:
         each(compare, TOOLCHAIN)
+        compare_writing()
+        with tempfile.TemporaryDirectory(prefix="messages-") as folder:
+            compare_alone(folder)
     if "mx_lab" in parts:
         each(compare, LABORATORY + SENTENCES)
         each(lambda it, folder: compare_checked(*it, folder), CHECKED)

@@ -87,7 +87,7 @@ CASES = (
         plant text 's/ALU/MEM/'; PYTHONOPTIMIZE=1 checks/cells.py --kanata kanata text""", ("FAILED",)),
     Case("drawing", "draw.sh", "a program that prints nothing", "PATH=/usr/bin:/bin MX_LAB=/bin/true checks/draw.sh", ("FAILED: text is written",)),
     Case("clients", "clients.py", "no requests", "checks/clients.py 0", ("expected at least",)),
-    Case("clients", "clients.py", "a program that fails", "MX_SERVE=/bin/false checks/clients.py 100", ("FAILED: 100 requests",)),
+    Case("clients", "clients.py", "a program that fails", "MX_SERVE=/bin/false checks/clients.py 100", ("FAILED: a good request is answered",)),
     Case("clients", "clients.py", "a run that goes on without its client, and a client that fails by itself", """
         plant tools/serve/programs.py 's/poll.register(client, select.POLLRDHUP)/pass/'
         plant checks/clients.py 's/"a page": (200, lambda client: /&None + /'
@@ -156,7 +156,7 @@ def try_case(runner, number, case):
     os.makedirs(f"{at}/work")
     copy(f"{at}/copy")
     words = ["bash", "-c", BEGIN + case.script]
-    status, said = runner.run(words, MINUTES, f"{at}/copy", top=TOP, work=f"{at}/work", MX_SAMPLE="1")
+    status, said = runner.run(words, MINUTES, f"{at}/copy", runner.programs, top=TOP, work=f"{at}/work", MX_SAMPLE="1")
     shutil.rmtree(at, ignore_errors=True)
     if status == common.SKIPPED:
         return "skipped", said.strip().splitlines()[-1]

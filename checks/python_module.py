@@ -146,6 +146,8 @@ def versions(tally, folder):
     version = read(f"{TOP}/VERSION").strip()
     major, minor = version.split(".")
     tally.need(zanderanvil.__version__ == version, "the module has the version of VERSION", zanderanvil.__version__)
+    project = re.search(r'^version = "(.*)"$', read(f"{TOP}/python/pyproject.toml"), re.M)
+    tally.need(project is not None and project[1] == version, "pyproject.toml has the version of VERSION", project)
     header = dict(re.findall(r'#define ZANDERANVIL_VERSION(_MAJOR|_MINOR|_TEXT|) (.*)', read(f"{TOP}/include/zanderanvil.h")))
     tally.need(header.get("_MAJOR") == major and header.get("_MINOR") == minor and header.get("_TEXT") == f'"{version}"',
                "the header has it", header)
@@ -186,14 +188,13 @@ def main():
         print(__doc__.strip(), file=sys.stderr)
         return 2
     tally = Tally("python_module")
-    refusals(tally)
+    tally.run(refusals)
     with tempfile.TemporaryDirectory(prefix="mx-python-") as folder:
-        programs(tally, folder)
-        library(tally, folder)
-        versions(tally, folder)
-    types(tally)
+        for case in (programs, library, versions):
+            tally.run(case, folder)
+    tally.run(types)
     if os.environ.get("MX_LAB"):
-        real(tally)
+        tally.run(real)
     return tally.status()
 
 

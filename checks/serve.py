@@ -142,13 +142,15 @@ def wait_for(bench, what, seconds=20):
 
 
 def type_source(bench, text):
-    """Puts a text in place of the source, as a paste does."""
+    """Puts a text in place of the source, as a paste does; it runs by itself, however long the last run took."""
+    bench.ask("state.slow = Infinity")
     bench.ask("document.getElementById('source').focus(); document.getElementById('source').select()")
     bench.call("Input.insertText", text=text)
 
 
 def put(bench, field, value):
     """Puts a value into a field, as a reader does."""
+    bench.ask("state.slow = Infinity")
     bench.ask(f"(it => {{ it.value = '{value}'; it.dispatchEvent(new Event('input')); }})(document.getElementById('{field}'))")
 
 
@@ -174,7 +176,7 @@ def try_faults(bench):
 
 def cells_shown(bench):
     """Returns the address and the cell of each row that shows something in the cycle."""
-    shown = bench.ask("""[...document.querySelectorAll('#rows .row')].flatMap(row => [...row.querySelectorAll('.cell.on')].map(cell =>
+    shown = bench.ask("""[...document.querySelectorAll('#rows .row')].flatMap(row => [...row.querySelectorAll('.cell.on:not(.held)')].map(cell =>
       [row.querySelector('.name span').textContent, cell.textContent, cell.className]))""")
     marks = {"squashed": "*", "killed": "!"}
     found = []
@@ -267,6 +269,53 @@ def try_search(bench):
         tell(f"the next cycles with a {kind} are found", found == wanted, (found, wanted))
 
 
+MARKED = "[...document.querySelectorAll('#gutter .stage')].filter(it => it.textContent).length"
+
+
+def try_stale(bench):
+    """What a run showed is grey from the first change of the text until the new text has run, and its marks are gone."""
+    type_source(bench, SORT)
+    tell("the sort runs", settled(bench))
+    go(bench, 250)
+    marked = bench.ask(MARKED)
+    tell("lines are marked with their stages", marked > 0, marked)
+    type_source(bench, MISTAKEN)
+    wait_for(bench, "document.querySelector('.wrong') !== null")
+    seen = bench.ask(f"[document.body.classList.contains('stale'), {MARKED}, Number(getComputedStyle(document.getElementById('verdict')).opacity) < 1]")
+    tell("with a fault the old results are grey and no line is marked", seen == [True, 0, True], seen)
+    tell("it says what to do", "Correct the faults" in bench.ask("document.getElementById('stale').textContent"))
+    type_source(bench, SORT)
+    tell("mended, nothing is grey", settled(bench) and not bench.ask("document.body.classList.contains('stale')"))
+    bench.ask("state.slow = 0; document.getElementById('source').focus()")
+    bench.call("Input.insertText", text="; a comment\n")
+    waits = wait_for(bench, "document.getElementById('stale').textContent.includes('press run')")
+    tell("a text whose last run took long waits for its reader", waits and bench.ask("document.body.classList.contains('stale')"))
+    bench.ask("document.getElementById('run').click()")
+    tell("and runs when it is asked to", settled(bench) and not bench.ask("document.body.classList.contains('stale')"))
+    tell("the title names what is shown", "(changed)" in bench.ask("document.title"), bench.ask("document.title"))
+    type_source(bench, SORT)
+    settled(bench)
+
+
+def try_breakpoint(bench):
+    """A click on a line's number sets a breakpoint, which next and previous come to; in a stalled cycle each stage says what it holds."""
+    bench.ask("document.getElementById('source').scrollTop = 0")
+    bench.settle()
+    bench.ask("document.querySelector('#gutter [data-line=\"9\"]').click()")
+    go(bench, 300)
+    found = []
+    for button in ("after", "after", "before"):
+        bench.ask(f"document.getElementById('{button}').click()")
+        bench.settle()
+        found.append(bench.cycle())
+    tell("next and previous go from breakpoint to breakpoint", 300 < found[0] < found[1] and found[2] == found[0], found)
+    bench.ask("document.querySelector('#gutter [data-line=\"9\"]').click()")
+    tell("a second click takes it away", bench.ask("state.breakpoints.size") == 0)
+    go(bench, 8)
+    held = bench.ask("[...document.querySelectorAll('#stages tr')].slice(1).map(row => row.lastElementChild.textContent)")
+    tell("a stalled cycle says of each stage why it waits", bench.ask("state.range.isStalled(8 - state.range.from)") and all(held), held)
+
+
 def try_download(bench):
     bench.ask("""(() => { URL.createObjectURL = content => { window.taken = content; return '#'; };
       document.getElementById('form').value = 'svg'; document.getElementById('download').click(); })()""")
@@ -310,11 +359,12 @@ def try_markup(bench):
         wait_for(bench, "state.isSettled || document.querySelector('.wrong') !== null", 60)
         bench.settle()
         made = bench.ask("[document.querySelectorAll('img, b, i:not(.cost i)').length, document.title]")
-        tell(f"what a text holds is no markup, in {language}", made == [0, "Zanderanvil: the workbench"], made)
+        tell(f"what a text holds is no markup, in {language}", made[0] == 0 and made[1].endswith(" - Zanderanvil"), made)
 
 
 def choose(bench, field, value):
     """Chooses an entry of a menu."""
+    bench.ask("state.slow = Infinity")
     bench.ask(f"(it => {{ it.value = '{value}'; it.dispatchEvent(new Event('change')); }})(document.getElementById('{field}'))")
 
 
@@ -479,6 +529,8 @@ def try_page(bench, url):
     put(bench, "interrupts", "")
     settled(bench)
     try_search(bench)
+    try_stale(bench)
+    try_breakpoint(bench)
     try_download(bench)
     try_speed(bench)
     try_kept(bench)

@@ -88,6 +88,16 @@ def try_program(folder):
                 os.remove(program)
 
 
+def try_silence():
+    """A program that prints nothing, or dies: an answer, and a line in the log."""
+    for program in ("/bin/true", "/bin/false"):
+        with tempfile.TemporaryFile("w+") as log, serving(errors=log, MX_SERVE_PROGRAM=program) as (_, address):
+            client = Client(address)
+            status, body = client.send(client.post({"source": SOURCE}))
+            told = json.loads(body or b"{}").get("error", "")
+            tell(f"a program that prints nothing is answered with 500: {program}", status == 500 and told and told in read_log(log), (status, body))
+
+
 def try_files():
     """No more files can be opened: each request gets an answer, and once there are files again a good one."""
     def limit():
@@ -257,6 +267,7 @@ def main():
         try_arguments(folder)
         try_program(folder)
         try_signals(folder)
+    try_silence()
     try_files()
     try_slots()
     try_memory()

@@ -8,7 +8,7 @@ has to be a name of the code too. A comment before a block of code says what the
 
     quote FILE      the block is in that file, but for spaces
     file FILE       the block's lines are lines of that file, in order
-    run COMMAND     the block's lines are lines that the command prints, in order
+    run COMMAND     the block's lines are lines that the command prints, in order; one that ends with two dots is the beginning of one
     figure FILE     the block is the command that writes the file
     source FILE     the comment's next line is a command whose output a later run reads as FILE
 
@@ -55,10 +55,15 @@ def printed(line, folder):
     return subprocess.run(["sh", "-c", line], cwd=ROOT, capture_output=True, text=True, timeout=SECONDS).stdout
 
 
+def is_line(line, other):
+    """Whether a line of the page is the other one, or its beginning where it ends with two dots."""
+    return other.startswith(line[:-2]) if line.endswith(" ..") else other == line
+
+
 def are_in(lines, others):
     """Returns the first of the lines that is not among the others, in order."""
     others = iter(others)
-    return next((line for line in lines if line not in others), None)
+    return next((line for line in lines if not any(is_line(line, other) for other in others)), None)
 
 
 def code_of(crate):

@@ -106,8 +106,9 @@ def answer(program, *words):
     if path is None:
         return ""
     try:
-        how = {"stdin": None if STANDARD_INPUT in words else subprocess.DEVNULL, "stdout": subprocess.PIPE, "stderr": subprocess.DEVNULL, "timeout": MOST_SECONDS}
-        return subprocess.run([path, *words], check=False, **how).stdout.decode(errors="replace")
+        given = None if STANDARD_INPUT in words else subprocess.DEVNULL
+        said = subprocess.run([path, *words], stdin=given, stdout=subprocess.PIPE, stderr=subprocess.DEVNULL, timeout=MOST_SECONDS, check=False)
+        return said.stdout.decode(errors="replace")
     except (OSError, ValueError, subprocess.TimeoutExpired):
         return ""
 
@@ -383,6 +384,14 @@ def of_budget(name, names, options):
         yield f"    hint: {MX} explain {'SOURCE' if source == 'standard input' else source} compares the run with the sequential semantics"
 
 
+def of_unwritten(name, names):
+    """Yields what is said of a file that cannot be written; nothing of a pipe whose reader has what it needs, as head."""
+    if name in ("build", "migrate"):
+        yield f"zanderanvil: error: cannot write '{names[-1]}'"
+    elif not stat.S_ISFIFO(os.fstat(sys.stdout.fileno()).st_mode):
+        yield "zanderanvil: error: cannot write to standard output"
+
+
 def lines_for(status, name, words):
     """Yields the lines that say what is wrong, and what to do."""
     names, options = split(words)
@@ -397,8 +406,7 @@ def lines_for(status, name, words):
     elif status == READ_FAULT:
         yield from of_unread(name, names, options)
     elif status == WRITE_FAULT:
-        to = f"'{names[-1]}'" if name in ("build", "migrate") else "to standard output"
-        yield f"zanderanvil: error: cannot write {to}"
+        yield from of_unwritten(name, names)
     elif status == NO_MEMORY:
         yield "zanderanvil: error: out of memory"
     elif status == BAD_IMAGE:

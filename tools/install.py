@@ -89,6 +89,13 @@ fail() {{
 # Runs the toolchain. What it prints goes to the file $target, if one is named, once the command has not failed.
 toolchain_into() {{
     case $target in '' | -) toolchain "$@"; return ;; esac
+    if command -v python3 >/dev/null 2>&1; then
+        command=$1
+        shift
+        told=99
+        launch "$here/libexec/zanderanvil/mx_run" "$command" -o "$target" "$@"
+        return
+    fi
     printed=$(mktemp) || exit 10
     trap 'rm -f "$printed"' EXIT
     toolchain "$@" >"$printed"
@@ -129,7 +136,8 @@ case ${{1-}} in
             shift
             left=$((left - 1))
             case $option,$name,$word in
-                -o*,*) target=$word option= && continue ;;
+                -o*,*) [ -n "$word" ] || fail "missing value for '-o': expected a file" 2
+                    target=$word option= && continue ;;
                 --,*,* | ,build,* | ,migrate,*) ;;
                 ,*,-o | ,*,--output) option=-o && continue ;;
                 ,*,-o=*) target=${{word#-o=}} && continue ;;
@@ -316,9 +324,9 @@ def proved_programs():
     return found
 
 
-def contents(version, programs):
-    """Returns for each file that is installed, by its path below the prefix, its bytes. The programs are given by their names."""
-    texts = {
+def texts(version=""):
+    """Returns for each file that is installed and is no program, by its path below the prefix, its text."""
+    found = {
         "bin/zanderanvil": launcher(version),
         "share/man/man1/zanderanvil.1": page_of_all(version),
         "share/bash-completion/completions/zanderanvil": bash(),
@@ -328,13 +336,19 @@ def contents(version, programs):
         "share/zanderanvil/mipsx.tmLanguage.json": grammar(),
         "share/zanderanvil/help/all": screen(),
         "share/zanderanvil/ERRORS.md": read(f"{TOP}/docs/ERRORS.md").replace("./mx", "zanderanvil"),
-        "share/zanderanvil/proved": "".join(f"{hashlib.sha256(it).hexdigest()}  {name}\n" for name, it in programs.items()),
         **{f"share/zanderanvil/{name}": read(f"{TOP}/tools/{name}") for name in TOOLS},
     }
     for name, it in COMMANDS.items():
         if it.program == "mx_run":
-            texts[f"share/zanderanvil/help/{name}"] = commands.help_of(name).replace("./mx ", "zanderanvil ") + "\n"
-    return {**{name: text.encode() for name, text in texts.items()}, **{f"libexec/zanderanvil/{name}": it for name, it in programs.items()}}
+            found[f"share/zanderanvil/help/{name}"] = commands.help_of(name).replace("./mx ", "zanderanvil ") + "\n"
+    return found
+
+
+def contents(version, programs):
+    """Returns for each file that is installed, by its path below the prefix, its bytes. The programs are given by their names."""
+    found = {name: text.encode() for name, text in texts(version).items()}
+    sums = "".join(f"{hashlib.sha256(it).hexdigest()}  {name}\n" for name, it in programs.items())
+    return {**found, "share/zanderanvil/proved": sums.encode(), **{f"libexec/zanderanvil/{name}": it for name, it in programs.items()}}
 
 
 class Installation:

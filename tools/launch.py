@@ -5,36 +5,52 @@ usage: tools/launch.py PROGRAM COMMAND [ARGUMENT ..]
 
 Where the command writes a file that is a regular one or is not there yet, the program writes a new file beside it, which takes its
 place once the program has ended and has not failed to write. Devices and pipes are written as they are; a link stays one, and the
-file that it leads to is replaced. A file that the command also reads is refused with one line on standard error, and status 2, or
-that of the environment's MX_TOLD; `migrate` alone may write over what it reads. Else the exit status is the program's. The program
-ends where this one is ended.
+file that it leads to is replaced. What the toolchain's commands print goes to the file of -o, which they do not know themselves,
+unless they end with an error. A file that the command also reads is refused with one line on standard error, and status 2, or that
+of the environment's MX_TOLD; `migrate` alone may write over what it reads. Else the exit status is the program's. The program ends
+where this one is ended.
 """
 import contextlib
 import os
 import pty
 import secrets
+import shutil
 import stat
 import subprocess
 import sys
+import tempfile
 import tty
 
 import commands
-from processes import end_by_signals
+from processes import end_by_signals, held
 
-USAGE, WRITE_FAULT, NOT_STARTED = 2, 5, 10
+USAGE, WRITE_FAULT = 2, 5
+# Done, out of budget, stuck: what a command of the toolchain then prints is its answer.
+ANSWERS = (0, 3, 9)
 # Of a shell: the status of a program that a signal ended.
 BY_SIGNAL = 128
 MOST_LINKS = 40
 CHUNK = 65536
+NEW_FILE = 0o666
 # Their files are those of open descriptors: to replace one would not be to write to it.
 SPECIAL = ("/dev/", "/proc/")
+OUTPUT = ("-o", "--output")
+# The programs whose commands take -oFILE as well.
+WITH_SHORT = ("mx_run", "mx_lab")
+# The commands whose last argument is the file that they write.
+WRITERS = ("build", "migrate")
 
 
 class Place:
-    """Where an argument names a file: the argument's number, and what comes before the name in it."""
+    """Where an argument names a file: the argument's number, what comes before the name in it, and the first argument of its option."""
 
-    def __init__(self, number, before, name):
+    def __init__(self, number, before, name, first=None):
         self.number, self.before, self.name = number, before, name
+        self.first = number if first is None else first
+
+
+class Told(Exception):
+    """What is wrong with the arguments."""
 
 
 def read_arguments(arguments):
@@ -52,21 +68,24 @@ def read_arguments(arguments):
             names.append(Place(number, "", word))
         elif word == "--":
             is_ended = True
-        elif option == "-o" and word != "-o" and command.program == "mx_lab":
+        elif option == "-o" and word != "-o" and command.program in WITH_SHORT:
             before = word[:3] if value.startswith("=") else option
             writes.append(Place(number, before, word[len(before):]))
         elif sign and option in options:
             (writes if option == "--output" else reads if options[option] == "FILE" else []).append(Place(number, f"{option}=", value))
-        elif word == "-o" or word in options:
-            if word == "-o" or options[word]:
+        elif word in OUTPUT or word in options:
+            first = number
+            if word in OUTPUT or options[word]:
                 number += 1
-            if number < len(arguments) and (word in ("-o", "--output") or options[word] == "FILE"):
-                (writes if word in ("-o", "--output") else reads).append(Place(number, "", arguments[number]))
+            if number == len(arguments) and word in OUTPUT and command.program == "mx_run":
+                raise Told(f"missing value for '{word}': expected a file")
+            if number < len(arguments) and (word in OUTPUT or options[word] == "FILE"):
+                (writes if word in OUTPUT else reads).append(Place(number, "", arguments[number], first))
         else:
             return [], None
         number += 1
-    if arguments[0] in ("build", "migrate"):
-        if len(names) != 2:
+    if arguments[0] in WRITERS:
+        if len(names) != 2 or writes:
             return [], None
         writes.append(names.pop())
     return reads + names, writes[0] if len(writes) == 1 else None
@@ -125,23 +144,23 @@ def copy_errors(source, fresh, name):
             return
 
 
-def run(words, fresh=None, name=None):
-    """Runs a program to its end, and returns its status."""
+def run(words, fresh=None, name=None, output=None):
+    """Runs a program to its end, and returns its status. Where the name of a new file is given, messages have the user's name."""
     ours, theirs = (None, None) if fresh is None else pty.openpty() if os.isatty(2) else os.pipe()
     if fresh is not None and os.isatty(2):
         tty.setraw(theirs)
+    process = None
     try:
-        process = subprocess.Popen(words, stderr=theirs)
-    finally:
-        if theirs is not None:
-            os.close(theirs)
-    try:
+        with held():
+            process = subprocess.Popen(words, stdout=output, stderr=theirs)
         if ours is not None:
+            os.close(theirs)
             copy_errors(ours, os.fsencode(fresh), os.fsencode(name))
         status = process.wait()
     except KeyboardInterrupt:
-        process.terminate()
-        process.wait()
+        if process:
+            process.terminate()
+            process.wait()
         raise
     return status if status >= 0 else BY_SIGNAL - status
 
@@ -166,26 +185,68 @@ def run_beside(program, arguments, target, path):
     try:
         status = run([program, *changed], fresh, target.name)
         if status != WRITE_FAULT and status < BY_SIGNAL and os.path.lexists(fresh):
-            try:
-                put(fresh, path)
-            except OSError as error:
-                print(f"mx: cannot be written: {target.name}: {error.strerror}", file=sys.stderr)
-                return WRITE_FAULT
+            put(fresh, path)
         return status
     finally:
         with contextlib.suppress(OSError):
             os.remove(fresh)
 
 
+def run_printed(program, arguments, target, path):
+    """Runs a command of the toolchain, whose answer goes to the file that is named, and anything else to standard output."""
+    left = arguments[:target.first] + arguments[target.number + 1:]
+    if target.name == "-":
+        return run([program, *left])
+    with tempfile.NamedTemporaryFile(prefix=".mx-", dir=os.path.dirname(path) if path else None, delete=False) as printed:
+        try:
+            status = run([program, *left], output=printed)
+            if status not in ANSWERS:
+                printed.seek(0)
+                shutil.copyfileobj(printed, sys.stdout.buffer)
+                return status
+            if path is None:
+                printed.seek(0)
+                with open(target.name, "wb") as it:
+                    shutil.copyfileobj(printed, it)
+            else:
+                if not os.path.lexists(path):
+                    os.chmod(printed.name, NEW_FILE & ~mask())
+                put(printed.name, path)
+            return status
+        finally:
+            with contextlib.suppress(OSError):
+                os.remove(printed.name)
+
+
+def mask():
+    """Returns the permissions that new files of this process do not have."""
+    now = os.umask(0)
+    os.umask(now)
+    return now
+
+
+def refuse(why, status):
+    print(f"zanderanvil: error: {why}", file=sys.stderr)
+    return status
+
+
 def main(program, arguments):
-    reads, target = read_arguments(arguments) if arguments else ([], None)
+    try:
+        reads, target = read_arguments(arguments) if arguments else ([], None)
+    except Told as told:
+        return refuse(told, int(os.environ.get("MX_TOLD", USAGE)))
     if target is None:
         return run([program, *arguments])
     if read_twice(arguments, reads, target.name):
-        print(f"mx: {target.name}: this file is read, and cannot be the output as well: give another name", file=sys.stderr)
-        return int(os.environ.get("MX_TOLD", USAGE))
-    path = None if target.name == "-" and arguments[0] not in ("build", "migrate") else replaceable(target.name)
-    return run([program, *arguments]) if path is None else run_beside(program, arguments, target, path)
+        return refuse(f"'{target.name}' is both an input and the output: name another output file", int(os.environ.get("MX_TOLD", USAGE)))
+    is_printed = arguments[0] not in WRITERS and commands.COMMANDS[arguments[0]].program == "mx_run"
+    path = None if target.name == "-" and arguments[0] not in WRITERS else replaceable(target.name)
+    try:
+        if is_printed:
+            return run_printed(program, arguments, target, path)
+        return run([program, *arguments]) if path is None else run_beside(program, arguments, target, path)
+    except OSError as error:
+        return refuse(f"cannot write '{target.name}': {error.strerror}", WRITE_FAULT)
 
 
 if __name__ == "__main__":
@@ -197,5 +258,3 @@ if __name__ == "__main__":
     except KeyboardInterrupt as interrupt:
         # (as a shell says of a program that a signal ended)
         sys.exit(BY_SIGNAL + (interrupt.args[0] if interrupt.args else 2))
-    except OSError as error:
-        sys.exit(f"mx: {error.strerror}: {error.filename}")

@@ -6,6 +6,7 @@ import os
 import signal
 import subprocess
 import sys
+import threading
 
 # Of prctl: which signal this process gets as its parent ends.
 PR_SET_PDEATHSIG = 1
@@ -16,11 +17,34 @@ LAST_LINES = 20
 ENDING = (signal.SIGINT, signal.SIGTERM, signal.SIGHUP)
 
 
+class Held:
+    """Whether an interrupt has to wait, as while a process starts of which nothing is known yet, and the one that waits."""
+    is_held, number = False, None
+
+
 def interrupt(number, _frame):
     # (a second one must not disturb what the first one has begun: to end all and to clear up)
     for it in ENDING:
         signal.signal(it, signal.SIG_IGN)
-    raise KeyboardInterrupt(number)
+    if Held.is_held:
+        Held.number = number
+    else:
+        raise KeyboardInterrupt(number)
+
+
+@contextlib.contextmanager
+def held():
+    """Lets an interrupt wait until the block is done. Only the main thread gets any."""
+    if threading.current_thread() is not threading.main_thread():
+        yield
+        return
+    Held.is_held = True
+    try:
+        yield
+    finally:
+        Held.is_held = False
+    if Held.number is not None:
+        raise KeyboardInterrupt(Held.number)
 
 
 def end_by_signals():
@@ -45,15 +69,21 @@ class Commands:
     def __exit__(self, *_):
         self.stop()
 
-    def run(self, folder, *words, **how):
-        """Runs a command in a folder, and returns its status and what it printed."""
+    def run(self, folder, *words, given=None, seconds=None, **how):
+        """Runs a command in a folder, with what it is given on standard input, and returns its status and what it printed. It is ended
+        after so many seconds, where they are said."""
         if self.is_stopped:
             return 1, ""
         how = {"stdin": subprocess.DEVNULL, "stdout": subprocess.PIPE, "stderr": subprocess.STDOUT, "text": True, "errors": "replace", **how}
-        with subprocess.Popen(words, cwd=folder, start_new_session=True, **how) as command:
+        with held():
+            command = subprocess.Popen(words, cwd=folder, start_new_session=True, **how)
             self.running.add(command)
+            # (it may have started while all were ended)
+            if self.is_stopped:
+                end(command)
+        with command:
             try:
-                said, _ = command.communicate()
+                said, _ = command.communicate(given, seconds)
             except BaseException:
                 end(command)
                 raise

@@ -1,13 +1,14 @@
 #!/usr/bin/env python3
-"""Proves and builds crates and those below them, side by side: each as soon as those that it stands on are done. Those that the
+"""Proves and builds crates and those below them, side by side: each as soon as those that it depends on are done. Those that the
 first crate needs come first, and among them those on which the longest chain of others waits.
 
 usage: tools/prove.py [--for-check] CRATE .. LOG
 
 A crate is proved by the toolchain's rattle, and what others read of it is kept in its out/statements: statements without proofs,
 which load in a third of the time. With --for-check the libraries are those that rt check and rt test take, and hold proofs. Only
-one rt works in a crate at a time, and it holds the crates below too: so each crate is then proved in a room of its own, which has
-the files of the crate and of those below it, and links to what was built of these.
+one rt works in a crate at a time, and it holds the crates below
+too. So each crate is then proved in a folder of its own, with the files of the crate and of those below it, and links to what was
+built of these.
 
 A program is built to out/NAME, a static library to out/libNAME.a. What the toolchain prints goes to the file LOG. Standard error
 has a line for each crate that is done. The exit status is 0 where all are proved, else 1; after an interrupt what is done stays.

@@ -3,8 +3,8 @@
 
 usage: tools/run_tests.py [CRATE ..]      without names: each program that has stored output, and each crate with tests
 
-A program is built without its proof (tools/unproved.py), and run as the gate runs it: in a folder that holds the files of its
-folder data/, with the words of its file args and the bytes of stdin, and what it prints and its status have to be the stored ones.
+A program is built without its proof (tools/unproved.py), and run as the gate runs it: in a folder with the files of its folder
+data/, the arguments of its file args and the bytes of stdin. Its output and its status have to be the stored ones.
 """
 import concurrent.futures
 import os
@@ -16,8 +16,10 @@ import time
 
 import unproved
 from crates import TOP, read_crates
+from processes import Commands, end_by_signals
 
 LIMIT = 120
+COMMANDS = Commands()
 
 
 def read(path, otherwise=""):
@@ -38,27 +40,29 @@ def has_tests(crate):
 def run_tests(crate):
     """Runs the #[test] functions of a crate, and returns what is wrong."""
     words = ["rt", "try", "--test", "--seconds", "300"]
-    said = subprocess.run(words, cwd=f"{TOP}/crates/{crate}", stdin=subprocess.DEVNULL, capture_output=True, text=True, errors="replace")
-    return "" if said.returncode == 0 else (said.stdout + said.stderr)[-2000:]
+    status, said = COMMANDS.run(f"{TOP}/crates/{crate}", *words)
+    return "" if status == 0 else said[-2000:]
 
 
 def run_program(crate):
     """Builds and runs a program on its stored words, and returns what is wrong."""
     folder = f"{TOP}/crates/{crate}"
     with tempfile.TemporaryDirectory(prefix="mx-test-") as at:
-        if unproved.main(crate, f"{at}/program"):
+        if unproved.main(crate, f"{at}/program", COMMANDS):
             return "it does not compile"
         os.mkdir(f"{at}/run")
         if os.path.isdir(f"{folder}/data"):
             shutil.copytree(f"{folder}/data", f"{at}/run", dirs_exist_ok=True)
         words = read(f"{folder}/args").decode().splitlines()
-        ran = subprocess.run([f"{at}/program", *words], cwd=f"{at}/run", input=read(f"{folder}/stdin"), capture_output=True, timeout=LIMIT)
+        with open(f"{at}/errors", "w+b") as errors:
+            how = {"stdin": subprocess.PIPE, "stderr": errors, "text": False, "errors": None}
+            status, printed = COMMANDS.run(f"{at}/run", f"{at}/program", *words, given=read(f"{folder}/stdin"), seconds=LIMIT, **how)
+            errors.seek(0)
+            said = printed.decode(errors="replace")[-1500:] + errors.read().decode(errors="replace")[-500:]
     wanted = int(read(f"{folder}/status", "0"))
-    if ran.returncode != wanted:
-        return f"status {ran.returncode} for {wanted}\n{ran.stdout.decode(errors='replace')[-1500:]}{ran.stderr.decode(errors='replace')[-500:]}"
-    if ran.stdout != read(f"{folder}/stdout"):
-        return f"other output:\n{ran.stdout.decode(errors='replace')[-1500:]}"
-    return ""
+    if status != wanted:
+        return f"status {status} for {wanted}\n{said}"
+    return "" if printed == read(f"{folder}/stdout") else f"other output:\n{said}"
 
 
 def work(crate):
@@ -83,8 +87,9 @@ def main(names):
     if unknown:
         print(f"mx: there are no tests in {', '.join(unknown)}\n{__doc__}", file=sys.stderr)
         return 2
+    end_by_signals()
     failed = 0
-    with concurrent.futures.ThreadPoolExecutor(os.cpu_count()) as pool:
+    with concurrent.futures.ThreadPoolExecutor(os.cpu_count()) as pool, COMMANDS:
         for done in concurrent.futures.as_completed([pool.submit(work, it) for it in names or crates()]):
             crate, wrong, seconds = done.result()
             print(f"{'FAIL' if wrong else 'ok  '} {crate} ({seconds:.0f} s)", flush=True)
@@ -96,4 +101,7 @@ def main(names):
 
 
 if __name__ == "__main__":
-    sys.exit(main(sys.argv[1:]))
+    try:
+        sys.exit(main(sys.argv[1:]))
+    except KeyboardInterrupt:
+        sys.exit("mx: stopped")

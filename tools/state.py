@@ -7,7 +7,7 @@ A record has four checksums: of the sources (the crate and all crates below it: 
 crates.txt, HANDLES), of the toolchain, of the flags, and of the output. It is written once a build is done and the first three are
 the same as before the build. Nothing here goes by dates.
 
-SEEN is what ./mx saw of all these files on the disk (sizes, times and numbers) before it called this; where the record holds, SEEN is
+SEEN is what ./mx saw of all these files on the disk (sizes, times and numbers) before it called this. If the record holds, SEEN is
 kept in .mx/seen, so that ./mx need not call again while it sees the same. A file that changed a moment ago may change once more
 without a trace in its times, so SEEN is then not kept.
 """
@@ -130,9 +130,12 @@ class Kit:
     def made(rt):
         """Returns all that is said of the toolchain, from its files."""
         before = look(rt)
-        folder = kit_folder()
+        try:
+            folder = kit_folder()
+            version = subprocess.run(["rt", "version"], capture_output=True, text=True, check=True).stdout
+        except subprocess.CalledProcessError:
+            raise OSError(0, "the toolchain's command does not answer", rt) from None
         files = [look(it) for it in kit_files(folder)]
-        version = subprocess.run(["rt", "version"], capture_output=True, text=True, check=True).stdout
         found = hashlib.sha256(version.encode())
         for path, *_ in files:
             found.update(f"{os.path.relpath(path, folder)}\0{sum_of(path)}\0".encode())
@@ -246,7 +249,11 @@ def is_settled(crate, began):
 
 def main(kind, crate, seen):
     began = time.time()
-    if not (is_proved if kind == "proved" else is_unproved)(crate):
+    try:
+        if not (is_proved if kind == "proved" else is_unproved)(crate):
+            return 1
+    except OSError as error:
+        print(f"mx: {error.strerror}: {error.filename}", file=sys.stderr)
         return 1
     if seen and is_settled(crate, began):
         # (in a clone that cannot be written, the checksums are made at every call)

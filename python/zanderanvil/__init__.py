@@ -26,7 +26,7 @@ def _version() -> str:
     """The version: in a checkout that of the file VERSION, and else of what is installed."""
     folder = os.path.dirname(os.path.dirname(os.path.abspath(__file__)))
     if os.path.isfile(os.path.join(folder, "pyproject.toml")):
-        with open(os.path.join(folder, "VERSION"), encoding="ascii") as file:
+        with open(os.path.join(os.path.dirname(folder), "VERSION"), encoding="ascii") as file:
             return file.read().strip()
     return importlib.metadata.version("zanderanvil")
 

@@ -20,7 +20,7 @@ def wrong(field, what):
 
 
 def refuse_constant(name):
-    raise ValueError(f"{name} is no number of JSON")
+    raise ValueError(f"{name} is an invalid number of JSON")
 
 
 def is_flat(body):

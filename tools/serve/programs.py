@@ -59,7 +59,10 @@ class Programs:
                 ended = self.run(command, (body, output), client, memory)
                 if ended != NO_MEMORY:
                     break
-            return status_of(ended, memory), output
+            status = status_of(ended, memory)
+            if size_of(output) == 0:
+                raise Refused(500, f"the program {os.path.basename(self.program)} has printed nothing")
+            return status, output
         except BaseException:
             os.close(output)
             raise

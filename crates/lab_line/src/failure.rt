@@ -99,27 +99,25 @@ fn named_part<'a>(said: &'a str, sign: &str) -> (&'a str, &'a str) {
     }
 }
 
-// The first of two names, or the second where that is empty.
-fn first_named<'a>(first: &'a str, second: &'a str) -> &'a str {
-    if first.is_empty() { second } else { first }
-}
-
-// The file that a read fault speaks of, by its kind, where `before` is the name that was said of a source.
-fn unread_of<'a>(matches: &ArgMatches<'a>, kind: &str, before: &'a str) -> Unread<'a> {
-    let is_too_long = kind.ends_with("too long");
-    let name = if kind.starts_with("interrupts") {
+// The name of the file that a read fault of this kind speaks of; empty where it is one of several sources.
+fn name_read<'a>(matches: &ArgMatches<'a>, kind: &str) -> &'a str {
+    if kind.starts_with("interrupts") {
         word_given(matches, "interrupts")
     } else if kind.starts_with("input") {
         word_given(matches, "input")
     } else if kind.starts_with("plans") {
         word_given(matches, "FILE")
     } else {
-        first_named(before, source_named(matches))
-    };
+        source_named(matches)
+    }
+}
+
+// The file with this name, which cannot be read, by the kind of the fault.
+fn unread_as<'a>(name: &'a str, kind: &str) -> Unread<'a> {
     Unread {
         name,
         is_source: kind.starts_with("source"),
-        is_too_long,
+        is_too_long: kind.ends_with("too long"),
     }
 }
 
@@ -234,11 +232,15 @@ fn push_event(text: &mut Writer, matches: &ArgMatches, said: &str) {
     }
 }
 
-// Appends what a read fault says.
+// Appends what a read fault says: it names the source, where that is one of several.
 fn push_read_fault<C: Causes>(text: &mut Writer, matches: &ArgMatches, said: &str, causes: C) {
     let (before, kind) = named_part(said, "read fault: ");
-    let unread = unread_of(matches, kind, before.trim_end_matches(": "));
-    push_unread(text, unread, causes);
+    let name = name_read(matches, kind);
+    if name.is_empty() {
+        push_unread(text, unread_as(before.trim_end_matches(": "), kind), causes);
+    } else {
+        push_unread(text, unread_as(name, kind), causes);
+    }
 }
 
 /// What goes to standard error where a command says this and ends with this status: the file and the line, and what is wrong.

@@ -3,3 +3,4 @@ pub mod Tallies
 pub mod Lines
 pub mod Columns
 pub mod Parts
+pub mod Calls

@@ -1,5 +1,6 @@
 //! Which calls a run makes, and what each costs until it returns.
-ghost use Rattle.std.specs.Prelude.{◌≡◌, ◌+◌, ◌<◌, ◌^◌, ◌==◌};
+ghost use Rattle.std.specs.Prelude.{◌≡◌, ◌+◌, ◌<◌, ◌≤◌, ◌^◌, ◌==◌, [], OnOk, length, take};
+ghost use Rattle.lab_profile.specs.Calls.{returns_there, IsInnermostOf, open_in};
 
 use indexmap::IndexMap;
 use mx_board::Requests;
@@ -91,9 +92,24 @@ fn kinds_of(alloc: Global, source: &Source, linked: &Linked) -> Result<Vec<Kind>
 
 // Whether a call returns to an address: that behind its two slots.
 fn returns_to(frame: &Frame, address: u32) -> bool
-    ensures { frame.now.site + 3 < 2 ^ 32 → result ≡ (frame.now.site + 3 == address) }
+    ensures behind { frame.now.site + 3 < 2 ^ 32 → result ≡ (frame.now.site + 3 == address) }
+    ensures there { result ≡ returns_there address frame.now }
 {
     frame.site.saturating_add(SLOTS).saturating_add(1) == address
+}
+
+// The innermost of some calls that returns to an address, by its index.
+fn innermost(frames: &[Frame], address: u32) -> Option<usize>
+    ensures { IsInnermostOf address frames.now result }
+{
+    let mut end = frames.len();
+    while end > 0 {
+        end -= 1;
+        if returns_to(&frames[end], address) {
+            return Some(end);
+        }
+    }
+    None
 }
 
 impl Progress {
@@ -111,7 +127,9 @@ impl Progress {
     }
 
     // Adds a call that has returned.
-    fn add(&mut self, frame: &Frame) -> Result<(), AllocError> {
+    fn add(&mut self, frame: &Frame) -> Result<(), AllocError>
+        ensures { open_in self.new ≡ open_in self.old }
+    {
         let key = (frame.site, frame.callee);
         let before = self.calls.costs.get(&key).copied().unwrap_or(Called {
             count: 0,
@@ -129,14 +147,31 @@ impl Progress {
         Ok(())
     }
 
-    // Ends all calls from the one at an index on.
-    fn end_from(&mut self, first: usize) -> Result<(), AllocError> {
-        for _ in first..self.frames.len() {
+    // Ends all calls from the one at an index on, the innermost first.
+    fn end_from(&mut self, first: usize) -> Result<(), AllocError>
+        requires { first ≤ length (open_in self.old) }
+        ensures { OnOk result (open_in self.new ≡ take first (open_in self.old)) }
+    {
+        while self.frames.len() > first {
             if let Some(frame) = self.frames.pop() {
                 self.add(&frame)?;
             }
         }
         Ok(())
+    }
+
+    // Ends the calls that have not returned when the run ends.
+    fn end_all(&mut self) -> Result<(), AllocError>
+        ensures { OnOk result (open_in self.new ≡ []) }
+    {
+        self.end_from(0)
+    }
+
+    // The calls of a run of which none is left open.
+    fn into_calls(self) -> Calls
+        requires { open_in self ≡ [] }
+    {
+        self.calls
     }
 
     // A transfer has come to its target.
@@ -150,11 +185,7 @@ impl Progress {
             })?;
             return Ok(());
         }
-        let returned = self
-            .frames
-            .iter()
-            .rposition(|frame| returns_to(frame, address));
-        match returned {
+        match innermost(self.frames.as_slice(), address) {
             Some(first) => self.end_from(first),
             None => Ok(()),
         }
@@ -238,9 +269,9 @@ pub fn calls_of<M: Machine>(
     };
     let mut progress = Progress::new(alloc);
     if run_cycles(machine, kinds.as_slice(), requests, budget, &mut progress).is_err()
-        || progress.end_from(0).is_err()
+        || progress.end_all().is_err()
     {
         return Err(Memory);
     }
-    Ok(progress.calls)
+    Ok(progress.into_calls())
 }

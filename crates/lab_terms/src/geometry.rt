@@ -1,6 +1,7 @@
 //! What a cache is.
-ghost use Rattle.std.specs.Prelude.{◌≡◌, ◌*◌, ◌+◌};
-ghost use Rattle.lab_terms.specs.Geometries.{words_in, cycles_with};
+ghost use Rattle.std.specs.Prelude.{◌≡◌, ◌*◌, ◌+◌, ◌++◌, OnOk, IfOk};
+ghost use Rattle.lab_terms.specs.declared.geometry.TheConstants.{SIZES, WAYS};
+ghost use Rattle.lab_terms.specs.Geometries.{words_in, cycles_with, saturated_32, whole, of_size, looked_at, AreLookedAt};
 
 use std::alloc::{AllocError, Global};
 
@@ -52,6 +53,65 @@ impl Geometry {
     }
 }
 
+// Adds the cache of so many words and ways, where these make whole sets.
+fn push_whole(
+    all: &mut Vec<Geometry>,
+    size: u32,
+    ways: u32,
+    line: u32,
+    brings: u32,
+    penalty: u32,
+) -> Result<(), AllocError>
+    ensures { OnOk result (all.new.items ≡ all.old.items ++ whole size (saturated_32 (ways * line)) ways line brings penalty) }
+{
+    let row = ways.saturating_mul(line);
+    let sets = size.checked_div(row).unwrap_or(0);
+    if sets > 0 && sets.saturating_mul(row) == size {
+        all.push(Geometry {
+            sets,
+            ways,
+            line,
+            brings,
+            penalty,
+        })?;
+    }
+    Ok(())
+}
+
+// Adds the caches of so many words, with each of these numbers of ways.
+fn push_size(
+    all: &mut Vec<Geometry>,
+    size: u32,
+    numbers: &[u32],
+    line: u32,
+    brings: u32,
+    penalty: u32,
+) -> Result<(), AllocError>
+    ensures { OnOk result (all.new.items ≡ all.old.items ++ of_size size numbers.now line brings penalty) }
+{
+    for ways in numbers {
+        push_whole(all, size, *ways, line, brings, penalty)?;
+    }
+    Ok(())
+}
+
+// Adds the caches of these sizes, with each of these numbers of ways.
+fn push_all(
+    all: &mut Vec<Geometry>,
+    sizes: &[u32],
+    numbers: &[u32],
+    line: u32,
+    brings: u32,
+    penalty: u32,
+) -> Result<(), AllocError>
+    ensures { OnOk result (all.new.items ≡ all.old.items ++ looked_at sizes.now numbers.now line brings penalty) }
+{
+    for size in sizes {
+        push_size(all, *size, numbers, line, brings, penalty)?;
+    }
+    Ok(())
+}
+
 /// The caches that are looked at, with lines of so many words, of which a miss brings so many, at this cost: each size with each
 /// number of ways, where they make whole sets. The cache of the machine is the first where it is not among them.
 pub fn geometries(
@@ -59,23 +119,11 @@ pub fn geometries(
     line: u32,
     brings: u32,
     penalty: u32,
-) -> Result<Vec<Geometry>, AllocError> {
+) -> Result<Vec<Geometry>, AllocError>
+    ensures { IfOk result (λ all. AreLookedAt (looked_at SIZES WAYS line brings penalty) all.items) }
+{
     let mut all = Vec::new(alloc);
-    for size in SIZES {
-        for ways in WAYS {
-            let row = ways.saturating_mul(line);
-            let sets = size.checked_div(row).unwrap_or(0);
-            if sets > 0 && sets.saturating_mul(row) == size {
-                all.push(Geometry {
-                    sets,
-                    ways,
-                    line,
-                    brings,
-                    penalty,
-                })?;
-            }
-        }
-    }
+    push_all(&mut all, &SIZES, &WAYS, line, brings, penalty)?;
     if !all.iter().any(|geometry| *geometry == SHIPPED_CACHE) {
         all.insert(0, SHIPPED_CACHE)?;
     }

@@ -1,5 +1,5 @@
 //! Which statements a run may come to.
-ghost use Rattle.std.specs.Prelude.{◌≡◌};
+ghost use Rattle.std.specs.Prelude.{◌≡◌, OnOk, length};
 ghost use Rattle.lab_terms.specs.Flow;
 
 use mx_isa::{Cond, Reg};
@@ -68,7 +68,11 @@ struct Walk {
 
 impl Walk {
     // Comes to a place, if a statement stands there.
-    fn visit(&mut self, place: u32) -> Result<(), AllocError> {
+    fn visit(&mut self, place: u32) -> Result<(), AllocError>
+        ensures size { length self.new.seen.items ≡ length self.old.seen.items }
+        ensures stays { Flow.StaySeen self.old.seen.items self.new.seen.items }
+        ensures seen { OnOk result (Flow.IsSeen self.new.seen.items place) }
+    {
         if let Some(seen) = self.seen.get_mut(place as usize) {
             if !*seen {
                 *seen = true;
@@ -79,7 +83,11 @@ impl Walk {
     }
 
     // Follows the ways of a statement, and comes to the place that it makes.
-    fn follow(&mut self, place: u32, statement: &Statement) -> Result<(), AllocError> {
+    fn follow(&mut self, place: u32, statement: &Statement) -> Result<(), AllocError>
+        ensures size { length self.new.seen.items ≡ length self.old.seen.items }
+        ensures stays { Flow.StaySeen self.old.seen.items self.new.seen.items }
+        ensures followed { OnOk result (Flow.IsFollowed self.new.seen.items place statement.now) }
+    {
         let ways = ways_of(statement);
         if ways.on {
             self.visit(place.saturating_add(1))?;

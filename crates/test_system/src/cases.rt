@@ -38,12 +38,20 @@ fn written_bytes(alloc: Global) -> Result<Vec<u8>> {
     Ok(bytes)
 }
 
+// In how many pieces so many bytes come, where a piece fills a buffer.
+fn pieces_text(bytes: &[u8]) -> &'static str {
+    if bytes.len() > ONE_PIECE {
+        "more than one piece"
+    } else {
+        "one piece"
+    }
+}
+
 // Whether a file that comes in pieces came whole. What it holds is another thing each time.
 fn pieces_line<S: Shelf>(alloc: Global, shelf: &mut S) -> Result<String> {
     let told = match shelf.read(alloc, IN_PIECES, MAX_FILE_BYTES) {
-        Ok(bytes) if bytes.len() > ONE_PIECE => "more than one piece",
-        Ok(_) => "one piece",
-        Err(_) => "a fault",
+        Ok(bytes) => pieces_text(bytes.as_slice()),
+        Err(_fault) => "a fault",
     };
     Ok(format!(in alloc; "a file in pieces: {told}\n")?)
 }
