@@ -20,7 +20,7 @@ def run(words, folder):
 def native(files, options, words, work):
     """What the program prints under qemu-mips, and its status."""
     program = f'{work}/native'
-    subprocess.run([GCC, '-static', '-O1', '-w', *options, *files, '-o', program], cwd=FOLDER, check=True)
+    subprocess.run([GCC, '-static', '-O1', '-w', *options, *files, '-o', program, '-lm'], cwd=FOLDER, check=True)
     return run(['qemu-mips', program, *words], FOLDER)[:2]
 
 

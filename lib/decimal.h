@@ -20,6 +20,9 @@ extern const uint32_t _powers_of_ten[LIMB_DIGITS];
 void _decimal_of_integer(struct decimal *number, uint64_t value);
 /* Times 2^exponent. Limbs that find no room on the right leave a trace in the last one. */
 void _decimal_scale(struct decimal *number, int exponent);
+/* The number significand * 2^power, which is not 0, rounded to so many digits, or to so many places after the point where `digits` is 0.
+   Answers 0 where it has to be found exactly. */
+int _decimal_near(struct decimal *number, uint64_t significand, int power, int digits, int places);
 /* Leaves `places` digits behind the point, or takes digits before it where `places` is negative; to the nearest, and to
    the even one of two. */
 void _decimal_round(struct decimal *number, int places);

@@ -25,7 +25,11 @@ union double_bits {
     double value;
     uint64_t bits;
     struct {
+#if __BYTE_ORDER__ == __ORDER_BIG_ENDIAN__
         uint32_t upper, lower;
+#else
+        uint32_t lower, upper;
+#endif
     } word;
 };
 

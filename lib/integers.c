@@ -55,8 +55,22 @@ struct reading {
     int is_negative, is_too_large;
 };
 
+#define MOST_BASE 36
+
+/* Whether a base is none; nothing is read then. */
+static int is_wrong_base(int base, const char *text, char **end) {
+    if (base == 0 || (base > 1 && base <= MOST_BASE))
+        return 0;
+    errno = EINVAL;
+    if (end)
+        *end = (char *) text;
+    return 1;
+}
+
 static struct reading read_word(const char *text, char **end, int base) {
     struct reading read = {0, 0, 0};
+    if (is_wrong_base(base, text, end))
+        return read;
     const char *at = begin_number(text, &base, &read.is_negative), *first = at;
     unsigned long most = ULONG_MAX / base, last = ULONG_MAX % base;
     for (int digit; (digit = digit_of(*at)) < base; at++) {
@@ -95,6 +109,8 @@ struct long_reading {
 
 static struct long_reading read_long(const char *text, char **end, int base) {
     struct long_reading read = {0, 0, 0};
+    if (is_wrong_base(base, text, end))
+        return read;
     const char *at = begin_number(text, &base, &read.is_negative), *first = at;
     unsigned long long most = ULLONG_MAX / base;
     unsigned last = ULLONG_MAX % base;

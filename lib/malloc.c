@@ -118,3 +118,39 @@ void *realloc(void *block, size_t size) {
     }
     return larger;
 }
+
+#define FULL_ALIGNMENT HEAD          /* of every block */
+
+/* A block that is larger by the alignment; what is before the first aligned address in it becomes a free block. */
+void *aligned_alloc(size_t alignment, size_t size) {
+    if (!alignment || alignment & (alignment - 1)) {
+        errno = EINVAL;
+        return NULL;
+    }
+    if (alignment <= FULL_ALIGNMENT)
+        return malloc(size);
+    if (size > SIZE_MAX - alignment)
+        return no_memory();
+    char *block = malloc(size + alignment);
+    if (!block)
+        return NULL;
+    char *aligned = (char *) (((uintptr_t) block + alignment - 1) & -alignment);
+    if (aligned == block)
+        return block;
+    head *outer = (head *) block - 1, *inner = (head *) aligned - 1;
+    inner->size = outer->size - (aligned - block);
+    outer->size = aligned - block;
+    if (outer < hint)
+        hint = outer;
+    return aligned;
+}
+
+int posix_memalign(void **to, size_t alignment, size_t size) {
+    if (alignment < sizeof(void *) || alignment & (alignment - 1))
+        return EINVAL;
+    void *block = aligned_alloc(alignment, size);
+    if (!block)
+        return ENOMEM;
+    *to = block;
+    return 0;
+}

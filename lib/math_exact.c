@@ -1,5 +1,6 @@
 /* Functions of floating numbers whose answers are exact, or rounded to the nearest: they work on the bits. */
 #include "ieee.h"
+#include "wide.h"
 #include <errno.h>
 #include <limits.h>
 #include <math.h>
@@ -47,7 +48,7 @@ double copysign(double x, double sign) {
     return number.value;
 }
 
-/* The bits behind the point, as a mask; none where the number is whole or special. */
+/* The bits after the point, as a mask; none where the number is whole or special. */
 static uint64_t behind_point(bits number) {
     int power = double_exponent(number) - DOUBLE_BIAS;
     if (power < 0)
@@ -169,8 +170,10 @@ static uint64_t significand_of(double x, int *power) {
 
 double fmod(double x, double y) {
     int power, divisor_power;
-    if (_classify(x) <= FP_INFINITE || _classify(y) == FP_NAN || y == 0)
-        return (x * y) / (x * y);
+    if (_classify(x) == FP_NAN || _classify(y) == FP_NAN)
+        return x + y;
+    if (_classify(x) == FP_INFINITE || y == 0)
+        return _domain_error();
     if (fabs(x) < fabs(y) || x == 0)
         return x;
     uint64_t dividend = significand_of(x, &power), divisor = significand_of(y, &divisor_power);

@@ -174,6 +174,22 @@ static void put_character(struct sink *sink, struct conversion *conversion, char
     put_field(sink, conversion, "", &c, 1);
 }
 
+/* A text of wide characters, each of which is one byte here. */
+static void put_wide_string(struct sink *sink, struct conversion *conversion, const int *text) {
+    int length = 0;
+    if (!text) {
+        put_string(sink, conversion, NULL);
+        return;
+    }
+    while ((conversion->precision < 0 || length < conversion->precision) && text[length])
+        length++;
+    conversion->has_zeros = 0;
+    _begin_field(sink, conversion, "", length);
+    for (int i = 0; i < length; i++)
+        _put(sink, text[i]);
+    _end_field(sink, conversion, "", length);
+}
+
 static const char *read_flags(const char *format, struct conversion *conversion) {
     for (;; format++)
         switch (*format) {
@@ -260,10 +276,17 @@ static void convert(struct sink *sink, struct conversion *conversion, va_list *l
         put_integer(sink, conversion, list);
         break;
     case 'c':
+    case 'C':
         put_character(sink, conversion, va_arg(*list, int));
         break;
     case 's':
-        put_string(sink, conversion, va_arg(*list, const char *));
+        if (conversion->size != SIZE_LONG) {
+            put_string(sink, conversion, va_arg(*list, const char *));
+            break;
+        }
+        /* fall through */
+    case 'S':
+        put_wide_string(sink, conversion, va_arg(*list, const int *));
         break;
     case 'p':
         put_pointer(sink, conversion, list);

@@ -113,13 +113,27 @@ static void put_general(struct sink *sink, const struct conversion *conversion, 
     }
 }
 
+/* Powers of two for which the exact digits cost less than those of a product. */
+#define LEAST_EXACT_POWER (-80)
+#define MOST_EXACT_POWER 12
+
+/* The number, exactly or rounded to what the conversion prints. */
+static void find_digits(struct decimal *number, char letter, int precision, uint64_t significand, int power) {
+    int digits = letter == 'e' ? precision + 1 : precision ? precision : 1;
+    int is_far = significand && (power < LEAST_EXACT_POWER || power > MOST_EXACT_POWER);
+    if (is_far && _decimal_near(number, significand, power, letter == 'f' ? 0 : digits, precision))
+        return;
+    _decimal_of_integer(number, significand);
+    _decimal_scale(number, power);
+}
+
 static void put_finite(struct sink *sink, const struct conversion *conversion, const char *sign, union double_bits bits) {
     struct decimal number;
     int precision = conversion->precision < 0 ? DEFAULT_PRECISION : conversion->precision;
     int exponent = double_exponent(bits);
     uint64_t fraction = double_fraction(bits);
-    _decimal_of_integer(&number, exponent ? fraction | DOUBLE_ONE : fraction);
-    _decimal_scale(&number, (exponent ? exponent : 1) - DOUBLE_BIAS - DOUBLE_FRACTION_BITS);
+    find_digits(&number, conversion->letter | ('a' - 'A'), precision, exponent ? fraction | DOUBLE_ONE : fraction,
+                (exponent ? exponent : 1) - DOUBLE_BIAS - DOUBLE_FRACTION_BITS);
     switch (conversion->letter | ('a' - 'A')) {
     case 'f':
         _decimal_round(&number, precision);

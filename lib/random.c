@@ -38,3 +38,26 @@ void srand(unsigned int seed) {
     for (int i = 0; i < PASSED; i++)
         rand();
 }
+
+long random(void) {
+    return rand();
+}
+
+void srandom(unsigned int seed) {
+    srand(seed);
+}
+
+#define NEXT_FACTOR 1103515245u
+#define NEXT_SUMMAND 12345u
+
+static uint32_t next_bits(unsigned int *seed, int count) {
+    *seed = *seed * NEXT_FACTOR + NEXT_SUMMAND;
+    return *seed >> 16 & ((1u << count) - 1);
+}
+
+/* Bits of three numbers in turn, since the last ones of each repeat soon. */
+int rand_r(unsigned int *seed) {
+    uint32_t bits = next_bits(seed, 11);
+    bits = bits << 10 ^ next_bits(seed, 10);
+    return bits << 10 ^ next_bits(seed, 10);
+}

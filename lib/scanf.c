@@ -49,7 +49,7 @@ struct conversion {
     int is_skipped, width;
     enum size size;
     char letter;
-    const char *set, *set_end;  /* what stands in the brackets */
+    const char *set, *set_end;  /* what is in the brackets */
     int is_other_than;
 };
 
@@ -127,17 +127,46 @@ static int scan_text(struct source *source, const struct conversion *conversion,
     return conversion->letter == 'c' ? count == width : count > 0;
 }
 
-/* Whether a character may stand next in a number of which `text` was read. */
-static int may_follow(const char *text, int length, int c, int base, int is_floating) {
-    char last = length ? text[length - 1] : 0;
-    if (c == '+' || c == '-')
-        return length == 0 || (is_floating && (last | 32) == 'e');
-    if (is_floating)
-        return isdigit(c) || (c == '.' && !memchr(text, '.', length)) || isalpha(c);
+/* Whether a character continues a text of `length` characters that begins a word. */
+static int continues(const char *word, int length, int c) {
+    return length < (int) strlen(word) && tolower(c) == word[length];
+}
+
+/* Whether a character continues a floating number, of which `text` was read without its sign. */
+static int continues_floating(const char *text, int length, int c) {
+    char first = length ? tolower(text[0]) : tolower(c);
+    if (first == 'i')
+        return continues("infinity", length, c);
+    if (first == 'n')
+        return continues("nan", length, c);
+    int is_hex = length > 1 && tolower(text[1]) == 'x', has_digits = length > (is_hex ? 2 : 0) + (memchr(text, '.', length) != NULL);
+    char letter = is_hex ? 'p' : 'e';
+    if (memchr(text, letter, length) || memchr(text, toupper(letter), length))
+        return isdigit(c) || ((c == '+' || c == '-') && tolower(text[length - 1]) == letter);
+    if (length == 1 && first == '0' && tolower(c) == 'x')
+        return 1;
+    if (c == '.')
+        return !memchr(text, '.', length);
+    return (is_hex ? isxdigit(c) : isdigit(c)) || (has_digits && tolower(c) == letter);
+}
+
+/* The same of a number in a base, or in one that its beginning says. */
+static int continues_integer(const char *text, int length, int c, int base) {
     if ((c | 32) == 'x')
-        return (base == 0 || base == 16) && last == '0' && length <= 2 && (length == 1 || !isdigit(text[0]));
-    int limit = base ? base : length > 1 && (text[1] | 32) == 'x' ? 16 : length > 2 && (text[2] | 32) == 'x' ? 16 : 10;
+        return length == 1 && text[0] == '0' && (base == 0 || base == 16);
+    int is_hex = length > 1 && (text[1] | 32) == 'x';
+    int limit = base ? base : is_hex ? 16 : length && text[0] == '0' ? 8 : 10;
     return isdigit(c) ? c - '0' < limit : limit == 16 && isxdigit(c);
+}
+
+static int may_follow(const char *text, int length, int c, int base, int is_floating) {
+    if (length == 0 && (c == '+' || c == '-'))
+        return 1;
+    if (length && (*text == '+' || *text == '-')) {
+        text++;
+        length--;
+    }
+    return is_floating ? continues_floating(text, length, c) : continues_integer(text, length, c, base);
 }
 
 static void scan_number(struct source *source, int width, int base, int is_floating, char *text) {
@@ -196,14 +225,14 @@ static int scan_floating(struct source *source, const struct conversion *convers
     scan_number(source, conversion->width, 10, 1, text);
     if (conversion->size == SIZE_INT) {
         float value = strtof(text, &end);
-        if (to && end != text)
+        if (to && end != text && !*end)
             *(float *) to = value;
     } else {
         double value = strtod(text, &end);
-        if (to && end != text)
+        if (to && end != text && !*end)
             *(double *) to = value;
     }
-    return end != text;
+    return end != text && !*end;
 }
 
 static int convert(struct source *source, const struct conversion *conversion, void *to) {

@@ -49,6 +49,8 @@ int ungetc(int c, FILE *stream) {
 
 char *fgets(char *restrict line, int room, FILE *restrict stream) {
     int length = 0;
+    if (room < 1)
+        return NULL;
     while (length < room - 1) {
         int c = fgetc(stream);
         if (c == EOF)
@@ -57,7 +59,7 @@ char *fgets(char *restrict line, int room, FILE *restrict stream) {
         if (c == '\n')
             break;
     }
-    if (length == 0)
+    if (length == 0 && room > 1)
         return NULL;
     line[length] = 0;
     return line;

@@ -134,6 +134,24 @@ char *strerror(int number) {
     switch (number) {
     case 0:
         return "Success";
+    case EPERM:
+        return "Operation not permitted";
+    case ENOENT:
+        return "No such file or directory";
+    case EINTR:
+        return "Interrupted system call";
+    case EIO:
+        return "Input/output error";
+    case EBADF:
+        return "Bad file descriptor";
+    case EACCES:
+        return "Permission denied";
+    case EEXIST:
+        return "File exists";
+    case ENOTTY:
+        return "Inappropriate ioctl for device";
+    case ESPIPE:
+        return "Illegal seek";
     case ENOMEM:
         return "Cannot allocate memory";
     case EINVAL:

@@ -4,10 +4,21 @@
 
 extern int errno;
 
+#define EPERM 1
+#define ENOENT 2
+#define EINTR 4
+#define EIO 5
+#define EBADF 9
 #define ENOMEM 12
+#define EACCES 13
+#define EEXIST 17
 #define EINVAL 22
+#define ENOTTY 25
+#define ESPIPE 29
 #define EDOM 33
 #define ERANGE 34
 #define EILSEQ 88
+#define ENOSYS 89
+#define EOVERFLOW 79
 
 #endif

@@ -11,18 +11,37 @@ typedef double double_t;
 #define NAN __builtin_nanf("")
 
 #define M_E 2.7182818284590452354
+#define M_LOG2E 1.4426950408889634074
+#define M_LOG10E 0.43429448190325182765
 #define M_LN2 0.69314718055994530942
 #define M_LN10 2.30258509299404568402
 #define M_PI 3.14159265358979323846
 #define M_PI_2 1.57079632679489661923
 #define M_PI_4 0.78539816339744830962
+#define M_1_PI 0.31830988618379067154
+#define M_2_PI 0.63661977236758134308
+#define M_2_SQRTPI 1.12837916709551257390
 #define M_SQRT2 1.41421356237309504880
+#define M_SQRT1_2 0.70710678118654752440
 
 #define FP_NAN 0
 #define FP_INFINITE 1
 #define FP_ZERO 2
 #define FP_SUBNORMAL 3
 #define FP_NORMAL 4
+#define FP_ILOGB0 (-2147483647)
+#define FP_ILOGBNAN 2147483647
+
+#define MATH_ERRNO 1
+#define MATH_ERREXCEPT 2
+#define math_errhandling MATH_ERRNO
+
+#define isgreater(x, y) __builtin_isgreater(x, y)
+#define isgreaterequal(x, y) __builtin_isgreaterequal(x, y)
+#define isless(x, y) __builtin_isless(x, y)
+#define islessequal(x, y) __builtin_islessequal(x, y)
+#define islessgreater(x, y) __builtin_islessgreater(x, y)
+#define isunordered(x, y) __builtin_isunordered(x, y)
 
 int _classify(double x);
 int _classifyf(float x);
@@ -52,6 +71,35 @@ double copysign(double x, double sign);
 double fmin(double x, double y);
 double fmax(double x, double y);
 double sqrt(double x);
+double fdim(double x, double y);
+double fma(double x, double y, double z);
+double remainder(double x, double y);
+double remquo(double x, double y, int *quotient);
+double nextafter(double x, double y);
+double logb(double x);
+double scalbln(double x, long exponent);
+double nan(const char *text);
+int ilogb(double x);
+long long llround(double x);
+long long llrint(double x);
+float fdimf(float x, float y);
+float fmaf(float x, float y, float z);
+float remainderf(float x, float y);
+float remquof(float x, float y, int *quotient);
+float nextafterf(float x, float y);
+float logbf(float x);
+float rintf(float x);
+float nearbyintf(float x);
+float modff(float x, float *whole);
+float frexpf(float x, int *exponent);
+float ldexpf(float x, int exponent);
+float scalbnf(float x, int exponent);
+float scalblnf(float x, long exponent);
+int ilogbf(float x);
+long lroundf(float x);
+long lrintf(float x);
+long long llroundf(float x);
+long long llrintf(float x);
 float fabsf(float x);
 float floorf(float x);
 float ceilf(float x);
@@ -63,31 +111,58 @@ float fminf(float x, float y);
 float fmaxf(float x, float y);
 float sqrtf(float x);
 
-/* Near the exact value, by a few units of the last place. */
+/* Within one unit in the last place. */
 double exp(double x);
 double exp2(double x);
+double expm1(double x);
 double log(double x);
 double log2(double x);
 double log10(double x);
-double pow(double x, double y);
+double log1p(double x);
+double cbrt(double x);
 double sin(double x);
 double cos(double x);
 double tan(double x);
 double asin(double x);
 double acos(double x);
 double atan(double x);
-double atan2(double y, double x);
 double sinh(double x);
 double cosh(double x);
 double tanh(double x);
+double asinh(double x);
+double acosh(double x);
+double atanh(double x);
+double tgamma(double x);
+double erf(double x);
+double erfc(double x);
+double pow(double x, double y);
 double hypot(double x, double y);
+double atan2(double y, double x);
 float expf(float x);
+float exp2f(float x);
+float expm1f(float x);
 float logf(float x);
-float powf(float x, float y);
+float log2f(float x);
+float log10f(float x);
+float log1pf(float x);
+float cbrtf(float x);
 float sinf(float x);
 float cosf(float x);
 float tanf(float x);
+float asinf(float x);
+float acosf(float x);
 float atanf(float x);
+float sinhf(float x);
+float coshf(float x);
+float tanhf(float x);
+float asinhf(float x);
+float acoshf(float x);
+float atanhf(float x);
+float tgammaf(float x);
+float erff(float x);
+float erfcf(float x);
+float powf(float x, float y);
+float hypotf(float x, float y);
 float atan2f(float y, float x);
 
 #endif

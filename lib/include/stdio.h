@@ -9,8 +9,19 @@
 typedef struct _file FILE;
 extern FILE *const stdin, *const stdout, *const stderr;
 
+typedef int ssize_t;
+typedef long fpos_t;
+
 #define EOF (-1)
 #define BUFSIZ 256
+#define FILENAME_MAX 255
+#define FOPEN_MAX 3
+#define _IOFBF 0
+#define _IOLBF 1
+#define _IONBF 2
+#define SEEK_SET 0
+#define SEEK_CUR 1
+#define SEEK_END 2
 
 int getchar(void);
 int fgetc(FILE *stream);
@@ -31,6 +42,20 @@ int feof(FILE *stream);
 int ferror(FILE *stream);
 void clearerr(FILE *stream);
 int fflush(FILE *stream);
+void setbuf(FILE *__restrict stream, char *__restrict buffer);
+int setvbuf(FILE *__restrict stream, char *__restrict buffer, int mode, size_t size);
+ssize_t getline(char **__restrict line, size_t *__restrict room, FILE *__restrict stream);
+ssize_t getdelim(char **__restrict line, size_t *__restrict room, int delimiter, FILE *__restrict stream);
+
+/* Of files there are only /dev/stdin, /dev/stdout and /dev/stderr. */
+FILE *fopen(const char *__restrict name, const char *__restrict mode);
+int fclose(FILE *stream);
+int fileno(FILE *stream);
+int fseek(FILE *stream, long offset, int from);
+long ftell(FILE *stream);
+void rewind(FILE *stream);
+int remove(const char *name);
+int rename(const char *from, const char *to);
 
 #define _PRINTS(text, first) __attribute__((__format__(__printf__, text, first)))
 #define _SCANS(text, first) __attribute__((__format__(__scanf__, text, first)))
@@ -43,6 +68,8 @@ int vprintf(const char *__restrict format, va_list list) _PRINTS(1, 0);
 int vfprintf(FILE *__restrict stream, const char *__restrict format, va_list list) _PRINTS(2, 0);
 int vsprintf(char *__restrict to, const char *__restrict format, va_list list) _PRINTS(2, 0);
 int vsnprintf(char *__restrict to, size_t room, const char *__restrict format, va_list list) _PRINTS(3, 0);
+int asprintf(char **__restrict to, const char *__restrict format, ...) _PRINTS(2, 3);
+int vasprintf(char **__restrict to, const char *__restrict format, va_list list) _PRINTS(2, 0);
 
 int scanf(const char *__restrict format, ...) _SCANS(1, 2);
 int fscanf(FILE *__restrict stream, const char *__restrict format, ...) _SCANS(2, 3);

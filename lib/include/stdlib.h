@@ -2,6 +2,7 @@
 #ifndef _STDLIB_H
 #define _STDLIB_H
 
+#include <alloca.h>
 #include <stddef.h>
 
 #define EXIT_SUCCESS 0
@@ -21,11 +22,17 @@ typedef struct {
 _Noreturn void exit(int status);
 _Noreturn void _Exit(int status);
 _Noreturn void abort(void);
+int atexit(void (*function)(void));
+char *getenv(const char *name);
+int setenv(const char *name, const char *value, int replaces);
+int unsetenv(const char *name);
 
 void *malloc(size_t size);
 void *calloc(size_t count, size_t size);
 void *realloc(void *block, size_t size);
 void free(void *block);
+void *aligned_alloc(size_t alignment, size_t size);
+int posix_memalign(void **to, size_t alignment, size_t size);
 
 int atoi(const char *text);
 long atol(const char *text);
@@ -48,6 +55,9 @@ lldiv_t lldiv(long long dividend, long long divisor);
 
 int rand(void);
 void srand(unsigned int seed);
+int rand_r(unsigned int *seed);
+long random(void);
+void srandom(unsigned int seed);
 
 void qsort(void *base, size_t count, size_t size, int (*compare)(const void *, const void *));
 void *bsearch(const void *key, const void *base, size_t count, size_t size, int (*compare)(const void *, const void *));

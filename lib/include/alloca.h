@@ -1,0 +1,7 @@
+/* Memory of the function that calls. */
+#ifndef _ALLOCA_H
+#define _ALLOCA_H
+
+#define alloca(size) __builtin_alloca(size)
+
+#endif

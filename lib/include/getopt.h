@@ -1,0 +1,7 @@
+/* Options of a program. */
+#ifndef _GETOPT_H
+#define _GETOPT_H
+
+#include <unistd.h>
+
+#endif
