@@ -10,7 +10,7 @@
 #   MX_RUN   the simulator:   MX_RUN run FILE .., MX_RUN meaning FILE ..
 #   MX_CC    the translator:  MX_CC FILE.s .. -o OUT.s
 # CC_JOBS says how many programs are tried side by side (2).
-top=$(CDPATH= cd -- "$(dirname -- "$0")/.." && pwd) || exit 1
+top=$(CDPATH='' cd -- "$(dirname -- "$0")/.." && pwd) || exit 1
 export MX_RUN=${MX_RUN:-$top/crates/mx_run/out/mx_run}
 export MX_CC=${MX_CC:-$top/crates/mx_cc/out/mx_cc}
 for program in mips-linux-gnu-gcc qemu-mips csmith python3; do

@@ -64,7 +64,7 @@ def main():
             failures += bool(wrong)
             for it in wrong:
                 print(f'FAILED: {line.split("|")[1].strip()}: {it}')
-    print(f'{tried} runs of cases of C, {failures} cases failed')
+    print(f'cases of C: compared {tried} runs, of which {failures} cases failed' if failures else f'cases of C: compared {tried} runs')
     return 1 if failures or not tried else 0
 
 

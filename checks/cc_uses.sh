@@ -4,7 +4,7 @@
 # that ./mx takes, so it builds them where they are not there:
 #     checks/cc_uses.sh
 # It needs the Debian package gcc-mips-linux-gnu.
-top=$(CDPATH= cd -- "$(dirname -- "$0")/.." && pwd) || exit 1
+top=$(CDPATH='' cd -- "$(dirname -- "$0")/.." && pwd) || exit 1
 export MX_QUIET=1 LC_ALL=C
 work=$(mktemp -d) || exit 1
 trap 'rm -rf "$work"' EXIT
