@@ -88,10 +88,11 @@ def examples(folder, names):
 
 
 def try_all(pool, folder, drawn, names):
-    failures = 0
+    failures, compared = 0, drawn
     for is_good, line in pool.imap_unordered(try_example, examples(folder, names)):
         print(line, flush=True)
         failures += not is_good
+        compared += 1
     same, over = 0, 0
     for is_good, line in pool.imap_unordered(try_drawn, ((folder, seed) for seed in range(1, drawn + 1))):
         print(line, flush=True)
@@ -99,7 +100,7 @@ def try_all(pool, folder, drawn, names):
         over += is_good is None
     if drawn:
         print(f'csmith: {drawn} programs drawn, {same} the same, {over} passed over, {drawn - same - over} not')
-    return failures + drawn - same - over
+    return failures + drawn - same - over, compared - over
 
 
 def main():
@@ -112,9 +113,9 @@ def main():
             with open(f'{folder}/{seed}', 'w') as file:
                 file.write(f'{seed * 7919 + 1}\n')
         with multiprocessing.Pool(int(os.environ.get('CC_JOBS', '2'))) as pool:
-            failures = try_all(pool, folder, drawn, words)
-    print(f'{failures} failed')
-    return 1 if failures else 0
+            failures, compared = try_all(pool, folder, drawn, words)
+    print(f'C programs: compared {compared} programs, of which {failures} failed' if failures else f'C programs: compared {compared} programs')
+    return 1 if failures or not compared else 0
 
 
 if __name__ == '__main__':

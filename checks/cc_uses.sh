@@ -9,6 +9,7 @@ export MX_QUIET=1 LC_ALL=C
 work=$(mktemp -d) || exit 1
 trap 'rm -rf "$work"' EXIT
 failed=0
+compared=0
 
 # Says that the use $1 is not as it has to be, and why.
 tell() {
@@ -20,6 +21,7 @@ tell() {
 wrong() {
     status=$1
     line=$2
+    compared=$((compared + 1))
     shift 2
     (cd "$work" && "$top/mx" "$@" >said 2>&1)
     got=$?
@@ -127,5 +129,5 @@ wrong 2 'mx: -c: this option of gcc is not taken: ./mx cc writes a source, and -
 [ -d "$top/.mx/probe" ] || tell 'cc -O/../../probe' 'a folder was removed'
 rmdir "$top/.mx/probe"
 "$top/checks/cc_cases.py" || failed=$((failed + 1))
-echo "$failed failed"
+[ $failed -eq 0 ] && echo "C commands: compared $compared wrong uses, and the cases of C" || echo "C commands: compared $compared wrong uses; $failed failed"
 [ $failed -eq 0 ]

@@ -160,7 +160,6 @@ int main(void) {{ return sizeof ZANDERANVIL_VERSION_TEXT != {len(version) + 1}; 
     tally.need(done.returncode == 0, "as numbers that a program can compare", done.stderr)
     words = re.search(r'\.version\("([^"]*)"\)', read(f"{TOP}/crates/lab_line/src/words.rt")).group(1)
     tally.need(words == version, "the laboratory has it", words)
-    tally.need('version = "' not in read(f"{TOP}/python/pyproject.toml"), "pyproject.toml has none of its own")
     tally.need(f"libzanderanvil.so.{major}" in read(f"{TOP}/mx"), "the soname has its first number")
 
 
@@ -179,7 +178,7 @@ def real(tally):
     found = lab.check(b"adi r1,#1,r1\nhalt\n")
     tally.need([(row["line"], row["code"]) for row in found] == [(1, "F3")], "the laboratory's check has a fault with its line")
     tally.need(lab.check(b"halt\n") == [], "and nothing of a source without one")
-    tally.need(raised(Refusal, lambda: lab.profile(b"foo"), "line 1", "F3"), "a faulty source is refused with its line")
+    tally.need(raised(Refusal, lambda: lab.profile(b"foo"), ":1:1: error[F3]"), "a faulty source is refused with its line")
     tally.need(len(lab.trace(b"halt\n")) > 2 and lab.plans(b"halt\n", lambda block: None).run.halted, "its trace and plans")
 
 
