@@ -206,23 +206,10 @@ class Translator:
         return self.programs.run_in(words, folder, connection, (SECONDS, MOST_MEMORY, MOST_WRITTEN))
 
     def library(self, folder, connection):
-        """Returns the names of the library's assembly. Where that is not there yet, or old, ./mx cc leaves it for an empty program."""
-        kept = f"{TOP}/.mx/library{LEVEL}"
+        """Returns the names of the library's assembly. tools/cc.sh compiles it if it is not kept yet, and prints the folder that has it."""
         with self.preparing:
-            if not is_newest(f"{kept}/done", f"{TOP}/lib"):
-                with open(f"{folder}/empty.c", "w", encoding="ascii") as it:
-                    it.write("int main(void) { return 0; }\n")
-                done = self.programs.run_in([f"{TOP}/tools/cc.sh", TOP, "cc", "empty.c", "-o", "empty"], folder, connection)
-                if done.status != 0:
-                    raise Refused(500, f"the library is not compiled: {(done.errors or done.output)[:300]}")
-        return sorted(glob.glob(f"{kept}/*.s"))
-
-
-def is_newest(name, folder):
-    """Tells whether a file is there, and nothing below a folder is newer."""
-    try:
-        kept = os.stat(name).st_mtime_ns
-    except OSError:
-        return False
-    below = [folder] + [os.path.join(top, it) for top, folders, files in os.walk(folder) for it in folders + files]
-    return all(os.stat(it).st_mtime_ns <= kept for it in below)
+            done = self.programs.run_in([f"{TOP}/tools/cc.sh", TOP, "library"], folder, connection)
+        kept = sorted(glob.glob(f"{glob.escape(done.output.strip())}/*.s")) if done.status == 0 else []
+        if not kept:
+            raise Refused(500, f"the library is not compiled: {(done.errors or done.output)[:300]}")
+        return kept
