@@ -200,7 +200,7 @@ class Grader:
     def dearest(self, given: Dict[str, Any]) -> List[Record]:
         """Returns the lines on which a run spent most cycles."""
         rows = [it for it in self.laboratory.profile(self.submission, **given) if it["cycles"]]
-        return sorted(rows, key=lambda it: -it["cycles"])[:DEAREST]
+        return sorted(rows, key=lambda it: -int(it["cycles"]))[:DEAREST]
 
     @staticmethod
     def spent_on(row: Record) -> str:
@@ -289,7 +289,8 @@ class Grader:
 
     def answers(self) -> List[Part]:
         """Compares answers, lines `NAME = ANSWER`, with the expected ones."""
-        exercise, given = self.exercise, {}
+        exercise = self.exercise
+        given: Dict[str, Tuple[int, str]] = {}
         for number, line in enumerate(self.submission.decode("utf-8", "replace").splitlines(), 1):
             name, is_answer, value = line.partition("=")
             if is_answer:
@@ -300,11 +301,11 @@ class Grader:
             if name not in given:
                 parts.append(lost(name, of, f"there is no line '{name} = ..'"))
                 continue
-            line, value = given[name]
+            at, value = given[name]
             if is_answer_to(value, exercise.value(question, "answer", str)):
                 parts.append(Part(name, of, of))
             else:
-                parts.append(lost(name, of, f"'{value.strip()}' is not right: {exercise.value(question, 'because', str)}", line))
+                parts.append(lost(name, of, f"'{value.strip()}' is not right: {exercise.value(question, 'because', str)}", at))
         return parts
 
 
