@@ -253,8 +253,8 @@ class Grader:
         status, output, errors = self.laboratory.answer(*words, files=files)
         rejected = []
         while output.startswith(b"plan "):
-            line, _, output = output.partition(b"\n")
-            rejected.append(line.decode("ascii"))
+            verdict, _, output = output.partition(b"\n")
+            rejected.append(verdict.decode("ascii"))
         limits = exercise.records("limits")
         if status not in (DONE, OUT_OF_BUDGET):
             said = (errors or output).decode("utf-8", "replace").strip().splitlines()
