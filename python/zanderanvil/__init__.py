@@ -7,18 +7,19 @@
     print(run.console, run.cycles)
 
 `Laboratory` has the laboratory's commands, by its program. `sweep` runs many runs side by side, and `survey` many studies of
-the laboratory, by any executor of concurrent.futures.
+the laboratory, by any executor of concurrent.futures. `evaluate` compares schedulers over many sources.
 """
 import importlib.metadata
 import os
 
+from .evaluation import Difference, Evaluation, evaluate
 from .laboratory import Block, Drawing, Laboratory, Plan, Planned, Scheduler
 from .library import Explained, Meaning, Refusal, Run, Zanderanvil
 from .sweep import Case, Row, Study, survey, sweep
 
 __all__ = [
-    "Block", "Case", "Drawing", "Explained", "Laboratory", "Meaning", "Plan", "Planned", "Refusal", "Row", "Run", "Scheduler", "Study",
-    "Zanderanvil", "survey", "sweep",
+    "Block", "Case", "Difference", "Drawing", "Evaluation", "Explained", "Laboratory", "Meaning", "Plan", "Planned", "Refusal", "Row", "Run",
+    "Scheduler", "Study", "Zanderanvil", "evaluate", "survey", "sweep",
 ]
 
 
