@@ -315,14 +315,16 @@ def expanded(line):
 
 
 def examples_of(section):
-    """Returns the examples of a section."""
+    """Returns the examples of a section. The first one names the file and the command of all that name no other."""
     form = r"(?ms)^(Faulty|Corrected)(?:, in ([\w.]+))?( \(hexadecimal\))?(?:, by `([^`]+)`)?:\n\n((?:    [^\n]*\n|\n)+)"
+    found = re.findall(form, section)
+    _, first_name, first_form, first_command, _ = found[0] if found else ("",) * 5
     examples = []
-    for kind, name, is_hexadecimal, command, text in re.findall(form, section):
+    for kind, name, is_hexadecimal, command, text in found:
         lines = re.sub(r"(?m)^    ", "", text).strip("\n").split("\n")
         plain = "".join(f"{it}\n" for line in lines for it in expanded(line)).encode()
-        content = bytes.fromhex("".join(lines)) if is_hexadecimal else plain
-        examples.append(Example(kind, name or "s.s", command or "check s.s", content))
+        content = bytes.fromhex("".join(lines)) if is_hexadecimal or first_form else plain
+        examples.append(Example(kind, name or first_name or "s.s", command or first_command or "check s.s", content))
     return examples
 
 
