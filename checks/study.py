@@ -273,8 +273,8 @@ with the library. What `main` does not reach is left out. Each ran to its halt w
 
 ## Words
 
-The columns are the words and no-ops of the linked program, and of the example's own functions; what the slots of branches (before,
-target, empty) and loads hold there, in per cent; and the slots that gcc fills for MIPS-I (`-fdelayed-branch`), in per cent.
+The columns are the words and no-ops of the linked program, and of the example's own functions. Then come what the slots of branches
+(before, target, empty) and loads hold there, and the slots that gcc fills for MIPS-I (`-fdelayed-branch`), in per cent.
 
 | Program | words | no-ops | own words | own no-ops | before | target | empty | loads | gcc slots | gcc loads |
 |---|---|---|---|---|---|---|---|---|---|---|
