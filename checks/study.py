@@ -180,8 +180,7 @@ def static_row(study):
 
 def dynamic_row(study):
     cycles = [f"{study.plans[plan]['cycles']:,}" for plan in PLANS]
-    parts = [f'{share:.0f}' for share in shares(study)]
-    parts += [f'{percent(study.cycles_of[group], study.together[1]):.0f}' for group in study.cycles_of]
+    parts = [f'{percent(study.cycles_of[group], study.together[1]):.0f}' for group in study.cycles_of]
     return (f"| {study.name} | {study.together[0]:,} | {' | '.join(cycles)} | {int(study.run['misses']):,} "
             f"| {int(study.run['squashes']):,} | {' | '.join(parts)} |")
 
@@ -284,10 +283,10 @@ DYNAMIC = """
 ## Cycles
 
 The columns are the executed statements; the cycles by the four plans of [`compare`](MEASUREMENTS.md#compare); misses and squashes of
-the run, which is `copies`; and its cycles in per cent, by what they were spent on and by whose functions they are.
+the run, which is `copies`; and its cycles in per cent, by whose functions they are.
 
-| Program | statements | padded | list | copies | best | misses | squashes | statements % | no-ops % | squashed % | cache % | own % | routines % | library % |
-|---|---|---|---|---|---|---|---|---|---|---|---|---|---|---|
+| Program | statements | padded | list | copies | best | misses | squashes | own % | routines % | library % |
+|---|---|---|---|---|---|---|---|---|---|---|
 """
 
 
