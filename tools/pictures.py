@@ -3,7 +3,7 @@
 
 usage: tools/pictures.py
 
-The workbench is opened with examples/sort.s in Chromium, at a cycle in the second pass of the sort. Look at the pictures afterwards. It
+The workbench is opened with examples/sort.s in Chromium, at a cycle late in the sort. Look at the pictures afterwards. It
 needs the program chromium, and the programs as ./mx leaves them, or those that MX_SERVE, MX_RUN, MX_LAB and MX_CC name.
 """
 import os
