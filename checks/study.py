@@ -1,7 +1,8 @@
 #!/usr/bin/env python3
-"""study.py: writes docs/STUDY.md and docs/study.svg: what the reorganizer makes of the examples of examples/c at -O2,
+"""study.py: writes docs/STUDY.md, docs/study.csv and docs/study.svg: what the reorganizer makes of the examples of examples/c at -O2,
 and what gcc's own filler leaves of the same C. It takes the programs that checks/cc.sh takes, by MX_RUN, MX_CC and
 MX_LAB (the program of `compare` and `profile`)."""
+import csv
 import json
 import os
 import re
@@ -166,23 +167,20 @@ def mean(numbers):
     return sum(numbers) / len(numbers)
 
 
-def static_row(study):
-    plan, slots, loads = study.plans['copies'], study.branch_slots, study.load_slots
-    all_slots, all_loads = sum(slots.values()), sum(loads.values())
-    cells = [f"{plan['words']:,}", f"{plan['no-ops']:,}", f"{study.own['words']:,}", f"{study.own['no-ops']:,}", f"{percent(slots['before'], all_slots):.0f}",
-             f"{percent(slots['copies'], all_slots):.0f}", f"{percent(slots['no-ops'], all_slots):.0f}",
-             f"{percent(loads['filled'], all_loads):.0f}"]
-    gcc = study.gcc
-    cells += [f"{percent(gcc['branch'] - gcc['branch empty'], gcc['branch']):.0f}",
-              f"{percent(gcc['load'] - gcc['load empty'], gcc['load']):.0f}"]
-    return f"| {study.name} | {' | '.join(cells)} |"
+COLUMNS = ["program", "words", "no-ops", "own words", "own no-ops", "slots before %", "slots target %", "slots empty %", "loads filled %",
+           "gcc slots %", "gcc loads %", "statements", *PLANS, "misses", "squashes", "own cycles %", "routines cycles %", "library cycles %"]
 
 
-def dynamic_row(study):
-    cycles = [f"{study.plans[plan]['cycles']:,}" for plan in PLANS]
-    parts = [f'{percent(study.cycles_of[group], study.together[1]):.0f}' for group in study.cycles_of]
-    return (f"| {study.name} | {study.together[0]:,} | {' | '.join(cycles)} | {int(study.run['misses']):,} "
-            f"| {int(study.run['squashes']):,} | {' | '.join(parts)} |")
+def row(study):
+    """The figures of one example, as COLUMNS names them."""
+    plan, slots, loads, gcc = study.plans['copies'], study.branch_slots, study.load_slots, study.gcc
+    shown = [percent(slots[what], sum(slots.values())) for what in ('before', 'copies', 'no-ops')]
+    shown += [percent(loads['filled'], sum(loads.values()))]
+    shown += [percent(gcc[what] - gcc[f'{what} empty'], gcc[what]) for what in ('branch', 'load')]
+    cycles = [study.plans[plan]['cycles'] for plan in PLANS]
+    groups = [percent(study.cycles_of[group], study.together[1]) for group in study.cycles_of]
+    return [study.name, plan['words'], plan['no-ops'], study.own['words'], study.own['no-ops'], *(f'{share:.0f}' for share in shown),
+            study.together[0], *cycles, study.run['misses'], study.run['squashes'], *(f'{share:.0f}' for share in groups)]
 
 
 COLOURS = ['#4c78a8', '#bab0ac', '#e45756', '#f2cf5b']
@@ -270,23 +268,12 @@ with the library. What `main` does not reach is left out. Each ran to its halt w
 
 ![Where the cycles of each example go](study.svg)
 
-## Words
+## The figures
 
-The columns are the words and no-ops of the linked program, and of the example's own functions. Then come what the slots of branches
-(before, target, empty) and loads hold there, and the slots that gcc fills for MIPS-I (`-fdelayed-branch`), in per cent.
-
-| Program | words | no-ops | own words | own no-ops | before | target | empty | loads | gcc slots | gcc loads |
-|---|---|---|---|---|---|---|---|---|---|---|
-"""
-
-DYNAMIC = """
-## Cycles
-
-The columns are the executed statements; the cycles by the four plans of [`compare`](MEASUREMENTS.md#compare); misses and squashes of
-the run, which is `copies`; and its cycles in per cent, by whose functions they are.
-
-| Program | statements | padded | list | copies | best | misses | squashes | own % | routines % | library % |
-|---|---|---|---|---|---|---|---|---|---|---|
+[study.csv](study.csv) has a line for each program: words and no-ops of the linked program and of its own functions; what the slots of
+branches (before, target, empty) and loads hold there, and the slots that gcc fills for MIPS-I (`-fdelayed-branch`), in per cent; the
+executed statements. Then come the cycles by the four plans of [`compare`](MEASUREMENTS.md#compare), the misses and squashes of the run,
+which is `copies`, and its cycles by whose functions they are, in per cent.
 """
 
 
@@ -299,8 +286,8 @@ def main():
                 studies.append(study_example(folder, file[:-2], library))
     with open(f'{TOP}/docs/STUDY.md', 'w') as file:
         file.write(TEXT.format(**sums(studies)))
-        file.write(''.join(static_row(study) + '\n' for study in studies) + DYNAMIC)
-        file.write(''.join(dynamic_row(study) + '\n' for study in studies))
+    with open(f'{TOP}/docs/study.csv', 'w', newline='') as file:
+        csv.writer(file, lineterminator='\n').writerows([COLUMNS, *(row(study) for study in studies)])
     with open(f'{TOP}/docs/study.svg', 'w') as file:
         file.write(chart(studies))
     return 0
