@@ -1,13 +1,15 @@
 #!/usr/bin/env python3
 """Compares what commands say on standard error with the messages below, and every example of docs/ERRORS.md with its code.
 
-usage: checks/messages.py [mx_run | mx_lab | errors]
+usage: checks/messages.py [mx_run | mx_lab | mx_cc | errors]
 
 A case is a command in a folder that holds just its files: its exit status, the first line on standard error, and what standard output
-holds. The commands are those of ./mx, with the programs that are built, proved or not: nothing is built.
+holds. The commands are those of ./mx, with the programs that are built, proved or not: nothing is built. The part mx_cc is left out,
+and says so, where mx_cc is not built or gcc for MIPS is missing.
 """
 import os
 import re
+import shutil
 import subprocess
 import sys
 import tempfile
@@ -34,6 +36,7 @@ FILES = {
     "tab.s": "main:\tadd r1,r2\n", "blank.s": "\n" * 150_000 + LOOP, "events": "x\n", "late": "7\n5\n", "one.s": MODULE_ONE,
     "two.s": MODULE_TWO, "plans": "0 x\n", "image": "MXIM\0\0\0", "shared.s": "        .input\n        halt\n",
     "code.s": "        la   here,r1\nhere:   add  r1,r1,r2\n        halt\n", "out": "old\n",
+    "text.mips": "\t.data\nx:\n\t.ascii \"abc\n",
 }
 BIG = 4_194_305
 LIST_FAULT = "line 1: F8 UndefinedLabel\n"
@@ -165,6 +168,13 @@ LABORATORY = [
     Case("check nine.s", 1, None, ANY),
 ]
 
+NO_FILE = "zanderanvil: error: cannot read 'none.c': no such file"
+C_PROGRAMS = [
+    Case("translate text.mips", 1, None, "text.mips:3: .ascii: unterminated string\n"),
+    Case("c none.c", 4, NO_FILE),
+    Case("cc none.c -o x.s", 4, NO_FILE),
+]
+
 SENTENCES = [
     *sentence("addi r1,#12a,r2\n", "1:10", "F2", "invalid number '12a'"),
     *sentence("add r1,(r1),r2\n", "1:8", "F2", "invalid token '(r1': expected a name, a number or one of , [ ] # :"),
@@ -282,6 +292,29 @@ def compare_alone(folder):
         common.tell(f"run {name} without the laboratory", said.returncode == 1 and said.stderr.startswith(wanted), said.stderr)
 
 
+def compare_without_toolchain():
+    """Compares what is said where a program has to be built and the command rt is missing."""
+    folders = [it for it in os.environ["PATH"].split(":") if it and not os.access(f"{it}/rt", os.X_OK)]
+    how = {"capture_output": True, "text": True, "env": {**os.environ, "PATH": ":".join(folders)}}
+    wanted = ("zanderanvil: error: the command rt is missing: it is part of Rattle's toolchain. "
+              "Get the toolchain (README.md, Setup), and add its folder bin to PATH\n")
+    for word in ("prove", "test"):
+        said = subprocess.run([f"{common.TOP}/mx", word], check=False, **how)
+        common.tell(f"{word} without rt", (said.returncode, said.stderr) == (10, wanted), said.stderr)
+
+
+def compare_c_programs():
+    """Compares what is said of C and of a compiler's assembly, where these can be compiled."""
+    missing = [it for it in ("mips-linux-gnu-gcc",) if shutil.which(it) is None]
+    paths = [os.environ.get("MX_CC", ""), f"{common.TOP}/crates/mx_cc/out/mx_cc", f"{common.TOP}/.mx/mx_cc"]
+    path = next((it for it in paths if it and os.access(it, os.X_OK)), None)
+    if missing or path is None:
+        print(f"left out: C programs, without {', '.join(missing) or 'mx_cc'}")
+        return
+    os.environ["MX_CC"] = os.path.abspath(path)
+    each(compare, C_PROGRAMS)
+
+
 def each(compare_one, things):
     """Makes a folder for each of some things, and compares it there."""
     for it in things:
@@ -315,14 +348,17 @@ def expanded(line):
 
 
 def examples_of(section):
-    """Returns the examples of a section."""
+    """Returns the examples of a section. The first one names the command of all; an example that names no file is the command's last."""
     form = r"(?ms)^(Faulty|Corrected)(?:, in ([\w.]+))?( \(hexadecimal\))?(?:, by `([^`]+)`)?:\n\n((?:    [^\n]*\n|\n)+)"
+    found = re.findall(form, section)
+    _, _, first_form, first_command, _ = found[0] if found else ("",) * 5
     examples = []
-    for kind, name, is_hexadecimal, command, text in re.findall(form, section):
+    for kind, name, is_hexadecimal, command, text in found:
         lines = re.sub(r"(?m)^    ", "", text).strip("\n").split("\n")
         plain = "".join(f"{it}\n" for line in lines for it in expanded(line)).encode()
-        content = bytes.fromhex("".join(lines)) if is_hexadecimal else plain
-        examples.append(Example(kind, name or "s.s", command or "check s.s", content))
+        content = bytes.fromhex("".join(lines)) if is_hexadecimal or first_form else plain
+        command = command or first_command or "check s.s"
+        examples.append(Example(kind, name or command.split()[-1], command, content))
     return examples
 
 
@@ -372,15 +408,18 @@ def compare_errors(folder):
 
 
 def main(words):
-    parts = words or ["mx_run", "mx_lab", "errors"]
-    if not set(parts) <= {"mx_run", "mx_lab", "errors"}:
-        common.wrong_arguments("usage: checks/messages.py [mx_run | mx_lab | errors]")
+    parts = words or ["mx_run", "mx_lab", "mx_cc", "errors"]
+    if not set(parts) <= {"mx_run", "mx_lab", "mx_cc", "errors"}:
+        common.wrong_arguments("usage: checks/messages.py [mx_run | mx_lab | mx_cc | errors]")
     os.environ.update(MX_RUN=common.program("mx_run"), MX_LAB=common.program("mx_lab"), MX_QUIET="1", NO_COLOR="1")
     if "mx_run" in parts:
         each(compare, TOOLCHAIN)
         compare_writing()
         with tempfile.TemporaryDirectory(prefix="messages-") as folder:
             compare_alone(folder)
+        compare_without_toolchain()
+    if "mx_cc" in parts:
+        compare_c_programs()
     if "mx_lab" in parts:
         each(compare, LABORATORY + SENTENCES)
         each(lambda it, folder: compare_checked(*it, folder), CHECKED)

@@ -1,7 +1,8 @@
 #!/usr/bin/env python3
-"""study.py: writes docs/STUDY.md and docs/study.svg: what the reorganizer makes of the examples of examples/c at -O2,
+"""study.py: writes docs/STUDY.md, docs/study.csv and docs/study.svg: what the reorganizer makes of the examples of examples/c at -O2,
 and what gcc's own filler leaves of the same C. It takes the programs that checks/cc.sh takes, by MX_RUN, MX_CC and
 MX_LAB (the program of `compare` and `profile`)."""
+import csv
 import json
 import os
 import re
@@ -14,8 +15,8 @@ from cprograms import BUDGET, GCC, LAB, LIBRARY, RUN, TOP, Fault
 LEVEL = '2'
 PLANS = ['padded', 'list', 'copies', 'best']
 TRANSFERS = {'beq', 'bne', 'blt', 'bge', 'blo', 'bhs', 'bgt', 'ble', 'bhi', 'blos', 'b', 'call', 'callr', 'jr'}
-FILLERS = {'filled': '-fdelayed-branch', 'unfilled': '-fno-delayed-branch'}
-SLOTS = 2                       # behind each transfer
+FILLER = '-fdelayed-branch'
+SLOTS = 2                       # after each transfer
 MIPS_TRANSFERS = re.compile(r'^(b(?!reak)\w*|j|jr|jal|jalr)$')
 MIPS_LOADS = re.compile(r'^l(b|bu|h|hu|w|wl|wr)$')
 
@@ -32,7 +33,7 @@ class Study:
         self.load_slots = {'filled': 0, 'no-ops': 0}
         self.together = []      # the last row of `profile`
         self.cycles_of = {'own': 0, 'routines': 0, 'library': 0}
-        self.gcc = {}           # of each filler: words, no-ops, slots
+        self.gcc = {}           # of gcc's code for MIPS-I: filled and empty places
 
 
 def text_of(words):
@@ -41,7 +42,7 @@ def text_of(words):
 
 
 def group_of(label, own, group):
-    """Whose the statements behind a label are, if those before it are of `group`: of the example's own functions, of the
+    """Whose the statements after a label are, if those before it are of `group`: of the example's own functions, of the
     translator's routines for products, quotients and shifts, or of the library."""
     if re.match(r'(L\w*\.\d+|s\.\d+|_\.s.*)$', label):
         return group            # within a function
@@ -63,7 +64,7 @@ def statements_of(source, own):
 
 
 def count_slots(study, source, own):
-    """What the example's own functions hold, and what stands in their slots, by the listing."""
+    """What the example's own functions hold, and what is in their slots, by the listing."""
     statements = statements_of(source, own)
     kinds = [line.split()[2] for line in text_of([RUN, 'list', source]).split('\n')
              if re.match(r'[0-9a-f]{8} [0-9a-f]{8} (\+?\d+|-)$', line)]
@@ -108,8 +109,8 @@ def functions_of(assembly):
 
 
 def count_disassembly(path):
-    """Words, no-ops and slots of an object file, as the assembler leaves them."""
-    counts = {'words': 0, 'no-ops': 0, 'branch': 0, 'branch empty': 0, 'load': 0, 'load empty': 0}
+    """Places after branches and loads of an object file, and those with a no-op, as the assembler leaves them."""
+    counts = {'branch': 0, 'branch empty': 0, 'load': 0, 'load empty': 0}
     for part in re.split(r'\n(?=[0-9a-f]{8} <)', text_of(['mips-linux-gnu-objdump', '-d', '--no-show-raw-insn', '-z', path])):
         words = [line.split('\t')[1].strip() for line in part.split('\n')[1:] if line.count('\t')]
         count_function(counts, [word.split()[0] for word in words if word])
@@ -119,19 +120,17 @@ def count_disassembly(path):
 def count_function(counts, words):
     while words and words[-1] == 'nop' and not (len(words) > 1 and MIPS_TRANSFERS.match(words[-2])):
         words.pop()             # up to the alignment of the next function
-    counts['words'] += len(words)
-    counts['no-ops'] += words.count('nop')
-    for word, behind in zip(words, words[1:]):
+    for word, after in zip(words, words[1:]):
         for what, kinds in (('branch', MIPS_TRANSFERS), ('load', MIPS_LOADS)):
             if kinds.match(word):
                 counts[what] += 1
-                counts[f'{what} empty'] += behind == 'nop'
+                counts[f'{what} empty'] += after == 'nop'
 
 
-def compile_object(folder, filler, source):
-    """The same C by gcc for MIPS-I, with its own filler or without."""
-    flags = [flag for flag in cprograms.flags() if flag != '-fno-delayed-branch'] + [filler]
-    path = f'{folder}/{filler}.o'
+def compile_object(folder, source):
+    """The same C by gcc for MIPS-I, with its own filler."""
+    flags = [flag for flag in cprograms.flags() if flag != '-fno-delayed-branch'] + [FILLER]
+    path = f'{folder}/own.o'
     done = cprograms.shell([GCC, '-c', *flags, '-nostdinc', '-isystem', f'{LIBRARY}/include', f'-O{LEVEL}', '-w', source, '-o', path])
     if done.returncode:
         raise Fault(done.stderr.decode())
@@ -148,8 +147,7 @@ def study_example(folder, name, library):
     own = {f'_{function}' for function in functions_of(assembly)}
     count_slots(study, translated, own)
     read_tables(study, translated, given, own)
-    for kind, filler in FILLERS.items():
-        study.gcc[kind] = count_disassembly(compile_object(folder, filler, source))
+    study.gcc = count_disassembly(compile_object(folder, source))
     return study
 
 
@@ -169,27 +167,20 @@ def mean(numbers):
     return sum(numbers) / len(numbers)
 
 
-def static_row(study):
-    plan, slots, loads = study.plans['copies'], study.branch_slots, study.load_slots
-    all_slots, all_loads = sum(slots.values()), sum(loads.values())
-    cells = [f"{plan['words']:,}", f"{plan['no-ops']:,}", f"{study.own['words']:,}", f"{study.own['no-ops']:,}", f"{percent(slots['before'], all_slots):.0f}",
-             f"{percent(slots['copies'], all_slots):.0f}", f"{percent(slots['no-ops'], all_slots):.0f}",
-             f"{percent(loads['filled'], all_loads):.0f}"]
-    for kind in ('filled', 'unfilled'):
-        gcc = study.gcc[kind]
-        cells += [f"{gcc['words']:,}", f"{gcc['no-ops']:,}"]
-    gcc = study.gcc['filled']
-    cells += [f"{percent(gcc['branch'] - gcc['branch empty'], gcc['branch']):.0f}",
-              f"{percent(gcc['load'] - gcc['load empty'], gcc['load']):.0f}"]
-    return f"| {study.name} | {' | '.join(cells)} |"
+COLUMNS = ["program", "words", "no-ops", "own words", "own no-ops", "slots before %", "slots target %", "slots empty %", "loads filled %",
+           "gcc slots %", "gcc loads %", "statements", *PLANS, "misses", "squashes", "own cycles %", "routines cycles %", "library cycles %"]
 
 
-def dynamic_row(study):
-    cycles = [f"{study.plans[plan]['cycles']:,}" for plan in PLANS]
-    parts = [f'{share:.0f}' for share in shares(study)]
-    parts += [f'{percent(study.cycles_of[group], study.together[1]):.0f}' for group in study.cycles_of]
-    return (f"| {study.name} | {study.together[0]:,} | {' | '.join(cycles)} | {int(study.run['misses']):,} "
-            f"| {int(study.run['squashes']):,} | {' | '.join(parts)} |")
+def row(study):
+    """The figures of one example, as COLUMNS names them."""
+    plan, slots, loads, gcc = study.plans['copies'], study.branch_slots, study.load_slots, study.gcc
+    shown = [percent(slots[what], sum(slots.values())) for what in ('before', 'copies', 'no-ops')]
+    shown += [percent(loads['filled'], sum(loads.values()))]
+    shown += [percent(gcc[what] - gcc[f'{what} empty'], gcc[what]) for what in ('branch', 'load')]
+    cycles = [study.plans[plan]['cycles'] for plan in PLANS]
+    groups = [percent(study.cycles_of[group], study.together[1]) for group in study.cycles_of]
+    return [study.name, plan['words'], plan['no-ops'], study.own['words'], study.own['no-ops'], *(f'{share:.0f}' for share in shown),
+            study.together[0], *cycles, study.run['misses'], study.run['squashes'], *(f'{share:.0f}' for share in groups)]
 
 
 COLOURS = ['#4c78a8', '#bab0ac', '#e45756', '#f2cf5b']
@@ -222,10 +213,10 @@ def chart(studies):
 
 
 def sums(studies):
-    """The numbers that the text tells: sums over all examples, and means of shares."""
+    """The numbers of the text: sums over all examples, and means of shares."""
     branch = {what: sum(study.branch_slots[what] for study in studies) for what in studies[0].branch_slots}
     loads = {what: sum(study.load_slots[what] for study in studies) for what in studies[0].load_slots}
-    gcc = {what: sum(study.gcc['filled'][what] for study in studies) for what in studies[0].gcc['filled']}
+    gcc = {what: sum(study.gcc[what] for study in studies) for what in studies[0].gcc}
     all_slots = sum(branch.values())
     told = {
         'count': len(studies),
@@ -255,9 +246,9 @@ def sums(studies):
 
 TEXT = """# What the reorganizer makes of compiled C
 
-This page measures the reorganizer on {count} programs in C. [checks/study.py](../checks/study.py) writes it and its chart. The
-programs are those of `examples/c`, compiled by gcc at -O2, translated ([C](C.md)) and linked with the library. What `main` does not
-reach is left out. Each ran to its halt with its input.
+This page measures the reorganizer on the {count} programs of `examples/c`, compiled by gcc at -O2, [translated](C.md) and linked
+with the library. What `main` does not reach is left out. Each ran to its halt with its input.
+[checks/study.py](../checks/study.py) writes this page and its chart.
 
 ## Results
 
@@ -268,40 +259,21 @@ reach is left out. Each ran to its halt with its input.
   which has the same delay, leaves {gcc_loads:.0f} % of them without a no-op.
 - **Cycles.** Compared with source order and no-ops, the list scheduler saves {saved_list:.1f} % of the cycles, and {saved_copies:.1f} %
   with copies from the target (means over the examples). Shortest plans for blocks of at most eight instructions save
-  {best_more:.1f} % more. For these blocks the method of 1983 is close to the optimum.
+  {best_more:.1f} % more: for these blocks the method of 1983 is close to the optimum.
 - **The rest.** A statement takes {cycles:.2f} cycles. {statements:.0f} % of the cycles execute a statement, {noops:.0f} % a no-op,
   {squashed:.0f} % a squashed word, and {stalls:.0f} % wait for the instruction cache of 512 words. The cache matters most for a
-  program that cycles through many functions, as {worst} ({worst_stalls:.0f} %): there, only shorter code helps.
+  program that cycles through many functions, as {worst} ({worst_stalls:.0f} %).
 - **Functions.** {own:.0f} % of the cycles belong to the example's own functions and {routines:.0f} % to the routines for products,
   quotients and shifts by a register. The others belong to the library, most of them to printf and floating-point arithmetic.
 
 ![Where the cycles of each example go](study.svg)
 
-## Words
+## The figures
 
-| Columns | What they count |
-|---|---|
-| words, no-ops | those of the linked program |
-| own words, own no-ops | those of the example's own functions |
-| before, target, empty, loads | what the slots of branches and loads hold there, in per cent |
-| gcc words, no-ops | the same functions by gcc for MIPS-I with its filler (`-fdelayed-branch`) |
-| unfilled words, no-ops | the same without the filler |
-| gcc slots, gcc loads | with the filler, slots after branches and after loads without a no-op, in per cent |
-
-gcc's products, quotients and bytes are one instruction each, so the two numbers of words are not comparable.
-
-| Program | words | no-ops | own words | own no-ops | before | target | empty | loads | gcc words | no-ops | unfilled words | no-ops | gcc slots | gcc loads |
-|---|---|---|---|---|---|---|---|---|---|---|---|---|---|---|
-"""
-
-DYNAMIC = """
-## Cycles
-
-The columns are the executed statements; the cycles by the four plans of `compare` ([MEASUREMENTS](MEASUREMENTS.md#compare)); misses
-and squashes of the run, which is `copies`; and its cycles in per cent, by what they were spent on and by whose functions they are.
-
-| Program | statements | padded | list | copies | best | misses | squashes | statements % | no-ops % | squashed % | cache % | own % | routines % | library % |
-|---|---|---|---|---|---|---|---|---|---|---|---|---|---|---|
+[study.csv](study.csv) has a line for each program: words and no-ops of the linked program and of its own functions; what the slots of
+branches (before, target, empty) and loads hold there, and the slots that gcc fills for MIPS-I (`-fdelayed-branch`), in per cent; the
+executed statements. Then come the cycles by the four plans of [`compare`](MEASUREMENTS.md#compare), the misses and squashes of the run,
+which is `copies`, and its cycles by whose functions they are, in per cent.
 """
 
 
@@ -314,8 +286,8 @@ def main():
                 studies.append(study_example(folder, file[:-2], library))
     with open(f'{TOP}/docs/STUDY.md', 'w') as file:
         file.write(TEXT.format(**sums(studies)))
-        file.write(''.join(static_row(study) + '\n' for study in studies) + DYNAMIC)
-        file.write(''.join(dynamic_row(study) + '\n' for study in studies))
+    with open(f'{TOP}/docs/study.csv', 'w', newline='') as file:
+        csv.writer(file, lineterminator='\n').writerows([COLUMNS, *(row(study) for study in studies)])
     with open(f'{TOP}/docs/study.svg', 'w') as file:
         file.write(chart(studies))
     return 0

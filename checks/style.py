@@ -1,12 +1,12 @@
 #!/usr/bin/env python3
 """Counts what docs/STYLE.md rules out, in documents, help, messages and the page of the workbench.
 
-usage: checks/style.py [--list] [FILE ..]
+usage: checks/style.py [--list | --words] [FILE ..]
 
 It reads every Markdown document, the texts of ./mx and of tools/*.py that are printed, the strings of the crates that print
 (cmd_, lab_, cc_, mx_run, mx_serve), and tools/serve/page.html. It prints each finding as FILE:LINE: RULE: TEXT. Then it prints
 how many sentences it read of each kind. It ends with 1 if there is a finding, or if it read no sentence of some kind.
-With --list it prints the sentences that it reads. With FILE it reads only these files."""
+With --list it prints the sentences that it reads, with --words the words of each document. With FILE it reads only these files."""
 import ast
 import os
 import re
@@ -14,9 +14,9 @@ import sys
 
 TOP = os.path.dirname(os.path.dirname(os.path.abspath(__file__)))
 LONGEST = 40
-# How many words the documents may have, without code, printed output, what a check writes from the code, and the page on the proof.
+# How many words the documents may have, as `wc -w` counts them: without fenced code and output, and without signs such as table bars.
 MOST_WORDS = 45_000
-COUNTED = r"(README|CONTRIBUTING|CHANGELOG)\.md|docs/(?!THEOREM).*\.md|bench/.*\.md"
+COUNTED = r"(README|CONTRIBUTING|CHANGELOG)\.md|docs/(tutorial/)?[^/]*\.md"
 
 # A rule: its name, and what it finds in a sentence whose code spans are replaced by CODE.
 RULES = [
@@ -191,9 +191,21 @@ def of_page(path):
                 yield number, text.strip()
 
 
+def words_of(path):
+    """Counts the words of a document: what blanks separate and has a letter or a digit, outside fences."""
+    count, fenced = 0, False
+    with open(f"{TOP}/{path}", encoding="utf-8") as lines:
+        for line in lines:
+            if line.startswith("```"):
+                fenced = not fenced
+            elif not fenced:
+                count += sum(1 for word in line.split() if re.search(r"\w", word))
+    return count
+
+
 def words_of_documents():
     """Counts the words of the documents."""
-    return sum(len(re.findall(r"[^\s|]*[A-Za-z][^\s|]*", text)) for path in files_like(COUNTED) for _, text in of_markdown(path))
+    return sum(words_of(path) for path in files_like(COUNTED))
 
 
 def sources():
@@ -221,6 +233,10 @@ def findings(sentence):
 def main(arguments):
     if "--help" in arguments:
         print(__doc__)
+        return 0
+    if "--words" in arguments:
+        counts = {path: words_of(path) for path in files_like(COUNTED)}
+        print("\n".join(f"{count:6,} {path}" for path, count in [*counts.items(), ("together", sum(counts.values()))]))
         return 0
     show, chosen = "--list" in arguments, [os.path.relpath(os.path.abspath(name), TOP) for name in arguments if name != "--list"]
     for name in chosen:

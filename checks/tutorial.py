@@ -1,7 +1,7 @@
 #!/usr/bin/env python3
 """Runs every command that the documents show with its output, and compares what it prints.
 
-usage: checks/tutorial.py [FILE.md ..]
+usage: checks/tutorial.py [--write] [FILE.md ..]
 
 A block of code that is marked `console` has commands, each after `$ `, and after each what it prints, on standard output and
 standard error together. A line `..` is any number of lines. A command that does not end with 0 has a comment `# exit N`.
@@ -9,7 +9,9 @@ The commands of a document run in a folder of their own, in order, which has lin
 command may write a file, and no tracked file is changed. Commands in C need gcc-mips-linux-gnu, and are left out without it.
 The programs are those that ./mx takes: of MX_RUN, MX_LAB and MX_CC if these are set.
 It prints how many commands ran and how many lines it compared, and ends with 1 if one differs, or if a lesson has none.
+With --write it puts the most similar printed lines in the place of those that differ; read what it wrote, and the text around it.
 With MX_SAMPLE=1 it takes README and the first three lessons."""
+import difflib
 import os
 import re
 import shutil
@@ -62,6 +64,33 @@ def fits(wanted, printed):
     return re.fullmatch(pattern, "".join(line + "\n" for line in printed)) is not None
 
 
+def renewed(wanted, printed):
+    """Returns the wanted lines, each replaced by the most similar printed line after the one before; None where that does not fit."""
+    found, begin = [], 0
+    for line in wanted:
+        if line == "..":
+            found.append(line)
+            continue
+        rest = printed[begin:]
+        if not rest:
+            return None
+        words = line.split()
+        likeness = [difflib.SequenceMatcher(None, words, it.split()).ratio() + difflib.SequenceMatcher(None, line, it).ratio() for it in rest]
+        at = likeness.index(max(likeness))
+        found.append(rest[at].rstrip())
+        begin += at + 1
+    return found if fits(found, printed) else None
+
+
+def write(path, step, found):
+    """Writes other lines after a command of a document."""
+    with open(f"{TOP}/{path}", encoding="utf-8") as it:
+        lines = it.read().split("\n")
+    lines[step.number:step.number + len(step.wanted)] = found
+    with open(f"{TOP}/{path}", "w", encoding="utf-8") as it:
+        it.write("\n".join(lines))
+
+
 def room():
     """Makes a folder with links to what is in the repository."""
     folder = tempfile.mkdtemp()
@@ -83,7 +112,8 @@ def main(arguments):
     if "--help" in arguments:
         print(__doc__)
         return 0
-    chosen = [os.path.relpath(os.path.abspath(name), TOP) for name in arguments] or documents()
+    is_writing = "--write" in arguments
+    chosen = [os.path.relpath(os.path.abspath(name), TOP) for name in arguments if name != "--write"] or documents()
     for path in chosen:
         if not os.path.isfile(f"{TOP}/{path}"):
             print(f"tutorial.py: there is no document {path}", file=sys.stderr)
@@ -99,6 +129,11 @@ def main(arguments):
             status, printed = run(step.command, folder)
             commands, count, lines = commands + 1, count + 1, lines + len(step.wanted)
             if status != step.status or not fits(step.wanted, printed):
+                found = renewed(step.wanted, printed) if is_writing and status == step.status else None
+                if found:
+                    write(path, step, found)
+                    print(f"{path}:{step.number}: {step.command}: written")
+                    continue
                 wrong += 1
                 print(f"{path}:{step.number}: {step.command}: exit {status}, expected {step.status}; it prints")
                 print("\n".join("    " + line for line in printed[:40]))
