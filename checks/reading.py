@@ -150,7 +150,7 @@ def crates_of(walk, part):
 
 def part_table(walk, part, own):
     """Returns the table of a part: the crates with their definitions, and what the page says of each."""
-    says = {row[1]: row[2] for row in re.finditer(r"(?m)^\| `(\w+)` \| (.*?) \|", own)}
+    says = {row[1]: row[2] for row in re.finditer(r"(?m)^\| `(\w+)` \| (\S.*?) \|", own)}
     text = f"{total_of(walk, part):,} lines.\n\n| Crate | What it says | Definitions | Lines |\n|---|---|---|---|\n"
     for crate, keys, types in crates_of(walk, part):
         names = [named_of(walk, part, key) for key in keys]
