@@ -10,7 +10,7 @@ has to be a name of the code too. A comment before a block of code says what the
     file FILE       the block's lines are lines of that file, in order
     run COMMAND     the block's lines are lines that the command prints, in order; one that ends with two dots is the beginning of one
     figure FILE     the block is the command that writes the file
-    source FILE     the comment's next line is a command whose output a later run reads as FILE
+    source FILE     the block is a command that writes FILE, which a later run reads
 
 Runs and figures need the programs, which MX_RUN and MX_LAB name; else those of ./mx are taken, or of .mx. Without a program they are
 left out, and the last line says so.
@@ -25,7 +25,7 @@ import tempfile
 ROOT = pathlib.Path(__file__).resolve().parent.parent
 PAGE = ROOT / "docs/THEOREM.md"
 BLOCK = re.compile(r"(?m)^<!-- (quote|file|run|figure) (.+?) -->\n```\n((?:.*\n)*?)```$")
-SOURCE = re.compile(r"<!-- source (\S+)\n(.*)\n-->")
+SOURCE = re.compile(r"(?m)^<!-- source (\S+) -->\n```\n(.*) > \1\n```$")
 LAW = re.compile(r"((?:`\w+`(?:, | and )?)+) \(`(\w+)`\)")
 NAME = re.compile(r"`([a-z]\w*_\w*)`")
 OF_LAB = ("draw", "plans")
