@@ -133,9 +133,10 @@ def main(arguments):
         for block in BLOCK.finditer(page):
             if fault := wrong_block(block[1], block[2], block[3], folder, counts):
                 faults.append(fault)
-    marks = len(re.findall(r"(?m)^<!-- (?:quote|file|run|figure) ", page))
-    if marks != len(BLOCK.findall(page)):
-        faults.append(f"{marks} blocks are marked, and {len(BLOCK.findall(page))} are read")
+    marks = len(re.findall(r"(?m)^<!-- (?:quote|file|run|figure|source) ", page))
+    read = len(BLOCK.findall(page)) + len(SOURCE.findall(page))
+    if marks != read:
+        faults.append(f"{marks} blocks are marked, and {read} are read")
     faults += [f"no {it} were compared" for it in ("laws", "quotes") if not counts[it]]
     for fault in faults:
         print(f"docs/THEOREM.md: {fault}")
