@@ -18,7 +18,7 @@ HELPERS = ("test_", "bench_")
 SECTION = re.compile(r"(?s)<!-- crates -->\n(.*?)<!-- end -->")
 FUNCTION = re.compile(r"(?ms)^( *)pub (?:const )?(?:extern \"C\" )?fn (\w+)\b(.*?)^\1(?:\{|\}|    \{\})")
 CODE = re.compile(r"`([^`]+)`")
-PROMISE = re.compile(r"(?m)^\| (.+) \| (.+) \| (.+) \|$")
+PROMISE = re.compile(r"(?m)^\| ([^|]+) \| ([^|]+) \|(?: [^|]+ \|)?$")
 PROVED_OF = "## What is proved of the crates"
 # What a row may name that is no function: states, statuses and programs of other people.
 OUTSIDE = {"qemu-mips", "Memory", "WriteFault", "Usage", "Halted", "OutOfBudget", "no code label"}
