@@ -12,6 +12,7 @@ reached and of the comments over them, without imports and empty lines; of a fil
 """
 import re
 import sys
+import textwrap
 
 import promises
 import trusted
@@ -177,8 +178,9 @@ def terms_table(walk):
     return text
 
 
-def library_line(walk):
-    return f"{len(walk.library)} names: {listed(sorted(walk.library))}.\n"
+def library_block(walk):
+    names = textwrap.fill(" ".join(sorted(walk.library)), 120, break_on_hyphens=False)
+    return f"{len(walk.library)} names:\n\n```text\n{names}\n```\n"
 
 
 def generated(walk, page):
@@ -189,7 +191,7 @@ def generated(walk, page):
                      f"and the others {sum(total_of(walk, part) for part in LATER):,}.\n")
     texts["constants"] = constants_table(walk)
     texts["terms"] = terms_table(walk)
-    texts["library"] = library_line(walk)
+    texts["library"] = library_block(walk)
     return texts
 
 
