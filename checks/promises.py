@@ -1,8 +1,8 @@
 #!/usr/bin/env python3
-"""Compares docs/PROMISES.md with the code: the contracts that it names, and its table of crates.
+"""Compares docs/PROMISES.md with the code: the contracts that it names, and its numbers of crates.
 
-usage: checks/promises.py            refuses a contract, a crate or a file that does not exist, and a table of crates that differs
-       checks/promises.py --write    writes the table of crates again
+usage: checks/promises.py            refuses a contract, a crate or a file that does not exist, and numbers of crates that differ
+       checks/promises.py --write    writes the numbers of crates again
 
 Every name in code of the page has to be a crate, a file, a command, or a name of the code: a function, a type, a clause, a field or a
 definition. A function that the column of contracts names has to have a clause. Every crate of crates.txt has to be in a row of the
@@ -18,7 +18,7 @@ HELPERS = ("test_", "bench_")
 SECTION = re.compile(r"(?s)<!-- crates -->\n(.*?)<!-- end -->")
 FUNCTION = re.compile(r"(?ms)^( *)pub (?:const )?(?:extern \"C\" )?fn (\w+)\b(.*?)^\1(?:\{|\}|    \{\})")
 CODE = re.compile(r"`([^`]+)`")
-PROMISE = re.compile(r"(?m)^\| (.+) \| (.+) \| (.+) \|$")
+PROMISE = re.compile(r"(?m)^\| ([^|]+) \| ([^|]+) \|(?: [^|]+ \|)?$")
 PROVED_OF = "## What is proved of the crates"
 # What a row may name that is no function: states, statuses and programs of other people.
 OUTSIDE = {"qemu-mips", "Memory", "WriteFault", "Usage", "Halted", "OutOfBudget", "no code label"}
@@ -33,29 +33,20 @@ def sources_of(crate):
     return "\n".join(path.read_text() for path in sorted((ROOT / "crates" / crate / "src").rglob("*.rt")))
 
 
-def first_sentence(crate):
-    """Returns the first sentence of a crate's documentation."""
-    folder = ROOT / "crates" / crate / "src"
-    path = folder / "lib.rt" if (folder / "lib.rt").exists() else folder / "main.rt"
-    lines = re.match(r"(?:(?://! ?.*)\n)*", path.read_text())[0]
-    text = " ".join(line[3:].strip() for line in lines.splitlines()).strip()
-    found = re.match(r".*?[.:](?= |$)", text)
-    return found[0].rstrip(".:") if found else text
-
-
 def contracts_of(crate):
     """Returns how many public functions a crate has, and how many of them have a clause."""
     functions = FUNCTION.findall(sources_of(crate))
     return len(functions), sum("ensures " in head for _, _, head in functions)
 
 
-def table():
-    text = "| Crate | What it is | Public functions | With a contract |\n|---|---|---|---|\n"
-    for crate in crates():
-        if not crate.startswith(HELPERS):
-            functions, proved = contracts_of(crate)
-            text += f"| `{crate}` | {first_sentence(crate)} | {functions} | {proved} |\n"
-    return text
+def numbers():
+    """Returns how many public functions each crate has, and how many of them have a contract."""
+    found = [(crate, *contracts_of(crate)) for crate in crates() if not crate.startswith(HELPERS)]
+    functions, proved = sum(row[1] for row in found), sum(row[2] for row in found)
+    others = ", ".join(f"`{crate}` {own} of {number}" for crate, number, own in found if own < number)
+    none = ", ".join(f"`{crate}`" for crate, number, _ in found if not number)
+    return (f"{len(found)} crates have {functions:,} public functions, of which {proved:,} have a contract. No public function: {none}. Some without one:"
+            f" {others}. In every other crate each public function has one.\n")
 
 
 def known():
@@ -106,7 +97,7 @@ def main(arguments):
     if arguments not in ([], ["--write"]):
         print(f"promises.py: unknown arguments: {' '.join(arguments)}", file=sys.stderr)
         return 2
-    page, wanted = PAGE.read_text(), table()
+    page, wanted = PAGE.read_text(), numbers()
     if arguments:
         page = SECTION.sub(lambda _: f"<!-- crates -->\n\n{wanted}\n<!-- end -->", page)
         PAGE.write_text(page)
@@ -114,7 +105,7 @@ def main(arguments):
     faults = list(wrong_names(page, counts))
     own = SECTION.search(page)
     if own is None or own[1].strip() != wanted.strip():
-        faults.append("the table of crates differs from the code (checks/promises.py --write)")
+        faults.append("the numbers of crates differ from the code (checks/promises.py --write)")
     faults += [f"no {what} were compared" for what, number in counts.items() if not number]
     for fault in faults:
         print(f"docs/PROMISES.md: {fault}")

@@ -6,13 +6,15 @@ usage: checks/reading.py            refuses docs/READING.md where it differs fro
        checks/reading.py --names    prints which definitions of each file belong to which part
 
 It begins at every clause of `command_on_system` (crates/mx_command/src/system.rt) and follows each definition by its names
-(definitions.py). It compares: the clauses and the fields that the page quotes; the files, names and lines of each part; the values of
-constants; the laws of terms that proofs give; and the trusted lines (trusted.py). Lines are those of the definitions that are reached
-and of the comments over them, without imports and empty lines; of a file of code those of the types that are named.
+(definitions.py). It compares: the clauses and the fields that the page quotes; the crates, files, names and lines of each part; the
+values of constants; the laws of terms that proofs give; and the trusted lines (trusted.py). Lines are those of the definitions that are
+reached and of the comments over them, without imports and empty lines; of a file of code those of the types that are named.
 """
 import re
 import sys
+import textwrap
 
+import promises
 import trusted
 from definitions import NAME, ROOT, Walk, clauses_of, imports_of
 
@@ -114,16 +116,18 @@ def listed(names):
     return ", ".join(f"`{it}`" for it in names)
 
 
-def meant_of(walk, part, key):
-    """Returns the sentence that says which definitions of a file belong to the part, if not all do."""
+def named_of(walk, part, key):
+    """Returns a file's name, with the definitions of it that belong to the part, or those that do not, if not all do."""
     file, own = walk.files[key], walk.lines[part][key]
     names = [it for it in file.defined if it in own]
     cut = {it: len(own[it]) for it in names if len(own[it]) < len(file.defined[it])}
-    if len(names) == len(file.defined) and not cut:
-        return ""
-    shown = ", ".join(f"`{it}`" + (f" ({cut[it]} of {len(file.defined[it])} lines)" if it in cut else "") for it in names)
     others = [it for it in file.defined if it not in own]
-    return f" All but {listed(others)}." if not cut and len(others) < len(names) else f" Of it {shown}."
+    if not cut and not others:
+        return f"`{key[1]}`"
+    if not cut and len(others) < len(names):
+        return f"`{key[1]}` (not {listed(others)})"
+    shown = ", ".join(f"{cut[it]} of {len(file.defined[it])} lines of `{it}`" if it in cut else f"`{it}`" for it in names)
+    return f"`{key[1]}` ({shown})"
 
 
 def lines_of(own):
@@ -135,21 +139,26 @@ def total_of(walk, part):
             + sum(sum(own.values()) for own in walk.types.get(part, {}).values()))
 
 
-def counted(number, noun):
-    return f"{number:,} {noun}s" if number != 1 else f"1 {noun}"
+def crates_of(walk, part):
+    """Returns for each crate of the part, in the order of crates.txt, its files, each after those that it imports, and its types."""
+    keys, code = in_order(walk.lines.get(part, {}), walk.files), walk.types.get(part, {})
+    for crate in promises.crates():
+        own = [it for it in keys if it[0] == crate]
+        types = {name: lines for path, names in code.items() if path.parts[-3] == crate for name, lines in names.items()}
+        if own or types:
+            yield crate, own, types
 
 
-def part_table(walk, part):
-    keys = in_order(walk.lines.get(part, {}), walk.files)
-    code = walk.types.get(part, {})
-    text = (f"{counted(total_of(walk, part), 'line')}, in definitions of {counted(len(keys), 'file')}"
-            f" and types of {counted(len(code), 'file')} of code.\n\n| File | What it says | Lines |\n|---|---|---|\n")
-    for key in keys:
-        file = walk.files[key]
-        says = file.says if file.says.endswith(".") else f"{file.says[:1].upper()}{file.says[1:]}."
-        text += f"| `{file.path.relative_to(ROOT)}` | {says}{meant_of(walk, part, key)} | {lines_of(walk.lines[part][key])} |\n"
-    for path in sorted(code):
-        text += f"| `{path.relative_to(ROOT)}` | The types {listed(sorted(code[path]))}. | {sum(code[path].values())} |\n"
+def part_table(walk, part, own):
+    """Returns the table of a part: the crates with their definitions, and what the page says of each."""
+    says = {row[1]: row[2] for row in re.finditer(r"(?m)^\| `(\w+)` \| (\S.*?) \|", own)}
+    text = f"{total_of(walk, part):,} lines.\n\n| Crate | What it says | Definitions | Lines |\n|---|---|---|---|\n"
+    for crate, keys, types in crates_of(walk, part):
+        names = [named_of(walk, part, key) for key in keys]
+        if types:
+            names.append(f"type{'s' if len(types) > 1 else ''} {listed(sorted(types))}")
+        number = sum(lines_of(walk.lines[part][key]) for key in keys) + sum(types.values())
+        text += f"| `{crate}` | {says.get(crate, trusted.UNSAID)} | {', '.join(names)} | {number} |\n"
     return text
 
 
@@ -169,19 +178,20 @@ def terms_table(walk):
     return text
 
 
-def library_line(walk):
-    return f"{len(walk.library)} names: {listed(sorted(walk.library))}.\n"
+def library_block(walk):
+    names = textwrap.fill(" ".join(sorted(walk.library)), 120, break_on_hyphens=False)
+    return f"{len(walk.library)} names:\n\n```text\n{names}\n```\n"
 
 
-def generated(walk):
+def generated(walk, page):
     """Returns the text of each generated part of the page."""
-    texts = {part: part_table(walk, part) for part in "ABCD" + LATER}
+    texts = {part: part_table(walk, part, section(page, part) or "") for part in "ABCD" + LATER}
     both = total_of(walk, "A") + total_of(walk, "B")
     texts["sums"] = (f"Parts A and B have {both:,} lines, parts C and D {total_of(walk, 'C') + total_of(walk, 'D'):,}, "
                      f"and the others {sum(total_of(walk, part) for part in LATER):,}.\n")
     texts["constants"] = constants_table(walk)
     texts["terms"] = terms_table(walk)
-    texts["library"] = library_line(walk)
+    texts["library"] = library_block(walk)
     return texts
 
 
@@ -228,7 +238,7 @@ def quote_table(page, mark, rows):
 
 
 def wanted_sections(page, walk):
-    texts = generated(walk)
+    texts = generated(walk, page)
     for mark, rows in quoted().items():
         texts[mark] = quote_table(page, mark, rows)
     for path in trusted.FILES:

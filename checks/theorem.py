@@ -4,13 +4,13 @@
 usage: checks/theorem.py    refuses a law that does not exist, a quotation that is not in the code, and a run or a figure that differs
 
 In the page, `law` (`crate`) names laws of a crate: functions with clauses of its src/*.rt. Every other name in code with an underscore
-has to be a name of the code too. A comment before a block of code says what the block is:
+has to be a name of the code too. The line that begins a block of code says what the block is:
 
     quote FILE      the block is in that file, but for spaces
     file FILE       the block's lines are lines of that file, in order
     run COMMAND     the block's lines are lines that the command prints, in order; one that ends with two dots is the beginning of one
     figure FILE     the block is the command that writes the file
-    source FILE     the comment's next line is a command whose output a later run reads as FILE
+    source FILE     the block is a command that writes FILE, which a later run reads
 
 Runs and figures need the programs, which MX_RUN and MX_LAB name; else those of ./mx are taken, or of .mx. Without a program they are
 left out, and the last line says so.
@@ -24,8 +24,8 @@ import tempfile
 
 ROOT = pathlib.Path(__file__).resolve().parent.parent
 PAGE = ROOT / "docs/THEOREM.md"
-BLOCK = re.compile(r"(?m)^<!-- (quote|file|run|figure) (.+?) -->\n```\n((?:.*\n)*?)```$")
-SOURCE = re.compile(r"<!-- source (\S+)\n(.*)\n-->")
+BLOCK = re.compile(r"(?m)^```(quote|file|run|figure) (.+)\n((?:.*\n)*?)```$")
+SOURCE = re.compile(r"(?m)^```source (\S+)\n(.*) > \1\n```$")
 LAW = re.compile(r"((?:`\w+`(?:, | and )?)+) \(`(\w+)`\)")
 NAME = re.compile(r"`([a-z]\w*_\w*)`")
 OF_LAB = ("draw", "plans")
@@ -133,9 +133,10 @@ def main(arguments):
         for block in BLOCK.finditer(page):
             if fault := wrong_block(block[1], block[2], block[3], folder, counts):
                 faults.append(fault)
-    marks = len(re.findall(r"(?m)^<!-- (?:quote|file|run|figure) ", page))
-    if marks != len(BLOCK.findall(page)):
-        faults.append(f"{marks} blocks are marked, and {len(BLOCK.findall(page))} are read")
+    marks = len(re.findall(r"(?m)^```", page))
+    read = len(BLOCK.findall(page)) + len(SOURCE.findall(page))
+    if marks != 2 * read:
+        faults.append(f"{marks} lines begin or end a block, and {read} blocks are read")
     faults += [f"no {it} were compared" for it in ("laws", "quotes") if not counts[it]]
     for fault in faults:
         print(f"docs/THEOREM.md: {fault}")

@@ -3,9 +3,9 @@
 
 usage: checks/trusted.py    refuses code that touches the system, or sets a log, in another place than docs/READING.md lists
 
-The page has a table for each of FILES. A row quotes a line of that file and says how often the file has it; each line that touches the
-system has to have a row, so that one more read or write, wherever it is put, is refused. Outside these files no program may name
-the runtime, and outside crates/mx_io nothing may name a log.
+The page has a table for each of FILES. A row quotes a line of that file and says how often the file has it, if not once; each line that
+touches the system has to have a row, so that one more read or write, wherever it is put, is refused. Outside these files no program may
+name the runtime, and outside crates/mx_io nothing may name a log.
 """
 import re
 import sys
@@ -68,20 +68,27 @@ def touching(path):
 
 def rows_of(text):
     """Returns the rows of a table of trusted lines: the line, how often, and what to look for."""
-    return [(row[1].replace("\\|", "|"), row[2], row[3]) for row in re.finditer(r"(?m)^\| `(.*)` \| (\d+) \| (.*) \|$", text)]
+    return [(row[1].replace("\\|", "|"), row[2] or 1, row[3]) for row in re.finditer(r"(?m)^\| `(.*)`(?: \((\d+) times\))? \| (\S.*) \|$", text)]
 
 
 def table(own, path):
     """Returns the table of a file's trusted lines, with the words that the page has for each."""
     said = {line: words for line, _, words in rows_of(own)}
-    text = "| Line | Times | What to look for |\n|---|---|---|\n"
+    text = "| Line | What to look for |\n|---|---|\n"
     for line, times in touching(path).items():
-        text += f"| `{line.replace('|', chr(92) + '|')}` | {times} | {said.get(line, UNSAID)} |\n"
+        often = f" ({times} times)" if times > 1 else ""
+        text += f"| `{line.replace('|', chr(92) + '|')}`{often} | {said.get(line, UNSAID)} |\n"
     return text
 
 
+def rows_in(page, path):
+    """Returns the rows of the page's table of a file."""
+    own = re.search(rf"(?s)<!-- trusted {re.escape(path)} -->\n(.*?)<!-- end -->", page)
+    return rows_of(own[1]) if own else []
+
+
 def compared(page):
-    return len(rows_of(page))
+    return sum(len(rows_in(page, path)) for path in FILES)
 
 
 def faults():
@@ -118,8 +125,7 @@ def main(arguments):
     wrong = list(faults())
     number = 0
     for path in FILES:
-        own = re.search(rf"(?s)<!-- trusted {re.escape(path)} -->\n(.*?)<!-- end -->", page)
-        rows = rows_of(own[1]) if own else []
+        rows = rows_in(page, path)
         number += len(rows)
         if [(line, int(times)) for line, times, _ in rows] != list(touching(path).items()):
             wrong.append(f"docs/READING.md: the lines of {path} that touch the system differ from its table (checks/reading.py --write)")
