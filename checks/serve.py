@@ -84,7 +84,8 @@ def need_kernel():
 def environment(**given):
     """Returns the environment in which ./mx starts the workbench, with other programs where they are given."""
     cc = common.program("mx_cc") if shutil.which("mips-linux-gnu-gcc") else ""
-    names = {"MX_SERVE_PROGRAM": common.program("mx_serve"), "MX_SERVE_CC": cc, "MX_SERVE_PROVED": "", **given}
+    names = {"MX_SERVE_PROGRAM": common.program("mx_serve"), "MX_SERVE_CC": cc, "MX_SERVE_PROVED": "",
+             "MX_SERVE_RUN": common.program("mx_run"), **given}
     return {**os.environ, "PYTHONDONTWRITEBYTECODE": "1", **names}
 
 
@@ -231,7 +232,8 @@ def try_cycles(bench):
 
 def registers_shown(bench):
     """Returns the registers and md as hexadecimal digits."""
-    shown = bench.ask("[...document.querySelectorAll('#registers tr')].slice(1).map(row => [...row.children].map(it => it.textContent.trim()))")
+    shown = bench.ask("""['registers', 'registers-high'].flatMap(id => [...document.querySelectorAll(`#${id} tr`)].slice(1)
+      .map(row => [...row.children].map(it => it.textContent.trim())))""")
     return {name.lstrip(">"): digits for name, digits, *_ in shown}
 
 
@@ -314,6 +316,150 @@ def try_breakpoint(bench):
     go(bench, 8)
     held = bench.ask("[...document.querySelectorAll('#stages tr')].slice(1).map(row => row.lastElementChild.textContent)")
     tell("a stalled cycle says of each stage why it waits", bench.ask("state.range.isStalled(8 - state.range.from)") and all(held), held)
+
+
+# What of some panels is not wholly in view: an element of each, or the end of what it holds.
+OUT_OF_VIEW = """(ids => ids.filter(id => {
+  const it = document.getElementById(id), box = it.getBoundingClientRect(), around = it.closest('section').getBoundingClientRect();
+  const isCut = box.bottom > around.bottom + 1 || box.right > around.right + 1 || around.bottom > innerHeight + 1 || around.right > innerWidth + 1;
+  const view = it.closest('.view');
+  return isCut || view && (view.scrollHeight > view.clientHeight + 1 || view.scrollWidth > view.clientWidth + 1);
+}))(['registers', 'registers-high', 'saved', 'counts', 'words', 'console'])"""
+
+
+def try_in_view(url):
+    """At 1500 x 1000 all registers, MD, the saved fetches, 32 data words, the console and all counts are in view; a bar gives a panel
+    another size, which it has again when the page is opened again; with costs the marks of the stages are whole."""
+    with opened(url, 1500, 1000) as bench:
+        type_source(bench, SORT.replace("table:  .word", "table:  .word 1,2,3,4,5,6,7,8,9,"))
+        settled(bench)
+        go(bench, 250)
+        cut = bench.ask(OUT_OF_VIEW)
+        tell("nothing of the registers, data words, console and counts is cut off", cut == [], cut)
+        shown = bench.ask("[...document.querySelectorAll('#words .word')].length")
+        tell("32 data words are in view", shown == 32, shown)
+        names = set(registers_shown(bench))
+        tell("all registers and MD are shown", names == {"md", *(f"r{n}" for n in range(32))}, names)
+        bench.ask("document.getElementById('costs').click()")
+        wait_for(bench, "state.costs.size > 0")
+        clipped = bench.ask("[...document.querySelectorAll('#gutter .stage')].filter(it => it.scrollWidth > it.clientWidth).map(it => it.textContent)")
+        tell("with costs no mark of a stage is clipped", clipped == [], clipped)
+        size = "document.getElementById('panels').getBoundingClientRect().height"
+        before = bench.ask(size)
+        bench.ask("document.querySelector('[data-size=bottom]').focus()")
+        bench.key("ArrowDown")
+        bench.key("ArrowDown")
+        smaller = bench.ask(size)
+        tell("a bar moves by the arrow keys", smaller < before - 20, (before, smaller))
+        drag(bench, "[data-size=left]", 60, 0)
+        dragged = bench.ask("document.getElementById('left').getBoundingClientRect().width")
+        bench.open(url)
+        settled(bench)
+        kept = bench.ask(f"[{size}, document.getElementById('left').getBoundingClientRect().width]")
+        tell("the sizes are kept", abs(kept[0] - smaller) < 2 and abs(kept[1] - dragged) < 2, (kept, smaller, dragged))
+        for name in ("bottom", "left"):
+            bench.ask(f"document.querySelector('[data-size={name}]').focus()")
+            bench.key("Escape")
+        tell("Escape at a bar gives the first size", abs(bench.ask(size) - before) < 2, bench.ask(size))
+        bench.ask("Storage.prototype.setItem = () => { throw new Error('full'); }; document.querySelector('[data-size=left]').focus()")
+        bench.key("ArrowRight")
+        tell("a browser that keeps nothing does not disturb", not bench.faults, bench.faults)
+
+
+def middle_of(bench, selector):
+    return bench.ask(f"(box => [box.x + box.width / 2, box.y + box.height / 2])(document.querySelector('{selector}').getBoundingClientRect())")
+
+
+def drag(bench, selector, right, down):
+    """Drags an element with the mouse."""
+    x, y = middle_of(bench, selector)
+    for kind, at in (("mousePressed", (x, y)), ("mouseMoved", (x + right, y + down)), ("mouseReleased", (x + right, y + down))):
+        bench.call("Input.dispatchMouseEvent", type=kind, x=at[0], y=at[1], button="left", buttons=1, clickCount=1)
+    bench.settle()
+
+
+def try_keys(bench):
+    """s, v and t run to the next store, visit of the line and interrupt, with Shift to the one before."""
+    put(bench, "interrupts", REQUEST)
+    settled(bench)
+    drawn = json.loads(printed(SORT, "draw", "--cycles", "100000", "--interrupts", "REQUESTS", "--as", "json"))
+    cycles = list(enumerate(drawn["cycles"]))
+    wanted = {
+        "s": [k for k, cycle in cycles if isinstance(cycle, list) and (cycle[11] >= 0 or cycle[13] >= 0)],
+        "t": [k for k, cycle in cycles if (cycle if isinstance(cycle, int) else cycle[0]) & 4],
+        "v": sorted(begins + cells.index("3") for address, begins, cells in drawn["rows"] if "3" in cells and (address, 12) in {(w[0], w[4]) for w in drawn["listing"]}),
+    }
+    for key, found in wanted.items():
+        begin = 200
+        go(bench, begin)
+        bench.ask("document.getElementById('line').value = 12; document.getElementById('view').focus()")
+        behind = [cycle for cycle in found if cycle > begin][:2]
+        seen = []
+        for _ in behind:
+            bench.key(key)
+            seen.append(bench.cycle())
+        tell(f"the key {key} runs to the next ones", seen == behind and behind, (key, seen, behind))
+        bench.key(key.upper(), modifiers=8)
+        before = [cycle for cycle in found if cycle < seen[-1]][-1:] or [seen[-1]]
+        tell(f"Shift and {key} to the one before", bench.cycle() == before[0], (key, bench.cycle(), before))
+    put(bench, "interrupts", "")
+    settled(bench)
+
+
+CARD = "document.getElementById('card').hidden ? '' : document.getElementById('card').innerText"
+
+
+def try_card(bench):
+    """A card tells of the instruction under the pointer, or in the row that has the focus, what it does, its operands and its fields."""
+    type_source(bench, SORT)
+    settled(bench)
+    go(bench, 250)
+    drawn = json.loads(printed(SORT, "draw", "--from", "250", "--cycles", "1", "--as", "json"))
+    listing = {word[0]: word for word in drawn["listing"]}
+    address = next(address for address, _, cells in drawn["rows"] if cells.startswith("2"))
+    operands = drawn["cycles"][0]
+    bench.ask("document.querySelector('#stages tr:nth-child(4)').scrollIntoView()")
+    x, y = middle_of(bench, "#stages tr:nth-child(4) td:nth-child(3)")
+    bench.call("Input.dispatchMouseEvent", type="mouseMoved", x=x, y=y)
+    bench.settle()
+    card = bench.ask(CARD)
+    word = listing[address]
+    tell("the card has the instruction and its word", word[2] in card and f"{word[1]:08x}" in card, card)
+    ways = [operands[4] % 4, operands[4] >> 2]
+    wanted = [(f"r{word[5 + j]} = {operands[1 + j] & 0xffffffff:08x}", ["", "register file", "bypass in RF", "bypass in ALU"][way]) for j, way in enumerate(ways) if way]
+    tell("its operands have their values and where they came from", wanted and all(value in card and way in card for value, way in wanted), (wanted, card))
+    fields = [f"{word[1] >> 30}", f"{word[1] >> 22 & 31}", f"{word[1] >> 17 & 31}"]
+    tell("and its fields", all(re.search(rf"(?m)\b{it}\b", card) for it in [*fields, "31-30", "29-27", "26-22", "21-17"]), card)
+    bench.call("Input.dispatchMouseEvent", type="mouseMoved", x=2, y=2)
+    bench.settle()
+    tell("it goes with the pointer", bench.ask(CARD) == "")
+    bench.ask("document.getElementById('view').focus()")
+    for _ in range(3):
+        bench.call("Input.dispatchKeyEvent", type="keyDown", key="Tab", code="Tab", windowsVirtualKeyCode=9)
+        bench.call("Input.dispatchKeyEvent", type="keyUp", key="Tab", code="Tab", windowsVirtualKeyCode=9)
+        bench.settle()
+        if bench.ask("document.activeElement.matches('#stages tr')"):
+            break
+    focused = bench.ask("document.activeElement.matches('#stages tr') ? document.activeElement.cells[2].textContent : ''")
+    card = bench.ask(CARD)
+    tell("a row that has the focus shows its card", focused and focused in card, (focused, card))
+    bench.key("Escape")
+    tell("Escape closes it", bench.ask(CARD) == "")
+
+
+def try_help(bench):
+    """Each panel has a button that says what it shows."""
+    lacking = bench.ask("""[...document.querySelectorAll('section')].filter(it => !it.querySelector('.about')).map(it => it.getAttribute('aria-labelledby'))""")
+    tell("each panel has its help", lacking == [], lacking)
+    told = bench.ask("""[...document.querySelectorAll('.about')].map(it => {
+      it.click();
+      const found = [document.getElementById('helping').open, document.getElementById('helping').innerText.length];
+      document.getElementById('helping').close();
+      return found;
+    })""")
+    tell("it opens", len(told) >= 12 and all(is_open and length > 80 for is_open, length in told), told)
+    head = bench.ask("document.querySelector('header').innerText")
+    tell("the header says what its cycles are for", "download the cycles" in head, head)
 
 
 def try_download(bench):
