@@ -413,11 +413,12 @@ def try_card(bench):
     """A card tells of the instruction under the pointer, or in the row that has the focus, what it does, its operands and its fields."""
     type_source(bench, SORT)
     settled(bench)
-    go(bench, 250)
-    drawn = json.loads(printed(SORT, "draw", "--from", "250", "--cycles", "1", "--as", "json"))
+    drawn = json.loads(printed(SORT, "draw", "--cycles", "300", "--as", "json"))
     listing = {word[0]: word for word in drawn["listing"]}
-    address = next(address for address, _, cells in drawn["rows"] if cells.startswith("2"))
-    operands = drawn["cycles"][0]
+    cycle = next(k for k, it in enumerate(drawn["cycles"]) if k > 250 and isinstance(it, list) and it[4])
+    go(bench, cycle)
+    address = next(address for address, begins, cells in drawn["rows"] if begins <= cycle and cells[cycle - begins:cycle - begins + 1] == "2")
+    operands = drawn["cycles"][cycle]
     bench.ask("document.querySelector('#stages tr:nth-child(4)').scrollIntoView()")
     x, y = middle_of(bench, "#stages tr:nth-child(4) td:nth-child(3)")
     bench.call("Input.dispatchMouseEvent", type="mouseMoved", x=x, y=y)
@@ -460,6 +461,176 @@ def try_help(bench):
     tell("it opens", len(told) >= 12 and all(is_open and length > 80 for is_open, length in told), told)
     head = bench.ask("document.querySelector('header').innerText")
     tell("the header says what its cycles are for", "download the cycles" in head, head)
+
+
+EXAMPLE = "letters.s + emit.s"
+
+
+def tabs_shown(bench):
+    return bench.ask("[...document.querySelectorAll('#tabs [role=tab]')].map(it => [it.textContent, it.getAttribute('aria-selected')])")
+
+
+def try_modules(bench):
+    """Modules have tabs; they run as what `join` makes of them; what is only told of a module by itself is not told."""
+    choose(bench, "examples", EXAMPLE)
+    tell("two modules run", settled(bench) and bench.ask("document.getElementById('end').textContent").startswith("the run halts"))
+    tabs = tabs_shown(bench)
+    tell("each has a tab", [(name.split()[1], chosen) for name, chosen in tabs] == [("letters.s", "true"), ("emit.s", "false")], tabs)
+    found = bench.ask("[document.getElementById('found').textContent, document.getElementById('findings').textContent]")
+    tell("nothing is told of what another module has or uses", found[0].startswith("no fault") and not re.search("emit'|sent'|import|export", found[1]), found)
+    bench.ask("document.getElementById('run').click()")
+    time.sleep(0.3)
+    settled(bench)
+    tell("the console is the program's", bench.ask("document.getElementById('console').textContent") == "Hi")
+    bench.ask("document.querySelector('#tab-0').focus()")
+    bench.key("ArrowRight")
+    shown = bench.ask("[document.getElementById('source').value.includes('emit:'), document.activeElement.id]")
+    tell("an arrow key goes to the next tab", shown == [True, "tab-1"], shown)
+    go(bench, 0)
+    bench.ask("document.getElementById('line').value = 4")
+    bench.ask("document.getElementById('view').focus()")
+    bench.key("v")
+    at = bench.ask("state.range.rowsAt(state.cycle - state.range.from).map(row => (state.range.listing.get(row.address) || {}).origin)")
+    tell("a visit of a line of the module is found", "4" in at, at)
+    listed = bench.ask("[...state.range.listing.values()].map(it => it.origin)")
+    tell("lines of this module and of the other are told apart", {"4", "5", "a4", "a5"} <= {it.lstrip("+") for it in listed}, listed)
+    bench.ask("document.getElementById('source').focus(); document.getElementById('source').select()")
+    bench.call("Input.insertText", text="        .export emit\nemit:   st   255[r0],r1\n        jr   r32\n")
+    wait_for(bench, "document.querySelectorAll('#findings button').length > 1")
+    listed = bench.ask("[...document.querySelectorAll('#findings button')].map(it => it.textContent)")
+    tell("faults are told with their module", any(it.startswith("emit.s: line 3,") for it in listed), listed)
+    choose(bench, "examples", "")
+
+
+def try_plans(bench):
+    """The shortest plans are computed on demand: then a no-op says whether its block has a shorter plan."""
+    for name, wanted in (("full_slots.s", "a shorter plan of its block exists, of 3 words instead of 4"), ("load_delay.s", "no plan of its block is shorter")):
+        choose(bench, "examples", name)
+        settled(bench)
+        address = bench.ask("[...state.range.listing.values()].find(it => it.isNoOp).address")
+        said = bench.ask(f"whyNoOp(state.range, {address})")
+        tell(f"{name}: who has found no instruction is told, and no more than that", said.endswith("the list scheduler found no instruction for it"), said)
+        bench.ask("document.getElementById('shortest').click()")
+        tell("the shortest plans come", wait_for(bench, "state.plans !== null"))
+        said = bench.ask(f"whyNoOp(state.range, {address})")
+        tell(f"{name}: then it says whether there is a shorter plan", said.endswith(wanted), said)
+
+
+def try_experiment(bench):
+    """Another value of a register, and of a data word, from a cycle on: the run goes on as it would with them, and is marked."""
+    type_source(bench, SORT)
+    settled(bench)
+    go(bench, 250)
+    bench.ask("document.getElementById('view').focus()")
+    bench.key("x")
+    tell("the key x asks for a value", bench.ask("document.getElementById('trying').open && document.activeElement.id === 'value'"))
+    bench.ask("document.getElementById('target').value = 'word 0114'")
+    bench.call("Input.insertText", text="0x0d")
+    before = bench.ask("state.edition")
+    bench.key("Enter")
+    bench.ask("document.getElementById('trying').open && document.getElementById('attempt').click()")
+    wait_for(bench, f"state.edition > {before} && state.experiment !== null && state.isSettled")
+    bench.settle()
+    told = bench.ask("document.getElementById('experiment').innerText")
+    tell("it is marked as an experiment about which nothing is proved", "nothing is proved" in told and "word 0114 = 0000000d" in told, told)
+    bench.settle()
+    values = registers_shown(bench)
+    bench.ask("document.getElementById('run').click()")
+    time.sleep(0.3)
+    settled(bench)
+    bench.settle()
+    words = bench.ask("state.range.addresses.filter(it => it >= 258 && it < 279).map(it => state.range.wordAt(it, state.cycle - state.range.from)[1])")
+    numbers = [int(it) for it in re.search(r"table:  \.word (.*)", SORT)[1].split(",")]
+    tell("the run goes on with the value, which is sorted in", words != sorted(numbers) and 13 in words and words == sorted(words), (words, values))
+    bench.ask("document.querySelector('#experiment button').click()")
+    settled(bench)
+    back = bench.ask("[document.getElementById('source').value, document.getElementById('experiment').hidden, state.cycle]")
+    tell("one goes back to the program, at its cycle", back == [SORT, True, 250], back[1:])
+    bench.ask("document.querySelector('#registers tr:nth-child(3) td').dispatchEvent(new MouseEvent('dblclick', { bubbles: true }))")
+    tell("a double click on a register asks for its value", bench.ask("document.getElementById('target').value") == "r1")
+    bench.ask("document.getElementById('value').value = 'x'; document.getElementById('attempt').click()")
+    tell("what is no number is refused", "number of 32 bits" in bench.ask("document.getElementById('attempted').textContent"))
+    bench.ask("document.getElementById('no-attempt').click()")
+
+
+def try_sides(bench):
+    """The kept run beside another one, cycle by cycle, with the first cycle in which the stages differ."""
+    type_source(bench, SORT)
+    settled(bench)
+    bench.ask("document.getElementById('keep').click()")
+    other = SORT.replace("keep:   addi r3,#1,r3", "keep:   nop\n        addi r3,#1,r3")
+    type_source(bench, other)
+    settled(bench)
+    bench.ask("document.getElementById('side').click()")
+    wait_for(bench, "document.querySelector('#side-view table') !== null", 60)
+    drawn = [json.loads(printed(it, "draw", "--cycles", "400", "--as", "json")) for it in (SORT, other)]
+    wanted = next(k for k in range(400) if held_in(drawn[0], k) != held_in(drawn[1], k))
+    told = bench.ask("document.getElementById('diverged').textContent")
+    tell("the place where they diverge is that of draw", f"They diverge in cycle {wanted}." in told, (wanted, told))
+    row = bench.ask("[...document.querySelectorAll('#side-view tr.first')].map(it => it.cells[0].textContent)")
+    tell("it is marked", row == [str(wanted)], row)
+    bench.ask("document.getElementById('side-view').focus()")
+    bench.key("PageDown")
+    wait_for(bench, f"Number(document.getElementById('side-cycle').value) === {wanted + 16}")
+    tell("Page Down goes on", bench.ask("Number(document.getElementById('side-cycle').value)") == wanted + 16)
+    bench.ask("document.getElementById('side-close').click()")
+
+
+def held_in(drawn, k):
+    """Returns what the stages hold in a cycle of a drawing: the words by their stages, the held ones too."""
+    texts = {word[0]: word[2] for word in drawn["listing"]}
+    moved = k
+    while moved >= 0 and (drawn["cycles"][moved] if isinstance(drawn["cycles"][moved], int) else drawn["cycles"][moved][0]) & 1:
+        moved -= 1
+    signs = {}
+    for cycle in {moved, k} - {-1}:
+        for address, begins, cells in drawn["rows"]:
+            sign = cells[cycle - begins:cycle - begins + 1] if begins <= cycle else ""
+            if sign.strip():
+                stage = 0 if sign == "w" else "01234abcdeABCDE".index(sign) % 5
+                signs[stage] = (texts.get(address, "----"), sign if cycle == k else "held")
+    return signs
+
+
+def try_bad_input(bench):
+    """A program that never ends, a text of 4 MB, 10,000 faults, a console of megabytes: the page says so, and works then as before."""
+    put(bench, "budget", 1_000_000)
+    type_source(bench, "loop:   b    loop\n")
+    settled(bench)
+    told = bench.ask("document.getElementById('end').textContent")
+    tell("a program that never ends is told", "has not halted after its budget of 1000000 cycles" in told, told)
+    bench.ask("""(it => { it.value = '; a line of a long text\\n'.repeat(200000); it.dispatchEvent(new Event('input')); })(document.getElementById('source'))""")
+    told = wait_for(bench, "document.getElementById('found').textContent.includes('4194304') || document.getElementById('end').textContent.includes('4194304')", 60)
+    tell("a text of more than 4 MB is refused in words", told, bench.ask("[document.getElementById('found').textContent, document.getElementById('end').textContent]"))
+    type_source(bench, "        frob r1\n" * 10_000)
+    told = wait_for(bench, "document.getElementById('found').textContent.startsWith('10000 faults')", 60)
+    tell("10,000 faults are counted", told, bench.ask("document.getElementById('found').textContent"))
+    listed = bench.ask("document.querySelectorAll('#findings li').length")
+    tell("some of them are listed, and that there are more", listed == 201, listed)
+    put(bench, "budget", 12_000_000)
+    type_source(bench, "        addi r0,#65,r1\n" + "loop:   " + "st   255[r0],r1\n        " * 20 + "b    loop\n")
+    wait_for(bench, "state.isSettled", 120)
+    go(bench, 11_999_990)
+    sent = bench.ask("document.getElementById('console').textContent")
+    tell("of a console of 10 MB the end is shown", sent.startswith("(the first ") and 60_000 < len(sent) < 70_000, (len(sent), sent[:60]))
+    put(bench, "budget", 1_000_000)
+    type_source(bench, SORT)
+    tell("then a sort runs as before", settled(bench) and "the run halts" in bench.ask("document.getElementById('end').textContent"))
+    tell("the page has no fault", not bench.faults, bench.faults)
+
+
+def try_lost_server():
+    """Where the server has gone the page says so, keeps the text, and works again when it is back at the same address."""
+    with serving(f"{TOP}/examples/countdown.s") as (process, url):
+        with opened(url, 1280, 720) as bench:
+            settled(bench)
+            process.send_signal(signal.SIGINT)
+            process.wait(10 * PATIENCE)
+            type_source(bench, SORT)
+            told = wait_for(bench, "document.body.textContent.includes('the server does not answer')")
+            tell("a lost server is told", told and bench.ask("document.getElementById('source').value") == SORT)
+            go_on = bench.ask("document.getElementById('back').click(), document.getElementById('cycle').value")
+            tell("what is there can still be walked", int(go_on) >= 0 and not bench.faults, (go_on, bench.faults))
 
 
 def try_download(bench):
@@ -677,12 +848,22 @@ def try_page(bench, url):
     try_search(bench)
     try_stale(bench)
     try_breakpoint(bench)
+    try_keys(bench)
+    try_card(bench)
+    try_help(bench)
+    try_experiment(bench)
+    try_sides(bench)
+    try_modules(bench)
+    try_plans(bench)
+    type_source(bench, SORT)
+    settled(bench)
     try_download(bench)
     try_speed(bench)
     try_kept(bench)
     try_names(bench)
     try_link(bench, url)
     try_long(bench)
+    try_bad_input(bench)
     put(bench, "budget", 1_000_000)
     if bench.ask("given.missing === null"):
         try_c(bench)
@@ -699,6 +880,8 @@ def try_all(folder):
     with serving(f"{TOP}/examples/countdown.s") as (_, url):
         with opened(url, 1500, 900) as bench:
             try_page(bench, url)
+        try_in_view(url)
+        try_lost_server()
         for width, height in ((390, 844),) if IS_SAMPLE else ((1500, 900), (800, 1000), (390, 844)):
             for scheme in ("light", "dark"):
                 with opened(url, width, height, scheme == "dark") as bench:
