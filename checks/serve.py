@@ -499,7 +499,8 @@ def try_modules(bench):
     wait_for(bench, "document.querySelectorAll('#findings button').length > 1")
     listed = bench.ask("[...document.querySelectorAll('#findings button')].map(it => it.textContent)")
     tell("faults are told with their module", any(it.startswith("emit.s: line 3,") for it in listed), listed)
-    choose(bench, "examples", "")
+    choose(bench, "examples", "countdown.s")
+    settled(bench)
 
 
 def try_plans(bench):
