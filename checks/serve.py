@@ -600,7 +600,7 @@ def try_bad_input(bench):
     settled(bench)
     told = bench.ask("document.getElementById('end').textContent")
     tell("a program that never ends is told", "has not halted after its budget of 1000000 cycles" in told, told)
-    bench.ask("""(it => { it.value = '; a line of a long text\\n'.repeat(200000); it.dispatchEvent(new Event('input')); })(document.getElementById('source'))""")
+    bench.ask("""(it => { it.value = (';' + 'x'.repeat(240) + '\\n').repeat(17500); it.dispatchEvent(new Event('input')); })(document.getElementById('source'))""")
     told = wait_for(bench, "document.getElementById('found').textContent.includes('4194304') || document.getElementById('end').textContent.includes('4194304')", 60)
     tell("a text of more than 4 MB is refused in words", told, bench.ask("[document.getElementById('found').textContent, document.getElementById('end').textContent]"))
     type_source(bench, "        frob r1\n" * 10_000)
