@@ -600,9 +600,13 @@ def try_bad_input(bench):
     settled(bench)
     told = bench.ask("document.getElementById('end').textContent")
     tell("a program that never ends is told", "has not halted after its budget of 1000000 cycles" in told, told)
-    bench.ask("""(it => { it.value = (';' + 'x'.repeat(240) + '\\n').repeat(17500); it.dispatchEvent(new Event('input')); })(document.getElementById('source'))""")
-    told = wait_for(bench, "document.getElementById('found').textContent.includes('4194304') || document.getElementById('end').textContent.includes('4194304')", 60)
-    tell("a text of more than 4 MB is refused in words", told, bench.ask("[document.getElementById('found').textContent, document.getElementById('end').textContent]"))
+    bench.ask("""(it => {
+      const held = new DataTransfer();
+      held.setData('text/plain', 'nop\\n'.repeat(1100000));
+      it.dispatchEvent(new ClipboardEvent('paste', { clipboardData: held, cancelable: true }));
+    })(document.getElementById('source'))""")
+    told = bench.ask("[document.getElementById('found').textContent, document.getElementById('source').value.length]")
+    tell("a text of more than 4 MB is refused in words", "at most 4194304 bytes" in told[0] and told[1] < 100, told)
     type_source(bench, "        frob r1\n" * 10_000)
     told = wait_for(bench, "document.getElementById('found').textContent.startsWith('10000 faults')", 60)
     tell("10,000 faults are counted", told, bench.ask("document.getElementById('found').textContent"))
