@@ -84,7 +84,8 @@ def need_kernel():
 def environment(**given):
     """Returns the environment in which ./mx starts the workbench, with other programs where they are given."""
     cc = common.program("mx_cc") if shutil.which("mips-linux-gnu-gcc") else ""
-    names = {"MX_SERVE_PROGRAM": common.program("mx_serve"), "MX_SERVE_CC": cc, "MX_SERVE_PROVED": "", **given}
+    names = {"MX_SERVE_PROGRAM": common.program("mx_serve"), "MX_SERVE_CC": cc, "MX_SERVE_PROVED": "",
+             "MX_SERVE_RUN": common.program("mx_run"), **given}
     return {**os.environ, "PYTHONDONTWRITEBYTECODE": "1", **names}
 
 
@@ -231,7 +232,8 @@ def try_cycles(bench):
 
 def registers_shown(bench):
     """Returns the registers and md as hexadecimal digits."""
-    shown = bench.ask("[...document.querySelectorAll('#registers tr')].slice(1).map(row => [...row.children].map(it => it.textContent.trim()))")
+    shown = bench.ask("""['registers', 'registers-high'].flatMap(id => [...document.querySelectorAll(`#${id} tr`)].slice(1)
+      .map(row => [...row.children].map(it => it.textContent.trim())))""")
     return {name.lstrip(">"): digits for name, digits, *_ in shown}
 
 
@@ -314,6 +316,326 @@ def try_breakpoint(bench):
     go(bench, 8)
     held = bench.ask("[...document.querySelectorAll('#stages tr')].slice(1).map(row => row.lastElementChild.textContent)")
     tell("a stalled cycle says of each stage why it waits", bench.ask("state.range.isStalled(8 - state.range.from)") and all(held), held)
+
+
+# What of some panels is not wholly in view: an element of each, or the end of what it holds.
+OUT_OF_VIEW = """(ids => ids.filter(id => {
+  const it = document.getElementById(id), box = it.getBoundingClientRect(), around = it.closest('section').getBoundingClientRect();
+  const isCut = box.bottom > around.bottom + 1 || box.right > around.right + 1 || around.bottom > innerHeight + 1 || around.right > innerWidth + 1;
+  const view = it.closest('.view');
+  return isCut || view && (view.scrollHeight > view.clientHeight + 1 || view.scrollWidth > view.clientWidth + 1);
+}))(['registers', 'registers-high', 'saved', 'counts', 'words', 'console'])"""
+
+
+def try_in_view(url):
+    """At 1500 x 1000 all registers, MD, the saved fetches, 32 data words, the console and all counts are in view; a bar gives a panel
+    another size, which it has again when the page is opened again; with costs the marks of the stages are whole."""
+    with opened(url, 1500, 1000) as bench:
+        type_source(bench, SORT.replace("table:  .word", "table:  .word 1,2,3,4,5,6,7,8,9,"))
+        settled(bench)
+        go(bench, 250)
+        cut = bench.ask(OUT_OF_VIEW)
+        tell("nothing of the registers, data words, console and counts is cut off", cut == [], cut)
+        shown = bench.ask("[...document.querySelectorAll('#words .word')].length")
+        tell("32 data words are in view", shown == 32, shown)
+        names = set(registers_shown(bench))
+        tell("all registers and MD are shown", names == {"md", *(f"r{n}" for n in range(32))}, names)
+        bench.ask("document.getElementById('costs').click()")
+        wait_for(bench, "state.costs.size > 0")
+        clipped = bench.ask("[...document.querySelectorAll('#gutter .stage')].filter(it => it.scrollWidth > it.clientWidth).map(it => it.textContent)")
+        tell("with costs no mark of a stage is clipped", clipped == [], clipped)
+        size = "document.getElementById('panels').getBoundingClientRect().height"
+        before = bench.ask(size)
+        bench.ask("document.querySelector('[data-size=bottom]').focus()")
+        bench.key("ArrowDown")
+        bench.key("ArrowDown")
+        smaller = bench.ask(size)
+        tell("a bar moves by the arrow keys", smaller < before - 20, (before, smaller))
+        drag(bench, "[data-size=left]", 60, 0)
+        dragged = bench.ask("document.getElementById('left').getBoundingClientRect().width")
+        bench.open(url)
+        settled(bench)
+        kept = bench.ask(f"[{size}, document.getElementById('left').getBoundingClientRect().width]")
+        tell("the sizes are kept", abs(kept[0] - smaller) < 2 and abs(kept[1] - dragged) < 2, (kept, smaller, dragged))
+        for name in ("bottom", "left"):
+            bench.ask(f"document.querySelector('[data-size={name}]').focus()")
+            bench.key("Escape")
+        tell("Escape at a bar gives the first size", abs(bench.ask(size) - before) < 2, bench.ask(size))
+        bench.ask("Storage.prototype.setItem = () => { throw new Error('full'); }; document.querySelector('[data-size=left]').focus()")
+        bench.key("ArrowRight")
+        tell("a browser that keeps nothing does not disturb", not bench.faults, bench.faults)
+
+
+def middle_of(bench, selector):
+    return bench.ask(f"(box => [box.x + box.width / 2, box.y + box.height / 2])(document.querySelector('{selector}').getBoundingClientRect())")
+
+
+def drag(bench, selector, right, down):
+    """Drags an element with the mouse."""
+    x, y = middle_of(bench, selector)
+    for kind, at in (("mousePressed", (x, y)), ("mouseMoved", (x + right, y + down)), ("mouseReleased", (x + right, y + down))):
+        bench.call("Input.dispatchMouseEvent", type=kind, x=at[0], y=at[1], button="left", buttons=1, clickCount=1)
+    bench.settle()
+
+
+def try_keys(bench):
+    """s, v and t run to the next store, visit of the line and interrupt, with Shift to the one before."""
+    put(bench, "interrupts", REQUEST)
+    settled(bench)
+    drawn = json.loads(printed(SORT, "draw", "--cycles", "100000", "--interrupts", "REQUESTS", "--as", "json"))
+    cycles = list(enumerate(drawn["cycles"]))
+    wanted = {
+        "s": [k for k, cycle in cycles if isinstance(cycle, list) and (cycle[11] >= 0 or cycle[13] >= 0)],
+        "t": [k for k, cycle in cycles if (cycle if isinstance(cycle, int) else cycle[0]) & 4],
+        "v": sorted(begins + cells.index("3") for address, begins, cells in drawn["rows"] if "3" in cells and (address, 12) in {(w[0], w[4]) for w in drawn["listing"]}),
+    }
+    for key, found in wanted.items():
+        begin = 200
+        go(bench, begin)
+        bench.ask("document.getElementById('line').value = 12; document.getElementById('view').focus()")
+        behind = [cycle for cycle in found if cycle > begin][:2]
+        seen = []
+        for _ in behind:
+            bench.key(key)
+            seen.append(bench.cycle())
+        tell(f"the key {key} runs to the next ones", seen == behind and behind, (key, seen, behind))
+        bench.key(key.upper(), modifiers=8)
+        before = [cycle for cycle in found if cycle < seen[-1]][-1:] or [seen[-1]]
+        tell(f"Shift and {key} to the one before", bench.cycle() == before[0], (key, bench.cycle(), before))
+    put(bench, "interrupts", "")
+    settled(bench)
+
+
+CARD = "document.getElementById('card').hidden ? '' : document.getElementById('card').innerText"
+
+
+def try_card(bench):
+    """A card tells of the instruction under the pointer, or in the row that has the focus, what it does, its operands and its fields."""
+    type_source(bench, SORT)
+    settled(bench)
+    drawn = json.loads(printed(SORT, "draw", "--cycles", "300", "--as", "json"))
+    listing = {word[0]: word for word in drawn["listing"]}
+    cycle = next(k for k, it in enumerate(drawn["cycles"]) if k > 250 and isinstance(it, list) and it[4])
+    go(bench, cycle)
+    address = next(address for address, begins, cells in drawn["rows"] if begins <= cycle and cells[cycle - begins:cycle - begins + 1] == "2")
+    operands = drawn["cycles"][cycle]
+    bench.ask("document.querySelector('#stages tr:nth-child(4)').scrollIntoView()")
+    x, y = middle_of(bench, "#stages tr:nth-child(4) td:nth-child(3)")
+    bench.call("Input.dispatchMouseEvent", type="mouseMoved", x=x, y=y)
+    bench.settle()
+    card = bench.ask(CARD)
+    word = listing[address]
+    tell("the card has the instruction and its word", word[2] in card and f"{word[1]:08x}" in card, card)
+    ways = [operands[4] % 4, operands[4] >> 2]
+    wanted = [(f"r{word[5 + j]} = {operands[1 + j] & 0xffffffff:08x}", ["", "register file", "bypass in RF", "bypass in ALU"][way]) for j, way in enumerate(ways) if way]
+    tell("its operands have their values and where they came from", wanted and all(value in card and way in card for value, way in wanted), (wanted, card))
+    fields = [f"{word[1] >> 30}", f"{word[1] >> 22 & 31}", f"{word[1] >> 17 & 31}"]
+    tell("and its fields", all(re.search(rf"(?m)\b{it}\b", card) for it in [*fields, "31-30", "29-27", "26-22", "21-17"]), card)
+    bench.call("Input.dispatchMouseEvent", type="mouseMoved", x=2, y=2)
+    bench.settle()
+    tell("it goes with the pointer", bench.ask(CARD) == "")
+    bench.ask("document.getElementById('view').focus()")
+    for _ in range(3):
+        bench.call("Input.dispatchKeyEvent", type="keyDown", key="Tab", code="Tab", windowsVirtualKeyCode=9)
+        bench.call("Input.dispatchKeyEvent", type="keyUp", key="Tab", code="Tab", windowsVirtualKeyCode=9)
+        bench.settle()
+        if bench.ask("document.activeElement.matches('#stages tr')"):
+            break
+    focused = bench.ask("document.activeElement.matches('#stages tr') ? document.activeElement.cells[2].textContent : ''")
+    card = bench.ask(CARD)
+    tell("a row that has the focus shows its card", focused and focused in card, (focused, card))
+    bench.key("Escape")
+    tell("Escape closes it", bench.ask(CARD) == "")
+
+
+def try_help(bench):
+    """Each panel has a button that says what it shows."""
+    lacking = bench.ask("""[...document.querySelectorAll('section')].filter(it => !it.querySelector('.about')).map(it => it.getAttribute('aria-labelledby'))""")
+    tell("each panel has its help", lacking == [], lacking)
+    told = bench.ask("""[...document.querySelectorAll('.about')].map(it => {
+      it.click();
+      const found = [document.getElementById('helping').open, document.getElementById('helping').innerText.length];
+      document.getElementById('helping').close();
+      return found;
+    })""")
+    tell("it opens", len(told) >= 12 and all(is_open and length > 80 for is_open, length in told), told)
+    head = bench.ask("document.querySelector('header').innerText")
+    tell("the header says what its cycles are for", "download the cycles" in head, head)
+
+
+EXAMPLE = "letters.s + emit.s"
+
+
+def tabs_shown(bench):
+    return bench.ask("[...document.querySelectorAll('#tabs [role=tab]')].map(it => [it.textContent, it.getAttribute('aria-selected')])")
+
+
+def try_modules(bench):
+    """Modules have tabs; they run as what `join` makes of them; what is only told of a module by itself is not told."""
+    choose(bench, "examples", EXAMPLE)
+    tell("two modules run", settled(bench) and bench.ask("document.getElementById('end').textContent").startswith("the run halts"))
+    tabs = tabs_shown(bench)
+    tell("each has a tab", [(name.split()[1], chosen) for name, chosen in tabs] == [("letters.s", "true"), ("emit.s", "false")], tabs)
+    found = bench.ask("[document.getElementById('found').textContent, document.getElementById('findings').textContent]")
+    tell("nothing is told of what another module has or uses", found[0].startswith("no fault") and not re.search("emit'|sent'|import|export", found[1]), found)
+    bench.ask("document.getElementById('run').click()")
+    time.sleep(0.3)
+    settled(bench)
+    tell("the console is the program's", bench.ask("document.getElementById('console').textContent") == "Hi")
+    bench.ask("document.querySelector('#tab-0').focus()")
+    bench.key("ArrowRight")
+    shown = bench.ask("[document.getElementById('source').value.includes('emit:'), document.activeElement.id]")
+    tell("an arrow key goes to the next tab", shown == [True, "tab-1"], shown)
+    go(bench, 0)
+    bench.ask("document.getElementById('line').value = 4")
+    bench.ask("document.getElementById('view').focus()")
+    bench.key("v")
+    at = bench.ask("state.range.rowsAt(state.cycle - state.range.from).map(row => (state.range.listing.get(row.address) || {}).origin)")
+    tell("a visit of a line of the module is found", "4" in at, at)
+    listed = bench.ask("[...state.range.listing.values()].map(it => it.origin)")
+    tell("lines of this module and of the other are told apart", {"4", "5", "a4", "a5"} <= {it.lstrip("+") for it in listed}, listed)
+    bench.ask("document.getElementById('source').focus(); document.getElementById('source').select()")
+    bench.call("Input.insertText", text="        .export emit\nemit:   st   255[r0],r1\n        jr   r32\n")
+    wait_for(bench, "document.querySelectorAll('#findings button').length > 1")
+    listed = bench.ask("[...document.querySelectorAll('#findings button')].map(it => it.textContent)")
+    tell("faults are told with their module", any(it.startswith("emit.s: line 3,") for it in listed), listed)
+    choose(bench, "examples", "countdown.s")
+    settled(bench)
+
+
+def try_plans(bench):
+    """The shortest plans are computed on demand: then a no-op says whether its block has a shorter plan."""
+    for name, wanted in (("full_slots.s", "a shorter plan of its block exists, of 3 words instead of 4"), ("load_delay.s", "no plan of its block is shorter")):
+        choose(bench, "examples", name)
+        settled(bench)
+        address = bench.ask("[...state.range.listing.values()].find(it => it.isNoOp).address")
+        said = bench.ask(f"whyNoOp(state.range, {address})")
+        tell(f"{name}: who has found no instruction is told, and no more than that", said.endswith("the list scheduler found no instruction for it"), said)
+        bench.ask("document.getElementById('shortest').click()")
+        tell("the shortest plans come", wait_for(bench, "state.plans !== null"))
+        said = bench.ask(f"whyNoOp(state.range, {address})")
+        tell(f"{name}: then it says whether there is a shorter plan", said.endswith(wanted), said)
+
+
+def try_experiment(bench):
+    """Another value of a register, and of a data word, from a cycle on: the run goes on as it would with them, and is marked."""
+    type_source(bench, SORT)
+    settled(bench)
+    go(bench, 250)
+    bench.ask("document.getElementById('view').focus()")
+    bench.key("x")
+    tell("the key x asks for a value", bench.ask("document.getElementById('trying').open && document.activeElement.id === 'value'"))
+    bench.ask("document.getElementById('target').value = 'word 0114'")
+    bench.call("Input.insertText", text="0x0d")
+    before = bench.ask("state.edition")
+    bench.key("Enter")
+    bench.ask("document.getElementById('trying').open && document.getElementById('attempt').click()")
+    wait_for(bench, f"state.edition > {before} && state.experiment !== null && state.isSettled")
+    bench.settle()
+    told = bench.ask("document.getElementById('experiment').innerText")
+    tell("it is marked as an experiment about which nothing is proved", "nothing is proved" in told and "word 0114 = 0000000d" in told, told)
+    bench.settle()
+    values = registers_shown(bench)
+    bench.ask("document.getElementById('run').click()")
+    time.sleep(0.3)
+    settled(bench)
+    bench.settle()
+    words = bench.ask("state.range.addresses.filter(it => it >= 258 && it < 279).map(it => state.range.wordAt(it, state.cycle - state.range.from)[1])")
+    numbers = [int(it) for it in re.search(r"table:  \.word (.*)", SORT)[1].split(",")]
+    tell("the run goes on with the value, which is sorted in", words != sorted(numbers) and 13 in words and words == sorted(words), (words, values))
+    bench.ask("document.querySelector('#experiment button').click()")
+    settled(bench)
+    back = bench.ask("[document.getElementById('source').value, document.getElementById('experiment').hidden, state.cycle]")
+    tell("one goes back to the program, at its cycle", back == [SORT, True, 250], back[1:])
+    bench.ask("document.querySelector('#registers tr:nth-child(3) td').dispatchEvent(new MouseEvent('dblclick', { bubbles: true }))")
+    tell("a double click on a register asks for its value", bench.ask("document.getElementById('target').value") == "r1")
+    bench.ask("document.getElementById('value').value = 'x'; document.getElementById('attempt').click()")
+    tell("what is no number is refused", "number of 32 bits" in bench.ask("document.getElementById('attempted').textContent"))
+    bench.ask("document.getElementById('no-attempt').click()")
+
+
+def try_sides(bench):
+    """The kept run beside another one, cycle by cycle, with the first cycle in which the stages differ."""
+    type_source(bench, SORT)
+    settled(bench)
+    bench.ask("document.getElementById('keep').click()")
+    other = SORT.replace("keep:   addi r3,#1,r3", "keep:   nop\n        addi r3,#1,r3")
+    type_source(bench, other)
+    settled(bench)
+    bench.ask("document.getElementById('side').click()")
+    wait_for(bench, "document.querySelector('#side-view table') !== null", 60)
+    drawn = [json.loads(printed(it, "draw", "--cycles", "400", "--as", "json")) for it in (SORT, other)]
+    wanted = next(k for k in range(400) if held_in(drawn[0], k) != held_in(drawn[1], k))
+    told = bench.ask("document.getElementById('diverged').textContent")
+    tell("the place where they diverge is that of draw", f"They diverge in cycle {wanted}." in told, (wanted, told))
+    row = bench.ask("[...document.querySelectorAll('#side-view tr.first')].map(it => it.cells[0].textContent)")
+    tell("it is marked", row == [str(wanted)], row)
+    bench.ask("document.getElementById('side-view').focus()")
+    bench.key("PageDown")
+    wait_for(bench, f"Number(document.getElementById('side-cycle').value) === {wanted + 16}")
+    tell("Page Down goes on", bench.ask("Number(document.getElementById('side-cycle').value)") == wanted + 16)
+    bench.ask("document.getElementById('side-close').click()")
+
+
+def held_in(drawn, k):
+    """Returns what the stages hold in a cycle of a drawing: the words by their stages, the held ones too."""
+    texts = {word[0]: word[2] for word in drawn["listing"]}
+    moved = k
+    while moved >= 0 and (drawn["cycles"][moved] if isinstance(drawn["cycles"][moved], int) else drawn["cycles"][moved][0]) & 1:
+        moved -= 1
+    signs = {}
+    for cycle in {moved, k} - {-1}:
+        for address, begins, cells in drawn["rows"]:
+            sign = cells[cycle - begins:cycle - begins + 1] if begins <= cycle else ""
+            if sign.strip():
+                stage = 0 if sign == "w" else "01234abcdeABCDE".index(sign) % 5
+                signs[stage] = (texts.get(address, "----"), sign if cycle == k else "held")
+    return signs
+
+
+def try_bad_input(bench):
+    """A program that never ends, a text of 4 MB, 10,000 faults, a console of megabytes: the page says so, and works then as before."""
+    put(bench, "budget", 1_000_000)
+    type_source(bench, "loop:   b    loop\n")
+    settled(bench)
+    told = bench.ask("document.getElementById('end').textContent")
+    tell("a program that never ends is told", "has not halted after its budget of 1000000 cycles" in told, told)
+    bench.ask("""(it => {
+      const held = new DataTransfer();
+      held.setData('text/plain', 'nop\\n'.repeat(1100000));
+      it.dispatchEvent(new ClipboardEvent('paste', { clipboardData: held, cancelable: true }));
+    })(document.getElementById('source'))""")
+    told = bench.ask("[document.getElementById('found').textContent, document.getElementById('source').value.length]")
+    tell("a text of more than 4 MB is refused in words", "at most 4194304 bytes" in told[0] and told[1] < 100, told)
+    type_source(bench, "        frob r1\n" * 10_000)
+    told = wait_for(bench, "document.getElementById('found').textContent.startsWith('10000 faults')", 60)
+    tell("10,000 faults are counted", told, bench.ask("document.getElementById('found').textContent"))
+    listed = bench.ask("document.querySelectorAll('#findings li').length")
+    tell("some of them are listed, and that there are more", listed == 201, listed)
+    put(bench, "budget", 12_000_000)
+    type_source(bench, "        addi r0,#65,r1\n" + "loop:   " + "st   255[r0],r1\n        " * 20 + "b    loop\n")
+    wait_for(bench, "state.isSettled", 120)
+    go(bench, 11_999_990)
+    sent = bench.ask("document.getElementById('console').textContent")
+    tell("of a console of 10 MB the end is shown", sent.startswith("(the first ") and 60_000 < len(sent) < 70_000, (len(sent), sent[:60]))
+    put(bench, "budget", 1_000_000)
+    type_source(bench, SORT)
+    tell("then a sort runs as before", settled(bench) and "the run halts" in bench.ask("document.getElementById('end').textContent"))
+    tell("the page has no fault", not bench.faults, bench.faults)
+
+
+def try_lost_server():
+    """Where the server has gone the page says so, keeps the text, and works again when it is back at the same address."""
+    with serving(f"{TOP}/examples/countdown.s") as (process, url):
+        with opened(url, 1280, 720) as bench:
+            settled(bench)
+            process.send_signal(signal.SIGINT)
+            process.wait(10 * PATIENCE)
+            type_source(bench, SORT)
+            told = wait_for(bench, "document.body.textContent.includes('the server does not answer')")
+            tell("a lost server is told", told and bench.ask("document.getElementById('source').value") == SORT)
+            go_on = bench.ask("document.getElementById('back').click(), document.getElementById('cycle').value")
+            tell("what is there can still be walked", int(go_on) >= 0 and not bench.faults, (go_on, bench.faults))
 
 
 def try_download(bench):
@@ -531,12 +853,22 @@ def try_page(bench, url):
     try_search(bench)
     try_stale(bench)
     try_breakpoint(bench)
+    try_keys(bench)
+    try_card(bench)
+    try_help(bench)
+    try_experiment(bench)
+    try_sides(bench)
+    try_modules(bench)
+    try_plans(bench)
+    type_source(bench, SORT)
+    settled(bench)
     try_download(bench)
     try_speed(bench)
     try_kept(bench)
     try_names(bench)
     try_link(bench, url)
     try_long(bench)
+    try_bad_input(bench)
     put(bench, "budget", 1_000_000)
     if bench.ask("given.missing === null"):
         try_c(bench)
@@ -553,6 +885,8 @@ def try_all(folder):
     with serving(f"{TOP}/examples/countdown.s") as (_, url):
         with opened(url, 1500, 900) as bench:
             try_page(bench, url)
+        try_in_view(url)
+        try_lost_server()
         for width, height in ((390, 844),) if IS_SAMPLE else ((1500, 900), (800, 1000), (390, 844)):
             for scheme in ("light", "dark"):
                 with opened(url, width, height, scheme == "dark") as bench:

@@ -1,7 +1,9 @@
-"""What of a request is read here: how long its body may be, and the source of a text in C. All other bodies go to the program as they are."""
+"""What of a request is read here: how long its body may be, the source of a text in C, and the modules of a program. All other bodies go
+to the program as they are."""
 import json
 
 MOST_BODY = 4_194_304
+MOST_MODULES = 16
 # An object with some strings: whatever else is nested would only take memory.
 MOST_OBJECTS, MOST_LISTS, MOST_QUOTES = 1, 2, 64
 
@@ -45,17 +47,37 @@ def read_object(body):
     return found
 
 
-def read_text(body):
-    """Returns the bytes of the text in C that a body gives, in UTF-8."""
+def only_field(body, field, command):
+    """Returns the only field that a body of a command may have."""
     given = read_object(body)
-    for field in given:
-        if field != "source":
-            raise wrong(field[:80], "no field of translate")
-    if "source" not in given:
-        raise wrong("source", "left out")
-    if not isinstance(given["source"], str):
-        raise wrong("source", "no string")
+    for name in given:
+        if name != field:
+            raise wrong(name[:80], f"no field of {command}")
+    if field not in given:
+        raise wrong(field, "left out")
+    return given[field]
+
+
+def bytes_of(text, field):
+    """Returns the bytes of a text that a field gives, in UTF-8."""
+    if not isinstance(text, str):
+        raise wrong(field, "no string")
     try:
-        return given["source"].encode()
+        return text.encode()
     except UnicodeEncodeError:
-        raise wrong("source", "half of a surrogate pair") from None
+        raise wrong(field, "half of a surrogate pair") from None
+
+
+def read_text(body, command="translate"):
+    """Returns the bytes of the text that a body gives, in UTF-8."""
+    return bytes_of(only_field(body, "source", command), "source")
+
+
+def read_texts(body):
+    """Returns the bytes of the modules that a body gives."""
+    given = only_field(body, "sources", "join")
+    if not isinstance(given, list):
+        raise wrong("sources", "no list")
+    if not 2 <= len(given) <= MOST_MODULES:
+        raise wrong("sources", f"2 to {MOST_MODULES} modules are joined")
+    return [bytes_of(it, "sources") for it in given]

@@ -33,6 +33,7 @@ import time
 from urllib.parse import parse_qs, urlsplit
 
 import fields
+import modules
 import programs
 import slots
 import translate
@@ -46,7 +47,7 @@ MOST_SOURCE = 4_194_304
 WRONG_ARGUMENTS, READ_FAULT, NOT_STARTED = 2, 4, 10
 # How long requests have to clean up after an interrupt.
 END_SECONDS = 2
-COMMANDS = (*programs.COMMANDS, "translate")
+COMMANDS = (*programs.COMMANDS, *modules.COMMANDS, "translate")
 # No page of another server may hold the page, learn its address, or get what it is answered.
 HEADERS = {
     "Cache-Control": "no-store",
@@ -134,6 +135,7 @@ class Workbench(socketserver.ThreadingTCPServer):
         self.token = secrets.token_urlsafe(24)
         self.programs = programs.Programs(words.program)
         self.translator = translate.Translator(words.cc, self.programs, is_loopback(words.host))
+        self.toolchain = modules.Toolchain(words.run, self.programs)
         self.page = read_text(f"{FOLDER}/page.html")
         self.policy = policy(self.page)
         self.examples = [*examples_in("examples", ".s"), *examples_in("examples/c", ".c")]
@@ -160,7 +162,8 @@ class Workbench(socketserver.ThreadingTCPServer):
 
     def page_now(self):
         """Returns the page with what it begins with."""
-        given = {"examples": self.examples, "proved": self.is_proved, "file": None, "source": None, "missing": self.translator.missing}
+        given = {"examples": self.examples, "proved": self.is_proved, "file": None, "source": None, "missing": self.translator.missing,
+                 "joins": bool(self.toolchain.program)}
         if self.file:
             given["file"] = os.path.basename(self.file)
             try:
@@ -216,9 +219,10 @@ class Workbench(socketserver.ThreadingTCPServer):
         """Ends all runs, waits a little for what answers requests, and takes away what those leave that go on."""
         self.programs.end()
         ends = time.monotonic() + END_SECONDS
-        while self.translator.folders and time.monotonic() < ends:
+        while (self.translator.folders or self.toolchain.folders) and time.monotonic() < ends:
             time.sleep(0.01)
         self.translator.end()
+        self.toolchain.end()
 
 
 def answer_and_close(connection, what):
@@ -319,6 +323,8 @@ class Handler(http.server.BaseHTTPRequestHandler):
         command = path.removeprefix("/api/")
         if command == "translate":
             return self.answer_translation()
+        if command in modules.COMMANDS:
+            return self.answer_texts(command)
         return self.answer_command(command)
 
     def answer_command(self, command):
@@ -340,6 +346,13 @@ class Handler(http.server.BaseHTTPRequestHandler):
             text = fields.read_text(body)
         answer = self.server.translator.answer(text, self.client_address[0], self.connection)
         self.send_pieces(200, "application/json", [answer])
+
+    def answer_texts(self, command):
+        """Answers what the toolchain prints of one text, or of several."""
+        body = self.read_body()
+        with self.server.reading:
+            texts = fields.read_texts(body) if command == "join" else [fields.read_text(body, command)]
+        self.send_pieces(200, "application/json", [self.server.toolchain.answer(command, texts, self.connection)])
 
     def check(self):
         """Returns the path of a request that is to be answered: it is meant for this server, has the token, and names something."""
@@ -433,7 +446,7 @@ class Handler(http.server.BaseHTTPRequestHandler):
 
 def read_words():
     """Returns what the command line says. ./mx names the programs in the environment, and whether they are proved."""
-    given = [os.environ.pop(f"MX_SERVE_{name}", "") for name in ("PROGRAM", "CC", "PROVED")]
+    given = [os.environ.pop(f"MX_SERVE_{name}", "") for name in ("PROGRAM", "CC", "PROVED", "RUN")]
     if not given[0]:
         print("mx: start the workbench by ./mx serve", file=sys.stderr)
         sys.exit(WRONG_ARGUMENTS)
@@ -447,7 +460,7 @@ def read_words():
     if not words.host.strip():
         # the system takes an empty name for every address of the machine
         parser.error(f"invalid value '{words.host}' for '--host': expected an address, such as 127.0.0.1")
-    words.program, words.cc, words.proved = given[0], given[1], given[2] == "yes"
+    words.program, words.cc, words.proved, words.run = given[0], given[1], given[2] == "yes", given[3]
     return words
 
 
