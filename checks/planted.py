@@ -156,7 +156,7 @@ def try_case(runner, number, case):
     os.makedirs(f"{at}/work")
     copy(f"{at}/copy")
     words = ["bash", "-c", BEGIN + case.script]
-    status, said = runner.run(words, MINUTES, f"{at}/copy", runner.programs, top=TOP, work=f"{at}/work", MX_SAMPLE="1")
+    status, said, _ = runner.run(words, MINUTES, f"{at}/copy", runner.programs, top=TOP, work=f"{at}/work", MX_SAMPLE="1")
     shutil.rmtree(at, ignore_errors=True)
     if status == common.SKIPPED:
         return "skipped", said.strip().splitlines()[-1]
