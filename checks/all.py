@@ -38,16 +38,20 @@ LINES_OF_FAILURE = 40
 
 
 class Check(NamedTuple):
-    """A check: the words that run it, the programs it needs, its minutes on a sample, and whether it runs alone, after all others."""
+    """A check: the words that run it, the programs it needs, its minutes on a sample, whether it runs alone, after all others, and the
+    commands without which nothing of it can run."""
     name: str
     words: tuple
     programs: tuple = ()
     minutes: int = 10
     is_alone: bool = False
+    tools: tuple = ()
     # what is run with --full, if it is something else
     full: tuple = ()
 
 
+MIPS = ("mips-linux-gnu-gcc", "qemu-mips")
+TINY = ("git", "cc", "ar")
 CHECKS = (
     # what the folders and documents say
     Check("deps", ("deps.py",)),
@@ -67,10 +71,10 @@ CHECKS = (
     # the toolchain
     Check("rows", ("rows.sh",), ("mx_run",), 15),
     Check("edges", ("edge.sh",), ("mx_run",)),
-    Check("memory", ("memory.sh",), ("mx_run",)),
+    Check("memory", ("memory.sh",), ("mx_run",), tools=("bash", "cc")),
     Check("soak", ("soak.py",), ("mx_run",)),
     Check("messages", ("messages.py",), ("mx_run", "mx_lab")),
-    Check("package", ("package.py",), ("mx_run", "mx_lab")),
+    Check("package", ("package.py",), ("mx_run", "mx_lab"), tools=("dpkg-deb",)),
     Check("tutorial", ("tutorial.py",), PROGRAMS),
     # the laboratory
     Check("arguments", ("words.sh",), ("mx_lab",)),
@@ -79,19 +83,19 @@ CHECKS = (
     Check("JSON", ("lab_json.py",), ("mx_lab",)),
     Check("drawing", ("draw.sh",), ("mx_lab",), is_alone=True),
     # C programs, the libraries
-    Check("stored C programs", ("cc_cases.py",), ("mx_run", "mx_cc"), 15),
-    Check("C programs", ("cc.sh", "0"), ("mx_run", "mx_cc"), 15, full=("cc.sh",)),
-    Check("C commands", ("cc_uses.sh",), ("mx_run", "mx_cc"), 15),
-    Check("library", ("embed.sh",), ("mx_run",)),
+    Check("stored C programs", ("cc_cases.py",), ("mx_run", "mx_cc"), 15, tools=MIPS),
+    Check("C programs", ("cc.sh", "0"), ("mx_run", "mx_cc"), 15, tools=(*MIPS, "csmith"), full=("cc.sh",)),
+    Check("C commands", ("cc_uses.sh",), ("mx_run", "mx_cc"), 15, tools=MIPS),
+    Check("library", ("embed.sh",), ("mx_run",), tools=("cc", "c++", "ar", "nm", "readelf")),
     Check("Python", ("python.sh",), ("mx_lab",)),
     # processes that are ended, and files that are written meanwhile
-    Check("proved", ("proved.py",), is_alone=True),
-    Check("processes", ("processes.py",), is_alone=True),
-    Check("files", ("files.py",), ("mx_run", "mx_lab"), is_alone=True),
+    Check("proved", ("proved.py",), is_alone=True, tools=TINY),
+    Check("processes", ("processes.py",), is_alone=True, tools=TINY),
+    Check("files", ("files.py",), ("mx_run", "mx_lab"), is_alone=True, tools=(*TINY, "readelf")),
     # the workbench
     Check("workbench's faults", ("serve_faults.py",), ("mx_serve", "mx_cc"), is_alone=True),
     Check("clients", ("clients.py",), ("mx_serve", "mx_cc"), 15, is_alone=True),
-    Check("workbench", ("serve.py",), PROGRAMS, 20, is_alone=True),
+    Check("workbench", ("serve.py",), PROGRAMS, 20, is_alone=True, tools=("chromium",)),
 )
 
 
@@ -167,6 +171,9 @@ class Runner:
         if time.monotonic() - self.began > LATEST * self.patience:
             return Result("skipped", "no time is left")
         words = check.full if self.is_full and check.full else check.words
+        absent = [it for it in check.tools if shutil.which(it) is None]
+        if absent:
+            return Result("skipped", f"{', '.join(absent)} is missing")
         program = interpreter(words[0])
         if program is None:
             return Result("skipped", f"{words[0]} is not there, or the program that runs it")
@@ -285,7 +292,8 @@ def work_through(checks, runner):
         else:
             keep(check.name, result)
 
-    needed = [it for it in PROGRAMS if any(it in check.programs for check in checks)]
+    # (a check that is skipped needs no program)
+    needed = [it for it in PROGRAMS if any(it in check.programs and all(map(shutil.which, check.tools)) for check in checks)]
     together = [it for it in checks if not it.is_alone]
     jobs = max(2, min(8, os.cpu_count() or 2))
     with concurrent.futures.ThreadPoolExecutor(len(PROGRAMS)) as builders, concurrent.futures.ThreadPoolExecutor(jobs) as pool:
