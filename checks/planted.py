@@ -144,6 +144,8 @@ CASES = (
     Case("C commands", "cc_uses.sh", "an output that is an input", """
         plant tools/cc.sh '/this file is read, and -o would write it/d'; checks/cc_uses.sh""", ("FAILED: cc good.c -o good.c",)),
     Case("C programs", "cc.sh", "another console", """fake "$MX_RUN" 's/^92 ways/93 ways/'; MX_RUN=$fake checks/cc.sh 0 queens""", ("FAILED: queens",)),
+    Case("C programs", "cc.sh", "a run that does not end", """
+        fake "$MX_RUN" '1s/^halted$/out of budget/'; MX_RUN=$fake checks/cc.sh 0 queens""", ("FAILED: queens",)),
     Case("library", "embed.sh", "a stack that is too small", """
         python3 -B "$top/tools/state.py" proved embed_library || exit 77
         "$top/mx" library "$work/lib" && plant "$work/lib/zanderanvil.h" 's/ZANDERANVIL_STACK [0-9]*/ZANDERANVIL_STACK 20480/'
