@@ -9,7 +9,8 @@ Without names it runs all checks, the slow ones on a sample; with --full the who
 check in a copy, and the check has to find it (checks/planted.py). The programs are those that MX_RUN, MX_LAB, MX_CC and MX_SERVE
 name, or proved ones, or built without proof in a temporary folder. Nothing is written into the repository.
 
-A check has to end with 0 and to report `compared N ..` at its end, with N above 0; it is skipped where it ends with 77.
+A check has to end with 0 and to report `compared N ..` at its end, with N above 0; it is skipped where it ends with 77. One that fails
+is tried once more when nothing else runs, and the last lines name it also if it then holds. With --self-test nothing is tried twice.
 """
 import concurrent.futures
 import os
@@ -37,16 +38,20 @@ LINES_OF_FAILURE = 40
 
 
 class Check(NamedTuple):
-    """A check: the words that run it, the programs it needs, its minutes on a sample, and whether it runs alone, after all others."""
+    """A check: the words that run it, the programs it needs, its minutes on a sample, whether it runs alone, after all others, and the
+    commands without which nothing of it can run."""
     name: str
     words: tuple
     programs: tuple = ()
     minutes: int = 10
     is_alone: bool = False
+    tools: tuple = ()
     # what is run with --full, if it is something else
     full: tuple = ()
 
 
+MIPS = ("mips-linux-gnu-gcc", "qemu-mips")
+TINY = ("git", "cc", "ar")
 CHECKS = (
     # what the folders and documents say
     Check("deps", ("deps.py",)),
@@ -66,10 +71,10 @@ CHECKS = (
     # the toolchain
     Check("rows", ("rows.sh",), ("mx_run",), 15),
     Check("edges", ("edge.sh",), ("mx_run",)),
-    Check("memory", ("memory.sh",), ("mx_run",)),
+    Check("memory", ("memory.sh",), ("mx_run",), tools=("bash", "cc")),
     Check("soak", ("soak.py",), ("mx_run",)),
     Check("messages", ("messages.py",), ("mx_run", "mx_lab")),
-    Check("package", ("package.py",), ("mx_run", "mx_lab")),
+    Check("package", ("package.py",), ("mx_run", "mx_lab"), tools=("dpkg-deb",)),
     Check("tutorial", ("tutorial.py",), PROGRAMS),
     # the laboratory
     Check("arguments", ("words.sh",), ("mx_lab",)),
@@ -78,28 +83,31 @@ CHECKS = (
     Check("JSON", ("lab_json.py",), ("mx_lab",)),
     Check("drawing", ("draw.sh",), ("mx_lab",), is_alone=True),
     # C programs, the libraries
-    Check("stored C programs", ("cc_cases.py",), ("mx_run", "mx_cc"), 15),
-    Check("C programs", ("cc.sh", "0"), ("mx_run", "mx_cc"), 15, full=("cc.sh",)),
-    Check("C commands", ("cc_uses.sh",), ("mx_run", "mx_cc"), 15),
-    Check("library", ("embed.sh",), ("mx_run",)),
+    Check("stored C programs", ("cc_cases.py",), ("mx_run", "mx_cc"), 15, tools=MIPS),
+    Check("C programs", ("cc.sh", "0"), ("mx_run", "mx_cc"), 15, tools=(*MIPS, "csmith"), full=("cc.sh",)),
+    Check("C commands", ("cc_uses.sh",), ("mx_run", "mx_cc"), 15, tools=MIPS),
+    Check("library", ("embed.sh",), ("mx_run",), tools=("cc", "c++", "ar", "nm", "readelf")),
     Check("Python", ("python.sh",), ("mx_lab",)),
     # processes that are ended, and files that are written meanwhile
-    Check("proved", ("proved.py",), is_alone=True),
-    Check("processes", ("processes.py",), is_alone=True),
-    Check("files", ("files.py",), ("mx_run", "mx_lab"), is_alone=True),
+    Check("proved", ("proved.py",), is_alone=True, tools=TINY),
+    Check("processes", ("processes.py",), is_alone=True, tools=TINY),
+    Check("files", ("files.py",), ("mx_run", "mx_lab"), is_alone=True, tools=(*TINY, "readelf")),
     # the workbench
     Check("workbench's faults", ("serve_faults.py",), ("mx_serve", "mx_cc"), is_alone=True),
     Check("clients", ("clients.py",), ("mx_serve", "mx_cc"), 15, is_alone=True),
-    Check("workbench", ("serve.py",), PROGRAMS, 20, is_alone=True),
+    Check("workbench", ("serve.py",), PROGRAMS, 20, is_alone=True, tools=("chromium",)),
 )
 
 
 class Result(NamedTuple):
-    """How a check ended: `ok`, `WRONG` or `skipped`, what it said last, all that it said, and its seconds."""
+    """How a check ended: `ok`, `WRONG` or `skipped`, what it said last, all that it said, its seconds, those that its processes took of
+    processors, and what was wrong when it was tried before."""
     state: str
     said: str
     output: str = ""
     seconds: float = 0
+    of_processors: float = 0
+    before: str = ""
 
 
 def slowness():
@@ -136,7 +144,8 @@ class Runner:
         return {**kept, **given, **{name.upper(): self.programs[name] for name in programs}}
 
     def run(self, words, minutes, cwd=TOP, programs=(), **more):
-        """Runs words, and returns the status and the output; None as the status where the time is over."""
+        """Runs words, and returns the status, the output, and the seconds that this took of processors; None as the status where the
+        time is over."""
         environment = {**self.environment(programs), **more}
         name = f"{environment['TMPDIR']}/../output"
         with open(name, "wb") as output:
@@ -146,24 +155,25 @@ class Runner:
             self.running.add(process)
             if self.is_ended:
                 end(process)
-        try:
-            status = process.wait(minutes * MINUTE * self.patience)
-        except subprocess.TimeoutExpired:
-            status = None
+        is_in_time = wait(process.pid, minutes * MINUTE * self.patience)
         with self.lock:
             self.running.discard(process)
         end(process)
-        process.wait()
+        _, status, used = os.wait4(process.pid, 0)
+        process.returncode = os.waitstatus_to_exitcode(status)
         with open(name, encoding="utf-8", errors="replace") as it:
             said = it.read()
         shutil.rmtree(environment["TMPDIR"], ignore_errors=True)
-        return status, said
+        return process.returncode if is_in_time else None, said, used.ru_utime + used.ru_stime
 
     def check(self, check):
         """Runs a check, and returns its result."""
         if time.monotonic() - self.began > LATEST * self.patience:
             return Result("skipped", "no time is left")
         words = check.full if self.is_full and check.full else check.words
+        absent = [it for it in check.tools if shutil.which(it) is None]
+        if absent:
+            return Result("skipped", f"{', '.join(absent)} is missing")
         program = interpreter(words[0])
         if program is None:
             return Result("skipped", f"{words[0]} is not there, or the program that runs it")
@@ -171,8 +181,8 @@ class Runner:
         if missing:
             return Result("skipped", f"{', '.join(missing)} is not built")
         began = time.monotonic()
-        status, said = self.run([*program, *words[1:]], check.minutes * (10 if self.is_full else 1), programs=check.programs)
-        return judged(status, said, time.monotonic() - began)
+        status, said, used = self.run([*program, *words[1:]], check.minutes * (10 if self.is_full else 1), programs=check.programs)
+        return judged(status, said, time.monotonic() - began)._replace(of_processors=used)
 
     def end(self):
         """Ends all that runs, and takes the folder away."""
@@ -185,6 +195,16 @@ class Runner:
             if not os.path.exists(self.folder):
                 break
             time.sleep(0.1)
+
+
+def wait(pid, seconds):
+    """Waits until a process of ours has ended, but leaves it to be asked for its status; returns whether it has in so many seconds."""
+    ends = time.monotonic() + seconds
+    while not os.waitid(os.P_PID, pid, os.WEXITED | os.WNOHANG | os.WNOWAIT):
+        if time.monotonic() > ends:
+            return False
+        time.sleep(0.05)
+    return True
 
 
 def end(process):
@@ -232,13 +252,13 @@ def prepare(name, runner):
     if shutil.which("rt") is None:
         return None, "skipped: rt is missing"
     # mx answers where a program is, if it has to without proof; where it cannot, the program is built here
-    status, said = runner.run([f"{TOP}/mx", "where", name], 30, HOME=os.environ.get("HOME", "/"))
+    status, said, _ = runner.run([f"{TOP}/mx", "where", name], 30, HOME=os.environ.get("HOME", "/"))
     path = said.strip().splitlines()[-1:] or [""]
     if status == 0 and os.access(path[0], os.X_OK):
         return path[0], ""
     out = f"{runner.folder}/programs/{name}"
     for _ in range(2):
-        status, said = runner.run([sys.executable, "-B", f"{TOP}/tools/unproved.py", name, out], 30, HOME=os.environ.get("HOME", "/"))
+        status, said, _ = runner.run([sys.executable, "-B", f"{TOP}/tools/unproved.py", name, out], 30, HOME=os.environ.get("HOME", "/"))
         if status == 0 and os.access(out, os.X_OK):
             return out, ""
     return None, said or f"status {status}"
@@ -246,7 +266,7 @@ def prepare(name, runner):
 
 def print_result(name, result):
     """Prints how a check ended, with its output where it fails."""
-    print(f"{result.state}: {name} ({result.seconds:.0f} s): {result.said}", flush=True)
+    print(f"{result.state}: {name} ({result.seconds:.0f} s, {result.of_processors:.0f} s of processors): {result.said}", flush=True)
     if result.state == "WRONG":
         lines = [it for it in result.output.splitlines() if not it.startswith("ok: ")]
         print("\n".join(f"    {it[:400]}" for it in lines[-LINES_OF_FAILURE:]), flush=True)
@@ -266,13 +286,14 @@ def work_through(checks, runner):
     def go(check):
         result = runner.check(check)
         if result.state == "WRONG":
-            # it may lack memory or time beside the others, but not twice
+            # (it may lack memory or time beside the others, but not twice)
             print_result(f"{check.name}, the first time", result)
-            again.append(check)
+            again.append((check, result.said))
         else:
             keep(check.name, result)
 
-    needed = [it for it in PROGRAMS if any(it in check.programs for check in checks)]
+    # (a check that is skipped needs no program)
+    needed = [it for it in PROGRAMS if any(it in check.programs and all(map(shutil.which, check.tools)) for check in checks)]
     together = [it for it in checks if not it.is_alone]
     jobs = max(2, min(8, os.cpu_count() or 2))
     with concurrent.futures.ThreadPoolExecutor(len(PROGRAMS)) as builders, concurrent.futures.ThreadPoolExecutor(jobs) as pool:
@@ -289,16 +310,11 @@ def work_through(checks, runner):
         going += [pool.submit(go, it) for it in together if it.programs]
         for it in going:
             it.result()
-    for check in again:
-        keep(check.name, runner.check(check))
     for check in checks:
         if check.is_alone:
-            result = runner.check(check)
-            if result.state == "WRONG":
-                # what a browser or a client waits for may come too late on a busy machine, but not twice
-                print_result(f"{check.name}, the first time", result)
-                result = runner.check(check)
-            keep(check.name, result)
+            go(check)
+    for check, before in again:
+        keep(check.name, runner.check(check)._replace(before=before))
     return results
 
 
@@ -307,6 +323,9 @@ def report(results):
     skipped = [f"{name}: {it.said}" for name, it in results.items() if it.state == "skipped"]
     skipped += [f"a part of {name}: {part}" for name, it in results.items() if it.state == "ok" for part in SKIPPED.findall(it.output)]
     wrong = sorted(name for name, it in results.items() if it.state == "WRONG")
+    for name, it in results.items():
+        if it.state != "WRONG" and it.before:
+            print(f"held at the second try: {name}: the first time {it.before}")
     held = sum(it.state == "ok" for it in results.values())
     for it in skipped:
         print(f"skipped: {it}")
@@ -314,7 +333,8 @@ def report(results):
         print("checks/tools.sh installs the tools of all checks")
     if wrong:
         print(f"WRONG: {', '.join(wrong)}")
-    print(f"{held} checks hold, {len(wrong)} fail, {len(skipped)} are skipped")
+    twice = sum(it.state == "ok" and it.before != "" for it in results.values())
+    print(f"{held} checks hold, {twice} of them at the second try, {len(wrong)} fail, {len(skipped)} are skipped")
     return 1 if wrong or held + len(skipped) == 0 else 0
 
 

@@ -16,7 +16,7 @@ import sys
 import threading
 import time
 
-from tiny import TOP, Tally, Tiny, end, read, write
+from tiny import TOP, Tally, Tiny, end, has_terminals, read, write
 
 OLD = "an old and good file\n"
 SIZE_OF_DISK = "64k"
@@ -166,6 +166,8 @@ def printed(tally, call):
 
 def on_terminal(tally, call):
     """On a terminal the program still has one for its messages."""
+    if not has_terminals():
+        return
     call.put("s")
     call.put("old")
     for more, status in (({}, 0), ({"FULL": "yes"}, 5)):
@@ -238,6 +240,9 @@ def libraries(tally, tiny):
 def real_programs(tally, tiny):
     """The real programs on a disk that is full."""
     programs = {name: os.environ.get(name) for name in ("MX_RUN", "MX_LAB")}
+    if not shutil.which("unshare"):
+        print("skipped: unshare is missing")
+        return
     disk = f"{tiny.folder}/disk"
     os.mkdir(disk)
     launch = f"{sys.executable} {TOP}/tools/launch.py"

@@ -82,6 +82,13 @@ CASES = (
     Case("soak", "soak.py", "false cycles", """fake "$MX_RUN" 's/^cycles /cycles 1/'; MX_RUN=$fake checks/soak.py 7 40""", ("FAILED: soak 7 40",)),
     Case("soak", "soak.py", "a program that fails", "MX_RUN=/bin/false checks/soak.py", ("runs differ",)),
     Case("memory", "memory.sh", "a command that is none", "checks/memory.sh typo", ("typo",)),
+    Case("memory", "memory.sh", "a program that never asks for memory", "MX_RUN=/bin/true checks/memory.sh", ("FAILED: run hello.s: no request was refused",)),
+    Case("memory", "memory.sh", "a program that has printed something once memory runs out", """
+        printf '#!/bin/sh\n"%s" "$@"\nstatus=$?\n[ "$status" -ne 6 ] || echo partial\nexit "$status"\n' "$MX_RUN" >"$work/fake"
+        chmod +x "$work/fake"; MX_RUN=$work/fake checks/memory.sh meaning""", ("FAILED: meaning loop.s: request [0-9]+: status 6",)),
+    Case("package", "package.py", "a package that does not say that it is unproved", """
+        plant tools/package.py 's/are NOT proved: they/are proved: they/'; checks/package.py""", ("FAILED: its description says that it is unproved",)),
+    Case("package", "package.py", "an installed program that prints nothing", "MX_RUN=/bin/true checks/package.py", ("FAILED: unpacked: run hello.s",)),
     Case("drawing", "cells.py", "a stage in the wrong place", """
         "$MX_LAB" draw examples/countdown.s --as text >text && "$MX_LAB" draw examples/countdown.s --as kanata >kanata
         plant text 's/ALU/MEM/'; PYTHONOPTIMIZE=1 checks/cells.py --kanata kanata text""", ("FAILED",)),
@@ -125,6 +132,25 @@ CASES = (
         echo 'print("edits: all is well")' >checks/edits.py; checks/all.sh edits deps""", ("WRONG: edits", "it reports nothing that it compared", "WRONG: edits$")),
     Case("all", "all.py", "a check that fails", "plant crates.txt 's/^mx_delay: mx_isa$/mx_delay:/'; checks/all.sh deps", ("1 fail",)),
     Case("all", "all.py", "an unknown name", "checks/all.sh typo", ("unknown check or option: typo",)),
+    Case("all", "all.py", "a check that holds at its second try alone", """
+        printf '%s\n' 'if [ -e once ]; then echo deps: compared 1 text; else touch once; exit 1; fi' >checks/deps.sh
+        plant checks/all.py 's/"deps.py"/"deps.sh"/'; checks/all.sh deps >said; cat said; ! tail -n 2 said | grep -q '^held at the second try: deps'""",
+         ("^1 checks hold, 1 of them at the second try",)),
+    Case("stored C programs", "cc_cases.py", "another stored console", """
+        plant checks/cc/cases/own_malloc.out '1s/^/1/'; checks/cc_cases.py own_malloc""", ("FAILED: own_malloc.c",)),
+    Case("stored C programs", "cc_cases.py", "a console that the native program does not have", """
+        fake "$MX_RUN" '$s/$/./'; MX_RUN=$fake checks/cc_cases.py arguments""", ("FAILED: arguments.c",)),
+    Case("stored C programs", "cc_cases.py", "a case that is none", "checks/cc_cases.py typo", ("compared 0 runs",)),
+    Case("C commands", "cc_uses.sh", "an output that is an input", """
+        plant tools/cc.sh '/this file is read, and -o would write it/d'; checks/cc_uses.sh""", ("FAILED: cc good.c -o good.c",)),
+    Case("C programs", "cc.sh", "another console", """fake "$MX_RUN" 's/^92 ways/93 ways/'; MX_RUN=$fake checks/cc.sh 0 queens""", ("FAILED: queens",)),
+    Case("C programs", "cc.sh", "a run that does not end", """
+        fake "$MX_RUN" '1s/^halted$/out of budget/'; MX_RUN=$fake checks/cc.sh 0 queens""", ("FAILED: queens",)),
+    Case("library", "embed.sh", "a stack that is too small", """
+        python3 -B "$top/tools/state.py" proved embed_library || exit 77
+        "$top/mx" library "$work/lib" && plant "$work/lib/zanderanvil.h" 's/ZANDERANVIL_STACK [0-9]*/ZANDERANVIL_STACK 20480/'
+        checks/embed.sh "$work/lib" """, ("FAILED: the stack",)),
+    Case("library", "embed.sh", "a folder without a library", "checks/embed.sh .", ("no library is there",)),
     Case("C programs", "cc.sh", "an example that is none", "checks/cc.sh 0 typo", ("typo",)),
     # those of the documents
     Case("style", "style.py", "a word that is not to be used", "echo 'This stands here.' >>README.md; checks/style.py", ("README.md",)),
@@ -156,10 +182,10 @@ def try_case(runner, number, case):
     os.makedirs(f"{at}/work")
     copy(f"{at}/copy")
     words = ["bash", "-c", BEGIN + case.script]
-    status, said = runner.run(words, MINUTES, f"{at}/copy", runner.programs, top=TOP, work=f"{at}/work", MX_SAMPLE="1")
+    status, said, _ = runner.run(words, MINUTES, f"{at}/copy", runner.programs, top=TOP, work=f"{at}/work", MX_SAMPLE="1")
     shutil.rmtree(at, ignore_errors=True)
     if status == common.SKIPPED:
-        return "skipped", said.strip().splitlines()[-1]
+        return "skipped", (said.strip().splitlines() or ["what it needs is not there"])[-1]
     tail = "\n".join(f"    {it[:300]}" for it in said.splitlines()[-15:])
     if status is None:
         return "WRONG", f"it takes too long\n{tail}"
@@ -179,7 +205,15 @@ def run(runner, names):
         print("skipped: bash is missing")
         return 0
     import all as checks  # the module that called this one
-    for name in checks.PROGRAMS:
+    bare = sorted({it.name for it in checks.CHECKS} - {it.name for it in CASES})
+    if bare:
+        print(f"WRONG: no fault is planted for {', '.join(bare)}")
+        return 1
+    # (only what the chosen checks run, since a program takes minutes to build)
+    chosen = {it.name for it in CASES if not names or it.name in names}
+    needed = {it for check in checks.CHECKS if check.name in chosen for it in check.programs}
+    tools = {check.name: check.tools for check in checks.CHECKS}
+    for name in (it for it in checks.PROGRAMS if it in needed):
         path, wrong = checks.prepare(name, runner)
         if path is None:
             print(f"WRONG: {name} cannot be built: {wrong}")
@@ -188,7 +222,8 @@ def run(runner, names):
     counts, lock = {"ok": 0, "WRONG": 0, "skipped": 0}, threading.Lock()
 
     def go(number, case):
-        state, why = try_case(runner, number, case)
+        absent = [it for it in tools.get(case.name, ()) if shutil.which(it) is None]
+        state, why = ("skipped", f"{', '.join(absent)} is missing") if absent else try_case(runner, number, case)
         with lock:
             counts[state] += 1
             print(f"{state}: {case.name}: {case.what}: {why}", flush=True)

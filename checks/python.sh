@@ -25,7 +25,7 @@ for it in python3 /usr/bin/python3; do
     fi
 done
 if ! "$python" -c 'import ensurepip, setuptools, wheel' 2>/dev/null; then
-    echo 'left out: pip, setuptools or wheel is missing, so nothing was installed'
+    echo 'skipped: pip, setuptools or wheel is missing, so nothing was installed'
     echo "python: compared $compared results"
     exit 0
 fi
@@ -48,7 +48,7 @@ if [ -z "$library" ] && python3 -E -s -B "$top/tools/state.py" proved embed_libr
     library=$folder/lib/libzanderanvil.so
 fi
 if [ -z "$library" ]; then
-    echo 'left out: the library is not proved here, so nothing was held against it'
+    echo 'skipped: the library is not proved here, so nothing was held against it'
     echo "python: compared $compared results"
     exit 0
 fi

@@ -122,6 +122,9 @@ def programs(tally, folder):
 
 def library(tally, folder):
     """What is asked of a library: once."""
+    if not shutil.which("cc"):
+        print("skipped: cc is missing")
+        return
     write(f"{folder}/library.c", LIBRARY)
     path = f"{folder}/library.so"
     subprocess.run(["cc", "-Wall", "-Wextra", "-Werror", "-shared", "-fPIC", f"-I{TOP}/include", f"{folder}/library.c", "-o", path], check=True)
@@ -151,6 +154,11 @@ def versions(tally, folder):
     header = dict(re.findall(r'#define ZANDERANVIL_VERSION(_MAJOR|_MINOR|_TEXT|) (.*)', read(f"{TOP}/include/zanderanvil.h")))
     tally.need(header.get("_MAJOR") == major and header.get("_MINOR") == minor and header.get("_TEXT") == f'"{version}"',
                "the header has it", header)
+    words = re.search(r'\.version\("([^"]*)"\)', read(f"{TOP}/crates/lab_line/src/words.rt")).group(1)
+    tally.need(words == version, "the laboratory has it", words)
+    tally.need(f"libzanderanvil.so.{major}" in read(f"{TOP}/mx"), "the soname has its first number")
+    if not shutil.which("cc"):
+        return
     write(f"{folder}/version.c", f"""#include <zanderanvil.h>
 _Static_assert(ZANDERANVIL_VERSION == {major} * 1000 + {minor}, "");
 int main(void) {{ return sizeof ZANDERANVIL_VERSION_TEXT != {len(version) + 1}; }}
@@ -158,9 +166,6 @@ int main(void) {{ return sizeof ZANDERANVIL_VERSION_TEXT != {len(version) + 1}; 
     done = subprocess.run(["cc", "-std=c11", "-pedantic", "-Wall", "-Wextra", "-Werror", f"-I{TOP}/include", "-c", f"{folder}/version.c", "-o",
                            f"{folder}/version.o"], capture_output=True, text=True)
     tally.need(done.returncode == 0, "as numbers that a program can compare", done.stderr)
-    words = re.search(r'\.version\("([^"]*)"\)', read(f"{TOP}/crates/lab_line/src/words.rt")).group(1)
-    tally.need(words == version, "the laboratory has it", words)
-    tally.need(f"libzanderanvil.so.{major}" in read(f"{TOP}/mx"), "the soname has its first number")
 
 
 def types(tally):

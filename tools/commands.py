@@ -112,7 +112,7 @@ COMMANDS = {
 # The commands of ./mx itself, which no program answers.
 OWN = {
     "prove": Command("mx", "[CRATE ..]", "proves and builds the programs, or the crates that are named; goes on where it was stopped"),
-    "test": Command("mx", "[CRATE ..]", "runs all tests and stored cases without proofs, or those of the crates that are named"),
+    "test": Command("mx", "[CRATE ..]", "runs all tests, stored cases and checks without proofs, or the tests of the crates that are named"),
     "install": Command("mx", "PREFIX", "proves the toolchain and the laboratory, and puts them below a folder"),
     "package": Command("mx", "DIR", "makes a Debian package of the proved toolchain and laboratory in a folder", (
         Option("--unproved", "", "packages the programs that are built without proofs, and says so in the package's version"),)),

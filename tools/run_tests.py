@@ -1,10 +1,12 @@
 #!/usr/bin/env python3
-"""Runs all tests and stored cases without proofs and without wrong bodies, for those who change code: the gate stays `rt ci`.
+"""Runs all tests, stored cases and checks without proofs and without wrong bodies, for those who change code: the gate stays .ci/run.
 
-usage: tools/run_tests.py [CRATE ..]      without names: each program that has stored output, and each crate with tests
+usage: tools/run_tests.py [CRATE ..]      without names: each program that has stored output, each crate with tests, and then
+                                          the checks (checks/all.sh)
 
 A program is built without its proof (tools/unproved.py), and run as the gate runs it: in a folder with the files of its folder
-data/, the arguments of its file args and the bytes of stdin. Its output and its status have to be the stored ones.
+data/, the arguments of its file args and the bytes of stdin. Its output and its status have to be the stored ones. The programs of
+./mx are kept for it.
 """
 import concurrent.futures
 import os
@@ -14,11 +16,14 @@ import sys
 import tempfile
 import time
 
+import state
 import unproved
 from crates import TOP, read_crates
 from processes import Commands, end_by_signals
 
 LIMIT = 120
+# The programs of ./mx, which keeps them.
+KEPT = ("mx_run", "mx_lab", "mx_cc", "mx_serve")
 COMMANDS = Commands()
 
 
@@ -44,11 +49,20 @@ def run_tests(crate):
     return "" if status == 0 else said[-2000:]
 
 
+def build(crate, at):
+    """Builds a program, and returns where it is: at this place, or where ./mx takes it from; None where it does not compile."""
+    path = f"{state.KEPT}/{crate}"
+    if crate in KEPT and os.access(TOP, os.W_OK):
+        return None if unproved.kept(crate, path, COMMANDS) else path
+    return None if unproved.main(crate, at, COMMANDS) else at
+
+
 def run_program(crate):
     """Builds and runs a program on its stored words, and returns what is wrong."""
     folder = f"{TOP}/crates/{crate}"
     with tempfile.TemporaryDirectory(prefix="mx-test-") as at:
-        if unproved.main(crate, f"{at}/program", COMMANDS):
+        program = build(crate, f"{at}/program")
+        if program is None:
             return "it does not compile"
         os.mkdir(f"{at}/run")
         if os.path.isdir(f"{folder}/data"):
@@ -56,7 +70,7 @@ def run_program(crate):
         words = read(f"{folder}/args").decode().splitlines()
         with open(f"{at}/errors", "w+b") as errors:
             how = {"stdin": subprocess.PIPE, "stderr": errors, "text": False, "errors": None}
-            status, printed = COMMANDS.run(f"{at}/run", f"{at}/program", *words, given=read(f"{folder}/stdin"), seconds=LIMIT, **how)
+            status, printed = COMMANDS.run(f"{at}/run", program, *words, given=read(f"{folder}/stdin"), seconds=LIMIT, **how)
             errors.seek(0)
             said = printed.decode(errors="replace")[-1500:] + errors.read().decode(errors="replace")[-500:]
     wanted = int(read(f"{folder}/status", "0"))
@@ -96,7 +110,10 @@ def main(names):
             if wrong:
                 failed += 1
                 print(wrong, flush=True)
-    print(f"{failed} failed" if failed else "all as stored; nothing here is proved: that is rt ci")
+    print(f"{failed} failed" if failed else "all as stored; nothing here is proved: that is rt ci", flush=True)
+    if not failed and not names:
+        # (it takes this process, so whatever ends ./mx ends it; the programs that were just built serve it)
+        os.execv(f"{TOP}/checks/all.sh", ["checks/all.sh"])
     return 1 if failed else 0
 
 
