@@ -80,7 +80,7 @@ def try_drawn(job):
 
 
 def examples(folder, names):
-    """The examples with their inputs, and the tests with numbers as theirs."""
+    """The examples with their inputs, and the tests with numbers as theirs; those of the library's names read none."""
     jobs = []
     for place in (f'{TOP}/examples/c', f'{TOP}/checks/cc'):
         for file in sorted(os.listdir(place)):
@@ -88,7 +88,7 @@ def examples(folder, names):
             if not file.endswith('.c') or names and name not in names:
                 continue
             inputs = [f'{place}/{name}.in' if os.path.exists(f'{place}/{name}.in') else None]
-            if place.endswith('checks/cc'):
+            if place.endswith('checks/cc') and not name.startswith('names_'):
                 inputs = [f'{folder}/{seed}' for seed in range(SEEDS)]
             label = f'test_{name}' if place.endswith('checks/cc') else name
             jobs.append((folder, label, f'{place}/{file}', inputs))

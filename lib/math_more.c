@@ -34,6 +34,11 @@ double nan(const char *text) {
     return NAN;
 }
 
+float nanf(const char *text) {
+    (void) text;
+    return NAN;
+}
+
 int ilogb(double x) {
     int exponent;
     if (x == 0 || !isfinite(x)) {
