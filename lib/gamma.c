@@ -78,7 +78,7 @@ double tgamma(double x) {
 }
 
 float tgammaf(float x) {
-    return tgamma(x);
+    return _float_of(tgamma(x));
 }
 
 /* The logarithm of the gamma function: of numbers near 2 the series with these coefficients, so that it has all its bits where it is
@@ -153,5 +153,5 @@ double lgamma(double x) {
 }
 
 float lgammaf(float x) {
-    return lgamma(x);
+    return _float_of(lgamma(x));
 }
