@@ -250,6 +250,7 @@ static void wholes(long many) {
         if (i % 16 == 0) x = floor(x) + 0.5;
         float y = x, z = i & 2 ? take_float(any) : take_float(large), w = take_float(large), whole, our_whole;
         int power = 0, our_power = 0;
+        if (isnan(z)) z = NAN;              /* the library has one */
         compare_number("ilogb", x, our_ilogb(x), ilogb(x)), compare_number("ilogbf", y, our_ilogbf(y), ilogbf(y));
         compare_number("lround", x, our_lround(x), lround(x)), compare_number("lroundf", y, our_lroundf(y), lroundf(y));
         compare_number("lrint", x, our_lrint(x), lrint(x)), compare_number("lrintf", y, our_lrintf(y), lrintf(y));
