@@ -210,9 +210,9 @@ static void compare_quotient(double x, double y, double got, int quotient, doubl
 }
 
 static void quotients(long many) {
-    static const struct range ranges[] = {{BITS, 0, 0}, {EXPONENT, -20, 40}, {WHOLE, -1000, 1000}, {EXPONENT, -3, 3}};
+    static const struct range ranges[] = {{BITS, 0, 0}, {EXPONENT, -20, 40}, {WHOLE, -1000, 1000}, {EXPONENT, -3, 3}, {EXPONENT, 1018, 1023}};
     for (long i = 0; i < many; i++) {
-        struct range range = ranges[i % 4];
+        struct range range = ranges[i % 5];
         double x = take(range), y = take(range);
         int ours = 0, theirs = 0;
         double got = our_remquo(x, y, &ours), wanted = remquo(x, y, &theirs);
