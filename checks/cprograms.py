@@ -61,7 +61,7 @@ def translate(files, to):
 
 
 def compile_native(source, to, more=()):
-    done = shell([GCC, '-static', '-O1', '-ffp-contract=off', '-w', *more, source, '-o', to, '-lm'])
+    done = shell([GCC, '-static', '-O1', '-ffp-contract=off', '-w', *more, source, '-o', to, '-lm', '-latomic'])
     if done.returncode:
         raise Fault(f'gcc: {done.stderr.decode()[:300]}')
 

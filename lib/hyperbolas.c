@@ -72,11 +72,11 @@ double atanh(double x) {
 }
 
 float sinhf(float x) {
-    return sinh(x);
+    return _float_of(sinh(x));
 }
 
 float coshf(float x) {
-    return cosh(x);
+    return _float_of(cosh(x));
 }
 
 float tanhf(float x) {

@@ -1,6 +1,7 @@
 /* Integers: absolute values, quotients, and numbers that are read from text. */
 #include <ctype.h>
 #include <errno.h>
+#include <inttypes.h>
 #include <limits.h>
 #include <stdlib.h>
 
@@ -153,4 +154,20 @@ long atol(const char *text) {
 
 long long atoll(const char *text) {
     return strtoll(text, NULL, 10);
+}
+
+intmax_t imaxabs(intmax_t number) {
+    return number < 0 ? -number : number;
+}
+
+imaxdiv_t imaxdiv(intmax_t dividend, intmax_t divisor) {
+    return (imaxdiv_t){dividend / divisor, dividend % divisor};
+}
+
+intmax_t strtoimax(const char *restrict text, char **restrict end, int base) {
+    return strtoll(text, end, base);
+}
+
+uintmax_t strtoumax(const char *restrict text, char **restrict end, int base) {
+    return strtoull(text, end, base);
 }

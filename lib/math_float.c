@@ -1,9 +1,10 @@
 /* Functions of float by those of double, of which one rounding more is not seen, and those that work on the bits. */
 #include "ieee.h"
+#include "wide.h"
 #include <math.h>
 
 float fdimf(float x, float y) {
-    return fdim(x, y);
+    return _float_of(fdim(x, y));
 }
 
 float rintf(float x) {
@@ -41,15 +42,15 @@ float frexpf(float x, int *exponent) {
 }
 
 float ldexpf(float x, int exponent) {
-    return scalbn(x, exponent);
+    return _float_of(scalbn(x, exponent));
 }
 
 float scalbnf(float x, int exponent) {
-    return scalbn(x, exponent);
+    return _float_of(scalbn(x, exponent));
 }
 
 float scalblnf(float x, long exponent) {
-    return scalbn(x, exponent);
+    return _float_of(scalbn(x, exponent));
 }
 
 int ilogbf(float x) {

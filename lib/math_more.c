@@ -34,6 +34,11 @@ double nan(const char *text) {
     return NAN;
 }
 
+float nanf(const char *text) {
+    (void) text;
+    return NAN;
+}
+
 int ilogb(double x) {
     int exponent;
     if (x == 0 || !isfinite(x)) {
@@ -70,6 +75,21 @@ double nextafter(double x, double y) {
     return number.value;
 }
 
+#define LARGE_DIVISOR 0x1p1020      /* eight times more may be out of range */
+#define SMALLER 0x1p-4
+
+/* What is left of x, of which the multiples of the divisor are taken that are below it, and the last bits of their number. */
+static double rest_and_count(double x, double divisor, int *count) {
+    double rest = fmod(x, 8 * divisor);
+    *count = 0;
+    for (int step = 4; step; step >>= 1)
+        if (rest >= step * divisor) {
+            rest -= step * divisor;
+            *count += step;
+        }
+    return rest;
+}
+
 /* The remainder is nearest to 0, and the quotient even where two are as near; of the quotient the last bits are kept. */
 double remquo(double x, double y, int *quotient) {
     *quotient = 0;
@@ -77,26 +97,22 @@ double remquo(double x, double y, int *quotient) {
         return x + y;
     if (isinf(x) || y == 0)
         return _domain_error();
-    int is_negative = !signbit(x) != !signbit(y);
-    double magnitude = fabs(x), divisor = fabs(y);
-    double rest = divisor <= 0x1p1020 ? fmod(magnitude, 8 * divisor) : magnitude;
-    int count = 0;
-    for (int step = 4; step; step >>= 1)
-        if (divisor <= 0x1p1020 && rest >= step * divisor) {
-            rest -= step * divisor;
-            count += step;
-        }
-    while (rest >= divisor) {
-        rest -= divisor;
-        count++;
+    int is_negative = !signbit(x) != !signbit(y), count = 0;
+    double rest = fabs(x), divisor = fabs(y), scale = 1;
+    if (isinf(divisor) || (divisor >= LARGE_DIVISOR && rest < divisor / 2))
+        return x;
+    if (divisor >= LARGE_DIVISOR) {
+        rest *= SMALLER;
+        divisor *= SMALLER;
+        scale = 1 / SMALLER;
     }
+    rest = rest_and_count(rest, divisor, &count);
     if (rest > divisor - rest || (rest == divisor - rest && count & 1)) {
         rest -= divisor;
         count++;
     }
     *quotient = is_negative ? -(count & 7) : count & 7;
-    if (rest == 0)
-        rest = 0;
+    rest = rest == 0 ? 0 : rest * scale;
     return signbit(x) ? -rest : rest;
 }
 

@@ -83,19 +83,19 @@ double hypot(double x, double y) {
 }
 
 float expf(float x) {
-    return exp(x);
+    return _float_of(exp(x));
 }
 
 float exp2f(float x) {
-    return exp2(x);
+    return _float_of(exp2(x));
 }
 
 float expm1f(float x) {
-    return expm1(x);
+    return _float_of(expm1(x));
 }
 
 float powf(float x, float y) {
-    return pow(x, y);
+    return _float_of(pow(x, y));
 }
 
 float cbrtf(float x) {
@@ -103,5 +103,5 @@ float cbrtf(float x) {
 }
 
 float hypotf(float x, float y) {
-    return hypot(x, y);
+    return _float_of(hypot(x, y));
 }

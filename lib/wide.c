@@ -72,6 +72,13 @@ double _double_of(struct wide x) {
     return number.value;
 }
 
+float _float_of(double x) {
+    float rounded = x;
+    if (rounded == 0 ? x != 0 : isinf(rounded) && isfinite(x))
+        errno = ERANGE;
+    return rounded;
+}
+
 int _wide_is_less(struct wide left, struct wide right) {
     if (!left.significand || !right.significand)
         return left.significand < right.significand;

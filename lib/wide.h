@@ -28,6 +28,7 @@ uint64_t _sum_of_powers(const uint64_t *coefficient, int count, uint64_t x, int 
 
 struct wide _wide_of(double x);                 /* exact */
 double _double_of(struct wide x);               /* rounded to nearest; sets errno where the range of double is left */
+float _float_of(double x);                      /* likewise, for the range of float */
 struct wide _wide_normal(struct wide x);        /* with the first bit of the significand set */
 struct wide _wide_add(struct wide left, struct wide right);
 struct wide _wide_subtract(struct wide left, struct wide right);

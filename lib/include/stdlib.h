@@ -53,6 +53,14 @@ div_t div(int dividend, int divisor);
 ldiv_t ldiv(long dividend, long divisor);
 lldiv_t lldiv(long long dividend, long long divisor);
 
+/* In the locale C a character is one byte. */
+#define MB_CUR_MAX 1
+int mblen(const char *text, size_t count);
+int mbtowc(wchar_t *__restrict to, const char *__restrict text, size_t count);
+int wctomb(char *to, wchar_t c);
+size_t mbstowcs(wchar_t *__restrict to, const char *__restrict text, size_t count);
+size_t wcstombs(char *__restrict to, const wchar_t *__restrict text, size_t count);
+
 int rand(void);
 void srand(unsigned int seed);
 int rand_r(unsigned int *seed);

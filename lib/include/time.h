@@ -22,6 +22,7 @@ struct tm *localtime(const time_t *time);
 struct tm *gmtime_r(const time_t *__restrict time, struct tm *__restrict to);
 struct tm *localtime_r(const time_t *__restrict time, struct tm *__restrict to);
 time_t mktime(struct tm *parts);
+size_t strftime(char *__restrict to, size_t room, const char *__restrict format, const struct tm *__restrict parts);
 char *asctime(const struct tm *parts);
 char *ctime(const time_t *time);
 

@@ -1,0 +1,2 @@
+#define PART show_atomics
+#include "names_of_the_library.h"
