@@ -63,6 +63,8 @@ CHECKS = (
     Check("style", ("style.py",)),
     Check("links", ("links.py",)),
     Check("editors", ("editors.py",)),
+    Check("tables", ("tables.py",)),
+    Check("viewer", ("viewer.py",)),
     Check("lint", ("lint.sh",)),
     Check("completions", ("completions.sh",)),
     Check("shells", ("shells.sh",)),
@@ -76,6 +78,8 @@ CHECKS = (
     Check("messages", ("messages.py",), ("mx_run", "mx_lab")),
     Check("package", ("package.py",), ("mx_run", "mx_lab"), tools=("dpkg-deb",)),
     Check("tutorial", ("tutorial.py",), PROGRAMS),
+    Check("exercises", ("exercises.py",), ("mx_run", "mx_lab")),
+    Check("language server", ("lsp.py",), ("mx_run", "mx_lab")),
     # the laboratory
     Check("arguments", ("words.sh",), ("mx_lab",)),
     Check("plans", ("planned.sh",), ("mx_run", "mx_lab")),
@@ -88,6 +92,7 @@ CHECKS = (
     Check("C commands", ("cc_uses.sh",), ("mx_run", "mx_cc"), 15, tools=MIPS),
     Check("library", ("embed.sh",), ("mx_run",), tools=("cc", "c++", "ar", "nm", "readelf")),
     Check("Python", ("python.sh",), ("mx_lab",)),
+    Check("schedulers", ("evaluate.py",), ("mx_run", "mx_lab")),
     # processes that are ended, and files that are written meanwhile
     Check("proved", ("proved.py",), is_alone=True, tools=TINY),
     Check("processes", ("processes.py",), is_alone=True, tools=TINY),

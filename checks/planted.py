@@ -53,6 +53,18 @@ CASES = (
     Case("refusals", "refusals.py", "an edit that is not refused", """
         name=$(head -n 1 checks/refused.txt | cut -d ' ' -f 1)
         echo "must-fail $name.edit: accepted" >log; checks/refusals.py log""", ("not refused",)),
+    Case("tables", "tables.py", "another range of an option", "plant crates/lab_line/src/table.rt 's/most: MOST_DRAWN/most: MOST_BUDGET/'; checks/tables.py",
+         ("FAILED: help of draw --cycles",)),
+    Case("tables", "tables.py", "a command that ./mx does not call", "plant mx 's/ | gen | soak)$/ | gen)/'; checks/tables.py", ("FAILED: ./mx calls soak",)),
+    Case("viewer", "viewer.py", "another letter of the shared part", """
+        plant tools/serve/page.html '/==== tools.serve.viewer.js ====/,/====/s/function /Function /'; checks/viewer.py""", ("FAILED",)),
+    Case("exercises", "exercises.py", "another point of an exercise", """
+        plant exercises/01-name/exercise.json 's/"points": 6/"points": 5/'; checks/exercises.py""", ("FAILED: 01-name: as stored",)),
+    Case("exercises", "exercises.py", "a laboratory that fails", "MX_LAB=/bin/false checks/exercises.py", ("FAILED",)),
+    Case("language server", "lsp.py", "another range", """
+        plant tools/lsp.py 's/found\\["column"\\] - 1/found["column"]/'; checks/lsp.py""", ("FAILED: its range",)),
+    Case("schedulers", "evaluate.py", "an interval of a normal distribution", """
+        plant python/zanderanvil/evaluation.py 's/12.706/1.960/'; checks/evaluate.py""", ("FAILED: the interval of 2 differences",)),
     Case("plan cases", "plans.py", "another line", "plant crates/test_plan_cases/data/plans.txt '5s/greedy/greedier/'; checks/plans.py",
          ("FAILED: line 5 of plans.txt",)),
     Case("caches", "caches.py", "another number of misses", """

@@ -116,6 +116,9 @@ OWN = {
     "install": Command("mx", "PREFIX", "proves the toolchain and the laboratory, and puts them below a folder"),
     "package": Command("mx", "DIR", "makes a Debian package of the proved toolchain and laboratory in a folder", (
         Option("--unproved", "", "packages the programs that are built without proofs, and says so in the package's version"),)),
+    "grade": Command("mx", "EXERCISE SUBMISSION", "grades a submission of an exercise, and says why each point is lost (docs/EXERCISES.md)", (
+        Option("--as", "FORM", "text or json (text)"),)),
+    "lsp": Command("mx", "", "a language server, which an editor starts (editors/README.md)"),
     "library": Command("mx", "DIR", "leaves a proved library and its C header in a folder (docs/LIBRARY.md)"),
 }
 
@@ -123,7 +126,9 @@ OWN = {
 def help_of(name):
     """Returns the help of a command: its words, its options with their ranges and defaults."""
     command = COMMANDS.get(name) or OWN[name]
-    lines = [f"{name} {command.names}: {command.text}", "", f"usage: ./mx {name} {'[OPTIONS] ' if command.options else ''}{command.names}"]
+    called = f"{name} {command.names}".strip()
+    usage = f"./mx {name} {'[OPTIONS] ' if command.options else ''}{command.names}".strip()
+    lines = [f"{called}: {command.text}", "", f"usage: {usage}"]
     if command.options:
         wide = max(len(f"{it.name} {it.value}") for it in command.options)
         lines += ["", "options (and what holds without them):"]
