@@ -211,7 +211,7 @@ const heldIn = (range, stage, n, at) => {
   const moved = lastMoving(range, at), row = moved < 0 ? null : range.rowsAt(moved).find(it => cellOf(signAt(it, moved)).stage === n);
   if (!row) return { cells: [stage, '', '', '', 'empty; nothing moves in a stalled cycle'] };
   const word = range.listing.get(row.address);
-  return { row, cells: [stage, nameOf(range, row.address), word ? word.text : '', word ? word.origin : '', 'holds it: nothing moves until the fetch in IF has its word'] };
+  return { row, cells: [stage, nameOf(range, row.address), word ? word.text : '', word ? word.origin : '', 'holds it: nothing moves until IF has its word'] };
 };
 
 // ---- the picture ----
