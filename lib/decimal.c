@@ -62,7 +62,71 @@ static void half(struct decimal *number, int times) {
     trim(number);
 }
 
+#define LARGE_POWER 64          /* of which multiples are in a table */
+#define FACTOR_LIMBS 4          /* of a number that is multiplied by one of them: so many products of limbs fit a sum */
+
+/* Where the limbs of 2^64, 2^128 .. 2^960 begin, and where the last ones end. */
+static const uint16_t large_start[] = {0, 3, 8, 15, 24, 35, 48, 63, 81, 101, 123, 147, 173, 201, 231, 264};
+#define LARGE_POWERS (int) (sizeof large_start / sizeof *large_start - 1)
+
+static const uint32_t large_limbs[] = {
+    18, 446744073, 709551616, 340, 282366920, 938463463, 374607431, 768211456, 6277, 101735386, 680763835, 789423207, 666416102,
+    355444464, 34512896, 115792, 89237316, 195423570, 985008687, 907853269, 984665640, 564039457, 584007913, 129639936, 2135987,
+    35920910, 82395021, 706169552, 114602704, 522356652, 769947041, 607822219, 725780640, 550022962, 86936576, 39402006,
+    196394479, 212279040, 100143613, 805079739, 270465446, 667948293, 404245721, 771497210, 611414266, 254884915, 640806627,
+    990306816, 726838724, 295606890, 549323807, 888004534, 353641360, 687318060, 281490199, 180639288, 113397923, 326191050,
+    713763565, 560762521, 606266177, 933534601, 628614656, 13, 407807929, 942597099, 574024998, 205846127, 479365820, 592393377,
+    723561443, 721764030, 73546976, 801874298, 166903427, 690031858, 186486050, 853753882, 811946569, 946433649, 6084096, 247,
+    330401473, 104534060, 502521019, 647190035, 131349101, 211839914, 63056092, 897225106, 531867170, 316401061, 243044989,
+    597671426, 16139339, 351365034, 306751209, 967546155, 101893167, 916606772, 148699136, 4562, 440617622, 195218641, 171605700,
+    291324893, 228507248, 559930579, 192517899, 275167208, 677386505, 912811317, 371399778, 642309573, 594407310, 688704721,
+    375437998, 252661319, 722214188, 251994674, 360264950, 82874192, 246603776, 84162, 174424773, 976115855, 838126082, 58648805,
+    436845170, 781751972, 494449099, 714468753, 293153818, 664580441, 415219631, 727501698, 851483408, 310916002, 940861810,
+    45036330, 430093599, 283578738, 55113571, 66620126, 149163476, 340692027, 772502016, 1552518, 92300708, 935148979, 488462502,
+    555256886, 17116696, 611139052, 38026050, 952686376, 886330878, 408828646, 477950487, 730697131, 73206171, 580044114,
+    814391444, 287275041, 181139204, 454976020, 849905550, 265285631, 598444825, 262999193, 716468750, 892846853, 816057856,
+    28638903, 918474961, 204418783, 933674838, 490721739, 172170652, 529441449, 702311064, 5352904, 159345284, 265824628,
+    375429359, 509218999, 720074396, 860757073, 376700445, 26041564, 579620512, 874307979, 212102266, 801261478, 978776245,
+    40008231, 745247475, 930553606, 737583615, 358787106, 474295296, 528294531, 135665246, 352339784, 916516606, 518847326,
+    36121522, 127960709, 26673902, 556724859, 474417255, 887657187, 894674394, 993257128, 678882347, 559502685, 537250538,
+    978462939, 576908386, 683999005, 84168731, 517676426, 441053024, 232908211, 188404148, 28292751, 561738838, 396898767,
+    36476489, 538580897, 737998336, 9, 745314011, 399999080, 353382387, 875188310, 876226857, 595007526, 867906457, 212948690,
+    766426102, 465615065, 882010259, 225304916, 231408668, 183459169, 865203094, 46577987, 296312653, 419531277, 699956473,
+    29870789, 655490053, 648352799, 593479218, 378873685, 597925394, 874945746, 363615468, 965612827, 738803104, 277547081,
+    828589991, 914110976,
+};
+
+/* Takes the lowest limb from a sum below 2^62. The quotient is found from a product with 2^30 / 10^9 - 1 and may be too small by a few. */
+static uint32_t take_limb(uint64_t *sum) {
+    uint32_t upper = *sum >> 30, quotient = upper + ((uint64_t) upper * 316718722 >> 32), limb = (uint32_t) *sum - quotient * LIMB;
+    for (; limb >= LIMB; quotient++)
+        limb -= LIMB;
+    *sum = quotient;
+    return limb;
+}
+
+/* Times 2^(64 * large), of a number of few limbs. */
+static void multiply(struct decimal *number, int large) {
+    const uint32_t *factor = large_limbs + large_start[large] - 1;      /* its last limb */
+    uint32_t from[FACTOR_LIMBS];
+    int count = large_start[large] - large_start[large - 1], limbs = number->past - number->first, last = number->past - 1;
+    uint64_t sum = 0;
+    for (int i = 0; i < limbs; i++)
+        from[i] = number->limb[last - i];
+    for (int place = 0; place < limbs + count; place++) {
+        int i = place < count ? 0 : place - count + 1, past = place < limbs ? place + 1 : limbs;
+        for (; i < past; i++)
+            sum += (uint64_t) from[i] * factor[i - place];
+        number->limb[last - place] = take_limb(&sum);
+    }
+    number->first = last - (limbs + count - 1);
+    trim(number);
+}
+
 void _decimal_scale(struct decimal *number, int exponent) {
+    int large = exponent / LARGE_POWER, is_large = large > 0 && large <= LARGE_POWERS && number->past - number->first <= FACTOR_LIMBS / 2;
+    if (is_large)
+        exponent -= large * LARGE_POWER;
     for (; exponent >= MOST_DOUBLINGS; exponent -= MOST_DOUBLINGS)
         twice(number, MOST_DOUBLINGS);
     if (exponent > 0)
@@ -71,6 +135,8 @@ void _decimal_scale(struct decimal *number, int exponent) {
         half(number, MOST_HALVINGS);
     if (exponent < 0)
         half(number, -exponent);
+    if (is_large)
+        multiply(number, large);
 }
 
 /* Whether the limbs from `index` on are all 0. */
