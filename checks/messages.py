@@ -349,12 +349,12 @@ def expanded(line):
 
 def examples_of(section):
     """Returns the examples of a section. The first one names the command of all; an example that names no file is the command's last."""
-    form = r"(?ms)^(Faulty|Corrected)(?:, in ([\w.]+))?( \(hexadecimal\))?(?:, by `([^`]+)`)?:\n\n((?:    [^\n]*\n|\n)+)"
+    form = r"(?ms)^(Faulty|Corrected)(?:, in ([\w.]+))?( \(hexadecimal\))?(?:, by `([^`]+)`)?:\n\n```\n(.*?)^```$"
     found = re.findall(form, section)
     _, _, first_form, first_command, _ = found[0] if found else ("",) * 5
     examples = []
     for kind, name, is_hexadecimal, command, text in found:
-        lines = re.sub(r"(?m)^    ", "", text).strip("\n").split("\n")
+        lines = text.strip("\n").split("\n")
         plain = "".join(f"{it}\n" for line in lines for it in expanded(line)).encode()
         content = bytes.fromhex("".join(lines)) if is_hexadecimal or first_form else plain
         command = command or first_command or "check s.s"

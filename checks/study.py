@@ -270,9 +270,9 @@ with the library. What `main` does not reach is left out. Each ran to its halt w
 
 ## The figures
 
-[study.csv](study.csv) has a line for each program: words and no-ops of the linked program and of its own functions; what the slots of
-branches (before, target, empty) and loads hold there, and the slots that gcc fills for MIPS-I (`-fdelayed-branch`), in per cent; the
-executed statements. Then come the cycles by the four plans of [`compare`](MEASUREMENTS.md#compare), the misses and squashes of the run,
+[study.csv](study.csv) has a line for each program: words and no-ops of the linked program and of its own functions. Then come what the
+slots of branches (before, target, empty) and loads hold there, and the slots that gcc fills for MIPS-I (`-fdelayed-branch`), in per cent. The
+last columns are the executed statements, the cycles by the four plans of [`compare`](MEASUREMENTS.md#compare), the misses and squashes of the run,
 which is `copies`, and its cycles by whose functions they are, in per cent.
 """
 

@@ -13,9 +13,12 @@ PAGES = (f"{os.path.dirname(HERE)}/docs/ERRORS.md", f"{HERE}/ERRORS.md")
 
 
 def section_of(text, code):
-    """Returns the section of a code, its heading first, or None."""
+    """Returns the section of a code, its heading first and its examples indented, or None."""
     found = re.search(rf"(?ms)^### ({re.escape(code)}\b[^\n]*\n.*?)(?=^##|\Z)", text, re.IGNORECASE)
-    return found.group(1).strip() if found else None
+    if not found:
+        return None
+    parts = re.split(r"(?m)^```\n", found.group(1).strip() + "\n")
+    return "".join(re.sub(r"(?m)^(?=.)", "    ", part) if at % 2 else part for at, part in enumerate(parts)).strip()
 
 
 def main(words):
