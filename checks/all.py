@@ -88,10 +88,10 @@ CHECKS = (
     Check("C commands", ("cc_uses.sh",), ("mx_run", "mx_cc"), 15, tools=MIPS),
     Check("library", ("embed.sh",), ("mx_run",), tools=("cc", "c++", "ar", "nm", "readelf")),
     Check("Python", ("python.sh",), ("mx_lab",)),
-    # processes that are ended, and files that are written meanwhile
-    Check("proved", ("proved.py",), is_alone=True, tools=TINY),
-    Check("processes", ("processes.py",), is_alone=True, tools=TINY),
-    Check("files", ("files.py",), ("mx_run", "mx_lab"), is_alone=True, tools=(*TINY, "readelf")),
+    # what is called proved, processes that are ended, and files that are written meanwhile
+    Check("proved", ("proved.py",), (), 15, tools=TINY),
+    Check("processes", ("processes.py",), tools=TINY),
+    Check("files", ("files.py",), ("mx_run", "mx_lab"), tools=(*TINY, "readelf")),
     # the workbench
     Check("workbench's faults", ("serve_faults.py",), ("mx_serve", "mx_cc"), is_alone=True),
     Check("clients", ("clients.py",), ("mx_serve", "mx_cc"), 15, is_alone=True),
@@ -294,7 +294,8 @@ def work_through(checks, runner):
 
     # (a check that is skipped needs no program)
     needed = [it for it in PROGRAMS if any(it in check.programs and all(map(shutil.which, check.tools)) for check in checks)]
-    together = [it for it in checks if not it.is_alone]
+    # (the longest first)
+    together = sorted((it for it in checks if not it.is_alone), key=lambda it: -it.minutes)
     jobs = max(2, min(8, os.cpu_count() or 2))
     with concurrent.futures.ThreadPoolExecutor(len(PROGRAMS)) as builders, concurrent.futures.ThreadPoolExecutor(jobs) as pool:
         building = {name: builders.submit(prepare, name, runner) for name in needed}
