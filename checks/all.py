@@ -352,6 +352,9 @@ def main(words):
     if "--list" in options:
         print("\n".join(known))
         return 0
+    # (whoever starts this may ignore the ends of processes, or have letters that cannot be written)
+    signal.signal(signal.SIGCHLD, signal.SIG_DFL)
+    sys.stdout.reconfigure(errors="replace")
     runner = Runner("--full" in options)
 
     def stop(_number, _frame):
