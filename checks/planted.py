@@ -120,7 +120,7 @@ CASES = (
          "plant tools/state.py 's/ and record\\[\"output\"\\] == sum_of(output))/)/'; checks/proved.py", ("FAILED",)),
     Case("processes", "processes.py", "a run that outlives ./mx",
          """plant mx 's/^        setpriv --pdeathsig TERM "\$@"$/        "$@"/; s/has setpriv; then setpriv --pdeathsig TERM/has setpriv; then/'
-         checks/processes.py""", ("FAILED",)),
+         MX_TIMES=yes checks/processes.py""", ("FAILED",)),
     Case("files", "files.py", "a file that is left", "plant tools/launch.py 's/        os.remove(fresh)$/        pass/'; checks/files.py", ("FAILED",)),
     Case("completions", "completions.sh", "texts that are not quoted", """
         plant tools/install.py "s/^    return \"'\" + text.replace.*/    return \"'\" + text + \"'\"/"; checks/completions.sh""", ("FAILED",)),
