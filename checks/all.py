@@ -35,6 +35,7 @@ MINUTE, NOMINAL, LOOP = 60, 0.25, 5_000_000
 # A last resort: checks that have not begun by then are skipped.
 LATEST = 90 * MINUTE
 LINES_OF_FAILURE = 40
+SECONDS_TO_CLEAR = 5
 
 
 class Check(NamedTuple):
@@ -190,10 +191,9 @@ class Runner:
             self.is_ended = True
             for it in self.running:
                 end(it)
-        for _ in range(50):
+        ends = time.monotonic() + SECONDS_TO_CLEAR
+        while os.path.exists(self.folder) and time.monotonic() < ends:
             shutil.rmtree(self.folder, ignore_errors=True)
-            if not os.path.exists(self.folder):
-                break
             time.sleep(0.1)
 
 
@@ -360,6 +360,9 @@ def main(words):
     def stop(_number, _frame):
         # at once, since a way out of the threads would wait for what they run
         runner.end()
+        if os.path.exists(runner.folder):
+            # (a thread may write there until this process is gone)
+            subprocess.Popen(["sh", "-c", 'sleep 1; exec rm -rf "$1"', "sh", runner.folder], start_new_session=True)
         os._exit(1)
 
     for number in (signal.SIGINT, signal.SIGTERM, signal.SIGHUP):
