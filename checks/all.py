@@ -35,6 +35,7 @@ MINUTE, NOMINAL, LOOP = 60, 0.25, 5_000_000
 # A last resort: checks that have not begun by then are skipped.
 LATEST = 90 * MINUTE
 LINES_OF_FAILURE = 40
+SECONDS_TO_CLEAR = 5
 
 
 class Check(NamedTuple):
@@ -93,10 +94,10 @@ CHECKS = (
     Check("library", ("embed.sh",), ("mx_run",), tools=("cc", "c++", "ar", "nm", "readelf")),
     Check("Python", ("python.sh",), ("mx_lab",)),
     Check("schedulers", ("evaluate.py",), ("mx_run", "mx_lab")),
-    # processes that are ended, and files that are written meanwhile
-    Check("proved", ("proved.py",), is_alone=True, tools=TINY),
-    Check("processes", ("processes.py",), is_alone=True, tools=TINY),
-    Check("files", ("files.py",), ("mx_run", "mx_lab"), is_alone=True, tools=(*TINY, "readelf")),
+    # what is called proved, processes that are ended, and files that are written meanwhile
+    Check("proved", ("proved.py",), (), 15, tools=TINY),
+    Check("processes", ("processes.py",), tools=TINY),
+    Check("files", ("files.py",), ("mx_run", "mx_lab"), tools=(*TINY, "readelf")),
     # the workbench
     Check("workbench's faults", ("serve_faults.py",), ("mx_serve", "mx_cc"), is_alone=True),
     Check("clients", ("clients.py",), ("mx_serve", "mx_cc"), 15, is_alone=True),
@@ -195,10 +196,9 @@ class Runner:
             self.is_ended = True
             for it in self.running:
                 end(it)
-        for _ in range(50):
+        ends = time.monotonic() + SECONDS_TO_CLEAR
+        while os.path.exists(self.folder) and time.monotonic() < ends:
             shutil.rmtree(self.folder, ignore_errors=True)
-            if not os.path.exists(self.folder):
-                break
             time.sleep(0.1)
 
 
@@ -299,7 +299,8 @@ def work_through(checks, runner):
 
     # (a check that is skipped needs no program)
     needed = [it for it in PROGRAMS if any(it in check.programs and all(map(shutil.which, check.tools)) for check in checks)]
-    together = [it for it in checks if not it.is_alone]
+    # (the longest first)
+    together = sorted((it for it in checks if not it.is_alone), key=lambda it: -it.minutes)
     jobs = max(2, min(8, os.cpu_count() or 2))
     with concurrent.futures.ThreadPoolExecutor(len(PROGRAMS)) as builders, concurrent.futures.ThreadPoolExecutor(jobs) as pool:
         building = {name: builders.submit(prepare, name, runner) for name in needed}
@@ -356,11 +357,17 @@ def main(words):
     if "--list" in options:
         print("\n".join(known))
         return 0
+    # (whoever starts this may ignore the ends of processes, or have letters that cannot be written)
+    signal.signal(signal.SIGCHLD, signal.SIG_DFL)
+    sys.stdout.reconfigure(errors="replace")
     runner = Runner("--full" in options)
 
     def stop(_number, _frame):
         # at once, since a way out of the threads would wait for what they run
         runner.end()
+        if os.path.exists(runner.folder):
+            # (a thread may write there until this process is gone)
+            subprocess.Popen(["sh", "-c", 'sleep 1; exec rm -rf "$1"', "sh", runner.folder], start_new_session=True)
         os._exit(1)
 
     for number in (signal.SIGINT, signal.SIGTERM, signal.SIGHUP):

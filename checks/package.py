@@ -27,8 +27,10 @@ def run(words, **more):
 
 
 def make(folder):
-    """Makes the package, and returns its path."""
+    """Makes the package as a user whose files are for nobody else, and returns its path."""
+    own = os.umask(0o077)
     said = run([f"{common.TOP}/mx", "package", "--unproved", folder])
+    os.umask(own)
     made = [it for it in os.listdir(folder) if it.endswith(".deb")]
     common.tell("the package is made", said.returncode == 0 and len(made) == 1 and os.listdir(folder) == made, said.stderr)
     return f"{folder}/{made[0]}" if made else None

@@ -20,9 +20,10 @@ import threading
 import time
 
 import common
-from clients import ENDLESS, SLOW_TEXT, SOURCE, Client, children_of, good, read_log
+from clients import ENDLESS, SLOW_TEXT, SOURCE, Client, children_of, good, read_log, wait_until
 from common import HAS_TIMES, IS_SAMPLE, PATIENCE, TOP, tell
 from serve import environment, need_kernel, serving
+from tiny import is_alive
 
 sys.path.insert(0, f"{TOP}/tools/serve")
 import directives  # noqa: E402
@@ -30,6 +31,8 @@ import fields  # noqa: E402
 import slots  # noqa: E402
 
 SILENT, SILENT_SECONDS, ANSWER_SECONDS = 64, 15 if IS_SAMPLE else 60, 2 if HAS_TIMES else 20
+# When a request that began before the silent connections sends its last bytes.
+SLOW_SECONDS = 4
 FEW_FILES, SOME_MEMORY = 28, 3 << 30
 # A text in C, and whether it is refused: what one reading of the numbers takes for a comment or a string, the other does not.
 PASSWD = '#include "/etc/passwd"\n'
@@ -154,17 +157,20 @@ def try_silent():
         client = Client(address)
         refill = Refill(client)
         refill.start()
-        took, wrong, ends = [], [], time.monotonic() + SILENT_SECONDS
         whole = client.post({"source": SOURCE})
         with client.connect() as slow:
             slow.sendall(whole[:-5])
+            took, wrong, is_whole, start = [], [], False, time.monotonic()
+            ends = start + SILENT_SECONDS
             while time.monotonic() < ends or len(took) < 10:
                 began = time.monotonic()
                 status, body = client.send(whole)
                 took.append(time.monotonic() - began)
                 if status != 200 or took[-1] > ANSWER_SECONDS:
                     wrong.append((status, body[:80], took[-1]))
-                if len(took) == 10:
+                # (the server waits ten seconds for the body)
+                if not is_whole and (len(took) == 10 or time.monotonic() > start + SLOW_SECONDS):
+                    is_whole = True
                     slow.sendall(whole[-5:])
                     status = client.receive(slow)[0]
                     tell("a request that was begun before keeps its connection", status == 200, status)
@@ -201,11 +207,12 @@ def try_memory():
 
     most = SOME_MEMORY // 4 * 3
     with tempfile.TemporaryFile("w+") as log, serving(errors=log, before=limit) as (process, address):
-        tell("the limit of all runs is reported", f"{most // slots.MEBIBYTE:,} MiB" in read_log(log), read_log(log))
+        tell("the limit of all runs is reported", wait_until(lambda: f"{most // slots.MEBIBYTE:,} MiB" in read_log(log)), read_log(log))
         client, seen = Client(address), []
         held = [client.connect() for _ in range(slots.MOST_SERVED)]
         for it in held:
             it.sendall(client.post({"source": ENDLESS, "budget": 100_000_000}))
+        wait_until(lambda: children_of(process), 20)
         ends = time.monotonic() + 3
         while time.monotonic() < ends:
             seen.append(len(children_of(process)))
@@ -255,7 +262,7 @@ def try_signals(folder):
                 status = process.wait(20 * PATIENCE)
             tell(f"{number.name} ends it", status == 0 and bool(runs), (status, runs))
             tell(f"{number.name} leaves no folder", not os.listdir(temporary), os.listdir(temporary))
-            tell(f"{number.name} leaves no run", not any(os.path.exists(f"/proc/{it}") for it in runs), runs)
+            tell(f"{number.name} leaves no run", wait_until(lambda: not any(map(is_alive, runs))), runs)
 
 
 def main():

@@ -148,6 +148,8 @@ def main(words):
         print("zanderanvil: error: the command dpkg-deb is missing: install the Debian package dpkg", file=sys.stderr)
         return FAILED
     number, commit, folder = given
+    # (what it holds is for all users of a machine, whatever this user hides from others)
+    os.umask(0o022)
     programs = install.proved_programs() if is_proved else built_programs()
     package = build(number if is_proved else f"{number}+unproved", commit, programs, is_proved, os.path.abspath(folder))
     print(f"{package} is made: apt install {package} installs it")

@@ -1,6 +1,7 @@
 #!/usr/bin/env python3
 """Proves and builds crates and those below them, side by side: each as soon as those that it depends on are done. Those that the
-first crate needs come first, and among them those on which the longest chain of others waits.
+first crate needs come first, and among them those on which the longest chain of others waits, by the seconds that each took when it
+was last proved here (.mx/seconds.json), or by its lines.
 
 usage: tools/prove.py [--for-check] CRATE .. LOG
 
@@ -15,6 +16,8 @@ has a line for each crate that is done. The exit status is 0 where all are prove
 While it runs it holds the lock .mx/prove.lock. A crate whose files, or those below it, change while it is proved is not recorded.
 """
 import concurrent.futures
+import contextlib
+import json
 import os
 import sys
 import time
@@ -22,7 +25,7 @@ import time
 from crates import TOP, crates_below, is_program, read_crates
 from libraries import Rooms, Statements
 from processes import Commands, end_by_signals, locked, print_failure
-from state import files_of
+from state import files_of, replace
 
 # On four processors; bench/README.md has the figures.
 ABOUT = "From nothing the toolchain takes some half an hour, and with the laboratory three quarters; what is done is kept"
@@ -33,6 +36,22 @@ MOST_JOBS = 4
 COST_OF_LIBRARIES, COST_OF_CODE, COST_OF_PROOF = 1500, 8, 1
 # A program is of one function, but its check reads the code of all crates below it, and clang compiles it: for a line there.
 COST_OF_COMPILING = 0.6
+
+# What each crate took when it was last proved, in seconds of processors.
+SECONDS = f"{TOP}/.mx/seconds.json"
+
+
+def read_seconds():
+    """Returns for crates that were proved here what each took; nothing where that was not kept, or is damaged."""
+    with contextlib.suppress(OSError, ValueError, TypeError, AttributeError), open(SECONDS, encoding="utf-8") as it:
+        return {crate: float(seconds) for crate, seconds in json.load(it).items()}
+    return {}
+
+
+def keep_seconds(taken):
+    """Keeps what crates took, beside what is known of others."""
+    with contextlib.suppress(OSError):
+        replace(SECONDS, json.dumps({**read_seconds(), **taken}, indent=0, sort_keys=True) + "\n")
 
 
 def places():
@@ -51,13 +70,14 @@ def lines(folder):
 
 
 def costs(crates, listed, folder):
-    """Returns about what the check of each of these crates takes."""
-    found, code = {}, {}
+    """Returns about what the check of each of these crates takes, in hundredths of seconds."""
+    found, code, known = {}, {}, read_seconds()
     for crate in crates:
         code[crate], proof = lines(f"{folder}/{crate}")
         found[crate] = COST_OF_LIBRARIES + COST_OF_CODE * code[crate] + COST_OF_PROOF * proof
         if is_program(f"{folder}/{crate}"):
             found[crate] += COST_OF_COMPILING * sum(code[it] for it in crates_below([crate], listed))
+        found[crate] = 100 * known.get(crate, found[crate] / 100)
     return found
 
 
@@ -84,10 +104,10 @@ def prove(prover, crates, asked, log):
     rank, began = ranks(prover.listed, asked), time.monotonic()
     chain = chains(crates, prover.listed, rank, prover.files)
     waits = {crate: [it for it in prover.listed[crate] if it in prover.listed] for crate in crates}
-    done, running, failed, idle = set(), {}, [], places()
+    done, running, failed, idle, taken = set(), {}, [], places(), {}
     with concurrent.futures.ThreadPoolExecutor(idle) as pool, prover.commands:
         while True:
-            started = {crate for crate, _ in running.values()} | done
+            started = {crate for crate, *_ in running.values()} | done
             ready = [it for it in crates if it not in started and done.issuperset(waits[it])]
             ready.sort(key=lambda it: (-rank[it], chain[it]))
             while ready and idle > 0 and not failed:
@@ -95,9 +115,10 @@ def prove(prover, crates, asked, log):
                 share = max(1, min(idle // len(ready), MOST_JOBS))
                 crate = ready.pop()
                 jobs = 1 if is_program(f"{prover.files}/{crate}") else share
-                running[pool.submit(prover.prove, crate, jobs)] = crate, jobs
+                running[pool.submit(prover.prove, crate, jobs)] = crate, jobs, time.monotonic()
                 idle -= jobs
             if not running:
+                keep_seconds(taken)
                 # (what went wrong comes last)
                 log.writelines(failed)
                 if failed:
@@ -106,10 +127,12 @@ def prove(prover, crates, asked, log):
                     print(f"mx: all {len(crates)} are proved", file=sys.stderr)
                 return not failed
             for run in concurrent.futures.wait(running, return_when=concurrent.futures.FIRST_COMPLETED).done:
-                (crate, jobs), (is_proved, said) = running.pop(run), run.result()
+                (crate, jobs, start), (is_proved, said) = running.pop(run), run.result()
                 idle += jobs
                 if is_proved:
                     log.write(said)
+                    if said:
+                        taken[crate] = round((time.monotonic() - start) * jobs, 1)
                     done.add(crate)
                     how = f"is done, {len(done)} of {len(crates)},"
                 else:
