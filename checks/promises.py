@@ -17,7 +17,7 @@ PAGE = ROOT / "docs/PROMISES.md"
 HELPERS = ("test_", "bench_")
 SECTION = re.compile(r"(?s)<!-- crates -->\n(.*?)<!-- end -->")
 FUNCTION = re.compile(r"(?ms)^( *)pub (?:const )?(?:extern \"C\" )?fn (\w+)\b(.*?)^\1(?:\{|\}|    \{\})")
-CODE = re.compile(r"`([^`]+)`")
+CODE = re.compile(r"`([^`\n]+)`")
 PROMISE = re.compile(r"(?m)^\| ([^|]+) \| ([^|]+) \|(?: [^|]+ \|)?$")
 PROVED_OF = "## What is proved of the crates"
 # What a row may name that is no function: states, statuses and programs of other people.
@@ -43,10 +43,10 @@ def numbers():
     """Returns how many public functions each crate has, and how many of them have a contract."""
     found = [(crate, *contracts_of(crate)) for crate in crates() if not crate.startswith(HELPERS)]
     functions, proved = sum(row[1] for row in found), sum(row[2] for row in found)
-    others = ", ".join(f"`{crate}` {own} of {number}" for crate, number, own in found if own < number)
+    others = "\n".join(f"{crate:<17}{own:>3} of {number}" for crate, number, own in found if own < number)
     none = ", ".join(f"`{crate}`" for crate, number, _ in found if not number)
-    return (f"{len(found)} crates have {functions:,} public functions, of which {proved:,} have a contract. No public function: {none}. Some without one:"
-            f" {others}. In every other crate each public function has one.\n")
+    return (f"{len(found)} crates have {functions:,} public functions, of which {proved:,} have a contract. No public function: {none}. Some without a"
+            f" contract:\n\n```text\n{others}\n```\n")
 
 
 def known():
