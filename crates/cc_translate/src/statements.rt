@@ -1,18 +1,15 @@
 //! The translation of one statement, by itself and its plan.
 
-use crate::effects::{HI, bit};
-use crate::fusing::tested_by;
 use crate::memory::{
     FIRST, SECOND, add_constant, call_at, constant, copy, is_misaligned, is_null, jump_at,
     load_statement, store_statement,
 };
-use crate::output::{Output, Routine};
-use crate::places::{FRAME_WORDS, STACK_WORDS};
-use crate::plan::{Comparison, Place, Planned, Step};
+use cc_emit::{Output, Routine};
 use cc_lines::{
     Condition, Instruction, LinkFrom, Long, Operation, Refusal, Register, Shift, Source, Special,
     Width,
 };
+use cc_plan::{Comparison, FRAME_WORDS, HI, Place, Planned, STACK_WORDS, Step, bit, tested_by};
 use cc_program::{Function, Meaning, Program};
 use cc_rules::{quarter, special_register};
 use std::alloc::AllocError;
@@ -377,7 +374,7 @@ fn end_address(
     base: Register,
     offset: u32,
 ) -> Result<(), AllocError> {
-    out.ends.insert(offset)?;
+    out.keep_end(offset)?;
     out.statement_with("ld k.end.@[r0],r%", i64::from(offset), &[rd.0])?;
     if base == Register::ZERO {
         return Ok(());

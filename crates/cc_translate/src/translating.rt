@@ -4,9 +4,7 @@ ghost use Rattle.cc_translate.specs.Errors.{IsTooMany};
 
 use crate::error::TranslateError;
 use crate::functions::translate_function;
-use crate::output::Output;
-use crate::routines::put_routines;
-use crate::words::{end_of, put_data};
+use cc_emit::{Output, end_of, put_data, put_routines};
 use cc_program::{Fault, Program, Reader};
 use cc_rules::FIRST_BYTE;
 use std::alloc::{AllocError, Global};

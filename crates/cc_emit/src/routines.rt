@@ -327,7 +327,7 @@ fn need_called(out: &mut Output) -> Result<(), AllocError> {
 }
 
 /// Adds the routines that are called.
-pub(crate) fn put_routines(out: &mut Output) -> Result<(), AllocError> {
+pub fn put_routines(out: &mut Output) -> Result<(), AllocError> {
     need_called(out)?;
     for which in &ROUTINES {
         if out.needs(*which) {

@@ -7,10 +7,10 @@ use cc_program::{Function, Item, Meaning, Program};
 use cc_rules::{byte_of, in_reach, is_last, quarter};
 
 /// The register with the stack pointer / 4.
-pub(crate) const STACK_WORDS: u8 = 28;
+pub const STACK_WORDS: u8 = 28;
 
 /// The register with the frame pointer / 4, in functions that have one.
-pub(crate) const FRAME_WORDS: u8 = 23;
+pub const FRAME_WORDS: u8 = 23;
 
 /// The registers that take quotients of pointers in any function.
 const FIRST_QUOTIENT: u8 = 22;
