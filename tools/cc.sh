@@ -270,10 +270,33 @@ add_option() {
     esac
 }
 
+# On a terminal, says every five seconds that the program is running, until it is ended.
+tell_progress() {
+    [ -t 2 ] || return 0
+    (
+        seconds=0
+        while sleep 5; do
+            seconds=$((seconds + 5))
+            echo "mx: running for $seconds seconds" >&2
+        done
+    ) &
+    progress=$!
+}
+
+# Ends what says that the program is running.
+end_progress() {
+    [ -z "$progress" ] || kill "$progress" 2>/dev/null
+    progress=
+}
+
 # Runs $work/program with the options of `run` that follow, which leaves the report in $work/report.
 run_program() {
+    tell_progress
     # shellcheck disable=SC2086
     MX_GONE=$work/program "$top/mx" ${MX_FLAGS-} run "$work/program" "$@" >"$work/report"
+    ran=$?
+    end_progress
+    return $ran
 }
 
 # The line of C of the call that left the address $1 of the linked program, and the function: the call is three words before it, since
@@ -330,7 +353,8 @@ end_like_program() {
 [ $# -ge 2 ] || fail "usage: $use_cc, or $use_c" 2
 command -v "$gcc" >/dev/null 2>&1 || fail 'install the Debian package gcc-mips-linux-gnu' 10
 work=$(mktemp -d) || exit 10
-trap 'rm -rf "$work"' EXIT
+progress=
+trap 'end_progress; rm -rf "$work"' EXIT
 trap 'exit 10' HUP INT TERM
 command=$2
 shift 2
