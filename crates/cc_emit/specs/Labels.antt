@@ -15,6 +15,7 @@ labels =
     ∷ (codes "m.sll", routine.ShiftLeft)
     ∷ (codes "m.srl", routine.ShiftRight)
     ∷ (codes "m.sra", routine.ShiftArithmetic)
+    ∷ (codes "m.rol", routine.RotateLeft)
     ∷ (codes "m.trap", routine.Trap)
     ∷ (codes "m.zero", routine.Zero)
     ∷ (codes "m.null", routine.Null)

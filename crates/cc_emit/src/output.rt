@@ -2,7 +2,7 @@
 ghost use Rattle.std.specs.Prelude.{◌≡◌, ◌++◌, Some, OnOk};
 ghost use Rattle.cc_emit.specs.Labels.{labelled};
 
-use cc_lines::Refusal;
+use cc_lines::{Refusal, is_numbered};
 use cc_program::Symbols;
 use indexmap::IndexSet;
 use itoa::Buffer;
@@ -20,6 +20,7 @@ pub enum Routine {
     ShiftLeft,
     ShiftRight,
     ShiftArithmetic,
+    RotateLeft,
     /// What ends the program at a trap, a quotient by 0, a load or a store at a null pointer, and a full stack.
     Trap,
     Zero,
@@ -28,7 +29,7 @@ pub enum Routine {
 }
 
 /// All routines, in the order in which they stand in the text.
-pub(crate) static ROUTINES: [Routine; 12] = [
+pub(crate) static ROUTINES: [Routine; 13] = [
     Routine::Low,
     Routine::SignedProduct,
     Routine::Product,
@@ -37,6 +38,7 @@ pub(crate) static ROUTINES: [Routine; 12] = [
     Routine::ShiftLeft,
     Routine::ShiftRight,
     Routine::ShiftArithmetic,
+    Routine::RotateLeft,
     Routine::Trap,
     Routine::Zero,
     Routine::Null,
@@ -57,6 +59,7 @@ impl Routine {
             Routine::ShiftLeft => "m.sll",
             Routine::ShiftRight => "m.srl",
             Routine::ShiftArithmetic => "m.sra",
+            Routine::RotateLeft => "m.rol",
             Routine::Trap => "m.trap",
             Routine::Zero => "m.zero",
             Routine::Null => "m.null",
@@ -272,6 +275,11 @@ impl Output {
 
     /// Adds the name of a symbol that belongs to the text with this number, or to all where that is 0.
     fn owned_name(&mut self, name: &[u8], owner: u32) -> Result<(), AllocError> {
+        if is_numbered(name) {
+            self.put("_.n")?;
+            self.letters(name)?;
+            return self.owner(".", owner);
+        }
         if let [b'$', rest @ ..] = name {
             self.letters(rest)?;
             return self.owner(".", owner);

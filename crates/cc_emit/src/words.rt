@@ -361,6 +361,7 @@ fn shift_name(which: Routine) -> Option<&'static str> {
         Routine::ShiftLeft => Some("t.sll:\n"),
         Routine::ShiftRight => Some("t.srl:\n"),
         Routine::ShiftArithmetic => Some("t.sra:\n"),
+        Routine::RotateLeft => Some("t.rol:\n"),
         _ => None,
     }
 }

@@ -312,6 +312,7 @@ fn shift_by(out: &mut Output, op: Shift, rd: u8, rs: u8, count: u32) -> Result<(
         Shift::Left => out.statement_with("sh r0,r%,#@,r%", 32 - bits, &[rs, rd]),
         Shift::Right => out.statement_with("sh r%,r0,#@,r%", bits, &[rs, rd]),
         Shift::Arithmetic => out.statement_with("asr r%,#@,r%", bits, &[rs, rd]),
+        Shift::Rotate => out.statement_with("sh r%,r%,#@,r%", 32 - bits, &[rs, rs, rd]),
     }
 }
 
@@ -327,6 +328,7 @@ fn shift_by_register(
         Shift::Left => (Routine::ShiftLeft, "ld t.sll[r26],r26"),
         Shift::Right => (Routine::ShiftRight, "ld t.srl[r26],r26"),
         Shift::Arithmetic => (Routine::ShiftArithmetic, "ld t.sra[r26],r26"),
+        Shift::Rotate => (Routine::RotateLeft, "ld t.rol[r26],r26"),
     };
     out.need(which)?;
     out.lines(
