@@ -50,14 +50,25 @@ def word_anywhere(draw, result, first):
     return [f"addiu {result},$t7,{at + 3}", f"ulw {result},{draw.randrange(-3, 4)}({result})"]
 
 
+def branch(draw, result, first, second):
+    """Returns a branch by a comparison that nothing else reads, with instructions between them that need registers of their own."""
+    others = [it for it in REGISTERS if it not in (result, first, second)]
+    between = draw.choice((f"li {second},{number(draw)}", f"ulw {others[0]},bytes+{draw.randrange(BYTES - 8)}", f"sb {others[1]},bytes+3",
+                           f"rol {others[2]},{first},{second}", f"mul {others[3]},{first},{number(draw)}"))
+    compared = f"{draw.choice(SETS)} {result},{first},{draw.choice((second, number(draw)))}"
+    return [compared, between, f"{draw.choice(('bnez', 'beqz'))} {result},1f", f"addiu {second},{second},1", f"1: li {result},{number(draw)}"]
+
+
 def drawn(draw):
     """Returns the lines of one instruction, and of what it needs before."""
     result, first, second = (draw.choice(REGISTERS) for _ in range(3))
-    name = draw.choice(("mul", "abs", "rol", "ror", "word", "addu", "mult") + SETS + QUOTIENTS)
+    name = draw.choice(("mul", "abs", "rol", "ror", "word", "addu", "mult", "branch", "branch") + SETS + QUOTIENTS)
     if name == "abs":
         return [f"abs {result},{first}"]
     if name == "word":
         return word_anywhere(draw, result, first)
+    if name == "branch":
+        return branch(draw, result, *draw.sample([it for it in REGISTERS if it != result], 2))
     if name == "addu":
         return [f"addu {result},{first},{second}"]
     if name == "mult":

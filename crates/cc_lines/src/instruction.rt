@@ -11,7 +11,7 @@ impl Register {
     pub const ZERO: Register = Register(0);
 
     /// What instructions that stand for several use between them. No line may name it.
-    pub(crate) const BETWEEN: Register = Register(1);
+    pub const BETWEEN: Register = Register(1);
 
     /// Where a factor or a divisor is that is a number, as the product or the quotient takes its place.
     pub(crate) const LOW: Register = Register(24);

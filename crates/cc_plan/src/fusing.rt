@@ -105,7 +105,8 @@ fn comparison_before(
     from: usize,
     x: Register,
 ) -> Option<(usize, Comparison)> {
-    let mut touched = 0u64;
+    // It changes in each statement that needs a register of its own.
+    let mut touched = of(Register::BETWEEN);
     for back in 1..MOST_BETWEEN {
         let i = from.checked_sub(back)?;
         let item = items.get(i)?;
