@@ -53,6 +53,15 @@ main:
         jal     gather
         move    $a0,$a1
         jal     show
+        li      $t2,1000
+        li      $t3,1
+        sgt     $v0,$t2,70000           # compared in the branch, after an instruction that needs a register of its own
+        rol     $t4,$t3,$t2
+        bnez    $v0,3f
+        addiu   $t4,$t4,1
+3:      li      $v0,0
+        move    $a0,$t4
+        jal     show
         li      $t1,0x12345678
         rol     $a0,$t1,8
         jal     show
