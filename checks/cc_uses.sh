@@ -1,7 +1,8 @@
 #!/bin/bash
 # ./mx c and ./mx cc as README types them, and wrong uses of both, each with the status and the one line that it has to give;
-# that a wrong use writes no file and removes none; and the programs of checks/cc/cases (checks/cc_cases.py). It takes the programs
-# that ./mx takes, so it builds them where they are not there:
+# that a wrong use writes no file and removes none; the programs of checks/cc/cases (checks/cc_cases.py); 200 changed texts of
+# assembly (checks/cc_mutated.py), and 10 drawn ones (checks/cc_drawn.py). It takes the programs that ./mx takes, so it builds them
+# where they are not there:
 #     checks/cc_uses.sh
 # It needs the Debian package gcc-mips-linux-gnu.
 top=$(CDPATH='' cd -- "$(dirname -- "$0")/.." && pwd) || exit 1
@@ -65,7 +66,7 @@ grep -q '^cycles [0-9]' "$work/report" || tell 'c echo.c --report' 'no cycles'
 ./mx c "$work/echo.c" --budget 100 -- a </dev/null >"$work/told" 2>"$work/said"
 got=$?
 [ $got -eq 3 ] || tell 'c --budget 100' "status $got"
-grep -q -x 'mx: the program did not end within 100 cycles: --budget N gives it more, up to 100,000,000' "$work/said" || tell 'c --budget 100' "said $(cat "$work/said")"
+grep -q -x 'zanderanvil: error: the program did not end within 100 cycles: --budget N gives it more, up to 100,000,000' "$work/said" || tell 'c --budget 100' "said $(cat "$work/said")"
 # what is written is whole, is the same where two write at once, and its size is printed
 ./mx cc "$work/echo.c" -o "$work/one.s" 2>"$work/said" || tell 'cc echo.c' "status $?"
 grep -q -x "mx: $work/one.s: [0-9]* statements of at most 20,000, for [0-9]* instructions; [0-9]* data words" "$work/said" || tell 'cc echo.c' "said $(cat "$work/said")"
@@ -105,29 +106,33 @@ mkdir "$work/folder" && cp "$work/float.s" "$work/folder" || exit 1
 for command in cc c; do
     end=()
     [ $command = c ] || end=(-o out.s)
-    wrong 4 'mx: absent.c: there is no such file, or it cannot be read' $command absent.c "${end[@]}"
-    wrong 4 'mx: absent.s: there is no such file, or it cannot be read' $command absent.s "${end[@]}"
+    wrong 4 "zanderanvil: error: cannot read 'absent.c': no such file" $command absent.c "${end[@]}"
+    wrong 4 "zanderanvil: error: cannot read 'absent.s': no such file" $command absent.s "${end[@]}"
     wrong 1 "broken.c:2:12: error: 'count' undeclared (first use in this function)" $command broken.c "${end[@]}"
     wrong 1 'float.s:2: add.s: floating-point registers are not taken; compile with -msoft-float' $command float.s "${end[@]}"
     wrong 1 'folder/float.s:2: add.s: floating-point registers are not taken; compile with -msoft-float' $command folder/float.s "${end[@]}"
     wrong 1 'system.s:3: syscall: an instruction of the system' $command system.s "${end[@]}"
     wrong 1 'with a blank [0-9].c:3: jal: a symbol that is defined nowhere: f' $command 'with a blank [0-9].c' "${end[@]}"
-    wrong 4 'mx: *.c: there is no such file, or it cannot be read' $command '*.c' "${end[@]}"
+    wrong 4 "zanderanvil: error: cannot read '*.c': no such file" $command '*.c' "${end[@]}"
+    wrong 4 "zanderanvil: error: cannot read 'folder': is a directory" $command folder "${end[@]}"
     wrong 1 'missing.c:3: jal: a symbol that is defined nowhere: f' $command missing.c "${end[@]}"
     wrong 1 'missing_datum.c: .word: a symbol that is defined nowhere: there' $command missing_datum.c "${end[@]}"
 done
 wrong 1 'second.c:2: main: a symbol that is defined twice' cc good.c second.c -o out.s
 wrong 1 'folder/float.s:2: add.s: floating-point registers are not taken; compile with -msoft-float' cc good.c folder/float.s -o out.s
-wrong 5 'mx: nowhere/out.s: this file cannot be written' cc good.c -o nowhere/out.s
-wrong 2 'mx: usage: ./mx cc [options of gcc] FILE.c .. -o OUT.s' cc good.c
-wrong 2 'mx: good.c: this file is read, and -o would write it' cc good.c -o good.c
-wrong 2 'mx: ./good.c: this file is read, and -o would write it' cc good.c second.c -o ./good.c
+wrong 5 "zanderanvil: error: cannot write 'nowhere/out.s'" cc good.c -o nowhere/out.s
+wrong 2 'zanderanvil: error: usage: ./mx cc [options of gcc] FILE.c .. -o OUT.s' cc good.c
+wrong 2 "zanderanvil: error: cannot write 'good.c': this file is read" cc good.c -o good.c
+wrong 2 "zanderanvil: error: cannot write './good.c': this file is read" cc good.c second.c -o ./good.c
 [ "$(wc -l <"$work/good.c")" -eq 3 ] || tell 'cc good.c -o good.c' 'the file was written'
 mkdir -p "$top/.mx/probe" "$work/probe"
-wrong 2 'mx: -O/../../probe: unknown level: expected -O0, -O1, -O2, -O3, -Os, -Og or -Ofast' cc -O/../../probe good.c -o out.s
-wrong 2 'mx: -c: this option of gcc is not taken: ./mx cc writes a source, and -E preprocesses' cc -c good.c -o out.s
+wrong 2 "zanderanvil: error: unknown level '-O/../../probe': expected -O0, -O1, -O2, -O3, -Os, -Og or -Ofast" cc -O/../../probe good.c -o out.s
+wrong 2 "zanderanvil: error: option '-c' of gcc is not taken: ./mx cc writes a source, and -E preprocesses" cc -c good.c -o out.s
 [ -d "$top/.mx/probe" ] || tell 'cc -O/../../probe' 'a folder was removed'
 rmdir "$top/.mx/probe"
 "$top/checks/cc_cases.py" || failed=$((failed + 1))
+"$top/checks/cc_mutated.py" 200 | tail -n 2
+[ "${PIPESTATUS[0]}" -eq 0 ] || tell 'changed assembly' 'see above'
+"$top/checks/cc_drawn.py" 10 || tell 'drawn assembly' 'see above'
 [ $failed -eq 0 ] && echo "C commands: compared $compared wrong uses, and the cases of C" || echo "C commands: compared $compared wrong uses; $failed failed"
 [ $failed -eq 0 ]

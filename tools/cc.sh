@@ -10,16 +10,20 @@ top=$1
 kept=${MX_LIBRARY:-$top/.mx}     # where the compiled library is kept
 gcc=mips-linux-gnu-gcc
 use_cc='./mx cc [options of gcc] FILE.c .. -o OUT.s'
-use_c='./mx c [options of gcc] FILE.c .. [--input FILE] [--budget N] [--interrupts FILE] [--report[=FILE]] [-- ARGUMENT ..]'
+use_c='./mx c [options of gcc] FILE.c .. [--checked] [--input FILE] [--budget N] [--interrupts FILE] [--report[=FILE]] [-- ARGUMENT ..]'
+# What --checked lets gcc test before each load and each store, with a trap where the test fails.
+checks='-fsanitize=null
+-fsanitize=alignment
+-fsanitize-undefined-trap-on-error'
 most_cycles=100000000       # the most that `run` takes
 most_statements=20,000
 
 # Whether a program is proved is not said where one is run like any other.
 export MX_QUIET=1
 
-# Says what is wrong, and ends with a status.
+# Says what is wrong in the form of all commands, and ends with a status.
 fail() {
-    echo "mx: $1" >&2
+    echo "zanderanvil: error: $1" >&2
     exit "$2"
 }
 
@@ -134,6 +138,16 @@ place_in_c() {
         END { if (split(place, it, " ")) print names[it[1]] ":" it[2] }' "$1"
 }
 
+# What C has that asks for the symbol which the fault $1 names, or nothing.
+feature_of() {
+    case $1 in
+        *': _flush_cache' | *': __clear_cache') echo ', which a nested function needs whose address is taken: its code would be on the stack' ;;
+        *': alloca') echo ', which alloca.h defines' ;;
+        *': __sync_'* | *': __atomic_'*) echo ', which operations of several threads need' ;;
+        *': __builtin_'*) echo ', which this gcc leaves to a library' ;;
+    esac
+}
+
 # Prints what $work/said has of a fault, by the names of the files as they were given, and by lines of C where they are C. In the
 # folder of the work a file has its number as its name, and the assembly of a file in C has `.s` after it.
 print_fault() {
@@ -148,7 +162,7 @@ print_fault() {
                 ;;
             "$number.s")
                 place=$(place_in_c "$work/$name" "$line")
-                echo "${place:-$file}:$rest"
+                echo "${place:-$file}:$rest$(feature_of "$rest")"
                 return
                 ;;
         esac
@@ -156,12 +170,17 @@ print_fault() {
     cat "$work/said"
 }
 
+# Ends where the file $1 cannot be read, and says why.
+need_file() {
+    [ -e "$1" ] || fail "cannot read '$1': no such file" 4
+    [ ! -d "$1" ] || fail "cannot read '$1': is a directory" 4
+    [ -r "$1" ] || fail "cannot read '$1': permission denied" 4
+}
+
 # Compiles the files of the list $files at the level $level with the options of the list $options, and translates them with
 # the library to $work/program. What follows are the arguments of the program.
 translate() {
-    for file in $files; do
-        if [ ! -f "$file" ] || [ ! -r "$file" ]; then fail "$file: there is no such file, or it cannot be read" 4; fi
-    done
+    for file in $files; do need_file "$file"; done
     names=
     number=0
     for file in $files; do
@@ -199,15 +218,15 @@ translate() {
 # Gives the file $1 what $work/program has: all of it, or nothing where it cannot be written.
 deliver() {
     if [ -e "$1" ] && [ ! -f "$1" ]; then
-        cat "$work/program" >"$1" || fail "$1: this file cannot be written" 5
+        cat "$work/program" >"$1" || fail "cannot write '$1'" 5
         return
     fi
-    whole=$(readlink -f -- "$1") || fail "$1: this file cannot be written" 5
-    room=$(mktemp "$(dirname -- "$whole")/.mx-XXXXXX" 2>/dev/null) || fail "$1: this file cannot be written" 5
+    whole=$(readlink -f -- "$1") || fail "cannot write '$1'" 5
+    room=$(mktemp "$(dirname -- "$whole")/.mx-XXXXXX" 2>/dev/null) || fail "cannot write '$1'" 5
     if [ -e "$whole" ]; then
         if [ ! -w "$whole" ]; then
             rm -f "$room"
-            fail "$1: this file cannot be written" 5
+            fail "cannot write '$1'" 5
         fi
         chmod --reference="$whole" "$room"
     else
@@ -215,13 +234,18 @@ deliver() {
     fi
     if ! cat "$work/program" >"$room" 2>/dev/null || ! mv -f "$room" "$whole"; then
         rm -f "$room"
-        fail "$1: this file cannot be written" 5
+        fail "cannot write '$1'" 5
     fi
 }
 
 # How large the translation is: its last line says so.
 print_size() {
-    tail -n 1 "$work/program" | sed -n "s|^; \([0-9]*\) statements, \([0-9]*\) instructions, \([0-9]*\) data words\$|mx: $1: \1 statements of at most $most_statements, for \2 instructions; \3 data words|p" >&2
+    tail -n 1 "$work/program" | LC_ALL=C awk -v name="$1" -v most="$most_statements" '
+        /^; [0-9]+ statements?, [0-9]+ instructions?, [0-9]+ data words?$/ {
+            sub(/^; /, "")
+            split($0, part, ", ")
+            print "mx: " name ": " part[1] " of at most " most ", for " part[2] "; " part[3]
+        }' >&2
 }
 
 # Reads an option of gcc that has the next word as its value. Answers whether it is one.
@@ -236,38 +260,67 @@ has_value() {
 add_option() {
     case $1 in
         -O | -O0 | -O1 | -O2 | -O3 | -Os | -Og | -Oz | -Ofast) level=$1 ;;
-        -O*) fail "$1: unknown level: expected -O0, -O1, -O2, -O3, -Os, -Og or -Ofast" 2 ;;
+        -O*) fail "unknown level '$1': expected -O0, -O1, -O2, -O3, -Os, -Og or -Ofast" 2 ;;
         -E) preprocess=-E ;;
         -c | -S | -M | -MM | -MD | -MMD | -MF* | -shared | -static | -r | -save-temps* | -pipe | -o*)
-            fail "$1: this option of gcc is not taken: ./mx cc writes a source, and -E preprocesses" 2
+            fail "option '$1' of gcc is not taken: ./mx cc writes a source, and -E preprocesses" 2
             ;;
         -l*) ;;
         *) options=$options$line_feed$1 ;;
     esac
 }
 
-# Runs $work/program with the options of `run` that follow, which leaves the report in $work/report.
-run_program() {
-    # shellcheck disable=SC2086
-    MX_GONE=$work/program "$top/mx" ${MX_FLAGS-} run "$work/program" "$@" >"$work/report"
+# On a terminal, says every five seconds that the program is running, until it is ended.
+tell_progress() {
+    [ -t 2 ] || return 0
+    (
+        seconds=0
+        while sleep 5; do
+            seconds=$((seconds + 5))
+            echo "mx: running for $seconds seconds" >&2
+        done
+    ) &
+    progress=$!
 }
 
-# The line of C of the call that left the address $1 of the linked program: the call is three words before it, since two follow it in
-# its delay slots.
+# Ends what says that the program is running.
+end_progress() {
+    [ -z "$progress" ] || kill "$progress" 2>/dev/null
+    progress=
+}
+
+# Runs $work/program with the options of `run` that follow, which leaves the report in $work/report.
+run_program() {
+    tell_progress
+    # shellcheck disable=SC2086
+    MX_GONE=$work/program "$top/mx" ${MX_FLAGS-} run "$work/program" "$@" >"$work/report"
+    ran=$?
+    end_progress
+    return $ran
+}
+
+# The line of C of the call that left the address $1 of the linked program, and the function: the call is three words before it, since
+# two follow it in its delay slots.
 line_called() {
     # shellcheck disable=SC2086
     "$top/mx" ${MX_FLAGS-} list "$work/program" 2>/dev/null | LC_ALL=C awk -v address="$(printf %08x $((0x$1 - 3)))" '
         FILENAME == "-" { if ($1 == address && $3 ~ /^[0-9]+$/) line = $3; next }
         FNR >= line { exit }
         /^; .*:[0-9]+$/ { place = substr($0, 3) }
-        END { print place }' - "$work/program"
+        /^_[^.].*:$/ { name = $0 }
+        END {
+            sub(/^_/, "", name)
+            sub(/(\.\.[0-9]+)?:$/, "", name)
+            gsub(/\.S\./, "$", name)
+            if (place != "") print place ": in " name
+        }' - "$work/program"
 }
 
 # Why a program was ended, which has this status in r2.
 reason_of() {
     case $1 in
         136) echo 'a division by zero' ;;
-        133) echo 'a trap, as of __builtin_trap' ;;
+        133) echo "$trapped" ;;
         139) echo 'a null pointer is used, or the stack is full' ;;
         *) echo 'a trap' ;;
     esac
@@ -285,7 +338,7 @@ end_like_program() {
     case $report in
         '') ;;
         -) { head -c "$((from - 1))" "$work/report"; tail -c "+$((from + count))" "$work/report"; } >&2 ;;
-        *) cp "$work/report" "$report" || fail "$report: this file cannot be written" 5 ;;
+        *) cp "$work/report" "$report" || fail "cannot write '$report'" 5 ;;
     esac
     [ "$(head -n 1 "$work/report")" = halted ] || fail "the program did not end within $budget cycles: --budget N gives it more, up to 100,000,000" 3
     status=$((0x$(sed -n 's/^r2 //p' "$work/registers" | head -n 1)))
@@ -300,7 +353,8 @@ end_like_program() {
 [ $# -ge 2 ] || fail "usage: $use_cc, or $use_c" 2
 command -v "$gcc" >/dev/null 2>&1 || fail 'install the Debian package gcc-mips-linux-gnu' 10
 work=$(mktemp -d) || exit 10
-trap 'rm -rf "$work"' EXIT
+progress=
+trap 'end_progress; rm -rf "$work"' EXIT
 trap 'exit 10' HUP INT TERM
 command=$2
 shift 2
@@ -341,7 +395,7 @@ case $command in
         fi
         [ -n "$target" ] || fail "usage: $use_cc" 2
         for file in $files; do
-            [ "$(readlink -f -- "$file")" != "$(readlink -f -- "$target")" ] || fail "$target: this file is read, and -o would write it" 2
+            [ "$(readlink -f -- "$file")" != "$(readlink -f -- "$target")" ] || fail "cannot write '$target': this file is read" 2
         done
         first=${files#"$line_feed"}
         first=${first%%"$line_feed"*}
@@ -352,6 +406,7 @@ case $command in
         ;;
     c)
         runs=
+        trapped='a trap, as of __builtin_trap'
         budget=$most_cycles
         report=
         input=
@@ -369,6 +424,10 @@ case $command in
                         *) runs=$runs$line_feed$1$line_feed$2 ;;
                     esac
                     shift
+                    ;;
+                --checked)
+                    options=$options$line_feed$checks
+                    trapped='a null pointer or a misaligned address is used, or a trap, as of __builtin_trap'
                     ;;
                 --report) report=- ;;
                 --report=?*) report=${1#--report=} ;;

@@ -1,22 +1,51 @@
 //! What is said where texts are not translated.
 
-use cc_lines::{Lines, MOST_LABELS, first_word, label_before, without_comment};
+use cc_lines::{Lines, MOST_LABELS, first_statement, first_word, label_before, without_comment};
 use cc_program::Fault;
 use cc_translate::TranslateError;
 use std::alloc::{AllocError, Global};
 
-/// The mnemonic or directive of the line with a number of a text, or its last label where it has labels alone.
-fn word_of(text: &[u8], number: u32) -> &[u8] {
+/// The line with a number of a text, without its comment.
+fn line_of(text: &[u8], number: u32) -> &[u8] {
     let mut lines = Lines::new(text);
     for _ in 1..number {
         if lines.next_line().is_none() {
             break;
         }
     }
-    let mut rest = match lines.next_line() {
+    match lines.next_line() {
         Some(line) => without_comment(line),
-        None => return &[],
-    };
+        None => &[],
+    }
+}
+
+/// Whether a statement names a symbol, if it is about one.
+fn is_about(statement: &[u8], symbol: Option<&[u8]>) -> bool {
+    match symbol {
+        Some(symbol) => {
+            !symbol.is_empty() && statement.windows(symbol.len()).any(|part| part == symbol)
+        }
+        None => true,
+    }
+}
+
+/// The statement of a line that a fault is of: that with its number, or the next one that names its symbol.
+fn statement_of<'a>(line: &'a [u8], fault: &Fault) -> &'a [u8] {
+    let mut rest = line;
+    for number in 0..=line.len() {
+        let (first, behind) = first_statement(rest);
+        let is_reached = number >= fault.statement as usize && is_about(first, fault.symbol);
+        if behind.is_empty() || is_reached {
+            return first;
+        }
+        rest = behind;
+    }
+    rest
+}
+
+/// The mnemonic or directive of a statement, or its last label where it has labels alone.
+fn word_of(statement: &[u8]) -> &[u8] {
+    let mut rest = statement;
     let mut label: &[u8] = &[];
     for _ in 0..MOST_LABELS {
         let Some((name, behind)) = label_before(rest) else {
@@ -45,7 +74,8 @@ fn fault_line(
     let place = format!(in alloc; ":{number}: ")?;
     line.extend_from_slice(place.as_bytes())?;
     if let Some(text) = texts.get(unit) {
-        line.extend_from_slice(word_of(*text, number))?;
+        let statement = statement_of(line_of(*text, number), fault);
+        line.extend_from_slice(word_of(statement))?;
     }
     line.extend_from_slice(b": ")?;
     line.extend_from_slice(fault.refusal.reason().as_bytes())?;

@@ -17,7 +17,7 @@ sentences =
     ∷ (codes "arithmetic on labels", refusal.LabelArithmetic)
     ∷ (codes "registers 1 and 22 to 28 are kept; compile with the options of lib/flags", refusal.KeptRegister)
     ∷ (codes "delay slots are not taken; compile with -fno-delayed-branch", refusal.DelaySlots)
-    ∷ (codes "a text without its end", refusal.BadText)
+    ∷ (codes "unterminated string", refusal.BadText)
     ∷ (codes "a character that a name may not have", refusal.BadName)
     ∷ (codes "a name that is too long", refusal.LongName)
     ∷ (codes "an instruction outside a function", refusal.OutsideFunction)

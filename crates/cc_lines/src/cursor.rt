@@ -4,6 +4,8 @@ ghost use Rattle.std.specs.List.{position, position_or_len, before_first, after_
 ghost use Rattle.cc_lines.specs.Bytes;
 ghost use Rattle.cc_lines.specs.Marks;
 
+use crate::quoted::escape;
+
 /// The lines of a text, with what their ends leave of a CR.
 #[derive(Drop)]
 pub struct Lines<'a> {
@@ -148,28 +150,64 @@ pub(crate) fn trimmed(text: &[u8]) -> &[u8]
     }
 }
 
+/// How many bytes behind the first of a text belong to it: those of a character constant, as `'a'` or `'\n'`.
+fn count_behind(text: &[u8]) -> usize {
+    match text {
+        [b'\'', b'\\', _, b'\'', ..] => 3,
+        [b'\'', _, b'\'', ..] => 2,
+        [b'\'', _, ..] => 1,
+        _ => 0,
+    }
+}
+
+/// The place of the first byte with this value outside quotes and character constants.
+fn place_outside(text: &[u8], mark: u8) -> Option<usize>
+    ensures { All (λ b. b ≢ mark) text.now → result ≡ None }
+{
+    let mut quoted = false;
+    let mut skipped = 0usize;
+    for (at, byte) in text.iter().enumerate() {
+        if skipped > 0 {
+            skipped -= 1;
+        } else if quoted && *byte == b'\\' {
+            skipped = 1;
+        } else if *byte == b'"' {
+            quoted = !quoted;
+        } else if !quoted && *byte == mark {
+            return Some(at);
+        } else if !quoted {
+            skipped = count_behind(text.get(at..).unwrap_or(&[]));
+        }
+    }
+    None
+}
+
 /// A line without what stands behind the first `#` outside quotes, and without blanks around it.
 pub fn without_comment(line: &[u8]) -> &[u8]
     ensures { All (λ b. b ≢ 35) line.now → result.now ≡ Bytes.trimmed line.now }
 {
-    let mut quoted = false;
-    let mut escaped = false;
-    for (at, byte) in line.iter().enumerate() {
-        if escaped {
-            escaped = false;
-        } else if quoted && *byte == b'\\' {
-            escaped = true;
-        } else if *byte == b'"' {
-            quoted = !quoted;
-        } else if *byte == b'#' && !quoted {
-            return trimmed(line.get(..at).unwrap_or(&[]));
-        }
+    match place_outside(line, b'#') {
+        Some(at) => trimmed(line.get(..at).unwrap_or(&[])),
+        None => trimmed(line),
     }
-    trimmed(line)
+}
+
+/// The first statement of a line without comment, which a `;` ends, and what stands behind that.
+pub fn first_statement(line: &[u8]) -> (&[u8], &[u8])
+    ensures first { All (λ b. b ≢ 59) line.now → result.0.now ≡ line.now }
+    ensures rest { All (λ b. b ≢ 59) line.now → result.1.now ≡ [] }
+{
+    match place_outside(line, b';') {
+        Some(at) => (
+            trimmed(line.get(..at).unwrap_or(&[])),
+            trimmed(line.get(at..).unwrap_or(&[]).get(1..).unwrap_or(&[])),
+        ),
+        None => (line, &[]),
+    }
 }
 
 /// The value of a digit in a base of at most 16.
-fn digit(byte: u8, base: u32) -> Option<u32>
+pub(crate) fn digit(byte: u8, base: u32) -> Option<u32>
     ensures below { IfSome result (λ d. d < base) }
 {
     let value = match byte {
@@ -203,10 +241,38 @@ fn digits(text: &[u8], base: u32) -> Option<u64>
     Some(value)
 }
 
+/// The byte of a character constant, which stands in `'`.
+fn character(text: &[u8]) -> Option<u64> {
+    match text {
+        [b'\'', b'\\', letter, b'\''] => escape(*letter).map(u64::from),
+        [b'\'', byte, b'\''] if *byte != b'\\' => Some(u64::from(*byte)),
+        _ => None,
+    }
+}
+
+/// Whether a text begins as a number does.
+pub(crate) fn begins_number(text: &[u8]) -> bool {
+    matches!(text, [b'0'..=b'9' | b'-' | b'+' | b'\'', ..])
+}
+
+/// Whether a text names a label that is a number: the last one before the line, as `1b`, or the next one, as `1f`.
+pub fn names_numbered(text: &[u8]) -> bool {
+    match text {
+        [digits @ .., b'b' | b'f'] => is_numbered(digits),
+        _ => false,
+    }
+}
+
+/// Whether a name is a number.
+pub fn is_numbered(name: &[u8]) -> bool {
+    !name.is_empty() && name.iter().all(|b| b.is_ascii_digit())
+}
+
 /// The number that a text spells, below 2^64, without a sign: decimal, octal after a `0`, binary after `0b`, hexadecimal after
-/// `0x`.
+/// `0x`, or the byte of a character constant.
 fn unsigned(text: &[u8]) -> Option<u64> {
     match text {
+        [b'\'', ..] => character(text),
         [b'0', b'x' | b'X', rest @ ..] => digits(rest, 16),
         [b'0', b'b' | b'B', rest @ ..] => digits(rest, 2),
         [b'0', _, ..] => digits(text, 8),

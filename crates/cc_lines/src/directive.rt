@@ -1,5 +1,6 @@
 //! Directives.
 
+use crate::constants::Constants;
 use crate::cursor::{Mark, number, split_at_byte, split_before, split_name, trimmed};
 use crate::operand::{Value, value_read};
 use crate::refusal::Refusal;
@@ -33,6 +34,8 @@ pub enum Directive {
     Align(u32),
     /// So many bytes with one value.
     Space { size: u32, fill: u8 },
+    /// A number so often, of so many bytes each.
+    Fill { count: u32, bytes: u8, value: u32 },
     /// Values of so many bytes each, which are at multiples of their size where they are `aligned`.
     Data { bytes: u8, aligned: bool },
     /// Quoted texts, ended by a byte 0 each or not.
@@ -43,6 +46,11 @@ pub enum Directive {
     Here,
     /// `.set reorder` and `.set noreorder`: whether jumps have no delay slots, or have.
     Reorder(bool),
+    /// `.set push` and `.set pop`: what `.set` said is kept, and said again.
+    PushSettings,
+    PopSettings,
+    /// A name for a number.
+    Constant(u32),
     /// The line of the source file with this number that the next statements come from.
     Location { file: u32, line: u32 },
     /// The name, in quotes, of the source file with this number.
@@ -75,13 +83,14 @@ enum Form {
     Align,
     ByteAlign,
     Space,
+    Fill,
     Set,
     Location,
     File,
 }
 
 /// The words of each form.
-const FORMS: [(&[&str], Form); 27] = [
+const FORMS: [(&[&str], Form); 29] = [
     (&[".loc"], Form::Location),
     (
         &[".word", ".long", ".int"],
@@ -158,6 +167,8 @@ const FORMS: [(&[&str], Form); 27] = [
     (&[".frame"], Form::Frame),
     (&[".mask"], Form::Mask),
     (&[".set"], Form::Set),
+    (&[".equ", ".equiv", ".eqv"], Form::Set),
+    (&[".fill"], Form::Fill),
     (&[".file"], Form::File),
     (
         &[
@@ -315,28 +326,34 @@ fn holds_code(text: &[u8]) -> bool {
 }
 
 /// `.set`: one name for another, or a mode of the assembler.
-fn set_read(text: &[u8]) -> Result<Directive, Refusal> {
-    if text == b"noreorder".as_slice() {
-        return Ok(Directive::Reorder(false));
-    }
-    if text == b"reorder".as_slice() {
-        return Ok(Directive::Reorder(true));
+fn set_read(text: &[u8], constants: &Constants<'_>) -> Result<Directive, Refusal> {
+    if let Some(mode) = meaning_of(&MODES, text) {
+        return Ok(mode);
     }
     let (name, target) = split_at_byte(text, b',');
     if target.is_empty() {
         return Ok(Directive::Ignored);
     }
-    alias_read(trimmed(name), trimmed(target))
+    alias_read(trimmed(name), trimmed(target), constants)
 }
 
-/// One name for another, or for where it is itself.
-fn alias_read(name: &[u8], target: &[u8]) -> Result<Directive, Refusal> {
+/// The modes of `.set` that matter.
+const MODES: [(&[&str], Directive); 4] = [
+    (&["noreorder"], Directive::Reorder(false)),
+    (&["reorder"], Directive::Reorder(true)),
+    (&["push"], Directive::PushSettings),
+    (&["pop"], Directive::PopSettings),
+];
+
+/// One name for another, for where it is itself, or for a number.
+fn alias_read(name: &[u8], target: &[u8], constants: &Constants<'_>) -> Result<Directive, Refusal> {
     if target == b".".as_slice() {
         return named(name, Directive::Here);
     }
-    match value_read(target)? {
+    match value_read(target, constants)? {
         Value::Symbol(0) => named(name, Directive::Alias),
-        _ => Err(Refusal::BadOperands),
+        Value::Number(value) => named(name, Directive::Constant(value)),
+        Value::Symbol(_) => Err(Refusal::BadOperands),
     }
 }
 
@@ -396,9 +413,44 @@ fn byte_align_read(text: &[u8]) -> Result<Directive, Refusal> {
     }
 }
 
+/// A number, or the name of one.
+fn counted(text: &[u8], constants: &Constants<'_>) -> Result<u32, Refusal> {
+    match value_read(text, constants)? {
+        Value::Number(value) => Ok(value),
+        Value::Symbol(_) => Err(Refusal::BadNumber),
+    }
+}
+
+/// `.fill 3,2,7`: so often a number of so many bytes, at most 8; of one byte and 0 where they are left out.
+fn fill_read(text: &[u8], constants: &Constants<'_>) -> Result<Directive, Refusal> {
+    let count = counted(first_part(text), constants)?;
+    let rest = split_at_byte(text, b',').1;
+    if rest.is_empty() {
+        return Ok(Directive::Fill {
+            count,
+            bytes: 1,
+            value: 0,
+        });
+    }
+    let [.., bytes] = counted(first_part(rest), constants)?.min(8).to_be_bytes();
+    let value = trimmed(split_at_byte(rest, b',').1);
+    if value.is_empty() {
+        return Ok(Directive::Fill {
+            count,
+            bytes,
+            value: 0,
+        });
+    }
+    Ok(Directive::Fill {
+        count,
+        bytes,
+        value: counted(value, constants)?,
+    })
+}
+
 /// So many bytes of 0, or of the number after a comma, of which the low byte counts.
-fn space_read(text: &[u8]) -> Result<Directive, Refusal> {
-    let size = number_read(first_part(text))?;
+fn space_read(text: &[u8], constants: &Constants<'_>) -> Result<Directive, Refusal> {
+    let size = counted(first_part(text), constants)?;
     let fill = split_at_byte(text, b',').1;
     if fill.is_empty() {
         return Ok(Directive::Space { size, fill: 0 });
@@ -425,7 +477,7 @@ fn file_read(text: &[u8]) -> Result<Directive, Refusal> {
 }
 
 /// What a directive of a form says, with this text behind its word.
-fn said_by(form: Form, text: &[u8]) -> Result<Directive, Refusal> {
+fn said_by(form: Form, text: &[u8], constants: &Constants<'_>) -> Result<Directive, Refusal> {
     match form {
         Form::Says(directive) => Ok(directive),
         Form::OfName(directive) => named(text, directive),
@@ -435,8 +487,9 @@ fn said_by(form: Form, text: &[u8]) -> Result<Directive, Refusal> {
         Form::Common { local } => common_read(text, local),
         Form::Align => align_read(text),
         Form::ByteAlign => byte_align_read(text),
-        Form::Space => space_read(text),
-        Form::Set => set_read(text),
+        Form::Space => space_read(text, constants),
+        Form::Fill => fill_read(text, constants),
+        Form::Set => set_read(text, constants),
         Form::Location => location_read(text),
         Form::File => file_read(text),
     }
@@ -481,18 +534,21 @@ fn is_assignment(text: &[u8]) -> bool {
 }
 
 /// What the assignment `name = other` says.
-fn assignment_read(text: &[u8]) -> Result<Directive, Refusal> {
+fn assignment_read(text: &[u8], constants: &Constants<'_>) -> Result<Directive, Refusal> {
     let (name, behind) = split_at_byte(text, b'=');
-    alias_read(trimmed(name), trimmed(behind))
+    alias_read(trimmed(name), trimmed(behind), constants)
 }
 
 /// The directive that a text spells, or the assignment `name = other`.
-pub(crate) fn directive_read(text: &[u8]) -> Result<DirectiveLine<'_>, Refusal> {
+pub(crate) fn directive_read<'a>(
+    text: &'a [u8],
+    constants: &Constants<'_>,
+) -> Result<DirectiveLine<'a>, Refusal> {
     if is_assignment(text) {
-        return Ok(with_text(assignment_read(text)?, text));
+        return Ok(with_text(assignment_read(text, constants)?, text));
     }
     let (word, rest) = split_before(text, Mark::Gap);
     let rest = trimmed(rest);
-    let directive = said_by(form_of(word)?, rest)?;
+    let directive = said_by(form_of(word)?, rest, constants)?;
     Ok(with_text(directive, rest))
 }

@@ -10,6 +10,12 @@ impl Register {
     /// It is always 0.
     pub const ZERO: Register = Register(0);
 
+    /// What instructions that stand for several use between them. No line may name it.
+    pub const BETWEEN: Register = Register(1);
+
+    /// Where a factor or a divisor is that is a number, as the product or the quotient takes its place.
+    pub(crate) const LOW: Register = Register(24);
+
     /// The stack pointer.
     pub const STACK: Register = Register(29);
 
@@ -41,6 +47,8 @@ pub enum Shift {
     Left,
     Right,
     Arithmetic,
+    /// To the left, where the bits that leave it come in again.
+    Rotate,
 }
 
 /// A second operand.
@@ -185,9 +193,15 @@ pub enum Instruction {
     Nop,
 }
 
+/// How many instructions follow the first one of a statement at most.
+pub const MOST_BEHIND: usize = 3;
+
 /// An instruction and the symbol that it names.
 #[derive(Clone, Copy)]
 pub struct Statement<'a> {
     pub instruction: Instruction,
     pub symbol: Option<&'a [u8]>,
+    /// The instructions that follow it where the statement stands for several; `Nop` where there are none. A store among them names
+    /// the same symbol.
+    pub behind: [Instruction; MOST_BEHIND],
 }

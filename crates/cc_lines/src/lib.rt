@@ -2,6 +2,7 @@
 //! behind them, or why it is not taken.
 #![tactic(auto)]
 
+mod constants;
 mod cursor;
 mod directive;
 mod instruction;
@@ -11,13 +12,15 @@ mod operand;
 mod quoted;
 mod reading;
 mod refusal;
+mod several;
 mod table;
 
-pub use cursor::{Lines, without_comment};
+pub use constants::Constants;
+pub use cursor::{Lines, first_statement, is_numbered, names_numbered, without_comment};
 pub use directive::{Directive, DirectiveLine, Section};
 pub use instruction::{
-    Condition, Instruction, LinkFrom, Long, Operation, Register, Shift, Source, Special, Statement,
-    Width,
+    Condition, Instruction, LinkFrom, Long, MOST_BEHIND, Operation, Register, Shift, Source,
+    Special, Statement, Width,
 };
 pub use line::{Line, MOST_LABELS, first_word, label_before, line_read};
 pub use operand::{Values, Word};

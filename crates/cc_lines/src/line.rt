@@ -3,6 +3,7 @@ ghost use Rattle.std.specs.Prelude.{◌≡◌, ◌==◌, ◌||◌, ◌↔◌, []
 ghost use Rattle.std.specs.List.{before_first};
 ghost use Rattle.cc_lines.specs.Bytes;
 
+use crate::constants::Constants;
 use crate::cursor::{Mark, is_named, split_before, split_name, trimmed, trimmed_front};
 use crate::directive::{DirectiveLine, directive_read};
 use crate::instruction::Statement;
@@ -40,19 +41,19 @@ pub fn first_word(text: &[u8]) -> &[u8]
 }
 
 /// What a text without comment and labels spells.
-pub fn line_read(text: &[u8]) -> Result<Line<'_>, Refusal>
+pub fn line_read<'a>(text: &'a [u8], constants: &Constants<'_>) -> Result<Line<'a>, Refusal>
     ensures { IfOk result (λ line. line ≡ Line.Nothing ↔ text.now ≡ []) }
 {
     match text {
         [] => Ok(Line::Nothing),
-        [b'.', ..] | [b'$', ..] => Ok(Line::Directive(directive_read(text)?)),
+        [b'.', ..] | [b'$', ..] => Ok(Line::Directive(directive_read(text, constants)?)),
         [first, ..] if is_named(*first) => {
             let word = first_word(text);
             let rest = trimmed(text.get(word.len()..).unwrap_or(&[]));
             if let [b'=', ..] = rest {
-                return Ok(Line::Directive(directive_read(text)?));
+                return Ok(Line::Directive(directive_read(text, constants)?));
             }
-            Ok(Line::Statement(statement_read(word, rest)?))
+            Ok(Line::Statement(statement_read(word, rest, constants)?))
         }
         _ => Err(Refusal::UnknownMnemonic),
     }

@@ -20,8 +20,17 @@ pub(crate) enum Mnemonic {
     Load(Width),
     Store(Width),
     Long(Long),
+    /// A product or a quotient that goes to a register: what is computed, and where it is then.
+    Result(Long, Special),
     FromSpecial(Special),
     ToSpecial(Special),
+    Absolute,
+    /// 1 where a condition holds, else 0.
+    Set(Condition),
+    /// A rotation to the right.
+    RotateRight,
+    LoadAnywhere,
+    StoreAnywhere,
     Branch(Condition),
     /// A branch that compares with 0.
     BranchZero(Condition),
@@ -33,7 +42,7 @@ pub(crate) enum Mnemonic {
 }
 
 /// The mnemonics of each meaning, but for branches on a condition.
-const MNEMONICS: [(&[&str], Mnemonic); 48] = [
+const MNEMONICS: [(&[&str], Mnemonic); 64] = [
     (&["lw"], Mnemonic::Load(Width::Word)),
     (&["lb"], Mnemonic::Load(Width::Byte { signed: true })),
     (&["lbu"], Mnemonic::Load(Width::Byte { signed: false })),
@@ -66,6 +75,31 @@ const MNEMONICS: [(&[&str], Mnemonic); 48] = [
     (&["sll", "sllv"], Mnemonic::Shift(Shift::Left)),
     (&["srl", "srlv"], Mnemonic::Shift(Shift::Right)),
     (&["sra", "srav"], Mnemonic::Shift(Shift::Arithmetic)),
+    (&["rol"], Mnemonic::Shift(Shift::Rotate)),
+    (&["ror"], Mnemonic::RotateRight),
+    (&["abs"], Mnemonic::Absolute),
+    (&["seq"], Mnemonic::Set(Condition::Equal)),
+    (&["sne"], Mnemonic::Set(Condition::NotEqual)),
+    (&["sge"], Mnemonic::Set(Condition::NotLess)),
+    (&["sgeu"], Mnemonic::Set(Condition::NotLower)),
+    (&["sgt"], Mnemonic::Set(Condition::Greater)),
+    (&["sgtu"], Mnemonic::Set(Condition::Higher)),
+    (&["sle"], Mnemonic::Set(Condition::NotGreater)),
+    (&["sleu"], Mnemonic::Set(Condition::NotHigher)),
+    (&["ulw"], Mnemonic::LoadAnywhere),
+    (&["usw"], Mnemonic::StoreAnywhere),
+    (
+        &["mul", "mulu"],
+        Mnemonic::Result(Long::Product { signed: true }, Special::Lo),
+    ),
+    (
+        &["rem"],
+        Mnemonic::Result(Long::Quotient { signed: true }, Special::Hi),
+    ),
+    (
+        &["remu"],
+        Mnemonic::Result(Long::Quotient { signed: false }, Special::Hi),
+    ),
     (&["li"], Mnemonic::Number),
     (&["lui"], Mnemonic::Upper),
     (&["la"], Mnemonic::Address),
@@ -79,7 +113,7 @@ const MNEMONICS: [(&[&str], Mnemonic); 48] = [
     (&["divu"], Mnemonic::Long(Long::Quotient { signed: false })),
     (&["b"], Mnemonic::Goto),
     (&["j", "jr"], Mnemonic::Jump),
-    (&["jal", "jalr"], Mnemonic::Call),
+    (&["jal", "jalr", "bal"], Mnemonic::Call),
     (&["break"], Mnemonic::Break),
     (&["nop"], Mnemonic::Nop),
 ];

@@ -3,8 +3,10 @@ ghost use Rattle.std.specs.Prelude.{◌≡◌, ◌<◌, ◌==◌, [], length, If
 ghost use Rattle.std.specs.List.{after_first};
 ghost use Rattle.cc_lines.specs.Registers.{IsTaken};
 
+use crate::constants::Constants;
 use crate::cursor::{
-    is_named, number, split_at_byte, split_name, trimmed, trimmed_front, wide_number,
+    begins_number, is_named, names_numbered, number, split_at_byte, split_name, trimmed,
+    trimmed_front, wide_number,
 };
 use crate::instruction::Register;
 use crate::refusal::Refusal;
@@ -151,17 +153,29 @@ fn addend_read(text: &[u8]) -> Result<u32, Refusal> {
     }
 }
 
+/// The value of a name with what stands behind it: of a number's name that and the addend, else the symbol.
+fn named_value(text: &[u8], constants: &Constants<'_>) -> Result<Value, Refusal> {
+    let (name, behind) = split_name(text);
+    let addend = addend_read(behind)?;
+    Ok(match constants.value(name) {
+        Some(value) => Value::Number(value.wrapping_add(addend)),
+        None => Value::Symbol(addend),
+    })
+}
+
 /// The number that a text spells, or the addend of its symbol.
-pub(crate) fn value_read(text: &[u8]) -> Result<Value, Refusal> {
-    match text {
-        [b'0'..=b'9' | b'-' | b'+', ..] => match number(text) {
+pub(crate) fn value_read(text: &[u8], constants: &Constants<'_>) -> Result<Value, Refusal> {
+    if names_numbered(text) {
+        return Ok(Value::Symbol(0));
+    }
+    if begins_number(text) {
+        return match number(text) {
             Some(value) => Ok(Value::Number(value)),
             None => Err(Refusal::BadNumber),
-        },
-        [first, ..] if is_named(*first) => {
-            let addend = addend_read(split_name(text).1)?;
-            Ok(Value::Symbol(addend))
-        }
+        };
+    }
+    match text {
+        [first, ..] if is_named(*first) => named_value(text, constants),
         _ => Err(Refusal::BadOperands),
     }
 }
@@ -188,8 +202,8 @@ fn subtracted(text: &[u8]) -> Option<&[u8]> {
 }
 
 /// What a data directive holds.
-fn word_read(text: &[u8]) -> Result<Word<'_>, Refusal> {
-    if let [b'0'..=b'9' | b'-' | b'+', ..] = text {
+fn word_read<'a>(text: &'a [u8], constants: &Constants<'_>) -> Result<Word<'a>, Refusal> {
+    if begins_number(text) && !names_numbered(text) {
         return match wide_number(text) {
             Some(value) => Ok(Word::Number(value)),
             None => Err(Refusal::BadNumber),
@@ -201,14 +215,18 @@ fn word_read(text: &[u8]) -> Result<Word<'_>, Refusal> {
             to: split_name(text).0,
         });
     }
-    Ok(match value_read(text)? {
+    Ok(match value_read(text, constants)? {
         Value::Number(value) => Word::Number(u64::from(value)),
         Value::Symbol(addend) => Word::Symbol(split_name(text).0, addend),
     })
 }
 
 /// The operand in memory with this base, before which the text stands.
-fn memory_read(before: &[u8], base: Register) -> Result<Operand, Refusal> {
+fn memory_read(
+    before: &[u8],
+    base: Register,
+    constants: &Constants<'_>,
+) -> Result<Operand, Refusal> {
     if before.is_empty() {
         return Ok(Operand::Memory {
             named: false,
@@ -216,7 +234,7 @@ fn memory_read(before: &[u8], base: Register) -> Result<Operand, Refusal> {
             base,
         });
     }
-    let (named, offset) = match value_read(before)? {
+    let (named, offset) = match value_read(before, constants)? {
         Value::Number(offset) => (false, offset),
         Value::Symbol(offset) => (true, offset),
     };
@@ -227,19 +245,95 @@ fn memory_read(before: &[u8], base: Register) -> Result<Operand, Refusal> {
     })
 }
 
+/// The halves of an address.
+#[derive(Clone, Copy)]
+enum Half {
+    /// `%hi`: the upper half of a number, and one more where the lower one is negative. Of a symbol it is 0.
+    High,
+    /// `%lo`: the lower half of a number, with its sign. Of a symbol it is the address, so that both halves together are that.
+    Low,
+}
+
+/// The half that a text asks for, if it asks for one, and what stands behind the parenthesis.
+fn half_before(text: &[u8]) -> Option<(Half, &[u8])> {
+    let [b'%', b'h' | b'l', b'i' | b'o', rest @ ..] = text else {
+        return None;
+    };
+    let [b'(', inner @ ..] = trimmed_front(rest) else {
+        return None;
+    };
+    match text {
+        [_, b'h', b'i', ..] => Some((Half::High, inner)),
+        [_, b'l', b'o', ..] => Some((Half::Low, inner)),
+        _ => None,
+    }
+}
+
+/// The text of a symbol or a number without the half that is asked for.
+pub(crate) fn without_half(text: &[u8]) -> &[u8] {
+    match half_before(text) {
+        Some((_, inner)) => trimmed_front(inner),
+        None => text,
+    }
+}
+
+/// A half of a value.
+fn half_of(half: Half, value: Value) -> Value {
+    match (half, value) {
+        (Half::High, Value::Number(number)) => Value::Number(number.wrapping_add(0x8000) >> 16),
+        (Half::High, Value::Symbol(_)) => Value::Number(0),
+        (Half::Low, Value::Number(number)) => {
+            Value::Number((number & 0xffff ^ 0x8000).wrapping_sub(0x8000))
+        }
+        (Half::Low, Value::Symbol(_)) => value,
+    }
+}
+
+/// The operand that a half spells, of which the text behind the parenthesis is given: alone, or with a base behind it.
+fn half_read(half: Half, text: &[u8], constants: &Constants<'_>) -> Result<Operand, Refusal> {
+    let (inner, behind) = split_at_byte(text, b')');
+    let value = half_of(half, value_read(trimmed(inner), constants)?);
+    let behind = trimmed(behind);
+    if behind.is_empty() {
+        return Ok(operand_of(value));
+    }
+    let [b'(', base @ .., b')'] = behind else {
+        return Err(Refusal::BadOperands);
+    };
+    let base = register_read(trimmed(base))?;
+    let (named, offset) = match value {
+        Value::Number(offset) => (false, offset),
+        Value::Symbol(offset) => (true, offset),
+    };
+    Ok(Operand::Memory {
+        named,
+        offset,
+        base,
+    })
+}
+
+/// The operand that is a value alone.
+fn operand_of(value: Value) -> Operand {
+    match value {
+        Value::Number(value) => Operand::Number(value),
+        Value::Symbol(addend) => Operand::Symbol(addend),
+    }
+}
+
 /// The operand that a text spells.
-pub(crate) fn operand_read(text: &[u8]) -> Result<Operand, Refusal> {
+pub(crate) fn operand_read(text: &[u8], constants: &Constants<'_>) -> Result<Operand, Refusal> {
+    if let Some((half, inner)) = half_before(text) {
+        return half_read(half, inner, constants);
+    }
     if let Some(register) = register_named(text) {
         return Ok(Operand::Register(register?));
     }
     if let [front @ .., b')'] = text {
         let (before, inner) = split_at_byte(front, b'(');
-        return memory_read(trimmed(before), register_read(trimmed(inner))?);
+        let base = register_read(trimmed(inner))?;
+        return memory_read(trimmed(before), base, constants);
     }
-    Ok(match value_read(text)? {
-        Value::Number(value) => Operand::Number(value),
-        Value::Symbol(addend) => Operand::Symbol(addend),
-    })
+    Ok(operand_of(value_read(text, constants)?))
 }
 
 impl<'a> Values<'a> {
@@ -258,7 +352,7 @@ impl<'a> Values<'a> {
     }
 
     /// The next value, if there is one.
-    pub fn next_value(&mut self) -> Result<Option<Word<'a>>, Refusal>
+    pub fn next_value(&mut self, constants: &Constants<'_>) -> Result<Option<Word<'a>>, Refusal>
         ensures ended { IfOk result (λ value. IfNone value (self.old.rest.now ≡ [])) }
         ensures rest { self.new.rest.now ≡ after_first (λ b. b == 44) self.old.rest.now }
     {
@@ -267,6 +361,6 @@ impl<'a> Values<'a> {
         }
         let (first, rest) = split_at_byte(self.rest, b',');
         self.rest = rest;
-        Ok(Some(word_read(trimmed(first))?))
+        Ok(Some(word_read(trimmed(first), constants)?))
     }
 }

@@ -1,6 +1,7 @@
 //! Texts in quotes.
 ghost use Rattle.cc_lines.specs.Bytes.{Extends};
 
+use crate::cursor::digit;
 use crate::refusal::{LineError, Refusal};
 
 /// How far a quoted text was read.
@@ -11,10 +12,12 @@ enum Reading {
     Escaped,
     /// In an octal number, with its value and how many digits may follow.
     Octal(u8, u8),
+    /// In a hexadecimal number, with the low byte of its value.
+    Hexadecimal(u8),
 }
 
 /// The byte that a letter behind `\` stands for.
-fn escape(letter: u8) -> Option<u8> {
+pub(crate) fn escape(letter: u8) -> Option<u8> {
     Some(match letter {
         b'n' => b'\n',
         b't' => b'\t',
@@ -22,7 +25,7 @@ fn escape(letter: u8) -> Option<u8> {
         b'b' => 8,
         b'f' => 12,
         b'v' => 11,
-        b'"' | b'\\' => letter,
+        b'"' | b'\\' | b'\'' => letter,
         _ => return None,
     })
 }
@@ -30,6 +33,12 @@ fn escape(letter: u8) -> Option<u8> {
 /// The byte behind 8 times a number and a digit.
 fn octal(value: u8, digit: u8) -> u8 {
     value.wrapping_mul(8).wrapping_add(digit.wrapping_sub(b'0'))
+}
+
+/// The low byte of 16 times a number and a digit.
+fn hexadecimal(value: u8, digit: u32) -> u8 {
+    let [.., low] = digit.to_be_bytes();
+    value.wrapping_mul(16).wrapping_add(low)
 }
 
 /// Where the reading is behind a byte inside quotes.
@@ -55,8 +64,10 @@ fn inside(bytes: &mut Vec<u8>, byte: u8, ended: bool) -> Result<Reading, LineErr
 fn escaped(bytes: &mut Vec<u8>, byte: u8) -> Result<Reading, LineError>
     ensures { Extends bytes.old.items bytes.new.items }
 {
-    if let b'0'..=b'7' = byte {
-        return Ok(Reading::Octal(octal(0, byte), 2));
+    match byte {
+        b'0'..=b'7' => return Ok(Reading::Octal(octal(0, byte), 2)),
+        b'x' => return Ok(Reading::Hexadecimal(0)),
+        _ => {}
     }
     match escape(byte) {
         Some(value) => {
@@ -88,6 +99,13 @@ fn next_reading(
         Reading::Octal(value, left) => {
             if left > 0 && matches!(byte, b'0'..=b'7') {
                 return Ok(Reading::Octal(octal(value, byte), left - 1));
+            }
+            bytes.push(value)?;
+            inside(bytes, byte, ended)
+        }
+        Reading::Hexadecimal(value) => {
+            if let Some(digit) = digit(byte, 16) {
+                return Ok(Reading::Hexadecimal(hexadecimal(value, digit)));
             }
             bytes.push(value)?;
             inside(bytes, byte, ended)

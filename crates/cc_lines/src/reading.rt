@@ -1,16 +1,18 @@
 //! Instructions of their operands.
 
+use crate::constants::Constants;
 use crate::cursor::{split_at_byte, split_name, trimmed};
 use crate::instruction::{
     Condition, Instruction, LinkFrom, Operation, Register, Shift, Source, Statement,
 };
 use crate::mnemonic::{Mnemonic, mnemonic_named};
-use crate::operand::{Operand, operand_read};
+use crate::operand::{Operand, operand_read, without_half};
 use crate::refusal::Refusal;
+use crate::several::{Several, alone, several_read};
 
 /// The operands of an instruction: none to three.
 #[derive(Clone, Copy)]
-enum Operands {
+pub(crate) enum Operands {
     None,
     One(Operand),
     Two(Operand, Operand),
@@ -25,7 +27,7 @@ struct Spelled<'a> {
 }
 
 /// The operands that a text spells.
-fn operands_read(text: &[u8]) -> Result<Spelled<'_>, Refusal> {
+fn operands_read<'a>(text: &'a [u8], constants: &Constants<'_>) -> Result<Spelled<'a>, Refusal> {
     if text.is_empty() {
         return Ok(Spelled {
             operands: Operands::None,
@@ -34,7 +36,7 @@ fn operands_read(text: &[u8]) -> Result<Spelled<'_>, Refusal> {
     }
     let (first, rest) = split_at_byte(text, b',');
     let last = trimmed(first);
-    let a = operand_read(last)?;
+    let a = operand_read(last, constants)?;
     if rest.is_empty() {
         return Ok(Spelled {
             operands: Operands::One(a),
@@ -43,7 +45,7 @@ fn operands_read(text: &[u8]) -> Result<Spelled<'_>, Refusal> {
     }
     let (second, rest) = split_at_byte(rest, b',');
     let last = trimmed(second);
-    let b = operand_read(last)?;
+    let b = operand_read(last, constants)?;
     if rest.is_empty() {
         return Ok(Spelled {
             operands: Operands::Two(a, b),
@@ -51,7 +53,7 @@ fn operands_read(text: &[u8]) -> Result<Spelled<'_>, Refusal> {
         });
     }
     let last = trimmed(rest);
-    let c = operand_read(last)?;
+    let c = operand_read(last, constants)?;
     Ok(Spelled {
         operands: Operands::Three(a, b, c),
         last,
@@ -59,7 +61,7 @@ fn operands_read(text: &[u8]) -> Result<Spelled<'_>, Refusal> {
 }
 
 /// A register, or a number.
-fn source(operand: Operand) -> Result<Source, Refusal> {
+pub(crate) fn source(operand: Operand) -> Result<Source, Refusal> {
     match operand {
         Operand::Register(r) => Ok(Source::Register(r)),
         Operand::Number(value) => Ok(Source::Number(value)),
@@ -68,7 +70,7 @@ fn source(operand: Operand) -> Result<Source, Refusal> {
 }
 
 /// The registers and the second operand of `op $d,$s,$t`, or of `op $d,$t`, where the first source is the target.
-fn three(operands: Operands) -> Result<(Register, Register, Source), Refusal> {
+pub(crate) fn three(operands: Operands) -> Result<(Register, Register, Source), Refusal> {
     match operands {
         Operands::Three(Operand::Register(rd), Operand::Register(rs), second) => {
             Ok((rd, rs, source(second)?))
@@ -79,7 +81,7 @@ fn three(operands: Operands) -> Result<(Register, Register, Source), Refusal> {
 }
 
 /// The registers of `op $d,$s`, or of `op $d`.
-fn two(operands: Operands) -> Result<(Register, Register), Refusal> {
+pub(crate) fn two(operands: Operands) -> Result<(Register, Register), Refusal> {
     match operands {
         Operands::Two(Operand::Register(rd), Operand::Register(rs)) => Ok((rd, rs)),
         Operands::One(Operand::Register(rd)) => Ok((rd, rd)),
@@ -96,7 +98,7 @@ fn one(operands: Operands) -> Result<Register, Refusal> {
 }
 
 /// The register, the base and the offset of `op $r,place`.
-fn memory(operands: Operands) -> Result<(Register, Register, u32), Refusal> {
+pub(crate) fn memory(operands: Operands) -> Result<(Register, Register, u32), Refusal> {
     match operands {
         Operands::Two(Operand::Register(r), Operand::Memory { offset, base, .. }) => {
             Ok((r, base, offset))
@@ -179,8 +181,15 @@ fn fits_in_half(op: Operation, value: u32) -> bool {
     }
 }
 
-/// An operation on a register and a number with 16 bits.
+/// An operation on a register and a number with 16 bits, or the sum of a register and a symbol, of which that is the lower half.
 fn immediate(op: Operation, operands: Operands) -> Result<Instruction, Refusal> {
+    if let (
+        Operation::Add,
+        Operands::Three(Operand::Register(rd), Operand::Register(base), Operand::Symbol(offset)),
+    ) = (op, operands)
+    {
+        return Ok(Instruction::Address { rd, base, offset });
+    }
     let (rd, rs, second) = three(operands)?;
     match second {
         Source::Number(value) if !fits_in_half(op, value) => Err(Refusal::BadNumber),
@@ -331,17 +340,25 @@ fn names_symbol(instruction: Instruction, operands: Operands) -> bool {
 }
 
 /// The statement that a mnemonic and the text behind it spell.
-pub(crate) fn statement_read<'a>(name: &[u8], text: &'a [u8]) -> Result<Statement<'a>, Refusal> {
+pub(crate) fn statement_read<'a>(
+    name: &[u8],
+    text: &'a [u8],
+    constants: &Constants<'_>,
+) -> Result<Statement<'a>, Refusal> {
     let mnemonic = mnemonic_named(name)?;
-    let Spelled { operands, last } = operands_read(text)?;
-    let instruction = instruction_of(mnemonic, operands)?;
-    let symbol = if names_symbol(instruction, operands) {
-        Some(split_name(last).0)
+    let Spelled { operands, last } = operands_read(text, constants)?;
+    let Several { first, behind } = match several_read(mnemonic, operands)? {
+        Some(several) => several,
+        None => alone(instruction_of(mnemonic, operands)?),
+    };
+    let symbol = if names_symbol(first, operands) {
+        Some(split_name(without_half(last)).0)
     } else {
         None
     };
     Ok(Statement {
-        instruction,
+        instruction: first,
         symbol,
+        behind,
     })
 }

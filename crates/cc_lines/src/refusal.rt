@@ -48,7 +48,7 @@ impl Refusal {
             Refusal::KeptRegister =>
                 "registers 1 and 22 to 28 are kept; compile with the options of lib/flags",
             Refusal::DelaySlots => "delay slots are not taken; compile with -fno-delayed-branch",
-            Refusal::BadText => "a text without its end",
+            Refusal::BadText => "unterminated string",
             Refusal::BadName => "a character that a name may not have",
             Refusal::LongName => "a name that is too long",
             Refusal::OutsideFunction => "an instruction outside a function",

@@ -5,7 +5,8 @@ use Rattle.cc_lines.specs.declared.refusal.LineError.TheVariants.{Refused, Memor
 use Rattle.cc_program.specs.declared.error.ReadError.{ReadError}
 use Rattle.cc_program.specs.declared.error.ReadError.TheVariants.{Fault, Memory}
 
--- a line of a text is refused, or memory ran out
-abbrev pub error_at : ℕ → ℕ → LineError → ReadError
-error_at unit line (Refused refusal) = Fault (record { unit = unit; line = line; refusal = refusal; symbol = None })
-error_at unit line LineMemory = Memory
+-- a statement of a line of a text is refused, or memory ran out
+abbrev pub error_at : ℕ → ℕ → ℕ → LineError → ReadError
+error_at unit line statement (Refused refusal) =
+    Fault (record { unit = unit; line = line; statement = statement; refusal = refusal; symbol = None })
+error_at unit line statement LineMemory = Memory

@@ -82,12 +82,11 @@ impl<'a> Reader<'a> {
     /// Adds a datum of zeros. Where it is weak, texts may share it.
     fn add_object(
         &mut self,
-        name: &'a [u8],
+        symbol: u32,
         weak: bool,
         size: u32,
         align: u32,
     ) -> Result<(), LineError> {
-        let symbol = self.symbol(name)?;
         let number = number_behind(self.program.objects.len())?;
         self.define(symbol, Meaning::Object(number), weak)?;
         let object = Object::new(self.alloc, symbol, self.position.unit, size, align);
@@ -110,7 +109,7 @@ impl<'a> Reader<'a> {
                 return Ok(());
             }
         }
-        self.add_object(name, true, size, align)
+        self.add_object(symbol, true, size, align)
     }
 
     /// The datum that lines add to, if it has no bytes so far.
@@ -125,17 +124,15 @@ impl<'a> Reader<'a> {
     }
 
     /// A label of data: of a new datum, or one more of a datum that has no bytes so far.
-    pub(crate) fn begin_object(&mut self, name: &'a [u8]) -> Result<(), LineError> {
-        let weak = self.is_weak(name);
+    pub(crate) fn begin_object(&mut self, symbol: u32, weak: bool) -> Result<(), LineError> {
         if let Some(number) = self.begun() {
-            let symbol = self.symbol(name)?;
             return self.define(symbol, Meaning::Object(number_behind(number)?), weak);
         }
         let before = self.position.data.object;
         let number = self.program.objects.len();
         let align = self.position.data.align;
         self.position.data.align = 1;
-        self.add_object(name, weak, 0, align)?;
+        self.add_object(symbol, weak, 0, align)?;
         self.follow(number, before)?;
         self.position.data.object = Some(number);
         Ok(())
@@ -177,10 +174,10 @@ impl<'a> Reader<'a> {
     fn push_value(&mut self, bytes: u8, value: Word<'a>) -> Result<(), LineError> {
         let (symbol, addend, from) = match value {
             Word::Number(value) => return push_number(self.content()?, bytes, value),
-            Word::Symbol(name, addend) => (self.symbol(name)?, addend, None),
+            Word::Symbol(name, addend) => (self.named(name)?, addend, None),
             Word::Distance { from, to } => {
-                let to = self.symbol(to)?;
-                (to, 0, Some(self.symbol(from)?))
+                let to = self.named(to)?;
+                (to, 0, Some(self.named(from)?))
             }
         };
         let one = Reference {
@@ -197,7 +194,7 @@ impl<'a> Reader<'a> {
     fn push_calls(&mut self, after: bool, order: u32, text: &'a [u8]) -> Result<(), LineError> {
         let mut values = Values::new(text);
         for _ in 0..values.most() {
-            match values.next_value()? {
+            match values.next_value(&self.constants)? {
                 Some(Word::Symbol(name, 0)) => self.push_call(after, order, name)?,
                 Some(Word::Number(0)) => {}
                 Some(_) => return Err(LineError::Refused(Refusal::BadOperands)),
@@ -234,7 +231,7 @@ impl<'a> Reader<'a> {
         fill(self.content()?)?;
         let mut values = Values::new(text);
         for _ in 0..values.most() {
-            match values.next_value()? {
+            match values.next_value(&self.constants)? {
                 Some(value) => self.push_value(bytes, value)?,
                 None => break,
             }
@@ -258,6 +255,20 @@ impl<'a> Reader<'a> {
             content.bytes.push(byte)?;
         }
         measure(content)
+    }
+
+    /// Adds a number so often, of so many bytes each.
+    fn add_fill(&mut self, count: u32, bytes: u8, value: u32) -> Result<(), LineError> {
+        self.align(1)?;
+        let content = self.content()?;
+        if count.saturating_mul(u32::from(bytes.max(1))) > MOST_BYTES {
+            return Err(LineError::Refused(Refusal::BadNumber));
+        }
+        fill(content)?;
+        for _ in 0..count {
+            push_number(content, bytes, u64::from(value))?;
+        }
+        Ok(())
     }
 
     /// Adds quoted texts.
@@ -298,6 +309,11 @@ impl<'a> Reader<'a> {
             Directive::Data { bytes, aligned } => return self.push_values(bytes, aligned, text),
             Directive::Text { ended } => return self.push_text(text, ended),
             Directive::Space { size, fill } => return self.add_space(size, fill),
+            Directive::Fill {
+                count,
+                bytes,
+                value,
+            } => return self.add_fill(count, bytes, value),
             _ => {}
         }
         Ok(())

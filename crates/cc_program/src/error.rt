@@ -13,6 +13,8 @@ pub struct Fault<'a> {
     pub unit: u32,
     /// Its number, from 1.
     pub line: u32,
+    /// Which of its statements it is, from 0.
+    pub statement: u32,
     pub refusal: Refusal,
     /// The symbol that it is about.
     pub symbol: Option<&'a [u8]>,
@@ -35,14 +37,15 @@ impl<'a> From<AllocError> for ReadError<'a> {
     }
 }
 
-/// The error of a line.
-pub(crate) fn error_at<'a>(unit: u32, line: u32, error: LineError) -> ReadError<'a>
-    ensures { result ≡ Errors.error_at unit line error }
+/// The error of a statement of a line.
+pub(crate) fn error_at<'a>(unit: u32, line: u32, statement: u32, error: LineError) -> ReadError<'a>
+    ensures { result ≡ Errors.error_at unit line statement error }
 {
     match error {
         LineError::Refused(refusal) => ReadError::Fault(Fault {
             unit,
             line,
+            statement,
             refusal,
             symbol: None,
         }),

@@ -338,36 +338,50 @@ fn keep(
 }
 
 /// The fault of a symbol that is refused.
-fn refused<'a>(program: &Program<'a>, one: Named, refusal: Refusal) -> ReadError<'a> {
+fn refused<'a>(program: &Program<'a>, one: Named, refusal: Refusal) -> Fault<'a> {
     let symbol = match program.symbols.at(one.symbol) {
         Some(symbol) => Some(symbol.name),
         None => None,
     };
-    ReadError::Fault(Fault {
+    Fault {
         unit: one.unit,
         line: one.line,
+        statement: 0,
         refusal,
         symbol,
-    })
+    }
 }
 
-/// Keeps what is named, and what that names in turn.
+/// Of two faults, that of the line that comes first.
+fn first_fault<'a>(known: Option<Fault<'a>>, other: Fault<'a>) -> Option<Fault<'a>> {
+    match known {
+        Some(fault) if (fault.unit, fault.line) <= (other.unit, other.line) => known,
+        _ => Some(other),
+    }
+}
+
+/// Keeps what is named, and what that names in turn. The fault of the first line that may not name what it names is told.
 fn keep_named<'a>(
     alloc: Global,
     program: &mut Program<'a>,
     named: &mut Vec<Named>,
 ) -> Result<(), ReadError<'a>> {
+    let mut fault = None;
     for _ in 0..u64::MAX {
         let Some(one) = named.pop() else {
             break;
         };
         program.symbols.use_it(one.symbol);
         if let Some(refusal) = refusal_of(program, one) {
-            return Err(refused(program, one, refusal));
+            fault = first_fault(fault, refused(program, one, refusal));
+        } else {
+            keep(alloc, program, named, one)?;
         }
-        keep(alloc, program, named, one)?;
     }
-    Ok(())
+    match fault {
+        Some(fault) => Err(ReadError::Fault(fault)),
+        None => Ok(()),
+    }
 }
 
 /// Keeps a function, what it names, and what that names in turn.
@@ -416,6 +430,7 @@ fn entry<'a>(program: &mut Program<'a>) -> Result<(u32, u32), ReadError<'a>> {
         Some(call) => Err(ReadError::Fault(Fault {
             unit: call.unit,
             line: call.line,
+            statement: 0,
             refusal: Refusal::Constructor,
             symbol: None,
         })),

@@ -10,8 +10,9 @@ use crate::program::Program;
 use crate::reach::reach;
 use crate::symbols::Meaning;
 use cc_lines::{
-    Directive, DirectiveLine, Instruction, Line, LineError, Lines, MOST_LABELS, Refusal, Register,
-    Section, Statement, Width, label_before, line_read, without_comment,
+    Constants, Directive, DirectiveLine, Instruction, Line, LineError, Lines, MOST_LABELS, Refusal,
+    Register, Section, Statement, Width, first_statement, is_numbered, label_before, line_read,
+    names_numbered, without_comment,
 };
 use cc_rules::{LONGEST_NAME, file_key, has_slot, spelled_len};
 use indexmap::IndexMap;
@@ -62,6 +63,8 @@ pub(crate) struct InCode {
 pub(crate) struct Position {
     pub unit: u32,
     pub line: u32,
+    /// The number of the statement in its line.
+    pub statement: u32,
     pub sections: Sections,
     pub code: InCode,
     pub data: InData,
@@ -73,6 +76,7 @@ impl Position {
         Position {
             unit,
             line: 0,
+            statement: 0,
             sections: Sections {
                 now: Section::Code,
                 before: Section::Code,
@@ -101,6 +105,20 @@ pub struct Reader<'a> {
     shared: IndexMap<&'a [u8], bool>,
     /// The names that it defines.
     labels: Vec<&'a [u8]>,
+    pub(crate) constants: Constants<'a>,
+    /// What each `.set push` kept: whether jumps had no delay slots.
+    settings: Vec<bool>,
+    /// The labels of the text that are numbers.
+    numbered: IndexMap<&'a [u8], Numbered>,
+    /// How many such labels all texts have.
+    numbered_count: u32,
+}
+
+/// The symbols of the labels that are the same number: of the last one, and of the next one, where a line names it.
+#[derive(Clone, Copy)]
+struct Numbered {
+    last: Option<u32>,
+    next: Option<u32>,
 }
 
 /// What a directive tells of its name: whether it is its text's own, and if not, whether it is weak.
@@ -130,8 +148,8 @@ fn may_tell(line: &[u8]) -> bool {
     line.starts_with(b".") || line.contains(&b'=')
 }
 
-/// Notes what a statement says of its function: whether it calls, and where it saves register 31.
-fn note_statement(function: &mut Function, instruction: &Instruction) {
+/// Notes what an instruction says of its function: whether it calls, and where it saves register 31.
+fn note_instruction(function: &mut Function, instruction: &Instruction) {
     match *instruction {
         Instruction::Call(_) => function.calls = true,
         Instruction::Store {
@@ -159,6 +177,10 @@ impl<'a> Reader<'a> {
             position: Position::new(0),
             shared: IndexMap::new(alloc),
             labels: Vec::new(alloc),
+            constants: Constants::new(alloc),
+            settings: Vec::new(alloc),
+            numbered: IndexMap::new(alloc),
+            numbered_count: 0,
         })
     }
 
@@ -169,7 +191,9 @@ impl<'a> Reader<'a> {
             let Some((name, behind)) = label_before(rest) else {
                 break;
             };
-            self.labels.push(name)?;
+            if !is_numbered(name) {
+                self.labels.push(name)?;
+            }
             rest = behind;
         }
         Ok(rest)
@@ -192,13 +216,30 @@ impl<'a> Reader<'a> {
         Ok(())
     }
 
-    /// Notes the names of a line.
-    fn note_line(&mut self, line: &'a [u8]) -> Result<(), AllocError> {
-        let rest = self.note_labels(line)?;
+    /// Notes the names of a statement.
+    fn note_statement(&mut self, text: &'a [u8]) -> Result<(), AllocError> {
+        let rest = self.note_labels(text)?;
         if may_tell(rest) {
-            if let Ok(Line::Directive(read)) = line_read(rest) {
+            if let Ok(Line::Directive(read)) = line_read(rest, &self.constants) {
+                if let Directive::Constant(value) = read.directive {
+                    return self.constants.set(read.name, value);
+                }
                 return self.note_told(read.name, told_by(read.directive));
             }
+        }
+        Ok(())
+    }
+
+    /// Notes the names of a line.
+    fn note_line(&mut self, line: &'a [u8]) -> Result<(), AllocError> {
+        let mut rest = line;
+        for _ in 0..=line.len() {
+            if rest.is_empty() {
+                break;
+            }
+            let (first, behind) = first_statement(rest);
+            self.note_statement(first)?;
+            rest = behind;
         }
         Ok(())
     }
@@ -232,7 +273,11 @@ impl<'a> Reader<'a> {
         self.position = Position::new(unit);
         self.shared.clear();
         self.labels.clear();
+        self.settings.clear();
+        self.numbered.clear();
+        self.constants.clear();
         self.note_all(text)?;
+        self.constants.clear();
         self.make_own()
     }
 
@@ -254,6 +299,57 @@ impl<'a> Reader<'a> {
         match self.program.symbols.number(name) {
             Ok(number) => Ok(number),
             Err(_) => Err(LineError::Memory),
+        }
+    }
+
+    /// A new symbol for a label that is a number.
+    fn add_numbered(&mut self, name: &'a [u8]) -> Result<u32, LineError> {
+        self.numbered_count = self.numbered_count.saturating_add(1);
+        Ok(self.program.symbols.push(name, self.numbered_count)?)
+    }
+
+    /// The symbol of the last label that is this number, or of the next one.
+    fn numbered_symbol(&mut self, name: &'a [u8], is_next: bool) -> Result<u32, LineError> {
+        let found = match self.numbered.get(name) {
+            Some(found) => *found,
+            None => Numbered {
+                last: None,
+                next: None,
+            },
+        };
+        if !is_next {
+            return found.last.ok_or(LineError::Refused(Refusal::Undefined));
+        }
+        if let Some(next) = found.next {
+            return Ok(next);
+        }
+        let next = self.add_numbered(name)?;
+        let found = Numbered {
+            last: found.last,
+            next: Some(next),
+        };
+        self.numbered.insert(name, found)?;
+        Ok(next)
+    }
+
+    /// The symbol of a label that is a number.
+    fn begin_numbered(&mut self, name: &'a [u8]) -> Result<u32, LineError> {
+        let symbol = self.numbered_symbol(name, true)?;
+        let found = Numbered {
+            last: Some(symbol),
+            next: None,
+        };
+        self.numbered.insert(name, found)?;
+        Ok(symbol)
+    }
+
+    /// The symbol that a line names, which may be a label that is a number.
+    pub(crate) fn named(&mut self, name: &'a [u8]) -> Result<u32, LineError> {
+        match name {
+            [digits @ .., direction] if names_numbered(name) => {
+                self.numbered_symbol(digits, *direction == b'f')
+            }
+            _ => self.symbol(name),
         }
     }
 
@@ -299,8 +395,7 @@ impl<'a> Reader<'a> {
     }
 
     /// A label in code that is local to its function.
-    fn place_label(&mut self, name: &'a [u8]) -> Result<(), LineError> {
-        let symbol = self.symbol(name)?;
+    fn place_label(&mut self, symbol: u32) -> Result<(), LineError> {
         let Some(function) = self.position.code.function else {
             return Ok(());
         };
@@ -311,20 +406,43 @@ impl<'a> Reader<'a> {
         Ok(())
     }
 
-    /// A label.
-    fn label(&mut self, name: &'a [u8]) -> Result<(), LineError> {
+    /// A label that is a number.
+    fn numbered_label(&mut self, name: &'a [u8]) -> Result<(), LineError> {
+        let symbol = self.begin_numbered(name)?;
         match self.position.sections.now {
-            Section::Code if name.starts_with(b"$") => self.place_label(name),
-            Section::Code => self.begin_function(name),
-            Section::Data => self.begin_object(name),
+            Section::Code => self.place_label(symbol),
+            Section::Data => self.begin_object(symbol, false),
             Section::Notes | Section::Calls { .. } => Ok(()),
         }
+    }
+
+    /// A label.
+    fn label(&mut self, name: &'a [u8]) -> Result<(), LineError> {
+        if is_numbered(name) {
+            return self.numbered_label(name);
+        }
+        match self.position.sections.now {
+            Section::Code if name.starts_with(b"$") => self.local_label(name),
+            Section::Code => self.begin_function(name),
+            Section::Data => {
+                let weak = self.is_weak(name);
+                let symbol = self.symbol(name)?;
+                self.begin_object(symbol, weak)
+            }
+            Section::Notes | Section::Calls { .. } => Ok(()),
+        }
+    }
+
+    /// A label with a name in code that is local to its function.
+    fn local_label(&mut self, name: &'a [u8]) -> Result<(), LineError> {
+        let symbol = self.symbol(name)?;
+        self.place_label(symbol)
     }
 
     /// A name for where it is in its section, in code a label of its function.
     fn here(&mut self, name: &'a [u8]) -> Result<(), LineError> {
         if self.position.sections.now == Section::Code {
-            self.place_label(name)
+            self.local_label(name)
         } else {
             self.label(name)
         }
@@ -353,16 +471,33 @@ impl<'a> Reader<'a> {
             return Err(LineError::Refused(refusal));
         }
         let symbol = match read.symbol {
-            Some(name) => Some(self.symbol(name)?),
+            Some(name) => Some(self.named(name)?),
             None => None,
         };
+        self.push_instruction(read.instruction, symbol)?;
+        for instruction in &read.behind {
+            match instruction {
+                Instruction::Nop => {}
+                Instruction::Store { .. } => self.push_instruction(*instruction, symbol)?,
+                _ => self.push_instruction(*instruction, None)?,
+            }
+        }
+        Ok(())
+    }
+
+    /// Adds an instruction to its function.
+    fn push_instruction(
+        &mut self,
+        instruction: Instruction,
+        symbol: Option<u32>,
+    ) -> Result<(), LineError> {
         if let Some(number) = self.position.code.function {
             if let Some(function) = self.program.functions.as_mut_slice().get_mut(number) {
-                note_statement(function, &read.instruction);
+                note_instruction(function, &instruction);
             }
         }
         self.program.items.push(Item::Code {
-            instruction: read.instruction,
+            instruction,
             symbol,
             line: self.position.line,
         })?;
@@ -419,12 +554,31 @@ impl<'a> Reader<'a> {
         Ok(())
     }
 
+    /// `.set push` and `.set pop`.
+    fn settings(&mut self, directive: Directive) -> Result<(), LineError> {
+        if let Directive::PushSettings = directive {
+            self.settings.push(self.position.code.reorder)?;
+            return Ok(());
+        }
+        match self.settings.pop() {
+            Some(reorder) => {
+                self.position.code.reorder = reorder;
+                Ok(())
+            }
+            None => Err(LineError::Refused(Refusal::BadOperands)),
+        }
+    }
+
     /// A directive.
     fn directive(&mut self, read: DirectiveLine<'a>) -> Result<(), LineError> {
         match read.directive {
             Directive::Section(section) => self.go_to(section),
             Directive::Previous => self.go_to(self.position.sections.before),
             Directive::Reorder(reorder) => self.position.code.reorder = reorder,
+            Directive::PushSettings | Directive::PopSettings => {
+                return self.settings(read.directive);
+            }
+            Directive::Constant(value) => self.constants.set(read.name, value)?,
             Directive::Frame { .. } | Directive::Mask { .. } => self.note_frame(read.directive),
             Directive::Weak => return self.weaken(read.name),
             Directive::Alias => return self.alias(read.name, read.text),
@@ -441,7 +595,7 @@ impl<'a> Reader<'a> {
 
     /// What stands behind the labels of a line.
     fn behind_labels(&mut self, rest: &'a [u8]) -> Result<(), LineError> {
-        match line_read(rest) {
+        match line_read(rest, &self.constants) {
             Ok(Line::Nothing) => Ok(()),
             Ok(Line::Statement(read)) => self.statement(read),
             Ok(Line::Directive(read)) => self.directive(read),
@@ -450,8 +604,8 @@ impl<'a> Reader<'a> {
         }
     }
 
-    /// A line, without its comment.
-    fn line(&mut self, text: &'a [u8]) -> Result<(), LineError> {
+    /// A statement of a line with its labels.
+    fn statement_text(&mut self, text: &'a [u8]) -> Result<(), LineError> {
         let mut rest = text;
         for _ in 0..MOST_LABELS {
             let Some((name, behind)) = label_before(rest) else {
@@ -466,6 +620,22 @@ impl<'a> Reader<'a> {
             return Ok(());
         }
         self.behind_labels(rest)
+    }
+
+    /// A line, without its comment.
+    fn line(&mut self, text: &'a [u8]) -> Result<(), LineError> {
+        self.position.statement = 0;
+        let mut rest = text;
+        for _ in 0..=text.len() {
+            if rest.is_empty() {
+                break;
+            }
+            let (first, behind) = first_statement(rest);
+            self.statement_text(first)?;
+            self.position.statement = self.position.statement.saturating_add(1);
+            rest = behind;
+        }
+        Ok(())
     }
 
     /// Reads the lines of a text.
@@ -487,7 +657,14 @@ impl<'a> Reader<'a> {
         self.begin(unit, text)?;
         match self.read_lines(text) {
             Ok(()) => Ok(()),
-            Err(error) => Err(error_at(unit, self.position.line, error)),
+            Err(error) => {
+                let Position {
+                    line,
+                    statement,
+                    ..
+                } = self.position;
+                Err(error_at(unit, line, statement, error))
+            }
         }
     }
 

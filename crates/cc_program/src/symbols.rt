@@ -29,7 +29,8 @@ pub enum Meaning {
 #[derive(Clone, Copy)]
 pub struct Symbol<'a> {
     pub name: &'a [u8],
-    /// The text that it belongs to, counted from 1, or 0 where texts share it.
+    /// The text that it belongs to, counted from 1, or 0 where texts share it. Of a label that is a number, its own number among all
+    /// such labels.
     pub owner: u32,
     pub meaning: Meaning,
     /// It may be defined again, or nowhere.
@@ -84,7 +85,7 @@ impl<'a> Symbols<'a> {
     }
 
     /// Adds a name that nothing defines so far.
-    fn push(&mut self, name: &'a [u8], owner: u32) -> Result<u32, AllocError>
+    pub(crate) fn push(&mut self, name: &'a [u8], owner: u32) -> Result<u32, AllocError>
         ensures number { IfOk result (λ number. number ≡ length self.old.list.items) }
         ensures kept { Changes.Extends self.old.list.items self.new.list.items }
         ensures pushed { OnOk result (self.new.list.items ≡ self.old.list.items ++ Changes.fresh name.entry owner ∷ []) }

@@ -1,43 +1,14 @@
 //! The translation of a function.
 
-use crate::fusing::fuse;
-use crate::liveness::note_live;
-use crate::output::Output;
-use crate::places::find_places;
-use crate::plan::{Plan, Planned};
 use crate::statements::translate_statement;
+use cc_emit::Output;
+use cc_plan::{Plan, Planned, plans_of};
 use cc_program::{Function, Item, Program};
 use cc_rules::file_key;
 use std::alloc::{AllocError, Global};
 
 /// The longest name of a source file that is told.
 const LONGEST_NAME: usize = 160;
-
-/// Plans each item of a function.
-fn plan_items(
-    alloc: Global,
-    program: &Program,
-    function: &Function,
-    items: &[Item],
-    plans: &mut [Plan],
-) -> Result<(), AllocError> {
-    note_live(alloc, &program.symbols, function.first, items, plans)?;
-    fuse(items, &program.symbols, plans);
-    find_places(program, function, items, plans);
-    Ok(())
-}
-
-/// A plan for each item of a function.
-fn plans_of(
-    alloc: Global,
-    program: &Program,
-    function: &Function,
-    items: &[Item],
-) -> Result<Vec<Plan>, AllocError> {
-    let mut plans = vec![in alloc; Plan::new(); items.len()]?;
-    plan_items(alloc, program, function, items, plans.as_mut_slice())?;
-    Ok(plans)
-}
 
 /// Adds the name of a source file, which stands in quotes.
 fn put_file(out: &mut Output, quoted: &[u8]) -> Result<(), AllocError> {

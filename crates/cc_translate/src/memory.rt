@@ -1,8 +1,8 @@
 //! Loads and stores.
 
-use crate::output::{Mask, Output};
-use crate::plan::Place;
+use cc_emit::{Mask, Output};
 use cc_lines::{Register, Width};
+use cc_plan::Place;
 use cc_program::Function;
 use cc_rules::signed;
 use std::alloc::AllocError;
@@ -47,7 +47,7 @@ pub(crate) fn constant(out: &mut Output, value: u32, rd: u8) -> Result<(), Alloc
     if is_short(number) {
         return out.statement_with("addi r0,#@,r%", number, &[rd]);
     }
-    out.numbers.insert(value)?;
+    out.keep_number(value)?;
     out.statement_with("ld k.@[r0],r%", i64::from(value), &[rd])
 }
 

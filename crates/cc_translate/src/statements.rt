@@ -1,18 +1,15 @@
 //! The translation of one statement, by itself and its plan.
 
-use crate::effects::{HI, bit};
-use crate::fusing::tested_by;
 use crate::memory::{
     FIRST, SECOND, add_constant, call_at, constant, copy, is_misaligned, is_null, jump_at,
     load_statement, store_statement,
 };
-use crate::output::{Output, Routine};
-use crate::places::{FRAME_WORDS, STACK_WORDS};
-use crate::plan::{Comparison, Place, Planned, Step};
+use cc_emit::{Output, Routine};
 use cc_lines::{
     Condition, Instruction, LinkFrom, Long, Operation, Refusal, Register, Shift, Source, Special,
     Width,
 };
+use cc_plan::{Comparison, FRAME_WORDS, HI, Place, Planned, STACK_WORDS, Step, bit, tested_by};
 use cc_program::{Function, Meaning, Program};
 use cc_rules::{quarter, special_register};
 use std::alloc::AllocError;
@@ -315,6 +312,7 @@ fn shift_by(out: &mut Output, op: Shift, rd: u8, rs: u8, count: u32) -> Result<(
         Shift::Left => out.statement_with("sh r0,r%,#@,r%", 32 - bits, &[rs, rd]),
         Shift::Right => out.statement_with("sh r%,r0,#@,r%", bits, &[rs, rd]),
         Shift::Arithmetic => out.statement_with("asr r%,#@,r%", bits, &[rs, rd]),
+        Shift::Rotate => out.statement_with("sh r%,r%,#@,r%", 32 - bits, &[rs, rs, rd]),
     }
 }
 
@@ -330,6 +328,7 @@ fn shift_by_register(
         Shift::Left => (Routine::ShiftLeft, "ld t.sll[r26],r26"),
         Shift::Right => (Routine::ShiftRight, "ld t.srl[r26],r26"),
         Shift::Arithmetic => (Routine::ShiftArithmetic, "ld t.sra[r26],r26"),
+        Shift::Rotate => (Routine::RotateLeft, "ld t.rol[r26],r26"),
     };
     out.need(which)?;
     out.lines(
@@ -377,7 +376,7 @@ fn end_address(
     base: Register,
     offset: u32,
 ) -> Result<(), AllocError> {
-    out.ends.insert(offset)?;
+    out.keep_end(offset)?;
     out.statement_with("ld k.end.@[r0],r%", i64::from(offset), &[rd.0])?;
     if base == Register::ZERO {
         return Ok(());

@@ -4,9 +4,7 @@ ghost use Rattle.cc_translate.specs.Errors.{IsTooMany};
 
 use crate::error::TranslateError;
 use crate::functions::translate_function;
-use crate::output::Output;
-use crate::routines::put_routines;
-use crate::words::{end_of, put_data};
+use cc_emit::{Output, end_of, put_data, put_routines};
 use cc_program::{Fault, Program, Reader};
 use cc_rules::FIRST_BYTE;
 use std::alloc::{AllocError, Global};
@@ -72,13 +70,25 @@ fn crossing_name<'a>(out: &Output, program: &Program<'a>) -> Option<&'a [u8]> {
     Some(program.symbols.at(out.crossing?)?.name)
 }
 
+/// Adds a number and what it counts, as `1 statement` or `2 statements`.
+fn put_count(out: &mut Output, count: i64, what: &str) -> Result<(), AllocError> {
+    out.number(count)?;
+    out.put(what)?;
+    if count != 1 {
+        out.put("s")?;
+    }
+    Ok(())
+}
+
 /// Adds a comment with the size of the source.
 fn put_size(out: &mut Output, words: u64) -> Result<(), AllocError> {
-    let statements = i64::from(out.statements);
-    out.filled("; @ statements, ", statements, &[])?;
-    let instructions = i64::from(out.instructions);
-    out.filled("@ instructions, ", instructions, &[])?;
-    out.filled("@ data words\n", words.cast_signed(), &[])
+    out.put("; ")?;
+    put_count(out, i64::from(out.statements), " statement")?;
+    out.put(", ")?;
+    put_count(out, i64::from(out.instructions), " instruction")?;
+    out.put(", ")?;
+    put_count(out, words.cast_signed(), " data word")?;
+    out.put("\n")
 }
 
 /// Adds code and data.
@@ -96,6 +106,7 @@ fn put_all<'a>(
         return Err(TranslateError::Fault(Fault {
             unit,
             line,
+            statement: 0,
             refusal,
             symbol: None,
         }));

@@ -1,4 +1,7 @@
 //! Comparisons that are made by the branch that reads them.
+ghost use Rattle.std.specs.Prelude.{◌≡◌, ℕ};
+ghost use Rattle.cc_lines.specs.Conditions.{holds};
+ghost use Rattle.cc_plan.specs.Comparisons.{value_of, asked_by};
 
 use crate::effects::{of, reads, writes};
 use crate::plan::{Comparison, Plan, Step};
@@ -9,8 +12,12 @@ use cc_rules::is_comparison;
 /// How many items before a branch its comparison stands at most.
 const MOST_BETWEEN: usize = 32;
 
-/// The condition that `slt` or `sltu` and its like test.
-pub(crate) fn tested_by(op: Operation, rs: Register, second: Source) -> Comparison {
+/// The condition that `slt` or `sltu` and its like test. Some comparisons without signs are comparisons with register 0.
+#[tactic(auto, using(crate::proofs::Zeros::below_one, crate::proofs::Zeros::above_zero))]
+pub fn tested_by(op: Operation, rs: Register, second: Source) -> Comparison
+    ensures { (words : ℕ → ℕ) → words 0 ≡ 0 → holds result.condition (words result.rs.0) (value_of words result.second)
+        ≡ holds (asked_by op) (words rs.0) (value_of words second) }
+{
     match (op, second) {
         (Operation::Lower, Source::Number(1)) => Comparison {
             condition: Condition::Equal,
@@ -98,7 +105,8 @@ fn comparison_before(
     from: usize,
     x: Register,
 ) -> Option<(usize, Comparison)> {
-    let mut touched = 0u64;
+    // It changes in each statement that needs a register of its own.
+    let mut touched = of(Register::BETWEEN);
     for back in 1..MOST_BETWEEN {
         let i = from.checked_sub(back)?;
         let item = items.get(i)?;

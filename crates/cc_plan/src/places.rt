@@ -1,16 +1,17 @@
 //! Where data are, with each pointer divided by 4 once as long as it is known.
 
 use crate::effects::{HI, bit, of, writes};
+use crate::liveness::calls_label;
 use crate::plan::{Place, Plan, Step};
 use cc_lines::{Instruction, LinkFrom, Long, Operation, Register, Source, Width};
 use cc_program::{Function, Item, Meaning, Program};
 use cc_rules::{byte_of, in_reach, is_last, quarter};
 
 /// The register with the stack pointer / 4.
-pub(crate) const STACK_WORDS: u8 = 28;
+pub const STACK_WORDS: u8 = 28;
 
 /// The register with the frame pointer / 4, in functions that have one.
-pub(crate) const FRAME_WORDS: u8 = 23;
+pub const FRAME_WORDS: u8 = 23;
 
 /// The registers that take quotients of pointers in any function.
 const FIRST_QUOTIENT: u8 = 22;
@@ -439,9 +440,14 @@ fn place_one(
         place_datum(knowledge, datum, address.unwrap_or(0), plan);
     }
     knowledge.learn(instruction, plan, address);
-    if is_last(instruction) {
+    if is_last(instruction) || is_local_call(program, instruction, symbol) {
         knowledge.forget_all();
     }
+}
+
+/// Whether an instruction calls a label of its function, which may change any register.
+fn is_local_call(program: &Program, instruction: &Instruction, symbol: Option<u32>) -> bool {
+    matches!(instruction, Instruction::Call(_)) && calls_label(&program.symbols, symbol)
 }
 
 /// Whether a plan leaves its statement out.

@@ -361,6 +361,7 @@ fn shift_name(which: Routine) -> Option<&'static str> {
         Routine::ShiftLeft => Some("t.sll:\n"),
         Routine::ShiftRight => Some("t.srl:\n"),
         Routine::ShiftArithmetic => Some("t.sra:\n"),
+        Routine::RotateLeft => Some("t.rol:\n"),
         _ => None,
     }
 }
@@ -437,7 +438,7 @@ fn put_numbers(out: &mut Output, end: u32) -> Result<(), AllocError> {
 const STACK_GAP: u32 = 64;
 
 /// The first byte behind all data words, where those of the program end here.
-pub(crate) fn end_of(out: &Output, behind: u64) -> u64
+pub fn end_of(out: &Output, behind: u64) -> u64
     ensures { behind ≤ result }
 {
     behind.saturating_add(more_words(out).saturating_mul(4))
@@ -460,7 +461,7 @@ fn put_words(
 }
 
 /// Adds the data, where those of the program end before the byte `behind`, and all before `end`.
-pub(crate) fn put_data(
+pub fn put_data(
     alloc: Global,
     out: &mut Output,
     program: &Program,

@@ -23,6 +23,19 @@ fn at_target(before: &[u64], symbols: &Symbols, first: usize, symbol: Option<u32
     }
 }
 
+/// What is read where a call goes that is to a label of the function.
+fn at_call(symbols: &Symbols, symbol: Option<u32>) -> u64 {
+    if calls_label(symbols, symbol) { ALL } else { 0 }
+}
+
+/// Whether a call to a symbol is one to a label of the function.
+pub(crate) fn calls_label(symbols: &Symbols, symbol: Option<u32>) -> bool {
+    match symbol {
+        Some(symbol) => matches!(symbols.meaning(symbol), Meaning::Place { .. }),
+        None => false,
+    }
+}
+
 /// What is read behind a jump to what a register holds.
 fn behind_return(register: Register) -> u64 {
     if register == Register::LINK { 0 } else { ALL }
@@ -41,6 +54,7 @@ fn behind(
         Instruction::Jump(LinkFrom::Symbol) => at_target(before, symbols, first, symbol),
         Instruction::Jump(LinkFrom::Register(register)) => behind_return(register),
         Instruction::Branch { .. } => next | at_target(before, symbols, first, symbol),
+        Instruction::Call(LinkFrom::Symbol) => next | at_call(symbols, symbol),
         _ => next,
     }
 }

@@ -256,6 +256,7 @@ fn shift_text(which: Routine) -> &'static str {
     match which {
         Routine::ShiftLeft => "sh r0,r1,#@,r1",
         Routine::ShiftRight => "sh r1,r0,#@,r1",
+        Routine::RotateLeft => "sh r1,r1,#@,r1",
         _ => "asr r1,#@,r1",
     }
 }
@@ -265,10 +266,9 @@ fn put_shift_by(out: &mut Output, which: Routine, count: i64) -> Result<(), Allo
     out.put(which.name())?;
     out.filled(".n@:\n", count, &[])?;
     if count > 0 {
-        let number = if which == Routine::ShiftLeft {
-            32 - count
-        } else {
-            count
+        let number = match which {
+            Routine::ShiftLeft | Routine::RotateLeft => 32 - count,
+            _ => count,
         };
         out.statement_with(shift_text(which), number, &[])?;
     }
@@ -327,7 +327,7 @@ fn need_called(out: &mut Output) -> Result<(), AllocError> {
 }
 
 /// Adds the routines that are called.
-pub(crate) fn put_routines(out: &mut Output) -> Result<(), AllocError> {
+pub fn put_routines(out: &mut Output) -> Result<(), AllocError> {
     need_called(out)?;
     for which in &ROUTINES {
         if out.needs(*which) {

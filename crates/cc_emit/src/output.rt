@@ -1,6 +1,8 @@
 //! The text of the translation.
+ghost use Rattle.std.specs.Prelude.{◌≡◌, ◌++◌, Some, OnOk};
+ghost use Rattle.cc_emit.specs.Labels.{labelled};
 
-use cc_lines::Refusal;
+use cc_lines::{Refusal, is_numbered};
 use cc_program::Symbols;
 use indexmap::IndexSet;
 use itoa::Buffer;
@@ -8,7 +10,7 @@ use std::alloc::{AllocError, Global};
 
 /// The routines that statements call.
 #[derive(Clone, Copy, PartialEq, Eq)]
-pub(crate) enum Routine {
+pub enum Routine {
     /// The low word of a product.
     Low,
     Product,
@@ -18,6 +20,7 @@ pub(crate) enum Routine {
     ShiftLeft,
     ShiftRight,
     ShiftArithmetic,
+    RotateLeft,
     /// What ends the program at a trap, a quotient by 0, a load or a store at a null pointer, and a full stack.
     Trap,
     Zero,
@@ -26,7 +29,7 @@ pub(crate) enum Routine {
 }
 
 /// All routines, in the order in which they stand in the text.
-pub(crate) static ROUTINES: [Routine; 12] = [
+pub(crate) static ROUTINES: [Routine; 13] = [
     Routine::Low,
     Routine::SignedProduct,
     Routine::Product,
@@ -35,6 +38,7 @@ pub(crate) static ROUTINES: [Routine; 12] = [
     Routine::ShiftLeft,
     Routine::ShiftRight,
     Routine::ShiftArithmetic,
+    Routine::RotateLeft,
     Routine::Trap,
     Routine::Zero,
     Routine::Null,
@@ -42,8 +46,10 @@ pub(crate) static ROUTINES: [Routine; 12] = [
 ];
 
 impl Routine {
-    /// Its label.
-    pub(crate) fn name(self) -> &'static str {
+    /// Its label, which no other has.
+    pub fn name(self) -> &'static str
+        ensures { labelled result.now ≡ Some self }
+    {
         match self {
             Routine::Low => "m.mul",
             Routine::Product => "m.multu",
@@ -53,6 +59,7 @@ impl Routine {
             Routine::ShiftLeft => "m.sll",
             Routine::ShiftRight => "m.srl",
             Routine::ShiftArithmetic => "m.sra",
+            Routine::RotateLeft => "m.rol",
             Routine::Trap => "m.trap",
             Routine::Zero => "m.zero",
             Routine::Null => "m.null",
@@ -63,7 +70,7 @@ impl Routine {
 
 /// Tables of data that statements read.
 #[derive(Clone, Copy, PartialEq, Eq)]
-pub(crate) enum Mask {
+pub enum Mask {
     LoadLeft,
     LoadRight,
     StoreLeft,
@@ -102,7 +109,7 @@ impl Mask {
 
 /// The text, how many statements it has, and what else it needs.
 #[derive(Drop)]
-pub(crate) struct Output {
+pub struct Output {
     pub text: Vec<u8>,
     pub statements: u32,
     /// How many instructions of the assembly they come from.
@@ -110,13 +117,13 @@ pub(crate) struct Output {
     /// The symbol of the function with which there were too many statements.
     pub crossing: Option<u32>,
     /// The numbers that statements load from data, in order.
-    pub numbers: IndexSet<u32>,
+    pub(crate) numbers: IndexSet<u32>,
     /// The addends to the first byte behind all data that statements load from data.
-    pub ends: IndexSet<u32>,
+    pub(crate) ends: IndexSet<u32>,
     routines: Vec<Routine>,
     masks: Vec<Mask>,
     /// How many labels of its own it has.
-    pub labels: u32,
+    labels: u32,
     /// Whether it reads input.
     pub input: bool,
     /// The text and the line of the first statement that is not translated, and why.
@@ -139,7 +146,7 @@ fn statements_in(text: &str) -> u32 {
 
 impl Output {
     /// The empty text.
-    pub(crate) fn new(alloc: Global) -> Output {
+    pub fn new(alloc: Global) -> Output {
         Output {
             text: Vec::new(alloc),
             statements: 0,
@@ -156,30 +163,40 @@ impl Output {
     }
 
     /// Notes why the statement of a line is not translated, if it is the first one.
-    pub(crate) fn refuse(&mut self, unit: u32, line: u32, refusal: Refusal) {
+    pub fn refuse(&mut self, unit: u32, line: u32, refusal: Refusal) {
         if self.fault.is_none() {
             self.fault = Some((unit, line, refusal));
         }
     }
 
-    /// Adds text.
-    pub(crate) fn put(&mut self, text: &str) -> Result<(), AllocError> {
+    /// Lets a number stand in a word of data, which a statement loads: `k.` and the number name it.
+    pub fn keep_number(&mut self, number: u32) -> Result<(), AllocError> {
+        self.numbers.insert(number)?;
+        Ok(())
+    }
+
+    /// Lets an address behind all data stand in a word of data: `k.end.` and the addend name it.
+    pub fn keep_end(&mut self, addend: u32) -> Result<(), AllocError> {
+        self.ends.insert(addend)?;
+        Ok(())
+    }
+
+    /// Adds text, which is no statement.
+    pub fn put(&mut self, text: &str) -> Result<(), AllocError>
+        ensures text { OnOk result (self.new.text.items ≡ self.old.text.items ++ text.now) }
+        ensures statements { self.new.statements ≡ self.old.statements }
+    {
         self.text.extend_from_slice(text.as_bytes())
     }
 
     /// Adds a number.
-    pub(crate) fn number(&mut self, value: i64) -> Result<(), AllocError> {
+    pub fn number(&mut self, value: i64) -> Result<(), AllocError> {
         self.text
             .extend_from_slice(Buffer::new().format(value).as_bytes())
     }
 
     /// Adds text in which each `%` stands for the next of these counts, as registers are told, and each `@` for a number.
-    pub(crate) fn filled(
-        &mut self,
-        text: &str,
-        number: i64,
-        counts: &[u8],
-    ) -> Result<(), AllocError> {
+    pub fn filled(&mut self, text: &str, number: i64, counts: &[u8]) -> Result<(), AllocError> {
         let mut left = counts.iter();
         for byte in text.as_bytes() {
             if *byte == b'%' {
@@ -196,23 +213,18 @@ impl Output {
     }
 
     /// Adds lines, in which each `%` stands for the next of these counts, and each `@` for a number: statements, and labels.
-    pub(crate) fn lines_with(
-        &mut self,
-        text: &str,
-        number: i64,
-        counts: &[u8],
-    ) -> Result<(), AllocError> {
+    pub fn lines_with(&mut self, text: &str, number: i64, counts: &[u8]) -> Result<(), AllocError> {
         self.statements = self.statements.saturating_add(statements_in(text));
         self.filled(text, number, counts)
     }
 
     /// Adds lines, in which each `%` stands for the next of these counts.
-    pub(crate) fn lines(&mut self, text: &str, counts: &[u8]) -> Result<(), AllocError> {
+    pub fn lines(&mut self, text: &str, counts: &[u8]) -> Result<(), AllocError> {
         self.lines_with(text, 0, counts)
     }
 
     /// Adds a statement, in which each `%` stands for the next of these counts, and each `@` for a number.
-    pub(crate) fn statement_with(
+    pub fn statement_with(
         &mut self,
         text: &str,
         number: i64,
@@ -224,12 +236,12 @@ impl Output {
     }
 
     /// Adds a statement, in which each `%` stands for the next of these counts.
-    pub(crate) fn statement(&mut self, text: &str, counts: &[u8]) -> Result<(), AllocError> {
+    pub fn statement(&mut self, text: &str, counts: &[u8]) -> Result<(), AllocError> {
         self.statement_with(text, 0, counts)
     }
 
     /// Adds a statement that ends with the name of a symbol and what follows it up to the end of the line.
-    pub(crate) fn statement_to(
+    pub fn statement_to(
         &mut self,
         text: &str,
         counts: &[u8],
@@ -263,6 +275,11 @@ impl Output {
 
     /// Adds the name of a symbol that belongs to the text with this number, or to all where that is 0.
     fn owned_name(&mut self, name: &[u8], owner: u32) -> Result<(), AllocError> {
+        if is_numbered(name) {
+            self.put("_.n")?;
+            self.letters(name)?;
+            return self.owner(".", owner);
+        }
         if let [b'$', rest @ ..] = name {
             self.letters(rest)?;
             return self.owner(".", owner);
@@ -277,7 +294,7 @@ impl Output {
 
     /// Adds the name that a symbol has in the source: with a `_` before a name of C, and the number of its text behind it
     /// where it is that text's own.
-    pub(crate) fn name(&mut self, symbols: &Symbols, number: u32) -> Result<(), AllocError> {
+    pub fn name(&mut self, symbols: &Symbols, number: u32) -> Result<(), AllocError> {
         match symbols.at(symbols.resolved(number)) {
             Some(symbol) => self.owned_name(symbol.name, symbol.owner),
             None => Ok(()),
@@ -285,13 +302,13 @@ impl Output {
     }
 
     /// Adds a line with the label of a symbol.
-    pub(crate) fn label(&mut self, symbols: &Symbols, symbol: u32) -> Result<(), AllocError> {
+    pub fn label(&mut self, symbols: &Symbols, symbol: u32) -> Result<(), AllocError> {
         self.name(symbols, symbol)?;
         self.put(":\n")
     }
 
     /// A new label of its own: its number.
-    pub(crate) fn fresh(&mut self) -> u32 {
+    pub fn fresh(&mut self) -> u32 {
         self.labels = self.labels.saturating_add(1);
         self.labels
     }
@@ -307,7 +324,7 @@ impl Output {
     }
 
     /// Notes that a routine is called.
-    pub(crate) fn need(&mut self, routine: Routine) -> Result<(), AllocError> {
+    pub fn need(&mut self, routine: Routine) -> Result<(), AllocError> {
         if !self.needs(routine) {
             self.routines.push(routine)?;
         }
@@ -315,7 +332,7 @@ impl Output {
     }
 
     /// Notes that a table is read.
-    pub(crate) fn need_mask(&mut self, mask: Mask) -> Result<(), AllocError> {
+    pub fn need_mask(&mut self, mask: Mask) -> Result<(), AllocError> {
         if !self.needs_mask(mask) {
             self.masks.push(mask)?;
         }

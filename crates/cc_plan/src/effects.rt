@@ -7,7 +7,7 @@ use cc_lines::{Instruction, LinkFrom, Operation, Register, Source, Special, Widt
 pub(crate) const LO: u8 = 32;
 
 /// The bit of HI.
-pub(crate) const HI: u8 = 33;
+pub const HI: u8 = 33;
 
 /// What a call may read: the arguments, and register 15, by which nested functions get theirs.
 pub(crate) const ARGUMENTS: u64 = 0x2000_80f0;
@@ -22,7 +22,7 @@ pub(crate) const RETURNED: u64 = 0xf0ff_000c;
 pub(crate) const ALL: u64 = 0x3_ffff_ffff;
 
 /// The set of one register.
-pub(crate) fn bit(number: u8) -> u64
+pub fn bit(number: u8) -> u64
     ensures { number < 64 → result ≡ 2 ^ number }
 {
     1u64.wrapping_shl(u32::from(number))

@@ -6,7 +6,7 @@ use cc_lines::{Condition, Instruction, Register, Source};
 
 /// Where a datum of a load or a store is.
 #[derive(Clone, Copy)]
-pub(crate) enum Place {
+pub enum Place {
     /// At so many words from what the register holds, from this byte of the word on.
     Byte { base: u8, words: u32, byte: u8 },
     /// At so many words from what the register holds, from the byte on that the low bits of another register tell.
@@ -17,7 +17,7 @@ pub(crate) enum Place {
 
 /// A comparison.
 #[derive(Clone, Copy)]
-pub(crate) struct Comparison {
+pub struct Comparison {
     pub condition: Condition,
     pub rs: Register,
     pub second: Source,
@@ -39,7 +39,7 @@ impl Comparison {
 
 /// What becomes of a statement.
 #[derive(Clone, Copy)]
-pub(crate) enum Step {
+pub enum Step {
     /// It is translated.
     Kept,
     /// A comparison that its branch makes.
@@ -50,7 +50,7 @@ pub(crate) enum Step {
 
 /// What is known of a statement from those around it.
 #[derive(Clone, Copy)]
-pub(crate) struct Plan {
+pub struct Plan {
     pub step: Step,
     /// What is read behind it.
     pub live: u64,
@@ -74,7 +74,7 @@ impl Plan {
 
 /// A statement of a function: its instruction, the symbol that this names, and what is planned for it.
 #[derive(Clone, Copy)]
-pub(crate) struct Planned {
+pub struct Planned {
     pub instruction: Instruction,
     pub symbol: Option<u32>,
     pub line: u32,

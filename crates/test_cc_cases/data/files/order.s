@@ -1,0 +1,4 @@
+        .globl  main
+f:      jal     second
+main:   jal     f
+        jal     first

@@ -1,0 +1,2 @@
+        .globl  main
+main:   li      $2,1; jal nothing; jr $31

@@ -1,0 +1,2 @@
+        .set    pop
+main:   jr      $31
