@@ -135,7 +135,7 @@ CASES = (
          MX_TIMES=yes checks/processes.py""", ("FAILED",)),
     Case("files", "files.py", "a file that is left", "plant tools/launch.py 's/        os.remove(fresh)$/        pass/'; checks/files.py", ("FAILED",)),
     Case("completions", "completions.sh", "texts that are not quoted", """
-        plant tools/install.py "s/^    return \"'\" + text.replace.*/    return \"'\" + text + \"'\"/"; checks/completions.sh""", ("FAILED",)),
+        plant tools/install.py "s/^    return \\"'\\" + text.replace.*/    return \\"'\\" + text + \\"'\\"/"; checks/completions.sh""", ("FAILED",)),
     Case("Python", "python_module.py", "a refusal that cannot be pickled",
          "plant python/zanderanvil/library.py '/def __reduce__/,/return Refusal/d'; checks/python_module.py", ("FAILED",)),
     Case("messages", "messages.py", "a program that prints nothing", "MX_RUN=/bin/true MX_LAB=/bin/true checks/messages.py", ("FAILED",)),
