@@ -4,20 +4,14 @@
 pub fn script() -> &'static str {
     r#"'use strict';
 
-// The data of the page, which stands before this script as JSON:
-//   rows      a fetch each: its address (-1 where it is not known), the place of its first cell, and its cells, a sign for a
-//             cycle: a blank for none, w waits, 0 to 4 a stage, a to e a squashed one, A to E one that an interrupt kills
-//   cycles    a cycle each: only its marks (1 stalled, 2 requested, 4 taken, 8 halted) where it is stalled, else an array with
-//             the fields of FIELD
-//   listing   a word each: address, word, text, origin, line, the two registers that it reads, kind (1 a load, 2 a store,
-//             3 a transfer, 4 a branch that squashes)
-//   words     runs of data words before the first cycle: the first one's address, and their values
-const data = JSON.parse(document.getElementById('data').textContent);
+// ==== tools/serve/viewer.js ====
+// What the page of `draw` and the workbench share. tools/viewer.py writes it into both; change it here.
+
 const FIELD = { marks: 0, a: 1, b: 2, result: 3, ways: 4, md: 5, inputs: 6, fetches: 7, misses: 8, squashes: 9, interrupts: 10,
   byte: 11, registers: 12, address: 13, word: 14 };
 const STAGES = ['IF', 'RF', 'ALU', 'MEM', 'WB'];
-const WAYS = ['', 'the file', 'the bypass in RF', 'the bypass in ALU'];
-const ROW = 20, COLUMN = 38, HEAD = 38, KEPT = 64, SPAN = 15;
+const WAYS = ['', 'the register file', 'the bypass in RF', 'the bypass in ALU'];
+const ROW = 20, COLUMN = 38, HEAD = 38, KEPT = 64, STAY = 15, MOST_CONSOLE = 65536;
 
 const find = id => document.getElementById(id);
 const element = (name, look, words) => {
@@ -29,7 +23,8 @@ const element = (name, look, words) => {
 const hex = (n, digits = 8) => (n >>> 0).toString(16).padStart(digits, '0');
 const bytesOf = text => Uint8Array.from(text, sign => sign.charCodeAt(0));
 const textOf = bytes => new TextDecoder().decode(bytes);
-const character = n => n >= 32 && n < 127 || n >= 160 && n < 0xd800 || n > 0xdfff && n < 0x110000 ? String.fromCodePoint(n) : '';
+// The character of a register or a word that holds one byte of ASCII: the console takes bytes.
+const character = n => n >= 32 && n < 127 ? String.fromCharCode(n) : '';
 const within = (n, low, high) => Math.max(low, Math.min(high, n));
 
 // The index of the last of some sorted numbers that is at most n, -1 where there is none.
@@ -42,70 +37,118 @@ const lastUpTo = (count, at, n) => {
   return low - 1;
 };
 
-// ---- what the data tell ----
+// ---- a range of cycles ----
 
-const cycles = data.cycles, count = cycles.length;
-const marksAt = k => typeof cycles[k] === 'number' ? cycles[k] : cycles[k][FIELD.marks];
-const isStalled = k => (marksAt(k) & 1) !== 0;
-const isTaken = k => (marksAt(k) & 4) !== 0;
+// How a page shows a run: the origin of a word and its line, the lines above the listing, and what it adds to the reason of a no-op.
+const AS_IT_IS = { origin: origin => origin, line: line => line, words: null, more: () => '' };
 
-// Of each cycle the last one up to it that has an array: a stalled cycle changes nothing.
-const told = new Int32Array(count);
-for (let k = 0; k < count; k++) told[k] = typeof cycles[k] === 'number' ? told[k - 1] : k;
-const fieldAt = (k, name) => cycles[told[k]][FIELD[name]];
+class Range {
+  constructor(data, shown = AS_IT_IS) {
+    this.data = data;
+    this.shown = shown;
+    this.words = shown.words;
+    this.from = data.from;
+    this.cycles = data.cycles;
+    this.count = data.cycles.length;
+    this.readListing();
+    this.readRegisters();
+    this.readWords();
+  }
 
-const lines = textOf(bytesOf(data.text)).split('\n');
-const words = new Map();
-data.listing.forEach(([address, word, text, origin, line, a, b, kind], k) =>
-  words.set(address, { k, address, word, text, origin, line, reads: [a, b], kind }));
-const rows = data.rows.map(([address, begins, cells], k) => ({ address, begins, cells, fetch: data.first + k }))
-  .filter(row => row.cells.trim() !== '');
-rows.forEach((row, k) => { row.k = k; });
-// Of several labels of one place the first: they stand the other way round here, since a map keeps the last.
-const labels = new Map(data.labels.map(([name, address, kind]) => [kind + address, name]).reverse());
+  readListing() {
+    const { data, cycles } = this;
+    // Of each cycle the last one up to it that has an array: a stalled cycle changes nothing.
+    this.full = new Int32Array(this.count);
+    for (let k = 0; k < this.count; k++) this.full[k] = typeof cycles[k] === 'number' ? this.full[k - 1] : k;
+    this.listing = new Map();
+    // What the listing shows: the words, and above those of another line of C that line.
+    this.entries = [];
+    let above = 0;
+    for (const [address, word, text, origin, line, a, b, kind] of data.listing) {
+      const held = { address, word, text, origin: this.shown.origin(origin, line), line: this.shown.line(line), reads: [a, b], kind, isCopy: origin[0] === '+', isNoOp: origin === '-',
+        // its line of what is run
+        from: line };
+      if (this.words && held.line && held.line !== above) this.entries.push({ words: held.line + ': ' + (this.words[held.line - 1] || '').trim() });
+      above = held.line || above;
+      held.k = this.entries.length;
+      this.entries.push(held);
+      this.listing.set(address, held);
+    }
+    this.rows = data.rows.map(([address, begins, cells], k) => ({ address, begins, cells, fetch: data.first + k }))
+      .filter(row => row.cells.trim() !== '');
+    this.rows.forEach((row, k) => { row.k = k; });
+    // of several labels of one place the first is shown, as elsewhere
+    this.labels = new Map(data.labels.map(([name, address, kind]) => [kind + address, name]).reverse());
+  }
 
-// The registers as a cycle leaves them. Those of each 64th cycle are kept.
-const kept = [];
-const put = (registers, k) => {
-  if (typeof cycles[k] === 'number') return;
-  const changes = cycles[k][FIELD.registers];
-  for (let j = 0; j < changes.length; j += 2) registers[changes[j]] = changes[j + 1];
-};
-const running = new Array(32).fill(0);
-for (let k = 0; k < count; k++) {
-  put(running, k);
-  if (k % KEPT === 0) kept.push(running.slice());
-}
-const registersAt = k => {
-  const base = k - k % KEPT, found = kept[base / KEPT].slice();
-  for (let j = base + 1; j <= k; j++) put(found, j);
-  return found;
-};
+  // The registers as a cycle leaves them. Those of each 64th cycle are kept.
+  readRegisters() {
+    this.kept = [];
+    const running = new Array(32).fill(0);
+    for (let k = 0; k < this.count; k++) {
+      this.put(running, k);
+      if (k % KEPT === 0) this.kept.push(running.slice());
+    }
+  }
 
-// What each data word held, from which cycle on; and the bytes that were sent.
-const held = new Map();
-for (const [first, ...values] of data.words) values.forEach((value, j) => held.set(first + j, [[-1, value]]));
-const before = bytesOf(data.before), sent = [];
-for (let k = 0; k < count; k++) {
-  if (typeof cycles[k] === 'number') continue;
-  const byte = fieldAt(k, 'byte'), address = fieldAt(k, 'address');
-  if (byte >= 0) sent.push([k, byte]);
-  else if (address >= 0) {
-    if (!held.has(address)) held.set(address, [[-1, 0]]);
-    held.get(address).push([k, fieldAt(k, 'word')]);
+  // What each data word held, from which cycle on; and the bytes that were sent.
+  readWords() {
+    this.held = new Map();
+    for (const [first, ...values] of this.data.words) values.forEach((value, j) => this.held.set(first + j, [[-1, value]]));
+    this.before = bytesOf(this.data.before);
+    this.sent = [];
+    for (let k = 0; k < this.count; k++) {
+      if (typeof this.cycles[k] === 'number') continue;
+      const byte = this.field(k, 'byte'), address = this.field(k, 'address');
+      if (byte >= 0) this.sent.push([k, byte]);
+      else if (address >= 0) {
+        if (!this.held.has(address)) this.held.set(address, [[-1, 0]]);
+        this.held.get(address).push([k, this.field(k, 'word')]);
+      }
+    }
+    this.addresses = [...this.held.keys()].sort((a, b) => a - b);
+  }
+
+  has(cycle) { return cycle >= this.from && cycle < this.from + this.count; }
+  marks(k) { return typeof this.cycles[k] === 'number' ? this.cycles[k] : this.cycles[k][FIELD.marks]; }
+  isStalled(k) { return (this.marks(k) & 1) !== 0; }
+  field(k, name) { return this.cycles[this.full[k]][FIELD[name]]; }
+
+  put(registers, k) {
+    if (typeof this.cycles[k] === 'number') return;
+    const changes = this.cycles[k][FIELD.registers];
+    for (let j = 0; j < changes.length; j += 2) registers[changes[j]] = changes[j + 1];
+  }
+
+  registers(k) {
+    const base = k - k % KEPT, found = this.kept[base / KEPT].slice();
+    for (let j = base + 1; j <= k; j++) this.put(found, j);
+    return found;
+  }
+
+  wordAt(address, k) {
+    const values = this.held.get(address);
+    return values[lastUpTo(values.length, j => values[j][0], k)];
+  }
+
+  // What was sent up to a cycle; of a long console the end alone.
+  console(k) {
+    const many = lastUpTo(this.sent.length, j => this.sent[j][0], k) + 1, whole = this.before.length + many, left = Math.max(0, whole - MOST_CONSOLE);
+    const before = this.before.subarray(Math.min(left, this.before.length)), first = Math.max(0, left - this.before.length);
+    const bytes = new Uint8Array(before.length + many - first);
+    bytes.set(before);
+    for (let j = first; j < many; j++) bytes[before.length + j - first] = this.sent[j][1];
+    return (left ? `(the first ${left} bytes are left out)\n` : '') + textOf(bytes);
+  }
+
+  // The rows that have a cell in a cycle, the oldest first.
+  rowsAt(k) {
+    const found = [];
+    for (let j = lastUpTo(this.rows.length, j => this.rows[j].begins, k); j >= 0 && this.rows[j].begins > k - STAY; j--)
+      if (signAt(this.rows[j], k) !== ' ') found.unshift(this.rows[j]);
+    return found;
   }
 }
-const addresses = [...held.keys()].sort((a, b) => a - b);
-const wordAt = (address, k) => {
-  const values = held.get(address);
-  return values[lastUpTo(values.length, j => values[j][0], k)];
-};
-const consoleAt = k => {
-  const many = lastUpTo(sent.length, j => sent[j][0], k) + 1, bytes = new Uint8Array(before.length + many);
-  bytes.set(before);
-  for (let j = 0; j < many; j++) bytes[before.length + j] = sent[j][1];
-  return textOf(bytes);
-};
 
 // What a sign of a row's cells says.
 const cellOf = sign => {
@@ -117,53 +160,142 @@ const cellOf = sign => {
   return null;
 };
 const signAt = (row, k) => row.cells[k - row.begins] || ' ';
-
-// The rows that have a cell in a cycle, the oldest first.
-const rowsAt = k => {
-  const found = [];
-  for (let j = lastUpTo(rows.length, j => rows[j].begins, k); j >= 0 && rows[j].begins > k - SPAN; j--)
-    if (signAt(rows[j], k) !== ' ') found.unshift(rows[j]);
-  return found;
+const tagOf = sign => {
+  const cell = cellOf(sign);
+  if (cell.look === 'waits') return 'waits';
+  return cell.word + (cell.look === 'squashed' ? '*' : cell.look === 'killed' ? '!' : '');
 };
 
 // ---- reasons ----
 
 const place = address => address < 0 ? '' : hex(address, 4);
-const name = address => labels.has('code' + address) ? labels.get('code' + address) + ' ' + place(address) : place(address);
+const nameOf = (range, address) => range.labels.has('code' + address) ? range.labels.get('code' + address) + ' ' + place(address) : place(address);
 
 // Why a no-op stands at an address: the words before it tell.
-const whyNoOp = address => {
-  const last = words.get(address - 1), other = words.get(address - 2);
+const whyNoOp = (range, address) => {
+  const last = range.listing.get(address - 1), other = range.listing.get(address - 2);
   const transfer = [last, other].find(word => word && word.kind >= 3);
-  if (transfer) return 'a no-op in a slot of ' + place(transfer.address) + ': no other word could stand there';
-  if (last && last.kind === 1) return 'a no-op behind the load at ' + place(last.address) + ', whose value is not there yet: no other word could stand here';
+  if (transfer) return 'a no-op in a slot of ' + place(transfer.address) + ': the list scheduler found no instruction for it' + range.shown.more(range, address);
+  if (last && last.kind === 1)
+    return 'a no-op after the load at ' + place(last.address) + ', whose value is not there yet: the list scheduler found no instruction for it' + range.shown.more(range, address);
   return 'a no-op';
 };
-const whySquashed = row => {
-  const branch = [rows[row.k - 1], rows[row.k - 2]].find(other => other && words.has(other.address) && words.get(other.address).kind === 4);
+const whySquashed = (range, row) => {
+  const branch = [range.rows[row.k - 1], range.rows[row.k - 2]].find(other => other && range.listing.has(other.address) && range.listing.get(other.address).kind === 4);
   return branch ? 'squashed: the branch at ' + place(branch.address) + ' did not hold' : 'squashed';
 };
-const whyWaits = row => (row.address < 0 ? 'its word' : place(row.address)) + ' is not in the instruction cache, which takes two cycles more';
 
 // Which way each operand of the word in ALU came.
-const operandsAt = (row, k) => {
-  const word = words.get(row.address), ways = fieldAt(k, 'ways');
+const operandsAt = (range, row, k) => {
+  const word = range.listing.get(row.address), ways = range.field(k, 'ways');
   if (!word) return [];
-  return [ways % 4, ways >> 2].map((way, j) => ({ way, register: word.reads[j], value: fieldAt(k, j ? 'b' : 'a') })).filter(o => o.way > 0);
+  return [ways % 4, ways >> 2].map((way, j) => ({ way, register: word.reads[j], value: range.field(k, j ? 'b' : 'a') })).filter(it => it.way > 0);
 };
-const whyAt = (row, k) => {
-  const sign = signAt(row, k), cell = cellOf(sign), word = words.get(row.address), reasons = [];
-  if (sign === 'w') reasons.push(whyWaits(row));
-  if (cell.look === 'squashed') reasons.push(whySquashed(row));
+const whyAt = (range, row, k) => {
+  const sign = signAt(row, k), cell = cellOf(sign), word = range.listing.get(row.address), reasons = [];
+  if (sign === 'w') {
+    reasons.push((row.address < 0 ? 'its word' : place(row.address)) + ' is not in the instruction cache, which takes two cycles more');
+    const moved = lastMoving(range, k), fetched = moved < 0 ? null : range.rowsAt(moved).find(it => cellOf(signAt(it, moved)).stage === 0);
+    if (fetched) reasons.push('the word fetched before it, at ' + place(fetched.address) + ', waits to enter RF');
+  }
+  if (cell.look === 'squashed') reasons.push(whySquashed(range, row));
   if (cell.look === 'killed') reasons.push('killed by the interrupt that this cycle takes');
-  if (word && word.origin === '-') reasons.push(whyNoOp(row.address));
+  if (word && word.isNoOp) reasons.push(whyNoOp(range, row.address));
   if (sign === '2' || sign === 'C')
-    for (const o of operandsAt(row, k)) reasons.push('r' + o.register + ' = ' + hex(o.value) + ' from ' + WAYS[o.way]);
-  if (sign === '2') reasons.push('makes ' + hex(fieldAt(k, 'result')));
+    for (const it of operandsAt(range, row, k)) reasons.push('r' + it.register + ' = ' + hex(it.value) + ' from ' + WAYS[it.way]);
+  if (sign === '2') reasons.push('makes ' + hex(range.field(k, 'result')));
   if (sign === '3' && word && word.kind === 2)
-    reasons.push(fieldAt(k, 'byte') >= 0 ? 'sends ' + hex(fieldAt(k, 'byte'), 2) : 'stores ' + hex(fieldAt(k, 'word')) + ' at ' + place(fieldAt(k, 'address')));
+    reasons.push(range.field(k, 'byte') >= 0 ? 'sends ' + hex(range.field(k, 'byte'), 2) : 'stores ' + hex(range.field(k, 'word')) + ' at ' + place(range.field(k, 'address')));
   return reasons.join('; ');
 };
+
+// What a stage holds in a stalled cycle: what it held in the last cycle that was not, since nothing moves.
+const lastMoving = (range, at) => {
+  while (at >= 0 && range.isStalled(at)) at--;
+  return at;
+};
+const heldIn = (range, stage, n, at) => {
+  const moved = lastMoving(range, at), row = moved < 0 ? null : range.rowsAt(moved).find(it => cellOf(signAt(it, moved)).stage === n);
+  if (!row) return { cells: [stage, '', '', '', 'empty; nothing moves in a stalled cycle'] };
+  const word = range.listing.get(row.address);
+  return { row, cells: [stage, nameOf(range, row.address), word ? word.text : '', word ? word.origin : '', 'holds it: nothing moves until IF has its word'] };
+};
+
+// ---- the picture ----
+
+// In a stalled cycle a word stays in the stage that it was in.
+const heldCell = (range, row, j) => {
+  if (!range.isStalled(row.begins + j)) return null;
+  let k = j;
+  while (k >= 0 && range.isStalled(row.begins + k)) k--;
+  const cell = k >= 0 ? cellOf(row.cells[k] || ' ') : null;
+  return cell && cell.look !== 'waits' && /[0-9a-eA-E]/.test(row.cells.slice(j)) ? { ...cell, look: 'held' } : null;
+};
+
+// An arrow of the picture, as its line and its tip.
+const SVG = 'http://www.w3.org/2000/svg';
+const arrow = (fromX, fromY, toX, toY) => {
+  const path = document.createElementNS(SVG, 'path'), tip = document.createElementNS(SVG, 'path');
+  const turn = Math.atan2(toY - fromY, toX - fromX), side = d => `${toX - 7 * Math.cos(turn + d)} ${toY - 7 * Math.sin(turn + d)}`;
+  path.setAttribute('d', `M${fromX} ${fromY}L${toX} ${toY}`);
+  tip.setAttribute('class', 'tip');
+  tip.setAttribute('d', `M${toX} ${toY}L${side(.5)}L${side(-.5)}Z`);
+  return [path, tip];
+};
+
+// ---- tables ----
+
+// A table's roles are told, since a narrow screen shows its rows as grids.
+const lineOf = (names, role, look) => {
+  const line = element('tr');
+  line.setAttribute('role', 'row');
+  names.forEach((words, k) => {
+    const cell = line.appendChild(element(role && k ? 'td' : 'th', look[k], role ? '' : words));
+    cell.setAttribute('role', role && k ? 'cell' : role || 'columnheader');
+  });
+  return line;
+};
+
+// Fills a table. Its cells stay, and only those that have changed are written.
+const fill = (id, heads, entries, look = []) => {
+  const table = find(id), above = heads ? 1 : 0;
+  if (table.rows.length !== entries.length + above) {
+    table.setAttribute('role', 'table');
+    table.replaceChildren(...(heads ? [lineOf(heads, '', look)] : []), ...entries.map(entry => lineOf(entry.cells, 'rowheader', look)));
+  }
+  entries.forEach((entry, n) => {
+    const line = table.rows[n + above];
+    if (line.className !== (entry.look || '')) line.className = entry.look || '';
+    entry.cells.forEach((words, k) => {
+      const cell = line.cells[k], told = String(words);
+      if (cell.textContent !== told) cell.textContent = told;
+    });
+  });
+};
+
+// ---- search ----
+
+const isFound = {
+  store: (range, k) => !range.isStalled(k) && (range.field(k, 'address') >= 0 || range.field(k, 'byte') >= 0),
+  byte: (range, k) => !range.isStalled(k) && range.field(k, 'byte') >= 0,
+  interrupt: (range, k) => (range.marks(k) & 4) !== 0,
+  squash: (range, k) => k > 0 && range.field(k, 'squashes') > range.field(k - 1, 'squashes'),
+};
+
+const STEPS = { ArrowRight: 1, ArrowLeft: -1, ArrowDown: 1, ArrowUp: -1, PageDown: 16, PageUp: -16, Home: -Infinity, End: Infinity };
+// ==== the end of tools/serve/viewer.js ====
+
+// The data of the page, which stands before this script as JSON:
+//   rows      a fetch each: its address (-1 where it is not known), the place of its first cell, and its cells, a sign for a
+//             cycle: a blank for none, w waits, 0 to 4 a stage, a to e a squashed one, A to E one that an interrupt kills
+//   cycles    a cycle each: only its marks (1 stalled, 2 requested, 4 taken, 8 halted) where it is stalled, else an array with
+//             the fields of FIELD
+//   listing   a word each: address, word, text, origin, line, the two registers that it reads, kind (1 a load, 2 a store,
+//             3 a transfer, 4 a branch that squashes)
+//   words     runs of data words before the first cycle: the first one's address, and their values
+const data = JSON.parse(find('data').textContent);
+const range = new Range(data), count = range.count;
+const lines = textOf(bytesOf(data.text)).split('\n');
 
 // ---- lists of equal lines, of which only those in view are in the document ----
 
@@ -206,13 +338,13 @@ const source = listOf(find('source'), lines.length, k =>
 const listing = listOf(find('listing'), data.listing.length, k => {
   const [address, word, text, origin] = data.listing[k], tag = marks.words.get(address) || '';
   const entry = element('div', tag ? 'entry on' : 'entry');
-  const label = labels.get('code' + address);
+  const label = range.labels.get('code' + address);
   entry.append(element('span', 'tag', tag), place(address) + ' ' + hex(word) + ' ' + origin.padStart(5) + '  ' + text + (label ? '   ; ' + label : ''));
   return entry;
 });
-const stored = listOf(find('words'), addresses.length, k => {
-  const address = addresses[k], [since, value] = wordAt(address, current);
-  const label = labels.get('data' + address);
+const stored = listOf(find('words'), range.addresses.length, k => {
+  const address = range.addresses[k], [since, value] = range.wordAt(address, current);
+  const label = range.labels.get('data' + address);
   return element('div', since === current ? 'entry changed' : 'entry', (since === current ? '>' : ' ') + hex(address, 4) + ' ' + hex(value) + ' '
     + String(value | 0).padStart(11) + ' ' + character(value) + (label ? '   ; ' + label : ''));
 });
@@ -229,7 +361,7 @@ const drawHeads = () => {
   const first = within(Math.floor(view.scrollLeft / COLUMN) - 2, 0, count), behind = Math.min(count, first + Math.ceil(view.clientWidth / COLUMN) + 4);
   const heads = [corner];
   for (let k = first; k < behind; k++) {
-    const cycle = data.from + k, marks = marksAt(k), byte = isStalled(k) ? -1 : fieldAt(k, 'byte');
+    const cycle = data.from + k, marks = range.marks(k), byte = range.isStalled(k) ? -1 : range.field(k, 'byte');
     const number = cycle < 100000 || k % 2 === 0 ? String(cycle) : '';
     const event = (marks & 4 ? 'int' : marks & 2 ? 'req' : '') + (byte >= 0 ? (byte > 32 && byte < 127 ? "'" + String.fromCharCode(byte) + "'" : hex(byte, 2)) : '');
     const head = element('span', k === current ? 'head on' : 'head', number + '\n' + event);
@@ -240,7 +372,7 @@ const drawHeads = () => {
 };
 
 const drawRow = row => {
-  const word = words.get(row.address), sign = signAt(row, current), line = element('div', sign === ' ' ? 'row' : 'row on');
+  const word = range.listing.get(row.address), sign = signAt(row, current), line = element('div', sign === ' ' ? 'row' : 'row on');
   const label = element('div', 'label');
   label.append(element('span', '', row.address < 0 ? '----' : place(row.address)), element('span', 'what', word ? word.text : ''), element('span', '', word ? word.origin : ''));
   line.append(label);
@@ -256,20 +388,11 @@ const drawRow = row => {
 };
 
 // Arrows for the operands of the word in ALU: from the word in MEM, in this cycle or in that of RF, or from the file.
-const SVG = 'http://www.w3.org/2000/svg';
-const arrow = (fromX, fromY, toX, toY) => {
-  const path = document.createElementNS(SVG, 'path'), tip = document.createElementNS(SVG, 'path');
-  const turn = Math.atan2(toY - fromY, toX - fromX), side = d => `${toX - 7 * Math.cos(turn + d)} ${toY - 7 * Math.sin(turn + d)}`;
-  path.setAttribute('d', `M${fromX} ${fromY}L${toX} ${toY}`);
-  tip.setAttribute('class', 'tip');
-  tip.setAttribute('d', `M${toX} ${toY}L${side(.5)}L${side(-.5)}Z`);
-  return [path, tip];
-};
 const drawWays = held => {
   const made = [];
   const row = held.find(row => '2C'.includes(signAt(row, current)));
-  if (row) operandsAt(row, current).forEach((operand, j) => {
-    const shift = j ? 14 : -14, asked = row.begins + row.cells.indexOf('1'), other = rows[row.k - (operand.way === 3 ? 1 : 2)];
+  if (row) operandsAt(range, row, current).forEach((operand, j) => {
+    const shift = j ? 14 : -14, asked = row.begins + row.cells.indexOf('1'), other = range.rows[row.k - (operand.way === 3 ? 1 : 2)];
     const x = across(operand.way === 3 ? current : asked) + COLUMN / 2 + shift, y = down(row.k) + (j ? 15 : 5);
     if (operand.way > 1 && other) made.push(...arrow(x, down(other.k) + 8, x, down(row.k) + 9));
     else if (operand.way === 1 && asked >= row.begins) made.push(...arrow(across(asked) - 16, y, across(asked) + 4, y));
@@ -278,18 +401,18 @@ const drawWays = held => {
 };
 
 const drawPicture = () => {
-  const first = within(Math.floor((view.scrollTop - HEAD) / ROW) - 3, 0, rows.length);
-  const behind = Math.min(rows.length, first + Math.ceil(view.clientHeight / ROW) + 6);
+  const first = within(Math.floor((view.scrollTop - HEAD) / ROW) - 3, 0, range.rows.length);
+  const behind = Math.min(range.rows.length, first + Math.ceil(view.clientHeight / ROW) + 6);
   drawHeads();
-  find('rows').replaceChildren(...rows.slice(first, behind).map(drawRow));
+  find('rows').replaceChildren(...range.rows.slice(first, behind).map(drawRow));
   find('now').style.left = across(current) + 'px';
-  drawWays(rowsAt(current));
+  drawWays(range.rowsAt(current));
 };
 
 // The picture gets its size, which goes by the width of the labels.
 const measure = () => {
   labelWidth = view.clientWidth < 600 ? 190 : 300;
-  const width = across(count) + 20, height = down(rows.length) + 20;
+  const width = across(count) + 20, height = down(range.rows.length) + 20;
   view.style.setProperty('--label', labelWidth + 'px');
   find('sizer').style.width = width + 'px';
   find('sizer').style.height = height + 'px';
@@ -313,58 +436,33 @@ new ResizeObserver(() => {
 
 // ---- tables ----
 
-// A table's roles are told, since a narrow screen shows its rows as grids.
-const cellIn = (line, name, role, look, words) => {
-  const cell = element(name, look, words);
-  cell.setAttribute('role', role);
-  line.append(cell);
-};
-const fill = (id, heads, entries) => {
-  const made = [];
-  const start = look => {
-    const line = element('tr', look);
-    line.setAttribute('role', 'row');
-    made.push(line);
-    return line;
-  };
-  if (heads) {
-    const line = start();
-    for (const head of heads) cellIn(line, 'th', 'columnheader', head === 'why' ? 'why' : '', head);
-  }
-  for (const entry of entries) {
-    const line = start(entry.look);
-    entry.cells.forEach((words, k) => cellIn(line, k ? 'td' : 'th', k ? 'cell' : 'rowheader', k && k === entry.why ? 'why' : '', words));
-  }
-  find(id).setAttribute('role', 'table');
-  find(id).replaceChildren(...made);
-};
-
 const drawStages = held => {
   const entries = STAGES.map((stage, n) => {
     const row = held.find(row => cellOf(signAt(row, current)).stage === n);
-    if (!row) return { cells: [stage, '', '', '', isStalled(current) ? 'stands still' : ''], why: 4 };
-    const word = words.get(row.address);
-    return { cells: [stage, name(row.address), word ? word.text : '', word ? word.origin : '', whyAt(row, current)], why: 4 };
+    if (!row && range.isStalled(current)) return heldIn(range, stage, n, current);
+    if (!row) return { cells: [stage, '', '', '', ''] };
+    const word = range.listing.get(row.address);
+    return { cells: [stage, nameOf(range, row.address), word ? word.text : '', word ? word.origin : '', whyAt(range, row, current)] };
   });
-  fill('stages', ['stage', 'address', 'word', 'line', 'why'], entries);
+  fill('stages', ['stage', 'address', 'word', 'line', 'why'], entries, ['', '', '', '', 'why']);
   find('told').textContent = 'cycle ' + (data.from + current) + ': ' + held.map(row => {
-    const cell = cellOf(signAt(row, current)), word = words.get(row.address);
+    const cell = cellOf(signAt(row, current)), word = range.listing.get(row.address);
     return cell.word + ' ' + place(row.address) + ' ' + (word ? word.text : '');
   }).join(', ');
 };
 
 const drawRegisters = () => {
-  const now = registersAt(current), last = current ? registersAt(current - 1) : now;
+  const now = range.registers(current), last = current ? range.registers(current - 1) : now;
   const entry = (name, value, old) => ({ look: value === old ? '' : 'changed', cells: [(value === old ? ' ' : '>') + name, hex(value), String(value | 0), character(value)] });
   fill('registers', ['name', 'hexadecimal', 'decimal', 'character'],
-    [...now.map((value, n) => entry('r' + n, value, last[n])), entry('md', fieldAt(current, 'md'), fieldAt(Math.max(0, current - 1), 'md'))]);
+    [...now.map((value, n) => entry('r' + n, value, last[n])), entry('md', range.field(current, 'md'), range.field(Math.max(0, current - 1), 'md'))]);
 };
 
 const drawCounts = () => {
-  const marks = marksAt(current), yes = bit => marks & bit ? 'yes' : 'no';
+  const marks = range.marks(current), yes = bit => marks & bit ? 'yes' : 'no';
   const counts = [['cycles', data.from + current + 1], ['stalled', yes(1)], ['request', yes(2)], ['interrupt taken', yes(4)], ['halted', yes(8)]];
-  for (const count of ['fetches', 'misses', 'squashes', 'interrupts']) counts.push([count, fieldAt(current, count)]);
-  counts.push(['input bytes taken', fieldAt(current, 'inputs')]);
+  for (const count of ['fetches', 'misses', 'squashes', 'interrupts']) counts.push([count, range.field(current, count)]);
+  counts.push(['input bytes taken', range.field(current, 'inputs')]);
   fill('counts', null, counts.map(cells => ({ cells })));
 };
 
@@ -374,23 +472,22 @@ let later = 0;
 const show = k => {
   if (!count) return;
   current = within(k, 0, count - 1);
-  const held = rowsAt(current);
+  const held = range.rowsAt(current);
   marks.lines.clear();
   marks.words.clear();
   for (const row of held) {
-    const sign = signAt(row, current), cell = cellOf(sign), word = words.get(row.address);
+    const word = range.listing.get(row.address), tag = tagOf(signAt(row, current));
     if (!word) continue;
-    const tag = cell.look === 'waits' ? 'waits' : cell.word + (cell.look === 'squashed' ? '*' : cell.look === 'killed' ? '!' : '');
     marks.words.set(row.address, (marks.words.has(row.address) ? marks.words.get(row.address) + ' ' : '') + tag);
     if (word.line) marks.lines.add(word.line);
   }
   drawStages(held);
   drawRegisters();
   drawCounts();
-  find('console').textContent = consoleAt(current);
+  find('console').textContent = range.console(current);
   follow(held);
   drawPicture();
-  const shown = held.map(row => words.get(row.address)).filter(word => word), newest = shown[shown.length - 1];
+  const shown = held.map(row => range.listing.get(row.address)).filter(word => word), newest = shown[shown.length - 1];
   if (newest) {
     const near = shown.map(word => word.k).filter(k => Math.abs(k - newest.k) < 8);
     listing.reveal(Math.min(...near), Math.max(...near));
@@ -399,8 +496,8 @@ const show = k => {
     const near = shown.map(word => word.line).filter(line => line && Math.abs(line - newest.line) < 8);
     source.reveal(Math.min(...near) - 1, Math.max(...near) - 1);
   }
-  const change = isStalled(current) ? -1 : fieldAt(current, 'address');
-  if (change >= 0) stored.reveal(Math.max(0, addresses.indexOf(change)));
+  const change = range.isStalled(current) ? -1 : range.field(current, 'address');
+  if (change >= 0) stored.reveal(Math.max(0, range.addresses.indexOf(change)));
   source.draw();
   listing.draw();
   stored.draw();
@@ -414,21 +511,15 @@ const show = k => {
 // ---- search ----
 
 const visits = [];
-for (const row of rows) {
-  const mem = row.cells.indexOf('3'), word = words.get(row.address);
+for (const row of range.rows) {
+  const mem = row.cells.indexOf('3'), word = range.listing.get(row.address);
   if (mem >= 0 && word && word.line) visits.push([row.begins + mem, word.line]);
 }
-const isFound = {
-  store: k => !isStalled(k) && (fieldAt(k, 'address') >= 0 || fieldAt(k, 'byte') >= 0),
-  byte: k => !isStalled(k) && fieldAt(k, 'byte') >= 0,
-  interrupt: isTaken,
-  squash: k => k > 0 && fieldAt(k, 'squashes') > fieldAt(k - 1, 'squashes'),
-};
 const search = by => {
   const kind = find('kind').value, line = Number(find('line').value);
   const places = kind === 'line' ? new Set(visits.filter(visit => visit[1] === line).map(visit => visit[0])) : null;
   for (let k = current + by; k >= 0 && k < count; k += by)
-    if (places ? places.has(k) : isFound[kind](k)) {
+    if (places ? places.has(k) : isFound[kind](range, k)) {
       find('found').textContent = 'cycle ' + (data.from + k);
       show(k);
       return;
@@ -451,7 +542,6 @@ find('cycle').min = data.from;
 find('cycle').max = data.from + Math.max(0, count - 1);
 find('cycle').onchange = () => show((Number(find('cycle').value) || 0) - data.from);
 
-const STEPS = { ArrowRight: 1, ArrowLeft: -1, ArrowDown: 1, ArrowUp: -1, PageDown: 16, PageUp: -16, Home: -Infinity, End: Infinity };
 document.addEventListener('keydown', event => {
   if (event.ctrlKey || event.altKey || event.metaKey || event.shiftKey || !(event.key in STEPS)) return;
   const at = event.target;
