@@ -94,6 +94,12 @@ class Assembler:
             return (16 + (name == "st")) << 27 | register[1] << 22 | register[2] << 17 | self.number(given[0]) % (1 << 17)
         if name in ("addi", "jspci"):
             return (24 + (name == "jspci")) << 27 | register[0] << 22 | register[2] << 17 | self.number(given[1]) % (1 << 17)
+        if name == "la":
+            return 24 << 27 | register[1] << 17 | self.number(given[0]) % (1 << 17)
+        if name in ("jr", "callr"):
+            return 25 << 27 | register[0] << 22 | (register[1] << 17 if name == "callr" else 0)
+        if name == "call":
+            return 25 << 27 | register[1] << 17 | self.number(given[0]) % (1 << 17)
         return {"jpc": 26, "jpcrs": 27, "halt": 28}[name] << 27
 
 

@@ -49,12 +49,12 @@ cp countdown wanted
 expect 'two instructions in the other order' 0 countdown.s '1 0\n0 1 / - -\n/\n'
 expect 'no plan at all' 0 countdown.s ''
 expect 'tabs and CRs' 0 countdown.s '1\t0\r\n\r\n/'
-{ echo 'plan 2 (line 4) rejected by Order: dependent instructions have to stand as in the source'; cat countdown; } >wanted
+{ echo 'plan 2 (line 4) rejected by Order: dependent instructions stay in source order'; cat countdown; } >wanted
 expect 'a store behind what it depends on' 0 countdown.s '1 0\n1 0 / - -\n/\n'
-{ echo 'plan 2 (line 4) rejected by Once: each instruction has to stand once'; cat countdown; } >wanted
+{ echo 'plan 2 (line 4) rejected by Once: each instruction occurs exactly once'; cat countdown; } >wanted
 expect 'an instruction that is left out' 0 countdown.s '\n0 / - -\n/\n'
 expect 'a number that no instruction has' 0 countdown.s '\n0 1 3 / - -\n/\n'
-{ echo 'plan 2 (line 4) rejected by Terminator: the last instruction has to stand as /'; cat countdown; } >wanted
+{ echo 'plan 2 (line 4) rejected by Terminator: the last instruction is /'; cat countdown; } >wanted
 expect 'a branch that stands as a number' 0 countdown.s '\n0 1 2 - -\n/\n'
 {
     echo 'plan 2 (line 4) rejected by Tail: two items follow the / of a transfer, none that of a halt'
@@ -72,7 +72,7 @@ expect 'a load in the second slot' 0 full_slots.s '/ 0 1\n/\n'
 report 16 8 4 0 5 0 '' 2=00000100 3=00000107 >wanted
 expect 'a shortest plan of two loads' 0 two_loads.s '1 0 3 2\n'
 {
-    echo 'plan 1 (line 4) rejected by Delay: no load stands directly before a reader of its register'
+    echo 'plan 1 (line 4) rejected by Delay: no load is directly followed by a reader of its register'
     report 23 11 6 0 8 3 '' 2=00000100 3=00000107
 } >wanted
 expect 'a load directly before a reader' 0 two_loads.s '0 1 2 3\n'

@@ -42,14 +42,15 @@ pub(crate) fn behind_those_at(links: &[u32], first: usize, address: u32) -> usiz
 }
 
 impl Entry {
-    /// What is told of a word at an address by itself.
+    /// What is told of a word at an address by itself, with the aim of its statement where that is known.
     pub(crate) fn of_word(
         alloc: Global,
         names: &PlaceNames,
+        aim: Option<u32>,
         address: u32,
         word: u32,
     ) -> Result<Entry, AllocError> {
-        let text = word_text(alloc, names, address, word)?;
+        let text = word_text(alloc, names, aim, address, word)?;
         Ok(Entry {
             address,
             word,

@@ -26,7 +26,7 @@ fn entry_at(
     word: u32,
     statements: Option<(u32, u32)>,
 ) -> Result<Entry, AllocError> {
-    let mut entry = Entry::of_word(alloc, names, address, word)?;
+    let mut entry = Entry::of_word(alloc, names, None, address, word)?;
     entry.statements = statements;
     Ok(entry)
 }

@@ -49,6 +49,11 @@ fn line_at(lines: &[u32], place: Option<Place>) -> Option<u32> {
     lines.get(statement as usize).copied()
 }
 
+// Where the statement that the word at a place comes from goes, or of which place it makes the address.
+fn aim_of(names: &PlaceNames, place: Option<Place>) -> Option<u32> {
+    names.aim(place?.statement()?)
+}
+
 /// How far a source is listed.
 #[derive(Clone, Copy)]
 struct Progress {
@@ -88,11 +93,12 @@ fn labelled_word(
     names: &PlaceNames,
     labels: &[(u32, usize)],
     progress: Progress,
+    aim: Option<u32>,
     word: u32,
 ) -> Result<Entry, AllocError> {
     let address = progress.address;
     let texts = labels_at(alloc, names, labels, progress.labels, address)?;
-    let mut entry = Entry::of_word(alloc, names, address, word)?;
+    let mut entry = Entry::of_word(alloc, names, aim, address, word)?;
     entry.labels = texts;
     Ok(entry)
 }
@@ -122,8 +128,9 @@ fn labelled_entries(
     let mut entries = Vec::new(alloc);
     for at in 0..code.len() {
         progress = progress.begin(linked.links.as_slice());
-        let mut entry = labelled_word(alloc, names, labels, progress, code[at])?;
         let place = place_at(source.statements(), origin, at);
+        let aim = aim_of(names, place);
+        let mut entry = labelled_word(alloc, names, labels, progress, aim, code[at])?;
         set_place(&mut entry, source.lines(), progress.block, place);
         progress = progress.next(entry.labels.len());
         entries.push(entry)?;

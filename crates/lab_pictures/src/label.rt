@@ -32,17 +32,19 @@ const INSTRUCTION: usize = 32;
 fn text_of(
     alloc: Global,
     names: &PlaceNames,
+    aim: Option<u32>,
     address: u32,
     inst: &Inst,
 ) -> Result<String, AllocError> {
     let mut text = String::with_capacity(alloc, INSTRUCTION)?;
-    push_instruction(&mut text, names, address, inst)?;
+    push_instruction(&mut text, names, aim, address, inst)?;
     Ok(text)
 }
 
 // Appends the same.
-fn push_inst(text: &mut Writer, names: &PlaceNames, address: u32, inst: &Inst) {
-    if let Some(words) = text.take(text_of(text.alloc(), names, address, inst)) {
+fn push_inst(text: &mut Writer, subject: &Subject, address: u32, inst: &Inst) {
+    let (names, aim) = (subject.names, subject.aim_at(address));
+    if let Some(words) = text.take(text_of(text.alloc(), names, aim, address, inst)) {
         text.push_str(&words);
     }
 }
@@ -50,7 +52,7 @@ fn push_inst(text: &mut Writer, names: &PlaceNames, address: u32, inst: &Inst) {
 // Appends a word of an address.
 fn push_code_word(text: &mut Writer, subject: &Subject, address: u32, word: u32) {
     match decode(word) {
-        Some(inst) => push_inst(text, subject.names, address, &inst),
+        Some(inst) => push_inst(text, subject, address, &inst),
         None => write!(text, "{word:08x}"),
     }
 }

@@ -74,6 +74,14 @@ impl Subject<'_> {
         }
     }
 
+    /// Where the statement of the word at a code address goes, or of which place it makes the address. Of the handler's words nothing is known.
+    pub fn aim_at(&self, address: u32) -> Option<u32> {
+        match self.code_origin(address.checked_sub(CODE_BASE)?) {
+            Origin::Own(statement) | Origin::Copy(statement) => self.names.aim(statement),
+            Origin::Pad => None,
+        }
+    }
+
     // Where the word at a place of the program's code comes from.
     fn code_origin(&self, place: u32) -> Origin {
         match self.linked.origin.get(place as usize) {

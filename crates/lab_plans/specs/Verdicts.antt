@@ -17,11 +17,11 @@ AreVerdicts _ _ _ = ⊥
 
 -- the name of a rule, and what it asks for
 abbrev pub rule_text : Rule → List ℕ
-rule_text Once = codes "Once: each instruction has to stand once"
-rule_text Terminator = codes "Terminator: the last instruction has to stand as /"
+rule_text Once = codes "Once: each instruction occurs exactly once"
+rule_text Terminator = codes "Terminator: the last instruction is /"
 rule_text Tail = codes "Tail: two items follow the / of a transfer, none that of a halt"
-rule_text Order = codes "Order: dependent instructions have to stand as in the source"
-rule_text Delay = codes "Delay: no load stands directly before a reader of its register"
+rule_text Order = codes "Order: dependent instructions stay in source order"
+rule_text Delay = codes "Delay: no load is directly followed by a reader of its register"
 rule_text LastLoad = codes "LastLoad: the last item is no load"
 rule_text Room = codes "Room: no more items stand before the / than in the padded plan"
 

@@ -13,11 +13,11 @@ fn rule_text(rule: Rule) -> &'static str
     ensures { result.now ≡ rule_text rule }
 {
     match rule {
-        Rule::Once => "Once: each instruction has to stand once",
-        Rule::Terminator => "Terminator: the last instruction has to stand as /",
+        Rule::Once => "Once: each instruction occurs exactly once",
+        Rule::Terminator => "Terminator: the last instruction is /",
         Rule::Tail => "Tail: two items follow the / of a transfer, none that of a halt",
-        Rule::Order => "Order: dependent instructions have to stand as in the source",
-        Rule::Delay => "Delay: no load stands directly before a reader of its register",
+        Rule::Order => "Order: dependent instructions stay in source order",
+        Rule::Delay => "Delay: no load is directly followed by a reader of its register",
         Rule::LastLoad => "LastLoad: the last item is no load",
         Rule::Room => "Room: no more items stand before the / than in the padded plan",
     }

@@ -2,7 +2,7 @@
 use Rattle.std.proofs.Common.{◌≡◌, ℕ, suc, ◌+◌, ◌-◌, ◌^◌, ◌<◌, ◌≤◌, min, Bool, true, false, cond, ◌&&◌, ◌==◌, List, [], ◌∷◌, length, map, Option, Some, None, refl, sym, ap, ◌∙◌, subst, arith, nat_le, find, option_map, option_and_then, slice_get}
 use Rattle.std.specs.Prelude.{nat_lt}
 use Rattle.std.proofs.lemmas.Bool.Decides.{nat_tests}
-use Rattle.std.proofs.lemmas.Option.{slice_get_past, slice_get-get_or}
+use Rattle.std.proofs.lemmas.Option.{slice_get_past, slice_get-get_or, slice_get-map}
 use Rattle.mx_source.specs.declared.name.Name.{Name}
 use Rattle.mx_source.specs.declared.statement.Label.{Label}
 use Rattle.mx_source.specs.declared.statement.Label.TheVariants as label
@@ -170,3 +170,16 @@ pub alike_by : (m : Naming) (labels others : Labels) (link : ℕ → ℕ) (words
     → NameAlike m (names_of labels link words n) → NameAlike m (names_of others link words k)
 alike_by m labels others link words n k e e1 h =
     subst (λ ls. NameAlike m (names_of ls link words k)) e (subst (λ d. NameAlike m (names_of labels link words d)) e1 h)
+
+mapped_option : {A : Type 0} (f : A → Option ℕ) (o : Option A) → option_and_then (λ o. o) (option_map f o) ≡ option_and_then f o
+mapped_option f None = refl
+mapped_option f (Some x) = refl
+
+-- the aims of statements, in order
+pub aims_in : {A : Type 0} (f : A → Option ℕ) (aims : List (Option ℕ)) (statements others : List A) (index : ℕ) → aims ≡ map f statements
+    → statements ≡ others → option_and_then (λ o. o) (slice_get aims index) ≡ option_and_then f (slice_get others index)
+aims_in f aims statements others index e h =
+    ap (λ xs. option_and_then (λ o. o) (slice_get xs index)) e
+    ∙ ap (option_and_then (λ o. o)) (slice_get-map f statements index)
+    ∙ mapped_option f (slice_get statements index)
+    ∙ ap (λ ss. option_and_then f (slice_get ss index)) h

@@ -1,5 +1,5 @@
 -- The names of a source's places are its labels.
-use Rattle.std.proofs.Common.{◌≡◌, ℕ, Bool, true, false, cond, ◌||◌, List, [], ◌∷◌, Option, Some, None, refl, sym, ap, ◌∙◌, subst, arith, find, option_map}
+use Rattle.std.proofs.Common.{◌≡◌, ℕ, Bool, true, false, cond, ◌||◌, ◌==◌, List, [], ◌∷◌, Option, Some, None, refl, sym, ap, ◌∙◌, subst, arith, find, option_map}
 use Rattle.std.specs.Prelude.{All, unwrap_or}
 use Rattle.std.specs.List.{list_any}
 use Rattle.std.proofs.lemmas.Bool.Decides.{nat_tests}
@@ -11,7 +11,7 @@ use Rattle.mx_lines.specs.Operands.{label_named}
 use Rattle.mx_lines.specs.Instructions.{Labels}
 use Rattle.mx_asm.specs.Printable.{IsLabelName}
 use Rattle.mx_asm.proofs.Tabled.{are_apart, each_found}
-use Rattle.lab_words.specs.Naming.{is_at, names_of}
+use Rattle.lab_words.specs.Naming.{Naming, is_at, names_of, aimed}
 use Rattle.lab_words.specs.Assembling.{AreLabels}
 use Rattle.lab_words.proofs.Named.{AreNames, NamesCode, NamesData}
 
@@ -62,6 +62,19 @@ index_at : (link : ℕ → ℕ) (a i : ℕ) → link i ≡ a → (l : Label) →
 index_at link a i h (label.Code j) k = let same : j ≡ i = grind (arith, nat_tests) in let there : link j ≡ a = ap link same ∙ h in grind (arith, nat_tests)
 index_at link a i h (label.Data b) k = cc
 
+only_some : (b : Bool) (o : Option (List ℕ)) (name : List ℕ) → cond b o None ≡ Some name → o ≡ Some name
+only_some true o name h = h
+only_some false o name h = cc
+
+-- so are those that an aim leaves
+pub aimed_names : (labels : Labels) (count : ℕ) (link : ℕ → ℕ) (names : Naming) (aim : Option ℕ) → AreNames labels count link names
+    → AreNames labels count link (aimed aim names)
+aimed_names labels count link names None are = are
+aimed_names labels count link names (Some at) are = record {
+  code = λ a name h. are.code a name (only_some (a == at) (names.code a) name h);
+  user_data = are.user_data;
+}
+
 module _ (labels : Labels) (count : ℕ) (link : ℕ → ℕ) (are : AreLabels count labels) where
   code_by : (a : ℕ) (name : List ℕ) (l : Label) → find (on (is_at link a)) labels ≡ Some (name, l) → LabelFits count l → is_at link a l ≡ true
       → NamesCode labels count link a name
@@ -96,10 +109,6 @@ module _ (labels : Labels) (count : ℕ) (link : ℕ → ℕ) (are : AreLabels c
       let found = found_has (λ p. label_named labels p.0 ≡ Some p.1) (names_address a) labels x (each_found labels (are_apart labels are.apart)) e in
       let same : x.0 ≡ name = cc in
       subst (NamesData labels a) same (data_by a x.0 x.1 named.0 found.0 found.1)
-
-  only_some : (b : Bool) (o : Option (List ℕ)) (name : List ℕ) → cond b o None ≡ Some name → o ≡ Some name
-  only_some true o name h = h
-  only_some false o name h = cc
 
   pub are_names : (words data_words : ℕ) → AreNames labels count link (names_of labels link words data_words)
   are_names words data_words = record {

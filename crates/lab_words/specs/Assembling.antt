@@ -1,5 +1,5 @@
 -- That a line in assembly language is assembled to a word.
-use Rattle.std.specs.Prelude.{◌≡◌, ℕ, Bool, true, false, List, All, Ok, is_some, is_none}
+use Rattle.std.specs.Prelude.{◌≡◌, ℕ, ◌==◌, Bool, true, false, ◌&&◌, ◌||◌, List, All, Option, Ok, is_some, is_none}
 use Rattle.mx_isa.specs.declared.inst.Inst.{Inst}
 use Rattle.mx_isa.specs.declared.inst.Inst.TheVariants.{Load, Store, Branch, Compute, Addi, MoveFrom, MoveTo, Jspci, Jpc, Jpcrs, Halt}
 use Rattle.mx_isa.specs.Views.{is_md}
@@ -17,7 +17,7 @@ use Rattle.mx_asm.specs.Printable.{IsLabelName}
 use Rattle.mx_squash.specs.Copies.{no_copies}
 use Rattle.mx_link.specs.Words.{linked_inst}
 use Rattle.lab_words.specs.Naming.{Naming}
-use Rattle.lab_words.specs.Texts.{target, data_label}
+use Rattle.lab_words.specs.Texts.{target, data_label, is_zero, made_label}
 
 -- the line has no label at its front, and in the code section of a text with these labels it is read as this statement
 pub record ReadsAs (labels : Labels) (line : List ℕ) (statement : Statement) : Type 0 where
@@ -38,8 +38,8 @@ pub record AreLabels (count : ℕ) (labels : Labels) : Type 0 where
   pub names : All (λ (p : List ℕ × Label). IsLabelName p.0) labels
   pub apart : AreApart labels
 
--- What a line of a source may ask for: of the moves those of MD, of the branches those that cancel nothing and lead to a label. Jumps and
--- returns have no line: the language has `call`, `callr` and `jr` in place of jumps.
+-- What a line of a source may ask for: of the moves those of MD, of the branches those that cancel nothing and lead to a label, of the jumps
+-- those by a register alone, and those to a label.
 abbrev pub HasLine : Naming → ℕ → Inst → Type 0
 HasLine names address (Load base dest offset) = Unit {0}
 HasLine names address (Store base value offset) = Unit {0}
@@ -48,13 +48,14 @@ HasLine names address (Compute a dest b op) = Unit {0}
 HasLine names address (Addi a dest imm) = Unit {0}
 HasLine names address (MoveFrom dest special) = is_md special ≡ true
 HasLine names address (MoveTo a special) = is_md special ≡ true
-HasLine names address (Jspci a dest imm) = ⊥
+HasLine names address (Jspci a dest imm) = (is_zero imm || (a == 0 && is_some (names.code (target 0 imm)))) ≡ true
 HasLine names address Jpc = ⊥
 HasLine names address Jpcrs = ⊥
 HasLine names address Halt = Unit {0}
 
--- its offset, if it has one, is no label
-abbrev pub is_numbered : Naming → Inst → Bool
-is_numbered names (Load base dest offset) = is_none (data_label names offset)
-is_numbered names (Store base value offset) = is_none (data_label names offset)
-is_numbered names _ = true
+-- no number in it is told by a label
+abbrev pub is_numbered : Naming → Option ℕ → Inst → Bool
+is_numbered names aim (Load base dest offset) = is_none (data_label names offset)
+is_numbered names aim (Store base value offset) = is_none (data_label names offset)
+is_numbered names aim (Addi a dest imm) = is_none (made_label names aim a imm)
+is_numbered names aim _ = true

@@ -1,11 +1,13 @@
 -- The names of places.
-use Rattle.std.specs.Prelude.{◌≡◌, ℕ, ◌+◌, ◌-◌, ◌^◌, ◌<◌, Bool, false, ◌&&◌, ◌==◌, List, Option, None, nat_le, nat_lt, slice_get, find, option_map, if◌then◌else◌}
+use Rattle.std.specs.Prelude.{◌≡◌, ℕ, ◌+◌, ◌-◌, ◌^◌, ◌<◌, Bool, false, ◌&&◌, ◌==◌, List, Option, Some, None, nat_le, nat_lt, slice_get, find, option_map, if◌then◌else◌}
 use Rattle.std.specs.Option.{option_and_then}
 use Rattle.std.specs.Borrow.{Bor}
 use Rattle.mx_isa.specs.declared.board.TheConstants.{CODE_BASE, DATA_BASE}
 use Rattle.mx_source.specs.declared.name.Name.{Name}
 use Rattle.mx_source.specs.declared.statement.Label.{Label}
 use Rattle.mx_source.specs.declared.statement.Label.TheVariants.{Code, Data}
+use Rattle.mx_source.specs.declared.statement.Statement.{Statement}
+use Rattle.mx_source.specs.declared.statement.Statement.TheVariants.{LaCode, Branch, Call}
 use Rattle.mx_source.specs.Labels.{names_address}
 use Rattle.mx_source.specs.Names.{name_bytes}
 use Rattle.mx_source.specs.Printed.{Labels}
@@ -32,6 +34,19 @@ names_of labels link words data_words = record {
   code = λ a. if nat_le CODE_BASE a && nat_le a (CODE_BASE + words) then first_named (is_at link a) labels else None;
   user_data = λ a. if nat_le DATA_BASE a && nat_lt a (DATA_BASE + data_words) then first_named (names_address a) labels else None;
 }
+
+-- Where a statement goes, or of which place it makes the address: the address of that place's block. A call and a branch go on behind the
+-- words of that block that stand in their slots.
+abbrev pub aim_of : (ℕ → ℕ) → Statement → Option ℕ
+aim_of link (LaCode dest target) = Some (link target)
+aim_of link (Branch a b condition target) = Some (link target)
+aim_of link (Call dest target) = Some (link target)
+aim_of link statement = None
+
+-- the code word at this address has its name, and no other code word has one; where no address is given, all keep theirs
+abbrev pub aimed : Option ℕ → Naming → Naming
+aimed None names = names
+aimed (Some at) names = record { code = λ a. if a == at then names.code a else None; user_data = names.user_data }
 
 -- the two name the same places, at addresses of 32 bits
 pub record NameAlike (m n : Naming) : Type 0 where
@@ -60,3 +75,7 @@ naming names = record {
   code = from_base names.labels.now.entries names.code.items CODE_BASE;
   user_data = from_base names.labels.now.entries names.user_data.items DATA_BASE;
 }
+
+-- the aim that the program keeps of the statement of an index
+abbrev pub aim_at : PlaceNames → ℕ → Option ℕ
+aim_at names index = option_and_then (λ o. o) (slice_get names.aims.items index)

@@ -2,8 +2,8 @@
 ghost use Rattle.std.specs.Prelude.{◌≡◌, ◌++◌, ◌∷◌, [], ℕ, OnOk, codes, decimal, string_bytes};
 ghost use Rattle.std.specs.Option.{option_map};
 ghost use Rattle.mx_source.specs.Printed.{register, immediate, count, spelled, compute_text, condition_text};
-ghost use Rattle.lab_words.specs.Naming.{naming, lent_name};
-ghost use Rattle.lab_words.specs.Texts.{special_text, name_text, or_number, place_text, data_label, jump_label, memory_text, squash_text, instruction_text, target};
+ghost use Rattle.lab_words.specs.Naming.{naming, aimed, lent_name};
+ghost use Rattle.lab_words.specs.Texts.{special_text, name_text, or_number, place_text, data_label, made_label, memory_text, squash_text, sum_text, register_jump_text, jump_text, instruction_text, target};
 
 use crate::names::PlaceNames;
 use mx_isa::{Cond, Inst, Op, Reg, Special};
@@ -102,18 +102,33 @@ fn push_name_or(text: &mut String, name: Option<&[u8]>, number: i32) -> Result<(
     }
 }
 
-/// Appends the place where a branch leads.
-fn push_place(text: &mut String, names: &PlaceNames, target: u32) -> Result<(), AllocError>
-    ensures { OnOk result (string_bytes text.new ≡ string_bytes text.old ++ place_text (naming names.now) target) }
+/// The first label of a code word, where the word is the aim or no aim is known.
+fn aimed_name<'a>(names: &'a PlaceNames, aim: Option<u32>, address: u32) -> Option<&'a [u8]>
+    ensures { lent_name result ≡ (aimed aim (naming names.now)).code address }
 {
-    if let Some(name) = names.code_name(target) {
+    match aim {
+        Some(at) if at != address => None,
+        _ => names.code_name(address),
+    }
+}
+
+/// Appends the place where a transfer leads.
+fn push_place(
+    text: &mut String,
+    names: &PlaceNames,
+    aim: Option<u32>,
+    target: u32,
+) -> Result<(), AllocError>
+    ensures { OnOk result (string_bytes text.new ≡ string_bytes text.old ++ place_text (aimed aim (naming names.now)) target) }
+{
+    if let Some(name) = aimed_name(names, aim, target) {
         return push_name(text, name);
     }
-    if let Some(name) = names.code_name(target.saturating_sub(1)) {
+    if let Some(name) = aimed_name(names, aim, target.saturating_sub(1)) {
         push_name(text, name)?;
         return text.push_str("+1");
     }
-    if let Some(name) = names.code_name(target.saturating_sub(2)) {
+    if let Some(name) = aimed_name(names, aim, target.saturating_sub(2)) {
         push_name(text, name)?;
         return text.push_str("+2");
     }
@@ -124,17 +139,19 @@ fn push_place(text: &mut String, names: &PlaceNames, target: u32) -> Result<(), 
 fn push_branch(
     text: &mut String,
     names: &PlaceNames,
+    aim: Option<u32>,
     inst: (Cond, bool, Reg, Reg),
     target: u32,
 ) -> Result<(), AllocError>
     ensures { OnOk result (string_bytes text.new ≡ string_bytes text.old
-        ++ spelled (condition_text inst.0 ++ squash_text inst.1) (register inst.2 ∷ register inst.3 ∷ place_text (naming names.now) target ∷ [])) }
+        ++ spelled (condition_text inst.0 ++ squash_text inst.1)
+        (register inst.2 ∷ register inst.3 ∷ place_text (aimed aim (naming names.now)) target ∷ [])) }
 {
     let (cond, squash, a, b) = inst;
     let (word, mark) = (branch_name(cond), squash_word(squash));
     let (a, b) = (a.number(), b.number());
     write!(text, "{word}{mark} r{a},r{b},")?;
-    push_place(text, names, target)
+    push_place(text, names, aim, target)
 }
 
 /// The label of the data word at an offset from 0.
@@ -147,13 +164,15 @@ fn data_label<'a>(names: &'a PlaceNames, offset: i32) -> Option<&'a [u8]>
     }
 }
 
-/// The label of the place to which a jump leads, where it leads to an address alone.
-fn jump_label<'a>(names: &'a PlaceNames, a: Reg, imm: i32) -> Option<&'a [u8]>
-    ensures { lent_name result ≡ jump_label (naming names.now) a imm }
+/// The label of the place whose address a sum with r0 makes, where that is the aim.
+fn made_label<'a>(names: &'a PlaceNames, aim: Option<u32>, a: Reg, imm: i32) -> Option<&'a [u8]>
+    ensures { lent_name result ≡ made_label (naming names.now) aim a imm }
 {
-    match u32::try_from(imm) {
-        Ok(target) if a == Reg::ZERO => names.code_name(target),
-        _ => None,
+    let at = aim?;
+    if a == Reg::ZERO && at == 0u32.wrapping_add_signed(imm) {
+        names.code_name(at)
+    } else {
+        None
     }
 }
 
@@ -174,21 +193,89 @@ fn push_memory(
     write!(text, "[r{base}],r{other}")
 }
 
-/// Appends an instruction with a register, an immediate, which may be a label, and a destination.
+/// Appends an instruction with a register, an immediate and a destination.
 fn push_immediate(
     text: &mut String,
     word: &str,
-    registers: (Reg, Reg),
+    a: Reg,
+    imm: i32,
+    dest: Reg,
+) -> Result<(), AllocError>
+    ensures { OnOk result (string_bytes text.new ≡ string_bytes text.old ++ spelled word.now (register a ∷ immediate imm ∷ register dest ∷ [])) }
+{
+    let (a, dest) = (a.number(), dest.number());
+    write!(text, "{word} r{a},#{imm},r{dest}")
+}
+
+/// Appends a sum with an immediate, or the place whose address it makes.
+fn push_sum(
+    text: &mut String,
     name: Option<&[u8]>,
+    a: Reg,
+    imm: i32,
+    dest: Reg,
+) -> Result<(), AllocError>
+    ensures { OnOk result (string_bytes text.new ≡ string_bytes text.old ++ sum_text (lent_name name.entry) a dest imm) }
+{
+    match name {
+        Some(name) => {
+            let dest = dest.number();
+            text.push_str("la ")?;
+            push_name(text, name)?;
+            write!(text, ",r{dest}")
+        }
+        None => push_immediate(text, "addi", a, imm, dest),
+    }
+}
+
+/// Appends a jump to the address in a register.
+fn push_register_jump(text: &mut String, a: Reg, dest: Reg) -> Result<(), AllocError>
+    ensures { OnOk result (string_bytes text.new ≡ string_bytes text.old ++ register_jump_text a dest) }
+{
+    if dest == Reg::ZERO {
+        let a = a.number();
+        write!(text, "jr r{a}")
+    } else {
+        push_two(text, "callr", a, dest)
+    }
+}
+
+/// Appends a jump to an address.
+fn push_call(
+    text: &mut String,
+    names: &PlaceNames,
+    aim: Option<u32>,
+    target: u32,
+    dest: Reg,
+) -> Result<(), AllocError>
+    ensures { OnOk result (string_bytes text.new ≡ string_bytes text.old
+        ++ spelled (codes "call") (place_text (aimed aim (naming names.now)) target ∷ register dest ∷ [])) }
+{
+    let dest = dest.number();
+    text.push_str("call ")?;
+    push_place(text, names, aim, target)?;
+    write!(text, ",r{dest}")
+}
+
+/// Appends a jump, which leaves an address in a register.
+fn push_jump(
+    text: &mut String,
+    names: &PlaceNames,
+    aim: Option<u32>,
+    registers: (Reg, Reg),
     imm: i32,
 ) -> Result<(), AllocError>
     ensures { OnOk result (string_bytes text.new ≡ string_bytes text.old
-        ++ spelled word.now (register registers.0 ∷ (codes "#" ++ or_number (lent_name name.entry) imm) ∷ register registers.1 ∷ [])) }
+        ++ jump_text (aimed aim (naming names.now)) registers.0 registers.1 imm) }
 {
-    let (a, dest) = (registers.0.number(), registers.1.number());
-    write!(text, "{word} r{a},#")?;
-    push_name_or(text, name, imm)?;
-    write!(text, ",r{dest}")
+    let (a, dest) = registers;
+    if imm == 0 {
+        push_register_jump(text, a, dest)
+    } else if a == Reg::ZERO {
+        push_call(text, names, aim, 0u32.wrapping_add_signed(imm), dest)
+    } else {
+        push_immediate(text, "jspci", a, imm, dest)
+    }
 }
 
 /// Appends a move from a special word.
@@ -210,7 +297,7 @@ fn push_move_to(text: &mut String, a: Reg, special: Special) -> Result<(), Alloc
     push_special(text, special)
 }
 
-/// Appends an instruction that stands at an address, in assembly language.
+/// Appends an instruction that stands at an address, in assembly language, with the aim of the statement that it comes from where that is known.
 ///
 /// # Errors
 ///
@@ -218,10 +305,11 @@ fn push_move_to(text: &mut String, a: Reg, special: Special) -> Result<(), Alloc
 pub fn push_instruction(
     text: &mut String,
     names: &PlaceNames,
+    aim: Option<u32>,
     address: u32,
     inst: &Inst,
 ) -> Result<(), AllocError>
-    ensures { OnOk result (string_bytes text.new ≡ string_bytes text.old ++ instruction_text (naming names.now) address inst.now) }
+    ensures { OnOk result (string_bytes text.new ≡ string_bytes text.old ++ instruction_text (naming names.now) aim address inst.now) }
 {
     match *inst {
         Inst::Load { base, dest, offset } => push_memory(text, names, "ld", offset, (base, dest)),
@@ -238,14 +326,13 @@ pub fn push_instruction(
             by,
         } => {
             let target = address.wrapping_add_signed(by);
-            push_branch(text, names, (cond, squash, a, b), target)
+            push_branch(text, names, aim, (cond, squash, a, b), target)
         }
         Inst::Compute { a, dest, b, op } => push_compute(text, op, a, b, dest),
-        Inst::Addi { a, dest, imm } => push_immediate(text, "addi", (a, dest), None, imm),
-        Inst::Jspci { a, dest, imm } => {
-            let name = jump_label(names, a, imm);
-            push_immediate(text, "jspci", (a, dest), name, imm)
+        Inst::Addi { a, dest, imm } => {
+            push_sum(text, made_label(names, aim, a, imm), a, imm, dest)
         }
+        Inst::Jspci { a, dest, imm } => push_jump(text, names, aim, (a, dest), imm),
         Inst::MoveFrom { dest, special } => push_move_from(text, special, dest),
         Inst::MoveTo { a, special } => push_move_to(text, a, special),
         Inst::Jpc => text.push_str("jpc"),

@@ -1,14 +1,14 @@
 //! The names of places.
-ghost use Rattle.std.specs.Prelude.{◌≡◌, ◌<◌, ℕ, [], length, map, replicate, None, Some, IfOk, slice_index, unwrap_or, if◌then◌else◌};
+ghost use Rattle.std.specs.Prelude.{◌≡◌, ◌<◌, ℕ, [], length, map, replicate, None, Some, IfOk, slice_index, slice_get, unwrap_or, if◌then◌else◌};
 ghost use Rattle.indexmap.specs.IndexMap.{values};
 ghost use Rattle.mx_source.specs.Names.{named_labels};
-ghost use Rattle.lab_words.specs.Naming.{NameAlike, naming, names_of, lent_name, name_at, tabled};
+ghost use Rattle.lab_words.specs.Naming.{NameAlike, naming, names_of, lent_name, name_at, tabled, aim_of, aim_at};
 ghost use Rattle.lab_words.specs.Tables.{place_of, code_offset, data_offset, entry, offset_is, first_from};
-ghost use Rattle.std.specs.Option.{option_or};
+ghost use Rattle.std.specs.Option.{option_or, option_and_then};
 
 use indexmap::IndexMap;
 use mx_isa::{CODE_BASE, DATA_BASE};
-use mx_source::{Label, Name, Source};
+use mx_source::{Label, Name, Source, Statement};
 use std::alloc::{AllocError, Global};
 
 /// What a label names.
@@ -27,6 +27,7 @@ pub struct PlaceNames<'a> {
     places: Vec<NamedPlace>,
     code: Vec<Option<usize>>,
     user_data: Vec<Option<usize>>,
+    aims: Vec<Option<u32>>,
 }
 
 impl NamedPlace {
@@ -91,6 +92,34 @@ fn data_offsets(alloc: Global, places: &[NamedPlace]) -> Result<Vec<Option<u32>>
     places.iter().map(|at| at.data_offset()).collect(alloc)
 }
 
+/// Where a statement goes, or of which place it makes the address: the address of that place's block.
+fn aim_of(statement: &Statement, links: &[u32]) -> Option<u32>
+    ensures { result ≡ aim_of (slice_index links.now) statement.now }
+{
+    match *statement {
+        Statement::LaCode { target, .. }
+        | Statement::Branch { target, .. }
+        | Statement::Call { target, .. } => {
+            Some(links.get(target as usize).copied().unwrap_or(0))
+        }
+        _ => None,
+    }
+}
+
+/// The aims of statements, in order.
+fn aims_of(
+    alloc: Global,
+    statements: &[Statement],
+    links: &[u32],
+) -> Result<Vec<Option<u32>>, AllocError>
+    ensures { IfOk result (λ aims. aims.items ≡ map (aim_of (slice_index links.now)) statements.now) }
+{
+    statements
+        .iter()
+        .map(|statement| aim_of(statement, links))
+        .collect(alloc)
+}
+
 /// A table without an index.
 fn empty_table(alloc: Global, count: usize) -> Result<Vec<Option<usize>>, AllocError>
     ensures { IfOk result (λ table. table.items ≡ replicate count None) }
@@ -131,7 +160,7 @@ fn first_at(
 }
 
 impl<'a> PlaceNames<'a> {
-    /// The labels of a source, of which these are the addresses of its statements' blocks, and the number of its code words.
+    /// The labels and the aims of a source, of which these are the addresses of its statements' blocks, and the number of its code words.
     #[tactic(auto, using(crate::proofs::Firsts::alike_by))]
     pub fn new(
         alloc: Global,
@@ -139,15 +168,18 @@ impl<'a> PlaceNames<'a> {
         links: &[u32],
         words: usize,
     ) -> Result<PlaceNames<'a>, AllocError>
-        ensures { IfOk result (λ names. NameAlike (naming names)
+        ensures names { IfOk result (λ names. NameAlike (naming names)
             (names_of source.now.labels (slice_index links.now) words (length source.now.user_data))) }
+        ensures aims { IfOk result (λ names. (index : ℕ) →
+            aim_at names index ≡ option_and_then (aim_of (slice_index links.now)) (slice_get source.now.statements index)) }
     {
         let data_words = source.user_data().len();
-        let names = PlaceNames::of_labels(alloc, source.labels(), data_words, links, words)?;
+        let mut names = PlaceNames::of_labels(alloc, source.labels(), data_words, links, words)?;
+        names.aims = aims_of(alloc, source.statements(), links)?;
         Ok(names)
     }
 
-    /// These labels, over so many data words, the addresses of the statements' blocks, and so many code words.
+    /// These labels with no aims, over so many data words, the addresses of the statements' blocks, and so many code words.
     #[tactic(auto, using(crate::proofs::Firsts::names_alike))]
     pub fn of_labels(
         alloc: Global,
@@ -156,8 +188,9 @@ impl<'a> PlaceNames<'a> {
         links: &[u32],
         words: usize,
     ) -> Result<PlaceNames<'a>, AllocError>
-        ensures { IfOk result (λ names. NameAlike (naming names)
+        ensures names { IfOk result (λ names. NameAlike (naming names)
             (names_of (named_labels labels.now.entries) (slice_index links.now) words data_words)) }
+        ensures aims { IfOk result (λ names. (index : ℕ) → aim_at names index ≡ None) }
     {
         let places = places_of(alloc, labels, links)?;
         let code_offsets = code_offsets(alloc, places.as_slice())?;
@@ -169,6 +202,7 @@ impl<'a> PlaceNames<'a> {
             places,
             code,
             user_data,
+            aims: Vec::new(alloc),
         })
     }
 
@@ -185,6 +219,13 @@ impl<'a> PlaceNames<'a> {
             Some((name, _)) => name.bytes(),
             None => b"",
         }
+    }
+
+    /// The aim of a statement: the address of the block where it goes, or whose address it makes.
+    pub fn aim(&self, statement: u32) -> Option<u32>
+        ensures { result ≡ aim_at self.now statement }
+    {
+        *self.aims.get(statement as usize)?
     }
 
     /// The first label of a code word.
