@@ -1,8 +1,6 @@
 -- What a row tells.
-use Rattle.std.specs.Prelude.{ℕ, ◌^◌, ℤ, pos, ◌-ℤ◌, Bool, true, false, ◌&&◌, nat_lt, if◌then◌else◌, Option, Some, None, unwrap_or}
+use Rattle.std.specs.Prelude.{ℕ, ◌^◌, ℤ, pos, ◌-ℤ◌, ◌&&◌, nat_lt, if◌then◌else◌, Option, Some, None, unwrap_or}
 use Rattle.std.specs.Option.{option_and_then}
-use Rattle.mx_turn.specs.declared.latches.Stage.{Stage}
-use Rattle.mx_turn.specs.declared.latches.Stage.TheVariants.{Live, Squashed, Empty}
 use Rattle.lab_measures.specs.declared.observed.Entry.{Entry}
 use Rattle.lab_measures.specs.declared.row.Row.{Row}
 
@@ -21,13 +19,3 @@ wait_of row = option_and_then (λ e. behind e.fetched (last_request row)) row.en
 -- how many cycles more the run takes than so many, if it halted
 abbrev pub cost_over : Row → ℕ → Option ℤ
 cost_over row undisturbed = if row.halted then behind row.cycles undisturbed else None
-
--- an address, and whether the word was squashed
-abbrev pub address_in : Stage → Option (ℕ × Bool)
-address_in (Live address) = Some (address, false)
-address_in (Squashed address) = Some (address, true)
-address_in Empty = None
-
--- the first word that the interrupt killed and the handler brings back
-abbrev pub killed_in : Row → Option (ℕ × Bool)
-killed_in row = option_and_then (λ e. address_in e.killed) row.entry

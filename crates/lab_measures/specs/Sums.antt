@@ -1,11 +1,9 @@
 -- What rows come to together.
-use Rattle.std.specs.Prelude.{◌≡◌, ◌≤ℤ◌, ◌<ℤ◌, ℕ, ℤ, ◌&&◌, not, List, [], ◌∷◌, ◌++◌, length, Option, Some, None, IfSome, if◌then◌else◌}
+use Rattle.std.specs.Prelude.{◌≡◌, ◌≤ℤ◌, ◌<ℤ◌, ℕ, ℤ, ◌&&◌, not, List, ◌∷◌, ◌++◌, length, Option, Some, None, IfSome, if◌then◌else◌}
 use Rattle.std.specs.List.{All, filter, filter_map}
 use Rattle.lab_measures.specs.Rows.{wait_of, cost_over}
 use Rattle.lab_measures.specs.declared.row.Row.{Row}
 use Rattle.lab_measures.specs.declared.sweep.Sweep.{Sweep}
-use Rattle.lab_measures.specs.declared.spread.Spread.{Spread}
-use Rattle.lab_measures.specs.Spreads.{IsSpread}
 
 -- how many runs halted
 abbrev pub halted_in : List Row → ℕ
@@ -25,11 +23,6 @@ waits_in rows = filter_map wait_of rows
 
 abbrev pub costs_in : Sweep → List ℤ
 costs_in sweep = filter_map (cost_in sweep) sweep.rows.items
-
--- the spread of some numbers, or none where there is no number
-abbrev pub IsSpreadOf : List ℤ → Option Spread → Type 0
-IsSpreadOf numbers None = numbers ≡ []
-IsSpreadOf numbers (Some s) = IsSpread numbers s
 
 -- a row's wait, where it has one, is less than this; is at most this
 abbrev pub WaitsLess : ℤ → Row → Type 0

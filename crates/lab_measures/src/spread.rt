@@ -1,8 +1,8 @@
 //! How numbers are spread.
-ghost use Rattle.std.specs.Prelude.{◌≡◌, [], IfOk, IfSome, IfNone};
+ghost use Rattle.std.specs.Prelude.{IfOk};
 ghost use Rattle.std.specs.List.Sorted.{IsSorted};
 ghost use Rattle.std.specs.Ordering.{int_cmp};
-ghost use Rattle.lab_measures.specs.Spreads.{IsSpread, Tells};
+ghost use Rattle.lab_measures.specs.Spreads.{Tells};
 
 use std::alloc::{AllocError, Global};
 
@@ -40,10 +40,7 @@ fn bins_of(alloc: Global, sorted: &[i64]) -> Result<Vec<Bin>, AllocError>
 }
 
 /// How some numbers are spread, if there is one.
-pub fn spread_of(alloc: Global, numbers: &[i64]) -> Result<Option<Spread>, AllocError>
-    ensures spread { IfOk result (λ s. IfSome s (IsSpread numbers.now)) }
-    ensures none { IfOk result (λ s. IfNone s (numbers.now ≡ [])) }
-{
+pub fn spread_of(alloc: Global, numbers: &[i64]) -> Result<Option<Spread>, AllocError> {
     let mut sorted = Vec::from_slice(alloc, numbers)?;
     sorted.sort()?;
     let (Some(least), Some(greatest)) = (sorted.first().copied(), sorted.last().copied()) else {
