@@ -2,7 +2,7 @@
 ghost use Rattle.std.specs.Prelude.{IfOk};
 ghost use Rattle.std.specs.List.Sorted.{IsSorted};
 ghost use Rattle.std.specs.Ordering.{int_cmp};
-ghost use Rattle.lab_measures.specs.Spreads.{Tells};
+ghost use Rattle.lab_measures.specs.Spreads.{IsSpreadOf, Tells};
 
 use std::alloc::{AllocError, Global};
 
@@ -40,17 +40,19 @@ fn bins_of(alloc: Global, sorted: &[i64]) -> Result<Vec<Bin>, AllocError>
 }
 
 /// How some numbers are spread, if there is one.
-pub fn spread_of(alloc: Global, numbers: &[i64]) -> Result<Option<Spread>, AllocError> {
+pub fn spread_of(alloc: Global, numbers: &[i64]) -> Result<Option<Spread>, AllocError>
+    ensures { IfOk result (IsSpreadOf numbers.now) }
+{
     let mut sorted = Vec::from_slice(alloc, numbers)?;
     sorted.sort()?;
-    let (Some(least), Some(greatest)) = (sorted.first().copied(), sorted.last().copied()) else {
+    if sorted.is_empty() {
         return Ok(None);
-    };
-    let middle = sorted.len().saturating_sub(1) / 2;
+    }
+    let last = sorted.len() - 1;
     Ok(Some(Spread {
-        least,
-        median: sorted.get(middle).copied().unwrap_or(least),
-        greatest,
+        least: sorted[0],
+        median: sorted[last / 2],
+        greatest: sorted[last],
         bins: bins_of(alloc, sorted.as_slice())?,
     }))
 }

@@ -1,6 +1,7 @@
 //! What rows come to together.
 ghost use Rattle.std.specs.Prelude.{◌≡◌, All, IfOk, IfSome, IfNone, None, length};
 ghost use Rattle.lab_measures.specs.Rows.{wait_of};
+ghost use Rattle.lab_measures.specs.Spreads.{IsSpreadOf};
 ghost use Rattle.lab_measures.specs.Sums.{halted_in, others_in, waits_in, costs_in, WaitsLongest};
 
 use crate::row::Row;
@@ -89,6 +90,8 @@ pub fn sums_of(alloc: Global, sweep: &Sweep) -> Result<Sums, AllocError>
     ensures halted { IfOk result (λ s. s.halted ≡ halted_in sweep.now.rows.items) }
     ensures other { IfOk result (λ s. s.other_console ≡ others_in sweep.now.rows.items) }
     ensures interrupted { IfOk result (λ s. s.interrupted ≡ length (waits_in sweep.now.rows.items)) }
+    ensures cost { IfOk result (λ s. IsSpreadOf (costs_in sweep.now) s.cost) }
+    ensures wait { IfOk result (λ s. IsSpreadOf (waits_in sweep.now.rows.items) s.wait) }
     ensures longest { IfOk result (λ s. IfSome s.longest (WaitsLongest sweep.now.rows.items)) }
     ensures none { IfOk result (λ s. IfNone s.longest (All (λ row. wait_of row ≡ None) sweep.now.rows.items)) }
 {
