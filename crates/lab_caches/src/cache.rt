@@ -1,4 +1,7 @@
 //! A cache of any geometry.
+ghost use Rattle.std.specs.Prelude.{◌≡◌, IfSome, slice_get};
+ghost use Rattle.lab_caches.specs.Places.{IsTaken};
+
 use lab_terms::Geometry;
 use std::alloc::{AllocError, Global};
 
@@ -55,7 +58,13 @@ impl Cache {
     }
 
     // The place that a line is allocated to, in a set whose places begin here.
-    fn allocated(&mut self, set: usize, first: usize) -> usize {
+    fn allocated(&mut self, set: usize, first: usize) -> usize
+        ensures taken { IfSome (slice_get self.old.next.items set)
+            (IsTaken self.old.geometry.ways first result self.old.next.items self.new.next.items set) }
+        ensures geometry { self.new.geometry ≡ self.old.geometry }
+        ensures places { self.new.places.items ≡ self.old.places.items }
+        ensures misses { self.new.misses ≡ self.old.misses }
+    {
         let Some(next) = self.next.get_mut(set) else {
             return first;
         };

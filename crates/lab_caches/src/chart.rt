@@ -1,4 +1,6 @@
 //! Caches as a chart: misses by size.
+ghost use Rattle.std.specs.Prelude.{◌≡◌, ◌==◌, ◌&&◌};
+
 use super::study::{CacheRow, Study};
 use lab_terms::Geometry;
 use lab_writer::Writer;
@@ -57,7 +59,9 @@ fn share(misses: u64, fetches: u64) -> u64 {
 }
 
 // Whether two caches have lines alike, of which a miss brings as many words.
-fn are_alike(one: Geometry, other: Geometry) -> bool {
+fn are_alike(one: Geometry, other: Geometry) -> bool
+    ensures { result ≡ (one.line == other.line && one.brings == other.brings) }
+{
     one.line == other.line && one.brings == other.brings
 }
 

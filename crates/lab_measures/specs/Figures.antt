@@ -9,7 +9,7 @@ use Rattle.mx_squash.specs.Copies.{Site}
 use Rattle.mx_layout.specs.Layout.{IsLayout}
 use Rattle.mx_layout.specs.Kept.{AreKept}
 use Rattle.mx_link.specs.declared.Linked.{Linked}
-use Rattle.mx_link.specs.Origins.{Filling}
+use Rattle.mx_link.specs.Origins.{Filling, origins_of, copies_in}
 use Rattle.mx_code.specs.NoOps.{noops_in}
 use Rattle.mx_link.specs.Linked.{linked_code, linked_data}
 use Rattle.mx_turn.specs.Handler.{shipped}
@@ -38,5 +38,8 @@ pub record AreFigures (Proposes : Block → Plan → Type 0) (filling : Filling)
   pub kept : AreKept Proposes rejected sites proposals
   pub words : f.words ≡ length (linked_code filling source board sites)
   pub noops : f.noops ≡ noops_in (linked_code filling source board sites)
+  pub copies : f.copies ≡ copies_in (origins_of filling sites)
   pub cycles : f.cycles ≡ (run_with filling source sites requests bytes budget).counts.cycles
+  pub misses : f.misses ≡ (run_with filling source sites requests bytes budget).counts.misses
+  pub squashes : f.squashes ≡ (run_with filling source sites requests bytes budget).counts.squashes
   pub halted : f.halted ≡ (run_with filling source sites requests bytes budget).halted

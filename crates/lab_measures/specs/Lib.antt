@@ -2,6 +2,8 @@ pub mod Terms
 pub mod Figures
 pub mod Comparisons
 pub mod Within
+pub mod Rows
+pub mod Spreads
 pub mod Spans
 pub mod Sweeps
 pub mod Sums

@@ -1,5 +1,5 @@
 -- The cycles in which requests come.
-use Rattle.std.specs.Prelude.{ℕ, zero, suc, ◌+◌, ◌-◌, ◌%◌, ◌==◌, cond, List, [], ◌∷◌, ◌++◌}
+use Rattle.std.specs.Prelude.{ℕ, zero, suc, ◌+◌, ◌-◌, ◌*◌, ◌/◌, ◌%◌, ◌==◌, cond, List, [], ◌∷◌, ◌++◌}
 use Rattle.lab_measures.specs.declared.cycles.Span.{Span}
 
 -- how many cycles there are from the first of a span to its last, both included
@@ -14,3 +14,7 @@ cycles_among span (suc n) = cycles_among span n ++ cond (n % span.step == 0) ((s
 -- the cycles of a span, in order
 abbrev pub cycles_in : Span → List ℕ
 cycles_in span = cycles_among span (apart_in span)
+
+-- how many pairs n cycles make
+abbrev pub pairs_of : ℕ → ℕ
+pairs_of n = n * (n - 1) / 2

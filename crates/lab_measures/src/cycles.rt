@@ -1,6 +1,6 @@
 //! The cycles in which requests come.
-ghost use Rattle.std.specs.Prelude.{◌≡◌, ◌<◌, ◌+◌, ◌-◌, IfOk};
-ghost use Rattle.lab_measures.specs.Spans.{cycles_in, apart_in};
+ghost use Rattle.std.specs.Prelude.{◌≡◌, ◌<◌, ◌≤◌, ◌^◌, IfOk, length};
+ghost use Rattle.lab_measures.specs.Spans.{cycles_in, apart_in, pairs_of};
 
 use std::alloc::{AllocError, Global};
 
@@ -22,14 +22,21 @@ impl Span {
     }
 
     /// How many cycles it has.
-    pub fn count(self) -> u64 {
-        let before = self.apart().saturating_sub(1);
-        let behind = before.checked_div(u64::from(self.step)).unwrap_or(0);
-        behind.saturating_add(u64::from(self.from <= self.to))
+    pub fn count(self) -> u64
+        ensures count { 0 < self.step → result ≡ length (cycles_in self) }
+        ensures within { result ≤ 2 ^ 32 }
+    {
+        if self.from > self.to {
+            return 0;
+        }
+        let behind = (self.to - self.from).checked_div(self.step).unwrap_or(0);
+        u64::from(behind) + 1
     }
 
     /// How many pairs of its cycles there are.
-    pub fn pairs(self) -> u64 {
+    pub fn pairs(self) -> u64
+        ensures { 0 < self.step → result ≡ pairs_of (length (cycles_in self)) }
+    {
         let count = self.count();
         count.saturating_mul(count.saturating_sub(1)) / 2
     }

@@ -45,8 +45,13 @@ fn measured<W: Watcher>(
     requires { length conditions.now.input.now ≤ MAX_FILE_BYTES }
     ensures words { IfOk result (λ f. f.words ≡ length linked.now.image.code.items) }
     ensures noops { IfOk result (λ f. f.noops ≡ linked.now.noops) }
+    ensures copies { IfOk result (λ f. f.copies ≡ linked.now.copies) }
     ensures cycles { IfOk result (λ f. f.cycles ≡ (linked_run source.now linked.now
         conditions.now.requests.now conditions.now.input.now conditions.now.budget).counts.cycles) }
+    ensures misses { IfOk result (λ f. f.misses ≡ (linked_run source.now linked.now
+        conditions.now.requests.now conditions.now.input.now conditions.now.budget).counts.misses) }
+    ensures squashes { IfOk result (λ f. f.squashes ≡ (linked_run source.now linked.now
+        conditions.now.requests.now conditions.now.input.now conditions.now.budget).counts.squashes) }
     ensures halted { IfOk result (λ f. f.halted ≡ (linked_run source.now linked.now
         conditions.now.requests.now conditions.now.input.now conditions.now.budget).halted) }
 {

@@ -1,4 +1,7 @@
 //! What is told of a run.
+ghost use Rattle.std.specs.Prelude.{◌≡◌};
+ghost use Rattle.lab_measures.specs.Rows.{last_request, wait_of, cost_over};
+
 use crate::observed::Entry;
 use mx_turn::Stage;
 
@@ -19,19 +22,25 @@ pub struct Row {
 
 impl Row {
     /// The cycle of its last request.
-    pub fn last(&self) -> u32 {
+    pub fn last(&self) -> u32
+        ensures { result ≡ last_request self.now }
+    {
         self.second.unwrap_or(self.first)
     }
 
     /// How many cycles the handler's first word is fetched after the last request, if it is.
-    pub fn wait(&self) -> Option<i64> {
+    pub fn wait(&self) -> Option<i64>
+        ensures { result ≡ wait_of self.now }
+    {
         let entry = self.entry?;
         let fetched = i64::try_from(entry.fetched).ok()?;
         Some(fetched.saturating_sub(i64::from(self.last())))
     }
 
     /// How many cycles more the run takes than so many, if it halted.
-    pub fn cost(&self, undisturbed: u64) -> Option<i64> {
+    pub fn cost(&self, undisturbed: u64) -> Option<i64>
+        ensures { result ≡ cost_over self.now undisturbed }
+    {
         if !self.halted {
             return None;
         }

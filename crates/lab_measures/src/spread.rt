@@ -1,4 +1,9 @@
 //! How numbers are spread.
+ghost use Rattle.std.specs.Prelude.{IfOk};
+ghost use Rattle.std.specs.List.Sorted.{IsSorted};
+ghost use Rattle.std.specs.Ordering.{int_cmp};
+ghost use Rattle.lab_measures.specs.Spreads.{IsSpreadOf, Tells};
+
 use std::alloc::{AllocError, Global};
 
 /// How often a number stands.
@@ -18,32 +23,36 @@ pub struct Spread {
 }
 
 // How often each of some numbers stands, which are in order.
-fn bins_of(alloc: Global, sorted: &[i64]) -> Result<Vec<Bin>, AllocError> {
-    let mut bins: Vec<Bin> = Vec::new(alloc);
-    for number in sorted {
-        match bins.last_mut() {
-            Some(bin) if bin.number == *number => bin.runs = bin.runs.saturating_add(1),
-            _ => bins.push(Bin {
-                number: *number,
-                runs: 1,
-            })?,
+fn bins_of(alloc: Global, sorted: &[i64]) -> Result<Vec<Bin>, AllocError>
+    ensures { IfOk result (λ bins. IsSorted int_cmp sorted.now → Tells bins.items sorted.now) }
+{
+    let mut bins = Vec::new(alloc);
+    let mut runs = 0;
+    for at in 0..sorted.len() {
+        let number = sorted[at];
+        runs += 1;
+        if at + 1 == sorted.len() || sorted[at + 1] != number {
+            bins.push(Bin { number, runs })?;
+            runs = 0;
         }
     }
     Ok(bins)
 }
 
 /// How some numbers are spread, if there is one.
-pub fn spread_of(alloc: Global, numbers: &[i64]) -> Result<Option<Spread>, AllocError> {
+pub fn spread_of(alloc: Global, numbers: &[i64]) -> Result<Option<Spread>, AllocError>
+    ensures { IfOk result (IsSpreadOf numbers.now) }
+{
     let mut sorted = Vec::from_slice(alloc, numbers)?;
     sorted.sort()?;
-    let (Some(least), Some(greatest)) = (sorted.first().copied(), sorted.last().copied()) else {
+    if sorted.is_empty() {
         return Ok(None);
-    };
-    let middle = sorted.len().saturating_sub(1) / 2;
+    }
+    let last = sorted.len() - 1;
     Ok(Some(Spread {
-        least,
-        median: sorted.get(middle).copied().unwrap_or(least),
-        greatest,
+        least: sorted[0],
+        median: sorted[last / 2],
+        greatest: sorted[last],
         bins: bins_of(alloc, sorted.as_slice())?,
     }))
 }

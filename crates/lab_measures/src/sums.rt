@@ -1,6 +1,8 @@
 //! What rows come to together.
-ghost use Rattle.std.specs.Prelude.{◌≡◌, IfOk, length};
-ghost use Rattle.lab_measures.specs.Sums.{halted_in, others_in};
+ghost use Rattle.std.specs.Prelude.{◌≡◌, All, IfOk, IfSome, IfNone, None, length};
+ghost use Rattle.lab_measures.specs.Rows.{wait_of};
+ghost use Rattle.lab_measures.specs.Spreads.{IsSpreadOf};
+ghost use Rattle.lab_measures.specs.Sums.{halted_in, others_in, waits_in, costs_in, WaitsLongest};
 
 use crate::row::Row;
 use crate::spread::{Spread, spread_of};
@@ -41,7 +43,9 @@ fn others_in(rows: &[Row]) -> usize
 }
 
 // The waits of the runs that came to the handler.
-fn waits_of(alloc: Global, rows: &[Row]) -> Result<Vec<i64>, AllocError> {
+fn waits_of(alloc: Global, rows: &[Row]) -> Result<Vec<i64>, AllocError>
+    ensures { IfOk result (λ waits. waits.items ≡ waits_in rows.now) }
+{
     let mut waits = Vec::new(alloc);
     for row in rows {
         if let Some(wait) = row.wait() {
@@ -52,7 +56,9 @@ fn waits_of(alloc: Global, rows: &[Row]) -> Result<Vec<i64>, AllocError> {
 }
 
 // The costs of the runs that halted, where the undisturbed run does.
-fn costs_of(alloc: Global, sweep: &Sweep) -> Result<Vec<i64>, AllocError> {
+fn costs_of(alloc: Global, sweep: &Sweep) -> Result<Vec<i64>, AllocError>
+    ensures { IfOk result (λ costs. costs.items ≡ costs_in sweep.now) }
+{
     let mut costs = Vec::new(alloc);
     for row in sweep.rows.iter() {
         if let Some(cost) = sweep.cost(row) {
@@ -63,7 +69,10 @@ fn costs_of(alloc: Global, sweep: &Sweep) -> Result<Vec<i64>, AllocError> {
 }
 
 // The first run that waits longest.
-fn longest_in(rows: &[Row]) -> Option<Row> {
+fn longest_in(rows: &[Row]) -> Option<Row>
+    ensures longest { IfSome result (WaitsLongest rows.now) }
+    ensures none { IfNone result (All (λ row. wait_of row ≡ None) rows.now) }
+{
     let mut longest: Option<Row> = None;
     let mut most = None;
     for row in rows {
@@ -80,6 +89,11 @@ pub fn sums_of(alloc: Global, sweep: &Sweep) -> Result<Sums, AllocError>
     ensures runs { IfOk result (λ s. s.runs ≡ length sweep.now.rows.items) }
     ensures halted { IfOk result (λ s. s.halted ≡ halted_in sweep.now.rows.items) }
     ensures other { IfOk result (λ s. s.other_console ≡ others_in sweep.now.rows.items) }
+    ensures interrupted { IfOk result (λ s. s.interrupted ≡ length (waits_in sweep.now.rows.items)) }
+    ensures cost { IfOk result (λ s. IsSpreadOf (costs_in sweep.now) s.cost) }
+    ensures wait { IfOk result (λ s. IsSpreadOf (waits_in sweep.now.rows.items) s.wait) }
+    ensures longest { IfOk result (λ s. IfSome s.longest (WaitsLongest sweep.now.rows.items)) }
+    ensures none { IfOk result (λ s. IfNone s.longest (All (λ row. wait_of row ≡ None) sweep.now.rows.items)) }
 {
     let rows = sweep.rows.as_slice();
     let waits = waits_of(alloc, rows)?;

@@ -1,8 +1,9 @@
 //! Runs with a request in each of some cycles in turn.
-ghost use Rattle.std.specs.Prelude.{◌≡◌, ◌<◌, ◌∷◌, All, IfOk, IfSome};
+ghost use Rattle.std.specs.Prelude.{◌≡◌, ◌<◌, ◌∷◌, All, IfOk, IfSome, None, map, if◌then◌else◌};
 ghost use Rattle.std.specs.Option.{option_to_list};
 ghost use Rattle.mx_board.specs.Contents.{IsInput};
-ghost use Rattle.lab_measures.specs.Sweeps.{IsRowOf, firsts};
+ghost use Rattle.lab_measures.specs.Rows.{cost_over};
+ghost use Rattle.lab_measures.specs.Sweeps.{IsRowOf, firsts, requests_of, pairs_in};
 
 use crate::cycles::Span;
 use crate::row::Row;
@@ -30,7 +31,9 @@ pub struct Sweep {
 
 impl Sweep {
     /// How many cycles more than the undisturbed run a run takes, where both halt.
-    pub fn cost(&self, row: &Row) -> Option<i64> {
+    pub fn cost(&self, row: &Row) -> Option<i64>
+        ensures { result ≡ if self.now.halted then cost_over row.now self.now.cycles else None }
+    {
         if self.halted {
             row.cost(self.cycles)
         } else {
@@ -114,6 +117,7 @@ pub fn singles<W: Watcher>(alloc: Global, swept: &Swept, watcher: W) -> Result<V
     requires bytes { IsInput swept.now.input }
     ensures rows { IfOk result (λ rows. All (IsRowOf swept.now) rows.items) }
     ensures firsts { IfOk result (λ rows. firsts rows.items ≡ swept.now.cycles.now) }
+    ensures alone { IfOk result (λ rows. All (λ row. row.second ≡ None) rows.items) }
 {
     let mut progress = Progress::new(watcher);
     let mut rows = Vec::new(alloc);
@@ -130,6 +134,7 @@ pub fn singles<W: Watcher>(alloc: Global, swept: &Swept, watcher: W) -> Result<V
 pub fn pairs<W: Watcher>(alloc: Global, swept: &Swept, watcher: W) -> Result<Vec<Row>, Memory>
     requires bytes { IsInput swept.now.input }
     ensures rows { IfOk result (λ rows. All (IsRowOf swept.now) rows.items) }
+    ensures requests { IfOk result (λ rows. map requests_of rows.items ≡ pairs_in swept.now.cycles.now) }
 {
     let mut progress = Progress::new(watcher);
     let mut rows = Vec::new(alloc);
