@@ -62,7 +62,7 @@ expect 'a branch that stands as a number' 0 countdown.s '\n0 1 2 - -\n/\n'
     cat countdown
 } >wanted
 expect 'a slot too few, and one behind a halt' 0 countdown.s '0 1\n0 1 / -\n/ -\n'
-{ echo 'plan 2 (line 4) rejected by Room: no more items stand before the / than in the padded plan'; cat countdown; } >wanted
+{ echo 'plan 2 (line 4) rejected by Room: at most as many items come before the / as in the padded plan'; cat countdown; } >wanted
 expect 'a no-op too many' 0 countdown.s '\n0 - 1 / - -\n'
 
 report 15 7 4 0 4 0 '' >wanted

@@ -48,10 +48,6 @@ fn measured<W: Watcher>(
     ensures copies { IfOk result (λ f. f.copies ≡ linked.now.copies) }
     ensures cycles { IfOk result (λ f. f.cycles ≡ (linked_run source.now linked.now
         conditions.now.requests.now conditions.now.input.now conditions.now.budget).counts.cycles) }
-    ensures misses { IfOk result (λ f. f.misses ≡ (linked_run source.now linked.now
-        conditions.now.requests.now conditions.now.input.now conditions.now.budget).counts.misses) }
-    ensures squashes { IfOk result (λ f. f.squashes ≡ (linked_run source.now linked.now
-        conditions.now.requests.now conditions.now.input.now conditions.now.budget).counts.squashes) }
     ensures halted { IfOk result (λ f. f.halted ≡ (linked_run source.now linked.now
         conditions.now.requests.now conditions.now.input.now conditions.now.budget).halted) }
 {

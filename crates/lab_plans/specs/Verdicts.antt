@@ -23,7 +23,7 @@ rule_text Tail = codes "Tail: two items follow the / of a transfer, none that of
 rule_text Order = codes "Order: dependent instructions stay in source order"
 rule_text Delay = codes "Delay: no load is directly followed by a reader of its register"
 rule_text LastLoad = codes "LastLoad: the last item is no load"
-rule_text Room = codes "Room: no more items stand before the / than in the padded plan"
+rule_text Room = codes "Room: at most as many items come before the / as in the padded plan"
 
 -- the line of a rejected plan: its line in the file, the line on which its block begins in the source, and the rule
 abbrev pub rejection_line : ℕ → ℕ → Rule → List ℕ

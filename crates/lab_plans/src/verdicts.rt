@@ -19,7 +19,7 @@ fn rule_text(rule: Rule) -> &'static str
         Rule::Order => "Order: dependent instructions stay in source order",
         Rule::Delay => "Delay: no load is directly followed by a reader of its register",
         Rule::LastLoad => "LastLoad: the last item is no load",
-        Rule::Room => "Room: no more items stand before the / than in the padded plan",
+        Rule::Room => "Room: at most as many items come before the / as in the padded plan",
     }
 }
 
