@@ -13,7 +13,7 @@ from typing import Any, Dict, List, NamedTuple, Optional, Tuple
 
 TOP = os.path.dirname(os.path.dirname(os.path.abspath(__file__)))
 sys.path.insert(0, f"{TOP}/python")
-from zanderanvil.laboratory import SOURCE, Laboratory, Record  # noqa: E402
+from zanderanvil.laboratory import Laboratory, Record  # noqa: E402
 from zanderanvil.library import DONE, OUT_OF_BUDGET, Refusal, Run, read_run  # noqa: E402
 
 LOST, WRONG = 1, 2
