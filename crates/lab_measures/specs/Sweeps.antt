@@ -1,6 +1,5 @@
 -- Runs of a program, each with a request in one cycle or in two.
-use Rattle.std.specs.Prelude.{◌≡◌, ℕ, nat_lt, true, List, [], ◌∷◌, ◌++◌, map}
-use Rattle.std.specs.List.{filter}
+use Rattle.std.specs.Prelude.{◌≡◌, ℕ, true, List, ◌∷◌, map}
 use Rattle.std.specs.Option.{option_to_list}
 use Rattle.mx_turn.specs.Program.{Program, image_program}
 use Rattle.mx_turn.specs.Run.{run_of}
@@ -25,12 +24,3 @@ IsRowOf c row = IsRow (image_program c.image.now c.input) c.budget c.undisturbed
 -- the first cycles of rows
 abbrev pub firsts : List Row → List ℕ
 firsts rows = map (λ row. row.first) rows
-
--- a cycle with each of some others that are greater
-abbrev pub pairs_with : ℕ → List ℕ → List (List ℕ)
-pairs_with cycle others = map (λ other. cycle ∷ other ∷ []) (filter (nat_lt cycle) others)
-
--- each two of some cycles of which the one behind is the greater
-abbrev pub pairs_in : List ℕ → List (List ℕ)
-pairs_in [] = []
-pairs_in (cycle ∷ behind) = pairs_with cycle behind ++ pairs_in behind

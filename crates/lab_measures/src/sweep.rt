@@ -1,9 +1,9 @@
 //! Runs with a request in each of some cycles in turn.
-ghost use Rattle.std.specs.Prelude.{◌≡◌, ◌<◌, ◌∷◌, All, IfOk, IfSome, None, map, if◌then◌else◌};
+ghost use Rattle.std.specs.Prelude.{◌≡◌, ◌<◌, ◌∷◌, All, IfOk, IfSome, None, if◌then◌else◌};
 ghost use Rattle.std.specs.Option.{option_to_list};
 ghost use Rattle.mx_board.specs.Contents.{IsInput};
 ghost use Rattle.lab_measures.specs.Rows.{cost_over};
-ghost use Rattle.lab_measures.specs.Sweeps.{IsRowOf, firsts, requests_of, pairs_in};
+ghost use Rattle.lab_measures.specs.Sweeps.{IsRowOf, firsts};
 
 use crate::cycles::Span;
 use crate::row::Row;
@@ -134,7 +134,6 @@ pub fn singles<W: Watcher>(alloc: Global, swept: &Swept, watcher: W) -> Result<V
 pub fn pairs<W: Watcher>(alloc: Global, swept: &Swept, watcher: W) -> Result<Vec<Row>, Memory>
     requires bytes { IsInput swept.now.input }
     ensures rows { IfOk result (λ rows. All (IsRowOf swept.now) rows.items) }
-    ensures requests { IfOk result (λ rows. map requests_of rows.items ≡ pairs_in swept.now.cycles.now) }
 {
     let mut progress = Progress::new(watcher);
     let mut rows = Vec::new(alloc);
