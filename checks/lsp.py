@@ -108,7 +108,7 @@ def drive_texts(editor):
 def drive_places(editor):
     said = editor.at("hover", 1, 9)
     text = said["contents"]["value"] if said else ""
-    tell("hover: what addi does", "the sum of the first and the number" in text, text)
+    tell("hover: what addi does", "the sum of the first register and the number" in text, text)
     tell("hover: its word, its block's plan", "00001000" in text and "block 1, its plan: `" in text, text)
     text = editor.at("hover", 4, 20)["contents"]["value"]
     tell("hover: a code label", text == "code label `start`, line 2: address 0x1000 (4,096)", text)

@@ -302,8 +302,8 @@ def screen():
     """Returns the screen of help, from that of ./mx."""
     text = read(f"{TOP}/mx")
     found = re.search(r"cat <<'END'\n(.*?)\nEND\n", text, re.S).group(1)
-    # the workbench is in the repository alone
-    found = "".join(line for line in found.splitlines(True) if not line.startswith("  serve "))
+    # the workbench, the grading and the language server are in the repository alone
+    found = "".join(line for line in found.splitlines(True) if not line.startswith(("  serve ", "  grade ", "  lsp ")))
     return found[:found.index("C programs")].replace("./mx [--quick | --proved]", "zanderanvil").replace("./mx", "zanderanvil").rstrip() + "\n"
 
 

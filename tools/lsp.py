@@ -129,7 +129,7 @@ def effects() -> Dict[str, str]:
     with open(f"{TOP}/docs/SOURCE.md", encoding="utf-8") as file:
         for line in file:
             cells = [it.strip() for it in line.strip().strip("|").split("|")]
-            if line.startswith("| `") and len(cells) == 3:
+            if line.startswith("| `") and len(cells) >= 2:
                 for form in re.findall(r"`([^`]+)`", cells[0]):
                     found.setdefault(form.split()[0].lower(), f"`{form}`: {cells[1]}")
     return found
