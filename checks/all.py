@@ -99,8 +99,8 @@ CHECKS = (
     Check("processes", ("processes.py",), tools=TINY),
     Check("files", ("files.py",), ("mx_run", "mx_lab"), tools=(*TINY, "readelf")),
     # the workbench
-    Check("workbench's faults", ("serve_faults.py",), ("mx_serve", "mx_cc"), is_alone=True),
-    Check("clients", ("clients.py",), ("mx_serve", "mx_cc"), 15, is_alone=True),
+    Check("workbench's faults", ("serve_faults.py",), ("mx_run", "mx_serve", "mx_cc"), is_alone=True),
+    Check("clients", ("clients.py",), ("mx_run", "mx_serve", "mx_cc"), 15, is_alone=True),
     Check("workbench", ("serve.py",), PROGRAMS, 20, is_alone=True, tools=("chromium",)),
 )
 
