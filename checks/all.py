@@ -96,7 +96,7 @@ CHECKS = (
     Check("schedulers", ("evaluate.py",), ("mx_run", "mx_lab")),
     # what is called proved, processes that are ended, and files that are written meanwhile
     Check("proved", ("proved.py",), (), 15, tools=TINY),
-    Check("processes", ("processes.py",), tools=TINY),
+    Check("processes", ("processes.py",), is_alone=True, tools=TINY),
     Check("files", ("files.py",), ("mx_run", "mx_lab"), tools=(*TINY, "readelf")),
     # the workbench
     Check("workbench's faults", ("serve_faults.py",), ("mx_run", "mx_serve", "mx_cc"), is_alone=True),
