@@ -1,7 +1,7 @@
 #!/bin/bash
 # C programs on the pipeline against the same programs under qemu-mips: the examples of examples/c at five levels of
 # optimization, the library's own tests of checks/cc, and programs that csmith draws. Of each the console and the status
-# of `meaning`, of `run`, and of `run` under 200 drawn interrupts have to be what the native program gives. Where an example
+# of `meaning`, of `run`, and of `run` under 200 random interrupts have to be what the native program gives. Where an example
 # has a file NAME.out, which the host's gcc gave, the native program has to give that too.
 #
 #   checks/cc.sh [DRAWN] [NAME ..]     DRAWN programs of csmith (100), the examples that are named (all)

@@ -2,7 +2,7 @@
 """Changes the assembly that gcc wrote of the stored programs, at random, and translates each text: the translator has to end by itself
 in a time that its length bounds, and to give a source, or one line with the number of a line of the text.
 
-usage: checks/cc_mutated.py [COUNT [SEED]]      COUNT texts (400), drawn from SEED (1)
+usage: checks/cc_mutated.py [COUNT [SEED]]      COUNT texts (400), from SEED (1)
        checks/cc_mutated.py --file FILE         one text, which is printed with what is said of it
 
 It takes mx_cc as ./mx takes it, or the program that MX_CC names. What it changes: bytes, words, lines and pieces of lines are left

@@ -1,7 +1,7 @@
 #!/bin/bash
 # ./mx c and ./mx cc as README types them, and wrong uses of both, each with the status and the one line that it has to give;
 # that a wrong use writes no file and removes none; the programs of checks/cc/cases (checks/cc_cases.py); 200 changed texts of
-# assembly (checks/cc_mutated.py), and 10 drawn ones (checks/cc_drawn.py). It takes the programs that ./mx takes, so it builds them
+# assembly (checks/cc_mutated.py), and 10 random ones (checks/cc_random.py). It takes the programs that ./mx takes, so it builds them
 # where they are not there:
 #     checks/cc_uses.sh
 # It needs the Debian package gcc-mips-linux-gnu.
@@ -133,6 +133,6 @@ rmdir "$top/.mx/probe"
 "$top/checks/cc_cases.py" || failed=$((failed + 1))
 "$top/checks/cc_mutated.py" 200 | tail -n 2
 [ "${PIPESTATUS[0]}" -eq 0 ] || tell 'changed assembly' 'see above'
-"$top/checks/cc_drawn.py" 10 || tell 'drawn assembly' 'see above'
+"$top/checks/cc_random.py" 10 || tell 'random assembly' 'see above'
 [ $failed -eq 0 ] && echo "C commands: compared $compared wrong uses, and the cases of C" || echo "C commands: compared $compared wrong uses; $failed failed"
 [ $failed -eq 0 ]

@@ -1,8 +1,8 @@
 #!/usr/bin/env python3
-"""Draws programs of instructions that GNU's assembler makes of others, as mul, rem, seq, rol and ulw, on random registers and numbers,
+"""Makes random programs of instructions that GNU's assembler makes of others, as mul, rem, seq, rol and ulw, on random registers and numbers,
 and compares what they leave in registers and memory with qemu-mips.
 
-usage: checks/cc_drawn.py [COUNT [SEED]]      COUNT programs (30) of 60 instructions each, drawn from SEED (1)
+usage: checks/cc_random.py [COUNT [SEED]]      COUNT programs (30) of 60 instructions each, from SEED (1)
 
 It takes mx_run and mx_cc as ./mx takes them, or the programs that MX_RUN and MX_CC name. A program in which GNU's sums trap, as abs of
 -2^31, is passed over.
@@ -59,7 +59,7 @@ def branch(draw, result, first, second):
     return [compared, between, f"{draw.choice(('bnez', 'beqz'))} {result},1f", f"addiu {second},{second},1", f"1: li {result},{number(draw)}"]
 
 
-def drawn(draw):
+def statement(draw):
     """Returns the lines of one instruction, and of what it needs before."""
     result, first, second = (draw.choice(REGISTERS) for _ in range(3))
     name = draw.choice(("mul", "abs", "rol", "ror", "word", "addu", "mult", "branch", "branch") + SETS + QUOTIENTS)
@@ -84,7 +84,7 @@ def program(draw, shown):
     lines = [f"addiu $sp,$sp,-{FRAME}"] + [f"sw {it},{4 * i}($sp)" for i, it in enumerate(KEPT)]
     lines += [f"li {it},{number(draw)}" for it in REGISTERS] + ["la $t7,bytes"]
     for _ in range(LINES):
-        lines += drawn(draw)
+        lines += statement(draw)
     lines += [f"addiu $sp,$sp,-{FRAME}"] + [f"sw {it},{4 * i}($sp)" for i, it in enumerate(REGISTERS)]
     for i in range(len(REGISTERS)):
         lines += [f"lw $a0,{4 * i}($sp)", "jal show"]
@@ -111,14 +111,14 @@ def run(words, folder):
 
 def fault_of(text, programs, folder):
     """Returns what differs, or None; and whether the program was compared."""
-    with open(f"{folder}/drawn.s", "w", encoding="utf-8") as file:
+    with open(f"{folder}/random.s", "w", encoding="utf-8") as file:
         file.write(text)
     options = ["-static", "-mno-abicalls", "-fno-pic", "-Wl,--no-warn-mismatch"]
-    subprocess.run([GCC, *options, "drawn.s", "put.c", "-o", "native"], cwd=folder, check=True, capture_output=True)
+    subprocess.run([GCC, *options, "random.s", "put.c", "-o", "native"], cwd=folder, check=True, capture_output=True)
     status, wanted = run(["qemu-mips", "native"], folder)
     if status == -signal.SIGFPE:
         return None, False
-    translated = run([programs[1], "drawn.s", f"{FOLDER}/put.s", "-o", "source.s"], folder)
+    translated = run([programs[1], "random.s", f"{FOLDER}/put.s", "-o", "source.s"], folder)
     if translated[0] != 0:
         return f"refused: {translated[1].strip()}", True
     said = run([programs[0], "run", "source.s"], folder)[1]
@@ -132,16 +132,16 @@ def main():
     with tempfile.TemporaryDirectory() as folder:
         with open(f"{folder}/put.c", "w", encoding="utf-8") as file:
             file.write(PUT)
-        for number_drawn in range(count):
+        for number_of_it in range(count):
             text = program(draw, shown)
             fault, is_compared = fault_of(text, programs, folder)
             compared += is_compared
             if fault:
-                kept = f"{tempfile.gettempdir()}/cc_drawn.{seed}.{number_drawn}.s"
+                kept = f"{tempfile.gettempdir()}/cc_random.{seed}.{number_of_it}.s"
                 with open(kept, "w", encoding="utf-8") as file:
                     file.write(text)
-                common.tell(f"program {number_drawn} of seed {seed}, kept as {kept}", False, fault)
-    return common.finish("drawn assembly", "programs", compared)
+                common.tell(f"program {number_of_it} of seed {seed}, kept as {kept}", False, fault)
+    return common.finish("random assembly", "programs", compared)
 
 
 if __name__ == "__main__":
