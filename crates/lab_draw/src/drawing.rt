@@ -73,7 +73,7 @@ fn words_of<M: Machine>(alloc: Global, machine: &M) -> Result<Vec<u32>, AllocErr
     Ok(words)
 }
 
-// Who keeps the bytes that a run sends.
+// Keeps the bytes that a run sends.
 #[derive(Drop)]
 struct Listener;
 
@@ -101,11 +101,23 @@ impl<M: Machine> Observer<M> for Listener {
         push_byte(notes, cycled.byte)?;
         Ok(cycled)
     }
+
+    fn advance(
+        &self,
+        notes: &mut Vec<u8>,
+        machine: &mut M,
+        _cycle: u32,
+        most: u32,
+    ) -> Result<u32, AllocError> {
+        let done = machine.advance(u64::from(most), notes)?;
+        Ok(done as u32)
+    }
 }
 
-// Who records the cycles from one on up to another, and lets those behind them pass.
+// Records the cycles from one up to another, and lets those after them pass.
 #[derive(Drop)]
 struct Recorder {
+    alloc: Global,
     from: u32,
     to: u32,
 }
@@ -148,6 +160,22 @@ impl<M: Machine> Observer<M> for Recorder {
         let cycled = frame.cycled;
         notes.push(frame)?;
         Ok(cycled)
+    }
+
+    // After the last frame only the end of the run is looked for: what it sends by then is not kept.
+    fn advance(
+        &self,
+        _notes: &mut Vec<Frame>,
+        machine: &mut M,
+        cycle: u32,
+        most: u32,
+    ) -> Result<u32, AllocError> {
+        if !self.is_past(cycle) {
+            return Ok(0);
+        }
+        let mut sent = no_bytes(self.alloc);
+        let done = machine.advance(u64::from(most), &mut sent)?;
+        Ok(done as u32)
     }
 }
 
@@ -226,7 +254,7 @@ fn drawing_of<M: Machine>(
         });
     }
     let to = from + count;
-    let recorder = Recorder { from, to };
+    let recorder = Recorder { alloc, from, to };
     let drawn = observe(machine, requests, from, budget, &recorder, &mut frames)?;
     Ok(Drawing {
         console,

@@ -1,4 +1,4 @@
-//! A machine that tells how far its run has come.
+//! A machine that reports the progress of its run.
 #![tactic(auto)]
 
 mod pipes;

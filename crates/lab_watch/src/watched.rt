@@ -1,13 +1,14 @@
-//! A machine, and who is told how far its run has come.
+//! A machine that reports the progress of its run.
 ghost use Rattle.std.specs.Prelude.{◌≡◌};
 
 use mx_isa::Reg;
 use mx_turn::{Counts, Cycled, Latches, Machine};
+use std::alloc::AllocError;
 
-/// The cycles between two tellings.
-const TOLD_EACH: u32 = 5_000_000;
+/// The cycles between two reports of progress. A machine that does many cycles at once may report a few cycles later.
+const REPORT_EACH: u64 = 5_000_000;
 
-/// Who is told how far a run has come.
+/// What takes reports of progress.
 pub trait Watcher: Copy + Drop {
     /// So many cycles are done.
     fn tell(&self, cycles: u64);
@@ -26,41 +27,41 @@ impl Watcher for Unwatched {
     fn done(&self) {}
 }
 
-/// The machine within, whose watcher is told each time that 5,000,000 cycles more are done.
+/// The machine within, which reports to its watcher each time that 5,000,000 cycles more are done.
 #[derive(Drop)]
 pub struct Watched<M, W> {
     machine: M,
     watcher: W,
-    /// The cycles that were told, and those left until the next telling.
-    told: u64,
-    left: u32,
+    /// The cycles of the last report, and those done since.
+    reported: u64,
+    since: u64,
 }
 
 impl<M: Machine, W: Watcher> Watched<M, W> {
     ghost use Rattle.lab_watch.specs.Within.{within};
 
-    /// The machine with a watcher, who is told of the cycles from now on.
+    /// The machine with a watcher. Reports count the cycles from now on.
     pub fn new(machine: M, watcher: W) -> Watched<M, W>
         ensures { within result ≡ machine }
     {
         Watched {
             machine,
             watcher,
-            told: 0,
-            left: TOLD_EACH,
+            reported: 0,
+            since: 0,
         }
     }
 
-    // One cycle more is about to be done.
-    fn count(&mut self)
+    // So many cycles more are done.
+    fn count(&mut self, cycles: u64)
         ensures { within self.new ≡ within self.old }
     {
-        if self.left == 0 {
-            self.told = self.told.saturating_add(u64::from(TOLD_EACH));
-            self.watcher.tell(self.told);
-            self.left = TOLD_EACH;
+        self.since = self.since.saturating_add(cycles);
+        if self.since >= REPORT_EACH {
+            self.reported = self.reported.saturating_add(self.since);
+            self.watcher.tell(self.reported);
+            self.since = 0;
         }
-        self.left -= 1;
     }
 }
 
@@ -72,8 +73,15 @@ impl<M: Machine, W: Watcher> Machine for Watched<M, W> {
     ghost cycles = { λ t. M.cycles (within t) };
 
     fn cycle(&mut self, request: bool) -> Cycled {
-        self.count();
+        self.count(1);
         self.machine.cycle(request)
+    }
+
+    // Not more at once than between two reports, so that a long run without a request is reported too.
+    fn advance(&mut self, most: u64, console: &mut Vec<u8>) -> Result<u64, AllocError> {
+        let done = self.machine.advance(most.min(REPORT_EACH), console)?;
+        self.count(done);
+        Ok(done)
     }
 
     fn counts(&self) -> Counts {

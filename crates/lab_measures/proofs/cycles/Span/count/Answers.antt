@@ -15,5 +15,6 @@ returns-clause-count c = λ h.
     c.unwrap_or-behind.ensures ∙ divided c.checked_div.result span.step ((span.to - span.from) / span.step) h c.checked_div.ensures in
     let n : length (cycles_among span (suc (span.to - span.from))) ≡ (span.to - span.from) / span.step + 1 = length_among span (span.to - span.from) h in
     let apart : suc (span.to - span.from) ≡ span.to + 1 - span.from = omega arith in
-    let same : length (cycles_among span (suc (span.to - span.from))) ≡ length (cycles_among span (span.to + 1 - span.from)) = ap (λ k. length (cycles_among span k)) apart in
+    let same : length (cycles_among span (suc (span.to - span.from))) ≡ length (cycles_among span (span.to + 1 - span.from)) =
+          ap (λ k. length (cycles_among span k)) apart in
     omega arith
