@@ -39,9 +39,12 @@ def unit():
 
 def main(command):
     """Prints the unit and the figures of a command."""
+    if command and command[0] in ("-h", "--help"):
+        print(__doc__.strip())
+        return 0
     if command and command[0].startswith("-"):
-        print(__doc__.strip(), file=sys.stdout if command[0] in ("-h", "--help") else sys.stderr)
-        return 0 if command[0] in ("-h", "--help") else USAGE
+        print(f"bench/unit.py: unknown option {command[0]}: --help lists what there is", file=sys.stderr)
+        return USAGE
     print(f"{os.cpu_count()} processors, load {os.getloadavg()[0]:.1f}", flush=True)
     clock, processor = unit()
     print(f"unit: {clock:.1f} s, {processor:.1f} processor s", flush=True)
