@@ -1,5 +1,9 @@
 -- What the places of linked code are.
-use Rattle.std.specs.Prelude.{ℕ, Bool, true, false, Option, Some, None, List, [], codes}
+use Rattle.std.specs.Prelude.{ℕ, ◌-◌, Bool, true, false, leb, if◌then◌else◌, Option, Some, None, List, [], codes, slice_get}
+use Rattle.std.specs.Option.{option_map}
+use Rattle.mx_isa.specs.Views as Views
+use Rattle.mx_source.specs.declared.statement.Statement.{Statement}
+use Rattle.mx_source.specs.declared.statement.Statement.TheVariants.{Plain, Branch, Call, CallReg, JumpReg}
 use Rattle.mx_link.specs.declared.linked.Origin.{Origin}
 use Rattle.mx_link.specs.declared.linked.Origin.TheVariants as from
 use Rattle.lab_terms.specs.declared.places.Slot.{Slot}
@@ -16,6 +20,48 @@ place_of (from.Copy k) (Some slot) behind = Copied k slot
 place_of from.Pad (Some slot) behind = EmptySlot slot
 place_of from.Pad None true = BehindLoad
 place_of from.Pad None false = Padding
+
+-- a statement with two slots after it
+abbrev pub is_transfer : Statement → Bool
+is_transfer (Branch a b c t) = true
+is_transfer (Call d t) = true
+is_transfer (CallReg a d) = true
+is_transfer (JumpReg a) = true
+is_transfer _ = false
+
+abbrev pub is_load : Statement → Bool
+is_load (Plain i) = Views.is_load i
+is_load _ = false
+
+abbrev pub is_one : (Statement → Bool) → Option Statement → Bool
+is_one kind None = false
+is_one kind (Some s) = kind s
+
+-- the word is the own one of such a statement
+abbrev pub is_own : (Statement → Bool) → List Statement → Option Origin → Bool
+is_own kind statements (Some (from.Own k)) = is_one kind (slice_get statements k)
+is_own kind statements _ = false
+
+-- the word is the own one of such a statement, or a copy of it
+abbrev pub is_word : (Statement → Bool) → List Statement → Option Origin → Bool
+is_word kind statements (Some (from.Own k)) = is_one kind (slice_get statements k)
+is_word kind statements (Some (from.Copy k)) = is_one kind (slice_get statements k)
+is_word kind statements _ = false
+
+-- where the word so many before another comes from, if there is one
+abbrev pub earlier : List Origin → ℕ → ℕ → Option Origin
+earlier origin at words = if leb words at then slice_get origin (at - words) else None
+
+-- the slot that a place is: a transfer has its own word one before it, or two
+abbrev pub slot_at : List Statement → List Origin → ℕ → Option Slot
+slot_at statements origin at =
+    if is_own is_transfer statements (earlier origin at 1) then Some First
+    else if is_own is_transfer statements (earlier origin at 2) then Some Second else None
+
+-- what is at an index of the code whose words come from there
+abbrev pub place_at : List Statement → List Origin → ℕ → Option Place
+place_at statements origin at =
+    option_map (λ from. place_of from (slot_at statements origin at) (is_word is_load statements (earlier origin at 1))) (slice_get origin at)
 
 -- the statement that its word comes from
 abbrev pub statement_of : Place → Option ℕ

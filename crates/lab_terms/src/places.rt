@@ -1,5 +1,6 @@
 //! What the places of linked code are.
 ghost use Rattle.std.specs.Prelude.{◌≡◌};
+ghost use Rattle.lab_terms.specs.Places.{is_transfer, is_load, is_own, is_word, earlier, slot_at, place_at};
 ghost use Rattle.lab_terms.specs.Places.{place_of, statement_of, slot_of, number_of, is_noop, kind_text, why_text, words_text};
 
 use mx_link::Origin;
@@ -29,46 +30,83 @@ pub enum Place {
     Padding,
 }
 
-/// The statement whose own word stands there.
-fn own_at<'a>(statements: &'a [Statement], origin: &[Origin], at: usize) -> Option<&'a Statement> {
-    match origin.get(at)? {
-        Origin::Own(statement) => statements.get(*statement as usize),
-        _ => None,
+/// Whether a statement has two slots after it.
+pub(crate) fn is_transfer(statement: &Statement) -> bool
+    ensures { result ≡ is_transfer statement.now }
+{
+    matches!(
+        statement,
+        Statement::Branch { .. }
+            | Statement::Call { .. }
+            | Statement::CallReg { .. }
+            | Statement::JumpReg { .. }
+    )
+}
+
+/// Whether a statement is a load.
+pub(crate) fn is_load(statement: &Statement) -> bool
+    ensures { result ≡ is_load statement.now }
+{
+    match statement {
+        Statement::Plain(inst) => inst.is_load(),
+        _ => false,
     }
 }
 
 /// Whether a transfer has its own word there.
-fn is_transfer_at(statements: &[Statement], origin: &[Origin], at: Option<usize>) -> bool {
-    match at.and_then(|at| own_at(statements, origin, at)) {
-        Some(
-            Statement::Branch { .. }
-            | Statement::Call { .. }
-            | Statement::CallReg { .. }
-            | Statement::JumpReg { .. },
-        ) => true,
-        _ => false,
+pub(crate) fn is_own_transfer(statements: &[Statement], from: Option<Origin>) -> bool
+    ensures { result ≡ is_own is_transfer statements.now from }
+{
+    let Some(Origin::Own(number)) = from else {
+        return false;
+    };
+    match statements.get(number as usize) {
+        Some(statement) => is_transfer(statement),
+        None => false,
     }
 }
 
-/// Whether a load stands there, or a copy of one.
-fn is_load_at(statements: &[Statement], origin: &[Origin], at: Option<usize>) -> bool {
-    let statement = match at.and_then(|at| origin.get(at)) {
-        Some(Origin::Own(statement) | Origin::Copy(statement)) => {
-            statements.get(*statement as usize)
-        }
-        _ => None,
+/// Whether a load has its own word there.
+pub(crate) fn is_own_load(statements: &[Statement], from: Option<Origin>) -> bool
+    ensures { result ≡ is_own is_load statements.now from }
+{
+    let Some(Origin::Own(number)) = from else {
+        return false;
     };
-    match statement {
-        Some(Statement::Plain(inst)) => inst.is_load(),
-        _ => false,
+    match statements.get(number as usize) {
+        Some(statement) => is_load(statement),
+        None => false,
     }
+}
+
+/// Whether a load is there, or a copy of one.
+fn is_load_there(statements: &[Statement], from: Option<Origin>) -> bool
+    ensures { result ≡ is_word is_load statements.now from }
+{
+    let (Some(Origin::Own(number)) | Some(Origin::Copy(number))) = from else {
+        return false;
+    };
+    match statements.get(number as usize) {
+        Some(statement) => is_load(statement),
+        None => false,
+    }
+}
+
+/// Where the word so many before another comes from, if there is one.
+fn earlier(origin: &[Origin], at: usize, words: usize) -> Option<Origin>
+    ensures { result ≡ earlier origin.now at words }
+{
+    let earlier = at.checked_sub(words)?;
+    origin.get(earlier).copied()
 }
 
 /// The slot that a place is, if it is one.
-fn slot_at(statements: &[Statement], origin: &[Origin], at: usize) -> Option<Slot> {
-    if is_transfer_at(statements, origin, at.checked_sub(1)) {
+fn slot_at(statements: &[Statement], origin: &[Origin], at: usize) -> Option<Slot>
+    ensures { result ≡ slot_at statements.now origin.now at }
+{
+    if is_own_transfer(statements, earlier(origin, at, 1)) {
         Some(Slot::First)
-    } else if is_transfer_at(statements, origin, at.checked_sub(2)) {
+    } else if is_own_transfer(statements, earlier(origin, at, 2)) {
         Some(Slot::Second)
     } else {
         None
@@ -90,10 +128,12 @@ fn place_of(from: Origin, slot: Option<Slot>, behind_load: bool) -> Place
 }
 
 /// What a place of the code is.
-pub fn place_at(statements: &[Statement], origin: &[Origin], at: usize) -> Option<Place> {
-    let from = origin.get(at)?;
-    let behind_load = is_load_at(statements, origin, at.checked_sub(1));
-    Some(place_of(*from, slot_at(statements, origin, at), behind_load))
+pub fn place_at(statements: &[Statement], origin: &[Origin], at: usize) -> Option<Place>
+    ensures { result ≡ place_at statements.now origin.now at }
+{
+    let from = origin.get(at).copied()?;
+    let behind_load = is_load_there(statements, earlier(origin, at, 1));
+    Some(place_of(from, slot_at(statements, origin, at), behind_load))
 }
 
 impl Slot {

@@ -1,7 +1,10 @@
 //! How many slots are filled, and with what.
-ghost use Rattle.std.specs.Prelude.{◌≡◌};
-ghost use Rattle.lab_terms.specs.Slots.{filling_of, filled_of, slots_in};
+ghost use Rattle.std.specs.Prelude.{◌≡◌, ◌<◌, ◌^◌, [], length, slice_get};
+ghost use Rattle.std.specs.List.{fold};
+ghost use Rattle.lab_terms.specs.Slots.{filling_of, filled_of, slots_in, and_one, and_place, counted, counted_places, squashes_two, is_filled};
+ghost use Rattle.lab_terms.specs.Slots.{filling_at, fillings_at, fillings_to, after_load_at, after_loads};
 
+use crate::places::{is_own_load, is_own_transfer};
 use mx_code::decode;
 use mx_isa::Inst;
 use mx_link::Origin;
@@ -48,20 +51,60 @@ fn filling_of(from: Origin, squashing: bool) -> Filling
     }
 }
 
-/// A count, one more where that is so.
-fn count_if(count: u32, is_so: bool) -> u32 {
-    count.saturating_add(u32::from(is_so))
-}
-
 impl TransferSlots {
-    /// The same with one slot more.
-    fn with(self, filling: Filling) -> TransferSlots {
+    // None.
+    fn none() -> TransferSlots
+        ensures { result ≡ counted [] }
+    {
         TransferSlots {
-            before: count_if(self.before, filling == Filling::Before),
-            target_squashed: count_if(self.target_squashed, filling == Filling::TargetSquashed),
-            target: count_if(self.target, filling == Filling::Target),
-            noops: count_if(self.noops, filling == Filling::NoOp),
+            before: 0,
+            target_squashed: 0,
+            target: 0,
+            noops: 0,
         }
+    }
+
+    // The same with one slot more.
+    fn with(self, filling: Filling) -> TransferSlots
+        ensures { result ≡ and_one self filling }
+    {
+        match filling {
+            Filling::Before => TransferSlots {
+                before: self.before.saturating_add(1),
+                ..self
+            },
+            Filling::TargetSquashed => TransferSlots {
+                target_squashed: self.target_squashed.saturating_add(1),
+                ..self
+            },
+            Filling::Target => TransferSlots {
+                target: self.target.saturating_add(1),
+                ..self
+            },
+            Filling::NoOp => TransferSlots {
+                noops: self.noops.saturating_add(1),
+                ..self
+            },
+        }
+    }
+
+    // The same with the slots of the word at an index of the code, if it is a transfer's own.
+    fn with_those_of(
+        self,
+        statements: &[Statement],
+        code: &[u32],
+        origin: &[Origin],
+        at: usize,
+    ) -> TransferSlots
+        requires { at < length code.now }
+        ensures { result ≡ fold and_one self (fillings_at statements.now code.now origin.now at) }
+    {
+        if !is_own_transfer(statements, origin.get(at).copied()) {
+            return self;
+        }
+        let squashing = squashes_two(code, at);
+        self.with(filling_at(origin, at + 1, squashing))
+            .with(filling_at(origin, at + 2, squashing))
     }
 
     /// How many slots there are.
@@ -82,84 +125,97 @@ impl TransferSlots {
 }
 
 impl Slots {
-    /// The same with one slot more.
-    fn with(self, filled: bool) -> Slots {
-        Slots {
-            filled: count_if(self.filled, filled),
-            all: self.all.saturating_add(1),
+    // None.
+    fn none() -> Slots
+        ensures { result ≡ counted_places [] }
+    {
+        Slots { filled: 0, all: 0 }
+    }
+
+    // The same with one place more.
+    fn with(self, is_filled: bool) -> Slots
+        ensures { result ≡ and_place self is_filled }
+    {
+        let all = self.all.saturating_add(1);
+        if is_filled {
+            return Slots {
+                filled: self.filled.saturating_add(1),
+                all,
+            };
         }
+        Slots { all, ..self }
+    }
+
+    // The same with the place after the word at an index of the code, if that word is a load's own.
+    fn with_that_of(self, statements: &[Statement], origin: &[Origin], at: usize) -> Slots
+        requires { at < 2 ^ 63 }
+        ensures { result ≡ fold and_place self (after_load_at statements.now origin.now at) }
+    {
+        if !is_own_load(statements, origin.get(at).copied()) {
+            return self;
+        }
+        self.with(is_filled(origin, at + 1))
     }
 }
 
-/// Whether the statement is a transfer.
-fn is_transfer(statement: &Statement) -> bool {
-    matches!(
-        statement,
-        Statement::Branch { .. }
-            | Statement::Call { .. }
-            | Statement::CallReg { .. }
-            | Statement::JumpReg { .. }
-    )
-}
-
-/// Whether the statement is a load.
-fn is_load(statement: &Statement) -> bool {
-    match statement {
-        Statement::Plain(inst) => inst.is_load(),
-        _ => false,
+// Whether the branch at an index of the code squashes the two words after it where it does not hold.
+fn squashes_two(code: &[u32], at: usize) -> bool
+    ensures { result ≡ squashes_two (slice_get code.now at) }
+{
+    match code.get(at) {
+        Some(word) => matches!(decode(*word), Some(Inst::Branch { squash: true, .. })),
+        None => false,
     }
 }
 
-/// Whether a word squashes the two behind it where it does not hold.
-fn is_squashing(word: u32) -> bool {
-    matches!(decode(word), Some(Inst::Branch { squash: true, .. }))
-}
-
-/// The statement that stands at a word of the code as its own, if one does.
-fn own_at<'a>(statements: &'a [Statement], origin: &[Origin], at: usize) -> Option<&'a Statement> {
+// What fills the slot at an index of the code. After the last word there are no-ops.
+fn filling_at(origin: &[Origin], at: usize, squashing: bool) -> Filling
+    ensures { result ≡ filling_at origin.now at squashing }
+{
     match origin.get(at) {
-        Some(Origin::Own(i)) => statements.get(*i as usize),
-        _ => None,
+        Some(from) => filling_of(*from, squashing),
+        None => Filling::NoOp,
     }
 }
 
-/// Where a word of the code comes from; past its end nothing stands but no-ops.
-fn origin_at(origin: &[Origin], at: usize) -> Origin {
-    origin.get(at).copied().unwrap_or(Origin::Pad)
-}
-
-/// Whether a word of the code is no no-op that was put in.
-fn is_filled(origin: &[Origin], at: usize) -> bool {
+// Whether a word of the code is an instruction, and not a no-op that was put in.
+fn is_filled(origin: &[Origin], at: usize) -> bool
+    ensures { result ≡ is_filled (slice_get origin.now at) }
+{
     matches!(origin.get(at), Some(Origin::Own(_) | Origin::Copy(_)))
 }
 
-/// The slots behind transfers, two each, and the places behind loads, one each.
-pub fn slots_of(
-    statements: &[Statement],
-    code: &[u32],
-    origin: &[Origin],
-) -> (TransferSlots, Slots) {
-    let mut transfers = TransferSlots {
-        before: 0,
-        target_squashed: 0,
-        target: 0,
-        noops: 0,
-    };
-    let mut loads = Slots { filled: 0, all: 0 };
-    for (at, word) in code.iter().enumerate() {
-        let Some(statement) = own_at(statements, origin, at) else {
-            continue;
-        };
-        if is_transfer(statement) {
-            let squashing = is_squashing(*word);
-            let first = origin_at(origin, at.saturating_add(1));
-            let second = origin_at(origin, at.saturating_add(2));
-            transfers = transfers
-                .with(filling_of(first, squashing))
-                .with(filling_of(second, squashing));
-        } else if is_load(statement) {
-            loads = loads.with(is_filled(origin, at.saturating_add(1)));
-        }
+// The slots of the transfers, two each.
+fn transfer_slots(statements: &[Statement], code: &[u32], origin: &[Origin]) -> TransferSlots
+    ensures { result ≡ counted (fillings_to statements.now code.now origin.now (length code.now)) }
+{
+    let mut slots = TransferSlots::none();
+    for at in 0..code.len() {
+        slots = slots.with_those_of(statements, code, origin, at);
     }
-    (transfers, loads)
+    slots
+}
+
+// The places after the loads among so many words, one each.
+fn load_slots(statements: &[Statement], origin: &[Origin], words: usize) -> Slots
+    requires { words < 2 ^ 63 }
+    ensures { result ≡ counted_places (after_loads statements.now origin.now words) }
+{
+    let mut slots = Slots::none();
+    for at in 0..words {
+        slots = slots.with_that_of(statements, origin, at);
+    }
+    slots
+}
+
+/// The slots of the transfers of linked code, two each, and the places after its loads, one each. `origin` says where each word of
+/// `code` comes from.
+pub fn slots_of(statements: &[Statement], code: &[u32], origin: &[Origin]) -> (TransferSlots, Slots)
+    ensures transfers { result.0 ≡ counted (fillings_to statements.now code.now origin.now (length code.now)) }
+    ensures loads { result.1 ≡ counted_places (after_loads statements.now origin.now (length code.now)) }
+{
+    (
+        transfer_slots(statements, code, origin),
+        load_slots(statements, origin, code.len()),
+    )
 }
