@@ -131,12 +131,26 @@ def _rows(document: Record, name: str) -> List[Record]:
 
 def _block(record: Record) -> Block:
     """A block by its record."""
-    rows = _rows(record, "instructions")
-    of_rows = {name: tuple(row[key] for row in rows) for name, key in
-               (("instructions", "text"), ("lines", "line"), ("reads", "reads"), ("writes", "writes"), ("heights", "height"))}
-    dependences = tuple(Dependence(it["from"], it["to"], it["kind"], it["weight"]) for it in _rows(record, "dependences"))
-    return Block(number=record["block"], ends=record["end"] != "falls", dependences=dependences, **of_rows,
-                 **{name: record[name] for name in ("labels", "end", "successors", "bound", "words", "copied")})
+    rows, dependences = _rows(record, "instructions"), _rows(record, "dependences")
+    try:
+        return Block(
+            number=record["block"],
+            instructions=tuple(row["text"] for row in rows),
+            ends=record["end"] != "falls",
+            lines=tuple(row["line"] for row in rows),
+            reads=tuple(tuple(row["reads"]) for row in rows),
+            writes=tuple(tuple(row["writes"]) for row in rows),
+            heights=tuple(row["height"] for row in rows),
+            dependences=tuple(Dependence(it["from"], it["to"], it["kind"], it["weight"]) for it in dependences),
+            labels=tuple(record["labels"]),
+            end=record["end"],
+            successors=tuple(record["successors"]),
+            bound=record["bound"],
+            words=record["words"],
+            copied=record["copied"],
+        )
+    except KeyError as missing:
+        raise Refusal(DONE, f"the program printed a block without {missing}".encode()) from None
 
 
 def _end(process: subprocess.Popen[bytes]) -> None:
