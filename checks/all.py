@@ -84,6 +84,7 @@ CHECKS = (
     # the laboratory
     Check("arguments", ("words.sh",), ("mx_lab",)),
     Check("plans", ("planned.sh",), ("mx_run", "mx_lab")),
+    Check("blocks", ("blocks.py",), ("mx_lab",)),
     Check("profiles", ("profiles.py",), ("mx_run", "mx_lab")),
     Check("JSON", ("lab_json.py",), ("mx_lab",)),
     Check("drawing", ("draw.sh",), ("mx_lab",), is_alone=True),

@@ -264,7 +264,7 @@ def check_callgrind(source, folder):
 
 
 def check(source, schema, folder):
-    texts = [("profile", "--by", by) for by in ("line", "label", "function", "c")] + [("compare",), ("disassemble",), ("caches",)]
+    texts = [("profile", "--by", by) for by in ("line", "label", "function", "c")] + [("compare",), ("blocks",), ("disassemble",), ("caches",)]
     found = {}
     for command, *words in texts:
         found[command] = json.loads(printed(command, source, *words, "--as", "json"))

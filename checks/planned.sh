@@ -101,8 +101,8 @@ consoled() { sed -n '/^console/,/^registers/p' "$1" | tr '\0' '?'; }
 # scheduled SOURCE: what the scheduler of the examples proposes is accepted, and the run has the console of the meaning
 scheduled() {
     local outcome=ok
-    if ! "$lab" plans "$1" --print >printed 2>err; then outcome="plans --print: $(head -n 1 err)"
-    elif ! "$top/examples/schedule.py" "$1" <printed >file 2>err; then outcome="schedule.py: $(head -n 1 err)"
+    if ! "$lab" blocks "$1" --as json >blocks 2>err; then outcome="blocks: $(head -n 1 err)"
+    elif ! "$top/examples/schedule.py" <blocks >file 2>err; then outcome="schedule.py: $(head -n 1 err)"
     elif ! "$lab" plans "$1" file --input hello.s >out 2>err; then outcome="plans: $(head -n 1 out err)"
     elif ! "$run" meaning "$1" --input hello.s >wanted 2>err; then outcome="meaning: $(head -n 1 wanted err)"
     elif grep -q '^plan ' out; then outcome=$(head -n 1 out)

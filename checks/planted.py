@@ -79,6 +79,9 @@ CASES = (
     Case("plans", "planned.sh", "two programs that print nothing", "MX_LAB=/bin/true MX_RUN=/bin/true checks/planned.sh",
          ("FAILED: the plans of schedule.py for calls.s", "runs differ")),
     Case("plans", "planned.sh", "a program that fails", "MX_LAB=/bin/false checks/planned.sh", ("FAILED: the plans of schedule.py for calls.s",)),
+    Case("blocks", "blocks.py", "a program that prints nothing", "MX_LAB=/bin/true checks/blocks.py", ("FAILED: source 1",)),
+    Case("blocks", "blocks.py", "a lower bound that is one more", """
+        fake "$MX_LAB" 's/"bound": 7,/"bound": 8,/'; MX_SAMPLE=1 MX_LAB=$fake checks/blocks.py""", ("FAILED: source",)),
     Case("profiles", "profiles.py", "no sources", "checks/profiles.py 0", ("expected a number of sources above 0",)),
     Case("profiles", "profiles.py", "false misses, without assertions", """
         fake "$MX_LAB" 's/^misses /misses 9/'; PYTHONOPTIMIZE=1 MX_LAB=$fake checks/profiles.py 3""", ("FAILED: the counts",)),

@@ -50,6 +50,10 @@ def agrees(it, lab, name, source):
          f"{name}: each run of interrupts is the library's")
     words = [(row["address"], row["word"]) for row in lab.disassemble(source)]
     need(words == [(row["address"], row["word"]) for row in lab.disassemble(it.build(source))], f"{name}: its image has its words")
+    blocks = lab.blocks(source)
+    need(all(block.bound <= min(block.words.values()) for block in blocks), f"{name}: no plan is shorter than its bound")
+    need(all(row["words"] == sum(block.words[row["plans"]] for block in blocks) for row in lab.compare(source)),
+         f"{name}: blocks and compare have the same words")
     need(lab.explain(source)["verdict"] == it.explain(source).verdict, f"{name}: the verdict")
     need(len(lab.trace(source)) == run.counts["fetches"] + 2, f"{name}: records of the trace for the program, each turn and the end")
     drawing = lab.draw(source, cycles=20, interrupts=[3])

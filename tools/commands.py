@@ -79,6 +79,8 @@ COMMANDS = {
         Option("--as", "FORM", "text, json or callgrind (text)"), LAB_BUDGET, INTERRUPTS, INPUT, OUTPUT)),
     "compare": Command("mx_lab", "SOURCE ..", "compares what four schedulers make of sources", (
         Option("--as", "FORM", "text, json or csv (text)"), LAB_BUDGET, INTERRUPTS, INPUT, OUTPUT)),
+    "blocks": Command("mx_lab", "SOURCE", "shows blocks, their dependences and the lengths of their plans", (
+        Option("--as", "FORM", "text, json or dot (text)"), OUTPUT)),
     "disassemble": Command("mx_lab", "FILE", "lists the words of a source or an image in assembly language", (
         Option("--as", "FORM", "text or json (text)"), OUTPUT)),
     "caches": Command("mx_lab", "SOURCE", "measures a run with other caches", (

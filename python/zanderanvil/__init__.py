@@ -13,13 +13,13 @@ import importlib.metadata
 import os
 
 from .evaluation import Difference, Evaluation, evaluate
-from .laboratory import Block, Drawing, Laboratory, Plan, Planned, Scheduler
+from .laboratory import Block, Dependence, Drawing, Laboratory, Plan, Planned, Scheduler
 from .library import Explained, Meaning, Refusal, Run, Zanderanvil
 from .sweep import Case, Row, Study, survey, sweep
 
 __all__ = [
-    "Block", "Case", "Difference", "Drawing", "Evaluation", "Explained", "Laboratory", "Meaning", "Plan", "Planned", "Refusal", "Row", "Run",
-    "Scheduler", "Study", "Zanderanvil", "evaluate", "survey", "sweep",
+    "Block", "Case", "Dependence", "Difference", "Drawing", "Evaluation", "Explained", "Laboratory", "Meaning", "Plan", "Planned", "Refusal",
+    "Row", "Run", "Scheduler", "Study", "Zanderanvil", "evaluate", "survey", "sweep",
 ]
 
 

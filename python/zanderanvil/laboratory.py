@@ -4,7 +4,6 @@ from __future__ import annotations
 import contextlib
 import json
 import os
-import re
 import shutil
 import signal
 import subprocess
@@ -21,18 +20,40 @@ SOURCE = "source.s"
 # What ./mx prints as it builds a program at its first call, for people who wait.
 PROGRESS = b"mx: "
 Record = Dict[str, Any]
-# What a line has that is no instruction.
-COMMENT = re.compile(r";.*")
-LABEL = re.compile(r"[\w.]+\s*:")
+
+
+@dataclass(frozen=True)
+class Dependence:
+    """What a later instruction of a block needs of an earlier one: `true`, `anti`, `output` or `memory`, and how many places the two are
+    apart, at least."""
+
+    earlier: int
+    later: int
+    kind: str
+    weight: int
 
 
 @dataclass(frozen=True)
 class Block:
-    """A basic block of a source: its number from 1 on, the text of its instructions, and whether the last one is a transfer or a halt."""
+    """A basic block of a source, as `blocks` shows it (docs/PLANS.md): its number from 1 on, the text of its instructions, whether the
+    last one is a transfer or a halt; for each instruction its line, the names that it reads and writes, and its height; what depends on
+    what; the labels, what ends it (`falls`, `halt`, `branch`, `call`, `jump`), the numbers of the blocks that may follow; the number of
+    words that every valid plan has, at least, and those that the schedulers of `compare` make of it, of which so many are copies."""
 
     number: int
     instructions: Sequence[str]
     ends: bool
+    lines: Sequence[int] = ()
+    reads: Sequence[Sequence[str]] = ()
+    writes: Sequence[Sequence[str]] = ()
+    heights: Sequence[int] = ()
+    dependences: Sequence[Dependence] = ()
+    labels: Sequence[str] = ()
+    end: str = ""
+    successors: Sequence[int] = ()
+    bound: int = 0
+    words: Mapping[str, int] = field(default_factory=dict)
+    copied: int = 0
 
 
 # The items of a plan in their order: the number of an instruction of the block, None for a no-op, "/" for the transfer or halt.
@@ -106,6 +127,30 @@ def _rows(document: Record, name: str) -> List[Record]:
     if not isinstance(rows, list):
         raise Refusal(DONE, f"the program printed a document without {name}".encode())
     return rows
+
+
+def _block(record: Record) -> Block:
+    """A block by its record."""
+    rows, dependences = _rows(record, "instructions"), _rows(record, "dependences")
+    try:
+        return Block(
+            number=record["block"],
+            instructions=tuple(row["text"] for row in rows),
+            ends=record["end"] != "falls",
+            lines=tuple(row["line"] for row in rows),
+            reads=tuple(tuple(row["reads"]) for row in rows),
+            writes=tuple(tuple(row["writes"]) for row in rows),
+            heights=tuple(row["height"] for row in rows),
+            dependences=tuple(Dependence(it["from"], it["to"], it["kind"], it["weight"]) for it in dependences),
+            labels=tuple(record["labels"]),
+            end=record["end"],
+            successors=tuple(record["successors"]),
+            bound=record["bound"],
+            words=record["words"],
+            copied=record["copied"],
+        )
+    except KeyError as missing:
+        raise Refusal(DONE, f"the program printed a block without {missing}".encode()) from None
 
 
 def _end(process: subprocess.Popen[bytes]) -> None:
@@ -253,15 +298,7 @@ class Laboratory:
 
     def blocks(self, source: bytes) -> list[Block]:
         """The blocks of a source, as a scheduler gets them."""
-        texts = [LABEL.sub("", COMMENT.sub("", line)).strip() for line in source.decode("utf-8", "replace").split("\n")]
-        code = [text for text in texts if text and not text.startswith(".")]
-        blocks = []
-        for number, line in enumerate(self.printed("plans", SOURCE, "--print", files={SOURCE: source}).splitlines(), 1):
-            items = line.split()
-            size = len(items) - items.count(b"-")
-            blocks.append(Block(number, tuple(code[:size]), b"/" in items))
-            code = code[size:]
-        return blocks
+        return [_block(it) for it in _rows(self.document("blocks", source), "blocks")]
 
     def plans(self, source: bytes, scheduler: Scheduler, **given: Any) -> Planned:
         """Runs a source by a scheduler's plans. A plan that is not valid is rejected, and its block is padded: so every run does

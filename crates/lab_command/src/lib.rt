@@ -1,6 +1,7 @@
 //! The commands for people who look: how each is answered, and the top call.
 #![tactic(auto)]
 
+mod blocks;
 mod check;
 mod compare;
 mod disassemble;

@@ -1,4 +1,5 @@
 //! The top call.
+use crate::blocks::blocks_reply;
 use crate::check::check_reply;
 use crate::compare::compare_reply;
 use crate::disassemble::disassemble_reply;
@@ -33,6 +34,7 @@ fn answered_by<S: Shelf, W: Watcher>(
     watcher: W,
 ) -> Result<Reply, Failure> {
     match asked.command {
+        Command::Blocks => blocks_reply(asked, shelf),
         Command::Check => check_reply(asked, shelf),
         Command::Compare => compare_reply(asked, shelf, watcher),
         Command::Disassemble => disassemble_reply(asked, shelf),

@@ -23,6 +23,7 @@ pub enum Form {
     Kanata,
     Vcd,
     Callgrind,
+    Dot,
 }
 
 /// A word of an option, and what it stands for.
@@ -45,7 +46,7 @@ pub fn meant_by<T: Copy>(rows: &[WordRow<T>], word: &str, other: T) -> T
 }
 
 // The forms beside text.
-static FORMS: [WordRow<Form>; 7] = [
+static FORMS: [WordRow<Form>; 8] = [
     WordRow {
         word: "json",
         means: Form::Json,
@@ -73,6 +74,10 @@ static FORMS: [WordRow<Form>; 7] = [
     WordRow {
         word: "callgrind",
         means: Form::Callgrind,
+    },
+    WordRow {
+        word: "dot",
+        means: Form::Dot,
     },
 ];
 

@@ -16,6 +16,7 @@ const MOST_PENALTY: i64 = 1000;
 /// A command.
 #[derive(Clone, Copy)]
 pub enum Command {
+    Blocks,
     Check,
     Compare,
     Disassemble,
@@ -235,6 +236,16 @@ const COMPARE: [OptionRow; 4] = [
     INPUT,
 ];
 
+const BLOCKS: [OptionRow; 1] = [OptionRow {
+    name: "as",
+    takes: Takes::Word {
+        called: "FORM",
+        words: &["text", "json", "dot"],
+        default: "text",
+    },
+    help: "the form of the blocks",
+}];
+
 const DISASSEMBLE: [OptionRow; 1] = [OptionRow {
     name: "as",
     takes: TEXT_OR_JSON,
@@ -344,7 +355,7 @@ const PLANS: [OptionRow; 3] = [BUDGET, INTERRUPTS, INPUT];
 
 /// The commands, in the order in which help tells them. Another one is added here and where it is answered: in `answers.rt` of
 /// `lab_runs`, or in `top.rt` of `lab_command`.
-pub(crate) static COMMANDS: [CommandRow; 10] = [
+pub(crate) static COMMANDS: [CommandRow; 11] = [
     CommandRow {
         name: "draw",
         command: Command::OfRun(RunCommand::Draw),
@@ -386,6 +397,13 @@ pub(crate) static COMMANDS: [CommandRow; 10] = [
         about: "lists the words of a source or an image file in assembly language",
         names: Names::File,
         options: &DISASSEMBLE,
+    },
+    CommandRow {
+        name: "blocks",
+        command: Command::Blocks,
+        about: "shows the blocks of a source, their dependences and the lengths of their plans",
+        names: Names::Source,
+        options: &BLOCKS,
     },
     CommandRow {
         name: "caches",
