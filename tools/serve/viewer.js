@@ -209,11 +209,13 @@ const lastMoving = (range, at) => {
 // The row of what a stage holds behind a cycle; none where an interrupt has killed it there.
 const heldRow = (range, n, moved) => {
   const row = moved < 0 ? null : range.rowsAt(moved).find(it => cellOf(signAt(it, moved)).stage === n);
-  return row && cellOf(signAt(row, moved)).look !== 'killed' ? row : null;
+  return row && !isKilled(row, moved) ? row : null;
 };
+const isKilled = (row, k) => cellOf(signAt(row, k)).look === 'killed';
 const heldIn = (range, stage, n, at) => {
   const moved = lastMoving(range, at), row = heldRow(range, n, moved), word = row && range.listing.get(row.address);
-  if (!row) return { cells: [stage, '', '', '', moved >= 0 && range.marks(moved) & 4 ? 'empty: the interrupt killed what was here' : 'empty; nothing moves in a stalled cycle'] };
+  const wasKilled = moved >= 0 && range.rowsAt(moved).some(it => isKilled(it, moved) && cellOf(signAt(it, moved)).stage === n);
+  if (!row) return { cells: [stage, '', '', '', wasKilled ? 'empty: the interrupt killed what was here' : 'empty; nothing moves in a stalled cycle'] };
   const held = cellOf(signAt(row, moved)).look === 'squashed' ? 'squashed; held by the stall' : 'held by the stall';
   return { row, cells: [stage, place(row.address), word ? word.text : '', word ? word.origin : '', held] };
 };
