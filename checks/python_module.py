@@ -138,6 +138,7 @@ def library(tally, folder):
     size = (64 << 20) + 1
     tally.need(len(it.command("list", "source", source=b"%d" % size)[1]) == size, "and a larger one comes too")
     tally.need(raised(TypeError, lambda: it.command("list", "source", sources=b""), "sources"), "a file of another name is refused")
+    tally.need(raised(TypeError, lambda: it.command("list", "source", source="halt"), "source is a str"), "a str is refused with a sentence")
     tally.need(raised(Refusal, lambda: it.listing(b"refuse"), "xxxxxxxx"), "a refused source is refused")
     rows = [Case("a", b"refuse"), Case("b", b"refuse")]
     with ProcessPoolExecutor(2) as pool:

@@ -16,6 +16,7 @@ import subprocess
 import sys
 import tempfile
 import time
+import urllib.request
 
 import common
 from cells import rows_of_text
@@ -852,6 +853,7 @@ def try_page(bench, url):
     settled(bench)
     try_search(bench)
     try_stale(bench)
+    try_killed(bench)
     try_breakpoint(bench)
     try_keys(bench)
     try_card(bench)
@@ -864,11 +866,13 @@ def try_page(bench, url):
     settled(bench)
     try_download(bench)
     try_speed(bench)
+    try_work(bench, url)
     try_kept(bench)
     try_names(bench)
     try_link(bench, url)
     try_long(bench)
     try_bad_input(bench)
+    try_many_lines(bench)
     put(bench, "budget", 1_000_000)
     if bench.ask("given.missing === null"):
         try_c(bench)
@@ -887,10 +891,121 @@ def try_all(folder):
             try_page(bench, url)
         try_in_view(url)
         try_lost_server()
+        try_low_screen(url)
+        try_server_back()
         for width, height in ((390, 844),) if IS_SAMPLE else ((1500, 900), (800, 1000), (390, 844)):
             for scheme in ("light", "dark"):
                 with opened(url, width, height, scheme == "dark") as bench:
                     try_look(bench, width, os.path.join(folder, f"serve-{width}-{scheme}.png"))
+
+
+def try_killed(bench):
+    """In the stalled cycles behind an interrupt, the stages whose words it killed are empty, and a squashed word stays squashed."""
+    type_source(bench, SORT)
+    settled(bench)
+    put(bench, "interrupts", REQUEST)
+    settled(bench)
+    drawn = json.loads(printed(SORT, "draw", "--cycles", "400", "--interrupts", "REQUESTS", "--as", "json"))
+    signs = {}
+    for _, begins, cells in drawn["rows"]:
+        sign = cells[REQUEST - begins:REQUEST - begins + 1] if begins <= REQUEST else ""
+        if sign.strip():
+            signs["01234abcdeABCDE".index(sign) % 5] = sign
+    go(bench, REQUEST + 1)
+    rows = bench.ask("[...document.querySelectorAll('#stages tr')].slice(1).map(row => [...row.cells].map(it => it.textContent))")
+    told = {stage: (row[2], row[4]) for stage, row in enumerate(rows)}
+    killed = [stage for stage, sign in signs.items() if sign in "BCDE"]
+    tell("what the interrupt killed is not held", killed and all(told[it][0] == "" and "killed" in told[it][1] for it in killed), (signs, told))
+    squashed = [stage for stage, sign in signs.items() if sign in "bcde"]
+    tell("a squashed word is held as such", squashed and all("squashed" in told[it][1] for it in squashed), (signs, told))
+    put(bench, "interrupts", "")
+    settled(bench)
+
+
+def try_low_screen(url):
+    """At 1280 x 720 all five stages are in view, whatever their reasons, and so are lines of the console."""
+    hidden = """(() => {
+      const around = document.getElementById('staged').getBoundingClientRect();
+      return [...document.querySelectorAll('#stages tr')].filter(row => row.getBoundingClientRect().bottom > around.bottom + 1).length;
+    })()"""
+    with opened(url, 1280, 720) as bench:
+        for source, cycles in ((SORT, (8, 100, 250)), (SORT.replace("keep", "a_long_label"), (8, 250))):
+            type_source(bench, source)
+            settled(bench)
+            for cycle in cycles:
+                go(bench, cycle)
+                tell(f"at 1280 x 720 all stages of cycle {cycle} are in view", bench.ask(hidden) == 0, bench.ask(hidden))
+        tall = bench.ask("document.getElementById('console').parentElement.clientHeight")
+        tell("and two lines of the console", tall >= 34, tall)
+
+
+def try_server_back():
+    """A server that was started anew has another token: the page says so, and at the new address the exercise is there."""
+    with socket.create_server(("127.0.0.1", 0)) as it:
+        port = str(it.getsockname()[1])
+    with serving("--port", port, f"{TOP}/examples/countdown.s") as (process, url):
+        with opened(url, 1280, 720) as bench:
+            settled(bench)
+            process.send_signal(signal.SIGINT)
+            process.wait(10 * PATIENCE)
+            with serving("--port", port, f"{TOP}/examples/countdown.s") as (_, again):
+                type_source(bench, SORT)
+                tell("a server that was started anew is told", wait_for(bench, "document.body.textContent.includes('this page is of an earlier server')"))
+                time.sleep(0.6)
+                kept = bench.ask("location.hash")
+                bench.call("Page.navigate", url="about:blank")
+                bench.open(again + kept)
+                held = settled(bench) and bench.ask("document.getElementById('source').value") == SORT
+                tell("and at its address the exercise runs", held and not bench.faults, bench.faults)
+
+
+def try_many_lines(bench):
+    """A text of more lines than the editor draws without standing still is refused in words, and the one before stays and runs."""
+    type_source(bench, SORT)
+    settled(bench)
+    bench.ask("""(it => {
+      const held = new DataTransfer();
+      held.setData('text/plain', 'nop\\n'.repeat(1000000));
+      it.dispatchEvent(new ClipboardEvent('paste', { clipboardData: held, cancelable: true }));
+    })(document.getElementById('source'))""")
+    told = bench.ask("[document.getElementById('found').textContent, document.getElementById('source').value]")
+    tell("a text of 1,000,000 lines is refused in words", "at most 100000 lines" in told[0] and told[1] == SORT, told[0])
+    bench.ask("document.getElementById('run').click()")
+    tell("and the one before runs", settled(bench) and "the run halts" in bench.ask("document.getElementById('end').textContent"))
+
+
+WORKED, MOST_PAGE = 16, 500_000  # milliseconds of a step without waiting for a processor; bytes of the page
+
+
+def processor_time(bench):
+    """Returns the seconds of processors that the process of the page has taken."""
+    found = 0
+    for name in os.listdir("/proc"):
+        with contextlib.suppress(OSError):
+            if name.isdigit():
+                with open(f"/proc/{name}/cmdline", "rb") as it:
+                    words = it.read()
+                if b"--type=renderer" in words and bench.folder.name.encode() in words:
+                    with open(f"/proc/{name}/stat", encoding="ascii") as it:
+                        fields = it.read().rsplit(")", 1)[1].split()
+                    found += int(fields[11]) + int(fields[12])
+    return found / os.sysconf("SC_CLK_TCK")
+
+
+def try_work(bench, url):
+    """A step at 10,000 cycles, by what it takes of a processor; the size of the page."""
+    type_source(bench, SORT.replace("addi r0,#20,r1", "addi r0,#20,r7\nagain:  addi r0,#20,r1").replace("        halt", "        addi r7,#-1,r7\n        bne  r7,r0,again\n        halt"))
+    settled(bench)
+    go(bench, 10_000)
+    bench.ask("Promise.resolve(state.loaded).then(() => 0)")
+    before = processor_time(bench)
+    bench.ask(STEP_TIME)
+    took = 1000 * (processor_time(bench) - before) / 200
+    tell(f"a step at 10,000 cycles takes {WORKED} ms of a processor at most", bench.cycle() == 10_200 and 0 < took <= WORKED, (bench.cycle(), took))
+    print(f"    a step at 10,000 cycles takes {took:.1f} ms of a processor")
+    with urllib.request.urlopen(url) as it:
+        size = len(it.read())
+    tell(f"the page has fewer than {MOST_PAGE} bytes", 0 < size < MOST_PAGE, size)
 
 
 def main():

@@ -150,7 +150,9 @@ def prove_locked(crates, asked, log_name, for_check):
         if all(map(prover.is_done, crates)):
             print(f"mx: all {len(crates)} are proved", file=sys.stderr)
             return 0
-        print(f"mx: {' and '.join(asked)} with the crates below: {len(crates)}. {ABOUT}", file=sys.stderr, flush=True)
+        left = sum(not prover.is_done(it) for it in crates)
+        said = f"mx: {' and '.join(asked)} with the crates below: {len(crates)}, of which {left} {'is' if left == 1 else 'are'} to be proved"
+        print(f"{said}. {ABOUT}" if left == len(crates) else said, file=sys.stderr, flush=True)
         with open(log_name, "w", encoding="utf-8") as log:
             return 0 if prove(prover, crates, asked, log) else 1
     finally:

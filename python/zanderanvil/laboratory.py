@@ -13,7 +13,7 @@ import threading
 from dataclasses import dataclass, field
 from typing import IO, Any, Callable, Dict, Iterable, List, Mapping, Optional, Sequence, Tuple, Union, cast
 
-from .library import DONE, OUT_OF_BUDGET, Refusal, Run, read_run
+from .library import DONE, OUT_OF_BUDGET, Refusal, Run, encoded, read_run
 
 FAULTY = 1
 SOURCE = "source.s"
@@ -192,7 +192,7 @@ class Laboratory:
         with tempfile.TemporaryDirectory(prefix="zanderanvil-") as folder:
             for name, content in (files or {}).items():
                 with open(os.path.join(folder, name), "wb") as file:
-                    file.write(content)
+                    file.write(encoded(name, content))
             return self._run(words, folder)
 
     def _run(self, words: Sequence[str], folder: str) -> Tuple[int, bytes, bytes]:

@@ -123,6 +123,13 @@ def _number(value: Union[int, str]) -> int:
     return value
 
 
+def encoded(name: str, content: bytes) -> bytes:
+    """The bytes of a file. A str has none before its caller encodes it."""
+    if isinstance(content, str):
+        raise TypeError(f"{name} is a str, and bytes are expected: give text.encode()")
+    return content
+
+
 class _Room:
     """A buffer for an answer: memory that the system gives as it is written to."""
 
@@ -189,7 +196,7 @@ class Zanderanvil:
         if unknown:
             raise TypeError(f"unknown file {unknown[0]}: there are {', '.join(FILES)}")
         text = "".join(word + "\n" for word in words).encode("utf-8", "surrogateescape")
-        lent = {"words": text, **dict.fromkeys(FILES, b""), **files}
+        lent = {"words": text, **dict.fromkeys(FILES, b""), **{name: encoded(name, content) for name, content in files.items()}}
         call = _Call(**{name: _Bytes(content, len(content)) for name, content in lent.items()})
         output, file = _Room(room), _Room(file_room)
         outcome: _Outcome = self._command(ctypes.byref(call), output.buffer, room, file.buffer, file_room)

@@ -3,7 +3,7 @@
 const FIELD = { marks: 0, a: 1, b: 2, result: 3, ways: 4, md: 5, inputs: 6, fetches: 7, misses: 8, squashes: 9, interrupts: 10,
   byte: 11, registers: 12, address: 13, word: 14 };
 const STAGES = ['IF', 'RF', 'ALU', 'MEM', 'WB'];
-const WAYS = ['', 'the register file', 'the bypass in RF', 'the bypass in ALU'];
+const WAYS = ['', 'file', 'bypass in RF', 'bypass in ALU'];
 const ROW = 20, COLUMN = 38, HEAD = 38, KEPT = 64, STAY = 15, MOST_CONSOLE = 65536;
 
 const find = id => document.getElementById(id);
@@ -162,7 +162,6 @@ const tagOf = sign => {
 // ---- reasons ----
 
 const place = address => address < 0 ? '' : hex(address, 4);
-const nameOf = (range, address) => range.labels.has('code' + address) ? range.labels.get('code' + address) + ' ' + place(address) : place(address);
 
 // Why a no-op stands at an address: the words before it tell.
 const whyNoOp = (range, address) => {
@@ -170,7 +169,7 @@ const whyNoOp = (range, address) => {
   const transfer = [last, other].find(word => word && word.kind >= 3);
   if (transfer) return 'a no-op in a slot of ' + place(transfer.address) + ': the list scheduler found no instruction for it' + range.shown.more(range, address);
   if (last && last.kind === 1)
-    return 'a no-op after the load at ' + place(last.address) + ', whose value is not there yet: the list scheduler found no instruction for it' + range.shown.more(range, address);
+    return 'a no-op after the load at ' + place(last.address) + ': the list scheduler found no instruction for it' + range.shown.more(range, address);
   return 'a no-op';
 };
 const whySquashed = (range, row) => {
@@ -187,16 +186,16 @@ const operandsAt = (range, row, k) => {
 const whyAt = (range, row, k) => {
   const sign = signAt(row, k), cell = cellOf(sign), word = range.listing.get(row.address), reasons = [];
   if (sign === 'w') {
-    reasons.push((row.address < 0 ? 'its word' : place(row.address)) + ' is not in the instruction cache, which takes two cycles more');
-    const moved = lastMoving(range, k), fetched = moved < 0 ? null : range.rowsAt(moved).find(it => cellOf(signAt(it, moved)).stage === 0);
-    if (fetched) reasons.push('the word fetched before it, at ' + place(fetched.address) + ', waits to enter RF');
+    reasons.push('not in the cache: two cycles more');
+    const fetched = heldRow(range, 0, lastMoving(range, k));
+    if (fetched) reasons.push(place(fetched.address) + ' before it waits to enter RF');
   }
   if (cell.look === 'squashed') reasons.push(whySquashed(range, row));
   if (cell.look === 'killed') reasons.push('killed by the interrupt that this cycle takes');
-  if (word && word.isNoOp) reasons.push(whyNoOp(range, row.address));
+  if (word && word.isNoOp && cell.look !== 'squashed') reasons.push(whyNoOp(range, row.address));
   if (sign === '2' || sign === 'C')
-    for (const it of operandsAt(range, row, k)) reasons.push('r' + it.register + ' = ' + hex(it.value) + ' from ' + WAYS[it.way]);
-  if (sign === '2') reasons.push('makes ' + hex(range.field(k, 'result')));
+    for (const it of operandsAt(range, row, k)) reasons.push('r' + it.register + ' = ' + hex(it.value) + ' (' + WAYS[it.way] + ')');
+  if (sign === '2' && !(word && word.isNoOp)) reasons.push('makes ' + hex(range.field(k, 'result')));
   if (sign === '3' && word && word.kind === 2)
     reasons.push(range.field(k, 'byte') >= 0 ? 'sends ' + hex(range.field(k, 'byte'), 2) : 'stores ' + hex(range.field(k, 'word')) + ' at ' + place(range.field(k, 'address')));
   return reasons.join('; ');
@@ -207,11 +206,18 @@ const lastMoving = (range, at) => {
   while (at >= 0 && range.isStalled(at)) at--;
   return at;
 };
+// The row of what a stage holds behind a cycle; none where an interrupt has killed it there.
+const heldRow = (range, n, moved) => {
+  const row = moved < 0 ? null : range.rowsAt(moved).find(it => cellOf(signAt(it, moved)).stage === n);
+  return row && !isKilled(row, moved) ? row : null;
+};
+const isKilled = (row, k) => cellOf(signAt(row, k)).look === 'killed';
 const heldIn = (range, stage, n, at) => {
-  const moved = lastMoving(range, at), row = moved < 0 ? null : range.rowsAt(moved).find(it => cellOf(signAt(it, moved)).stage === n);
-  if (!row) return { cells: [stage, '', '', '', 'empty; nothing moves in a stalled cycle'] };
-  const word = range.listing.get(row.address);
-  return { row, cells: [stage, nameOf(range, row.address), word ? word.text : '', word ? word.origin : '', 'holds it: nothing moves until IF has its word'] };
+  const moved = lastMoving(range, at), row = heldRow(range, n, moved), word = row && range.listing.get(row.address);
+  const wasKilled = moved >= 0 && range.rowsAt(moved).some(it => isKilled(it, moved) && cellOf(signAt(it, moved)).stage === n);
+  if (!row) return { cells: [stage, '', '', '', wasKilled ? 'empty: the interrupt killed what was here' : 'empty; nothing moves in a stalled cycle'] };
+  const held = cellOf(signAt(row, moved)).look === 'squashed' ? 'squashed; held by the stall' : 'held by the stall';
+  return { row, cells: [stage, place(row.address), word ? word.text : '', word ? word.origin : '', held] };
 };
 
 // ---- the picture ----
@@ -222,7 +228,8 @@ const heldCell = (range, row, j) => {
   let k = j;
   while (k >= 0 && range.isStalled(row.begins + k)) k--;
   const cell = k >= 0 ? cellOf(row.cells[k] || ' ') : null;
-  return cell && cell.look !== 'waits' && /[0-9a-eA-E]/.test(row.cells.slice(j)) ? { ...cell, look: 'held' } : null;
+  if (!cell || cell.look === 'waits' || cell.look === 'killed' || !/[0-9a-eA-E]/.test(row.cells.slice(j))) return null;
+  return { ...cell, look: cell.look === 'squashed' ? 'held squashed' : 'held' };
 };
 
 // An arrow of the picture, as its line and its tip.
