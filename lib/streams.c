@@ -3,6 +3,7 @@
 #include <stdio.h>
 #include <stdlib.h>
 #include <string.h>
+#include "file.h"
 
 #define FIRST_ROOM 64
 
@@ -57,28 +58,55 @@ FILE *fopen(const char *restrict name, const char *restrict mode) {
 }
 
 int fclose(FILE *stream) {
-    (void) stream;
+    if (stream->device)
+        stream->device->close(stream);
     return 0;
 }
 
+/* A stream is opened again under a name of its own kind. Under any other it is closed, since there are no files. */
+FILE *freopen(const char *restrict name, const char *restrict mode, FILE *restrict stream) {
+    FILE *other = name ? fopen(name, mode) : stream;
+    if (other && !stream->device && (other == stdin) == (stream == stdin)) {
+        clearerr(stream);
+        return stream;
+    }
+    if (other)
+        errno = EINVAL;
+    fclose(stream);
+    return NULL;
+}
+
 int fileno(FILE *stream) {
+    if (stream->device) {
+        errno = EBADF;
+        return -1;
+    }
     return stream == stdin ? 0 : stream == stdout ? 1 : 2;
 }
 
 int fseek(FILE *stream, long offset, int from) {
-    (void) stream;
-    (void) offset;
-    (void) from;
+    if (stream->device)
+        return stream->device->move(stream, offset, from);
     errno = ESPIPE;
     return -1;
 }
 
 long ftell(FILE *stream) {
-    return fseek(stream, 0, SEEK_CUR);
+    return stream->device ? stream->device->where(stream) : fseek(stream, 0, SEEK_CUR);
 }
 
 void rewind(FILE *stream) {
+    fseek(stream, 0, SEEK_SET);
     clearerr(stream);
+}
+
+int fgetpos(FILE *restrict stream, fpos_t *restrict to) {
+    *to = ftell(stream);
+    return *to < 0 ? -1 : 0;
+}
+
+int fsetpos(FILE *stream, const fpos_t *from) {
+    return fseek(stream, *from, SEEK_SET);
 }
 
 int remove(const char *name) {
@@ -90,6 +118,18 @@ int remove(const char *name) {
 int rename(const char *from, const char *to) {
     (void) to;
     return remove(from);
+}
+
+/* A name that no call gave before. */
+char *tmpnam(char *to) {
+    static char own[L_tmpnam];
+    static unsigned number;
+    char *name = to ? to : own, *at = name + L_tmpnam - 1;
+    unsigned rest = number++;
+    strcpy(name, "/tmp/file000000");
+    for (; rest; rest /= 10)
+        *--at += rest % 10;
+    return name;
 }
 
 int vasprintf(char **restrict to, const char *restrict format, va_list list) {
