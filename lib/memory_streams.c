@@ -2,18 +2,9 @@
 #include <errno.h>
 #include <stdlib.h>
 #include <string.h>
-#include "file.h"
+#include "memory_stream.h"
 
 #define FIRST_ROOM 64
-
-struct memory {
-    FILE file;                  /* first, so that one is the address of the other */
-    char *bytes;
-    size_t room, length, at;
-    char reads, writes, appends, grows, is_own;
-    char **told;                /* where open_memstream tells its bytes and their number */
-    size_t *told_length;
-};
 
 static struct memory *memory_of(FILE *stream) {
     return (struct memory *) stream;
@@ -28,7 +19,7 @@ static int fail(struct memory *memory, int why) {
 static void tell(struct memory *memory) {
     if (memory->told) {
         *memory->told = memory->bytes;
-        *memory->told_length = memory->at < memory->length ? memory->at : memory->length;
+        *memory->told_length = memory->at < memory->length && !memory->is_file ? memory->at : memory->length;
     }
 }
 
@@ -105,19 +96,18 @@ static void close(FILE *stream) {
 
 static const struct _device device = {take, put, move, where, close};
 
-/* A stream of `size` bytes, or none. */
-static struct memory *new_memory(size_t size) {
+struct memory *_new_memory(size_t room) {
     struct memory *memory = calloc(1, sizeof *memory);
     if (!memory)
         return NULL;
     memory->file = (FILE){NOTHING, NOTHING, 0, 0, &device};
-    memory->room = size;
+    memory->room = room;
     return memory;
 }
 
 /* Of a stream that owns its bytes. */
 static struct memory *new_growing(void) {
-    struct memory *memory = new_memory(0);
+    struct memory *memory = _new_memory(0);
     if (memory && !grow(memory)) {
         free(memory);
         return NULL;
@@ -134,7 +124,7 @@ FILE *fmemopen(void *restrict buffer, size_t size, const char *restrict mode) {
         errno = EINVAL;
         return NULL;
     }
-    struct memory *memory = new_memory(size);
+    struct memory *memory = _new_memory(size);
     if (!memory)
         return NULL;
     memory->is_own = !buffer;

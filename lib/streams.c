@@ -1,9 +1,9 @@
-/* Functions of streams beyond characters: lines of any length, buffers that are not there, and files, of which there are none. */
+/* Functions of streams beyond characters: lines of any length, buffers that are not there, and devices and files by their names. */
 #include <errno.h>
 #include <stdio.h>
 #include <stdlib.h>
 #include <string.h>
-#include "file.h"
+#include "memory_stream.h"
 
 #define FIRST_ROOM 64
 
@@ -45,16 +45,20 @@ int setvbuf(FILE *restrict stream, char *restrict buffer, int mode, size_t size)
     return mode < _IOFBF || mode > _IONBF;
 }
 
-/* The streams have names too. */
-FILE *fopen(const char *restrict name, const char *restrict mode) {
+/* The stream of a device, or none. */
+static FILE *device_of(const char *name, const char *mode) {
     if (!strcmp(name, "/dev/stdin") && *mode == 'r')
         return stdin;
     if (!strcmp(name, "/dev/stdout") && *mode != 'r')
         return stdout;
     if (!strcmp(name, "/dev/stderr") && *mode != 'r')
         return stderr;
-    errno = ENOENT;
     return NULL;
+}
+
+FILE *fopen(const char *restrict name, const char *restrict mode) {
+    FILE *device = device_of(name, mode);
+    return device ? device : _open_file(name, mode);
 }
 
 int fclose(FILE *stream) {
@@ -63,15 +67,14 @@ int fclose(FILE *stream) {
     return 0;
 }
 
-/* A stream is opened again under a name of its own kind. Under any other it is closed, since there are no files. */
+/* The input and the console can be opened again under their own names. Under any other a stream is closed. */
 FILE *freopen(const char *restrict name, const char *restrict mode, FILE *restrict stream) {
-    FILE *other = name ? fopen(name, mode) : stream;
+    FILE *other = name ? device_of(name, mode) : stream;
     if (other && !stream->device && (other == stdin) == (stream == stdin)) {
         clearerr(stream);
         return stream;
     }
-    if (other)
-        errno = EINVAL;
+    errno = other || *mode != 'r' ? EINVAL : ENOENT;
     fclose(stream);
     return NULL;
 }
@@ -107,17 +110,6 @@ int fgetpos(FILE *restrict stream, fpos_t *restrict to) {
 
 int fsetpos(FILE *stream, const fpos_t *from) {
     return fseek(stream, *from, SEEK_SET);
-}
-
-int remove(const char *name) {
-    (void) name;
-    errno = ENOENT;
-    return -1;
-}
-
-int rename(const char *from, const char *to) {
-    (void) to;
-    return remove(from);
 }
 
 /* A name that no call gave before. */

@@ -153,6 +153,14 @@ feature_of() {
     esac
 }
 
+# The fault $1, by the name of what C has that the line $2 of the assembly is part of, where it is known.
+named_feature() {
+    case $1,$2 in
+        *': registers 1 and 22 to 28 are kept;'*,*w*[\$]2[23],*'('[\$][sf]p')') echo ' goto: out of a nested function: it needs registers that are kept' ;;
+        *) echo "$1" ;;
+    esac
+}
+
 # Prints what $work/said has of a fault, by the names of the files as they were given, and by lines of C where they are C. In the
 # folder of the work a file has its number as its name, and the assembly of a file in C has `.s` after it.
 print_fault() {
@@ -167,6 +175,7 @@ print_fault() {
                 ;;
             "$number.s")
                 place=$(place_in_c "$work/$name" "$line")
+                rest=$(named_feature "$rest" "$(sed -n "${line}p" "$work/$name")")
                 echo "${place:-$file}:$rest$(feature_of "$rest")"
                 return
                 ;;

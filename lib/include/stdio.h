@@ -1,5 +1,5 @@
-/* Reading the input and writing to the console. There are no files: stdout and stderr are the console, stdin is the
-   input, and nothing is buffered. */
+/* Reading the input and writing to the console. stdout and stderr are the console, stdin is the input, and nothing is
+   buffered. Files are those that the program makes itself. */
 #ifndef _STDIO_H
 #define _STDIO_H
 
@@ -49,7 +49,7 @@ int setvbuf(FILE *__restrict stream, char *__restrict buffer, int mode, size_t s
 ssize_t getline(char **__restrict line, size_t *__restrict room, FILE *__restrict stream);
 ssize_t getdelim(char **__restrict line, size_t *__restrict room, int delimiter, FILE *__restrict stream);
 
-/* Of files there are only /dev/stdin, /dev/stdout and /dev/stderr. */
+/* /dev/stdin, /dev/stdout, /dev/stderr, and files in memory, which end with the program. */
 FILE *fopen(const char *__restrict name, const char *__restrict mode);
 FILE *freopen(const char *__restrict name, const char *__restrict mode, FILE *__restrict stream);
 int fclose(FILE *stream);

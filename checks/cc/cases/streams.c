@@ -102,6 +102,45 @@ static void open_again(void) {
     printf("%a %a\n", nexttoward(1, 2), (double) nexttowardf(1, 0));
 }
 
+static void show_file(const char *name, const char *mode) {
+    char line[40];
+    FILE *file = fopen(name, mode);
+    if (!file) {
+        printf("%d\n", errno == ENOENT);
+        return;
+    }
+    while (fgets(line, sizeof line, file))
+        printf("%s|", line);
+    fclose(file);
+}
+
+static void store_files(void) {
+    char name[L_tmpnam], other[L_tmpnam];
+    tmpnam(name), tmpnam(other);
+    show_file(name, "r");
+    FILE *file = fopen(name, "w");
+    for (int i = 0; i < 40; i++)
+        fprintf(file, "%d ", i);
+    fputs("\nlast", file);
+    fclose(file);
+    show_file(name, "r");
+    file = fopen(name, "a+");
+    fputs(" more\n", file);
+    fseek(file, 2, SEEK_SET);
+    printf("%c\n", fgetc(file));
+    fclose(file);
+    file = fopen(name, "r+");
+    fputs("begin", file);
+    fclose(file);
+    printf("%d\n", rename(name, other));
+    show_file(name, "r");
+    show_file(other, "r");
+    fclose(fopen(other, "w"));
+    show_file(other, "r");
+    printf("%d ", remove(other));
+    printf("%d\n", remove(other));
+}
+
 static void last(void) {
     puts("last");
     fflush(stdout);
@@ -124,6 +163,7 @@ int main(void) {
     write_memory();
     grow_memory();
     open_again();
+    store_files();
     signal(SIGABRT, aborted);
     abort();
 }
