@@ -90,7 +90,7 @@ CHECKS = (
     Check("drawing", ("draw.sh",), ("mx_lab",), is_alone=True),
     # C programs, the libraries
     Check("stored C programs", ("cc_cases.py",), ("mx_run", "mx_cc"), 15, tools=MIPS),
-    Check("C programs", ("cc.sh", "0"), ("mx_run", "mx_cc"), 15, tools=(*MIPS, "csmith"), full=("cc.sh",)),
+    Check("C programs", ("cc.sh", "0"), ("mx_run", "mx_cc"), 15, tools=MIPS, full=("cc.sh",)),
     Check("C commands", ("cc_uses.sh",), ("mx_run", "mx_cc"), 15, tools=MIPS),
     Check("library", ("embed.sh",), ("mx_run",), tools=("cc", "c++", "ar", "nm", "readelf")),
     Check("Python", ("python.sh",), ("mx_lab",)),

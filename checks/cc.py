@@ -6,10 +6,9 @@ import sys
 import tempfile
 
 import cprograms
+import drawn as drawing
 from cprograms import LEVELS, TOP, Fault
 
-CSMITH = ['--max-funcs', '4', '--max-block-depth', '3', '--no-argc']
-CSMITH_HEADERS = '-I/usr/include/csmith'
 SEEDS = 8                       # inputs of each test of checks/cc
 libraries = {}                  # the library's assembly, by its level
 
@@ -61,17 +60,15 @@ def try_example(job):
 
 
 def try_drawn(job):
-    """A program of csmith, at a level that goes round with its seed."""
-    folder, seed = job
-    level, name = LEVELS[seed % len(LEVELS)], f'csmith {seed}'
+    """A random program, at a level that goes round with its seed."""
+    folder, seed, is_own = job
+    level, name = LEVELS[seed % len(LEVELS)], f'{"random_c" if is_own else "csmith"} {seed}'
     base = f'{folder}/drawn{seed}'
     try:
-        done = cprograms.shell(['csmith', '--seed', str(seed), *CSMITH], cwd=folder)    # it leaves a file where it runs
-        with open(f'{base}.c', 'wb') as file:
-            file.write(done.stdout)
-        cprograms.compile_native(f'{base}.c', f'{base}.native', [CSMITH_HEADERS])
+        _, more = drawing.draw(seed, is_own, folder)
+        cprograms.compile_native(f'{base}.c', f'{base}.native', more)
         wanted = cprograms.run_native(f'{base}.native', b'', 3)
-        told = try_at(folder, f'drawn{seed}', f'{base}.c', level, None, wanted, [CSMITH_HEADERS])
+        told = try_at(folder, f'drawn{seed}', f'{base}.c', level, None, wanted, more)
     except Fault as fault:
         return None if fault.is_passed_over else False, f'{"passed over" if fault.is_passed_over else "FAILED"}: {name}: -O{level} {fault}'
     os.remove(f'{base}.c')
@@ -101,13 +98,15 @@ def try_all(pool, folder, drawn, names):
         print(line, flush=True)
         failures += not is_good
         compared += 1
-    same, over = 0, 0
-    for is_good, line in pool.imap_unordered(try_drawn, ((folder, seed) for seed in range(1, drawn + 1))):
+    same, over, missing = 0, 0, drawing.what_is_missing()
+    if drawn and missing:
+        print(f'{missing}; programs of checks/random_c.py are drawn instead')
+    for is_good, line in pool.imap_unordered(try_drawn, ((folder, seed, bool(missing)) for seed in range(1, drawn + 1))):
         print(line, flush=True)
         same += is_good is True
         over += is_good is None
     if drawn:
-        print(f'csmith: {drawn} programs drawn, {same} the same, {over} passed over, {drawn - same - over} not')
+        print(f'{"random_c" if missing else "csmith"}: {drawn} programs drawn, {same} the same, {over} passed over, {drawn - same - over} not')
     return failures + drawn - same - over, compared - over
 
 

@@ -1,12 +1,13 @@
 #!/bin/bash
 # C programs on the pipeline against the same programs under qemu-mips: the examples of examples/c at five levels of
-# optimization, the library's own tests of checks/cc, and programs that csmith draws. Of each the console and the status
+# optimization, the library's own tests of checks/cc, and random programs. Of each the console and the status
 # of `meaning`, of `run`, and of `run` under 200 random interrupts have to be what the native program gives. Where an example
 # has a file NAME.out, which the host's gcc gave, the native program has to give that too.
 #
-#   checks/cc.sh [DRAWN] [NAME ..]     DRAWN programs of csmith (100), the examples that are named (all)
+#   checks/cc.sh [DRAWN] [NAME ..]     DRAWN random programs (100), the examples that are named (all)
 #
-# It needs the Debian packages gcc-mips-linux-gnu, qemu-user and csmith with libcsmith-dev, and two programs, which are
+# Random programs are those of csmith, or where it or its headers are missing those of checks/random_c.py.
+# It needs the Debian packages gcc-mips-linux-gnu and qemu-user, and two programs, which are
 # the proved ones that ./mx builds unless the environment names others:
 #   MX_RUN   the simulator:   MX_RUN run FILE .., MX_RUN meaning FILE ..
 #   MX_CC    the translator:  MX_CC FILE.s .. -o OUT.s
@@ -14,9 +15,9 @@
 top=$(CDPATH='' cd -- "$(dirname -- "$0")/.." && pwd) || exit 1
 export MX_RUN=${MX_RUN:-$top/crates/mx_run/out/mx_run}
 export MX_CC=${MX_CC:-$top/crates/mx_cc/out/mx_cc}
-for program in mips-linux-gnu-gcc qemu-mips csmith python3; do
+for program in mips-linux-gnu-gcc qemu-mips python3; do
     if ! command -v "$program" >/dev/null; then
-        echo "checks/cc.sh: $program is missing: apt-get install gcc-mips-linux-gnu qemu-user csmith libcsmith-dev python3" >&2
+        echo "checks/cc.sh: $program is missing: apt-get install gcc-mips-linux-gnu qemu-user python3" >&2
         exit 1
     fi
 done

@@ -67,6 +67,18 @@ grep -q '^cycles [0-9]' "$work/report" || tell 'c echo.c --report' 'no cycles'
 got=$?
 [ $got -eq 3 ] || tell 'c --budget 100' "status $got"
 grep -q -x 'zanderanvil: error: the program did not end within 100 cycles: --budget N gives it more, up to 100,000,000' "$work/said" || tell 'c --budget 100' "said $(cat "$work/said")"
+# the console of a program that does not end is printed, and a long run has its input and its console once
+file endless.c '#include <stdio.h>' 'int main(void) {' '    puts("before");' '    for (;;);' '}'
+./mx c "$work/endless.c" --budget 3000000 >"$work/told" 2>"$work/said"
+got=$?
+[ $got -eq 3 ] || tell 'c endless.c' "status $got"
+[ "$(cat "$work/told")" = before ] || tell 'c endless.c' "printed $(head -c 100 "$work/told")"
+[ "$(wc -l <"$work/said")" -eq 1 ] || tell 'c endless.c' "said $(cat "$work/said")"
+head -c 100000 /dev/zero | tr '\0' x >"$work/given"
+./mx c "$work/echo.c" -- x <"$work/given" >"$work/told" 2>"$work/said"
+got=$?
+[ $got -eq $((2 + 120)) ] || tell 'c echo.c with 100,000 bytes' "status $got"
+same 'c echo.c with 100,000 bytes' "$work/told" "$work/given"
 # what is written is whole, is the same where two write at once, and its size is printed
 ./mx cc "$work/echo.c" -o "$work/one.s" 2>"$work/said" || tell 'cc echo.c' "status $?"
 grep -q -x "mx: $work/one.s: [0-9]* statements of at most 20,000, for [0-9]* instructions; [0-9]* data words" "$work/said" || tell 'cc echo.c' "said $(cat "$work/said")"

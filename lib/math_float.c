@@ -69,7 +69,7 @@ float remquof(float x, float y, int *quotient) {
     return remquo(x, y, quotient);
 }
 
-float nextafterf(float x, float y) {
+float nexttowardf(float x, long double y) {
     union single_bits number = {x};
     if (isnan(x) || isnan(y))
         return x + y;
@@ -81,6 +81,10 @@ float nextafterf(float x, float y) {
     }
     number.bits += (x < y) == (x > 0) ? 1 : -1u;
     return number.value;
+}
+
+float nextafterf(float x, float y) {
+    return nexttowardf(x, y);
 }
 
 /* The exact product is a double; a sum of doubles that is rounded to odd is right as a float. */

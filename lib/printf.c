@@ -16,8 +16,18 @@ void _put(struct sink *sink, char c) {
 }
 
 void _put_text(struct sink *sink, const char *text, int length) {
-    while (length-- > 0)
-        _put(sink, *text++);
+    int fits = length;
+    if (sink->stream) {
+        for (int i = 0; i < length; i++)
+            fputc(text[i], sink->stream);
+    } else if (sink->count < sink->room) {
+        if (sink->room - sink->count < (size_t) length)
+            fits = sink->room - sink->count;
+        char *to = sink->to + sink->count;
+        for (int i = 0; i < fits; i++)
+            to[i] = text[i];
+    }
+    sink->count += length > 0 ? length : 0;
 }
 
 void _put_many(struct sink *sink, char c, int times) {

@@ -22,8 +22,13 @@ static void put_decimal(struct sink *sink, const struct decimal *number, int top
         int length = LIMB_DIGITS - skipped;
         if (length > count)
             length = count;
-        _limb_digits(number->limb[index], digits);
-        _put_text(sink, digits + skipped, length);
+        if (length == LIMB_DIGITS && !sink->stream && sink->room >= sink->count + LIMB_DIGITS) {
+            _limb_digits(number->limb[index], sink->to + sink->count);
+            sink->count += LIMB_DIGITS;
+        } else {
+            _limb_digits(number->limb[index], digits);
+            _put_text(sink, digits + skipped, length);
+        }
         count -= length;
         skipped = 0;
     }
@@ -120,7 +125,8 @@ static void put_general(struct sink *sink, const struct conversion *conversion, 
 /* The number, exactly or rounded to what the conversion prints. */
 static void find_digits(struct decimal *number, char letter, int precision, uint64_t significand, int power) {
     int digits = letter == 'e' ? precision + 1 : precision ? precision : 1;
-    int is_far = significand && (power < LEAST_EXACT_POWER || power > MOST_EXACT_POWER);
+    /* (f prints more digits of a number above 2^64 than a product gives) */
+    int is_far = significand && (power < LEAST_EXACT_POWER || (power > MOST_EXACT_POWER && letter != 'f'));
     if (is_far && _decimal_near(number, significand, power, letter == 'f' ? 0 : digits, precision))
         return;
     _decimal_of_integer(number, significand);

@@ -2,11 +2,16 @@
 #include <errno.h>
 #include <signal.h>
 #include <stdlib.h>
+#include "start.h"
 
 #define MOST 32                     /* a signal has a number below */
 #define ENDED 128                   /* and a program that it ends this status and the number */
 
 static sighandler_t handlers[MOST];
+
+static void raise_abort(void) {
+    raise(SIGABRT);
+}
 
 sighandler_t signal(int number, sighandler_t handler) {
     if (number <= 0 || number >= MOST || number == SIGKILL) {
@@ -15,6 +20,8 @@ sighandler_t signal(int number, sighandler_t handler) {
     }
     sighandler_t before = handlers[number];
     handlers[number] = handler;
+    if (number == SIGABRT)
+        _at_abort = handler == SIG_DFL ? NULL : raise_abort;
     return before;
 }
 

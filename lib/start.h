@@ -10,4 +10,7 @@ extern char *_stack_limit;
 /* What exit calls first, if atexit was called. */
 extern void (*_at_exit)(void);
 
+/* What abort calls first, if the program handles SIGABRT. */
+extern void (*_at_abort)(void);
+
 #endif

@@ -2,6 +2,7 @@
 #include <errno.h>
 #include <stdio.h>
 #include <string.h>
+#include "file.h"
 
 /* The word is no part of any object. */
 #pragma GCC diagnostic ignored "-Warray-bounds"
@@ -9,30 +10,31 @@
 
 int _take_input(void);          /* of system.s: the next byte of the input, or EOF */
 
-#define NOTHING (-2)            /* in place of a character that was given back */
-
-struct _file {
-    int returned;               /* the character that ungetc gave back */
-    int has_ended;
-};
-
-static FILE input = {NOTHING, 0}, console = {NOTHING, 0}, messages = {NOTHING, 0};
+static FILE input = {NOTHING, NOTHING}, console = {NOTHING, NOTHING}, messages = {NOTHING, NOTHING};
 FILE *const stdin = &input, *const stdout = &console, *const stderr = &messages;
 int errno;
 
 /* The one function that takes bytes of the input: all others call it. */
 int getchar(void) {
-    int c = input.returned;
+    int c = _take_back(&input);
     if (c == NOTHING)
         c = _take_input();
-    input.returned = NOTHING;
     if (c == EOF)
         input.has_ended = 1;
     return c;
 }
 
+/* What a stream gives that cannot do what is asked of it. */
+static int fail(FILE *stream) {
+    errno = EBADF;
+    stream->has_failed = 1;
+    return EOF;
+}
+
 int fgetc(FILE *stream) {
-    return stream == stdin ? getchar() : EOF;
+    if (stream == stdin)
+        return getchar();
+    return stream->device ? stream->device->take(stream) : fail(stream);
 }
 
 int getc(FILE *stream) {
@@ -42,6 +44,7 @@ int getc(FILE *stream) {
 int ungetc(int c, FILE *stream) {
     if (c == EOF)
         return EOF;
+    stream->older = stream->returned;
     stream->returned = c & 255;
     stream->has_ended = 0;
     return c & 255;
@@ -83,7 +86,9 @@ int putchar(int c) {
 }
 
 int fputc(int c, FILE *stream) {
-    return stream == stdin ? EOF : putchar(c);
+    if (stream->device)
+        return stream->device->put(c, stream);
+    return stream == stdin ? fail(stream) : putchar(c);
 }
 
 int putc(int c, FILE *stream) {
@@ -124,12 +129,11 @@ int feof(FILE *stream) {
 }
 
 int ferror(FILE *stream) {
-    (void) stream;
-    return 0;
+    return stream->has_failed;
 }
 
 void clearerr(FILE *stream) {
-    stream->has_ended = 0;
+    stream->has_ended = stream->has_failed = 0;
 }
 
 int fflush(FILE *stream) {

@@ -1,8 +1,9 @@
-/* Functions of streams beyond characters: lines of any length, buffers that are not there, and files, of which there are none. */
+/* Functions of streams beyond characters: lines of any length, buffers that are not there, and devices and files by their names. */
 #include <errno.h>
 #include <stdio.h>
 #include <stdlib.h>
 #include <string.h>
+#include "memory_stream.h"
 
 #define FIRST_ROOM 64
 
@@ -44,52 +45,83 @@ int setvbuf(FILE *restrict stream, char *restrict buffer, int mode, size_t size)
     return mode < _IOFBF || mode > _IONBF;
 }
 
-/* The streams have names too. */
-FILE *fopen(const char *restrict name, const char *restrict mode) {
+/* The stream of a device, or none. */
+static FILE *device_of(const char *name, const char *mode) {
     if (!strcmp(name, "/dev/stdin") && *mode == 'r')
         return stdin;
     if (!strcmp(name, "/dev/stdout") && *mode != 'r')
         return stdout;
     if (!strcmp(name, "/dev/stderr") && *mode != 'r')
         return stderr;
-    errno = ENOENT;
     return NULL;
 }
 
+FILE *fopen(const char *restrict name, const char *restrict mode) {
+    FILE *device = device_of(name, mode);
+    return device ? device : _open_file(name, mode);
+}
+
 int fclose(FILE *stream) {
-    (void) stream;
+    if (stream->device)
+        stream->device->close(stream);
     return 0;
 }
 
+/* The input and the console can be opened again under their own names. Under any other a stream is closed. */
+FILE *freopen(const char *restrict name, const char *restrict mode, FILE *restrict stream) {
+    FILE *other = name ? device_of(name, mode) : stream;
+    if (other && !stream->device && (other == stdin) == (stream == stdin)) {
+        clearerr(stream);
+        return stream;
+    }
+    errno = other || *mode != 'r' ? EINVAL : ENOENT;
+    fclose(stream);
+    return NULL;
+}
+
 int fileno(FILE *stream) {
+    if (stream->device) {
+        errno = EBADF;
+        return -1;
+    }
     return stream == stdin ? 0 : stream == stdout ? 1 : 2;
 }
 
 int fseek(FILE *stream, long offset, int from) {
-    (void) stream;
-    (void) offset;
-    (void) from;
+    if (stream->device)
+        return stream->device->move(stream, offset, from);
     errno = ESPIPE;
     return -1;
 }
 
 long ftell(FILE *stream) {
-    return fseek(stream, 0, SEEK_CUR);
+    return stream->device ? stream->device->where(stream) : fseek(stream, 0, SEEK_CUR);
 }
 
 void rewind(FILE *stream) {
+    fseek(stream, 0, SEEK_SET);
     clearerr(stream);
 }
 
-int remove(const char *name) {
-    (void) name;
-    errno = ENOENT;
-    return -1;
+int fgetpos(FILE *restrict stream, fpos_t *restrict to) {
+    *to = ftell(stream);
+    return *to < 0 ? -1 : 0;
 }
 
-int rename(const char *from, const char *to) {
-    (void) to;
-    return remove(from);
+int fsetpos(FILE *stream, const fpos_t *from) {
+    return fseek(stream, *from, SEEK_SET);
+}
+
+/* A name that no call gave before. */
+char *tmpnam(char *to) {
+    static char own[L_tmpnam];
+    static unsigned number;
+    char *name = to ? to : own, *at = name + L_tmpnam - 1;
+    unsigned rest = number++;
+    strcpy(name, "/tmp/file000000");
+    for (; rest; rest /= 10)
+        *--at += rest % 10;
+    return name;
 }
 
 int vasprintf(char **restrict to, const char *restrict format, va_list list) {

@@ -150,6 +150,8 @@ char *strerror(int number) {
         return "File exists";
     case ENOTTY:
         return "Inappropriate ioctl for device";
+    case ENOSPC:
+        return "No space left on device";
     case ESPIPE:
         return "Illegal seek";
     case ENOMEM:

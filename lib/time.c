@@ -17,6 +17,12 @@ time_t time(time_t *to) {
     return -1;
 }
 
+int timespec_get(struct timespec *to, int base) {
+    (void) base;
+    *to = (struct timespec){-1, 0};
+    return 0;
+}
+
 double difftime(time_t end, time_t start) {
     return (double) end - start;
 }

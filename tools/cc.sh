@@ -16,6 +16,11 @@ checks='-fsanitize=null
 -fsanitize=alignment
 -fsanitize-undefined-trap-on-error'
 most_cycles=100000000       # the most that `run` takes
+# A run prints its console when it has ended. So a long program runs anew for more and more cycles, and each time the console's new part is
+# printed: after about a tenth of a second, a second, and at the end.
+first_budgets='2000000
+20000000'
+most_input=1048576          # bytes
 most_statements=20,000
 
 # Whether a program is proved is not said where one is run like any other.
@@ -148,6 +153,14 @@ feature_of() {
     esac
 }
 
+# The fault $1, by the name of what C has that the line $2 of the assembly is part of, where it is known.
+named_feature() {
+    case $1,$2 in
+        *': registers 1 and 22 to 28 are kept;'*,*w*[\$]2[23],*'('[\$][sf]p')') echo ' goto: out of a nested function: it needs registers that are kept' ;;
+        *) echo "$1" ;;
+    esac
+}
+
 # Prints what $work/said has of a fault, by the names of the files as they were given, and by lines of C where they are C. In the
 # folder of the work a file has its number as its name, and the assembly of a file in C has `.s` after it.
 print_fault() {
@@ -162,6 +175,7 @@ print_fault() {
                 ;;
             "$number.s")
                 place=$(place_in_c "$work/$name" "$line")
+                rest=$(named_feature "$rest" "$(sed -n "${line}p" "$work/$name")")
                 echo "${place:-$file}:$rest$(feature_of "$rest")"
                 return
                 ;;
@@ -289,31 +303,145 @@ end_progress() {
     progress=
 }
 
-# Runs $work/program with the options of `run` that follow, which leaves the report in $work/report.
-run_program() {
-    tell_progress
-    # shellcheck disable=SC2086
-    MX_GONE=$work/program "$top/mx" ${MX_FLAGS-} run "$work/program" "$@" >"$work/report"
-    ran=$?
-    end_progress
-    return $ran
+# Runs the toolchain with the arguments that follow, until this shell ends.
+toolchain() {
+    if command -v setpriv >/dev/null 2>&1; then setpriv --pdeathsig TERM "$mx_run" "$@"; else "$mx_run" "$@"; fi
 }
 
-# The line of C of the call that left the address $1 of the linked program, and the function: the call is three words before it, since
-# two follow it in its delay slots.
-line_called() {
-    # shellcheck disable=SC2086
-    "$top/mx" ${MX_FLAGS-} list "$work/program" 2>/dev/null | LC_ALL=C awk -v address="$(printf %08x $((0x$1 - 3)))" '
-        FILENAME == "-" { if ($1 == address && $3 ~ /^[0-9]+$/) line = $3; next }
-        FNR >= line { exit }
-        /^; .*:[0-9]+$/ { place = substr($0, 3) }
-        /^_[^.].*:$/ { name = $0 }
+# Finds the console in the file $1: it has $count bytes, from byte $from on.
+find_console() {
+    at=$(LC_ALL=C grep -a -b -m 1 '^console [0-9][0-9]*$' "$1") || fail "$(head -n 1 "$1")" 10
+    from=${at%%:*}
+    header=${at#*:}
+    count=${header#console }
+    from=$((from + ${#header} + 2))
+}
+
+# Prints what this console has after its first $printed bytes.
+print_console() {
+    find_console "$1"
+    tail -c "+$((from + printed))" "$1" | head -c "$((count - printed))" || exit 5
+    printed=$count
+}
+
+# Leaves the report of the run without its console where the option --report says.
+put_report() {
+    find_console "$work/report"
+    case $report in
+        '') ;;
+        -) { head -c "$((from - 1))" "$work/report"; tail -c "+$((from + count))" "$work/report"; } >&2 ;;
+        *) cp "$work/report" "$report" || fail "cannot write '$report'" 5 ;;
+    esac
+}
+
+# Whether the budget $1 is less than the budget of the program, if that is a plain number.
+is_less() {
+    case $budget in
+        '' | *[!0-9]* | ??????????*) return 1 ;;
+        *) [ "$1" -lt "$budget" ] ;;
+    esac
+}
+
+# Runs $work/program with the input $inputs and the options $runs, and prints its console. The last report is in $work/report.
+run_program() {
+    printed=0
+    tell_progress
+    for limit in $first_budgets "$budget"; do
+        is_less "$limit" || limit=$budget
+        # shellcheck disable=SC2086
+        toolchain run "$work/program" --budget "$limit" $inputs $runs >"$work/report"
+        case $? in
+            0 | 3) ;;
+            *)
+                # ./mx says what is wrong
+                end_progress
+                # shellcheck disable=SC2086
+                MX_GONE=$work/program "$top/mx" ${MX_FLAGS-} run "$work/program" --budget "$limit" $inputs $runs >&2
+                exit $?
+                ;;
+        esac
+        end=$(head -n 1 "$work/report")
+        check_program "$limit"
+        print_console "$work/report"
+        if [ "$end" = halted ] || [ "$limit" = "$budget" ]; then break; fi
+    done
+    end_progress
+}
+
+# Leaves the input of the program, if it reads one, as a file in $inputs: each run takes it anew.
+take_input() {
+    inputs=
+    if ! grep -q -x .input "$work/program" && [ -z "$input" ]; then return; fi
+    if [ -n "$input" ] && [ "$input" != - ]; then
+        need_file "$input"
+    else
+        [ ! -t 0 ] || [ ! -t 2 ] || echo 'mx: the program has an input, which Ctrl-D ends' >&2
+        input=/dev/stdin
+    fi
+    if [ ! -f "$input" ] || [ "$input" = /dev/stdin ]; then
+        head -c $((most_input + 1)) "$input" >"$work/input" || fail "cannot read '$input'" 4
+        [ "$(wc -c <"$work/input")" -le $most_input ] || fail "the input is too large: it has at most 1,048,576 bytes" 4
+        input=$work/input
+    fi
+    inputs=--input$line_feed$input
+}
+
+# The line of C of a line of the translated program, and the function: `FILE:LINE: in NAME: `, or what is known of them. Functions of the
+# library have no lines of C.
+place_of_line() {
+    LC_ALL=C awk -v line="$1" '
+        NR > line { exit }
+        /^; .*:[0-9]+$/ { place = substr($0, 3); is_fresh = 1; next }
+        /^_[^.].*:$/ { name = $0; if (!is_fresh) place = "" }
+        { is_fresh = 0 }
         END {
             sub(/^_/, "", name)
             sub(/(\.\.[0-9]+)?:$/, "", name)
             gsub(/\.S\./, "$", name)
-            if (place != "") print place ": in " name
-        }' - "$work/program"
+            sub(/\.(constprop|isra|part|cold)(\.[0-9]+)?$/, "", name)
+            if (place != "") printf "%s: ", place
+            if (name != "") printf "in %s: ", name
+        }' "$work/program"
+}
+
+# The place of the call that left the address $1 of the linked program: the call is three words before it, since two follow it in its
+# delay slots.
+line_called() {
+    line=$(toolchain list "$work/program" | LC_ALL=C awk -v address="$(printf %08x $((0x$1 - 3)))" '$1 == address && $3 ~ /^[0-9]+$/ { print $3; exit }')
+    [ -z "$line" ] || place_of_line "$line"
+}
+
+# What C does not define that makes the sequential semantics of a program stuck, by its reason; nothing where C may define it: a run that
+# halts may have moved a return address along with other bytes of the stack.
+cause_of() {
+    case $1 in
+        LoadOutside) echo 'a load from outside the memory: a pointer that was never set or is null, or an index out of bounds' ;;
+        StoreOutside) echo 'a store outside the memory: a pointer that was never set or is null, or an index out of bounds' ;;
+        JumpNotCode) echo 'a call or a return to what is no function: a pointer that was never set, or a return address that was overwritten' ;;
+        *)
+            if [ "$end" = halted ] || [ "$limit" != "$budget" ]; then return; fi
+            echo 'a return address is used as a number: a variable that was never set, or an index out of bounds'
+            ;;
+    esac
+}
+
+# Where the program uses in its first $1 statements what C does not define, ends like it there, with the line of C and the likely cause. The
+# machine itself goes on: a load from outside gives some word. Not each such use is found.
+check_program() {
+    # shellcheck disable=SC2086
+    toolchain meaning "$work/program" --steps "$1" $inputs >"$work/meaning" 2>/dev/null
+    said=$(head -n 1 "$work/meaning")
+    case $said in
+        'stuck line '*) said=${said#stuck line } ;;
+        *) return ;;
+    esac
+    cause=$(cause_of "${said#* }")
+    [ -n "$cause" ] || return
+    end_progress
+    print_console "$work/meaning"
+    put_report
+    echo "mx: $(place_of_line "${said%% *}")$cause" >&2
+    exit 139
 }
 
 # Why a program was ended, which has this status in r2.
@@ -326,26 +454,15 @@ reason_of() {
     esac
 }
 
-# Ends as the program did whose report is $work/report: its console goes to standard output, and its status is the exit status.
+# Ends as the program did whose report is $work/report: its status is the exit status.
 end_like_program() {
-    at=$(LC_ALL=C grep -a -b -m 1 '^console [0-9][0-9]*$' "$work/report") || fail "$(head -n 1 "$work/report")" 10
-    from=${at%%:*}
-    header=${at#*:}
-    count=${header#console }
-    from=$((from + ${#header} + 2))
-    tail -c "+$from" "$work/report" | head -c "$count" || exit 5
+    put_report
+    [ "$end" = halted ] || fail "the program did not end within $budget cycles: --budget N gives it more, up to 100,000,000" 3
     tail -c "+$((from + count))" "$work/report" >"$work/registers"
-    case $report in
-        '') ;;
-        -) { head -c "$((from - 1))" "$work/report"; tail -c "+$((from + count))" "$work/report"; } >&2 ;;
-        *) cp "$work/report" "$report" || fail "cannot write '$report'" 5 ;;
-    esac
-    [ "$(head -n 1 "$work/report")" = halted ] || fail "the program did not end within $budget cycles: --budget N gives it more, up to 100,000,000" 3
     status=$((0x$(sed -n 's/^r2 //p' "$work/registers" | head -n 1)))
     link=$(sed -n 's/^r27 //p' "$work/registers" | head -n 1)
     if [ "$link" != 00000000 ]; then
-        place=$(line_called "$link")
-        echo "mx: ${place:+$place: }$(reason_of $status)" >&2
+        echo "mx: $(line_called "$link")$(reason_of $status)" >&2
     fi
     exit $((status & 255))
 }
@@ -449,21 +566,11 @@ case $command in
         first=${files#"$line_feed"}
         first=${first%%"$line_feed"*}
         translate "$first" "$@" || exit $?
-        if grep -q -x .input "$work/program"; then
-            runs=$runs$line_feed--input$line_feed${input:--}
-        elif [ -n "$input" ]; then
-            runs=$runs$line_feed--input$line_feed$input
-        fi
+        take_input
         # shellcheck disable=SC2086
-        run_program --budget "$budget" $runs
-        status=$?
-        case $status in
-            0 | 3) end_like_program ;;
-            *)
-                cat "$work/report" >&2
-                exit $status
-                ;;
-        esac
+        mx_run=$("$top/mx" ${MX_FLAGS-} where mx_run) || exit 10
+        run_program
+        end_like_program
         ;;
     library)
         compile_library

@@ -14,6 +14,7 @@ extern int errno;
 #define EEXIST 17
 #define EINVAL 22
 #define ENOTTY 25
+#define ENOSPC 28
 #define ESPIPE 29
 #define EDOM 33
 #define ERANGE 34

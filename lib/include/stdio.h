@@ -1,5 +1,5 @@
-/* Reading the input and writing to the console. There are no files: stdout and stderr are the console, stdin is the
-   input, and nothing is buffered. */
+/* Reading the input and writing to the console. stdout and stderr are the console, stdin is the input, and nothing is
+   buffered. Files are those that the program makes itself. */
 #ifndef _STDIO_H
 #define _STDIO_H
 
@@ -15,7 +15,9 @@ typedef long fpos_t;
 #define EOF (-1)
 #define BUFSIZ 256
 #define FILENAME_MAX 255
-#define FOPEN_MAX 3
+#define FOPEN_MAX 8
+#define L_tmpnam 16
+#define TMP_MAX 1000000
 #define _IOFBF 0
 #define _IOLBF 1
 #define _IONBF 2
@@ -47,15 +49,24 @@ int setvbuf(FILE *__restrict stream, char *__restrict buffer, int mode, size_t s
 ssize_t getline(char **__restrict line, size_t *__restrict room, FILE *__restrict stream);
 ssize_t getdelim(char **__restrict line, size_t *__restrict room, int delimiter, FILE *__restrict stream);
 
-/* Of files there are only /dev/stdin, /dev/stdout and /dev/stderr. */
+/* /dev/stdin, /dev/stdout, /dev/stderr, and files in memory, which end with the program. */
 FILE *fopen(const char *__restrict name, const char *__restrict mode);
+FILE *freopen(const char *__restrict name, const char *__restrict mode, FILE *__restrict stream);
 int fclose(FILE *stream);
 int fileno(FILE *stream);
 int fseek(FILE *stream, long offset, int from);
 long ftell(FILE *stream);
+int fgetpos(FILE *__restrict stream, fpos_t *__restrict to);
+int fsetpos(FILE *stream, const fpos_t *from);
 void rewind(FILE *stream);
 int remove(const char *name);
 int rename(const char *from, const char *to);
+char *tmpnam(char *to);
+
+/* Streams over memory. */
+FILE *fmemopen(void *__restrict buffer, size_t size, const char *__restrict mode);
+FILE *open_memstream(char **to, size_t *length);
+FILE *tmpfile(void);
 
 #define _PRINTS(text, first) __attribute__((__format__(__printf__, text, first)))
 #define _SCANS(text, first) __attribute__((__format__(__scanf__, text, first)))

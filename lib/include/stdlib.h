@@ -23,6 +23,9 @@ _Noreturn void exit(int status);
 _Noreturn void _Exit(int status);
 _Noreturn void abort(void);
 int atexit(void (*function)(void));
+_Noreturn void quick_exit(int status);
+int at_quick_exit(void (*function)(void));
+int system(const char *command);      /* there is nothing that could run one */
 char *getenv(const char *name);
 int setenv(const char *name, const char *value, int replaces);
 int unsetenv(const char *name);

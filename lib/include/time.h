@@ -14,8 +14,16 @@ struct tm {
     int tm_sec, tm_min, tm_hour, tm_mday, tm_mon, tm_year, tm_wday, tm_yday, tm_isdst;
 };
 
+struct timespec {
+    time_t tv_sec;
+    long tv_nsec;
+};
+
+#define TIME_UTC 1
+
 clock_t clock(void);
 time_t time(time_t *to);
+int timespec_get(struct timespec *to, int base);
 double difftime(time_t end, time_t start);
 struct tm *gmtime(const time_t *time);
 struct tm *localtime(const time_t *time);
