@@ -20,7 +20,9 @@ GUEST = '0x100000000'           # where the plugin looks for the program's memor
 SCRIPT = """
 ENTRY(__start)
 SECTIONS {
-    .data 0 : { . = 1024; *(.data .data.* .rodata .rodata.* .sdata .sdata.* .bss .bss.* .sbss .sbss.* COMMON) _end = .; . = 262144; _limit = .; }
+    .data 0 : { . = 1024; *(.data .data.* .rodata .rodata.* .sdata .sdata.* .bss .bss.* .sbss .sbss.* COMMON)
+              __init_array_start = .; *(.init_array .init_array.*) __init_array_end = .;
+              __fini_array_start = .; *(.fini_array .fini_array.*) __fini_array_end = .; _end = .; . = 262144; _limit = .; }
     .text 0x400000 : { *(.text .text.*) }
     /DISCARD/ : { *(.reginfo .MIPS.abiflags .pdr .mdebug.* .comment .gnu.attributes .note.*) }
 }
@@ -31,18 +33,15 @@ START = """
 	.globl	__start
 __start:
 	li	$sp,262080
-	jal	main
-	move	$4,$2
-	li	$2,4001
-	syscall
+	jal	_start
 """
-END = '\tli\t$2,4001\n\tsyscall\n'  # the system's exit, in place of the `break` of _Exit
+END = '\tli\t$2,4001\n\tsyscall\n'  # the system's exit, in place of the `break` of _Exit, whose argument is in $4
 
 
 def assemble(text, to):
     """An object file of assembly."""
     with open(f'{to}.s', 'w') as file:
-        file.write(text.replace('\tbreak\n', END))
+        file.write(text.replace('\tbreak\t1023\n', END))
     done = cprograms.shell([GCC, '-c', *cprograms.flags(), f'{to}.s', '-o', to])
     if done.returncode:
         raise Fault(done.stderr.decode()[:300])
@@ -61,7 +60,7 @@ def link(folder, objects, to):
     """A program for qemu-mips of the very assembly that is translated."""
     with open(f'{folder}/script', 'w') as file:
         file.write(SCRIPT)
-    start = assemble(START, f'{folder}/start.o')
+    start = assemble(START, f'{folder}/entry.o')
     done = cprograms.shell(['mips-linux-gnu-ld', '-static', '--gc-sections', '-T', f'{folder}/script', start, *objects, '-o', to])
     if done.returncode:
         raise Fault(done.stderr.decode()[:300])
