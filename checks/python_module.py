@@ -156,7 +156,7 @@ def versions(tally, folder):
                "the header has it", header)
     words = re.search(r'\.version\("([^"]*)"\)', read(f"{TOP}/crates/lab_line/src/words.rt")).group(1)
     tally.need(words == version, "the laboratory has it", words)
-    tally.need(f"libzanderanvil.so.{major}" in read(f"{TOP}/mx"), "the soname has its first number")
+    tally.need(f"libzanderanvil.so.{major}" in read(f"{TOP}/tools/library.sh"), "the soname has its first number")
     if not shutil.which("cc"):
         return
     write(f"{folder}/version.c", f"""#include <zanderanvil.h>
