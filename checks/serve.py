@@ -255,6 +255,11 @@ def try_end(bench):
     tell("the console is that of the report", bench.ask("document.getElementById('console').textContent") == console.decode(), console)
 
 
+def try_cycles_and_end(bench):
+    try_cycles(bench)
+    try_end(bench)
+
+
 def try_search(bench):
     """The first byte to the console and the visits of a line, against the cycles of `draw`."""
     drawn = json.loads(printed(SORT, "draw", "--cycles", "100000", "--as", "json"))
@@ -421,6 +426,8 @@ def try_card(bench):
     address = next(address for address, begins, cells in drawn["rows"] if begins <= cycle and cells[cycle - begins:cycle - begins + 1] == "2")
     operands = drawn["cycles"][cycle]
     bench.ask("document.querySelector('#stages tr:nth-child(4)').scrollIntoView()")
+    # (what is scrolled takes the card away, also where it shows a moment later)
+    bench.settle()
     x, y = middle_of(bench, "#stages tr:nth-child(4) td:nth-child(3)")
     bench.call("Input.dispatchMouseEvent", type="mouseMoved", x=x, y=y)
     bench.settle()
@@ -845,39 +852,36 @@ def opened(url, width, height, dark=False):
         bench.close()
 
 
+def to_sort(bench):
+    """Puts the sort back, with what is beside a source as it was at first, and waits until it has run."""
+    if bench.ask("document.getElementById('language').value") != "assembly":
+        choose(bench, "language", "assembly")
+    for field, value in (("interrupts", ""), ("budget", 1_000_000)):
+        if bench.ask(f"document.getElementById('{field}').value") != str(value):
+            put(bench, field, value)
+    type_source(bench, SORT)
+    tell("the sort runs", settled(bench))
+
+
+def try_parts(bench, parts):
+    """Tries parts of the page, each from the same program, and prints how long each takes."""
+    for part in parts:
+        began = time.monotonic()
+        to_sort(bench)
+        part(bench)
+        print(f"    {part.__name__} takes {time.monotonic() - began:.1f} s", flush=True)
+
+
 def try_page(bench, url):
     """What a reader does, one thing after the other."""
-    tell("FILE is the source", "counts down from 3" in bench.ask("document.getElementById('source').value"))
-    try_faults(bench)
-    try_cycles(bench)
-    try_end(bench)
-    put(bench, "interrupts", "")
-    settled(bench)
-    try_search(bench)
-    try_stale(bench)
-    try_breakpoint(bench)
-    try_keys(bench)
-    try_card(bench)
-    try_help(bench)
-    try_experiment(bench)
-    try_sides(bench)
-    try_modules(bench)
-    try_plans(bench)
-    type_source(bench, SORT)
-    settled(bench)
-    try_download(bench)
-    try_speed(bench)
-    try_kept(bench)
-    try_names(bench)
-    try_link(bench, url)
-    try_long(bench)
-    try_bad_input(bench)
-    put(bench, "budget", 1_000_000)
-    if bench.ask("given.missing === null"):
-        try_c(bench)
-        try_examples(bench)
-        try_markup(bench)
+    def try_address(bench):
         try_link(bench, url)
+
+    tell("FILE is the source", "counts down from 3" in bench.ask("document.getElementById('source').value"))
+    try_parts(bench, (try_faults, try_cycles_and_end, try_search, try_stale, try_breakpoint, try_keys, try_card, try_help, try_experiment, try_sides,
+                      try_modules, try_plans, try_download, try_speed, try_kept, try_names, try_address, try_long, try_bad_input))
+    if bench.ask("given.missing === null"):
+        try_parts(bench, (try_c, try_examples, try_markup, try_address))
     else:
         print("    C is not tried: " + bench.ask("given.missing"))
     tell("the page has no fault", not bench.faults, bench.faults)
