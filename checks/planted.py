@@ -164,10 +164,10 @@ CASES = (
     Case("stored C programs", "cc_cases.py", "another stored console", """
         plant checks/cc/cases/own_malloc.out '1s/^/1/'; checks/cc_cases.py own_malloc""", ("FAILED: own_malloc.c",)),
     Case("stored C programs", "cc_cases.py", "a console that the native program does not have", """
-        fake "$MX_RUN" '$s/$/./'; MX_RUN=$fake checks/cc_cases.py arguments""", ("FAILED: arguments.c",)),
+        fake "$MX_RUN" 's/ <one>/ <two>/'; MX_RUN=$fake checks/cc_cases.py arguments""", ("FAILED: arguments.c",)),
     Case("stored C programs", "cc_cases.py", "a case that is none", "checks/cc_cases.py typo", ("no case typo",)),
     Case("C commands", "cc_uses.sh", "an output that is an input", """
-        plant tools/cc.sh '/this file is read, and -o would write it/d'; checks/cc_uses.sh""", ("FAILED: cc good.c -o good.c",)),
+        plant tools/cc.sh '/: this file is read" 2$/s/.*/:/'; checks/cc_uses.sh""", ("FAILED: cc good.c -o good.c",)),
     Case("C programs", "cc.sh", "another console", """fake "$MX_RUN" 's/^92 ways/93 ways/'; MX_RUN=$fake checks/cc.sh 0 queens""", ("FAILED: queens",)),
     Case("C programs", "cc.sh", "a run that does not end", """
         fake "$MX_RUN" '1s/^halted$/out of budget/'; MX_RUN=$fake checks/cc.sh 0 queens""", ("FAILED: queens",)),
