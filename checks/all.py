@@ -104,8 +104,7 @@ CHECKS = (
     # the workbench
     Check("workbench's faults", ("serve_faults.py",), ("mx_run", "mx_serve", "mx_cc"), is_alone=True),
     Check("clients", ("clients.py",), ("mx_run", "mx_serve", "mx_cc"), 15, is_alone=True),
-    # (until all of it was seen to hold on a machine without other work)
-    Check("workbench", (), PROGRAMS, 20, is_alone=True, tools=("chromium",), full=("serve.py",)),
+    Check("workbench", ("serve.py",), PROGRAMS, 20, is_alone=True, tools=("chromium",)),
 )
 
 
@@ -181,8 +180,6 @@ class Runner:
         if time.monotonic() - self.began > LATEST * self.patience:
             return Result("skipped", "no time is left")
         words = check.full if self.is_full and check.full else check.words
-        if not words:
-            return Result("skipped", "it runs with --full")
         absent = [it for it in check.tools if shutil.which(it) is None]
         if absent:
             return Result("skipped", f"{', '.join(absent)} is missing")
