@@ -28,6 +28,8 @@ import common
 from common import TOP
 
 PROGRAMS = ("mx_run", "mx_lab", "mx_cc", "mx_serve")
+# The folder of the library for C, which checks are given like a program.
+LIBRARY = "mx_embed"
 COMPARED = re.compile(r"\bcompared ([0-9][0-9,]*)\b")
 SKIPPED = re.compile(r"^skipped: (.*)$", re.M)
 # How long a check may take on a machine that takes NOMINAL seconds for a loop of Python; a slower one has more time.
@@ -39,14 +41,15 @@ SECONDS_TO_CLEAR = 5
 
 
 class Check(NamedTuple):
-    """A check: the words that run it, the programs it needs, its minutes on a sample, whether it runs alone, after all others, and the
-    commands without which nothing of it can run."""
+    """A check: the words that run it, the programs it needs, its minutes on a sample, whether it runs alone, after all others, the
+    commands without which nothing of it can run, and the programs without which a part of it is left out."""
     name: str
     words: tuple
     programs: tuple = ()
     minutes: int = 10
     is_alone: bool = False
     tools: tuple = ()
+    wishes: tuple = ()
     # what is run with --full, if it is something else
     full: tuple = ()
 
@@ -92,8 +95,8 @@ CHECKS = (
     Check("stored C programs", ("cc_cases.py",), ("mx_run", "mx_cc"), 15, tools=MIPS),
     Check("C programs", ("cc.sh", "0"), ("mx_run", "mx_cc"), 15, tools=MIPS, full=("cc.sh",)),
     Check("C commands", ("cc_uses.sh",), ("mx_run", "mx_cc"), 15, tools=MIPS),
-    Check("library", ("embed.sh",), ("mx_run",), tools=("cc", "c++", "ar", "nm", "readelf")),
-    Check("Python", ("python.sh",), ("mx_lab",)),
+    Check("library", ("embed.sh",), (LIBRARY,), tools=("cc", "c++", "ar", "nm", "readelf")),
+    Check("Python", ("python.sh",), ("mx_lab",), wishes=(LIBRARY,)),
     Check("schedulers", ("evaluate.py",), ("mx_run", "mx_lab")),
     # what is called proved, processes that are ended, and files that are written meanwhile
     Check("proved", ("proved.py",), (), 15, tools=TINY),
@@ -102,8 +105,7 @@ CHECKS = (
     # the workbench
     Check("workbench's faults", ("serve_faults.py",), ("mx_run", "mx_serve", "mx_cc"), is_alone=True),
     Check("clients", ("clients.py",), ("mx_run", "mx_serve", "mx_cc"), 15, is_alone=True),
-    # (it waits minutes for pages of its older cases, and some of these expect what the page no longer says)
-    Check("workbench", (), PROGRAMS, 20, is_alone=True, tools=("chromium",), full=("serve.py",)),
+    Check("workbench", ("serve.py",), PROGRAMS, 20, is_alone=True, tools=("chromium",)),
 )
 
 
@@ -179,8 +181,6 @@ class Runner:
         if time.monotonic() - self.began > LATEST * self.patience:
             return Result("skipped", "no time is left")
         words = check.full if self.is_full and check.full else check.words
-        if not words:
-            return Result("skipped", "it runs with --full")
         absent = [it for it in check.tools if shutil.which(it) is None]
         if absent:
             return Result("skipped", f"{', '.join(absent)} is missing")
@@ -191,7 +191,8 @@ class Runner:
         if missing:
             return Result("skipped", f"{', '.join(missing)} is not built")
         began = time.monotonic()
-        status, said, used = self.run([*program, *words[1:]], check.minutes * (10 if self.is_full else 1), programs=check.programs)
+        given = [*check.programs, *(it for it in check.wishes if it in self.programs)]
+        status, said, used = self.run([*program, *words[1:]], check.minutes * (10 if self.is_full else 1), programs=given)
         return judged(status, said, time.monotonic() - began)._replace(of_processors=used)
 
     def end(self):
@@ -252,8 +253,25 @@ def judged(status, said, seconds):
     return Result("ok", last, said, seconds)
 
 
+def prepare_library(runner):
+    """Returns the folder of the library for C, which is put together from what is proved, and what is wrong."""
+    named, folder, home = os.environ.get(LIBRARY.upper()), f"{runner.folder}/library", os.environ.get("HOME", "/")
+    if named:
+        return (os.path.abspath(named), "") if os.path.isdir(named) else (None, f"{LIBRARY.upper()}: {named} is no folder")
+    if os.environ.get("MX_RLIBS"):
+        words = [sys.executable, "-B", f"{TOP}/checks/library.py", folder]
+    elif runner.run([sys.executable, "-E", "-s", "-B", f"{TOP}/tools/state.py", "proved", "embed_library"], 5, HOME=home)[0] == 0:
+        words = [f"{TOP}/mx", "library", folder]
+    else:
+        return None, "skipped: the library is not proved here (./mx library DIR proves it)"
+    status, said, _ = runner.run(words, 30, HOME=home)
+    return (folder, "") if status == 0 else (None, said.strip() or f"status {status}")
+
+
 def prepare(name, runner):
     """Returns the path of a program, which is built where that has to be, and what is wrong."""
+    if name == LIBRARY:
+        return prepare_library(runner)
     named = os.environ.get(name.upper())
     if named:
         path = shutil.which(named)
@@ -281,6 +299,34 @@ def print_result(name, result):
         print("\n".join(f"    {it[:400]}" for it in lines[-LINES_OF_FAILURE:]), flush=True)
 
 
+def run_together(checks, runner, go, keep):
+    """Builds the programs that checks need, and runs each check that need not be alone as soon as its programs are built, or cannot be."""
+    # (a check that is skipped needs no program)
+    needed = [it for it in (*PROGRAMS, LIBRARY)
+              if any(it in (*check.programs, *check.wishes) and all(map(shutil.which, check.tools)) for check in checks)]
+    # (the longest first)
+    left = sorted((it for it in checks if not it.is_alone), key=lambda it: -it.minutes)
+    jobs, going = max(2, min(8, os.cpu_count() or 2)), []
+    with concurrent.futures.ThreadPoolExecutor(len(needed) or 1) as builders, concurrent.futures.ThreadPoolExecutor(jobs) as pool:
+        building = {builders.submit(prepare, name, runner): name for name in needed}
+        while True:
+            ready = [it for it in left if not {*it.programs, *it.wishes}.intersection(building.values())]
+            left = [it for it in left if it not in ready]
+            going += [pool.submit(go, it) for it in ready]
+            if not building:
+                break
+            for built in concurrent.futures.wait(building, return_when=concurrent.futures.FIRST_COMPLETED).done:
+                name, (path, wrong) = building.pop(built), built.result()
+                if path:
+                    runner.programs[name] = path
+                elif wrong.startswith("skipped: "):
+                    keep(f"build {name}", Result("skipped", wrong.removeprefix("skipped: ")))
+                else:
+                    keep(f"build {name}", Result("WRONG", "it cannot be built", wrong))
+        for it in going:
+            it.result()
+
+
 def work_through(checks, runner):
     """Prepares the programs and runs the checks; returns the result of each."""
     results, lock = {}, threading.Lock()
@@ -301,25 +347,7 @@ def work_through(checks, runner):
         else:
             keep(check.name, result)
 
-    # (a check that is skipped needs no program)
-    needed = [it for it in PROGRAMS if any(it in check.programs and all(map(shutil.which, check.tools)) for check in checks)]
-    # (the longest first)
-    together = sorted((it for it in checks if not it.is_alone), key=lambda it: -it.minutes)
-    jobs = max(2, min(8, os.cpu_count() or 2))
-    with concurrent.futures.ThreadPoolExecutor(len(PROGRAMS)) as builders, concurrent.futures.ThreadPoolExecutor(jobs) as pool:
-        building = {name: builders.submit(prepare, name, runner) for name in needed}
-        going = [pool.submit(go, it) for it in together if not it.programs]
-        for name, it in building.items():
-            path, wrong = it.result()
-            if path:
-                runner.programs[name] = path
-            elif wrong.startswith("skipped: "):
-                keep(f"build {name}", Result("skipped", wrong.removeprefix("skipped: ")))
-            else:
-                keep(f"build {name}", Result("WRONG", "it cannot be built", wrong))
-        going += [pool.submit(go, it) for it in together if it.programs]
-        for it in going:
-            it.result()
+    run_together(checks, runner, go, keep)
     for check in checks:
         if check.is_alone:
             go(check)

@@ -113,6 +113,11 @@ def try_all(pool, folder, drawn, names):
 def main():
     words = sys.argv[1:]
     drawn = int(words.pop(0)) if words and words[0].isdigit() else 100
+    known = {name[:-2] for place in (f'{TOP}/examples/c', f'{TOP}/checks/cc') for name in os.listdir(place) if name.endswith('.c')}
+    unknown = [it for it in words if it not in known]
+    if unknown:
+        print(f'cc.sh: no example {", ".join(unknown)}', file=sys.stderr)
+        return 2
     with tempfile.TemporaryDirectory() as folder:
         for level in LEVELS:
             libraries[level] = cprograms.compile_library(level, f'{folder}/library{level}')

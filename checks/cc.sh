@@ -17,14 +17,14 @@ export MX_RUN=${MX_RUN:-$top/crates/mx_run/out/mx_run}
 export MX_CC=${MX_CC:-$top/crates/mx_cc/out/mx_cc}
 for program in mips-linux-gnu-gcc qemu-mips python3; do
     if ! command -v "$program" >/dev/null; then
-        echo "checks/cc.sh: $program is missing: apt-get install gcc-mips-linux-gnu qemu-user python3" >&2
-        exit 1
+        echo "skipped: $program is missing: apt-get install gcc-mips-linux-gnu qemu-user python3"
+        exit 77
     fi
 done
 for program in "$MX_RUN" "${MX_CC%% *}"; do
     if ! command -v "$program" >/dev/null; then
-        echo "checks/cc.sh: $program is not built: ./mx prove mx_run mx_cc builds it, and MX_RUN and MX_CC may name those of .mx" >&2
-        exit 1
+        echo "skipped: $program is not built: ./mx prove mx_run mx_cc builds it, and MX_RUN and MX_CC may name those of .mx"
+        exit 77
     fi
 done
 exec python3 "$top/checks/cc.py" "$@"

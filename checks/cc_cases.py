@@ -6,6 +6,7 @@ import subprocess
 import sys
 import tempfile
 
+from common import wrong_arguments
 from cprograms import GCC, TOP
 
 FOLDER = f'{TOP}/checks/cc/cases'
@@ -54,6 +55,10 @@ def try_case(line, work):
 def main():
     with open(f'{FOLDER}/cases.txt', encoding='utf-8') as file:
         lines = [line.rstrip('\n') for line in file if line.strip() and not line.startswith('#')]
+    names = {line.split('|')[1].split()[0][:-2] for line in lines}
+    unknown = [it for it in sys.argv[1:] if it not in names]
+    if unknown:
+        wrong_arguments(f'cases.txt has no case {", ".join(unknown)}')
     tried, failures = 0, 0
     with tempfile.TemporaryDirectory() as work:
         for line in lines:

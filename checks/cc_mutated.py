@@ -132,7 +132,9 @@ def main():
                 fault, is_source = fault_of(program, file.read(), folder)
             print(fault or ("a source" if is_source else "refused"))
             return 1 if fault else 0
-        count, seed = (int(it) for it in (words + ["400", "1"][len(words):])[:2])
+        if len(words) > 2 or not all(map(str.isdigit, words)):
+            common.wrong_arguments(f"expected a count and a seed: {' '.join(words)}")
+        count, seed = (int(it) for it in words + ["400", "1"][len(words):])
         draw, texts, sources = random.Random(seed), texts_of(FOLDER), 0
         for number in range(count):
             text = drawn(draw, texts)

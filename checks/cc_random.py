@@ -126,7 +126,10 @@ def fault_of(text, programs, folder):
 
 
 def main():
-    count, seed = (int(it) for it in (sys.argv[1:] + ["30", "1"][len(sys.argv[1:]):])[:2])
+    words = sys.argv[1:]
+    if len(words) > 2 or not all(map(str.isdigit, words)):
+        common.wrong_arguments(f"expected a count and a seed: {' '.join(words)}")
+    count, seed = (int(it) for it in words + ["30", "1"][len(words):])
     common.need_tools(GCC, "qemu-mips")
     programs, draw, shown, compared = (common.program("mx_run"), common.program("mx_cc")), random.Random(seed), show(), 0
     with tempfile.TemporaryDirectory() as folder:

@@ -6,6 +6,7 @@
 #     checks/cc_uses.sh
 # It needs the Debian package gcc-mips-linux-gnu.
 top=$(CDPATH='' cd -- "$(dirname -- "$0")/.." && pwd) || exit 1
+[ $# -eq 0 ] || { echo "cc_uses.sh: unexpected argument $1" >&2; exit 2; }
 export MX_QUIET=1 LC_ALL=C
 work=$(mktemp -d) || exit 1
 trap 'rm -rf "$work"' EXIT

@@ -7,6 +7,8 @@ usage: checks/cells.py PAGE TEXT CYCLE       the page that Chromium made, at a c
 import re
 import sys
 
+import common
+
 LABEL, WIDTH = 36, 4
 
 
@@ -84,8 +86,8 @@ def check_kanata(path, text):
 
 
 def main(words):
-    if len(words) != 3:
-        sys.exit(__doc__)
+    if len(words) != 3 or words[0] != "--kanata" and not words[2].isdigit():
+        common.wrong_arguments("expected PAGE TEXT CYCLE, or --kanata KANATA TEXT")
     count = check_kanata(words[1], words[2]) if words[0] == "--kanata" else check_page(words[0], words[1], int(words[2]))
     need(count > 0, "nothing was compared")
     print(f"cells: compared {count} cells")

@@ -3,10 +3,11 @@
 # stack that the header promises to be enough, and gives every case of crates/test_command_cases to it, which has to answer as the
 # case says. A case that names more files than the library holds is left out, and counted.
 #
-# usage: checks/embed.sh [FOLDER]     FOLDER is what ./mx library left. Without it the library has to be proved here, and is put
-# together; where it is not, this is skipped (status 77).
+# usage: checks/embed.sh [FOLDER]     FOLDER is what ./mx library left, as the environment's MX_EMBED. Without it the library has to
+# be proved here, and is put together; where it is not, this is skipped (status 77).
 top=$(cd -- "$(dirname -- "$0")/.." && pwd) || exit 1
 [ $# -le 1 ] || { echo 'usage: checks/embed.sh [FOLDER]' >&2; exit 2; }
+[ $# -eq 1 ] || set -- "${MX_EMBED-}"
 folder=$(mktemp -d) || exit 1
 trap 'rm -rf "$folder"' EXIT
 failures=0
@@ -24,7 +25,7 @@ tell() {
 }
 
 command -v cc >/dev/null 2>&1 || { echo 'skipped: a C compiler is missing'; exit 77; }
-if [ -n "${1-}" ]; then
+if [ -n "$1" ]; then
     if [ ! -f "$1/libzanderanvil.so" ] || [ ! -f "$1/zanderanvil.h" ]; then
         echo "$1: no library is there" >&2
         exit 2

@@ -57,7 +57,7 @@ CASES = (
          ("FAILED: help of draw --cycles",)),
     Case("tables", "tables.py", "a command that ./mx does not call", "plant mx 's/ | gen | soak)$/ | gen)/'; checks/tables.py", ("FAILED: ./mx calls soak",)),
     Case("viewer", "viewer.py", "another letter of the shared part", """
-        plant tools/serve/page.html '/==== tools.serve.viewer.js ====/,/==== the end/s/function /Function /'; checks/viewer.py""", ("FAILED",)),
+        plant tools/serve/page.html '/==== tools.serve.viewer.js ====/,/==== the end/s/const /Const /'; checks/viewer.py""", ("FAILED",)),
     Case("exercises", "exercises.py", "another point of an exercise", """
         plant exercises/01-name/exercise.json 's/"points": 6/"points": 5/'; checks/exercises.py""", ("FAILED: 01-name: as stored",)),
     Case("exercises", "exercises.py", "a laboratory that fails", "MX_LAB=/bin/false checks/exercises.py", ("FAILED",)),
@@ -136,6 +136,9 @@ CASES = (
     Case("processes", "processes.py", "a run that outlives ./mx",
          """plant mx 's/^        setpriv --pdeathsig TERM "\$@"$/        "$@"/; s/has setpriv; then setpriv --pdeathsig TERM/has setpriv; then/'
          MX_TIMES=yes checks/processes.py""", ("FAILED",)),
+    Case("processes", "processes.py", "a signal that another thread gets and that nobody repeats",
+         "plant tools/processes.py 's/signal.pthread_kill(/str(/'; MX_TIMES=yes checks/processes.py",
+         ("FAILED: a proof: a signal that another thread gets",)),
     Case("files", "files.py", "a file that is left", "plant tools/launch.py 's/        os.remove(fresh)$/        pass/'; checks/files.py", ("FAILED",)),
     Case("completions", "completions.sh", "texts that are not quoted", """
         plant tools/install.py "s/^    return \\"'\\" + text.replace.*/    return \\"'\\" + text + \\"'\\"/"; checks/completions.sh""", ("FAILED",)),
@@ -146,6 +149,16 @@ CASES = (
     Case("all", "all.py", "a check that compares nothing", """
         echo 'print("edits: all is well")' >checks/edits.py; checks/all.sh edits deps""", ("WRONG: edits", "it reports nothing that it compared", "WRONG: edits$")),
     Case("all", "all.py", "a check that fails", "plant crates.txt 's/^mx_delay: mx_isa$/mx_delay:/'; checks/all.sh deps", ("1 fail",)),
+    Case("all", "all.py", "a tool that is missing and is not reported", """
+        mkdir "$work/bin"; for it in bash sh python3 dirname cat mkdir chmod rm env; do ln -s "$(command -v $it)" "$work/bin/"; done
+        plant checks/all.py 's/^        print(f"skipped: {it}")$/        pass/'
+        PATH=$work/bin checks/all.sh deps memory >"$work/said" 2>&1; cat "$work/said"; grep -q '^skipped: memory: cc is missing' "$work/said" \\
+            || { echo 'no list of what is skipped'; exit 1; }""", ("no list of what is skipped",)),
+    Case("fresh", "fresh.sh", "another failure than the expected one", """
+        eval "$(sed -n '/^tell() {/,/^}/p' checks/fresh.sh)"; folder=$work compared=0 failed=0 status=10
+        echo 'another failure' >"$work/out"; tell 'a missing toolchain' 10 'the command rt is missing'; exit "$failed" """,
+         ("WRONG: a missing toolchain",)),
+    Case("fresh", "fresh.sh", "an argument", "checks/fresh.sh typo", ("unknown argument typo",)),
     Case("all", "all.py", "an unknown name", "checks/all.sh typo", ("unknown check or option: typo",)),
     Case("all", "all.py", "a check that holds at its second try alone", """
         printf '%s\n' 'if [ -e once ]; then echo deps: compared 1 text; else touch once; exit 1; fi' >checks/deps.sh
@@ -154,16 +167,16 @@ CASES = (
     Case("stored C programs", "cc_cases.py", "another stored console", """
         plant checks/cc/cases/own_malloc.out '1s/^/1/'; checks/cc_cases.py own_malloc""", ("FAILED: own_malloc.c",)),
     Case("stored C programs", "cc_cases.py", "a console that the native program does not have", """
-        fake "$MX_RUN" '$s/$/./'; MX_RUN=$fake checks/cc_cases.py arguments""", ("FAILED: arguments.c",)),
-    Case("stored C programs", "cc_cases.py", "a case that is none", "checks/cc_cases.py typo", ("compared 0 runs",)),
+        fake "$MX_RUN" 's/ <one>/ <two>/'; MX_RUN=$fake checks/cc_cases.py arguments""", ("FAILED: arguments.c",)),
+    Case("stored C programs", "cc_cases.py", "a case that is none", "checks/cc_cases.py typo", ("no case typo",)),
     Case("C commands", "cc_uses.sh", "an output that is an input", """
-        plant tools/cc.sh '/this file is read, and -o would write it/d'; checks/cc_uses.sh""", ("FAILED: cc good.c -o good.c",)),
+        plant tools/cc.sh '/: this file is read" 2$/s/.*/:/'; checks/cc_uses.sh""", ("FAILED: cc good.c -o good.c",)),
     Case("C programs", "cc.sh", "another console", """fake "$MX_RUN" 's/^92 ways/93 ways/'; MX_RUN=$fake checks/cc.sh 0 queens""", ("FAILED: queens",)),
     Case("C programs", "cc.sh", "a run that does not end", """
         fake "$MX_RUN" '1s/^halted$/out of budget/'; MX_RUN=$fake checks/cc.sh 0 queens""", ("FAILED: queens",)),
     Case("library", "embed.sh", "a stack that is too small", """
-        python3 -B "$top/tools/state.py" proved embed_library || exit 77
-        "$top/mx" library "$work/lib" && plant "$work/lib/zanderanvil.h" 's/ZANDERANVIL_STACK [0-9]*/ZANDERANVIL_STACK 20480/'
+        [ -n "$MX_EMBED" ] || exit 77
+        cp -r "$MX_EMBED" "$work/lib" && plant "$work/lib/zanderanvil.h" 's/ZANDERANVIL_STACK [0-9]*/ZANDERANVIL_STACK 20480/'
         checks/embed.sh "$work/lib" """, ("FAILED: the stack",)),
     Case("library", "embed.sh", "a folder without a library", "checks/embed.sh .", ("no library is there",)),
     Case("C programs", "cc.sh", "an example that is none", "checks/cc.sh 0 typo", ("typo",)),
@@ -214,30 +227,37 @@ def try_case(runner, number, case):
     return "ok", f"status {status}"
 
 
+def build_needed(runner, checks, names):
+    """Builds what the checks with these names need, since a program takes minutes to build; returns what is wrong."""
+    chosen = {it.name for it in CASES if not names or it.name in names}
+    needed = {it for check in checks.CHECKS if check.name in chosen for it in (*check.programs, *check.wishes)}
+    for name in (it for it in (*checks.PROGRAMS, checks.LIBRARY) if it in needed):
+        path, wrong = checks.prepare(name, runner)
+        if path:
+            runner.programs[name] = path
+        elif not wrong.startswith("skipped: "):
+            return f"{name} cannot be built: {wrong}"
+    return ""
+
+
 def run(runner, names):
     """Tries the planted faults of the checks with these names, of all without; returns the exit status."""
     if shutil.which("bash") is None:
         print("skipped: bash is missing")
         return 0
     import all as checks  # the module that called this one
-    bare = sorted({it.name for it in checks.CHECKS} - {it.name for it in CASES})
-    if bare:
-        print(f"WRONG: no fault is planted for {', '.join(bare)}")
+    known = {it.name: it for it in checks.CHECKS}
+    bare = sorted(set(known) - {it.name for it in CASES})
+    wrong = f"no fault is planted for {', '.join(bare)}" if bare else build_needed(runner, checks, names)
+    if wrong:
+        print(f"WRONG: {wrong}")
         return 1
-    # (only what the chosen checks run, since a program takes minutes to build)
-    chosen = {it.name for it in CASES if not names or it.name in names}
-    needed = {it for check in checks.CHECKS if check.name in chosen for it in check.programs}
-    tools = {check.name: check.tools for check in checks.CHECKS}
-    for name in (it for it in checks.PROGRAMS if it in needed):
-        path, wrong = checks.prepare(name, runner)
-        if path is None:
-            print(f"WRONG: {name} cannot be built: {wrong}")
-            return 1
-        runner.programs[name] = path
     counts, lock = {"ok": 0, "WRONG": 0, "skipped": 0}, threading.Lock()
 
     def go(number, case):
-        absent = [it for it in tools.get(case.name, ()) if shutil.which(it) is None]
+        check = known.get(case.name)
+        absent = [it for it in check.tools if shutil.which(it) is None] if check else []
+        absent += [it for it in check.programs if it not in runner.programs] if check else []
         state, why = ("skipped", f"{', '.join(absent)} is missing") if absent else try_case(runner, number, case)
         with lock:
             counts[state] += 1

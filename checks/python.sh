@@ -4,12 +4,13 @@
 # (checks/python_uses.py), and the study of examples/embed/study.py.
 #
 # usage: checks/python.sh [LIBRARY [LAB]]    LIBRARY is a file libzanderanvil.so, LAB the laboratory's program, or ./mx. Without them
-# the library has to be proved here, and LAB is MX_LAB, or ./mx; where it is not proved, what needs it is left out, which is said.
+# the library is in the folder MX_EMBED, or has to be proved here, and LAB is MX_LAB, or ./mx; where it is not proved, what needs it
+# is left out, which is said.
 top=$(cd -- "$(dirname -- "$0")/.." && pwd) || exit 1
 [ $# -le 2 ] || { echo 'usage: checks/python.sh [LIBRARY [LAB]]' >&2; exit 2; }
 folder=$(mktemp -d) || exit 1
 trap 'rm -rf "$folder"' EXIT
-library=${1-}
+library=${1-${MX_EMBED:+$MX_EMBED/libzanderanvil.so}}
 lab=${2:-${MX_LAB:-$top/mx}}
 
 "$top/checks/python_module.py" | tee "$folder/said"

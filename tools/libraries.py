@@ -20,22 +20,22 @@ def link(source, target):
         shutil.copy2(source, target)
 
 
-def library(files, crate):
-    """Returns where the library of a crate is kept, below the folder of all crates."""
-    return f"{files}/{crate}/out/statements/{crate}.rlib"
+def library(files, crate, kept="statements"):
+    """Returns where the library of a crate is kept, below the folder of all crates: ./mx prove keeps `statements`, rt keeps `rlib`."""
+    return f"{files}/{crate}/out/{kept}/{crate}.rlib"
 
 
-def toolchain_words(crate, lines, listed, kit="KIT", files="FILES", jobs="JOBS"):
-    """Returns the commands, each as its words, that prove and build a crate in its folder. With the names that stand for the
-    folders of this machine they are what a record calls its flags."""
+def toolchain_words(crate, lines, listed, kit="KIT", files="FILES", jobs="JOBS", kept="statements"):
+    """Returns the commands, each as its words, that prove and build a crate in its folder, over libraries that were kept. With the
+    names that stand for the folders of this machine they are what a record calls its flags."""
     own = [it for it in listed[crate] if it in listed]
     others = ["std", *(it for it in listed[crate] if it not in listed)]
     is_main, toolchain = is_program(f"{TOP}/crates/{crate}"), ["--toolchain", f"{kit}/toolchain"]
     words = [f"{kit}/bin/rattle", "build", "--crate-name", crate, "src/main.rt" if is_main else "src/lib.rt"]
     words += [word for it in others for word in ("--extern", f"{it}={kit}/rlibs/{it}.rlib")]
-    words += [word for it in own for word in ("--extern", f"{it}={library(files, it)}")]
+    words += [word for it in own for word in ("--extern", f"{it}={library(files, it, kept)}")]
     words += ["-L", f"dependency={kit}/rlibs"]
-    words += [word for it in crates_below([crate], listed) for word in ("-L", f"dependency={os.path.dirname(library(files, it))}")]
+    words += [word for it in crates_below([crate], listed) for word in ("-L", f"dependency={os.path.dirname(library(files, it, kept))}")]
     words += ["--antt-project", f"{kit}/rattle/logic/antt-project.json", "--logic-built", f"{kit}/logic_built"]
     words += ["--links", f"{crate}=", "--jobs", str(jobs)]
     if is_static(lines[crate]):

@@ -7,6 +7,7 @@ import signal
 import subprocess
 import sys
 import threading
+import time
 
 # Of prctl: which signal this process gets as its parent ends.
 PR_SET_PDEATHSIG = 1
@@ -15,17 +16,21 @@ LAST_LINES = 20
 
 
 ENDING = (signal.SIGINT, signal.SIGTERM, signal.SIGHUP)
+# How long the main thread has for a signal until it gets it again.
+SECONDS_TO_HANDLE = 0.05
 
 
 class Held:
-    """Whether an interrupt has to wait, as while a process starts of which nothing is known yet, and the one that waits."""
-    is_held, number = False, None
+    """Whether an interrupt has to wait, as while a process starts of which nothing is known yet, the one that waits, and whether one
+    has come to the main thread."""
+    is_held, number, is_handled = False, None, False
 
 
 def interrupt(number, _frame):
+    Held.is_handled = True
     # (a second one must not disturb what the first one has begun: to end all and to clear up)
     for it in ENDING:
-        signal.signal(it, signal.SIG_IGN)
+        signal.signal(it, lambda *_: None)
     if Held.is_held:
         Held.number = number
     else:
@@ -47,9 +52,23 @@ def held():
         raise KeyboardInterrupt(Held.number)
 
 
+def repeat(signals):
+    """Sends a signal to the main thread until that has handled one. Python alone handles none where another thread got the signal, or
+    where it came just before the main thread began to wait for something: that wait would go on."""
+    while not Held.is_handled:
+        number = os.read(signals, 1)[0]
+        while number in ENDING and not Held.is_handled:
+            signal.pthread_kill(threading.main_thread().ident, number)
+            time.sleep(SECONDS_TO_HANDLE)
+
+
 def end_by_signals():
     """Lets an interrupt, a request to end, a closed terminal and the end of ./mx raise KeyboardInterrupt, so that what was started
     is ended too. A signal that is ignored at the start, as by nohup, stays ignored."""
+    signals, came = os.pipe()
+    os.set_blocking(came, False)
+    signal.set_wakeup_fd(came, warn_on_full_buffer=False)
+    threading.Thread(target=repeat, args=(signals,), daemon=True).start()
     for number in ENDING:
         if signal.getsignal(number) != signal.SIG_IGN:
             signal.signal(number, interrupt)
