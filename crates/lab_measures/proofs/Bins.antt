@@ -41,7 +41,7 @@ rises_push (c ∷ bins) b (above_c, rises) below = (
 told_push : (bins : List Bin) (b : Bin) → told_by (bins ++ b ∷ []) ≡ told_by bins ++ replicate b.runs b.number
 told_push [] b = append-nil (replicate b.runs b.number)
 told_push (c ∷ bins) b = ap (λ xs. replicate c.runs c.number ++ xs) (told_push bins b)
-      ∙ sym (append_assoc (replicate c.runs c.number) (told_by bins) (replicate b.runs b.number))
+    ∙ sym (append_assoc (replicate c.runs c.number) (told_by bins) (replicate b.runs b.number))
 
 -- one number more that is alike those that are not in a bin yet
 one_more : (sorted : List ℤ) (at : ℕ) (bins : List Bin) (runs : ℕ) (d : ℤ) → at < length sorted → AreBinned sorted at bins runs →
@@ -69,7 +69,7 @@ binned_on sorted at bins runs within same h =
 
 -- the bin of these numbers, where the next one is another or there is none
 binned_next : (sorted : List ℤ) (at : ℕ) (bins : List Bin) (runs : ℕ) (b : Bin) → at < length sorted → IsSorted int_cmp sorted →
-        ((d : ℤ) → slice_index_or sorted at d ≡ b.number) →
+    ((d : ℤ) → slice_index_or sorted at d ≡ b.number) →
     b.runs ≡ runs + 1 → ((d : ℤ) → at + 1 < length sorted → slice_index_or sorted (at + 1) d ≡ b.number → ⊥) → AreBinned sorted at bins runs →
     AreBinned sorted (at + 1) (bins ++ b ∷ []) 0
 binned_next sorted at bins runs b within in_order is count other h =
@@ -93,10 +93,10 @@ binned_next sorted at bins runs b within in_order is count other h =
 
 -- the same of the bins that came about
 pub binned_new : (sorted : List ℤ) (at : ℕ) (bins new : List Bin) (runs left : ℕ) (b : Bin) → new ≡ bins ++ b ∷ [] → left ≡ 0 →
-        at < length sorted → IsSorted int_cmp sorted →
+    at < length sorted → IsSorted int_cmp sorted →
     b.number ≡ slice_index_or sorted at (pos 0) → b.runs ≡ runs + 1 →
     (at + 1 < length sorted → slice_index_or sorted (at + 1) (pos 0) ≡ slice_index_or sorted at (pos 0) → ⊥) →
-        AreBinned sorted at bins runs → AreBinned sorted (at + 1) new left
+    AreBinned sorted at bins runs → AreBinned sorted (at + 1) new left
 binned_new sorted at bins new runs left b made none within in_order is count other h =
     subst (λ (n : ℕ). AreBinned sorted (at + 1) new n) (sym none)
     (subst (λ (bs : List Bin). AreBinned sorted (at + 1) bs 0) (sym made)
@@ -116,7 +116,7 @@ binned_same sorted at bins new runs left kept more within same h =
 pub binned_all : (sorted : List ℤ) (bins : List Bin) (runs : ℕ) (at : ℕ) → length sorted ≤ at → AreBinned sorted at bins runs → Tells bins sorted
 binned_all sorted bins runs at past h = record {
   numbers = sym (append-nil (told_by bins))
-        ∙ ap (λ (n : ℕ). told_by bins ++ replicate n (slice_index_or sorted at (pos 0))) (sym (h.ended past)) ∙ h.numbers (pos 0) ∙ take_all at sorted past;
+      ∙ ap (λ (n : ℕ). told_by bins ++ replicate n (slice_index_or sorted at (pos 0))) (sym (h.ended past)) ∙ h.numbers (pos 0) ∙ take_all at sorted past;
   some = h.some;
   rising = h.rising;
 }

@@ -31,7 +31,7 @@ Within (Some wait) (Some most) = wait ≤ℤ most
 
 -- what a comparison of waits tells
 pub exceeds_if : (pc : ℤ → ℤ → Option Ordering) → ((x y : ℤ) → pc x y ≡ Some (int_cmp x y)) → (w m : Option ℤ) →
-        is_some_and is_gt (option_partial_cmp pc w m) ≡ true →
+    is_some_and is_gt (option_partial_cmp pc w m) ≡ true →
     (v : ℤ) × (w ≡ Some v) × Exceeds v m
 exceeds_if pc is None None e = absurd (false≢true e)
 exceeds_if pc is None (Some m) e = absurd (false≢true e)
@@ -47,7 +47,7 @@ exceeds_if pc is (Some v) (Some m) e =
     )
 
 pub within_if : (pc : ℤ → ℤ → Option Ordering) → ((x y : ℤ) → pc x y ≡ Some (int_cmp x y)) → (w m : Option ℤ) →
-        is_some_and is_gt (option_partial_cmp pc w m) ≡ false → Within w m
+    is_some_and is_gt (option_partial_cmp pc w m) ≡ false → Within w m
 within_if pc is None None e = tt
 within_if pc is None (Some m) e = tt
 within_if pc is (Some v) None e = absurd (true≢false e)
@@ -120,7 +120,7 @@ leads_on rows x w (Some row) None h is more = absurd h
 
 -- a row that does not wait longer changes nothing
 leads_still : (rows : List Row) (x : Row) (longest : Option Row) (most : Option ℤ) → Leads rows longest most →
-        Within (wait_of x) most → Leads (rows ++ x ∷ []) longest most
+    Within (wait_of x) most → Leads (rows ++ x ∷ []) longest most
 leads_still rows x None None none within = All-push (λ r. wait_of r ≡ None) rows x none (none_within (wait_of x) within)
 leads_still rows x (Some row) (Some most) (led, is_most) within =
     let v = led.wait in

@@ -22,7 +22,7 @@ loop-at-preserved c =
           record {
             few = let none = w.runs-is in omega arith;
             binned = λ s. binned_new sorted at c.loop-at.bins.items c.if-at-sorted.bins.items c.loop-at.runs c.if-at-sorted.runs _
-                    (rw w.bins-is items) w.runs-is c.loop-at-test.true s
+                (rw w.bins-is items) w.runs-is c.loop-at-test.true s
                 (to_z-of_z w64 here here_fits) refl other (c.loop-at.invariant.binned s);
           }
       | else-at-sorted+else-sorted-at w ↦
@@ -34,7 +34,7 @@ loop-at-preserved c =
           record {
             few = let more = w.runs-is in let few = c.loop-at.invariant.few in omega arith;
             binned = λ s. binned_same sorted at c.loop-at.bins.items c.if-at-sorted.bins.items c.loop-at.runs c.if-at-sorted.runs
-                    (rw w.bins-is refl) w.runs-is within same
+                (rw w.bins-is refl) w.runs-is within same
                 (c.loop-at.invariant.binned s);
           }
     ]

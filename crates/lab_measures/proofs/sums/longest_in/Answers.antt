@@ -14,24 +14,24 @@ loop-row-preserved c = elim c.if-gt.branch [
       leads_new (take c.loop-row.row-index c.args.rows.now) _ _ c.loop-row.longest c.if-gt.longest c.loop-row.most c.if-gt.most
       (take_more c.args.rows.now c.loop-row.row-index _ c.loop-row-test.true) c.loop-row.invariant
       (exceeds_if (λ x y. Some (int_cmp x y)) (λ x y. refl) _ c.loop-row.most
-            (subst (λ (o : Option ℤ). is_some_and is_gt (option_partial_cmp (λ x y. Some (int_cmp x y)) o c.loop-row.most) ≡ true)
-              c.wait-wait.ensures (sym c.gt.ensures ∙ t)))
+      (subst (λ (o : Option ℤ). is_some_and is_gt (option_partial_cmp (λ x y. Some (int_cmp x y)) o c.loop-row.most) ≡ true)
+      c.wait-wait.ensures (sym c.gt.ensures ∙ t)))
       l (m ∙ c.wait-wait.ensures)
   | else-gt w ↦ let t = w.if-gt.false in let l = w.longest-is in let m = w.most-is in
       leads_same (take c.loop-row.row-index c.args.rows.now) _ _ c.loop-row.longest c.if-gt.longest c.loop-row.most c.if-gt.most
       (take_more c.args.rows.now c.loop-row.row-index _ c.loop-row-test.true) c.loop-row.invariant
       (within_if (λ x y. Some (int_cmp x y)) (λ x y. refl) _ c.loop-row.most
-            (subst (λ (o : Option ℤ). is_some_and is_gt (option_partial_cmp (λ x y. Some (int_cmp x y)) o c.loop-row.most) ≡ false)
-              c.wait-wait.ensures (sym c.gt.ensures ∙ t)))
+      (subst (λ (o : Option ℤ). is_some_and is_gt (option_partial_cmp (λ x y. Some (int_cmp x y)) o c.loop-row.most) ≡ false)
+      c.wait-wait.ensures (sym c.gt.ensures ∙ t)))
       l m
 ]
 
 pub returns-clause-longest : goal.returns-clause-longest
 returns-clause-longest c = leads_longest c.args.rows.now c.loop-row.longest c.loop-row.most
     (subst (λ (rows : List Row). Leads rows c.loop-row.longest c.loop-row.most)
-          (take_all c.loop-row.row-index c.args.rows.now (omega arith)) c.loop-row.invariant)
+    (take_all c.loop-row.row-index c.args.rows.now (omega arith)) c.loop-row.invariant)
 
 pub returns-clause-none : goal.returns-clause-none
 returns-clause-none c = leads_none c.args.rows.now c.loop-row.longest c.loop-row.most
     (subst (λ (rows : List Row). Leads rows c.loop-row.longest c.loop-row.most)
-          (take_all c.loop-row.row-index c.args.rows.now (omega arith)) c.loop-row.invariant)
+    (take_all c.loop-row.row-index c.args.rows.now (omega arith)) c.loop-row.invariant)

@@ -16,5 +16,5 @@ returns-clause-count c = λ h.
     let n : length (cycles_among span (suc (span.to - span.from))) ≡ (span.to - span.from) / span.step + 1 = length_among span (span.to - span.from) h in
     let apart : suc (span.to - span.from) ≡ span.to + 1 - span.from = omega arith in
     let same : length (cycles_among span (suc (span.to - span.from))) ≡ length (cycles_among span (span.to + 1 - span.from)) =
-          ap (λ k. length (cycles_among span k)) apart in
+    ap (λ k. length (cycles_among span k)) apart in
     omega arith
