@@ -68,7 +68,7 @@ CASES = (
     Case("plan cases", "plans.py", "another line", "plant crates/test_plan_cases/data/plans.txt '5s/greedy/greedier/'; checks/plans.py",
          ("FAILED: line 5 of plans.txt",)),
     Case("caches", "caches.py", "another number of misses", """
-        plant crates/test_lab_cases/data/sources.txt '/^caches source/s/\\([0-9]\\) /\\19 /5'; checks/caches.py""", ("the stored answer is another one",)),
+        plant crates/test_lab_cases/data/sources.txt '/^caches source/s/misses \\([0-9]*\\)$/misses 1\\1/'; checks/caches.py""", ("the stored answer is another one",)),
     Case("rows", "rows.sh", "a program that prints nothing, and no cases", """
         : >crates/test_command_cases/data/runs.txt; MX_RUN=/bin/true checks/rows.sh""", ("no case was found", "runs differ")),
     Case("rows", "rows.sh", "an argument", "checks/rows.sh typo", ("unexpected argument typo",)),

@@ -904,6 +904,14 @@ def try_page(bench, url):
     tell("the page has no fault", not bench.faults, bench.faults)
 
 
+def keep_library(folder):
+    """Compiles the library for C into a folder, where the workbench finds it: its first text in C would have a minute for all of that."""
+    os.environ["MX_LIBRARY"] = folder
+    if shutil.which("mips-linux-gnu-gcc"):
+        ran = subprocess.run([f"{TOP}/tools/cc.sh", TOP, "library"], capture_output=True, text=True, check=False)
+        tell("the library for C is compiled", ran.returncode == 0, ran.stderr[-300:])
+
+
 def try_all(folder):
     """Tries the page, and its look on the widths, of which a sample has one."""
     with serving(f"{TOP}/examples/countdown.s") as (_, url):
@@ -1034,11 +1042,9 @@ def main():
     if sys.argv[1:] and not os.path.isdir(sys.argv[1]):
         common.wrong_arguments(f"{sys.argv[1]}: no such folder")
     need_chromium()
-    if sys.argv[1:]:
-        try_all(sys.argv[1])
-    else:
-        with tempfile.TemporaryDirectory() as folder:
-            try_all(folder)
+    with tempfile.TemporaryDirectory() as folder:
+        keep_library(f"{folder}/library")
+        try_all(sys.argv[1] if sys.argv[1:] else folder)
     return common.finish("workbench", "properties of the page")
 
 
