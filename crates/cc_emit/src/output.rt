@@ -1,5 +1,6 @@
 //! The text of the translation.
-ghost use Rattle.std.specs.Prelude.{◌≡◌, ◌++◌, Some, OnOk};
+ghost use Rattle.std.specs.Prelude.{◌≡◌, ◌++◌, ◌+◌, ◌-◌, ◌^◌, min, Some, OnOk};
+ghost use Rattle.std.specs.Fmt.{signed_decimal};
 ghost use Rattle.cc_emit.specs.Labels.{labelled};
 
 use cc_lines::{Refusal, is_numbered};
@@ -28,7 +29,7 @@ pub enum Routine {
     Stack,
 }
 
-/// All routines, in the order in which they stand in the text.
+/// All routines, in their order in the text.
 pub(crate) static ROUTINES: [Routine; 13] = [
     Routine::Low,
     Routine::SignedProduct,
@@ -77,7 +78,7 @@ pub enum Mask {
     StoreRight,
 }
 
-/// All tables, in the order in which they stand in the text.
+/// All tables, in their order in the text.
 pub(crate) static MASKS: [Mask; 4] = [
     Mask::LoadLeft,
     Mask::LoadRight,
@@ -118,7 +119,7 @@ pub struct Output {
     pub crossing: Option<u32>,
     /// The numbers that statements load from data, in order.
     pub(crate) numbers: IndexSet<u32>,
-    /// The addends to the first byte behind all data that statements load from data.
+    /// The addends to the first byte after all data that statements load from data.
     pub(crate) ends: IndexSet<u32>,
     routines: Vec<Routine>,
     masks: Vec<Mask>,
@@ -126,6 +127,8 @@ pub struct Output {
     labels: u32,
     /// Whether it reads input.
     pub input: bool,
+    /// The number that register 1 holds, where that is known.
+    pub first: Option<u32>,
     /// The text and the line of the first statement that is not translated, and why.
     pub fault: Option<(u32, u32, Refusal)>,
 }
@@ -158,6 +161,7 @@ impl Output {
             masks: Vec::new(alloc),
             labels: 0,
             input: false,
+            first: None,
             fault: None,
         }
     }
@@ -169,13 +173,13 @@ impl Output {
         }
     }
 
-    /// Lets a number stand in a word of data, which a statement loads: `k.` and the number name it.
+    /// Keeps a number for a word of data, which a statement loads: `k.` and the number name it.
     pub fn keep_number(&mut self, number: u32) -> Result<(), AllocError> {
         self.numbers.insert(number)?;
         Ok(())
     }
 
-    /// Lets an address behind all data stand in a word of data: `k.end.` and the addend name it.
+    /// Keeps an address after all data for a word of data: `k.end.` and the addend name it.
     pub fn keep_end(&mut self, addend: u32) -> Result<(), AllocError> {
         self.ends.insert(addend)?;
         Ok(())
@@ -190,12 +194,15 @@ impl Output {
     }
 
     /// Adds a number.
-    pub fn number(&mut self, value: i64) -> Result<(), AllocError> {
+    pub fn number(&mut self, value: i64) -> Result<(), AllocError>
+        ensures text { OnOk result (self.new.text.items ≡ self.old.text.items ++ signed_decimal value) }
+        ensures statements { self.new.statements ≡ self.old.statements }
+    {
         self.text
             .extend_from_slice(Buffer::new().format(value).as_bytes())
     }
 
-    /// Adds text in which each `%` stands for the next of these counts, as registers are told, and each `@` for a number.
+    /// Adds text, with the next of these counts, as registers have them, for each `%`, and a number for each `@`.
     pub fn filled(&mut self, text: &str, number: i64, counts: &[u8]) -> Result<(), AllocError> {
         let mut left = counts.iter();
         for byte in text.as_bytes() {
@@ -212,18 +219,18 @@ impl Output {
         Ok(())
     }
 
-    /// Adds lines, in which each `%` stands for the next of these counts, and each `@` for a number: statements, and labels.
+    /// Adds lines, which are statements and labels, with the next of these counts for each `%`, and a number for each `@`.
     pub fn lines_with(&mut self, text: &str, number: i64, counts: &[u8]) -> Result<(), AllocError> {
         self.statements = self.statements.saturating_add(statements_in(text));
         self.filled(text, number, counts)
     }
 
-    /// Adds lines, in which each `%` stands for the next of these counts.
+    /// Adds lines, with the next of these counts for each `%`.
     pub fn lines(&mut self, text: &str, counts: &[u8]) -> Result<(), AllocError> {
         self.lines_with(text, 0, counts)
     }
 
-    /// Adds a statement, in which each `%` stands for the next of these counts, and each `@` for a number.
+    /// Adds a statement, with the next of these counts for each `%`, and a number for each `@`.
     pub fn statement_with(
         &mut self,
         text: &str,
@@ -235,7 +242,7 @@ impl Output {
         self.lines("\n", &[])
     }
 
-    /// Adds a statement, in which each `%` stands for the next of these counts.
+    /// Adds a statement, with the next of these counts for each `%`.
     pub fn statement(&mut self, text: &str, counts: &[u8]) -> Result<(), AllocError> {
         self.statement_with(text, 0, counts)
     }
@@ -292,7 +299,7 @@ impl Output {
         self.owner("..", owner)
     }
 
-    /// Adds the name that a symbol has in the source: with a `_` before a name of C, and the number of its text behind it
+    /// Adds the name that a symbol has in the source: with a `_` before a name of C, and the number of its text after it
     /// where it is that text's own.
     pub fn name(&mut self, symbols: &Symbols, number: u32) -> Result<(), AllocError> {
         match symbols.at(symbols.resolved(number)) {
@@ -308,7 +315,10 @@ impl Output {
     }
 
     /// A new label of its own: its number.
-    pub fn fresh(&mut self) -> u32 {
+    pub fn fresh(&mut self) -> u32
+        ensures number { result ≡ min (self.old.labels + 1) (2 ^ 32 - 1) }
+        ensures kept { self.new.labels ≡ result }
+    {
         self.labels = self.labels.saturating_add(1);
         self.labels
     }

@@ -1,40 +1,69 @@
 //! The routines that statements call: products, quotients, and shifts by a register.
 //!
 //! They take their operands in r1 and r26 and their link in r27, and answer in r24 and r25, as LO and HI, shifts in r1. They
-//! change these, MD and r22 alone. A line that begins with `8*` stands 8 times.
+//! change these, MD and r22 alone. A line that begins with `8*` is written 8 times.
 
 use crate::output::{Output, ROUTINES, Routine};
 use std::alloc::AllocError;
 
-/// The low word of a product. The operand that is lower as an unsigned number is taken in MD.
+/// The low word of a product. A step is needed for each bit that MD has, so it takes an operand below 2^8 or 2^16, or at least -2^15
+/// and negative, if there is one.
 static LOW: &str = "m.mul:
-        bhs r26,r1,m.mul.a
-        mov r1,r24
-        mov r26,r1
-        mov r24,r26
-m.mul.a:
-        sh r1,r0,#8,r24
-        bne r24,r0,m.mul.b
-        sh r0,r1,#8,r1
+        sh r1,r0,#16,r24
+        beq r24,r0,m.mul.b
+        sh r26,r0,#16,r24
+        beq r24,r0,m.mul.a
+        asr r1,#15,r24
+        not r24,r24
+        beq r24,r0,m.mul.c
+        asr r26,#15,r24
+        not r24,r24
+        beq r24,r0,m.mul.e
         movtos r1,md
-8*        mstep r24,r26,r24
+        mstart r26,r24
+31*        mstep r24,r26,r24
+        jr r27
+m.mul.a:
+        sh r26,r0,#8,r24
+        beq r24,r0,m.mul.f
+        sh r0,r26,#16,r26
+        movtos r26,md
+        mstep r0,r1,r24
+15*        mstep r24,r1,r24
         jr r27
 m.mul.b:
-        sh r1,r0,#16,r24
-        bne r24,r0,m.mul.c
+        sh r1,r0,#8,r24
+        beq r24,r0,m.mul.d
+        sh r26,r0,#8,r24
+        beq r24,r0,m.mul.f
         sh r0,r1,#16,r1
         movtos r1,md
-16*        mstep r24,r26,r24
+        mstep r0,r26,r24
+15*        mstep r24,r26,r24
         jr r27
 m.mul.c:
-        bge r1,r0,m.mul.d
-        sub r0,r1,r1
-        sub r0,r26,r26
-        bge r1,r0,m.mul
-m.mul.d:
+        sh r0,r1,#16,r1
         movtos r1,md
-        mov r0,r24
-32*        mstep r24,r26,r24
+        mstart r26,r24
+15*        mstep r24,r26,r24
+        jr r27
+m.mul.d:
+        sh r0,r1,#8,r1
+        movtos r1,md
+        mstep r0,r26,r24
+7*        mstep r24,r26,r24
+        jr r27
+m.mul.e:
+        sh r0,r26,#16,r26
+        movtos r26,md
+        mstart r1,r24
+15*        mstep r24,r1,r24
+        jr r27
+m.mul.f:
+        sh r0,r26,#8,r26
+        movtos r26,md
+        mstep r0,r1,r24
+7*        mstep r24,r1,r24
         jr r27
 ";
 
@@ -130,9 +159,9 @@ m.multu.d:
 
 /// A quotient of signed numbers and its remainder, by those of their amounts.
 static SIGNED_QUOTIENT: &str = "m.div:
-        beq r26,r0,m.zero
         or r1,r26,r24
         bge r24,r0,m.divu
+        beq r26,r0,m.zero
         xor r1,r26,r24
         st m.x[r0],r24
         st m.y[r0],r1
@@ -157,7 +186,7 @@ m.div.d:
         jr r27
 ";
 
-/// What stands before the steps of a quotient of unsigned numbers, and how many it takes: as many as it may have bits.
+/// The statements before the steps of a quotient of unsigned numbers, and how many steps it takes: as many as it may have bits.
 static QUOTIENT: [(&str, u32); 5] = [
     (
         "m.divu:
@@ -166,6 +195,11 @@ static QUOTIENT: [(&str, u32); 5] = [
         bhs r25,r26,m.divu.b
         sh r1,r0,#4,r24
         bhs r24,r26,m.divu.a
+        bhs r1,r26,m.divu.e
+        mov r1,r25
+        mov r0,r24
+        jr r27
+m.divu.e:
         mov r24,r25
         sh r0,r1,#4,r1
 ",
@@ -201,7 +235,7 @@ static QUOTIENT: [(&str, u32); 5] = [
     ),
 ];
 
-/// How often a line of a routine stands, which is told before a `*`, and the line itself.
+/// How often a line of a routine is written, which is a number before a `*`, and the line itself.
 fn repeated(line: &str) -> (u32, &str) {
     match line.split_once("*") {
         Some((times, rest)) => (times.parse::<u32>().unwrap_or(1), rest),
@@ -230,7 +264,7 @@ fn put_text(out: &mut Output, text: &str) -> Result<(), AllocError> {
     Ok(())
 }
 
-/// Adds the steps of a quotient, of so many bits, behind some lines.
+/// Adds the steps of a quotient, of so many bits, after some lines.
 fn put_steps(out: &mut Output, before: &str, bits: u32) -> Result<(), AllocError> {
     out.lines(before, &[])?;
     put_line(out, "        movtos r1,md", 1)?;

@@ -133,7 +133,7 @@ fn write_objects(image: &mut Image, program: &Program, end: u32) {
     }
 }
 
-/// The image of all data, where `behind` is the first byte behind them and `end` the one behind what follows too.
+/// The image of all data, where `behind` is the first byte after them and `end` the one after what follows too.
 fn image_of(alloc: Global, program: &Program, behind: u32, end: u32) -> Result<Image, AllocError> {
     let mut image = empty_image(alloc, place_in(behind))?;
     write_objects(&mut image, program, end);
@@ -179,7 +179,7 @@ fn put_zero(out: &mut Output, writing: Writing) -> Result<Writing, AllocError> {
     }
 }
 
-/// Goes on with a word that is not 0: before it stands its line's front or a comma.
+/// Goes on with a word that is not 0, after its line's front or a comma.
 fn before_word(out: &mut Output, writing: Writing) -> Result<Writing, AllocError> {
     let more = match writing {
         Writing::Words(count) => words_with(count),
@@ -341,7 +341,7 @@ fn mask_words(out: &Output) -> u64 {
     count
 }
 
-/// How many words hold numbers that statements load, and addresses behind all data.
+/// How many words hold numbers that statements load, and addresses after all data.
 fn number_words(out: &Output) -> u64 {
     (out.numbers.len() as u64).saturating_add(out.ends.len() as u64)
 }
@@ -419,7 +419,7 @@ fn put_tables(out: &mut Output) -> Result<(), AllocError> {
     Ok(())
 }
 
-/// The numbers that statements load, and the addresses behind all data, which end here.
+/// The numbers that statements load, and the addresses after all data, which end here.
 fn put_numbers(out: &mut Output, end: u32) -> Result<(), AllocError> {
     for i in 0..out.numbers.len() {
         if let Some(number) = out.numbers.get_index(i).copied() {
@@ -437,7 +437,7 @@ fn put_numbers(out: &mut Output, end: u32) -> Result<(), AllocError> {
 /// How far below the end of the memory the stack begins.
 const STACK_GAP: u32 = 64;
 
-/// The first byte behind all data words, where those of the program end here.
+/// The first byte after all data words, where those of the program end here.
 pub fn end_of(out: &Output, behind: u64) -> u64
     ensures { behind ≤ result }
 {

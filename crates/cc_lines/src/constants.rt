@@ -1,4 +1,5 @@
 //! Names of numbers.
+ghost use Rattle.indexmap.specs.IndexMap.{IsEmpty};
 
 use indexmap::IndexMap;
 use std::alloc::{AllocError, Global};
@@ -11,7 +12,9 @@ pub struct Constants<'a> {
 
 impl<'a> Constants<'a> {
     /// No names.
-    pub fn new(alloc: Global) -> Constants<'a> {
+    pub fn new(alloc: Global) -> Constants<'a>
+        ensures { IsEmpty result.values }
+    {
         Constants {
             values: IndexMap::new(alloc),
         }

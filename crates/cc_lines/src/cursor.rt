@@ -43,7 +43,7 @@ pub(crate) fn is_blank(byte: u8) -> bool
     byte == b' ' || byte == b'\t' || byte == b'\r'
 }
 
-/// Whether a byte may stand in a name.
+/// Whether a byte may be in a name.
 pub(crate) fn is_named(byte: u8) -> bool
     ensures { result ≡ Bytes.is_named byte }
 {
@@ -58,7 +58,7 @@ pub(crate) enum Mark {
     Gap,
     /// A space, a tab or a comma.
     Separator,
-    /// A byte that may not stand in a name.
+    /// A byte that may not be in a name.
     Unnamed,
     /// A byte that is no blank.
     Seen,
@@ -86,7 +86,7 @@ fn place_of(text: &[u8], mark: Mark) -> Option<usize>
     text.iter().position(|b| mark.fits(*b))
 }
 
-/// How many bytes stand before the first of a kind.
+/// How many bytes precede the first of a kind.
 fn count_before(text: &[u8], mark: Mark) -> usize
     ensures count { result ≡ position_or_len (λ b. Marks.fits mark b) text.now }
     ensures within { result ≤ length text.now }
@@ -105,7 +105,7 @@ pub(crate) fn split_before(text: &[u8], mark: Mark) -> (&[u8], &[u8])
     text.split_at(count_before(text, mark))
 }
 
-/// A text up to the first byte with this value, and what stands behind it.
+/// A text up to the first byte with this value, and the rest after it.
 pub(crate) fn split_at_byte(text: &[u8], byte: u8) -> (&[u8], &[u8])
     ensures front { result.0.now ≡ before_first (λ b. b == byte) text.now }
     ensures back { result.1.now ≡ after_first (λ b. b == byte) text.now }
@@ -117,7 +117,29 @@ pub(crate) fn split_at_byte(text: &[u8], byte: u8) -> (&[u8], &[u8])
     }
 }
 
-/// The bytes at the front that may stand in a name, and what stands behind them.
+/// The character constant of a comma.
+static COMMA: [u8; 3] = [39, 44, 39];
+
+/// How many bytes at the front of a text are the character constant of a comma: three or none.
+fn comma_before(text: &[u8]) -> usize
+    ensures count { result ≡ Bytes.comma_before text.now }
+    ensures within { result ≤ length text.now }
+{
+    if text.starts_with(&COMMA) { 3 } else { 0 }
+}
+
+/// The first value of a text, which a comma ends, and the rest after that. The comma of `','` ends none.
+pub(crate) fn split_value(text: &[u8]) -> (&[u8], &[u8])
+    ensures rest { result.1.now ≡ Bytes.after_value text.now }
+{
+    let front = trimmed_front(text);
+    let (comma, behind) = front.split_at(comma_before(front));
+    let (first, rest) = split_at_byte(behind, b',');
+    let count = comma.len().saturating_add(first.len());
+    (front.get(..count).unwrap_or(&[]), rest)
+}
+
+/// The bytes at the front that may be in a name, and the rest after them.
 pub(crate) fn split_name(text: &[u8]) -> (&[u8], &[u8])
     ensures name { result.0.now ≡ Bytes.name_of text.now }
     ensures rest { result.1.now ≡ Bytes.behind_name text.now }
@@ -125,7 +147,7 @@ pub(crate) fn split_name(text: &[u8]) -> (&[u8], &[u8])
     split_before(text, Mark::Unnamed)
 }
 
-/// How many blanks stand behind the last byte that is none.
+/// How many blanks follow the last byte that is none.
 fn blanks_behind(text: &[u8]) -> Option<usize>
     ensures { result ≡ position (λ b. not (Bytes.is_blank b)) (reverse text.now) }
 {
@@ -150,7 +172,7 @@ pub(crate) fn trimmed(text: &[u8]) -> &[u8]
     }
 }
 
-/// How many bytes behind the first of a text belong to it: those of a character constant, as `'a'` or `'\n'`.
+/// How many bytes after the first of a text belong to it: those of a character constant, as `'a'` or `'\n'`.
 fn count_behind(text: &[u8]) -> usize {
     match text {
         [b'\'', b'\\', _, b'\'', ..] => 3,
@@ -182,7 +204,7 @@ fn place_outside(text: &[u8], mark: u8) -> Option<usize>
     None
 }
 
-/// A line without what stands behind the first `#` outside quotes, and without blanks around it.
+/// A line up to the first `#` outside quotes, without blanks around it.
 pub fn without_comment(line: &[u8]) -> &[u8]
     ensures { All (λ b. b ≢ 35) line.now → result.now ≡ Bytes.trimmed line.now }
 {
@@ -192,7 +214,7 @@ pub fn without_comment(line: &[u8]) -> &[u8]
     }
 }
 
-/// The first statement of a line without comment, which a `;` ends, and what stands behind that.
+/// The first statement of a line without comment, which a `;` ends, and the rest after that.
 pub fn first_statement(line: &[u8]) -> (&[u8], &[u8])
     ensures first { All (λ b. b ≢ 59) line.now → result.0.now ≡ line.now }
     ensures rest { All (λ b. b ≢ 59) line.now → result.1.now ≡ [] }
@@ -241,7 +263,7 @@ fn digits(text: &[u8], base: u32) -> Option<u64>
     Some(value)
 }
 
-/// The byte of a character constant, which stands in `'`.
+/// The byte of a character constant, which is in `'`.
 fn character(text: &[u8]) -> Option<u64> {
     match text {
         [b'\'', b'\\', letter, b'\''] => escape(*letter).map(u64::from),

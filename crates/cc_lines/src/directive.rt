@@ -17,20 +17,20 @@ pub enum Section {
     Calls { after: bool, order: u32 },
 }
 
-/// What a directive says. The name and the text that it is about stand beside it, in its line.
+/// What a directive says. The name and the text that it is about are in its line.
 #[derive(Clone, Copy)]
 pub enum Directive {
     Section(Section),
     Previous,
     /// `.frame`: whether the frame pointer is register 30, and the size of the frame.
     Frame { points: bool, size: u32 },
-    /// `.mask`: whether register 31 is saved, and where it is behind the frame.
+    /// `.mask`: whether register 31 is saved, and where it is after the frame.
     Mask { saves_link: bool, offset: u32 },
     Global,
     Weak,
     Local,
     Common { size: u32, align: u32, local: bool },
-    /// The next data stands at a multiple of so many bytes.
+    /// The next datum is at a multiple of so many bytes.
     Align(u32),
     /// So many bytes with one value.
     Space { size: u32, fill: u8 },
@@ -38,10 +38,14 @@ pub enum Directive {
     Fill { count: u32, bytes: u8, value: u32 },
     /// Values of so many bytes each, which are at multiples of their size where they are `aligned`.
     Data { bytes: u8, aligned: bool },
+    /// Floating-point numbers of 4 bytes or of 8, at multiples of their size.
+    Float { double: bool },
     /// Quoted texts, ended by a byte 0 each or not.
     Text { ended: bool },
     /// One name for what another names.
     Alias,
+    /// A name for what is so many bytes after what another names.
+    Within(u32),
     /// A name for where it is in its section.
     Here,
     /// `.set reorder` and `.set noreorder`: whether jumps have no delay slots, or have.
@@ -65,14 +69,14 @@ pub struct DirectiveLine<'a> {
     pub directive: Directive,
     /// The symbol that it is about, where it is about one.
     pub name: &'a [u8],
-    /// Its values or quoted texts; of an alias the symbol that it stands for.
+    /// Its values or quoted texts; of an alias the symbol that it means.
     pub text: &'a [u8],
 }
 
-/// How what stands behind the word of a directive is read.
+/// How the text after the word of a directive is read.
 #[derive(Clone, Copy)]
 enum Form {
-    /// Whatever stands there, the directive says this.
+    /// Whatever the text is, the directive says this.
     Says(Directive),
     /// A name, of which it says this.
     OfName(Directive),
@@ -90,7 +94,7 @@ enum Form {
 }
 
 /// The words of each form.
-const FORMS: [(&[&str], Form); 29] = [
+const FORMS: [(&[&str], Form); 31] = [
     (&[".loc"], Form::Location),
     (
         &[".word", ".long", ".int"],
@@ -141,6 +145,11 @@ const FORMS: [(&[&str], Form); 29] = [
             aligned: false,
         }),
     ),
+    (
+        &[".float", ".single"],
+        Form::Says(Directive::Float { double: false }),
+    ),
+    (&[".double"], Form::Says(Directive::Float { double: true })),
     (&[".ascii"], Form::Says(Directive::Text { ended: false })),
     (
         &[".asciz", ".asciiz", ".string"],
@@ -195,7 +204,7 @@ const FORMS: [(&[&str], Form); 29] = [
 /// The bits of `.mask` that say that register 31 is saved.
 const LINK_BIT: u32 = 0x8000_0000;
 
-/// A word at the front of a text up to a blank or a comma, and what stands behind that.
+/// A word at the front of a text up to a blank or a comma, and the rest after that.
 fn word_before(text: &[u8]) -> (&[u8], &[u8]) {
     let (front, rest) = split_before(text, Mark::Separator);
     let rest = trimmed(rest);
@@ -220,7 +229,7 @@ fn named(text: &[u8], directive: Directive) -> Result<Directive, Refusal> {
     }
 }
 
-/// What stands before the first comma of a text.
+/// A text up to its first comma.
 fn first_part(text: &[u8]) -> &[u8] {
     trimmed(split_at_byte(text, b',').0)
 }
@@ -230,7 +239,7 @@ fn number_read(text: &[u8]) -> Result<u32, Refusal> {
     number(text).ok_or(Refusal::BadNumber)
 }
 
-/// The number behind the first comma of a text.
+/// The number after the first comma of a text.
 fn second_number(text: &[u8]) -> Result<u32, Refusal> {
     number_read(first_part(split_at_byte(text, b',').1))
 }
@@ -304,7 +313,7 @@ fn calls_named(name: &[u8]) -> Option<Section> {
     None
 }
 
-/// The section that a name and its flags tell.
+/// The section with a name and these flags.
 fn section_named(text: &[u8]) -> Section {
     let name = first_part(text);
     if let Some(section) = calls_named(name) {
@@ -353,11 +362,11 @@ fn alias_read(name: &[u8], target: &[u8], constants: &Constants<'_>) -> Result<D
     match value_read(target, constants)? {
         Value::Symbol(0) => named(name, Directive::Alias),
         Value::Number(value) => named(name, Directive::Constant(value)),
-        Value::Symbol(_) => Err(Refusal::BadOperands),
+        Value::Symbol(addend) => named(name, Directive::Within(addend)),
     }
 }
 
-/// The multiple at which a datum of `.comm` stands: of 4 bytes where nothing tells it.
+/// The multiple at which a datum of `.comm` is: of 4 bytes where the directive has none.
 fn alignment_read(text: &[u8]) -> Result<u32, Refusal> {
     if text.is_empty() {
         Ok(4)
@@ -476,7 +485,7 @@ fn file_read(text: &[u8]) -> Result<Directive, Refusal> {
     Ok(Directive::File(number))
 }
 
-/// What a directive of a form says, with this text behind its word.
+/// What a directive of a form says, with this text after its word.
 fn said_by(form: Form, text: &[u8], constants: &Constants<'_>) -> Result<Directive, Refusal> {
     match form {
         Form::Says(directive) => Ok(directive),
@@ -504,7 +513,7 @@ fn form_of(word: &[u8]) -> Result<Form, Refusal> {
     }
 }
 
-/// What stands behind the name at the front of a text and the `,` or `=` behind that: the name of another symbol.
+/// The name of another symbol, which follows the name at the front of a text and the `,` or `=` after that.
 fn other_name(text: &[u8]) -> &[u8] {
     match trimmed(split_name(text).1) {
         [_, behind @ ..] => split_name(trimmed(behind)).0,
@@ -512,11 +521,11 @@ fn other_name(text: &[u8]) -> &[u8] {
     }
 }
 
-/// A directive with the text that it stands before, or is itself.
+/// A directive with the text that follows it, or that it is itself.
 fn with_text(directive: Directive, text: &[u8]) -> DirectiveLine<'_> {
     let name = split_name(text).0;
     let text = match directive {
-        Directive::Alias => other_name(text),
+        Directive::Alias | Directive::Within(_) => other_name(text),
         Directive::File(_) => word_before(text).1,
         _ => text,
     };

@@ -10,7 +10,7 @@ impl Register {
     /// It is always 0.
     pub const ZERO: Register = Register(0);
 
-    /// What instructions that stand for several use between them. No line may name it.
+    /// What the instructions of one statement use between them. No line may name it.
     pub const BETWEEN: Register = Register(1);
 
     /// Where a factor or a divisor is that is a number, as the product or the quotient takes its place.
@@ -128,7 +128,7 @@ pub enum LinkFrom {
     Register(Register),
 }
 
-/// An instruction. Where it names a symbol, that stands beside it, in its statement, and is added to the offset.
+/// An instruction. Where it names a symbol, that is in its statement, and is added to the offset.
 #[derive(Clone, Copy)]
 pub enum Instruction {
     Compute {
@@ -201,7 +201,7 @@ pub const MOST_BEHIND: usize = 3;
 pub struct Statement<'a> {
     pub instruction: Instruction,
     pub symbol: Option<&'a [u8]>,
-    /// The instructions that follow it where the statement stands for several; `Nop` where there are none. A store among them names
+    /// The instructions that follow it where the statement means several; `Nop` where there are none. A store among them names
     /// the same symbol.
     pub behind: [Instruction; MOST_BEHIND],
 }

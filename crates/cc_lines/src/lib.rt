@@ -1,5 +1,5 @@
 //! Lines of MIPS-I assembly, as a compiler writes it: the labels at the front of a line, and the instruction or the directive
-//! behind them, or why it is not taken.
+//! after them, or why it is not taken.
 #![tactic(auto)]
 
 mod constants;

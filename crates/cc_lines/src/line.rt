@@ -10,10 +10,10 @@ use crate::instruction::Statement;
 use crate::reading::statement_read;
 use crate::refusal::Refusal;
 
-/// How many labels may stand in one line.
+/// How many labels a line may have.
 pub const MOST_LABELS: u32 = 256;
 
-/// What stands behind the labels of a line.
+/// What follows the labels of a line.
 #[derive(Clone, Copy)]
 pub enum Line<'a> {
     Nothing,
@@ -21,7 +21,7 @@ pub enum Line<'a> {
     Directive(DirectiveLine<'a>),
 }
 
-/// The label at the front of a line, and what stands behind it.
+/// The label at the front of a line, and the rest after it.
 pub fn label_before(text: &[u8]) -> Option<(&[u8], &[u8])>
     ensures name { IfSome result (λ found. found.0.now ≡ Bytes.name_of text.now) }
     ensures rest { IfSome result (λ found. found.1.now ≡ Bytes.front_trimmed (drop 1 (Bytes.behind_name text.now))) }

@@ -4,7 +4,7 @@ use crate::instruction::{Condition, Long, Operation, Shift, Special, Width};
 use crate::refusal::Refusal;
 use crate::table::{is_among, meaning_of};
 
-/// What a mnemonic stands for.
+/// What a mnemonic means.
 #[derive(Clone, Copy)]
 pub(crate) enum Mnemonic {
     Compute(Operation),
@@ -118,7 +118,7 @@ const MNEMONICS: [(&[&str], Mnemonic); 64] = [
     (&["nop"], Mnemonic::Nop),
 ];
 
-/// Behind the `b` of a branch on an order: the condition, and that of the same order without signs, which a `u` asks for.
+/// After the `b` of a branch on an order: the condition, and that of the same order without signs, which a `u` asks for.
 const ORDERS: [(&str, Condition, Condition); 4] = [
     ("lt", Condition::Less, Condition::Lower),
     ("ge", Condition::NotLess, Condition::NotLower),

@@ -1,17 +1,17 @@
 //! Operands of instructions, and the values of data directives.
 ghost use Rattle.std.specs.Prelude.{◌≡◌, ◌<◌, ◌==◌, [], length, IfSome, IfNone, IfOk};
-ghost use Rattle.std.specs.List.{after_first};
+ghost use Rattle.cc_lines.specs.Bytes.{after_value};
 ghost use Rattle.cc_lines.specs.Registers.{IsTaken};
 
 use crate::constants::Constants;
 use crate::cursor::{
-    begins_number, is_named, names_numbered, number, split_at_byte, split_name, trimmed,
-    trimmed_front, wide_number,
+    begins_number, is_named, names_numbered, number, split_at_byte, split_name, split_value,
+    trimmed, trimmed_front, wide_number,
 };
 use crate::instruction::Register;
 use crate::refusal::Refusal;
 
-/// What stands between the commas of an instruction. The name of its symbol, if it has one, is at the front of its text.
+/// What is between the commas of an instruction. The name of its symbol, if it has one, is at the front of its text.
 #[derive(Clone, Copy)]
 pub(crate) enum Operand {
     Register(Register),
@@ -138,7 +138,7 @@ pub(crate) fn register_read(text: &[u8]) -> Result<Register, Refusal>
     register_named(text).unwrap_or(Err(Refusal::BadOperands))
 }
 
-/// The addend behind a symbol.
+/// The addend after a symbol.
 fn addend_read(text: &[u8]) -> Result<u32, Refusal> {
     let text = trimmed(text);
     match text {
@@ -153,7 +153,7 @@ fn addend_read(text: &[u8]) -> Result<u32, Refusal> {
     }
 }
 
-/// The value of a name with what stands behind it: of a number's name that and the addend, else the symbol.
+/// The value of a name and its addend: of a number's name their sum, else the symbol.
 fn named_value(text: &[u8], constants: &Constants<'_>) -> Result<Value, Refusal> {
     let (name, behind) = split_name(text);
     let addend = addend_read(behind)?;
@@ -221,7 +221,7 @@ fn word_read<'a>(text: &'a [u8], constants: &Constants<'_>) -> Result<Word<'a>, 
     })
 }
 
-/// The operand in memory with this base, before which the text stands.
+/// The operand in memory with this base, which follows the text.
 fn memory_read(
     before: &[u8],
     base: Register,
@@ -254,7 +254,7 @@ enum Half {
     Low,
 }
 
-/// The half that a text asks for, if it asks for one, and what stands behind the parenthesis.
+/// The half that a text asks for, if it asks for one, and the text after the parenthesis.
 fn half_before(text: &[u8]) -> Option<(Half, &[u8])> {
     let [b'%', b'h' | b'l', b'i' | b'o', rest @ ..] = text else {
         return None;
@@ -289,7 +289,7 @@ fn half_of(half: Half, value: Value) -> Value {
     }
 }
 
-/// The operand that a half spells, of which the text behind the parenthesis is given: alone, or with a base behind it.
+/// The operand that a half spells, of which the text after the parenthesis is given: alone, or with a base after it.
 fn half_read(half: Half, text: &[u8], constants: &Constants<'_>) -> Result<Operand, Refusal> {
     let (inner, behind) = split_at_byte(text, b')');
     let value = half_of(half, value_read(trimmed(inner), constants)?);
@@ -336,6 +336,16 @@ pub(crate) fn operand_read(text: &[u8], constants: &Constants<'_>) -> Result<Ope
     Ok(operand_of(value_read(text, constants)?))
 }
 
+/// The bits of the floating-point number nearest to the number that a text spells.
+fn float_bits(text: &[u8], double: bool) -> Option<u64> {
+    let text = str::from_utf8(text).ok()?;
+    if double {
+        Some(text.parse::<f64>().ok()?.to_bits())
+    } else {
+        Some(u64::from(text.parse::<f32>().ok()?.to_bits()))
+    }
+}
+
 impl<'a> Values<'a> {
     /// The values that a text holds.
     pub fn new(text: &'a [u8]) -> Values<'a>
@@ -354,13 +364,29 @@ impl<'a> Values<'a> {
     /// The next value, if there is one.
     pub fn next_value(&mut self, constants: &Constants<'_>) -> Result<Option<Word<'a>>, Refusal>
         ensures ended { IfOk result (λ value. IfNone value (self.old.rest.now ≡ [])) }
-        ensures rest { self.new.rest.now ≡ after_first (λ b. b == 44) self.old.rest.now }
+        ensures rest { self.new.rest.now ≡ after_value self.old.rest.now }
     {
         if self.rest.is_empty() {
             return Ok(None);
         }
-        let (first, rest) = split_at_byte(self.rest, b',');
+        let (first, rest) = split_value(self.rest);
         self.rest = rest;
         Ok(Some(word_read(trimmed(first), constants)?))
+    }
+
+    /// The bits of the next number, which may have a point: of 8 bytes or of 4. Nothing where there is none left.
+    pub fn next_float(&mut self, double: bool) -> Result<Option<u64>, Refusal>
+        ensures ended { IfOk result (λ value. IfNone value (self.old.rest.now ≡ [])) }
+        ensures rest { self.new.rest.now ≡ after_value self.old.rest.now }
+    {
+        if self.rest.is_empty() {
+            return Ok(None);
+        }
+        let (first, rest) = split_value(self.rest);
+        self.rest = rest;
+        match float_bits(trimmed(first), double) {
+            Some(bits) => Ok(Some(bits)),
+            None => Err(Refusal::BadNumber),
+        }
     }
 }

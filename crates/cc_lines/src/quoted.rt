@@ -16,7 +16,7 @@ enum Reading {
     Hexadecimal(u8),
 }
 
-/// The byte that a letter behind `\` stands for.
+/// The byte that a letter after `\` means.
 pub(crate) fn escape(letter: u8) -> Option<u8> {
     Some(match letter {
         b'n' => b'\n',
@@ -30,7 +30,7 @@ pub(crate) fn escape(letter: u8) -> Option<u8> {
     })
 }
 
-/// The byte behind 8 times a number and a digit.
+/// The byte of 8 times a number and a digit.
 fn octal(value: u8, digit: u8) -> u8 {
     value.wrapping_mul(8).wrapping_add(digit.wrapping_sub(b'0'))
 }
@@ -41,7 +41,7 @@ fn hexadecimal(value: u8, digit: u32) -> u8 {
     value.wrapping_mul(16).wrapping_add(low)
 }
 
-/// Where the reading is behind a byte inside quotes.
+/// Where the reading is after a byte inside quotes.
 fn inside(bytes: &mut Vec<u8>, byte: u8, ended: bool) -> Result<Reading, LineError>
     ensures { Extends bytes.old.items bytes.new.items }
 {
@@ -60,7 +60,7 @@ fn inside(bytes: &mut Vec<u8>, byte: u8, ended: bool) -> Result<Reading, LineErr
     }
 }
 
-/// Where the reading is behind a byte that follows `\`.
+/// Where the reading is after a byte that follows `\`.
 fn escaped(bytes: &mut Vec<u8>, byte: u8) -> Result<Reading, LineError>
     ensures { Extends bytes.old.items bytes.new.items }
 {
@@ -78,7 +78,7 @@ fn escaped(bytes: &mut Vec<u8>, byte: u8) -> Result<Reading, LineError>
     }
 }
 
-/// Where the reading is behind one byte more.
+/// Where the reading is after one byte more.
 #[tactic(auto, using(crate::proofs::Extends::extends_more))]
 fn next_reading(
     bytes: &mut Vec<u8>,
@@ -113,7 +113,7 @@ fn next_reading(
     }
 }
 
-/// Adds the bytes of quoted texts between commas, each with a byte 0 behind it where they are `ended`.
+/// Adds the bytes of quoted texts between commas, each with a byte 0 after it where they are `ended`.
 #[tactic(auto, using(crate::proofs::Extends::extends_more, crate::proofs::Extends::extends_same))]
 pub fn push_quoted(bytes: &mut Vec<u8>, text: &[u8], ended: bool) -> Result<(), LineError>
     ensures { Extends bytes.old.items bytes.new.items }

@@ -1,9 +1,10 @@
 //! Instructions of their operands.
 
 use crate::constants::Constants;
-use crate::cursor::{split_at_byte, split_name, trimmed};
+use crate::cursor::{split_name, split_value, trimmed};
 use crate::instruction::{
-    Condition, Instruction, LinkFrom, Operation, Register, Shift, Source, Statement,
+    Condition, Instruction, LinkFrom, MOST_BEHIND, Operation, Register, Shift, Source, Statement,
+    Width,
 };
 use crate::mnemonic::{Mnemonic, mnemonic_named};
 use crate::operand::{Operand, operand_read, without_half};
@@ -34,7 +35,7 @@ fn operands_read<'a>(text: &'a [u8], constants: &Constants<'_>) -> Result<Spelle
             last: text,
         });
     }
-    let (first, rest) = split_at_byte(text, b',');
+    let (first, rest) = split_value(text);
     let last = trimmed(first);
     let a = operand_read(last, constants)?;
     if rest.is_empty() {
@@ -43,7 +44,7 @@ fn operands_read<'a>(text: &'a [u8], constants: &Constants<'_>) -> Result<Spelle
             last,
         });
     }
-    let (second, rest) = split_at_byte(rest, b',');
+    let (second, rest) = split_value(rest);
     let last = trimmed(second);
     let b = operand_read(last, constants)?;
     if rest.is_empty() {
@@ -324,7 +325,7 @@ fn instruction_of(mnemonic: Mnemonic, operands: Operands) -> Result<Instruction,
     }
 }
 
-/// Whether an instruction names the symbol of its last operand. `nop` may stand before any operands.
+/// Whether an instruction names the symbol of its last operand. `nop` may have any operands.
 fn names_symbol(instruction: Instruction, operands: Operands) -> bool {
     let last = match operands {
         Operands::None => return false,
@@ -339,13 +340,30 @@ fn names_symbol(instruction: Instruction, operands: Operands) -> bool {
     }
 }
 
-/// The statement that a mnemonic and the text behind it spell.
+/// Whether a statement saves register 22 or 23 in the frame, or restores it. A function that a non-local goto comes to saves each
+/// register; as a program names these two nowhere else, it is left out.
+fn saves_kept(mnemonic: Mnemonic, text: &[u8]) -> bool {
+    matches!(
+        mnemonic,
+        Mnemonic::Store(Width::Word) | Mnemonic::Load(Width::Word)
+    ) && (text.starts_with(b"$22,") || text.starts_with(b"$23,"))
+        && text.ends_with(b"($sp)")
+}
+
+/// The statement that a mnemonic and the text after it spell.
 pub(crate) fn statement_read<'a>(
     name: &[u8],
     text: &'a [u8],
     constants: &Constants<'_>,
 ) -> Result<Statement<'a>, Refusal> {
     let mnemonic = mnemonic_named(name)?;
+    if saves_kept(mnemonic, text) {
+        return Ok(Statement {
+            instruction: Instruction::Nop,
+            symbol: None,
+            behind: [Instruction::Nop; MOST_BEHIND],
+        });
+    }
     let Spelled { operands, last } = operands_read(text, constants)?;
     let Several { first, behind } = match several_read(mnemonic, operands)? {
         Some(several) => several,

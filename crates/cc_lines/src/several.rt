@@ -1,4 +1,4 @@
-//! Statements that stand for several instructions, as an assembler makes them.
+//! Statements that mean several instructions, as an assembler makes them.
 //!
 //! Register 1 holds what they use between them, and register 24, the place of LO, a factor or a divisor that is a number.
 
@@ -198,7 +198,7 @@ fn has_result(operands: Operands) -> bool {
     }
 }
 
-/// The instructions that a mnemonic and its operands stand for, if they stand for others.
+/// The instructions that a mnemonic and its operands mean, if they mean several.
 pub(crate) fn several_read(
     mnemonic: Mnemonic,
     operands: Operands,

@@ -1,6 +1,6 @@
 //! Tables of words.
 
-/// What stands beside a word in a table of words that mean the same.
+/// The meaning of a word in a table of words that mean the same.
 pub(crate) fn meaning_of<T: Copy>(rows: &[(&[&str], T)], word: &[u8]) -> Option<T> {
     for (spellings, meaning) in rows {
         if is_among(spellings, word) {

@@ -21,7 +21,7 @@ may_define symbols number weak = unwrap_or (option_map (may_be_defined weak) (sl
 abbrev pub changed : (Symbol → Symbol) → ℕ → List Symbol → List Symbol
 changed f number symbols = unwrap_or (option_map (λ s. slice_set symbols number (f s)) (slice_get symbols number)) symbols
 
--- it stands for this, unless it was defined before and does not give way
+-- it means this, unless it was defined before and does not give way
 abbrev pub defined : Meaning → Bool → Symbol → Symbol
 defined meaning weak symbol =
     if is_unknown symbol.meaning || (symbol.weak && not weak) then record symbol { meaning = meaning; weak = weak } else symbol
@@ -39,10 +39,10 @@ described datum symbol = record symbol { descriptor = Some datum }
 abbrev pub fresh : Bor (List ℕ) → ℕ → Symbol
 fresh name owner = record { name = name; owner = owner; meaning = Unknown; weak = false; used = false; descriptor = None }
 
--- the symbols are those before, or those and this one behind them
+-- the symbols are those before, or those and this one after them
 abbrev pub MayGain : Symbol → List Symbol → List Symbol → Type 0
 MayGain symbol before after = (after ≡ before) ⊎ (after ≡ before ++ symbol ∷ [])
 
--- the symbols that stood there stand there
+-- the symbols that were there are there
 abbrev pub Extends : List Symbol → List Symbol → Type 0
 Extends before after = take (length before) after ≡ before

@@ -34,11 +34,11 @@ alias_in number _ = number
 abbrev pub alias_of : List Symbol → ℕ → ℕ
 alias_of symbols number = alias_in number (own_meaning symbols number)
 
--- the symbol that stands behind its aliases, of which at most MOST_ALIASES are followed
+-- the symbol that its aliases lead to, of which at most MOST_ALIASES are followed
 abbrev pub resolved : List Symbol → ℕ → ℕ
 resolved symbols number = iterate (alias_of symbols) MOST_ALIASES number
 
--- what the symbol stands for, aliases followed
+-- what the symbol means, aliases followed
 abbrev pub meaning_of : List Symbol → ℕ → Meaning
 meaning_of symbols number = own_meaning symbols (resolved symbols number)
 
@@ -48,7 +48,7 @@ descriptor_of symbols number = option_and_then (λ s. s.descriptor) (slice_get s
 
 -- ---- addresses
 
--- where the datum with this number stands, or 0 if there is none
+-- where the datum with this number is, or 0 if there is none
 abbrev pub datum_address : Program → Option ℕ → ℕ
 datum_address p datum = unwrap_or (option_map (λ o. o.standing.address) (option_and_then (slice_get p.objects.items) datum)) 0
 

@@ -1,6 +1,6 @@
 //! Reading data.
 
-use crate::item::{Content, Object, Reference, Startup, number_behind};
+use crate::item::{Content, Object, Reference, Startup, Within, number_behind};
 use crate::reading::Reader;
 use crate::symbols::Meaning;
 use cc_lines::{Directive, LineError, Refusal, Section, Values, Word, push_quoted};
@@ -18,7 +18,7 @@ fn fill(content: &mut Content) -> Result<(), LineError> {
     Ok(())
 }
 
-/// Tells the size of a datum after bytes were added.
+/// Notes the size of a datum after bytes were added.
 fn measure(content: &mut Content) -> Result<(), LineError> {
     match u32::try_from(content.bytes.len()) {
         Ok(size) => {
@@ -90,6 +90,28 @@ impl<'a> Reader<'a> {
         let number = number_behind(self.program.objects.len())?;
         self.define(symbol, Meaning::Object(number), weak)?;
         let object = Object::new(self.alloc, symbol, self.position.unit, size, align);
+        self.program.objects.push(object)?;
+        Ok(())
+    }
+
+    /// Adds a name for what is so many bytes after another one.
+    pub(crate) fn add_within(
+        &mut self,
+        name: &'a [u8],
+        other: &'a [u8],
+        addend: u32,
+    ) -> Result<(), LineError> {
+        let weak = self.is_weak(name);
+        let symbol = self.symbol(name)?;
+        let within = Within {
+            symbol: self.symbol(other)?,
+            addend,
+            line: self.position.line,
+        };
+        let number = number_behind(self.program.objects.len())?;
+        self.define(symbol, Meaning::Object(number), weak)?;
+        let mut object = Object::new(self.alloc, symbol, self.position.unit, 0, 1);
+        object.within = Some(within);
         self.program.objects.push(object)?;
         Ok(())
     }
@@ -239,6 +261,21 @@ impl<'a> Reader<'a> {
         Ok(())
     }
 
+    /// Adds floating-point numbers.
+    fn push_floats(&mut self, double: bool, text: &'a [u8]) -> Result<(), LineError> {
+        let bytes = if double { 8u8 } else { 4 };
+        self.align(u32::from(bytes))?;
+        fill(self.content()?)?;
+        let mut values = Values::new(text);
+        for _ in 0..values.most() {
+            match values.next_float(double)? {
+                Some(value) => push_number(self.content()?, bytes, value)?,
+                None => break,
+            }
+        }
+        Ok(())
+    }
+
     /// Adds bytes with one value.
     fn add_space(&mut self, size: u32, byte: u8) -> Result<(), LineError> {
         self.align(1)?;
@@ -307,6 +344,7 @@ impl<'a> Reader<'a> {
         match directive {
             Directive::Align(align) => self.align_next(align),
             Directive::Data { bytes, aligned } => return self.push_values(bytes, aligned, text),
+            Directive::Float { double } => return self.push_floats(double, text),
             Directive::Text { ended } => return self.push_text(text, ended),
             Directive::Space { size, fill } => return self.add_space(size, fill),
             Directive::Fill {

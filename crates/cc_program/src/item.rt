@@ -4,7 +4,7 @@ ghost use Rattle.std.specs.Prelude.{◌≡◌, ◌≤◌, ◌^◌, false, None, 
 use cc_lines::Instruction;
 use std::alloc::{AllocError, Global};
 
-/// The number of what stands behind so many others, if 32 bits hold it.
+/// The number of what follows so many others, if 32 bits hold it.
 pub(crate) fn number_behind(count: usize) -> Result<u32, AllocError>
     ensures ok { IfOk result (λ number. number ≡ count) }
     ensures err { OnErr result (2 ^ 32 ≤ count) }
@@ -48,7 +48,7 @@ pub struct Function {
     pub saved_link: Option<u32>,
     /// Whether it calls.
     pub calls: bool,
-    /// Whether the addresses of some of its labels are values.
+    /// Whether the addresses of some of its labels are values, or it jumps to such addresses of others.
     pub computes: bool,
     pub kept: bool,
 }
@@ -102,11 +102,19 @@ pub struct Content {
     pub references: Vec<Reference>,
 }
 
-/// Where a datum stands: at a multiple of so many bytes.
+/// Where a datum is: at a multiple of so many bytes.
 #[derive(Clone, Copy)]
 pub struct Standing {
     pub align: u32,
     pub address: u32,
+}
+
+/// A place so many bytes after a symbol, and the line that names it.
+#[derive(Clone, Copy)]
+pub struct Within {
+    pub symbol: u32,
+    pub addend: u32,
+    pub line: u32,
 }
 
 /// A datum from one label to the next.
@@ -118,6 +126,8 @@ pub struct Object {
     pub standing: Standing,
     /// The datum of the same section that it follows, if there is one: where it is empty, it is at the end of that.
     pub after: Option<u32>,
+    /// What it is a place in, if it is one.
+    pub within: Option<Within>,
     pub kept: bool,
 }
 
@@ -127,7 +137,7 @@ impl Object {
         ensures names { (result.symbol ≡ symbol) × (result.unit ≡ unit) }
         ensures zeros { (result.content.size ≡ size) × (result.content.bytes.items ≡ []) × (result.content.references.items ≡ []) }
         ensures standing { result.standing ≡ record { align = align; address = 0 } }
-        ensures unkept { (result.after ≡ None) × (result.kept ≡ false) }
+        ensures unkept { (result.after ≡ None) × (result.within ≡ None) × (result.kept ≡ false) }
     {
         Object {
             symbol,
@@ -139,6 +149,7 @@ impl Object {
             },
             standing: Standing { align, address: 0 },
             after: None,
+            within: None,
             kept: false,
         }
     }

@@ -1,12 +1,12 @@
-//! Where data stand.
+//! Where data are.
 
 use crate::program::Program;
 use cc_rules::{FIRST_BYTE, aligned};
 
-/// Data of at most so many bytes stand first, then those of at most so many, so that most have short addresses.
+/// Data of at most so many bytes come first, then those of at most so many, so that most have short addresses.
 static SMALL: [u32; 3] = [256, 4096, u32::MAX];
 
-/// Gives each datum that is kept its address. Answers the first byte behind all, at a word's place.
+/// Gives each datum that is kept its address. Answers the first byte after all, at a multiple of 4.
 pub(crate) fn lay_out(program: &mut Program) -> u64 {
     let mut at = FIRST_BYTE;
     let mut least = 0u32;
@@ -28,6 +28,7 @@ pub(crate) fn lay_out(program: &mut Program) -> u64 {
         least = *most;
     }
     place_empty(program);
+    place_within(program);
     aligned(at, 4)
 }
 
@@ -43,6 +44,23 @@ fn end_before(program: &Program, number: usize) -> Option<u32> {
     }
     let end = before.standing.address.saturating_add(before.content.size);
     u32::try_from(aligned(u64::from(end), object.standing.align)).ok()
+}
+
+/// Where a place in another datum is.
+fn place_in_other(program: &Program, number: usize) -> Option<u32> {
+    let within = program.objects.get(number)?.within?;
+    Some(program.address(within.symbol).wrapping_add(within.addend))
+}
+
+/// Gives each place in another datum its address.
+fn place_within(program: &mut Program) {
+    for number in 0..program.objects.len() {
+        if let Some(address) = place_in_other(program, number) {
+            if let Some(object) = program.objects.as_mut_slice().get_mut(number) {
+                object.standing.address = address;
+            }
+        }
+    }
 }
 
 /// Gives each empty datum that follows another one the address of that one's end.

@@ -13,7 +13,7 @@ mod startup;
 mod symbols;
 
 pub use error::{Fault, ReadError};
-pub use item::{Content, Function, Item, Object, Reference, Standing, Startup};
+pub use item::{Content, Function, Item, Object, Reference, Standing, Startup, Within};
 pub use program::Program;
 pub use reading::Reader;
 pub use symbols::{Meaning, Symbol, Symbols};

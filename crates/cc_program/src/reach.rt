@@ -1,11 +1,11 @@
 //! What `main` reaches.
 
 use crate::error::{Fault, ReadError};
-use crate::item::{Item, Object, Reference, number_behind};
+use crate::item::{Function, Item, Object, Reference, number_behind};
 use crate::program::Program;
 use crate::startup::add_lists;
 use crate::symbols::Meaning;
-use cc_lines::{Instruction, Refusal, Register};
+use cc_lines::{Instruction, LinkFrom, Refusal, Register};
 use cc_rules::is_last;
 use std::alloc::{AllocError, Global};
 
@@ -22,6 +22,8 @@ enum Use {
     Table,
     /// A word of data is the distance to it or from it.
     Distance,
+    /// Another name is a place in it.
+    Within,
 }
 
 /// Something that a statement or a word of data names.
@@ -55,7 +57,7 @@ fn use_of(instruction: &Instruction) -> Use {
     }
 }
 
-/// What the items of a function name. Answers whether control may go on behind them.
+/// What the items of a function name. Answers whether control may go on after them.
 fn note_items(named: &mut Vec<Named>, unit: u32, items: &[Item]) -> Result<bool, AllocError> {
     let mut goes_on = true;
     for item in items {
@@ -136,6 +138,50 @@ fn is_table(program: &Program, number: usize) -> bool {
     }
 }
 
+/// Whether an instruction jumps by a register other than the link's.
+fn jumps_by_register(instruction: &Instruction) -> bool {
+    matches!(*instruction, Instruction::Jump(LinkFrom::Register(register)) if register != Register::LINK)
+}
+
+/// Whether an instruction copies the link to another register, so that a jump by that may be a return.
+fn copies_link(instruction: &Instruction) -> bool {
+    match *instruction {
+        Instruction::Move { rs, .. } | Instruction::Compute { rs, .. } => rs == Register::LINK,
+        _ => false,
+    }
+}
+
+/// Whether a symbol is the name of a table of places that are jumped to.
+fn means_table(program: &Program, symbol: Option<u32>) -> bool {
+    let Some(symbol) = symbol else {
+        return false;
+    };
+    match program.symbols.meaning(symbol) {
+        Meaning::Object(number) => is_table(program, number as usize),
+        _ => false,
+    }
+}
+
+/// Whether a function jumps to addresses of labels that it gets as values: by a register, although it has no table of places. So a
+/// function does that leaves for a label of another one.
+fn jumps_by_values(program: &Program, function: &Function) -> bool {
+    let mut jumps = false;
+    for item in program.items_of(function) {
+        if let Item::Code {
+            instruction,
+            symbol,
+            ..
+        } = item
+        {
+            if copies_link(instruction) || means_table(program, *symbol) {
+                return false;
+            }
+            jumps = jumps || jumps_by_register(instruction);
+        }
+    }
+    jumps
+}
+
 /// Keeps a function, and the next one where control may go on into it.
 fn keep_function(
     program: &mut Program,
@@ -151,8 +197,10 @@ fn keep_function(
             break;
         }
         let goes_on = note_items(named, function.unit, program.items_of(&function))?;
+        let by_values = jumps_by_values(program, &function);
         if let Some(kept) = program.functions.as_mut_slice().get_mut(at) {
             kept.kept = true;
+            kept.computes = kept.computes || by_values;
         }
         if !goes_on {
             break;
@@ -173,6 +221,14 @@ fn keep_object(
     }
     object.kept = true;
     note_references(named, object.unit, &object.content.references, is_table)?;
+    if let Some(within) = object.within {
+        named.push(Named {
+            symbol: within.symbol,
+            unit: object.unit,
+            line: within.line,
+            how: Use::Within,
+        })?;
+    }
     Ok(if object.content.size == 0 {
         object.after
     } else {
@@ -301,11 +357,22 @@ fn refusal_in_code(how: Use, is_label: bool) -> Option<Refusal> {
     }
 }
 
+/// Whether a name would be a place in what is itself a place in another datum.
+fn is_place_in_place(program: &Program, number: u32, how: Use) -> bool {
+    match program.objects.get(number as usize) {
+        Some(object) => matches!(how, Use::Within) && object.within.is_some(),
+        None => false,
+    }
+}
+
 /// Why a symbol may not be named so, if it may not.
 fn refusal_of(program: &Program, one: Named) -> Option<Refusal> {
     match program.symbols.meaning(one.symbol) {
         Meaning::Function(_) => refusal_in_code(one.how, false),
         Meaning::Place { .. } => refusal_in_code(one.how, true),
+        Meaning::Object(number) if is_place_in_place(program, number, one.how) => Some(
+            Refusal::LabelArithmetic,
+        ),
         Meaning::Object(_) | Meaning::Limit => match one.how {
             Use::Jump => Some(Refusal::NoPlace),
             Use::Distance => Some(Refusal::LabelArithmetic),
@@ -322,7 +389,7 @@ fn refusal_of(program: &Program, one: Named) -> Option<Refusal> {
     }
 }
 
-/// Keeps what a symbol stands for.
+/// Keeps what a symbol means.
 fn keep(
     alloc: Global,
     program: &mut Program,
@@ -360,7 +427,7 @@ fn first_fault<'a>(known: Option<Fault<'a>>, other: Fault<'a>) -> Option<Fault<'
     }
 }
 
-/// Keeps what is named, and what that names in turn. The fault of the first line that may not name what it names is told.
+/// Keeps what is named, and what that names in turn. The fault is that of the first line that may not name what it names.
 fn keep_named<'a>(
     alloc: Global,
     program: &mut Program<'a>,

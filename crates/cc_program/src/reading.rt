@@ -18,7 +18,7 @@ use cc_rules::{LONGEST_NAME, file_key, has_slot, spelled_len};
 use indexmap::IndexMap;
 use std::alloc::{AllocError, Global};
 
-/// The section that lines stand in, and the one before.
+/// The section of the lines, and the one before.
 #[derive(Clone, Copy)]
 pub(crate) struct Sections {
     pub now: Section,
@@ -50,7 +50,7 @@ impl InData {
     }
 }
 
-/// The function that statements stand in.
+/// The function of the statements.
 #[derive(Clone, Copy)]
 pub(crate) struct InCode {
     pub function: Option<usize>,
@@ -121,7 +121,7 @@ struct Numbered {
     next: Option<u32>,
 }
 
-/// What a directive tells of its name: whether it is its text's own, and if not, whether it is weak.
+/// What a directive says of its name: whether it is its text's own, and if not, whether it is weak.
 #[derive(Clone, Copy)]
 enum Told {
     Own,
@@ -130,20 +130,21 @@ enum Told {
     Nothing,
 }
 
-/// What a directive tells of its name.
+/// What a directive says of its name.
 fn told_by(directive: Directive) -> Told {
     match directive {
         Directive::Global => Told::Shared,
         Directive::Weak => Told::Weak,
         Directive::Local
         | Directive::Alias
+        | Directive::Within(_)
         | Directive::Here
         | Directive::Common { local: true, .. } => Told::Own,
         _ => Told::Nothing,
     }
 }
 
-/// Whether a line without labels may tell of names.
+/// Whether a line without labels may say something of names.
 fn may_tell(line: &[u8]) -> bool {
     line.starts_with(b".") || line.contains(&b'=')
 }
@@ -184,7 +185,7 @@ impl<'a> Reader<'a> {
         })
     }
 
-    /// Notes the labels at the front of a line. Answers what stands behind them.
+    /// Notes the labels at the front of a line. Answers the rest after them.
     fn note_labels(&mut self, line: &'a [u8]) -> Result<&'a [u8], AllocError> {
         let mut rest = line;
         for _ in 0..MOST_LABELS {
@@ -199,7 +200,7 @@ impl<'a> Reader<'a> {
         Ok(rest)
     }
 
-    /// Notes what is told of a name.
+    /// Notes what a directive says of a name.
     fn note_told(&mut self, name: &'a [u8], told: Told) -> Result<(), AllocError> {
         match told {
             Told::Own => self.labels.push(name)?,
@@ -353,7 +354,7 @@ impl<'a> Reader<'a> {
         }
     }
 
-    /// Lets a symbol stand for something.
+    /// Gives a symbol a meaning.
     pub(crate) fn define(
         &mut self,
         symbol: u32,
@@ -367,7 +368,7 @@ impl<'a> Reader<'a> {
         }
     }
 
-    /// Ends the function that stands last.
+    /// Ends the last function.
     fn end_function(&mut self) {
         let end = self.program.items.len();
         if let Some(number) = self.position.code.function {
@@ -582,6 +583,9 @@ impl<'a> Reader<'a> {
             Directive::Frame { .. } | Directive::Mask { .. } => self.note_frame(read.directive),
             Directive::Weak => return self.weaken(read.name),
             Directive::Alias => return self.alias(read.name, read.text),
+            Directive::Within(addend) => {
+                return self.add_within(read.name, read.text, addend);
+            }
             Directive::Here => return self.here(read.name),
             Directive::Location { file, line } => return self.note_location(file, line),
             Directive::File(number) => return self.note_file(number, read.text),
@@ -593,7 +597,7 @@ impl<'a> Reader<'a> {
         Ok(())
     }
 
-    /// What stands behind the labels of a line.
+    /// What follows the labels of a line.
     fn behind_labels(&mut self, rest: &'a [u8]) -> Result<(), LineError> {
         match line_read(rest, &self.constants) {
             Ok(Line::Nothing) => Ok(()),
@@ -669,7 +673,7 @@ impl<'a> Reader<'a> {
     }
 
     /// Reads all texts, keeps what `main` reaches of them, and gives each datum its address. Answers the symbol of `main` and
-    /// the first byte behind all data.
+    /// the first byte after all data.
     pub fn read_all(&mut self, texts: &[&'a [u8]]) -> Result<(u32, u64), ReadError<'a>> {
         let mut unit = 0u32;
         for text in texts {

@@ -1,5 +1,6 @@
-//! What names stand for.
+//! What names mean.
 ghost use Rattle.std.specs.Prelude.{◌≡◌, ◌++◌, ◌∷◌, [], IfOk, OnOk, OnErr, length, slice_get};
+ghost use Rattle.indexmap.specs.IndexMap.{IsEmpty};
 ghost use Rattle.cc_program.specs.Changes;
 ghost use Rattle.cc_program.specs.Programs;
 
@@ -7,7 +8,7 @@ use crate::item::number_behind;
 use indexmap::IndexMap;
 use std::alloc::{AllocError, Global};
 
-/// What a symbol stands for.
+/// What a symbol means.
 #[derive(Clone, Copy)]
 pub enum Meaning {
     Unknown,
@@ -17,11 +18,11 @@ pub enum Meaning {
     Place { item: usize, function: u32 },
     /// The datum with this number.
     Object(u32),
-    /// What another symbol stands for.
+    /// What another symbol means.
     Alias(u32),
-    /// The first byte behind all data.
+    /// The first byte after all data.
     End,
-    /// The first byte behind the memory.
+    /// The first byte after the memory.
     Limit,
 }
 
@@ -59,7 +60,7 @@ pub struct Symbols<'a> {
     own: IndexMap<&'a [u8], u32>,
 }
 
-/// How many aliases stand behind one another at most.
+/// How many aliases follow one another at most.
 const MOST_ALIASES: u32 = 16;
 
 impl<'a> Symbols<'a> {
@@ -79,7 +80,8 @@ impl<'a> Symbols<'a> {
 
     /// Begins a text, which has no names of its own yet.
     pub(crate) fn begin_unit(&mut self)
-        ensures { self.new.list.items ≡ self.old.list.items }
+        ensures list { self.new.list.items ≡ self.old.list.items }
+        ensures own { IsEmpty self.new.own }
     {
         self.own.clear();
     }
@@ -162,7 +164,7 @@ impl<'a> Symbols<'a> {
         at
     }
 
-    /// What a symbol stands for, aliases followed.
+    /// What a symbol means, aliases followed.
     pub fn meaning(&self, number: u32) -> Meaning
         ensures { result ≡ Programs.meaning_of self.now.list.items number }
     {

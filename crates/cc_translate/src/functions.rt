@@ -1,16 +1,18 @@
 //! The translation of a function.
 
+use crate::memory::SECOND;
 use crate::statements::translate_statement;
 use cc_emit::Output;
+use cc_lines::{Instruction, LinkFrom, Register, Width};
 use cc_plan::{Plan, Planned, plans_of};
 use cc_program::{Function, Item, Program};
 use cc_rules::file_key;
 use std::alloc::{AllocError, Global};
 
-/// The longest name of a source file that is told.
+/// The longest name of a source file that is written.
 const LONGEST_NAME: usize = 160;
 
-/// Adds the name of a source file, which stands in quotes.
+/// Adds the name of a source file, which is in quotes.
 fn put_file(out: &mut Output, quoted: &[u8]) -> Result<(), AllocError> {
     out.put("; ")?;
     for byte in quoted {
@@ -21,7 +23,7 @@ fn put_file(out: &mut Output, quoted: &[u8]) -> Result<(), AllocError> {
     Ok(())
 }
 
-/// Tells the line of the source file that the next statements come from.
+/// Writes the line of the source file that the next statements come from.
 fn tell_line(
     out: &mut Output,
     program: &Program,
@@ -41,12 +43,13 @@ fn tell_line(
 /// Adds a label that something names.
 fn put_label(out: &mut Output, program: &Program, label: u32) -> Result<(), AllocError> {
     if program.symbols.is_used(label) {
+        out.first = None;
         out.label(&program.symbols, label)?;
     }
     Ok(())
 }
 
-/// Translates an item of a function by its plan. `told` is the file and the line that were told last.
+/// Translates an item of a function by its plan. `told` is the last file and line that were written.
 fn put_item(
     out: &mut Output,
     program: &Program,
@@ -81,6 +84,79 @@ fn put_item(
     }
 }
 
+/// The register that the item with a number jumps by, and whose plan leaves the jump as it is.
+fn jumped_by(items: &[Item], plans: &[Plan], number: usize) -> Option<Register> {
+    match (items.get(number)?, plans.get(number)?.place) {
+        (
+            Item::Code {
+                instruction: Instruction::Jump(LinkFrom::Register(register)),
+                ..
+            },
+            None,
+        ) => Some(*register),
+        _ => None,
+    }
+}
+
+/// The register that the item with a number loads, if the next item jumps by it: it holds a code address from a jump table then.
+fn loaded_to_jump(items: &[Item], plans: &[Plan], number: usize) -> Option<Register> {
+    let Item::Code {
+        instruction: Instruction::Load {
+            width: Width::Word,
+            rd,
+            ..
+        },
+        ..
+    } = *items.get(number)?
+    else {
+        return None;
+    };
+    let register = jumped_by(items, plans, number.checked_add(1)?)?;
+    if rd == register && rd != Register::LINK {
+        Some(register)
+    } else {
+        None
+    }
+}
+
+/// The item with a number, in which a register of the translation takes the code address that is loaded for a jump alone.
+fn item_at(items: &[Item], plans: &[Plan], number: usize, item: Item) -> Item {
+    let Item::Code {
+        instruction,
+        symbol,
+        line,
+    } = item
+    else {
+        return item;
+    };
+    let instruction = match instruction {
+        Instruction::Load {
+            width,
+            base,
+            offset,
+            ..
+        } if loaded_to_jump(items, plans, number).is_some() => Instruction::Load {
+            width,
+            rd: BY_JUMPS,
+            base,
+            offset,
+        },
+        Instruction::Jump(LinkFrom::Register(_))
+            if number > 0 && loaded_to_jump(items, plans, number - 1).is_some() => {
+            Instruction::Jump(LinkFrom::Register(BY_JUMPS))
+        }
+        _ => instruction,
+    };
+    Item::Code {
+        instruction,
+        symbol,
+        line,
+    }
+}
+
+/// The register that takes a code address for a jump.
+const BY_JUMPS: Register = Register(SECOND);
+
 /// Translates the items of a function by their plans.
 fn put_items(
     out: &mut Output,
@@ -89,10 +165,12 @@ fn put_items(
     items: &[Item],
     plans: &[Plan],
 ) -> Result<(), AllocError> {
+    out.first = None;
     out.label(&program.symbols, function.symbol)?;
     let mut told = (0u32, 0u32);
-    for (item, plan) in items.iter().zip(plans.iter()) {
-        put_item(out, program, function, *item, *plan, &mut told)?;
+    for (number, (item, plan)) in items.iter().zip(plans.iter()).enumerate() {
+        let item = item_at(items, plans, number, *item);
+        put_item(out, program, function, item, *plan, &mut told)?;
     }
     Ok(())
 }

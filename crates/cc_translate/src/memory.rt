@@ -41,8 +41,19 @@ fn is_short(number: i64) -> bool {
     number >= -65536 && number <= 65535
 }
 
-/// Puts a number into a register.
+/// Puts a number into a register. The first one may hold it already, from an earlier statement.
 pub(crate) fn constant(out: &mut Output, value: u32, rd: u8) -> Result<(), AllocError> {
+    if rd == FIRST {
+        if out.first == Some(value) {
+            return Ok(());
+        }
+        out.first = Some(value);
+    }
+    load_constant(out, value, rd)
+}
+
+/// Loads a number into a register.
+fn load_constant(out: &mut Output, value: u32, rd: u8) -> Result<(), AllocError> {
     let number = signed(value);
     if is_short(number) {
         return out.statement_with("addi r0,#@,r%", number, &[rd]);
@@ -51,18 +62,27 @@ pub(crate) fn constant(out: &mut Output, value: u32, rd: u8) -> Result<(), Alloc
     out.statement_with("ld k.@[r0],r%", i64::from(value), &[rd])
 }
 
-/// Adds a number to a register.
-pub(crate) fn add_constant(out: &mut Output, rs: u8, value: u32, rd: u8) -> Result<(), AllocError> {
+/// Adds a number to a register, which is not register 0 where the number is long.
+fn add_number(out: &mut Output, rs: u8, value: u32, rd: u8) -> Result<(), AllocError> {
     let number = signed(value);
     if is_short(number) {
         return out.statement_with("addi r%,#@,r%", number, &[rs, rd]);
     }
-    if rs == 0 {
-        return constant(out, value, rd);
-    }
     let with = if rd == rs || rd == 0 { FIRST } else { rd };
     constant(out, value, with)?;
     out.statement("add r%,r%,r%", &[rs, with, rd])
+}
+
+/// Adds a number to a register.
+pub(crate) fn add_constant(out: &mut Output, rs: u8, value: u32, rd: u8) -> Result<(), AllocError> {
+    if rs == 0 {
+        return constant(out, value, rd);
+    }
+    add_number(out, rs, value, rd)?;
+    if rd == FIRST {
+        out.first = None;
+    }
+    Ok(())
 }
 
 /// Copies a register.

@@ -229,7 +229,8 @@ fn check_stack(out: &mut Output, program: &Program) -> Result<(), AllocError> {
     let word = i64::from(program.address(limit) / 4);
     out.statement_with("ld @[r0],r%", word, &[SECOND])?;
     out.need(Routine::Stack)?;
-    out.statement("blo r29,r%,m.stack", &[SECOND])
+    // An order with signs: a large frame makes the stack pointer negative.
+    out.statement("blt r29,r%,m.stack", &[SECOND])
 }
 
 /// The stack pointer moves by a number, and its quarter with it.
@@ -439,6 +440,16 @@ fn call(
     Ok(())
 }
 
+/// A jump by a register. One that holds the code address of a jump table's label is cleared, as only a jump may read that.
+fn jump_by(out: &mut Output, register: u8) -> Result<(), AllocError> {
+    if register == Register::LINK.0 || register == SECOND {
+        return out.statement("jr r%", &[register]);
+    }
+    copy(out, register, SECOND)?;
+    copy(out, Register::ZERO.0, register)?;
+    out.statement("jr r%", &[SECOND])
+}
+
 /// A jump.
 fn jump(
     out: &mut Output,
@@ -450,7 +461,7 @@ fn jump(
     match (to, symbol) {
         (LinkFrom::Register(r), _) => match place {
             Some(place) => jump_at(out, place),
-            None => out.statement("jr r%", &[r.0]),
+            None => jump_by(out, r.0),
         },
         (LinkFrom::Symbol, Some(symbol)) if is_nowhere(program, symbol) => {
             routine(out, Routine::Null)
@@ -655,7 +666,56 @@ fn kept(
     }
 }
 
-/// Translates what is left of a statement, behind the division that it needs.
+/// Whether a load from a place leaves the first register as it is.
+fn load_keeps_first(width: Width, rd: Register, place: Option<Place>) -> bool {
+    match (width, place) {
+        (Width::Left | Width::Right, _) => false,
+        (_, Some(Place::Byte { .. })) | (Width::Word, Some(Place::Turned { .. })) => true,
+        (_, Some(Place::Turned { by, .. })) => by != rd.0 && rd != Register::ZERO,
+        _ => false,
+    }
+}
+
+/// Whether a store to a place leaves the first register as it is.
+fn store_keeps_first(width: Width, place: Option<Place>) -> bool {
+    match (width, place) {
+        (Width::Left | Width::Right, _) => false,
+        (_, Some(Place::Byte { .. })) => true,
+        (Width::Word | Width::Half { .. }, Some(Place::Turned { .. })) => true,
+        _ => false,
+    }
+}
+
+/// Whether the translation of an instruction writes the first register by `constant` alone, so that a number in it is known after it.
+fn keeps_first(instruction: &Instruction, place: Option<Place>) -> bool {
+    match *instruction {
+        Instruction::Compute { rd, .. }
+        | Instruction::Move { rd, .. }
+        | Instruction::Number { rd, .. }
+        | Instruction::Address { rd, .. }
+        | Instruction::FromSpecial { rd, .. }
+        | Instruction::Shift {
+            rd,
+            by: Source::Number(_),
+            ..
+        } => rd != Register::BETWEEN,
+        Instruction::Load { width, rd, .. } => {
+            rd != Register::BETWEEN && load_keeps_first(width, rd, place)
+        }
+        Instruction::Store { width, .. } => store_keeps_first(width, place),
+        Instruction::ToSpecial { .. } | Instruction::Branch { .. } | Instruction::Nop => true,
+        _ => false,
+    }
+}
+
+/// Forgets what the first register holds, unless the translation of a statement keeps it.
+fn forget_first(out: &mut Output, planned: &Planned) {
+    if !keeps_first(&planned.instruction, planned.plan.place) {
+        out.first = None;
+    }
+}
+
+/// Translates what is left of a statement, after the division that it needs.
 fn put_step(
     out: &mut Output,
     program: &Program,
@@ -679,5 +739,8 @@ pub(crate) fn translate_statement(
     if let Some((from, into)) = planned.plan.divided {
         out.statement("asr r%,#2,r%", &[from, into])?;
     }
-    put_step(out, program, function, planned)
+    forget_first(out, planned);
+    put_step(out, program, function, planned)?;
+    forget_first(out, planned);
+    Ok(())
 }

@@ -1,2 +1,2 @@
-main:   li      $2,','
+main:   li      $2,','x
         jr      $31
