@@ -33,7 +33,7 @@ except ImportError:
 LAB = common.program("mx_lab")
 # What a sample takes of the examples, and how few of them there may be at all.
 SAMPLE, FEWEST = ("countdown.s", "echo.s", "full_slots.s"), 8
-COLUMNS = {"count": "executed", "squashed": "squashed", "squashes": "squashes", "cycles": "cycles"}
+COLUMNS = {"count": "executed", "squashed": "squashed", "squashes": "squashes", "penalty": "penalty", "cycles": "cycles"}
 WORD = 1 << 32
 
 
@@ -135,11 +135,17 @@ def check_profile(profile):
     for row in rows:
         parts = sum(row[it] for it in ("count", "stalls", "noops", "squashed", "killed"))
         need(row["cycles"] == parts, f"the columns of {row['name']} make its cycles")
+        need(row["caused"] == row["cycles"] - row["squashed"] + row["penalty"], f"the cycles that {row['name']} causes")
     words = profile["words"]
     own = [it for it in words if it["kind"] != "noop"]
     for column, field in COLUMNS.items():
         told = sum(row[column] for row in profile["rows"])
         need(told == sum(it[field] for it in (own if column == "count" else words)), f"{column} of the rows is that of the words")
+    # a branch causes what is squashed in its two slots
+    squashed = {it["address"]: it["squashed"] for it in words}
+    for it in words:
+        slots = sum(squashed.get(it["address"] + slot, 0) for slot in (1, 2)) if it["squashes"] else 0
+        need(it["penalty"] == slots, f"the penalty of the word at {it['address']:#x}")
     noops = sum(it["executed"] for it in words if it["kind"] == "noop")
     need(noops == sum(row["noops"] for row in profile["rows"]), "the no-ops of the rows are those of the words")
     need(sum(row["cycles"] for row in rows) + profile["waiting"] == profile["counts"]["cycles"], "all cycles are those of the run")

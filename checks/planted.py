@@ -90,6 +90,8 @@ CASES = (
     Case("JSON", "lab_json.py", "a program that fails", "MX_LAB=/bin/false checks/lab_json.py", ("not so: the examples halt",)),
     Case("JSON", "lab_json.py", "false cycles", """
         fake "$MX_LAB" 's/"cycles": *\\([0-9]\\)/"cycles": 9\\1/'; MX_LAB=$fake checks/lab_json.py examples/countdown.s""", ("not so",)),
+    Case("JSON", "lab_json.py", "squashed words that the target causes", """
+        fake "$MX_LAB" 's/"caused": *\\([0-9]\\)/"caused": 9\\1/'; MX_LAB=$fake checks/lab_json.py examples/countdown.s""", ("causes",)),
     Case("JSON", "lab_json.py", "a source that is not there", "checks/lab_json.py none.s", ("none.s: no such file",)),
     Case("JSON", "replay.py", "a false turn of a trace", """
         "$MX_LAB" trace examples/countdown.s >trace; plant trace '9s/"fetch": *[0-9]*/"fetch": 4242/'; checks/replay.py trace""", ("is wanted",)),

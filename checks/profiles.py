@@ -15,8 +15,8 @@ import tempfile
 
 import common
 
-COST = re.compile(r".{6} +(\d+) +(\d+) +(?:\d+\.\d|-) +(?:\d+\.\d\d|-) +(\d+) +(\d+) +(\d+) +(\d+)  (.*)")
-HEAD = ["line", "count", "cycles", "%", "CPI", "stalls", "no-ops", "squashed", "killed", "source"]
+COST = re.compile(r".{6} +(\d+) +(\d+) +(?:\d+\.\d|-) +(\d+) +(?:\d+\.\d\d|-) +(\d+) +(\d+) +(\d+) +(\d+)  (.*)")
+HEAD = ["line", "count", "cycles", "%", "caused", "CPI", "stalls", "no-ops", "squashed", "killed", "source"]
 COUNTS = ("cycles", "fetches", "misses", "squashes", "interrupts")
 WORD = 2**32
 PROGRAMS = {it: common.program(it) for it in ("mx_lab", "mx_run")}
@@ -102,10 +102,10 @@ def profiled(source, text):
     for number, line in enumerate(source.splitlines(), 1):
         row = rows.pop(0)
         found = COST.fullmatch(row)
-        need((found[7] if found else row.lstrip()) == line, "the line of a row", (row, line))
+        need((found[8] if found else row.lstrip()) == line, "the line of a row", (row, line))
         if found:
             need(int(row[:6]) == number, "the number of a row", row)
-            costs[number] = [int(it) for it in found.groups()[:6]]
+            costs[number] = [int(it) for it in found.groups()[:7]]
         if rows[0].strip().startswith("copies at "):
             copies[number] = [it.removeprefix("0x") for it in rows.pop(0).split()[2:]]
     while COST.fullmatch(rows[0]):
@@ -132,6 +132,7 @@ def check(seed, count, folder):
     ran = counts_of(run[1])
     where = f"of gen {seed} {count}"
     compare_sums(costs, named, counts, ran, where)
+    compare_causes(costs, meaning, where)
     # the lines
     executed = {number: meaning.executed.get(number, 0) for number, *_ in meaning.items}
     need({number: cost[0] for number, cost in costs.items()} == executed, f"how often each line is executed {where}")
@@ -150,13 +151,24 @@ def compare_sums(costs, named, counts, ran, where):
     columns = [sum(column) for column in zip(*costs.values(), named["the handler"], named["behind the code"])]
     need(columns == named["together"], f"the sums of the columns {where}")
     # the cycles of a row are those of its other columns
-    for count, cycles, *others in [*costs.values(), *named.values()]:
+    for count, cycles, _, *others in [*costs.values(), *named.values()]:
         need(cycles == count + sum(others), f"the cycles of a row {where}")
-    need(columns[1] + counts["waiting"] == ran["cycles"], f"all cycles {where}")
-    need(columns[1] - columns[2] == ran["fetches"], f"the fetches {where}")
-    need(columns[2] <= 2 * ran["misses"] <= columns[2] + counts["waiting"], f"the stalls {where}")
-    need(columns[3] == counts["noops passed"], f"the no-ops {where}")
-    need(columns[4] <= 2 * ran["squashes"] and (ran["interrupts"] > 0) == (named["the handler"][1] > 0), f"the squashed words {where}")
+    _, cycles, caused, stalls, noops, squashed, _ = columns
+    need(cycles + counts["waiting"] == ran["cycles"], f"all cycles {where}")
+    need(caused == cycles, f"the cycles by what causes them {where}")
+    need(cycles - stalls == ran["fetches"], f"the fetches {where}")
+    need(stalls <= 2 * ran["misses"] <= stalls + counts["waiting"], f"the stalls {where}")
+    need(noops == counts["noops passed"], f"the no-ops {where}")
+    need(squashed <= 2 * ran["squashes"] and (ran["interrupts"] > 0) == (named["the handler"][1] > 0), f"the squashed words {where}")
+
+
+def compare_causes(costs, meaning, where):
+    """Compares what lines cause with what they are: a branch causes at most two squashed words each time, other lines none."""
+    branches = {number for number, name, *_ in meaning.items if name in ("bne", "blt")}
+    for number, (count, cycles, caused, _, _, squashed, killed) in costs.items():
+        penalty = caused - (cycles - squashed)
+        most = 2 * (count + killed) if number in branches else 0
+        need(0 <= penalty <= most, f"what line {number} causes {where}", penalty)
 
 
 def main(words):

@@ -8,6 +8,7 @@ installed. The version has to be that of the file VERSION in every place that ha
 """
 import contextlib
 import io
+import json
 import os
 import pickle
 import re
@@ -187,6 +188,11 @@ def real(tally):
     found = lab.check(b"adi r1,#1,r1\nhalt\n")
     tally.need([(row["line"], row["code"]) for row in found] == [(1, "F3")], "the laboratory's check has a fault with its line")
     tally.need(lab.check(b"halt\n") == [], "and nothing of a source without one")
+    fields = json.loads(read(f"{TOP}/docs/lab.schema.json"))["$defs"]["finding"]["required"]
+    tally.need(len(fields) > 8 and set(fields) == set(found[0]), "it has each field of the schema")
+    caches = lab.caches(b"loop: addi r1,#1,r1\nadd r0,r0,r2\nbeq r1,r2,loop\nhalt\n")
+    tally.need(all(round(row["miss_rate"] * row["fetches"]) == row["misses"] > 0 for row in caches), "each cache has its fetches and its miss rate")
+    tally.need({row["miss_rate"] for row in lab.caches(b"halt\n", budget=1)} == {None}, "which nothing has without a fetch")
     tally.need(raised(Refusal, lambda: lab.profile(b"foo"), ":1:1: error[F3]"), "a faulty source is refused with its line")
     tally.need(len(lab.trace(b"halt\n")) > 2 and lab.plans(b"halt\n", lambda block: None).run.halted, "its trace and plans")
 

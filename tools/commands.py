@@ -75,7 +75,7 @@ COMMANDS = {
         Option("--as", "FORM", "text or json (text)"), LAB_BUDGET, INTERRUPTS, INPUT, OUTPUT)),
     "profile": Command("mx_lab", "SOURCE", "measures what each part of a source costs in a run", (
         Option("--by", "PART", "line, label, function, or c for lines of C (line)"),
-        Option("--sort", "COLUMN", "line, count, cycles, cpi, stalls, noops, squashed or killed (line)"),
+        Option("--sort", "COLUMN", "line, count, cycles, caused, cpi, stalls, noops, squashed or killed (line)"),
         Option("--as", "FORM", "text, json or callgrind (text)"), LAB_BUDGET, INTERRUPTS, INPUT, OUTPUT)),
     "compare": Command("mx_lab", "SOURCE ..", "compares what four schedulers make of sources", (
         Option("--as", "FORM", "text, json or csv (text)"), LAB_BUDGET, INTERRUPTS, INPUT, OUTPUT)),

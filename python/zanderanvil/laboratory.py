@@ -239,7 +239,7 @@ class Laboratory:
         return found[0]
 
     def check(self, source: bytes) -> List[Record]:
-        """The faults and warnings of a source, each with its place, its sentence and what may have been meant."""
+        """The faults and warnings of a source: `file`, `line`, `column`, `end_column`, `severity`, `code`, `name`, `message`, `hint`."""
         status, output, errors = self.answer("check", SOURCE, "--all", "--as", "json", files={SOURCE: source})
         found = _records(output)
         if status not in (DONE, FAULTY) or (status == FAULTY and not found):
@@ -266,9 +266,12 @@ class Laboratory:
         return records
 
     def caches(self, source: bytes, line: int = 16, brings: int = 2, penalty: int = 2, **given: Any) -> List[Record]:
-        """A record for each cache, with the misses and cycles that a run would have with it."""
+        """A record for each cache, with the misses and cycles that a run would have with it, and its `fetches`; `miss_rate` is
+        misses per fetch, None without fetches."""
         options = ("--line", str(line), "--brings", str(brings), "--penalty", str(penalty))
-        return _rows(self.document("caches", source, *options, **given), "caches")
+        document = self.document("caches", source, *options, **given)
+        fetches = document.get("fetches")
+        return [{**row, "fetches": fetches, "miss_rate": row["misses"] / fetches if fetches else None} for row in _rows(document, "caches")]
 
     def interrupts(self, source: bytes, first: int = 0, last: Optional[int] = None, step: int = 1, pairs: bool = False,
                    **given: Any) -> Record:

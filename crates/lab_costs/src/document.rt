@@ -66,6 +66,7 @@ fn write_row(alloc: Global, document: &mut Document, name: &[u8], line: u32, cos
         ("line", u64::from(line)),
         ("count", cost.executed),
         ("cycles", cost.cycles),
+        ("caused", cost.caused()),
         ("stalls", cost.stalls),
     ]);
     document.push_numbers(&[
@@ -73,6 +74,7 @@ fn write_row(alloc: Global, document: &mut Document, name: &[u8], line: u32, cos
         ("squashed", cost.cancelled),
         ("killed", cost.killed),
         ("squashes", cost.squashes),
+        ("penalty", cost.penalty),
     ]);
     document.end_object();
 }
@@ -119,6 +121,7 @@ fn write_word(document: &mut Document, subject: &Subject, place: usize, from: Or
         ("executed", counted(&tally.executed, place)),
         ("squashed", counted(&tally.cancelled, place)),
         ("squashes", counted(&tally.squashes, place)),
+        ("penalty", counted(&tally.penalty, place)),
     ]);
     document.end_object();
 }

@@ -13,7 +13,8 @@ use std::alloc::{AllocError, Global};
 const HEAD: &str = "# callgrind format\nversion: 1\ncreator: mx_lab\n";
 
 /// The columns.
-const EVENTS: &str = "positions: line\nevents: Cycles Executed Stalls Noops Squashed Killed\n";
+const EVENTS: &str =
+    "positions: line\nevents: Cycles Executed Stalls Noops Squashed Killed Caused\n";
 
 /// Where a statement stands in a file.
 #[derive(Clone, Copy)]
@@ -141,7 +142,7 @@ fn push_row(text: &mut Writer, first: u64, rest: &[u64]) {
 }
 
 // The numbers of a cost, by columns.
-fn columns_of(cost: &LineCost) -> [u64; 6] {
+fn columns_of(cost: &LineCost) -> [u64; 7] {
     [
         cost.cycles,
         cost.executed,
@@ -149,6 +150,7 @@ fn columns_of(cost: &LineCost) -> [u64; 6] {
         cost.noops,
         cost.cancelled,
         cost.killed,
+        cost.caused(),
     ]
 }
 

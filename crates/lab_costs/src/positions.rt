@@ -1,5 +1,6 @@
 //! The lines of C that a source was made from, by its comment lines `; FILE:LINE`.
 use crate::spans::{Span, line_spans};
+use indexmap::IndexMap;
 use std::alloc::{AllocError, Global};
 
 /// How many bytes stand before the name of a line of C in a comment line.
@@ -98,17 +99,25 @@ fn told_in(text: &[u8], comment: Span) -> Option<Told> {
     })
 }
 
-// The number of a file, which is added where it is new.
-fn file_number(files: &mut Vec<Span>, text: &[u8], file: Span) -> Result<u32, AllocError> {
-    let name = file.bytes(text);
-    let number = match files.iter().rposition(|known| known.bytes(text) == name) {
-        Some(number) => number,
-        None => {
-            files.push(file)?;
-            files.len().saturating_sub(1)
+/// The files that were told of, and the number of each by its name.
+#[derive(Drop)]
+struct NumberedNames<'a> {
+    names: Vec<Span>,
+    numbers: IndexMap<&'a [u8], u32>,
+}
+
+impl<'a> NumberedNames<'a> {
+    // The number of a file, which is added where it is new.
+    fn number(&mut self, text: &'a [u8], file: Span) -> Result<u32, AllocError> {
+        let name = file.bytes(text);
+        if let Some(number) = self.numbers.get(name) {
+            return Ok(*number);
         }
-    };
-    Ok(u32::try_from(number).unwrap_or(u32::MAX))
+        let number = u32::try_from(self.names.len()).unwrap_or(u32::MAX);
+        self.names.push(file)?;
+        self.numbers.insert(name, number)?;
+        Ok(number)
+    }
 }
 
 // Whether a line begins with the label of a function or a routine. The labels within a function begin with `L` or `_.`.
@@ -120,15 +129,15 @@ fn begins_function(line: &[u8]) -> bool {
 }
 
 // The line of C from a line of the source on, where this is the one before it.
-fn position_from(
-    files: &mut Vec<Span>,
-    text: &[u8],
+fn position_from<'a>(
+    files: &mut NumberedNames<'a>,
+    text: &'a [u8],
     line: Span,
     before: Option<Position>,
 ) -> Result<Option<Position>, AllocError> {
     match told_in(text, line) {
         Some(told) => Ok(Some(Position {
-            file: file_number(files, text, told.file)?,
+            file: files.number(text, told.file)?,
             line: told.line,
             name: told.name,
         })),
@@ -141,11 +150,19 @@ fn position_from(
 /// its function.
 pub(crate) fn positions_of(alloc: Global, text: &[u8]) -> Result<Positions, AllocError> {
     let spans = line_spans(alloc, text)?;
-    let mut positions = Positions::new(alloc);
+    let mut files = NumberedNames {
+        names: Vec::new(alloc),
+        numbers: IndexMap::new(alloc),
+    };
+    let mut lines = Vec::new(alloc);
     let mut position = None;
     for line in spans.iter() {
-        position = position_from(&mut positions.files, text, *line, position)?;
-        positions.lines.push(position)?;
+        position = position_from(&mut files, text, *line, position)?;
+        lines.push(position)?;
     }
-    Ok(positions)
+    let NumberedNames { names, .. } = files;
+    Ok(Positions {
+        files: names,
+        lines,
+    })
 }

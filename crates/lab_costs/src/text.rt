@@ -14,13 +14,14 @@ use mx_turn::Counts;
 use std::alloc::{AllocError, Global};
 
 /// The head of the table, but for what a row is named by.
-const HEAD: &str = "  line     count    cycles      %    CPI   stalls  no-ops squashed  killed  ";
+const HEAD: &str =
+    "  line     count    cycles      %   caused    CPI   stalls  no-ops squashed  killed  ";
 
 /// How wide the column of a line is.
 const LINE: usize = 6;
 
 /// How wide the numbers of a row are together.
-const NUMBERS: usize = 76;
+const NUMBERS: usize = 85;
 
 /// The head of what cycles were spent on.
 const SPENT: &str = "cycles by what they were spent on\n";
@@ -42,7 +43,8 @@ fn push_row(text: &mut Writer, line: u32, cost: &LineCost, all: u64, name: &[u8]
     push_line_column(text, line);
     text.push_columns(&[(cost.executed, 9), (cost.cycles, 9)]);
     push_quotient(text, Ratio::Percent(cost.cycles, all));
-    push_quotient(text, Ratio::Plain(cost.cycles, cost.executed));
+    text.push_columns(&[(cost.caused(), 8)]);
+    push_quotient(text, Ratio::Plain(cost.caused(), cost.executed));
     text.push_columns(&[
         (cost.stalls, 8),
         (cost.noops, 7),

@@ -205,7 +205,7 @@ const PROFILE: [OptionRow; 6] = [
         takes: Takes::Word {
             called: "COLUMN",
             words: &[
-                "line", "count", "cycles", "cpi", "stalls", "noops", "squashed", "killed",
+                "line", "count", "cycles", "caused", "cpi", "stalls", "noops", "squashed", "killed",
             ],
             default: "line",
         },

@@ -21,7 +21,19 @@ const ROW: u64 = 18;
 const HEAD: u64 = 58;
 
 /// The height of the foot.
-const FOOT: u64 = 48;
+const FOOT: u64 = 66;
+
+/// How many stages there are.
+const STAGES: u8 = 5;
+
+/// The number of MEM.
+const MEM: u8 = 3;
+
+/// Where the second column of the foot begins, behind a cell for each stage.
+const SECOND: u64 = 184;
+
+/// Where its words begin.
+const BESIDE: u64 = SECOND + COLUMN + 4;
 
 /// The signs of a row's word at most.
 const WORD: usize = 29;
@@ -34,7 +46,11 @@ const WIDE: u64 = 100_000;
 
 /// The looks of the cells, by their stages and marks.
 fn style() -> &'static str {
-    "<style>text{font:11px monospace;fill:#222}.g{fill:#777}.c text{text-anchor:middle}rect{stroke:#fff}.IF{fill:#cfe2f3}.RF{fill:#d9ead3}.ALU{fill:#fff2cc}.MEM{fill:#f9cb9c}.WB{fill:#d9d2e9}.s{fill:#ddd}.s+text{fill:#888;text-decoration:line-through}.k{fill:#f4b6b6}.q{fill:#f3f3f3;stroke:#bbb;stroke-dasharray:2}.i{fill:#f4b6b6;opacity:.35}.l{stroke:#bbb}</style>\n"
+    r"<style>text{font:11px monospace;fill:#222}.b{fill:#fff}.g{fill:#666}.c text{text-anchor:middle}rect{stroke:#fff}.IF{fill:#cfe2f3}.RF{fill:#d9ead3}.ALU{fill:#fff2cc}.MEM{fill:#f9cb9c}.WB{fill:#d9d2e9}
+.s{fill:#ddd}.s+text{fill:#555;text-decoration:line-through}.k{fill:#f4b6b6}.q{fill:#f3f3f3;stroke:#999;stroke-dasharray:2}.i{fill:#f4b6b6;opacity:.35}.l{stroke:#bbb}
+@media(prefers-color-scheme:dark){text{fill:#ececec}.b{fill:#16181b}.g{fill:#b0b0b0}rect{stroke:#16181b}.IF{fill:#1f435f}.RF{fill:#28492a}.ALU{fill:#55471a}.MEM{fill:#5e3d1b}.WB{fill:#453a63}
+.s{fill:#34373b}.s+text{fill:#b5b5b5}.k{fill:#6b2727}.q{fill:#202327;stroke:#8a8f96}.i{fill:#6b2727;opacity:.6}.l{stroke:#555a60}}</style>
+"
 }
 
 /// Where a column begins.
@@ -226,15 +242,34 @@ fn push_told(text: &mut Writer, subject: &Subject) {
     text.push_str("</desc>\n");
 }
 
+// Appends the cells of the stages in a row, and one that waits.
+fn push_stage_swatches(text: &mut Writer, y: u64) {
+    let mut x = 6;
+    for number in 0..STAGES {
+        push_cell(text, x, y, Cell::Live(number));
+        x = x.saturating_add(COLUMN);
+    }
+    push_cell(text, SECOND, y, Cell::Waits);
+}
+
+// Appends the looks of cells and what they say, in two rows.
+fn push_swatches(text: &mut Writer, y: u64) {
+    let second = y.saturating_add(ROW);
+    text.push_str("<g class=\"c\">");
+    push_stage_swatches(text, y);
+    push_cell(text, 6, second, Cell::Squashed(MEM));
+    push_cell(text, SECOND, second, Cell::Killed(MEM));
+    text.push_str("</g>");
+    let (first_base, second_base) = (y.saturating_add(12), second.saturating_add(12));
+    push_word(text, BESIDE, first_base, "waits for the cache");
+    push_word(text, 6 + COLUMN + 4, second_base, "squashed by a branch");
+    push_word(text, BESIDE, second_base, "killed by an interrupt");
+}
+
 // Appends the foot: what the looks of the cells say, and where the run ends.
 fn push_foot(text: &mut Writer, subject: &Subject, bottom: u64) {
-    push_word(
-        text,
-        6,
-        bottom.saturating_add(18),
-        "stages IF RF ALU MEM WB; dashed: waits for the cache; struck: squashed; red: killed by an interrupt",
-    );
-    push_open(text, 6, bottom.saturating_add(36));
+    push_swatches(text, bottom.saturating_add(6));
+    push_open(text, 6, bottom.saturating_add(58));
     push_ending(text, subject);
     text.push_str(END);
 }
@@ -254,7 +289,7 @@ fn push_front(text: &mut Writer, subject: &Subject, height: u64) {
     );
     push_told(text, subject);
     text.push_str(style());
-    text.push_str("<rect width=\"100%\" height=\"100%\" fill=\"#fff\"/>");
+    text.push_str("<rect class=\"b\" width=\"100%\" height=\"100%\"/>");
 }
 
 // Appends the rows that show something.

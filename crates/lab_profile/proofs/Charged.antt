@@ -5,8 +5,8 @@ use Rattle.mx_turn.specs.declared.latches.Latches.{Latches}
 use Rattle.mx_turn.specs.Counted.{one}
 use Rattle.mx_turn.specs.Program.{Program}
 use Rattle.lab_profile.specs.declared.tally.Tally.{Tally}
-use Rattle.lab_profile.specs.Charges.{place_in, is_live, is_squashed, before, counts_cycle, counts_fetch, counts_squash, waiting}
-use Rattle.lab_profile.specs.Charges.{fetches_at, cycles_at, executed_at, cancelled_at, squashes_at}
+use Rattle.lab_profile.specs.Charges.{place_in, is_live, is_squashed, before, counts_cycle, counts_fetch, counts_squash, waiting, squasher}
+use Rattle.lab_profile.specs.Charges.{fetches_at, cycles_at, executed_at, cancelled_at, squashes_at, penalty_at}
 use Rattle.lab_profile.specs.Tallies.{IsBelow, IsTally}
 
 module _ (p : Program) (requests : List ℕ) (words n : ℕ) (shown : Latches) (s : shown ≡ (before p requests words (suc n)).shown) (old new : List ℕ) where
@@ -28,6 +28,11 @@ module _ (p : Program) (requests : List ℕ) (words n : ℕ) (shown : Latches) (
         → ((k : ℕ) → slice_index old k ≡ cancelled_at p requests words n k) → (k : ℕ) → slice_index new k ≡ cancelled_at p requests words (suc n) k
     cancelled_more added tally k = added k ∙ (λ i. tally k i + one ((g i && is_squashed (s i).mem) && eqb (place_in words (s i).mem) k))
 
+    pub penalty_more : (who : ℕ) → who ≡ squasher p requests words n
+        → ((k : ℕ) → slice_index new k ≡ slice_index old k + one ((fetched && is_squashed shown.mem) && eqb who k))
+        → ((k : ℕ) → slice_index old k ≡ penalty_at p requests words n k) → (k : ℕ) → slice_index new k ≡ penalty_at p requests words (suc n) k
+    penalty_more who w added tally k = added k ∙ (λ i. tally k i + one ((g i && is_squashed (s i).mem) && eqb (w i) k))
+
   pub squashes_more : (squashed : Bool) → squashed ≡ counts_squash p requests words n
       → ((k : ℕ) → slice_index new k ≡ slice_index old k + one (squashed && eqb (place_in words shown.alu) k))
       → ((k : ℕ) → slice_index old k ≡ squashes_at p requests words n k) → (k : ℕ) → slice_index new k ≡ squashes_at p requests words (suc n) k
@@ -45,6 +50,7 @@ nothing_more p requests words n t f q h = record {
   executed = executed_more p requests words n _ refl t.executed.items t.executed.items false f (λ k. none _) h.executed;
   cancelled = cancelled_more p requests words n _ refl t.cancelled.items t.cancelled.items false f (λ k. none _) h.cancelled;
   squashes = squashes_more p requests words n _ refl t.squashes.items t.squashes.items false q (λ k. none _) h.squashes;
+  penalty = penalty_more p requests words n _ refl t.penalty.items t.penalty.items false f _ refl (λ k. none _) h.penalty;
 }
 
 pub below_more : (a b : ℕ) (t : Tally) → a ≤ b → IsBelow a t → IsBelow b t
@@ -54,6 +60,7 @@ below_more a b t l h = record {
   executed = λ k. (let e = h.executed k in omega arith);
   cancelled = λ k. (let e = h.cancelled k in omega arith);
   squashes = λ k. (let e = h.squashes k in omega arith);
+  penalty = λ k. (let e = h.penalty k in omega arith);
 }
 
 charge_small : (b : Bool) (w m : ℕ) → w ≤ m → cond b w 0 ≤ m

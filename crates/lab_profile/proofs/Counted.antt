@@ -1,5 +1,5 @@
 -- A machine counts at most one more of anything in a cycle.
-use Rattle.std.proofs.Common.{◌≡◌, ℕ, suc, ◌+◌, Bool, true, false, List, refl, sym, ap, ◌∙◌, subst, arith, ⊎_elim, ◌⊎◌, inl, inr, Option}
+use Rattle.std.proofs.Common.{◌≡◌, ℕ, suc, ◌+◌, ◌≤◌, Bool, true, false, List, refl, sym, ap, ◌∙◌, subst, arith, ⊎_elim, ◌⊎◌, inl, inr, Option}
 use Rattle.std.specs.Prelude.{eqb, ltb}
 use Rattle.std.proofs.lemmas.Bool.{cases_Bool}
 use Rattle.std.proofs.lemmas.Bool.Decides.{nat_tests}
@@ -28,19 +28,34 @@ pub record Steps (c d : Counted) : Type 0 where
   pub cycles : IsStep c.cycles d.cycles
   pub fetches : IsStep c.fetches d.fetches
   pub squashes : IsStep c.squashes d.squashes
+  -- a cycle is counted with each fetch
+  pub pays : one (ltb c.fetches d.fetches) ≤ one (ltb c.cycles d.cycles)
+
+pub more : (a : ℕ) → ltb a (a + 1) ≡ true
+more a = grind (arith, nat_tests)
+
+pub not_more : (a : ℕ) → ltb a a ≡ false
+not_more a = grind (arith, nat_tests)
+
+pays_none : (a n : ℕ) → one (ltb a a) ≤ n
+pays_none a n = let e : one (ltb a a) ≡ 0 = ap one (not_more a) in omega (arith, e)
+
+pays_one : (a : ℕ) (b : Bool) → one b ≤ one (ltb a (a + 1))
+pays_one a true = let e : one (ltb a (a + 1)) ≡ 1 = ap one (more a) in omega (arith, e)
+pays_one a false = omega arith
 
 one_step : (a : ℕ) (b : Bool) → IsStep a (a + one b)
 one_step a true = inr refl
 one_step a false = inl (omega arith)
 
 still : (c : Counted) → Steps c c
-still c = record { cycles = inl refl; fetches = inl refl; squashes = inl refl }
+still c = record { cycles = inl refl; fetches = inl refl; squashes = inl refl; pays = pays_none c.fetches _ }
 
 stalled : (c : Counted) → Steps c (after_stall c)
-stalled c = record { cycles = inr refl; fetches = inl refl; squashes = inl refl }
+stalled c = record { cycles = inr refl; fetches = inl refl; squashes = inl refl; pays = pays_none c.fetches _ }
 
 turned : (missed squashed taken : Bool) (c : Counted) → Steps c (after_turn missed squashed taken c)
-turned missed squashed taken c = record { cycles = inr refl; fetches = inr refl; squashes = one_step c.squashes squashed }
+turned missed squashed taken c = record { cycles = inr refl; fetches = inr refl; squashes = one_step c.squashes squashed; pays = pays_one c.cycles _ }
 
 pub counts_step : (code : Code) (input : Option (List ℕ)) (m : MachineState) (request : Bool) → Steps m.counts (cycled resident code input m request).counts
 counts_step code input m request = ⊎_elim
@@ -58,12 +73,6 @@ counts_step code input m request = ⊎_elim
 pub run_step : (p : Program) (requests : List ℕ) (n : ℕ) → Steps (state_after p (bits requests n)).counts (state_after p (bits requests (suc n))).counts
 run_step p requests n = subst (λ (m : MachineState). Steps (state_after p (bits requests n)).counts m.counts) (sym (next_state p requests n))
     (counts_step (code_of p) p.input (state_after p (bits requests n)) (is_requested requests n))
-
-more : (a : ℕ) → ltb a (a + 1) ≡ true
-more a = grind (arith, nat_tests)
-
-not_more : (a : ℕ) → ltb a a ≡ false
-not_more a = grind (arith, nat_tests)
 
 -- a stalled cycle is counted, and nothing else
 pub record Stalled (c d : Counted) : Type 0 where

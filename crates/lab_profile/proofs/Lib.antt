@@ -1,5 +1,6 @@
 pub mod Sums
 pub mod Counted
+pub mod Arrived
 pub mod Totals
 pub mod Charged
 pub mod Still

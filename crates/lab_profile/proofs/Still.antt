@@ -8,7 +8,7 @@ use Rattle.mx_turn.specs.Cycle.{MachineState}
 use Rattle.mx_turn.specs.Program.{Program}
 use Rattle.mx_report.proofs.Runs.{state_still, at_end}
 use Rattle.lab_profile.specs.declared.tally.Tally.{Tally}
-use Rattle.lab_profile.specs.Charges.{sum_below, place_in, is_live, is_squashed, before, counts_one, counts_cycle, counts_fetch, counts_squash, waiting}
+use Rattle.lab_profile.specs.Charges.{sum_below, place_in, is_live, is_squashed, before, counts_one, counts_cycle, counts_fetch, counts_squash, waiting, squasher}
 use Rattle.lab_profile.specs.Tallies.{IsBelow, IsTally}
 
 not_more : (a : ℕ) → ltb a a ≡ false
@@ -73,6 +73,10 @@ module _ (p : Program) (requests : List ℕ) (words n : ℕ) (halted : (before p
     squashes = λ k. h.squashes k
         ∙ sym (still (counts_squash p requests words) (λ i. eqb (place_in words (before p requests words (suc i)).shown.alu) k) (λ i. 1)
         (none (λ c. c.squashes)) m l);
+    penalty = λ k. h.penalty k
+        ∙ sym (still (λ i. counts_fetch p requests words i && is_squashed (before p requests words (suc i)).shown.mem)
+        (λ i. eqb (squasher p requests words i) k) (λ i. 1)
+        (both_off (λ i. is_squashed (before p requests words (suc i)).shown.mem)) m l);
   }
 
 no_entry : (xs : List ℕ) (k : ℕ) → slice_index xs k ≤ 0 → slice_index xs k ≡ 0
@@ -86,6 +90,7 @@ no_tally p requests words t none = record {
   executed = λ k. no_entry t.executed.items k (none.executed k);
   cancelled = λ k. no_entry t.cancelled.items k (none.cancelled k);
   squashes = λ k. no_entry t.squashes.items k (none.squashes k);
+  penalty = λ k. no_entry t.penalty.items k (none.penalty k);
 }
 
 -- the tally at the end of a budget is that of the cycles until the machine halts

@@ -1,5 +1,5 @@
 -- Sums below a number.
-use Rattle.std.proofs.Common.{◌≡◌, ℕ, zero, suc, ◌+◌, ◌<◌, Bool, cond, eqb, ◌&&◌, refl, sym, ap, ◌∙◌, arith, ⊎_elim}
+use Rattle.std.proofs.Common.{◌≡◌, ℕ, zero, suc, ◌+◌, ◌-◌, ◌<◌, ◌≤◌, Bool, cond, eqb, ◌&&◌, refl, sym, ap, ◌∙◌, arith, ⊎_elim}
 use Rattle.std.proofs.lemmas.Bool.{cases_eq}
 use Rattle.std.proofs.lemmas.Bool.Decides.{nat_tests}
 use Rattle.lab_profile.specs.Charges.{sum_below}
@@ -15,6 +15,11 @@ sum_none f (suc n) none = let rest = sum_none f n (λ k l. none k (omega arith))
 pub sum_same : (f g : ℕ → ℕ) (n : ℕ) → ((k : ℕ) → k < n → f k ≡ g k) → sum_below f n ≡ sum_below g n
 sum_same f g zero same = refl
 sum_same f g (suc n) same = let rest = sum_same f g n (λ k l. same k (omega arith)) in let last = same n (omega arith) in omega arith
+
+-- what is taken from each of some numbers, and what is added to it
+pub sum_moved : (f g h : ℕ → ℕ) (n : ℕ) → ((k : ℕ) → g k ≤ f k) → sum_below (λ k. (f k - g k) + h k) n + sum_below g n ≡ sum_below f n + sum_below h n
+sum_moved f g h zero few = refl
+sum_moved f g h (suc n) few = let rest = sum_moved f g h n few in let last = few n in omega (arith, rest, last)
 
 off : (b : Bool) (i w k : ℕ) → (i ≡ k → ⊥) → cond (b && eqb i k) w 0 ≡ 0
 off b i w k ne = grind (arith, nat_tests)

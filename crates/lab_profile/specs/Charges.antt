@@ -86,11 +86,26 @@ module _ (p : Program) (requests : List ℕ) (words : ℕ) where
   abbrev pub squashes_at : ℕ → ℕ → ℕ
   squashes_at budget k = sum_below (λ n. one (counts_squash n && is_at k (before (suc n)).shown.alu)) budget
 
+  -- the place of the branch that squashed last before cycle n; before the first one, what lies behind the code
+  abbrev pub squasher : ℕ → ℕ
+  squasher zero = words + 1
+  squasher (suc n) = cond (counts_squash n) (place_in words (before (suc n)).shown.alu) (squasher n)
+
+  -- the penalty of a place: how many squashed words were in MEM that a branch of the place had squashed
+  abbrev pub penalty_at : ℕ → ℕ → ℕ
+  penalty_at budget k =
+      sum_below (λ n. one ((counts_fetch n && is_squashed (before (suc n)).shown.mem) && eqb (squasher n) k)) budget
+
+  -- how many cycles the place causes: those of its fetches, but each that ends squashed is one of the branch that squashed it
+  abbrev pub caused_at : ℕ → ℕ → ℕ
+  caused_at budget k = (cycles_at budget k - cancelled_at budget k) + penalty_at budget k
+
 -- the sums over all places are the counts of the run
 pub record SumsAreCounts (p : Program) (requests : List ℕ) (words budget : ℕ) : Type 0 where
   pub fetches : sum_below (fetches_at p requests words budget) (places words) ≡ (run_of p requests budget).counts.fetches
   -- the cycles that were stalled before a fetch that the budget cut off are waiting
   pub cycles : sum_below (cycles_at p requests words budget) (places words) + waiting p requests words budget ≡ (run_of p requests budget).counts.cycles
+  pub caused : sum_below (caused_at p requests words budget) (places words) + waiting p requests words budget ≡ (run_of p requests budget).counts.cycles
   pub squashes : sum_below (squashes_at p requests words budget) (places words) ≡ (run_of p requests budget).counts.squashes
 
 abbrev pub EachSumIsItsCount : Type 0

@@ -4,7 +4,7 @@ use Rattle.mx_turn.specs.Program.{Program}
 use Rattle.mx_turn.specs.Run.{run_of}
 use Rattle.lab_profile.specs.declared.tally.Tally.{Tally}
 use Rattle.lab_profile.specs.declared.tally.Profile.{Profile}
-use Rattle.lab_profile.specs.Charges.{places, waiting, fetches_at, cycles_at, executed_at, cancelled_at, squashes_at}
+use Rattle.lab_profile.specs.Charges.{places, waiting, fetches_at, cycles_at, executed_at, cancelled_at, squashes_at, penalty_at}
 
 -- each list has an entry a place
 pub record HasPlaces (words : ℕ) (t : Tally) : Type 0 where
@@ -13,6 +13,7 @@ pub record HasPlaces (words : ℕ) (t : Tally) : Type 0 where
   pub executed : length t.executed.items ≡ places words
   pub cancelled : length t.cancelled.items ≡ places words
   pub squashes : length t.squashes.items ≡ places words
+  pub penalty : length t.penalty.items ≡ places words
 
 -- no entry is greater
 pub record IsBelow (most : ℕ) (t : Tally) : Type 0 where
@@ -21,6 +22,7 @@ pub record IsBelow (most : ℕ) (t : Tally) : Type 0 where
   pub executed : (k : ℕ) → slice_index t.executed.items k ≤ most
   pub cancelled : (k : ℕ) → slice_index t.cancelled.items k ≤ most
   pub squashes : (k : ℕ) → slice_index t.squashes.items k ≤ most
+  pub penalty : (k : ℕ) → slice_index t.penalty.items k ≤ most
 
 -- the entries are those of the first cycles of a program's run
 pub record IsTally (p : Program) (requests : List ℕ) (words budget : ℕ) (t : Tally) : Type 0 where
@@ -29,6 +31,7 @@ pub record IsTally (p : Program) (requests : List ℕ) (words budget : ℕ) (t :
   pub executed : (k : ℕ) → slice_index t.executed.items k ≡ executed_at p requests words budget k
   pub cancelled : (k : ℕ) → slice_index t.cancelled.items k ≡ cancelled_at p requests words budget k
   pub squashes : (k : ℕ) → slice_index t.squashes.items k ≡ squashes_at p requests words budget k
+  pub penalty : (k : ℕ) → slice_index t.penalty.items k ≡ penalty_at p requests words budget k
 
 -- the profile is that of a program's run within a budget, charged to the places of a code of so many words
 pub record IsProfile (p : Program) (requests : List ℕ) (words budget : ℕ) (r : Profile) : Type 0 where

@@ -11,6 +11,8 @@ pub enum Column {
     Line,
     Count,
     Cycles,
+    /// The cycles that it causes.
+    Caused,
     Cpi,
     Stalls,
     Noops,
@@ -30,8 +32,9 @@ impl Column {
             Column::Line => 0,
             Column::Count => cost.executed,
             Column::Cycles => cost.cycles,
+            Column::Caused => cost.caused(),
             Column::Cpi => {
-                let parts = cost.cycles.saturating_mul(PARTS);
+                let parts = cost.caused().saturating_mul(PARTS);
                 parts.checked_div(cost.executed).unwrap_or(0)
             }
             Column::Stalls => cost.stalls,

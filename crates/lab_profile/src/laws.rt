@@ -2,8 +2,8 @@
 ghost use Rattle.lab_profile.specs.Charges.{EachSumIsItsCount};
 ghost use Rattle.lab_profile.specs.Lines.{LinesFollowStatements};
 
-/// The fetches, the cycles and the squashes that are charged to all places, the handler's among them, are those that the
-/// run counts.
+/// The fetches, the cycles, also by what causes them, and the squashes that are charged to all places, the handler's among
+/// them, are those that the run counts.
 pub fn sums_are_counts()
     ensures { EachSumIsItsCount }
 {}

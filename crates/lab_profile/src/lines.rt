@@ -1,7 +1,7 @@
 //! The costs of the words of a code, gathered by the statements that they come from.
 ghost use Rattle.std.specs.Prelude.{◌≡◌, ◌<◌, ◌+◌, ℕ, cond, eqb, IfOk, length, slice_index};
 ghost use Rattle.mx_link.specs.Gathered.{is_of};
-ghost use Rattle.lab_profile.specs.Lines.{saturated, executed_of, executed_together, CountsStatements};
+ghost use Rattle.lab_profile.specs.Lines.{saturated, caused_in, executed_of, executed_together, penalty_of, penalty_together, CountsStatements, ChargesStatements};
 
 use crate::tally::Tally;
 use mx_link::Origin;
@@ -25,6 +25,8 @@ pub struct LineCost {
     pub killed: u64,
     /// How often its branch squashed the words in its slots.
     pub squashes: u64,
+    /// How many words that its branch had squashed were in MEM, each a cycle that it causes.
+    pub penalty: u64,
 }
 
 /// No cost.
@@ -36,12 +38,14 @@ pub(crate) const NO_COST: LineCost = LineCost {
     cancelled: 0,
     killed: 0,
     squashes: 0,
+    penalty: 0,
 };
 
 impl LineCost {
     /// Both costs.
     pub fn plus(self, other: LineCost) -> LineCost
-        ensures { result.executed ≡ saturated (self.executed + other.executed) }
+        ensures executed { result.executed ≡ saturated (self.executed + other.executed) }
+        ensures penalty { result.penalty ≡ saturated (self.penalty + other.penalty) }
     {
         LineCost {
             executed: self.executed.saturating_add(other.executed),
@@ -51,7 +55,17 @@ impl LineCost {
             cancelled: self.cancelled.saturating_add(other.cancelled),
             killed: self.killed.saturating_add(other.killed),
             squashes: self.squashes.saturating_add(other.squashes),
+            penalty: self.penalty.saturating_add(other.penalty),
         }
+    }
+
+    /// The cycles that it causes: those of its words but the squashed ones, which are the penalty of the branch that squashed them.
+    pub fn caused(&self) -> u64
+        ensures { result ≡ caused_in self.now }
+    {
+        self.cycles
+            .saturating_sub(self.cancelled)
+            .saturating_add(self.penalty)
     }
 }
 
@@ -65,9 +79,10 @@ fn entry(list: &[u64], at: usize) -> u64
     }
 }
 
-/// What a place cost beside what was executed there.
+/// What a place cost beside what was executed there, and the penalty of its branch.
 fn cost_beside(tally: &Tally, place: usize) -> LineCost
-    ensures { result.executed ≡ 0 }
+    ensures executed { result.executed ≡ 0 }
+    ensures penalty { result.penalty ≡ 0 }
 {
     let cycles = entry(tally.cycles.as_slice(), place);
     let fetches = entry(tally.fetches.as_slice(), place);
@@ -85,10 +100,12 @@ fn cost_beside(tally: &Tally, place: usize) -> LineCost
 
 /// What a place cost that is no word of a statement: the handler, or what lies behind the code.
 pub fn cost_at(tally: &Tally, place: usize) -> LineCost
-    ensures { result.executed ≡ slice_index tally.now.executed.items place }
+    ensures executed { result.executed ≡ slice_index tally.now.executed.items place }
+    ensures penalty { result.penalty ≡ slice_index tally.now.penalty.items place }
 {
     LineCost {
         executed: entry(tally.executed.as_slice(), place),
+        penalty: entry(tally.penalty.as_slice(), place),
         ..cost_beside(tally, place)
     }
 }
@@ -98,6 +115,8 @@ pub(crate) fn add(costs: &mut Vec<LineCost>, statement: u32, cost: LineCost)
     ensures size { length costs.new.items ≡ length costs.old.items }
     ensures executed { (i n : ℕ) → i < length costs.old.items → executed_of costs.old.items i ≡ saturated n
         → executed_of costs.new.items i ≡ saturated (n + cond (eqb statement i) cost.executed 0) }
+    ensures penalty { (i n : ℕ) → i < length costs.old.items → penalty_of costs.old.items i ≡ saturated n
+        → penalty_of costs.new.items i ≡ saturated (n + cond (eqb statement i) cost.penalty 0) }
 {
     let at = statement as usize;
     if at < costs.len() {
@@ -107,19 +126,19 @@ pub(crate) fn add(costs: &mut Vec<LineCost>, statement: u32, cost: LineCost)
 
 /// The statement that a word of the code comes from, or for a no-op its owner, and what the word cost it.
 fn word_cost(tally: &Tally, place: usize, from: Origin, owner: u32) -> (u32, LineCost)
-    ensures { (i : ℕ) → cond (eqb result.0 i) result.1.executed 0 ≡ cond (is_of i from) (slice_index tally.now.executed.items place) 0 }
+    ensures executed { (i : ℕ) → cond (eqb result.0 i) result.1.executed 0 ≡ cond (is_of i from) (slice_index tally.now.executed.items place) 0 }
+    ensures penalty { (i : ℕ) → cond (eqb result.0 i) result.1.penalty 0 ≡ cond (is_of i from) (slice_index tally.now.penalty.items place) 0 }
 {
-    let executed = entry(tally.executed.as_slice(), place);
-    let beside = cost_beside(tally, place);
     match from {
-        Origin::Own(i) | Origin::Copy(i) => (i, LineCost { executed, ..beside }),
-        Origin::Pad => (
-            owner,
-            LineCost {
-                noops: executed,
-                ..beside
-            },
-        ),
+        Origin::Own(i) | Origin::Copy(i) => (i, cost_at(tally, place)),
+        Origin::Pad => {
+            let noops = entry(tally.executed.as_slice(), place);
+            let cost = LineCost {
+                noops,
+                ..cost_beside(tally, place)
+            };
+            (owner, cost)
+        }
     }
 }
 
@@ -128,6 +147,8 @@ fn add_word(costs: &mut Vec<LineCost>, tally: &Tally, place: usize, from: Origin
     ensures size { length costs.new.items ≡ length costs.old.items }
     ensures executed { (i n : ℕ) → i < length costs.old.items → executed_of costs.old.items i ≡ saturated n
         → executed_of costs.new.items i ≡ saturated (n + cond (is_of i from) (slice_index tally.now.executed.items place) 0) }
+    ensures penalty { (i n : ℕ) → i < length costs.old.items → penalty_of costs.old.items i ≡ saturated n
+        → penalty_of costs.new.items i ≡ saturated (n + cond (is_of i from) (slice_index tally.now.penalty.items place) 0) }
 {
     let (statement, cost) = word_cost(tally, place, from, owner);
     add(costs, statement, cost);
@@ -151,6 +172,7 @@ pub fn line_costs(
 ) -> Result<Vec<LineCost>, AllocError>
     ensures size { IfOk result (λ costs. length costs.items ≡ statements) }
     ensures executed { IfOk result (λ costs. CountsStatements statements origin.now tally.now costs.items) }
+    ensures penalty { IfOk result (λ costs. ChargesStatements statements origin.now tally.now costs.items) }
 {
     let mut costs = vec![in alloc; NO_COST; statements]?;
     let mut owner = 0;
@@ -164,7 +186,8 @@ pub fn line_costs(
 
 /// All costs together.
 pub fn total(costs: &[LineCost]) -> LineCost
-    ensures { result.executed ≡ saturated (executed_together costs.now) }
+    ensures executed { result.executed ≡ saturated (executed_together costs.now) }
+    ensures penalty { result.penalty ≡ saturated (penalty_together costs.now) }
 {
     let mut sum = NO_COST;
     for cost in costs {

@@ -2,10 +2,10 @@
 ghost use Rattle.std.specs.Prelude.{◌≡◌, ◌≤◌, ◌<◌, ◌+◌, ◌*◌, ◌^◌, ◌++◌, ◌∷◌, [], suc, List, ℕ, Bool, false, OnOk, IfOk};
 ghost use Rattle.mx_turn.specs.Program.{Program, state_after, answer_after};
 ghost use Rattle.mx_turn.specs.Run.{is_requested, bits};
-ghost use Rattle.lab_profile.specs.Charges.{waiting};
+ghost use Rattle.lab_profile.specs.Charges.{waiting, squasher};
 ghost use Rattle.lab_profile.specs.Tallies.{HasPlaces, IsBelow, IsTally, IsProfile};
 
-use crate::tally::{Profile, Tally, squashed_between};
+use crate::tally::{Profile, Tally, squashed_between, squasher_after};
 use mx_board::Requests;
 use mx_io::Memory;
 use mx_report::{Observer, observe};
@@ -24,6 +24,8 @@ struct Progress {
     tally: Tally,
     /// The cycles since the last fetch.
     waiting: u64,
+    /// The place of the branch that squashed last.
+    squasher: usize,
 }
 
 /// One cycle, the first being 0, with what is charged for it.
@@ -39,20 +41,26 @@ fn charge_cycle<M: Machine>(
     requires sizes { HasPlaces words progress.old.tally }
     requires small { IsBelow (cycle * 2 ^ 32) progress.old.tally }
     requires waiting { progress.old.waiting ≤ cycle }
+    requires squasher { progress.old.squasher < words + 2 }
     requires last { cycle + 1 < 2 ^ 32 }
     ensures sizes { HasPlaces words progress.new.tally }
     ensures small { IsBelow (suc cycle * 2 ^ 32) progress.new.tally }
     ensures waiting { progress.new.waiting ≤ suc cycle }
+    ensures squasher { progress.new.squasher < words + 2 }
     ensures answer { (p : Program) (h : List Bool) → M.stands machine.old p h → result ≡ answer_after p h request }
     ensures next { (p : Program) (h : List Bool) → M.stands machine.old p h → M.stands machine.new p (h ++ request ∷ []) }
     ensures cycles { M.cycles machine.new ≤ M.cycles machine.old + 1 }
     ensures tally { (p : Program) (requests : List ℕ) → request ≡ is_requested requests cycle → M.stands machine.old p (bits requests cycle)
         → (state_after p (bits requests cycle)).halted ≡ false
         → IsTally p requests words cycle progress.old.tally → progress.old.waiting ≡ waiting p requests words cycle
+        → progress.old.squasher ≡ squasher p requests words cycle
         → IsTally p requests words (suc cycle) progress.new.tally }
     ensures still_waiting { (p : Program) (requests : List ℕ) → request ≡ is_requested requests cycle → M.stands machine.old p (bits requests cycle)
         → (state_after p (bits requests cycle)).halted ≡ false
         → progress.old.waiting ≡ waiting p requests words cycle → progress.new.waiting ≡ waiting p requests words (suc cycle) }
+    ensures last_squasher { (p : Program) (requests : List ℕ) → request ≡ is_requested requests cycle → M.stands machine.old p (bits requests cycle)
+        → (state_after p (bits requests cycle)).halted ≡ false
+        → progress.old.squasher ≡ squasher p requests words cycle → progress.new.squasher ≡ squasher p requests words (suc cycle) }
 {
     let before = machine.counts();
     let cycled = machine.cycle(request);
@@ -62,9 +70,10 @@ fn charge_cycle<M: Machine>(
     }
     let squashed = squashed_between(&before, &machine.counts());
     let took = progress.waiting + 1;
-    progress
-        .tally
-        .charge(words, took, squashed, &machine.latches());
+    let shown = machine.latches();
+    let branch = progress.squasher;
+    progress.tally.charge(words, took, squashed, branch, &shown);
+    progress.squasher = squasher_after(words, squashed, shown.alu, branch);
     progress.waiting = 0;
     cycled
 }
@@ -73,10 +82,12 @@ impl<M: Machine> Observer<M> for Charger {
     type Notes = Progress;
 
     ghost saw = { λ charger progress p requests n.
-        IsTally p requests charger.words n progress.tally × (progress.waiting ≡ waiting p requests charger.words n) };
+        IsTally p requests charger.words n progress.tally × (progress.waiting ≡ waiting p requests charger.words n)
+        × (progress.squasher ≡ squasher p requests charger.words n) };
 
     ghost fits = { λ charger progress n.
-        (charger.words < 2 ^ 32) × HasPlaces charger.words progress.tally × IsBelow (n * 2 ^ 32) progress.tally × (progress.waiting ≤ n) };
+        (charger.words < 2 ^ 32) × HasPlaces charger.words progress.tally × IsBelow (n * 2 ^ 32) progress.tally × (progress.waiting ≤ n)
+        × (progress.squasher < charger.words + 2) };
 
     ghost enough = { λ charger progress. false };
 
@@ -114,12 +125,16 @@ pub fn profile<M: Machine>(
         return Err(Memory);
     };
     let charger = Charger { words };
-    let mut progress = Progress { tally, waiting: 0 };
+    let mut progress = Progress {
+        tally,
+        waiting: 0,
+        squasher: words + 1,
+    };
     let reached = match observe(machine, requests, 0, budget, &charger, &mut progress) {
         Ok(reached) => reached,
         Err(_) => return Err(Memory),
     };
-    let Progress { tally, waiting } = progress;
+    let Progress { tally, waiting, .. } = progress;
     Ok(Profile {
         tally,
         waiting,

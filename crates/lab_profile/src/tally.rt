@@ -20,6 +20,8 @@ pub struct Tally {
     pub cancelled: Vec<u64>,
     /// How often its branch squashed.
     pub squashes: Vec<u64>,
+    /// The penalty of its branch: how many words that it had squashed were in MEM.
+    pub penalty: Vec<u64>,
 }
 
 /// What a run cost.
@@ -122,6 +124,32 @@ fn add_rarely_if(table: &mut Vec<u64>, when: bool, words: usize, stage: Stage)
     }
 }
 
+/// Adds one to the entry of a place, where something is so.
+fn add_at_if(table: &mut Vec<u64>, when: bool, at: usize)
+    requires within { at < length table.old.items }
+    requires room { slice_index table.old.items at + 1 < 2 ^ 64 }
+    ensures size { length table.new.items ≡ length table.old.items }
+    ensures added { (k : ℕ) → slice_index table.new.items k ≡ slice_index table.old.items k + one (when && eqb at k) }
+{
+    if when {
+        add(table, at, 1);
+    }
+}
+
+/// The place of the branch that squashed last, after a turn that shows this stage in ALU and squashed or not.
+pub(crate) fn squasher_after(words: usize, squashed: bool, alu: Stage, before: usize) -> usize
+    requires words { words < 2 ^ 32 }
+    requires before { before < words + 2 }
+    ensures place { result ≡ cond squashed (place_in words alu) before }
+    ensures within { result < words + 2 }
+{
+    if squashed {
+        place_in(words, alu)
+    } else {
+        before
+    }
+}
+
 fn is_live(stage: Stage) -> bool
     ensures { result ≡ is_live stage }
 {
@@ -155,15 +183,25 @@ impl Tally {
             executed: no_charges(alloc, places)?,
             cancelled: no_charges(alloc, places)?,
             squashes: no_charges(alloc, places)?,
+            penalty: no_charges(alloc, places)?,
         })
     }
 
-    /// Charges a turn that shows these stages. It took so many cycles, with the stalled ones before it, and squashed or not.
-    pub(crate) fn charge(&mut self, words: usize, took: u64, squashed: bool, shown: &Latches)
+    /// Charges a turn that shows these stages. It took so many cycles, with the stalled ones before it, and squashed or not. The
+    /// branch at `squasher` squashed last before it.
+    pub(crate) fn charge(
+        &mut self,
+        words: usize,
+        took: u64,
+        squashed: bool,
+        squasher: usize,
+        shown: &Latches,
+    )
         requires words { words < 2 ^ 32 }
         requires sizes { HasPlaces words self.old }
         requires small { IsBelow (2 ^ 64 - 2 ^ 33) self.old }
         requires took { took < 2 ^ 32 }
+        requires squasher { squasher < words + 2 }
         ensures sizes { HasPlaces words self.new }
         ensures fetches { (k : ℕ) → slice_index self.new.fetches.items k ≡ slice_index self.old.fetches.items k
             + one (eqb (place_in words shown.now.fetch) k) }
@@ -175,6 +213,8 @@ impl Tally {
             + one (is_squashed shown.now.mem && eqb (place_in words shown.now.mem) k) }
         ensures squashes { (k : ℕ) → slice_index self.new.squashes.items k ≡ slice_index self.old.squashes.items k
             + one (squashed && eqb (place_in words shown.now.alu) k) }
+        ensures penalty { (k : ℕ) → slice_index self.new.penalty.items k ≡ slice_index self.old.penalty.items k
+            + one (is_squashed shown.now.mem && eqb squasher k) }
     {
         add_rarely_if(&mut self.squashes, squashed, words, shown.alu);
         let fetched = place_in(words, shown.fetch);
@@ -187,5 +227,6 @@ impl Tally {
             words,
             shown.mem,
         );
+        add_at_if(&mut self.penalty, is_squashed(shown.mem), squasher);
     }
 }

@@ -26,7 +26,7 @@ static PARTS: [WordRow<By>; 3] = [
 ];
 
 // The columns beside the order of the source.
-static COLUMNS: [WordRow<Column>; 7] = [
+static COLUMNS: [WordRow<Column>; 8] = [
     WordRow {
         word: "count",
         means: Column::Count,
@@ -34,6 +34,10 @@ static COLUMNS: [WordRow<Column>; 7] = [
     WordRow {
         word: "cycles",
         means: Column::Cycles,
+    },
+    WordRow {
+        word: "caused",
+        means: Column::Caused,
     },
     WordRow {
         word: "cpi",

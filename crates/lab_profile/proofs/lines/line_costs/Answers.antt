@@ -1,4 +1,5 @@
 use Rattle.std.proofs.Common.{slice_index, ◌∙◌, arith}
+use Rattle.lab_profile.specs.Lines.{executed_of, penalty_of}
 use Rattle.lab_profile.proofs.Gathered.{gathers_more, gathers_all}
 use Rattle.lab_profile.proofs.lines.line_costs.Goals as goal
 
@@ -9,11 +10,20 @@ loop-place-preserved c =
       size = c.add_word.ensures.size ∙ size;
       executed = λ i h.
           let (n, e, f) = c.loop-place.invariant.executed i h in
-          gathers_more (slice_index c.args.tally.now.executed.items) i c.args.origin.now c.loop-place.place n _ c.add_word.new.costs.items
+          gathers_more executed_of (slice_index c.args.tally.now.executed.items) i c.args.origin.now c.loop-place.place n _ c.add_word.new.costs.items
           c.loop-place-test.true (c.add_word.ensures.executed i n (omega (arith, h, size)) e) f;
+      penalty = λ i h.
+          let (n, e, f) = c.loop-place.invariant.penalty i h in
+          gathers_more penalty_of (slice_index c.args.tally.now.penalty.items) i c.args.origin.now c.loop-place.place n _ c.add_word.new.costs.items
+          c.loop-place-test.true (c.add_word.ensures.penalty i n (omega (arith, h, size)) e) f;
     }
 
 pub returns-clause-executed : goal.returns-clause-executed
 returns-clause-executed c i h =
-    gathers_all (slice_index c.args.tally.now.executed.items) i c.args.origin.now c.loop-place.place c.loop-place.costs.items
+    gathers_all executed_of (slice_index c.args.tally.now.executed.items) i c.args.origin.now c.loop-place.place c.loop-place.costs.items
     c.loop-place-test.false (c.loop-place.invariant.executed i h)
+
+pub returns-clause-penalty : goal.returns-clause-penalty
+returns-clause-penalty c i h =
+    gathers_all penalty_of (slice_index c.args.tally.now.penalty.items) i c.args.origin.now c.loop-place.place c.loop-place.costs.items
+    c.loop-place-test.false (c.loop-place.invariant.penalty i h)
