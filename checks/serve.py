@@ -860,6 +860,7 @@ def try_page(bench, url):
     try_help(bench)
     try_experiment(bench)
     try_sides(bench)
+    try_schedulers(bench)
     try_modules(bench)
     try_plans(bench)
     type_source(bench, SORT)
@@ -919,6 +920,25 @@ def try_killed(bench):
     tell("a squashed word is held as such", squashed and all("squashed" in told[it][1] for it in squashed), (signs, told))
     put(bench, "interrupts", "")
     settled(bench)
+
+
+def try_schedulers(bench):
+    """The run by padded plans beside that by copies, from the comparison, with the first cycle in which the stages differ."""
+    type_source(bench, SORT)
+    settled(bench)
+    bench.ask("document.getElementById('compare').click()")
+    offered = "[...document.querySelectorAll('#compared button')].length"
+    tell("three schedulers are offered beside copies", wait_for(bench, f"{offered} === 3", 60), bench.ask(offered))
+    bench.ask("document.querySelector('#compared button').click()")
+    wait_for(bench, "document.querySelector('#side-view table') !== null && document.getElementById('diverged').textContent.includes('last cycle')", 60)
+    drawn = [json.loads(printed(SORT, "draw", "--cycles", "400", "--scheduler", it, "--as", "json")) for it in ("padded", "copies")]
+    wanted = next(k for k in range(400) if held_in(drawn[0], k) != held_in(drawn[1], k))
+    told = bench.ask("document.getElementById('diverged').textContent")
+    tell("padded and copies diverge where draw says", f"They diverge in cycle {wanted}." in told, (wanted, told))
+    tell("each has the last cycle that draw says", all(f"plans of {it['scheduler']}, the last cycle {it['halts']}" in told for it in drawn), told)
+    heads = bench.ask("[...document.querySelectorAll('#side-view th')].slice(1, 11).map(it => it.textContent)")
+    tell("the columns name the plans", heads[0] == "padded IF" and heads[5] == "copies IF", heads)
+    bench.ask("document.getElementById('side-close').click()")
 
 
 def try_low_screen(url):
