@@ -873,6 +873,7 @@ def try_page(bench, url):
     try_link(bench, url)
     try_long(bench)
     try_bad_input(bench)
+    try_many_lines(bench)
     put(bench, "budget", 1_000_000)
     if bench.ask("given.missing === null"):
         try_c(bench)
@@ -976,6 +977,21 @@ def try_server_back():
                 bench.open(again + kept)
                 held = settled(bench) and bench.ask("document.getElementById('source').value") == SORT
                 tell("and at its address the exercise runs", held and not bench.faults, bench.faults)
+
+
+def try_many_lines(bench):
+    """A text of more lines than the editor draws without standing still is refused in words, and the one before stays and runs."""
+    type_source(bench, SORT)
+    settled(bench)
+    bench.ask("""(it => {
+      const held = new DataTransfer();
+      held.setData('text/plain', 'nop\\n'.repeat(1000000));
+      it.dispatchEvent(new ClipboardEvent('paste', { clipboardData: held, cancelable: true }));
+    })(document.getElementById('source'))""")
+    told = bench.ask("[document.getElementById('found').textContent, document.getElementById('source').value]")
+    tell("a text of 1,000,000 lines is refused in words", "at most 100000 lines" in told[0] and told[1] == SORT, told[0])
+    bench.ask("document.getElementById('run').click()")
+    tell("and the one before runs", settled(bench) and "the run halts" in bench.ask("document.getElementById('end').textContent"))
 
 
 WORKED, MOST_PAGE = 16, 500_000  # milliseconds of a step without waiting for a processor; bytes of the page
