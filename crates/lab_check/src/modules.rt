@@ -52,6 +52,7 @@ struct Found<'a> {
 }
 
 // Texts to be joined.
+#[tactic(auto, using(lab_faults::proofs::Marks::push_more))]
 fn joiner_of(alloc: Global, modules: &[&[u8]]) -> Result<Joiner, Memory>
     requires few { length modules.now ≤ 16 }
     ensures { IfOk result (λ j. j ≡ texts modules.now) }

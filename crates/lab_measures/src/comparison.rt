@@ -19,7 +19,7 @@ use std::alloc::Global;
 
 /// Proposes the padded plan.
 #[derive(Clone, Copy)]
-pub struct PaddedProposer;
+struct PaddedProposer;
 
 impl Proposer for PaddedProposer {
     ghost use Rattle.mx_validate.specs.Padded.{IsPadded};

@@ -15,7 +15,7 @@ mod spread;
 mod sums;
 mod sweep;
 
-pub use comparison::{Comparison, Conditions, PaddedProposer, compare};
+pub use comparison::{Comparison, Conditions, compare};
 pub use cycles::{Span, cycles_in};
 pub use figures::Figures;
 pub use machine::{Ran, run_machine};

@@ -1,18 +1,38 @@
 //! The schedulers whose plans a source is linked by.
 ghost use Rattle.std.specs.Prelude.{◌≡◌, false, IfOk, IfErr};
+ghost use Rattle.mx_blocks.specs.declared.block.Block.{Block};
+ghost use Rattle.mx_blocks.specs.declared.block.Plan.{Plan};
+ghost use Rattle.mx_validate.specs.Padded.{IsPadded};
 ghost use Rattle.lab_runs.specs.Schedulers.{board, proposes, fills, IsLinked, IsRefusal, IsLinkedSource, IsLinkedBy, is_chosen};
 
 use crate::replies::unlinked;
 use cmd_answer::Failure;
 use cmd_source::Program;
 use lab_line::{Asked, RunCommand, WordRow, meant_by};
-use lab_measures::PaddedProposer;
 use mx_best::BestProposer;
+use mx_blocks::{Block, Plan};
 use mx_isa::BOARD;
 use mx_link::{LinkError, Linked, link, link_plain};
 use mx_reorg::ListProposer;
 use mx_source::Source;
+use mx_validate::{Proposer, padded};
 use std::alloc::Global;
+
+/// Proposes the padded plan.
+#[derive(Clone, Copy)]
+struct PaddedProposer;
+
+impl Proposer for PaddedProposer {
+    ghost use Rattle.mx_validate.specs.Padded.{IsPadded};
+
+    ghost proposes = { λ block plan. IsPadded block plan };
+
+    fn propose(&mut self, block: &Block) -> Plan
+        ensures { IsPadded block.now result }
+    {
+        padded(block)
+    }
+}
 
 /// A scheduler, as `compare` names it.
 #[derive(Clone, Copy)]
