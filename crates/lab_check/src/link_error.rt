@@ -29,7 +29,10 @@ fn line_named(fault: Fault) -> (&'static str, &'static str) {
 // What is said of a fault, before the name that the line links and behind it.
 fn told(fault: JoinFault) -> (&'static str, &'static str) {
     match fault {
-        JoinFault::BadName => ("an import or export is a line of its own, with one name", ""),
+        JoinFault::BadName => (
+            "an import or export is a line of its own, with one name",
+            "",
+        ),
         JoinFault::NotDefined => ("exported label '", "' is not defined in this module"),
         JoinFault::DuplicateExport => ("'", "' is exported already"),
         JoinFault::NoExport => ("no other module exports '", "'"),

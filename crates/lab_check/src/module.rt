@@ -129,11 +129,7 @@ pub struct Module<'a> {
 
 impl<'a> Module<'a> {
     // The module of these lines and parts.
-    fn of(
-        alloc: Global,
-        whole: Vec<&'a [u8]>,
-        parts: Parts<'a>,
-    ) -> Result<Module<'a>, AllocError> {
+    fn of(alloc: Global, whole: Vec<&'a [u8]>, parts: Parts<'a>) -> Result<Module<'a>, AllocError> {
         let labels = labels_of(alloc, &parts.lines)?;
         let Parts {
             lines,
@@ -178,10 +174,7 @@ impl<'a> Module<'a> {
 }
 
 /// The modules of texts.
-pub fn modules_of<'a>(
-    alloc: Global,
-    texts: &[&'a [u8]],
-) -> Result<Vec<Module<'a>>, AllocError> {
+pub fn modules_of<'a>(alloc: Global, texts: &[&'a [u8]]) -> Result<Vec<Module<'a>>, AllocError> {
     let mut modules = Vec::new(alloc);
     for text in texts {
         modules.push(Module::read(alloc, text)?)?;

@@ -5,7 +5,8 @@ ghost use Rattle.mx_io.specs.declared.limits.TheConstants.{MAX_SOURCE_BYTES};
 use crate::compare::named_failure;
 use cmd_answer::{Failure, FileKind, Reply, Status, read_file};
 use lab_check::{
-    Checked, CheckedModules, Finding, Form, MOST_LINES, MOST_MODULES, check, check_modules, findings_text,
+    Checked, CheckedModules, Finding, Form, MOST_LINES, MOST_MODULES, check, check_modules,
+    findings_text,
 };
 use lab_line::{Asked, file_by};
 use lab_runs::{or_memory, printed, refused};
@@ -225,7 +226,11 @@ fn slices_of(alloc: Global, texts: &[Vec<u8>]) -> Result<Option<Vec<&[u8]>>, All
         bytes = bytes.saturating_add(text.len());
         slices.push(text.as_slice())?;
     }
-    Ok(if bytes > MOST_TOGETHER { None } else { Some(slices) })
+    Ok(if bytes > MOST_TOGETHER {
+        None
+    } else {
+        Some(slices)
+    })
 }
 
 // The reply where there are too many modules, or too long ones.
@@ -244,18 +249,11 @@ fn texts_reply(asked: &Asked, names: &[&str], texts: &[&[u8]]) -> Result<Reply, 
 }
 
 // The reply that tells what is wrong with modules of these names.
-fn modules_reply<S: Shelf>(
-    asked: &Asked,
-    shelf: &mut S,
-    names: &[&str],
-) -> Result<Reply, Failure> {
+fn modules_reply<S: Shelf>(asked: &Asked, shelf: &mut S, names: &[&str]) -> Result<Reply, Failure> {
     let texts = read_modules(asked.alloc, shelf, names)?;
     match slices_of(asked.alloc, &texts) {
         Ok(Some(slices)) => texts_reply(asked, names, &slices),
-        Ok(None) => Err(refuse_many(
-            asked.alloc,
-            "modules have at most 4,000,000 bytes together",
-        )),
+        Ok(None) => Err(refuse_many(asked.alloc, "modules have at most 4,000,000 bytes together")),
         Err(_) => Err(Failure::Memory),
     }
 }

@@ -118,11 +118,7 @@ fn linked_anew(alloc: Global, program: Program, scheduler: Scheduler) -> Result<
 
 /// A program that is linked as `run` has it, linked by a scheduler; or the reply to its first branch that does not reach its
 /// target.
-pub fn program_by(
-    alloc: Global,
-    program: Program,
-    scheduler: Scheduler,
-) -> Result<Program, Failure>
+pub fn program_by(alloc: Global, program: Program, scheduler: Scheduler) -> Result<Program, Failure>
     requires { IsLinkedSource program }
     ensures { IfOk result (IsLinkedBy scheduler) }
 {
