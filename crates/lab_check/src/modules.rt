@@ -481,7 +481,7 @@ fn accepted<'a>(
 }
 
 // What is found in modules, by what comes of joining them.
-fn found<'a>(
+fn told_modules<'a>(
     alloc: Global,
     given: &[&'a [u8]],
     refusal: Option<Refusal>,
@@ -532,7 +532,7 @@ pub fn check_modules<'a>(
     ensures refused { IfOk result (λ c. nat_lt 0 c.faults ≡ is_some (join_fault (texts modules.now))) }
 {
     let refusal = refusal_of(alloc, modules)?;
-    match found(alloc, modules, refusal, at_most) {
+    match told_modules(alloc, modules, refusal, at_most) {
         Ok(checked) => Ok(checked),
         Err(_) => Err(Memory),
     }
