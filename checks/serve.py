@@ -895,7 +895,7 @@ def try_page(bench, url):
 
     tell("FILE is the source", "counts down from 3" in bench.ask("document.getElementById('source').value"))
     try_parts(bench, (try_faults, try_cycles_and_end, try_search, try_stale, try_killed, try_breakpoint, try_keys, try_card, try_help,
-                      try_experiment, try_sides, try_modules, try_plans, try_download, try_speed, try_work_at, try_kept, try_names,
+                      try_experiment, try_sides, try_schedulers, try_modules, try_plans, try_download, try_speed, try_work_at, try_kept, try_names,
                       try_address, try_long, try_bad_input, try_many_lines))
     if bench.ask("given.missing === null"):
         try_parts(bench, (try_c, try_examples, try_markup, try_address))
@@ -948,6 +948,25 @@ def try_killed(bench):
     tell("a squashed word is held as such", squashed and all("squashed" in told[it][1] for it in squashed), (signs, told))
     put(bench, "interrupts", "")
     settled(bench)
+
+
+def try_schedulers(bench):
+    """The run by padded plans beside that by copies, from the comparison, with the first cycle in which the stages differ."""
+    type_source(bench, SORT)
+    settled(bench)
+    bench.ask("document.getElementById('compare').click()")
+    offered = "[...document.querySelectorAll('#compared button')].length"
+    tell("three schedulers are offered beside copies", wait_for(bench, f"{offered} === 3", 60), bench.ask(offered))
+    bench.ask("document.querySelector('#compared button').click()")
+    wait_for(bench, "document.querySelector('#side-view table') !== null && document.getElementById('diverged').textContent.includes('last cycle')", 60)
+    drawn = [json.loads(printed(SORT, "draw", "--cycles", "400", "--scheduler", it, "--as", "json")) for it in ("padded", "copies")]
+    wanted = next(k for k in range(400) if held_in(drawn[0], k) != held_in(drawn[1], k))
+    told = bench.ask("document.getElementById('diverged').textContent")
+    tell("padded and copies diverge where draw says", f"They diverge in cycle {wanted}." in told, (wanted, told))
+    tell("each has the last cycle that draw says", all(f"plans of {it['scheduler']}, the last cycle {it['halts']}" in told for it in drawn), told)
+    heads = bench.ask("[...document.querySelectorAll('#side-view th')].slice(1, 11).map(it => it.textContent)")
+    tell("the columns name the plans", heads[0] == "padded IF" and heads[5] == "copies IF", heads)
+    bench.ask("document.getElementById('side-close').click()")
 
 
 def try_low_screen(url):

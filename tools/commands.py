@@ -27,6 +27,7 @@ PAGES = {"mx": "COMMANDS", "mx_run": "COMMANDS", "mx_lab": "LAB", "mx_cc": "C", 
 
 BUDGET = Option("--budget", "N", "0 to 100,000,000 cycles (1,000,000)")
 # The laboratory runs for a cycle at least.
+SCHEDULER = Option("--scheduler", "NAME", "padded, list, copies or best: whose plans run (copies)")
 LAB_BUDGET = Option("--budget", "N", "1 to 100,000,000 cycles (1,000,000)")
 INTERRUPTS = Option("--interrupts", "FILE", "the cycles of requests, one a line, each above the one before (none)")
 INPUT = Option("--input", "FILE", "the bytes that a source with .input reads (none)")
@@ -66,8 +67,8 @@ COMMANDS = {
         Option("--as", "FORM", "text, svg, html, json, kanata or vcd (text)"),
         Option("--from", "N", "0 to 100,000,000: the first cycle that is drawn (0)"),
         Option("--cycles", "N", "1 to 100,000 cycles (64)"),
-        LAB_BUDGET, INTERRUPTS, INPUT, OUTPUT)),
-    "check": Command("mx_lab", "SOURCE", "shows every faulty line of a source, and what is wrong with it", (
+        SCHEDULER, LAB_BUDGET, INTERRUPTS, INPUT, OUTPUT)),
+    "check": Command("mx_lab", "SOURCE ..", "shows every faulty line of a source, or of several modules, and what is wrong with it", (
         Option("--all", "", "shows more than the first twenty"),
         Option("--as", "FORM", "text or json (text)"),
         Option("--colour", "WHEN", "always or never: the text in the colours of a terminal (never; ./mx says always on a terminal)"), OUTPUT)),
@@ -76,7 +77,7 @@ COMMANDS = {
     "profile": Command("mx_lab", "SOURCE", "measures what each part of a source costs in a run", (
         Option("--by", "PART", "line, label, function, or c for lines of C (line)"),
         Option("--sort", "COLUMN", "line, count, cycles, caused, cpi, stalls, noops, squashed or killed (line)"),
-        Option("--as", "FORM", "text, json or callgrind (text)"), LAB_BUDGET, INTERRUPTS, INPUT, OUTPUT)),
+        Option("--as", "FORM", "text, json or callgrind (text)"), SCHEDULER, LAB_BUDGET, INTERRUPTS, INPUT, OUTPUT)),
     "compare": Command("mx_lab", "SOURCE ..", "compares what four schedulers make of sources", (
         Option("--as", "FORM", "text, json or csv (text)"), LAB_BUDGET, INTERRUPTS, INPUT, OUTPUT)),
     "blocks": Command("mx_lab", "SOURCE", "shows blocks, their dependences and the lengths of their plans", (
@@ -96,7 +97,7 @@ COMMANDS = {
         Option("--rows", "", "prints a row for each run as well"),
         Option("--as", "FORM", "text, json or csv (text)"), LAB_BUDGET, INPUT, OUTPUT)),
     "trace": Command("mx_lab", "SOURCE", "prints each turn of a run, for programs that replay it", (
-        Option("--as", "FORM", "jsonl (jsonl)"), LAB_BUDGET, INTERRUPTS, INPUT, OUTPUT)),
+        Option("--as", "FORM", "jsonl (jsonl)"), SCHEDULER, LAB_BUDGET, INTERRUPTS, INPUT, OUTPUT)),
     "plans": Command("mx_lab", "SOURCE FILE", "runs a source by the plans of a scheduler of one's own", (
         Option("--print", "", "prints the list scheduler's own file, in place of FILE"), LAB_BUDGET, INTERRUPTS, INPUT, OUTPUT)),
     "serve": Command("serve", "[FILE]", "starts a workbench in the browser", (

@@ -163,13 +163,17 @@ const tagOf = sign => {
 
 const place = address => address < 0 ? '' : hex(address, 4);
 
+// What is said of a slot with a no-op: who found no instruction for it.
+const EMPTY = { padded: 'a padded plan has no instruction for it', list: 'the list scheduler found no instruction for it',
+  copies: 'the list scheduler found no instruction for it', best: 'the plan of its block has no instruction for it' };
+
 // Why a no-op stands at an address: the words before it tell.
 const whyNoOp = (range, address) => {
   const last = range.listing.get(address - 1), other = range.listing.get(address - 2);
   const transfer = [last, other].find(word => word && word.kind >= 3);
-  if (transfer) return 'a no-op in a slot of ' + place(transfer.address) + ': the list scheduler found no instruction for it' + range.shown.more(range, address);
+  if (transfer) return 'a no-op in a slot of ' + place(transfer.address) + ': ' + EMPTY[range.data.scheduler] + range.shown.more(range, address);
   if (last && last.kind === 1)
-    return 'a no-op after the load at ' + place(last.address) + ': the list scheduler found no instruction for it' + range.shown.more(range, address);
+    return 'a no-op after the load at ' + place(last.address) + ': ' + EMPTY[range.data.scheduler] + range.shown.more(range, address);
   return 'a no-op';
 };
 const whySquashed = (range, row) => {

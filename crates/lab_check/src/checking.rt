@@ -27,6 +27,18 @@ pub struct Checked<'a> {
     pub warnings: usize,
 }
 
+impl<'a> Checked<'a> {
+    /// Nothing is found.
+    pub fn nothing(alloc: Global) -> Checked<'a> {
+        Checked {
+            findings: Vec::new(alloc),
+            faults: 0,
+            is_overlong: false,
+            warnings: 0,
+        }
+    }
+}
+
 // Faulty lines, as they are told.
 fn fault_findings<'a>(
     alloc: Global,
@@ -68,8 +80,8 @@ fn told_faults<'a>(
     faults_told(alloc, faulty, &definitions, &causes)
 }
 
-// The first branch of a source that does not reach its target.
-fn overlong_in(alloc: Global, source: &Source) -> Result<Option<Notice>, AllocError> {
+/// The first branch of a source that does not reach its target.
+pub fn overlong_in(alloc: Global, source: &Source) -> Result<Option<Notice>, AllocError> {
     let _statements = source.statements();
     match link(alloc, source, BOARD, &mut ListProposer) {
         Ok(_) => Ok(None),
@@ -105,8 +117,8 @@ fn push_told<'a>(
     push_notices(alloc, lines, warned, findings)
 }
 
-// A branch and warnings, as they are told: the branch if there is one, and at most so many warnings.
-fn told_warnings<'a>(
+/// A branch and warnings, as they are told: the branch if there is one, and at most so many warnings.
+pub fn told_warnings<'a>(
     alloc: Global,
     lines: &[&'a [u8]],
     overlong: Option<Notice>,

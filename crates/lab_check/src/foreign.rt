@@ -40,7 +40,7 @@ const DIRECTIVES: &str = "\
 .byte .half .long .int .dw .ascii .asciiz .string = data are words: '.word' has one for each character or number
 .skip .zero .comm .bss = '.space NUMBER' in the data section makes so many words of 0
 .globl .global .extern .align .section .org .set .equ = a source needs none: it begins with its first instruction, and labels are known in all of it
-.import .export = this is a module of a program: './mx join FIRST SECOND ..' makes one source of its modules
+.import .export = this is a module of a program: './mx check FIRST SECOND ..' checks its modules, './mx join FIRST SECOND ..' makes one source of them
 ";
 
 const REGISTERS: &str = "\

@@ -2,6 +2,7 @@
 #![tactic(auto)]
 
 mod checking;
+mod closing;
 mod error;
 mod finding;
 mod follow;
@@ -9,12 +10,17 @@ mod foreign;
 mod hint;
 mod json;
 mod labels;
+mod link_error;
+mod module;
+mod modules;
 mod operand;
 mod report;
 mod sentence;
+mod used;
 mod warning;
 
 pub use checking::{Checked, check};
 pub use finding::{Finding, Severity};
 pub use lab_faults::MOST_LINES;
+pub use modules::{CheckedModules, MOST_MODULES, check_modules};
 pub use report::{Form, findings_text};

@@ -296,10 +296,10 @@ fn used_labels(alloc: Global, source: &Source, lines: &[&[u8]]) -> Result<Vec<bo
     Ok(used)
 }
 
-// The label names the first statement, as a name for the whole program does.
-fn is_entry(source: &Source, name: &[u8]) -> bool {
-    match source.labels().get(name) {
-        Some(Label::Code(0)) => true,
+// The label at a place names the first statement, as a name for the whole program does.
+fn is_entry(source: &Source, at: usize) -> bool {
+    match source.labels().get_index(at) {
+        Some((_, Label::Code(0))) => true,
         _ => false,
     }
 }
@@ -312,8 +312,8 @@ fn add_unused(
     used: &[bool],
 ) -> Result<(), AllocError> {
     for at in 0..definitions.len() {
-        let Definition { name, line, place } = definitions[at];
-        if !is_so(used, at) && !is_entry(source, name) {
+        let Definition { line, place, .. } = definitions[at];
+        if !is_so(used, at) && !is_entry(source, at) {
             add(found, Kind::UnusedLabel(place), line)?;
         }
     }
@@ -348,28 +348,40 @@ fn add_unread(found: &mut Vec<Notice>, source: &Source) -> Result<(), AllocError
     }
 }
 
-// Adds all that is seldom meant in a source.
+// Adds all that is seldom meant in a source whose labels are used so.
 fn add_warnings(
     found: &mut Vec<Notice>,
     alloc: Global,
     source: &Source,
     lines: &[&[u8]],
+    used: &[bool],
 ) -> Result<(), AllocError> {
     add_flow(found, alloc, source)?;
     let definitions = definitions_of(alloc, lines)?;
-    let used = used_labels(alloc, source, lines)?;
-    add_unused(found, source, &definitions, &used)?;
+    add_unused(found, source, &definitions, used)?;
     add_unread(found, source)
 }
 
-/// What is seldom meant in a source, of a text of these lines: a run may go past its last statement, no run comes to
-/// a statement, a label is used nowhere, an input is never read; in this order, each by its lines.
+/// What is seldom meant in a source of these lines, for each of whose labels it is known whether one uses it: a run may go past
+/// its last statement, no run comes to a statement, a label is used nowhere, an input is never read; in this order, each by
+/// its lines.
+pub fn warnings_with(
+    alloc: Global,
+    lines: &[&[u8]],
+    source: &Source,
+    used: &[bool],
+) -> Result<Vec<Notice>, AllocError> {
+    let mut found = Vec::new(alloc);
+    add_warnings(&mut found, alloc, source, lines, used)?;
+    Ok(found)
+}
+
+/// The same of a source of one text, whose own lines name its labels.
 pub fn warnings(
     alloc: Global,
     lines: &[&[u8]],
     source: &Source,
 ) -> Result<Vec<Notice>, AllocError> {
-    let mut found = Vec::new(alloc);
-    add_warnings(&mut found, alloc, source, lines)?;
-    Ok(found)
+    let used = used_labels(alloc, source, lines)?;
+    warnings_with(alloc, lines, source, &used)
 }

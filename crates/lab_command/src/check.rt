@@ -2,21 +2,40 @@
 ghost use Rattle.std.specs.Prelude.{◌≤◌, length};
 ghost use Rattle.mx_io.specs.declared.limits.TheConstants.{MAX_SOURCE_BYTES};
 
+use crate::compare::named_failure;
 use cmd_answer::{Failure, FileKind, Reply, Status, read_file};
-use lab_check::{Checked, Form, MOST_LINES, check, findings_text};
-use lab_line::Asked;
-use lab_runs::{or_memory, printed};
+use lab_check::{
+    Checked, CheckedModules, Finding, Form, MOST_LINES, MOST_MODULES, check, check_modules,
+    findings_text,
+};
+use lab_line::{Asked, file_by};
+use lab_runs::{or_memory, printed, refused};
 use mx_io::{Memory, Shelf};
 use std::alloc::{AllocError, Global};
 
 /// How many faulty lines and how many warnings are shown.
 const MOST_SHOWN: usize = 20;
 
+/// How many bytes modules have together.
+const MOST_TOGETHER: usize = 4_000_000;
+
+// How much is found: what it is found in, how many faulty lines, whether a branch does not reach its target, how many warnings, and
+// how many of all these are shown.
+#[derive(Clone, Copy)]
+struct Sums {
+    subject: &'static str,
+    faults: usize,
+    is_overlong: bool,
+    warnings: usize,
+    shown: usize,
+}
+
 // Appends how many lines are faulty, in words: `1 line has a fault`.
-fn push_faults(text: &mut String, checked: &Checked) -> Result<(), AllocError> {
-    match checked.faults {
-        0 if checked.is_overlong => text.push_str("a branch does not reach its target"),
-        0 => text.push_str("the text has no fault"),
+fn push_faults(text: &mut String, sums: Sums) -> Result<(), AllocError> {
+    let subject = sums.subject;
+    match sums.faults {
+        0 if sums.is_overlong => text.push_str("a branch does not reach its target"),
+        0 => write!(text, "{subject} no fault"),
         1 => text.push_str("1 line has a fault"),
         faults => write!(text, "{faults} lines have a fault"),
     }
@@ -32,14 +51,14 @@ fn push_warnings(text: &mut String, warnings: usize) -> Result<(), AllocError> {
 }
 
 // How many faulty lines or warnings are shown, beside a branch that does not reach its target.
-fn shown_in(checked: &Checked) -> usize {
-    let branches = usize::from(checked.is_overlong);
-    checked.findings.len().saturating_sub(branches)
+fn shown_in(sums: Sums) -> usize {
+    let branches = usize::from(sums.is_overlong);
+    sums.shown.saturating_sub(branches)
 }
 
 // Appends how much of what was found is shown, where that is not all.
-fn push_shown(text: &mut String, checked: &Checked) -> Result<(), AllocError> {
-    if checked.faults.max(checked.warnings) > shown_in(checked) {
+fn push_shown(text: &mut String, sums: Sums) -> Result<(), AllocError> {
+    if sums.faults.max(sums.warnings) > shown_in(sums) {
         write!(
             text,
             ", of which the first {MOST_SHOWN} are shown: --all shows them all"
@@ -50,32 +69,63 @@ fn push_shown(text: &mut String, checked: &Checked) -> Result<(), AllocError> {
 }
 
 // Appends the last line: how much was found, and how much of it is shown.
-fn push_sums(text: &mut String, checked: &Checked) -> Result<(), AllocError> {
-    push_faults(text, checked)?;
-    push_warnings(text, checked.warnings)?;
-    push_shown(text, checked)?;
+fn push_sums(text: &mut String, sums: Sums) -> Result<(), AllocError> {
+    push_faults(text, sums)?;
+    push_warnings(text, sums.warnings)?;
+    push_shown(text, sums)?;
     text.push('\n')
 }
 
 // Appends the same to bytes.
-fn push_last(alloc: Global, output: &mut Vec<u8>, checked: &Checked) -> Result<(), AllocError> {
+fn push_last(alloc: Global, output: &mut Vec<u8>, sums: Sums) -> Result<(), AllocError> {
     let mut text = String::new(alloc);
-    push_sums(&mut text, checked)?;
+    push_sums(&mut text, sums)?;
     output.extend_from_slice(text.as_bytes())
+}
+
+// How much is found in a text.
+fn sums_of(checked: &Checked) -> Sums {
+    Sums {
+        subject: "the text has",
+        faults: checked.faults,
+        is_overlong: checked.is_overlong,
+        warnings: checked.warnings,
+        shown: checked.findings.len(),
+    }
+}
+
+// How many findings groups have together.
+fn count_in(groups: &[Vec<Finding>]) -> usize {
+    let mut count = 0usize;
+    for group in groups {
+        count = count.saturating_add(group.len());
+    }
+    count
+}
+
+// How much is found in modules.
+fn module_sums(checked: &CheckedModules) -> Sums {
+    Sums {
+        subject: "the modules have",
+        faults: checked.faults,
+        is_overlong: checked.is_overlong,
+        warnings: checked.warnings,
+        shown: count_in(&checked.groups),
+    }
 }
 
 // What is printed of a text.
 fn report(alloc: Global, file: &str, checked: &Checked, form: Form) -> Result<Vec<u8>, AllocError> {
     let mut output = findings_text(alloc, file, &checked.findings, form)?;
     if form != Form::Json {
-        push_last(alloc, &mut output, checked)?;
+        push_last(alloc, &mut output, sums_of(checked))?;
     }
     Ok(output)
 }
 
-// The status of a text: it is refused where a line is faulty, or a branch does not reach its target.
-fn status_of(checked: &Checked) -> Status {
-    if checked.faults == 0 && !checked.is_overlong {
+// The status of what is checked: it is refused where a line is faulty, or a branch does not reach its target.
+fn status_of(sums: Sums) -> Status {
+    if sums.faults == 0 && !sums.is_overlong {
         Status::Done
     } else {
         Status::Refused
@@ -115,7 +165,7 @@ fn text_reply(asked: &Asked, text: &[u8]) -> Result<Reply, Failure>
         &checked,
         form_given(asked),
     );
-    printed(status_of(&checked), or_memory(said))
+    printed(status_of(sums_of(&checked)), or_memory(said))
 }
 
 /// What `check` prints of a text with an error; nothing of another one.
@@ -123,7 +173,7 @@ pub(crate) fn errors_text(alloc: Global, name: &str, text: &[u8]) -> Result<Opti
     requires { length text.now ≤ MAX_SOURCE_BYTES }
 {
     let checked = check(alloc, text, MOST_SHOWN)?;
-    if status_of(&checked) == Status::Done {
+    if status_of(sums_of(&checked)) == Status::Done {
         return Ok(None);
     }
     match report(alloc, name, &checked, Form::Text) {
@@ -132,9 +182,93 @@ pub(crate) fn errors_text(alloc: Global, name: &str, text: &[u8]) -> Result<Opti
     }
 }
 
-/// The reply to `check SOURCE`.
-pub fn check_reply<S: Shelf>(asked: &Asked, shelf: &mut S) -> Result<Reply, Failure> {
+// What is printed of modules of these names.
+fn modules_report(
+    alloc: Global,
+    names: &[&str],
+    checked: &CheckedModules,
+    form: Form,
+) -> Result<Vec<u8>, AllocError> {
+    let mut output = Vec::new(alloc);
+    for (name, group) in names.iter().zip(&checked.groups) {
+        output.extend_from_slice(&findings_text(alloc, name, group, form)?)?;
+    }
+    if form != Form::Json {
+        push_last(alloc, &mut output, module_sums(checked))?;
+    }
+    Ok(output)
+}
+
+// The texts of modules, whose files are read in order.
+fn read_modules<S: Shelf>(
+    alloc: Global,
+    shelf: &mut S,
+    names: &[&str],
+) -> Result<Vec<Vec<u8>>, Failure> {
+    let mut texts = Vec::new(alloc);
+    for name in names {
+        let text = match read_file(alloc, shelf, FileKind::Source, file_by(*name)) {
+            Ok(text) => text,
+            Err(failure) => return Err(named_failure(alloc, *name, false, failure)),
+        };
+        if texts.push(text).is_err() {
+            return Err(Failure::Memory);
+        }
+    }
+    Ok(texts)
+}
+
+// Texts as slices; none where they have too many bytes together.
+fn slices_of(alloc: Global, texts: &[Vec<u8>]) -> Result<Option<Vec<&[u8]>>, AllocError> {
+    let mut slices = Vec::new(alloc);
+    let mut bytes = 0usize;
+    for text in texts {
+        bytes = bytes.saturating_add(text.len());
+        slices.push(text.as_slice())?;
+    }
+    Ok(if bytes > MOST_TOGETHER {
+        None
+    } else {
+        Some(slices)
+    })
+}
+
+// The reply where there are too many modules, or too long ones.
+fn refuse_many(alloc: Global, said: &str) -> Failure {
+    refused(alloc, Status::Usage, String::from_str(alloc, said))
+}
+
+// The reply that tells what is wrong with modules of these names and texts.
+fn texts_reply(asked: &Asked, names: &[&str], texts: &[&[u8]]) -> Result<Reply, Failure> {
+    if texts.is_empty() || texts.len() > MOST_MODULES {
+        return Err(refuse_many(asked.alloc, "a program has at most 16 modules"));
+    }
+    let checked = check_modules(asked.alloc, texts, most_given(asked))?;
+    let said = modules_report(asked.alloc, names, &checked, form_given(asked));
+    printed(status_of(module_sums(&checked)), or_memory(said))
+}
+
+// The reply that tells what is wrong with modules of these names.
+fn modules_reply<S: Shelf>(asked: &Asked, shelf: &mut S, names: &[&str]) -> Result<Reply, Failure> {
+    let texts = read_modules(asked.alloc, shelf, names)?;
+    match slices_of(asked.alloc, &texts) {
+        Ok(Some(slices)) => texts_reply(asked, names, &slices),
+        Ok(None) => Err(refuse_many(asked.alloc, "modules have at most 4,000,000 bytes together")),
+        Err(_) => Err(Failure::Memory),
+    }
+}
+
+// The reply that tells what is wrong with a source.
+fn source_reply<S: Shelf>(asked: &Asked, shelf: &mut S) -> Result<Reply, Failure> {
     let name = asked.file("SOURCE");
     let text = read_file(asked.alloc, shelf, FileKind::Source, name)?;
     text_reply(asked, &text)
+}
+
+/// The reply to `check SOURCE ..`: several sources are the modules of one program.
+pub fn check_reply<S: Shelf>(asked: &Asked, shelf: &mut S) -> Result<Reply, Failure> {
+    match asked.matches.get_strs("SOURCE").unwrap_or(&[]) {
+        [_] => source_reply(asked, shelf),
+        names => modules_reply(asked, shelf, names),
+    }
 }

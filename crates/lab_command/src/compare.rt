@@ -14,8 +14,8 @@ use lab_watch::Watcher;
 use mx_io::{Memory, Shelf};
 use std::alloc::Global;
 
-// What is wrong with a source. Where there are several, it names the source.
-fn named_failure(alloc: Global, name: &str, is_one: bool, failure: Failure) -> Failure {
+/// What is wrong with a source. Where there are several, it names the source.
+pub(crate) fn named_failure(alloc: Global, name: &str, is_one: bool, failure: Failure) -> Failure {
     match failure {
         Failure::Answered(Reply::Prints { status, output }) if !is_one => {
             match named(alloc, name, output.as_slice()) {

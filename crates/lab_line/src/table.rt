@@ -128,7 +128,17 @@ const FIRST_CYCLE: Takes = Takes::Number {
     most: MOST_BUDGET,
 };
 
-const DRAW: [OptionRow; 6] = [
+const SCHEDULER: OptionRow = OptionRow {
+    name: "scheduler",
+    takes: Takes::Word {
+        called: "NAME",
+        words: &["padded", "list", "copies", "best"],
+        default: "copies",
+    },
+    help: "the scheduler whose plans are run, as compare names it",
+};
+
+const DRAW: [OptionRow; 7] = [
     OptionRow {
         name: "as",
         takes: Takes::Word {
@@ -152,6 +162,7 @@ const DRAW: [OptionRow; 6] = [
         },
         help: "how many cycles are drawn",
     },
+    SCHEDULER,
     BUDGET,
     INTERRUPTS,
     INPUT,
@@ -190,7 +201,7 @@ const EXPLAIN: [OptionRow; 4] = [
     INPUT,
 ];
 
-const PROFILE: [OptionRow; 6] = [
+const PROFILE: [OptionRow; 7] = [
     OptionRow {
         name: "by",
         takes: Takes::Word {
@@ -220,6 +231,7 @@ const PROFILE: [OptionRow; 6] = [
         },
         help: "the form of the profile",
     },
+    SCHEDULER,
     BUDGET,
     INTERRUPTS,
     INPUT,
@@ -336,7 +348,7 @@ const SWEEP: [OptionRow; 8] = [
     INPUT,
 ];
 
-const TRACE: [OptionRow; 4] = [
+const TRACE: [OptionRow; 5] = [
     OptionRow {
         name: "as",
         takes: Takes::Word {
@@ -346,6 +358,7 @@ const TRACE: [OptionRow; 4] = [
         },
         help: "the form of the trace: a JSON text a line",
     },
+    SCHEDULER,
     BUDGET,
     INTERRUPTS,
     INPUT,
@@ -366,8 +379,8 @@ pub(crate) static COMMANDS: [CommandRow; 11] = [
     CommandRow {
         name: "check",
         command: Command::Check,
-        about: "shows every faulty line of a source, and what is wrong with it",
-        names: Names::Source,
+        about: "shows every faulty line of a source, or of several modules, and what is wrong with it",
+        names: Names::Sources,
         options: &CHECK,
     },
     CommandRow {

@@ -328,9 +328,14 @@ fn push_cycles(text: &mut Writer, subject: &Subject) {
     }
 }
 
-// Appends what the page says of the run as a whole: its first cycle, its end, and its source.
+// Appends what the page says of the run as a whole: its first cycle, its scheduler, its end, and its source.
 fn push_run(text: &mut Writer, subject: &Subject) {
-    text.push_numbers(&["\"from\":", ",\"end\":\""], &[u64::from(subject.from)]);
+    text.push_numbers(
+        &["\"from\":", ",\"scheduler\":"],
+        &[u64::from(subject.from)],
+    );
+    push_string(text, subject.scheduler.as_bytes());
+    text.push_str(",\"end\":\"");
     push_ending(text, subject);
     text.push_str("\",\n\"text\":");
     push_string(text, subject.text);

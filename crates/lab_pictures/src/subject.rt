@@ -19,6 +19,8 @@ pub struct Subject<'a> {
     /// The line of each of its statements.
     pub lines: &'a [u32],
     pub linked: &'a Linked,
+    /// The scheduler whose plans it is linked by.
+    pub scheduler: &'a str,
     pub names: &'a PlaceNames<'a>,
     /// The first cycle of the drawing.
     pub from: u32,

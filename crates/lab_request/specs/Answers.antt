@@ -7,7 +7,7 @@ use Rattle.serde_json.specs.Read.{read}
 use Rattle.serde_json.specs.Find.{as_object}
 use Rattle.lab_request.specs.declared.command.Command.{Command}
 use Rattle.lab_request.specs.declared.fault.Fault.{Fault}
-use Rattle.lab_request.specs.declared.fault.Fault.TheVariants.{LeftOut, NoString, NoName, NoCycles, NoBytes, TooLong, NoForm, NoNumber}
+use Rattle.lab_request.specs.declared.fault.Fault.TheVariants.{LeftOut, NoString, NoName, NoCycles, NoBytes, TooLong, NoForm, NoScheduler, NoNumber}
 use Rattle.lab_request.specs.declared.fault.Wrong.{Wrong}
 use Rattle.lab_request.specs.declared.answer.Answer.{Answer}
 use Rattle.lab_request.specs.Fields.{command_name, field_name, fields_of, keys_of, first_unknown, first_wrong}
@@ -35,6 +35,7 @@ plain_words NoCycles = codes "no list of at most 65536 ascending numbers from 0 
 plain_words NoBytes = codes "no string, and no list of numbers from 0 to 255"
 plain_words TooLong = codes "more than 1048576 bytes"
 plain_words NoForm = codes "none of json, text, svg, html, kanata, vcd"
+plain_words NoScheduler = codes "none of padded, list, copies, best"
 plain_words (NoNumber least most) = codes "no number"
 
 abbrev pub range_words : Fault → List ℕ

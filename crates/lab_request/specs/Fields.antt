@@ -9,9 +9,9 @@ use Rattle.serde_json.specs.Find.{get, as_number, as_str, as_array, as_u64}
 use Rattle.lab_request.specs.declared.command.Command.{Command}
 use Rattle.lab_request.specs.declared.command.Command.TheVariants.{Check, Run, Explain, Draw, Profile, Compare, Disassemble}
 use Rattle.lab_request.specs.declared.field.Field.{Field}
-use Rattle.lab_request.specs.declared.field.Field.TheVariants.{Source, Name, Interrupts, Input, Budget, From, Cycles, Trace, Dump, Count, Form}
+use Rattle.lab_request.specs.declared.field.Field.TheVariants.{Source, Name, Interrupts, Input, Budget, From, Cycles, Trace, Dump, Count, Form, Scheduler}
 use Rattle.lab_request.specs.declared.fault.Fault.{Fault}
-use Rattle.lab_request.specs.declared.fault.Fault.TheVariants.{LeftOut, NoString, NoName, NoCycles, NoBytes, TooLong, NoForm, NoNumber}
+use Rattle.lab_request.specs.declared.fault.Fault.TheVariants.{LeftOut, NoString, NoName, NoCycles, NoBytes, TooLong, NoForm, NoScheduler, NoNumber}
 use Rattle.lab_request.specs.declared.fault.Wrong.{Wrong}
 
 -- the name of a command
@@ -44,13 +44,14 @@ field_name Trace = codes "trace"
 field_name Dump = codes "dump"
 field_name Count = codes "count"
 field_name Form = codes "as"
+field_name Scheduler = codes "scheduler"
 
 -- the fields that a command's body may have, in their order
 abbrev pub fields_of : Command → List Field
 fields_of Check = Source ∷ Name ∷ []
 fields_of Run = Source ∷ Name ∷ Interrupts ∷ Input ∷ Budget ∷ Trace ∷ Dump ∷ Count ∷ []
 fields_of Explain = Source ∷ Name ∷ Interrupts ∷ Input ∷ Budget ∷ []
-fields_of Draw = Source ∷ Name ∷ Interrupts ∷ Input ∷ Budget ∷ From ∷ Cycles ∷ Form ∷ []
+fields_of Draw = Source ∷ Name ∷ Interrupts ∷ Input ∷ Budget ∷ From ∷ Cycles ∷ Form ∷ Scheduler ∷ []
 fields_of Profile = Source ∷ Name ∷ Interrupts ∷ Input ∷ Budget ∷ []
 fields_of Compare = Source ∷ Name ∷ Interrupts ∷ Input ∷ Budget ∷ []
 fields_of Disassemble = Source ∷ Name ∷ []
@@ -108,6 +109,13 @@ forms = codes "json" ∷ codes "text" ∷ codes "svg" ∷ codes "html" ∷ codes
 abbrev pub is_form : List ℕ → Bool
 is_form s = list_any (λ f. bytes_eq f s) forms
 
+-- the schedulers whose plans may be drawn
+abbrev pub schedulers : List (List ℕ)
+schedulers = codes "padded" ∷ codes "list" ∷ codes "copies" ∷ codes "best" ∷ []
+
+abbrev pub is_scheduler : List ℕ → Bool
+is_scheduler s = list_any (λ f. bytes_eq f s) schedulers
+
 -- ---- what is wrong
 
 abbrev pub unless : Bool → Fault → Option Fault
@@ -140,6 +148,7 @@ fault_in Trace d = number_fault 0 10000 d
 fault_in Dump d = number_fault 0 65535 d
 fault_in Count d = number_fault 1 65536 d
 fault_in Form d = unless (is_text is_form d) NoForm
+fault_in Scheduler d = unless (is_text is_scheduler d) NoScheduler
 
 -- only the source has to be there
 abbrev pub fault_without : Field → Option Fault

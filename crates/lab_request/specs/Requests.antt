@@ -7,7 +7,7 @@ use Rattle.serde_json.specs.Find.{get, as_str, as_array}
 use Rattle.lab_request.specs.declared.command.Command.{Command}
 use Rattle.lab_request.specs.declared.command.Command.TheVariants.{Check, Run, Explain, Draw, Profile, Compare, Disassemble}
 use Rattle.lab_request.specs.declared.field.Field.{Field}
-use Rattle.lab_request.specs.declared.field.Field.TheVariants.{Source, Name, Interrupts, Input, Budget, From, Cycles, Trace, Dump, Count, Form}
+use Rattle.lab_request.specs.declared.field.Field.TheVariants.{Source, Name, Interrupts, Input, Budget, From, Cycles, Trace, Dump, Count, Form, Scheduler}
 use Rattle.lab_request.specs.Fields.{command_name, field_name, fields_of, listed, number_in}
 
 -- the names of the two files beside the source, which no source can have
@@ -36,6 +36,7 @@ option_value Trace given = option_map (λ d. decimal (number_in d)) given
 option_value Dump given = option_map (λ d. decimal (number_in d)) given
 option_value Count given = option_map (λ d. decimal (number_in d)) given
 option_value Form given = Some (unwrap_or (option_and_then as_str given) (codes "json"))
+option_value Scheduler given = option_and_then as_str given
 
 -- an option and its value
 abbrev pub option_words : Field → Option (List ℕ) → List (List ℕ)

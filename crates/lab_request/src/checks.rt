@@ -4,7 +4,7 @@ ghost use Rattle.serde_json.specs.View.{view};
 ghost use Rattle.serde_json.specs.Find.{as_array};
 ghost use Rattle.lab_request.specs.Fields.{listed, unless, number_fault, is_requests, list_fault, input_fault, fault_in, fault_without, fault_of};
 
-use crate::values::{are_bytes, are_cycles, is_form, is_name, is_within};
+use crate::values::{are_bytes, are_cycles, is_form, is_name, is_scheduler, is_within};
 use crate::{Fault, Field};
 use serde_json::Value;
 
@@ -98,6 +98,15 @@ fn form_fault(value: &Value) -> Option<Fault>
     }
 }
 
+fn scheduler_fault(value: &Value) -> Option<Fault>
+    ensures { result ≡ fault_in Field.Scheduler (view value.now) }
+{
+    match value.as_str() {
+        Some(text) => unless(is_scheduler(text), Fault::NoScheduler),
+        None => Some(Fault::NoScheduler),
+    }
+}
+
 // What is wrong with the value of a field.
 fn fault_in(field: Field, value: &Value) -> Option<Fault>
     ensures { result ≡ fault_in field (view value.now) }
@@ -114,6 +123,7 @@ fn fault_in(field: Field, value: &Value) -> Option<Fault>
         Field::Dump => number_fault(value, 0, LAST_WORD),
         Field::Count => number_fault(value, 1, MOST_WORDS),
         Field::Form => form_fault(value),
+        Field::Scheduler => scheduler_fault(value),
     }
 }
 
@@ -132,7 +142,8 @@ fn fault_without(field: Field) -> Option<Fault>
         | Field::Trace
         | Field::Dump
         | Field::Count
-        | Field::Form => None,
+        | Field::Form
+        | Field::Scheduler => None,
     }
 }
 

@@ -50,7 +50,7 @@ static OF_RUN: [Field; 8] = [
     Field::Count,
 ];
 
-static OF_DRAW: [Field; 8] = [
+static OF_DRAW: [Field; 9] = [
     Field::Source,
     Field::Name,
     Field::Interrupts,
@@ -59,6 +59,7 @@ static OF_DRAW: [Field; 8] = [
     Field::From,
     Field::Cycles,
     Field::Form,
+    Field::Scheduler,
 ];
 
 static JSON: [&str; 2] = ["--as", "json"];

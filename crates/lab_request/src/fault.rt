@@ -12,6 +12,7 @@ pub enum Fault {
     NoBytes,
     TooLong,
     NoForm,
+    NoScheduler,
     NoNumber { least: u64, most: u64 },
 }
 
@@ -38,6 +39,7 @@ impl Fault {
             Fault::NoBytes => "no string, and no list of numbers from 0 to 255",
             Fault::TooLong => "more than 1048576 bytes",
             Fault::NoForm => "none of json, text, svg, html, kanata, vcd",
+            Fault::NoScheduler => "none of padded, list, copies, best",
             Fault::NoNumber { .. } => "no number",
         }
     }

@@ -14,6 +14,7 @@ pub enum Field {
     Dump,
     Count,
     Form,
+    Scheduler,
 }
 
 impl Field {
@@ -36,6 +37,7 @@ impl Field {
             Field::Dump => "dump",
             Field::Count => "count",
             Field::Form => "as",
+            Field::Scheduler => "scheduler",
         }
     }
 }

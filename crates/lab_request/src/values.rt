@@ -3,7 +3,7 @@ ghost use Rattle.std.specs.Prelude.{◌≡◌, map, slice_index};
 ghost use Rattle.std.specs.List.{list_all, list_any};
 ghost use Rattle.std.specs.Str.{bytes_eq};
 ghost use Rattle.serde_json.specs.View.{view};
-ghost use Rattle.lab_request.specs.Fields.{number_in, is_within, are_cycles, is_letter, is_name_sign, is_name, is_form};
+ghost use Rattle.lab_request.specs.Fields.{number_in, is_within, are_cycles, is_letter, is_name_sign, is_name, is_form, is_scheduler};
 
 use serde_json::Value;
 
@@ -14,6 +14,8 @@ const MOST_CYCLE: u64 = 4_294_967_295;
 const MOST_NAME: usize = 64;
 
 static FORMS: [&str; 6] = ["json", "text", "svg", "html", "kanata", "vcd"];
+
+static SCHEDULERS: [&str; 4] = ["padded", "list", "copies", "best"];
 
 /// The whole number that a value is; 0 where it is none.
 pub fn number_in(value: &Value) -> u64
@@ -112,4 +114,11 @@ pub fn is_form(text: &str) -> bool
     ensures { result ≡ is_form text.now }
 {
     is_among(&FORMS, text)
+}
+
+/// Whether a text is the name of a scheduler.
+pub fn is_scheduler(text: &str) -> bool
+    ensures { result ≡ is_scheduler text.now }
+{
+    is_among(&SCHEDULERS, text)
 }

@@ -59,6 +59,19 @@ fn form_in(value: Option<&Value>) -> &str
     }
 }
 
+// The word that is given.
+fn text_word(alloc: Global, value: Option<&Value>) -> Result<Option<String>, AllocError>
+    ensures { IfOk result (λ o. option_map string_bytes o ≡ option_and_then as_str (option_map (λ v. view v.now) value.entry)) }
+{
+    match value {
+        Some(value) => match value.as_str() {
+            Some(text) => Ok(Some(String::from_str(alloc, text)?)),
+            None => Ok(None),
+        },
+        None => Ok(None),
+    }
+}
+
 // The value of the option that a field is.
 fn option_value(
     alloc: Global,
@@ -74,6 +87,7 @@ fn option_value(
         Field::Budget | Field::From | Field::Cycles | Field::Trace | Field::Dump | Field::Count =>
             number_word(alloc, value),
         Field::Form => Ok(Some(String::from_str(alloc, form_in(value))?)),
+        Field::Scheduler => text_word(alloc, value),
     }
 }
 

@@ -1,26 +1,24 @@
 -- What a command runs: a linked source, and what its run is given.
-use Rattle.std.specs.Prelude.{ℕ, ◌≤◌, List, [], Option}
+use Rattle.std.specs.Prelude.{◌≡◌, ℕ, ◌≤◌, List, [], Option}
 use Rattle.mx_io.specs.declared.limits.TheConstants.{MAX_FILE_BYTES}
 use Rattle.mx_board.specs.Contents.{bytes_in}
-use Rattle.mx_isa.specs.Board.{board}
 use Rattle.mx_icache.specs.LineSets.{CacheHolds}
 use Rattle.mx_icache.specs.declared.line_cache.LineCache.{LineCache}
 use Rattle.mx_source.specs.Meaning.{given}
-use Rattle.mx_reorg.specs.Greedy.{IsGreedy}
-use Rattle.mx_link.specs.Origins.{from_target}
-use Rattle.mx_link.specs.Linked.{IsLinked}
 use Rattle.mx_turn.specs.Handler.{shipped}
 use Rattle.mx_turn.specs.Program.{Program, program_of}
 use Rattle.mx_pipe.specs.declared.pipe.Pipe.{Pipe}
 use Rattle.mx_pipe.specs.Kept.{StandsFor}
 use Rattle.lab_watch.specs.declared.watched.Watched.{Watched}
 use Rattle.lab_watch.specs.Within.{within}
-use Rattle.cmd_source.specs.declared.sources.Program.{Program as SourceProgram}
 use Rattle.lab_runs.specs.declared.runs.GivenRun.{GivenRun}
+use Rattle.lab_runs.specs.declared.schedulers.Scheduler.{Scheduler}
+use Rattle.lab_runs.specs.Schedulers.{IsLinkedBy}
 
--- the source is linked as the list scheduler has it
-abbrev pub IsLinkedSource : SourceProgram → Type 0
-IsLinkedSource p = IsLinked IsGreedy from_target p.source board p.linked
+-- a run of a source that is linked by a scheduler, and names it
+pub record IsGiven (scheduler : Scheduler) (run : GivenRun) : Type 0 where
+  pub linked : IsLinkedBy scheduler run.program
+  pub named : run.scheduler ≡ scheduler
 
 -- an input has no more bytes than a file may have
 abbrev pub IsOfFile : Option (List ℕ) → Type 0

@@ -5,6 +5,7 @@ use crate::explain::explain_reply;
 use crate::interrupts::interrupts_reply;
 use crate::profile::profile_reply;
 use crate::runs::{GivenRun, read_run};
+use crate::schedulers::Scheduler;
 use crate::trace::trace_reply;
 use cmd_answer::{Failure, Reply};
 use lab_line::{Asked, RunCommand};
@@ -39,6 +40,6 @@ pub fn run_reply<S: Shelf, W: Watcher>(
     if matches!(command, RunCommand::Caches) {
         refuse_excess(asked)?;
     }
-    let run = read_run(asked, shelf)?;
+    let run = read_run(asked, shelf, Scheduler::given(asked, command))?;
     reply_of(asked, command, &run, watcher)
 }

@@ -6,7 +6,6 @@ ghost use Rattle.lab_runs.specs.Runs.{loaded};
 use crate::replies::{or_memory, printed};
 use crate::runs::GivenRun;
 use cmd_answer::{Failure, Reply, Status};
-use cmd_source::Program;
 use lab_draw::{Drawing, draw, rows_of};
 use lab_line::{Asked, Form};
 use lab_pictures::{PlaceNames, Subject, html, json, kanata, svg, text, vcd};
@@ -73,16 +72,18 @@ fn form_of(alloc: Global, form: Form, subject: &Subject) -> Result<Vec<u8>, Memo
 // The picture of a drawing, in the form that the words ask for, with these names of places.
 fn named_picture(
     asked: &Asked,
-    program: &Program,
+    run: &GivenRun,
     names: &PlaceNames,
     drawing: &Drawing,
     span: Span,
 ) -> Result<Vec<u8>, Memory> {
+    let program = &run.program;
     let subject = Subject {
         file: asked.word("SOURCE"),
         text: program.text.as_slice(),
         lines: program.source.lines(),
         linked: &program.linked,
+        scheduler: run.scheduler.name(),
         names,
         from: span.from,
         budget: span.budget,
@@ -94,14 +95,15 @@ fn named_picture(
 // The picture of a drawing of a run, in the form that the words ask for.
 fn picture_with(
     asked: &Asked,
-    program: &Program,
+    run: &GivenRun,
     drawing: &Drawing,
     span: Span,
 ) -> Result<Vec<u8>, Memory> {
+    let program = &run.program;
     let links = program.linked.links.as_slice();
     let words = program.linked.image.code.len();
     match PlaceNames::new(asked.alloc, &program.source, links, words) {
-        Ok(names) => named_picture(asked, program, &names, drawing, span),
+        Ok(names) => named_picture(asked, run, &names, drawing, span),
         Err(_) => Err(Memory),
     }
 }
@@ -110,7 +112,7 @@ fn picture_with(
 fn picture_of<W: Watcher>(asked: &Asked, run: &GivenRun, watcher: W) -> Result<Vec<u8>, Memory> {
     let span = span_given(asked);
     let drawing = drawing_of(asked.alloc, run, span, watcher)?;
-    picture_with(asked, &run.program, &drawing, span)
+    picture_with(asked, run, &drawing, span)
 }
 
 /// The reply to `draw SOURCE`.

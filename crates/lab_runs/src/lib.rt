@@ -9,6 +9,7 @@ mod interrupts;
 mod profile;
 mod replies;
 mod runs;
+mod schedulers;
 mod stimulus;
 mod trace;
 

@@ -1,8 +1,10 @@
 //! Sources with what their runs are given.
 ghost use Rattle.std.specs.Prelude.{◌≡◌, IfOk};
 ghost use Rattle.std.specs.Option.{option_copied};
-ghost use Rattle.lab_runs.specs.Runs.{input_of, IsOfFile, IsLinkedSource, IsLoaded};
+ghost use Rattle.lab_runs.specs.Schedulers.{IsLinkedBy};
+ghost use Rattle.lab_runs.specs.Runs.{input_of, IsOfFile, IsGiven, IsLoaded};
 
+use crate::schedulers::{Scheduler, program_by};
 use crate::stimulus::{Stimulus, read_stimulus};
 use cmd_answer::Failure;
 use cmd_source::{Program, read_program};
@@ -17,6 +19,8 @@ use std::alloc::Global;
 #[derive(Drop)]
 pub struct GivenRun {
     pub program: Program,
+    /// The scheduler by whose plans it is linked.
+    pub scheduler: Scheduler,
     pub stimulus: Stimulus,
     pub budget: u32,
 }
@@ -49,22 +53,34 @@ impl GivenRun {
 }
 
 // A linked source with what the words give its run, or the reply to the first of these that is wrong.
-fn run_with<S: Shelf>(asked: &Asked, shelf: &mut S, program: Program) -> Result<GivenRun, Failure>
-    requires { IsLinkedSource program }
-    ensures { IfOk result (λ run. IsLinkedSource run.program) }
+fn run_with<S: Shelf>(
+    asked: &Asked,
+    shelf: &mut S,
+    program: Program,
+    scheduler: Scheduler,
+) -> Result<GivenRun, Failure>
+    requires { IsLinkedBy scheduler program }
+    ensures { IfOk result (IsGiven scheduler) }
 {
     let stimulus = read_stimulus(asked, shelf)?;
     Ok(GivenRun {
         program,
+        scheduler,
         stimulus,
         budget: asked.number("budget"),
     })
 }
 
-/// The source that the words name, linked, and what they give its run; or the reply to the first of these that is wrong.
-pub fn read_run<S: Shelf>(asked: &Asked, shelf: &mut S) -> Result<GivenRun, Failure>
-    ensures { IfOk result (λ run. IsLinkedSource run.program) }
+/// The source that the words name, linked by a scheduler, and what they give its run; or the reply to the first of these
+/// that is wrong.
+pub fn read_run<S: Shelf>(
+    asked: &Asked,
+    shelf: &mut S,
+    scheduler: Scheduler,
+) -> Result<GivenRun, Failure>
+    ensures { IfOk result (IsGiven scheduler) }
 {
-    let program = read_program(asked.alloc, shelf, asked.file("SOURCE"))?;
-    run_with(asked, shelf, program)
+    let read = read_program(asked.alloc, shelf, asked.file("SOURCE"))?;
+    let program = program_by(asked.alloc, read, scheduler)?;
+    run_with(asked, shelf, program, scheduler)
 }
