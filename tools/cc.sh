@@ -156,7 +156,7 @@ feature_of() {
 # The fault $1, by the name of what C has that the line $2 of the assembly is part of, where it is known.
 named_feature() {
     case $1,$2 in
-        *': registers 1 and 22 to 28 are kept;'*,*w*[\$]2[23],*'('[\$][sf]p')') echo ' goto: out of a nested function: it needs registers that are kept' ;;
+        *': registers 1 and 22 to 28 are kept;'*,*w*[\$]2[23],*'('[\$][sf]p')') echo ' goto: out of a nested function, or __builtin_setjmp: it needs registers that are kept' ;;
         *) echo "$1" ;;
     esac
 }
