@@ -24,7 +24,7 @@ from chromium import CONTRAST, NAMED, STEP_TIME, TOO_FAINT, Page, need_chromium
 from common import HAS_TIMES, IS_SAMPLE, PATIENCE, TOP, tell
 
 # How often a text in C is typed where its translation takes too long, and what the page says then.
-TRIES, TAKES_LONG = 3, "/takes more than/"
+TRIES, TAKES_LONG = 3, "/takes more than/.test(document.getElementById('found').textContent)"
 MOVED, STEPS = 100, 30  # milliseconds from a key to the moved diagram, and of a step
 # A sort that runs for about 2,000 cycles; in the mistaken one a register stands where a number has to.
 SORT = """        la   word,r1
@@ -152,14 +152,22 @@ def type_source(bench, text):
     bench.call("Input.insertText", text=text)
 
 
+class TooSlow(Exception):
+    """A text in C takes longer than the server gives it, each time, on a machine where nothing is to fail for that."""
+
+
 def type_c(bench, text, what):
     """Puts a text in C in place of the source, and waits until something holds in the page. On a machine with other work a translation
     may take longer than the server gives it; then the text is put there again."""
     for _ in range(TRIES):
+        # (what was said of the last text stays until there is something else to say)
+        bench.ask("document.getElementById('found').textContent = ''")
         type_source(bench, text)
-        wait_for(bench, f"({what}) || {TAKES_LONG}.test(document.getElementById('found').textContent)", 90)
+        wait_for(bench, f"({what}) || {TAKES_LONG}", 90)
         if bench.ask(what):
             return True
+    if bench.ask(TAKES_LONG) and not HAS_TIMES:
+        raise TooSlow
     return False
 
 
@@ -812,8 +820,11 @@ def try_examples(bench):
     names = bench.ask("[...document.querySelectorAll('#examples option')].map(it => it.value).filter(it => it)")
     tell("the menu has examples in both languages", "countdown.s" in names and "queens.c" in names, names)
     for name in ("echo.s", "queens.c", "calc.c"):
+        bench.ask("document.getElementById('found').textContent = ''")
         choose(bench, "examples", name)
-        ran = wait_for(bench, "state.isSettled", 120)
+        ran = wait_for(bench, f"state.isSettled && !state.isStale || {TAKES_LONG}", 120)
+        if bench.ask(TAKES_LONG) and not HAS_TIMES:
+            raise TooSlow
         end = bench.ask("document.getElementById('end').textContent")
         tell(f"{name} runs to its end", ran and end.startswith("the run halts in cycle "), end)
         tell(f"{name} is what its answers are named by", bench.ask("state.name") == name)
@@ -898,7 +909,10 @@ def try_page(bench, url):
                       try_experiment, try_sides, try_schedulers, try_modules, try_plans, try_download, try_speed, try_work_at, try_kept, try_names,
                       try_address, try_long, try_bad_input, try_many_lines))
     if bench.ask("given.missing === null"):
-        try_parts(bench, (try_c, try_examples, try_markup, try_address))
+        try:
+            try_parts(bench, (try_c, try_examples, try_markup, try_address))
+        except TooSlow:
+            print("skipped: the rest of what is in C: this machine has too much other work to translate a text within the server's time")
     else:
         print("    C is not tried: " + bench.ask("given.missing"))
     tell("the page has no fault", not bench.faults, bench.faults)
