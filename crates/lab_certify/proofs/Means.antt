@@ -34,6 +34,6 @@ accepted P source linked code user_data k is have v =
     record {
       sites = k.sites;
       laid = record { well_formed = is; registers = have; room = omega (arith, few); layout = k.layout; reach = k.reach };
-      code_is = v.1.0 ∙ k.code;
-      data_is = v.1.1 ∙ k.user_data;
+      code_is = v.1 ∙ k.code;
+      data_is = v.2 ∙ k.user_data;
     }

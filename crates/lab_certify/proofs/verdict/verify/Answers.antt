@@ -14,4 +14,4 @@ returns-clause-certified c =
     let code = c.args.image.now.code.items in
     let data_words = c.args.image.now.user_data.items in
     λ e. accepted proposes source linked code data_words c.in_ok-linked.ensures.linked c.linked_by.ensures.source c.in_ok-linked.ensures.registers
-    (subst (λ (v : Verdict). IsVerdict linked code data_words v) e c.verdict_on.ensures)
+    (subst (λ (v : Verdict). IsVerdict linked code data_words v) e c.verdict_on-verdict.ensures)
