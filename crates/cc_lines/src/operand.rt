@@ -10,6 +10,7 @@ use crate::cursor::{
 };
 use crate::instruction::Register;
 use crate::refusal::Refusal;
+use std::num::{f32_to_bits_with_nan, f64_to_bits_with_nan};
 
 /// What is between the commas of an instruction. The name of its symbol, if it has one, is at the front of its text.
 #[derive(Clone, Copy)]
@@ -340,9 +341,9 @@ pub(crate) fn operand_read(text: &[u8], constants: &Constants<'_>) -> Result<Ope
 fn float_bits(text: &[u8], double: bool) -> Option<u64> {
     let text = str::from_utf8(text).ok()?;
     if double {
-        Some(text.parse::<f64>().ok()?.to_bits())
+        Some(f64_to_bits_with_nan(text.parse::<f64>().ok()?))
     } else {
-        Some(u64::from(text.parse::<f32>().ok()?.to_bits()))
+        Some(u64::from(f32_to_bits_with_nan(text.parse::<f32>().ok()?)))
     }
 }
 
