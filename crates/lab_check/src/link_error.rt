@@ -73,9 +73,10 @@ fn said_of(alloc: Global, fault: JoinFault, token: &[u8]) -> Result<Words, Alloc
     let mut message = Writer::new(alloc);
     let mut hint = Writer::new(alloc);
     let (before, behind) = told(fault);
-    match fault {
-        JoinFault::BadName | JoinFault::Line(_) => message.push_str(before),
-        _ => message.push_parts(&[before, text_of(token), behind]),
+    message.push_str(before);
+    if !matches!(fault, JoinFault::BadName | JoinFault::Line(_)) {
+        message.push_str(text_of(token));
+        message.push_str(behind);
     }
     hint.push_str(help(fault));
     Words::new(message, hint)

@@ -406,7 +406,7 @@ fn all_lines<'a>(alloc: Global, modules: &[Module<'a>]) -> Result<Vec<&'a [u8]>,
 fn place_of(modules: &[Module], line: u32) -> (usize, u32) {
     let mut left = line;
     for (place, module) in modules.iter().enumerate() {
-        let count = module.whole.len() as u32;
+        let count = u32::try_from(module.whole.len()).unwrap_or(u32::MAX);
         if left <= count {
             return (place, left);
         }
