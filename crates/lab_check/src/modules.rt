@@ -223,7 +223,9 @@ fn found_in<'a>(
 }
 
 // How many findings stand before a line.
-fn before_line(findings: &[Finding], line: u32) -> usize {
+fn before_line(findings: &[Finding], line: u32) -> usize
+    ensures { result ≤ length findings.now }
+{
     let mut count = 0usize;
     for finding in findings {
         if finding.line < line {
