@@ -8,7 +8,8 @@ use Rattle.mx_best.specs.Shortest.{IsProposed}
 pub use Rattle.mx_isa.specs.Board.{board}
 pub use Rattle.mx_layout.specs.Overlong.{IsRefusal}
 pub use Rattle.mx_link.specs.Linked.{IsLinked}
-use Rattle.mx_link.specs.Origins.{Filling, from_target, from_nowhere}
+use Rattle.mx_link.specs.Origins.{Filling}
+pub use Rattle.mx_link.specs.Origins.{from_target, from_nowhere}
 use Rattle.cmd_source.specs.declared.sources.Program.{Program}
 use Rattle.lab_line.specs.declared.table.RunCommand.{RunCommand}
 use Rattle.lab_line.specs.declared.table.RunCommand.TheVariants.{Draw, Profile, Trace}

@@ -1,9 +1,9 @@
 //! The schedulers whose plans a source is linked by.
-ghost use Rattle.std.specs.Prelude.{◌≡◌, false, IfOk, IfErr};
+ghost use Rattle.std.specs.Prelude.{◌≡◌, false, cond, IfOk, IfErr};
 ghost use Rattle.mx_blocks.specs.declared.block.Block.{Block};
 ghost use Rattle.mx_blocks.specs.declared.block.Plan.{Plan};
 ghost use Rattle.mx_validate.specs.Padded.{IsPadded};
-ghost use Rattle.lab_runs.specs.Schedulers.{board, proposes, fills, IsLinked, IsRefusal, IsLinkedSource, IsLinkedBy, is_chosen};
+ghost use Rattle.lab_runs.specs.Schedulers.{board, proposes, fills, from_target, from_nowhere, IsLinked, IsRefusal, IsLinkedSource, IsLinkedBy, is_chosen};
 
 use crate::replies::unlinked;
 use cmd_answer::Failure;
@@ -87,17 +87,34 @@ impl Scheduler {
     }
 }
 
+// A source, linked at the board's place by what a proposer proposes, its slots filled from their targets or not.
+fn linked_with<P: Proposer>(
+    alloc: Global,
+    source: &Source,
+    proposer: &mut P,
+    copies: bool,
+) -> Result<Linked, LinkError>
+    ensures linked { IfOk result (IsLinked P.proposes (cond copies from_target from_nowhere) source.now board) }
+    ensures refused { IfErr result (IsRefusal P.proposes source.now board) }
+{
+    let _statements = source.statements();
+    if copies {
+        link(alloc, source, BOARD, proposer)
+    } else {
+        link_plain(alloc, source, BOARD, proposer)
+    }
+}
+
 // A source, linked at the board's place by a scheduler.
 fn linked_by(alloc: Global, source: &Source, scheduler: Scheduler) -> Result<Linked, LinkError>
     ensures linked { IfOk result (IsLinked (proposes scheduler) (fills scheduler) source.now board) }
     ensures refused { IfErr result (IsRefusal (proposes scheduler) source.now board) }
 {
-    let _statements = source.statements();
     match scheduler {
-        Scheduler::Padded => link_plain(alloc, source, BOARD, &mut PaddedProposer),
-        Scheduler::List => link_plain(alloc, source, BOARD, &mut ListProposer),
-        Scheduler::Copies => link(alloc, source, BOARD, &mut ListProposer),
-        Scheduler::Best => link(alloc, source, BOARD, &mut BestProposer),
+        Scheduler::Padded => linked_with(alloc, source, &mut PaddedProposer, false),
+        Scheduler::List => linked_with(alloc, source, &mut ListProposer, false),
+        Scheduler::Copies => linked_with(alloc, source, &mut ListProposer, true),
+        Scheduler::Best => linked_with(alloc, source, &mut BestProposer, true),
     }
 }
 
