@@ -425,7 +425,7 @@ def main(words):
     status, name, *rest = words
     if name not in COMMANDS:
         runs = f"; '{MX} run {name}' runs a source" if is_regular(name) else ""
-        print(f"zanderanvil: error: unknown command '{name}'{nearest(name, COMMANDS) or runs}", file=sys.stderr)
+        print(f"zanderanvil: error: unknown command '{name}'{runs or nearest(name, COMMANDS)}", file=sys.stderr)
         print(f"    hint: {MX} --help lists the commands", file=sys.stderr)
         return 2
     for line in lines_for(int(status), name, rest):
