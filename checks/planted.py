@@ -178,7 +178,7 @@ CASES = (
         fake "$MX_RUN" '1s/^halted$/out of budget/'; MX_RUN=$fake checks/cc.sh 0 queens""", ("FAILED: queens",)),
     Case("library", "embed.sh", "a stack that is too small", """
         [ -n "$MX_EMBED" ] || exit 77
-        cp -r "$MX_EMBED" "$work/lib" && plant "$work/lib/zanderanvil.h" 's/ZANDERANVIL_STACK [0-9]*/ZANDERANVIL_STACK 20480/'
+        cp -r "$MX_EMBED" "$work/lib" && plant "$work/lib/zanderanvil.h" 's/ZANDERANVIL_STACK [0-9]*/ZANDERANVIL_STACK 16384/'
         checks/embed.sh "$work/lib" """, ("FAILED: the stack",)),
     Case("library", "embed.sh", "a folder without a library", "checks/embed.sh .", ("no library is there",)),
     Case("C programs", "cc.sh", "an example that is none", "checks/cc.sh 0 typo", ("typo",)),
