@@ -7,6 +7,7 @@ Each row is a command and a kind of size, run at n, 2n and 4n. Its figures are p
 command on the smallest input. A difference that is too small to measure counts as no growth. NAME chooses rows whose name begins so;
 --table prints the rows as bench/README.md has them. MX_RUN, MX_LAB and MX_CC name the programs, as for checks.
 """
+import math
 import os
 import sys
 import tempfile
@@ -140,7 +141,7 @@ ROWS = (
       for form in ("text", "svg", "html", "json", "kanata", "vcd")),
     Row("run --trace", "cycles", ("run", "a.s", "--trace", "N"), 2500, lambda n: {"a.s": loop(100_000)}),
     Row("interrupts", "rows", ("interrupts", "a.s", "--rows", "--to", "N"), 500, lambda n: {"a.s": loop(1000)}),
-    Row("interrupts --pairs", "rows", ("interrupts", "a.s", "--pairs", "--step", "100", "--as", "csv", "--to", "N00"), 16,
+    Row("interrupts --pairs", "rows", ("interrupts", "a.s", "--pairs", "--step", "100", "--as", "csv", "--to", "PAIRED"), 500,
         lambda n: {"a.s": loop(3000)}),
     *(Row(f"{name}", "requests", (name, "a.s", *more, "--interrupts", "i", *BIG), 10_000, lambda n: {"a.s": loop(1_000_000), "i": requests(n)})
       for name, more in (("run", ()), ("explain", ()), ("profile", ()))),
@@ -175,7 +176,9 @@ def measure(row, program, size, folder):
     for name, text in row.files(size).items():
         with open(f"{folder}/{name}", "w", encoding="ascii") as file:
             file.write(text)
-    words = [program, *(it.replace("N", str(size)) if it in ("N", "N00") else it for it in row.words)]
+    # So many pairs are those of the square root of twice as many cycles, which are 100 apart.
+    given = {"N": str(size), "PAIRED": f"{100 * math.isqrt(2 * size)}"}
+    words = [program, *(given.get(it, it) for it in row.words)]
     seconds, memory = [], []
     for _ in range(TIMES):
         process = os.posix_spawn(program, words, os.environ, file_actions=[
@@ -225,8 +228,8 @@ def main(words):
         common.wrong_arguments(f"no row begins with {' or '.join(names)}")
     lines = [judge(it) for it in rows]
     if is_table:
-        print("| Command | Size | 4n | Seconds at 4n | Growth at each doubling | MB at 4n | Growth |\n|---|---|---|---|---|---|---|")
-        print("\n".join(f"| `{name}` | {' | '.join(rest)} |" for name, *rest in lines))
+        print(f"{'command':24}{'size':16}{'4n':>10}{'seconds':>9}  {'growth':9}{'MB':>4}  growth")
+        print("\n".join(f"{name:24}{kind:16}{size:>10}{seconds:>9}  {times:9}{space:>4}  {spaces}" for name, kind, size, seconds, times, space, spaces in lines))
     return common.finish("growth.py", "rows")
 
 

@@ -1,7 +1,8 @@
 /* The machine of docs/MACHINE.md turn by turn, in plain C: the yardstick of turns.sh and run.sh. It reads words of user code in
  * hexadecimal and runs them for so many cycles, with so many requests at even distances:
  *     turn_machine CYCLES [REQUESTS] < WORDS
- * and prints what it counted, the registers and the number of bytes sent. Nothing of it is proved. */
+ * After a - come data words, from address 256 on. It prints what it counted, the registers and the number of bytes sent. Nothing of it
+ * is proved. */
 #include <stdbool.h>
 #include <stdint.h>
 #include <stdio.h>
@@ -237,6 +238,8 @@ int main(int count, char **words)
     for (uint32_t i = 0; i < sizeof handler / sizeof *handler; i++) code[i] = decode(handler[i]);
     for (uint32_t i = sizeof handler / sizeof *handler; i < CODE_BASE; i++) code[i] = idle;
     while (code_end < CODE_BASE + MAX_WORDS && scanf("%x", &word) == 1) code[code_end++] = decode(word);
+    if (scanf(" -") != EOF)
+        for (uint32_t at = CONSOLE + 1; at < DATA_WORDS && scanf("%x", &word) == 1; at++) data[at] = word;
     next = CODE_BASE, in_if = in_rf = in_alu = in_mem = in_wb = EMPTY;
     missed = !cached(CODE_BASE), stall = 2;
     /* Each round goes from one request to the next, or to the end. */

@@ -6,8 +6,10 @@ usage: checks/chromium.py ADDRESS PICTURE [DOM]
 leaves the picture of a page, 1600 by 900, in the file PICTURE, and what its document has become, in the file DOM. Beside Python's
 library it needs the program chromium."""
 import base64
+import ctypes
 import json
 import os
+import signal
 import socket
 import struct
 import subprocess
@@ -20,6 +22,11 @@ from common import PATIENCE, need_tools, skip
 
 CONTRAST = 4.5  # the least contrast of a text
 NAMED = ("button", "textbox", "spinbutton", "slider", "combobox", "region")
+
+
+def end_with_parent():
+    """Has the kernel end this process when the one that started it ends, however that ends: a Chromium that is left grows without limit."""
+    ctypes.CDLL(None).prctl(1, signal.SIGKILL)  # PR_SET_PDEATHSIG
 
 
 class NotStarted(SystemExit):
@@ -43,7 +50,8 @@ class Page:
         words = ["chromium", "--headless", "--no-sandbox", "--disable-gpu", "--disable-dev-shm-usage", "--remote-debugging-port=0"]
         words += ["--remote-allow-origins=*", "--user-data-dir=" + self.folder.name, "about:blank"]
         # It gets a home of its own, since this one may be read-only.
-        self.process = subprocess.Popen(words, stdout=subprocess.DEVNULL, stderr=subprocess.DEVNULL, env={**os.environ, "HOME": self.folder.name})
+        self.process = subprocess.Popen(words, stdout=subprocess.DEVNULL, stderr=subprocess.DEVNULL, preexec_fn=end_with_parent,
+                                        env={**os.environ, "HOME": self.folder.name})
         port = self.port()
         self.connect(port)
         self.number = 0
@@ -118,7 +126,8 @@ class Page:
         while True:
             answer = self.receive()
             if answer.get("method") == "Runtime.exceptionThrown":
-                self.faults.append(answer["params"]["exceptionDetails"]["text"])
+                details = answer["params"]["exceptionDetails"]
+                self.faults.append(details["text"] + " " + details.get("exception", {}).get("description", ""))
             if answer.get("id") == self.number:
                 if "error" in answer:
                     raise SystemExit(f"{method}: {answer['error']}")

@@ -34,6 +34,7 @@ EXCEPT = {
     ("mx_best", "law_order"),
     ("mx_tasks", "law_interrupts"),
     ("law_profile", "lab_profile"),
+    ("law_certify", "lab_certify"),
 }
 # The top call and the four programs stand on all that they call.
 TOPS = {"mx_command": {"law", "cmd"}, "mx_run": {"cmd"}, "mx_lab": {"cmd", "lab"}, "mx_cc": {"cmd", "cc"}, "mx_serve": {"cmd", "lab", "embed"}}

@@ -19,7 +19,8 @@ import cprograms
 import random_c
 from cprograms import GCC, LEVELS, Fault
 
-CSMITH = ["--max-funcs", "4", "--max-block-depth", "3", "--no-argc"]
+# A pointer to a field of a packed structure may be misaligned, which C does not define.
+CSMITH = ["--max-funcs", "4", "--max-block-depth", "3", "--no-argc", "--no-packed-struct"]
 CSMITH_HEADERS = "/usr/include/csmith"
 NATIVE_SECONDS = 3
 library = []

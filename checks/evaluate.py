@@ -8,6 +8,7 @@ import os
 import statistics
 import subprocess
 import sys
+import tempfile
 import xml.etree.ElementTree as ElementTree
 from concurrent.futures import ProcessPoolExecutor, ThreadPoolExecutor
 
@@ -17,7 +18,7 @@ from common import TOP, tell
 sys.path.insert(0, f"{TOP}/python")
 sys.path.insert(0, f"{TOP}/examples/embed")
 from study import transfers_first  # noqa: E402
-from zanderanvil import Case, Evaluation, evaluate  # noqa: E402
+from zanderanvil import Case, Evaluation, evaluate, spread  # noqa: E402
 
 GENERATED, BUDGET = (4 if common.IS_SAMPLE else 12), 20_000
 SCHEDULERS = {"padded": "padded", "list": "list", "best": "best", "own": transfers_first}
@@ -47,6 +48,7 @@ def compare_records(program, sources):
     tell("no shortest plan is longer than the padded one", not longer, str(longer))
     one = {it["scheduler"]: it for it in found.records if it["source"] == "full_slots.s"}
     tell("full_slots.s: 7, 5, 4 words, and 4 by a scheduler of one's own", [one[it]["words"] for it in SCHEDULERS] == [7, 5, 4, 4], str(one))
+    compare_fetches(sources)
     tell("rejected plans are counted", any(it["rejected"] for it in found.records if it["scheduler"] == "own"))
     with ThreadPoolExecutor(4) as pool:
         tell("threads give the same records", evaluate(program, SCHEDULERS, sources, pool).records == found.records)
@@ -56,7 +58,27 @@ def compare_records(program, sources):
     return found
 
 
+def compare_fetches(sources):
+    """The fetches of the schedulers that `compare` knows are those of a run: `copies` is that of `run`."""
+    own = evaluate(common.program("mx_lab"), {"copies": "copies"}, sources)
+    for name, case in sources.items():
+        with tempfile.TemporaryDirectory() as folder:
+            for file, content in (("source", case.source), ("input", case.input or b"")):
+                with open(f"{folder}/{file}", "wb") as it:
+                    it.write(content)
+            words = ["run", f"{folder}/source", "--budget", str(BUDGET), *(["--input", f"{folder}/input"] if case.input else [])]
+            report = subprocess.run([common.program("mx_run"), *words], capture_output=True, check=True).stdout.decode("latin-1").split("\n")
+        wanted = [int(line.split()[1]) for line in report[1:7] if line.split()[0] in ("cycles", "fetches", "misses")]
+        seen = [own.figures("copies", it).get(name) for it in ("cycles", "fetches", "misses")]
+        tell(f"{name}: cycles, fetches and misses of `copies` are those of `run`", seen == wanted, f"{seen} {wanted}")
+
+
 def compare_statistics(found):
+    values = [3.0, -1.0, 4.5]
+    it = spread(values)
+    holds = (it.count, it.least, it.most) == (3, -1.0, 4.5) and math.isclose(it.deviation, statistics.stdev(values)) and not it.is_shown
+    tell("the spread of three numbers", holds and math.isclose(it.high - it.mean, 4.303 * statistics.stdev(values) / math.sqrt(3)), str(it))
+    tell("the spread of none and of one", spread([]).count == 0 and math.isnan(spread([2]).low) and not spread([2]).is_shown)
     for second in ("list", "best"):
         for it in found.differences(second):
             one, other = found.figures(it.first, "cycles"), found.figures(second, "cycles")

@@ -269,6 +269,30 @@ def check_callgrind(source, folder):
         need(done.returncode == 0 and f"{total:,} (100.0%)" in done.stdout, f"callgrind_annotate reads {source}")
 
 
+def check_own(source, compared, schema, folder):
+    """Compares columns of plan files: with the list scheduler's plans it is that scheduler's, and with a plan that is rejected the run's own."""
+    for name in ("same", "spoiled"):
+        with open(f"{folder}/{name}", "w", encoding="ascii") as file:
+            lines = printed("plans", source, "--print").splitlines()
+            # (a no-op more than the padded plan has, or a third slot, breaks a rule)
+            file.write("".join(f"{line}\n" for line in ([f"{lines[0]} -", *lines[1:]] if name == "spoiled" else lines)))
+    own = [word for name in ("same", "spoiled") for word in ("--plans", f"{name}={folder}/{name}")]
+    told = json.loads(printed("compare", source, *own, "--as", "json"))
+    schema.validate(told)
+    need(told["schedulers"][:4] == compared["schedulers"], "the schedulers beside plans of files")
+    same, spoiled = told["schedulers"][4:]
+    need({**same, "plans": "copies"} == compared["schedulers"][2], "the plans of the list scheduler from a file")
+    report = printed("plans", source, f"{folder}/spoiled").splitlines()
+    rejections = [line for line in report if " rejected by " in line]
+    counts = dict(line.split(" ", 1) for line in report if line.count(" ") == 1)
+    need(spoiled["rejected"] == len(rejections), "how many plans are rejected")
+    need(all(int(counts[it]) == spoiled[it] for it in ("words", "noops", "cycles", "misses", "squashes")), "the figures of the run by plans")
+    text = printed("compare", source, *own).splitlines()
+    need([line for line in text if " rejected by " in line] == [f"spoiled: {line}" for line in rejections], "the rejected plans of a file")
+    profile = json.loads(printed("profile", source, "--plans", f"{folder}/spoiled", "--as", "json"))
+    need(profile["counts"]["cycles"] == spoiled["cycles"], "the profile of plans from a file")
+
+
 def check(source, schema, folder):
     texts = [("profile", "--by", by) for by in ("line", "label", "function", "c")] + [("compare",), ("blocks",), ("disassemble",), ("caches",)]
     found = {}
@@ -283,6 +307,7 @@ def check(source, schema, folder):
         schema.validate(json.loads(line))
     check_words(found["disassemble"], data_labels(source))
     check_caches(found["caches"])
+    check_own(source, found["compare"], schema, folder)
     for words in (["--step", str(1 + found["caches"]["cycles"] // 2000)], ["--pairs", "--step", str(1 + found["caches"]["cycles"] // 20)]):
         told = json.loads(printed("interrupts", source, *words, "--as", "json"))
         schema.validate(told)

@@ -6,6 +6,7 @@ It is run by `checks/all.sh --self-test`. A case is a script for bash that begin
 import concurrent.futures
 import os
 import re
+import shlex
 import shutil
 import threading
 from typing import NamedTuple
@@ -37,6 +38,49 @@ class Case(NamedTuple):
     wanted: tuple
 
 
+# A fault of the workbench's page for each part of serve.py: its name, how sed plants it, and what the part then prints.
+PAGE_FAULTS = (
+    ("try_faults", "s/(it.line ? `line ${it.line}, /(it.line ? `line ${it.line + 1}, /", "it is told with its line"),
+    ("try_cycles", "s/i: () => toggleInterrupt(state.cycle)/i: () => toggleInterrupt(state.cycle + 1)/", "the key i takes it back"),
+    ("try_end", "s/goToEnd = () => go(lastCycle())/goToEnd = () => go(lastCycle() - 1)/", "run goes to the last cycle"),
+    ("try_values", "s/^const character = n => n >= 32 && n < 127/const character = n => n >= 32 \\&\\& n < 1000/", "the registers of cycle 250"),
+    ("try_search", "s/^  byte: (range, k) => .*/  byte: (range, k) => k % 7 === 0,/", "the next cycles with a byte"),
+    ("try_stale", "s/^  document.body.classList.add('stale');$//", "with a fault the old results are grey"),
+    ("try_killed", "s/return row && !isKilled(row, moved) ? row : null/return row/", "what the interrupt killed is not held"),
+    ("try_breakpoint", "s/toggleBreakpoint(Number(entry.dataset.line))/toggleBreakpoint(Number(entry.dataset.line) + 1)/", "next and previous go from breakpoint"),
+    ("try_stalled", "s/moved >= 0 && moved < j ?/moved >= 0 \\&\\& moved < j \\&\\& j < row.cells.length ?/", "the picture of the stalled cycle"),
+    ("try_reasons", "s/ : 'does not hold';/ : goes(word.address);/", "of each branch in ALU it says"),
+    ("try_follow", "s/^  revealLines(Math.min(...nearLines).*//", "the editor follows the run"),
+    ("try_costs", "s/|| 0) + row.cycles)/|| 0) + row.caused)/", "the margin has the cycles of profile"),
+    ("try_keys", "s/t: 'interrupt' }/t: 'squash' }/", "the key t runs to the next ones"),
+    ("try_card", "s/`r${it.register} = ${hex(it.value)}`/`r${it.register} = ${hex(it.value + 1)}`/", "its operands have their values"),
+    ("try_help", "/^  sent: \\['The bytes/d", "each panel has its help"),
+    ("try_experiment", "s/else words.set(change.number, change.value)/else words.set(change.number, 0)/", "the run goes on with the value"),
+    ("try_sides", "s/(at === kept.first ? 'first '/(at === kept.first + 1 ? 'first '/", "it is marked:"),
+    ("try_schedulers", "s/^  find('kept-plans').value = plans;/  find('kept-plans').value = COPIES;/", "padded and copies diverge where draw says"),
+    ("try_modules", "s/places\\[line\\] = from\\[k\\]/places[line] = from[k + 1]/", "lines of this module and of the other"),
+    ("try_plans", "s/plan.best < plan.list ?/plan.best > plan.list ?/", "full_slots.s: then it says"),
+    ("try_download", "s/cycles: to - from + 1, as/cycles: to - from, as/", "the SVG is that of draw"),
+    ("try_speed", "s/TYPING = 4,/TYPING = 300,/", "from a key to the moved diagram"),
+    ("try_work", "s/^const show = () => {/&\\n  for (const ends = performance.now() + 25; performance.now() < ends;);/", "a step at 10,000 cycles"),
+    ("try_work", "s/^<link rel=\"icon\"/<link rel=\"preconnect\" href=\"https:\\/\\/example.org\">\\n&/", "it takes nothing from elsewhere"),
+    ("try_edit", "s/^  if (answer) tellAnswer('verdict'.*/  for (const ends = performance.now() + 400; performance.now() < ends;);\\n&/", "an edit of 200 lines"),
+    ("try_kept", "s/held\\[1\\] |= 3 << (at & ~1)/held[1] |= 1 << at/", "the cache of cycle"),
+    ("try_names", "s/ aria-label=\"cycle, as a slider\"//", "every control has a name"),
+    ("try_link", "s/language: find('language').value, cycle: state.cycle,/language: find('language').value, cycle: 0,/", "and what its run is given"),
+    ("try_long", "s/+ name, hex(value), String/+ name, hex(value \\& 0xfffff), String/", "r1 in cycle 9000000"),
+    ("try_bad_input", "s/if (text.length > MOST_TEXT)/if (false)/", "a text of more than 4 MB"),
+    ("try_many_lines", "s/> MOST_LINES ?/> 100 * MOST_LINES ?/", "a text of 1,000,000 lines"),
+    ("try_c", "s/=== TEXT ? Number(told\\[2\\]) : 0/=== TEXT ? Number(told[2]) + 1 : 0/", "the margin has cycles of the loop's lines"),
+    ("try_examples", "s/{ input: example.input, /{ input: '', /", "calc.c sends what it has to"),
+    ("try_markup", "s/if (words !== undefined) made.textContent = words/if (words !== undefined) made.innerHTML = words/", "what a text holds is no markup"),
+    ("try_in_view", "s/--bottom, min(350px, 35vh)/--bottom, min(250px, 25vh)/", "nothing of the registers, data words"),
+    ("try_lost_server", "s/'the server does not answer: [^']*'/'this does not work'/", "a lost server is told"),
+    ("try_low_screen", "s/--middle, 30vh/--middle, 18vh/", "at 1280 x 720 all stages of sort.s"),
+    ("try_server_back", "s/^    if (response.status === 403) return.*//", "a server that was started anew is told"),
+    ("try_looks", "s/--soft: #575757/--soft: #a0a0a0/", "contrast is at least 4.5 in serve-390-light"),
+)
+PLANTED_PAGE = "\n".join(f"plant tools/serve/page.html {shlex.quote(it)}" for _, it, _ in PAGE_FAULTS)
 CASES = (
     Case("deps", "deps.py", "a library that no file names", "plant crates.txt 's/^mx_code: mx_isa$/& memchr/'; checks/deps.py",
          ("mx_code lists memchr, which no file of it names",)),
@@ -63,8 +107,22 @@ CASES = (
     Case("exercises", "exercises.py", "a laboratory that fails", "MX_LAB=/bin/false checks/exercises.py", ("FAILED",)),
     Case("language server", "lsp.py", "another range", """
         plant tools/lsp.py 's/found\\["column"\\] - 1/found["column"]/'; checks/lsp.py""", ("FAILED: its range",)),
+    Case("CI file", "ci.py", "a step that passes over a fault", """
+        plant examples/ci/.github/workflows/assembly.yml 's/|| status=1/|| :/'; checks/ci.py""", ("FAILED: a fault: the step that fails",)),
     Case("schedulers", "evaluate.py", "an interval of a normal distribution", """
         plant python/zanderanvil/evaluation.py 's/12.706/1.960/'; checks/evaluate.py""", ("FAILED: the interval of 2 differences",)),
+    Case("study", "study.py", "a claim of a difference whose interval has 0 in it", """
+        plant checks/study.py 's/^    if not it.is_shown:$/    if False:/'; checks/study.py --text && checks/study.py --compare""",
+         ("FAILED: -?0.72 ± 1.77: a claim",)),
+    Case("study", "study.py", "another count", """
+        plant docs/study.csv '/^mandel,/s/,572,/,999,/'; checks/study.py --compare mandel""", ("FAILED: the counts of mandel: words: 572, not 999",)),
+    Case("notebook", "notebook.py", "another stored number", """
+        plant docs/study.ipynb 's/35 programs/36 programs/'; checks/notebook.py""", ("FAILED: cell 2 shows what is stored",)),
+    Case("models", "models.py", "a cache that brings one word", """
+        plant python/zanderanvil/models.py 's/    brings: int = 2$/    brings: int = 1/'; checks/models.py""", ("FAILED: countdown.s, 0 requests: fetches and misses",)),
+    Case("models", "models.py", "loads without their delay", """
+        plant python/zanderanvil/models.py 's/before\\[1\\] if before\\[0\\] and it == before\\[0\\] else //'; checks/models.py""",
+         ("FAILED: a load directly after the load of its base",)),
     Case("plan cases", "plans.py", "another line", "plant crates/test_plan_cases/data/plans.txt '5s/greedy/greedier/'; checks/plans.py",
          ("FAILED: line 5 of plans.txt",)),
     Case("caches", "caches.py", "another number of misses", """
@@ -82,6 +140,14 @@ CASES = (
     Case("blocks", "blocks.py", "a program that prints nothing", "MX_LAB=/bin/true checks/blocks.py", ("FAILED: source 1",)),
     Case("blocks", "blocks.py", "a lower bound that is one more", """
         fake "$MX_LAB" 's/"bound": 7,/"bound": 8,/'; MX_SAMPLE=1 MX_LAB=$fake checks/blocks.py""", ("FAILED: source",)),
+    Case("certificates", "certificates.py", "a checker without the rule Delay", """
+        plant examples/check_certificate.py 's/lambda: not any(feeds.*/lambda: True),/'; checks/certificates.py""",
+         ("FAILED: a load directly before its reader",)),
+    Case("certificates", "certificates.py", "branches to the word after the right one", """
+        plant checks/certificates.py 's/(to - link.address - link.place) & 0xFFFF/(to - link.address - link.place + 1) \\& 0xFFFF/'
+        checks/certificates.py""", ("FAILED: 120 images by random plans and copies are accepted",)),
+    Case("certificates", "certificates.py", "a faulty line that is passed over", """
+        plant examples/check_certificate.py 's/need(low <= value_of(token) <= high)/pass/'; checks/certificates.py""", ("FAILED: mutated sources",)),
     Case("profiles", "profiles.py", "no sources", "checks/profiles.py 0", ("expected a number of sources above 0",)),
     Case("profiles", "profiles.py", "false misses, without assertions", """
         fake "$MX_LAB" 's/^misses /misses 9/'; PYTHONOPTIMIZE=1 MX_LAB=$fake checks/profiles.py 3""", ("FAILED: the counts",)),
@@ -128,8 +194,12 @@ CASES = (
         MX_TIMES=yes checks/serve_faults.py""",
          ("FAILED: fifo as FILE", "FAILED: '--host ' is refused", "FAILED: '--proved' is refused", "FAILED: it is logged",
           "FAILED: a request that was begun before keeps its connection", "FAILED: of 16 runs at most", "FAILED: refused: int a = 1'0")),
-    Case("workbench", "serve.py", "another picture than the page's", """fake "$MX_LAB" 's/ALU/MEM/g'; MX_LAB=$fake checks/serve.py""",
-         ("FAILED: the cells of cycle",)),
+    Case("workbench", "serve.py", "another picture than the page's", """
+        fake "$MX_LAB" 's/ALU/MEM/g'; MX_LAB=$fake checks/serve.py "$work" try_cycles_and_end""", ("FAILED: the cells of cycle",)),
+    Case("workbench", "serve.py", "an argument", "checks/serve.py . typo", ("unknown part typo",)),
+    Case("workbench", "serve.py", "a fault of the page for each part", PLANTED_PAGE + """
+        head -c 400000 /dev/zero | tr '\\0' ' ' >>tools/serve/page.html
+        MX_TIMES=yes checks/serve.py""", (*(f"^FAILED: {it}" for _, _, it in PAGE_FAULTS), "^FAILED: the page has fewer than")),
     Case("shells", "shells.sh", "a command that bash does not offer",
          "plant tools/install.py \"s/quoted(' '.join(COMMANDS) + ' lab/quoted(' '.join(list(COMMANDS)[1:]) + ' lab/\"; checks/shells.sh",
          ("FAILED: bash: the command run",)),

@@ -1,10 +1,11 @@
 #!/usr/bin/env python3
 """Drives the page of the workbench in headless Chromium, and compares what it shows with what the commands print.
 
-usage: checks/serve.py [FOLDER]
+usage: checks/serve.py [FOLDER [PART ..]]
 
-Pictures of the page, on three widths, light and dark, are left in FOLDER, to be looked at. It needs the program chromium, and the
-programs as ./mx leaves them, or those that MX_SERVE, MX_RUN, MX_LAB and MX_CC name."""
+Pictures of the page, on three widths, light and dark, are left in FOLDER, to be looked at. PART names one of its parts, as try_killed;
+without any all are tried. It needs the program chromium, and the programs as ./mx leaves them, or those that MX_SERVE, MX_RUN, MX_LAB and
+MX_CC name."""
 import contextlib
 import json
 import os
@@ -210,19 +211,49 @@ def cells_shown(bench):
     return sorted(found)
 
 
+def address_of(bench):
+    """Returns the address of the page, without the exercise."""
+    return bench.ask("location.origin + location.pathname + location.search")
+
+
 def go(bench, cycle):
     bench.ask(f"(it => {{ it.value = {cycle}; it.dispatchEvent(new Event('change')); }})(document.getElementById('cycle'))")
     wait_for(bench, f"document.getElementById('told').textContent.startsWith('cycle {cycle}:')")
     bench.settle()
 
 
+def click_at(bench, x, y, count=1):
+    """Clicks at a place of the window, with the mouse."""
+    for kind in ("mousePressed", "mouseReleased"):
+        bench.call("Input.dispatchMouseEvent", type=kind, x=x, y=y, button="left", clickCount=count)
+    bench.settle()
+
+
+def click(bench, selector, count=1):
+    """Clicks on the middle of an element, with the mouse, once or twice."""
+    bench.ask(f"document.querySelector('{selector}').scrollIntoView({{ block: 'nearest' }})")
+    for nth in range(1, count + 1):
+        click_at(bench, *middle_of(bench, selector), nth)
+
+
+def press_enter(bench, selector):
+    """Gives an element the focus, and presses Enter."""
+    bench.ask(f"document.querySelector('{selector}').focus()")
+    for kind in ("keyDown", "keyUp"):
+        bench.call("Input.dispatchKeyEvent", type=kind, key="Enter", code="Enter", text="\r", windowsVirtualKeyCode=13)
+    bench.settle()
+
+
 def click_head(bench, cycle):
     """Clicks on a cycle's number, with the mouse."""
-    at = bench.ask(f"""(it => {{ const box = it.getBoundingClientRect(); return [box.x + box.width / 2, box.y + 8]; }})(
-      [...document.querySelectorAll('#heads .head')].find(it => it.textContent.split('\\n')[0] === '{cycle}'))""")
-    for kind in ("mousePressed", "mouseReleased"):
-        bench.call("Input.dispatchMouseEvent", type=kind, x=at[0], y=at[1], button="left", clickCount=1)
-    bench.settle()
+    click_at(bench, *bench.ask(f"""(it => {{ const box = it.getBoundingClientRect(); return [box.x + box.width / 2, box.y + 8]; }})(
+      [...document.querySelectorAll('#heads .head')].find(it => it.textContent.split('\\n')[0] === '{cycle}'))"""))
+
+
+def click_column(bench, away):
+    """Clicks into the picture, so many columns from that of the shown cycle."""
+    click_at(bench, *bench.ask(f"""[document.getElementById('now').getBoundingClientRect().x + {away + 0.5} * COLUMN,
+      document.getElementById('view').getBoundingClientRect().y + 100]"""))
 
 
 def try_cycles(bench):
@@ -234,6 +265,8 @@ def try_cycles(bench):
     bench.key("ArrowLeft")
     tell("a step back", bench.cycle() == 249, bench.cycle())
     bench.key("ArrowRight")
+    click_column(bench, -3)
+    tell("a click into the picture goes to its cycle", bench.cycle() == 247, bench.cycle())
     go(bench, REQUEST)
     click_head(bench, REQUEST)
     tell("a click on a cycle's number sets an interrupt", bench.ask("document.getElementById('interrupts').value") == str(REQUEST))
@@ -277,6 +310,66 @@ def try_end(bench):
     tell("the console is that of the report", bench.ask("document.getElementById('console').textContent") == console.decode(), console)
 
 
+# Values of each kind: a negative one, a character of ASCII, and 259, which is none.
+VALUES = """        addi r0,#-7,r8
+        addi r0,#259,r9
+        addi r0,#65,r10
+        movtos r9,md
+        la   table,r1
+        st   0[r1],r9
+        st   1[r1],r8
+        st   2[r1],r10
+        halt
+        .data
+table:  .word 1,2,3
+"""
+
+
+def values_of(drawn, cycle):
+    """Returns the registers with MD, the data words, and the counts that a cycle of a drawing leaves."""
+    names = ["marks", "a", "b", "result", "ways", "md", "inputs", "fetches", "misses", "squashes", "interrupts", "byte", "registers", "address", "word"]
+    registers, words, last = [0] * 32, {first + k: it for first, *values in drawn["words"] for k, it in enumerate(values)}, {}
+    for it in (it for it in drawn["cycles"][:cycle + 1] if isinstance(it, list)):
+        last = dict(zip(names, it))
+        for number, value in zip(last["registers"][::2], last["registers"][1::2]):
+            registers[number] = value
+        if last["byte"] < 0 <= last["address"]:
+            words[last["address"]] = last["word"]
+    return [*registers, last["md"]], words, last
+
+
+def three_ways(value):
+    """Returns a word in hexadecimal, as a signed number, and as a character of ASCII."""
+    value &= 0xffffffff
+    return [f"{value:08x}", str(value - (value >> 31 << 32)), chr(value) if 32 < value < 127 else ""]
+
+
+def try_values(bench):
+    """Each register, data word and count in its columns, against `draw`: 259 is no character."""
+    for source, cycle in ((VALUES, None), (SORT, 250), (SORT, 8)):
+        type_source(bench, source)
+        settled(bench)
+        drawn = json.loads(printed(source, "draw", "--cycles", "400", "--as", "json"))
+        cycle = drawn["halts"] if cycle is None else cycle
+        go(bench, cycle)
+        registers, words, counts = values_of(drawn, cycle)
+        shown = bench.ask("""['registers', 'registers-high'].flatMap(id => [...document.querySelectorAll(`#${id} tr`)].slice(1)
+          .map(row => [...row.children].map(it => it.textContent.trim())))""")
+        shown = {name.lstrip(">"): values for name, *values in shown}
+        wanted = {name: three_ways(it) for name, it in zip([*(f"r{n}" for n in range(32)), "md"], registers)}
+        tell(f"the registers of cycle {cycle} in their columns", shown == wanted, [(it, shown.get(it), wanted[it]) for it in wanted if shown.get(it) != wanted[it]])
+        told = bench.ask("[...document.querySelectorAll('#words .word')].map(it => it.title)")
+        shown = [re.fullmatch(r">?([0-9a-f]{4}) ([0-9a-f]{8}) +(-?\d+)(?: (\S)?(?:  ?(\S+))?)?", it) for it in told]
+        labels = {address: name for name, address, kind in reversed(drawn["labels"]) if kind == "data"}
+        wanted = {f"{it:04x}": [*three_ways(words[it]), labels.get(it, "")] for it in words}
+        tell(f"the data words of cycle {cycle} in their columns", {it and it[1]: [it[2], it[3], it[4] or "", it[5] or ""] for it in shown if it} == wanted, (told, wanted))
+        shown = dict(bench.ask("[...document.querySelectorAll('#counts tr')].map(row => [...row.cells].map(it => it.textContent))"))
+        marks = drawn["cycles"][cycle] if isinstance(drawn["cycles"][cycle], int) else counts["marks"]
+        yes = ["yes" if marks >> bit & 1 else "no" for bit in range(4)]
+        wanted = [str(cycle + 1), *yes, *(str(counts[it]) for it in ("fetches", "misses", "squashes", "interrupts", "inputs"))]
+        tell(f"the counts of cycle {cycle}", list(shown.values()) == wanted, (shown, wanted))
+
+
 def try_cycles_and_end(bench):
     try_cycles(bench)
     try_end(bench)
@@ -293,8 +386,7 @@ def try_search(bench):
         bench.ask(f"document.getElementById('kind').value = '{kind}'; document.getElementById('line').value = 12")
         found = []
         for _ in wanted:
-            bench.ask("document.getElementById('after').click()")
-            bench.settle()
+            click(bench, "#after")
             found.append(bench.cycle())
         tell(f"the next cycles with a {kind} are found", found == wanted, (found, wanted))
 
@@ -313,6 +405,8 @@ def try_stale(bench):
     wait_for(bench, "document.querySelector('.wrong') !== null")
     seen = bench.ask(f"[document.body.classList.contains('stale'), {MARKED}, Number(getComputedStyle(document.getElementById('verdict')).opacity) < 1]")
     tell("with a fault the old results are grey and no line is marked", seen == [True, 0, True], seen)
+    ends = bench.ask("document.getElementById('end').textContent")
+    tell("the end of the old run is told, and no fault a second time", ends.startswith("the run halts in cycle"), ends)
     tell("it says what to do", "Correct the faults" in bench.ask("document.getElementById('stale').textContent"))
     type_source(bench, SORT)
     tell("mended, nothing is grey", settled(bench) and not bench.ask("document.body.classList.contains('stale')"))
@@ -320,30 +414,168 @@ def try_stale(bench):
     bench.call("Input.insertText", text="; a comment\n")
     waits = wait_for(bench, "document.getElementById('stale').textContent.includes('press run')")
     tell("a text whose last run took long waits for its reader", waits and bench.ask("document.body.classList.contains('stale')"))
-    bench.ask("document.getElementById('run').click()")
+    click(bench, "#run")
     tell("and runs when it is asked to", settled(bench) and not bench.ask("document.body.classList.contains('stale')"))
     tell("the title names what is shown", "(changed)" in bench.ask("document.title"), bench.ask("document.title"))
     type_source(bench, SORT)
     settled(bench)
 
 
+def visits_in(drawn, line):
+    """Returns the cycles in which a word of a line is in MEM."""
+    own = {word[0] for word in drawn["listing"] if word[4] == line}
+    return sorted(begins + cells.index("3") for address, begins, cells in drawn["rows"] if "3" in cells and address in own)
+
+
 def try_breakpoint(bench):
-    """A click on a line's number sets a breakpoint, which next and previous come to; in a stalled cycle each stage says what it holds."""
+    """A click on a line's number sets a breakpoint, which next and previous come to."""
     bench.ask("document.getElementById('source').scrollTop = 0")
     bench.settle()
-    bench.ask("document.querySelector('#gutter [data-line=\"9\"]').click()")
+    click(bench, "#gutter [data-line=\"9\"]")
     go(bench, 300)
     found = []
     for button in ("after", "after", "before"):
-        bench.ask(f"document.getElementById('{button}').click()")
-        bench.settle()
+        click(bench, f"#{button}")
         found.append(bench.cycle())
-    tell("next and previous go from breakpoint to breakpoint", 300 < found[0] < found[1] and found[2] == found[0], found)
-    bench.ask("document.querySelector('#gutter [data-line=\"9\"]').click()")
+    wanted = [it for it in visits_in(json.loads(printed(SORT, "draw", "--cycles", "1000", "--as", "json")), 9) if it > 300][:2]
+    tell("next and previous go from breakpoint to breakpoint", found == [*wanted, wanted[0]], (found, wanted))
+    bench.ask("document.getElementById('source').scrollTop = 0")
+    bench.settle()
+    click(bench, "#gutter [data-line=\"9\"]")
     tell("a second click takes it away", bench.ask("state.breakpoints.size") == 0)
-    go(bench, 8)
-    held = bench.ask("[...document.querySelectorAll('#stages tr')].slice(1).map(row => row.lastElementChild.textContent)")
-    tell("a stalled cycle says of each stage why it waits", bench.ask("state.range.isStalled(8 - state.range.from)") and all(held), held)
+    bench.ask("document.getElementById('line').value = 9; document.getElementById('view').focus()")
+    bench.key("b")
+    tell("the key b sets it too", bench.ask("[...state.breakpoints]") == [9])
+    go(bench, 300)
+    found = []
+    for key, modifiers in (("n", 0), ("n", 0), ("N", 8)):
+        bench.key(key, modifiers=modifiers)
+        found.append(bench.cycle())
+    tell("the key n runs to it, with Shift backwards", found == [*wanted, wanted[0]], (found, wanted))
+    bench.key("b")
+
+
+# The words of the cycle with their stages: in the picture, in the table of the stages, and in the listing.
+SHOWN_STAGES = """(() => {
+  const stage = it => it === 'wait' ? 'IF' : it;
+  return [[...document.querySelectorAll('#rows .row')].flatMap(row => [...row.querySelectorAll('.cell.on')].map(cell =>
+      [row.querySelector('.name span').textContent, stage(cell.textContent)].join(' '))),
+    [...document.querySelectorAll('#stages tr')].slice(1).filter(row => row.cells[1].textContent).map(row => [row.cells[1].textContent, row.cells[0].textContent].join(' ')),
+    [...document.querySelectorAll('#listing .entry.on')].flatMap(it => it.querySelector('.tag').textContent.split(' ').map(tag =>
+      [Number(it.dataset.address).toString(16).padStart(4, '0'), tag === 'waits' ? 'IF' : tag.replace(/[*!]/, '')].join(' ')))];
+})()"""
+
+
+def try_stalled(bench):
+    """In a stalled cycle each stage says what it holds and why; picture, table and listing show the same words in the same stages."""
+    drawn = json.loads(printed(SORT, "draw", "--cycles", "300", "--as", "json"))
+    stalled = [k for k, it in enumerate(drawn["cycles"]) if isinstance(it, int) and it & 1]
+    told = []
+    for cycle in stalled[4:12]:
+        go(bench, cycle)
+        picture, table, listing = (set(it) for it in bench.ask(SHOWN_STAGES))
+        held = {f"{word} {stage}" for word, stage in stages_in(drawn, cycle)}
+        tell(f"the picture of the stalled cycle {cycle} has what each stage holds", picture == held, (picture, held))
+        tell("its table too, but for the fetch before the one that waits", table < held and {it[-2:] for it in held - table} == {"IF"}, (table, held))
+        tell("and its listing", listing == held, (listing, held))
+        reasons = bench.ask("[...document.querySelectorAll('#stages tr')].slice(1).map(row => row.lastElementChild.textContent)")
+        tell("it says of each stage why it waits", all(reasons), reasons)
+        told.append(re.search(r"stalled cycle (\d) of 2", reasons[0]))
+    wanted = [2 if it - 1 in stalled else 1 for it in stalled[4:12]]
+    tell("it says which of the two cycles of a miss it is", [it and int(it[1]) for it in told] == wanted, (told, wanted))
+
+
+STAGES = ("IF", "RF", "ALU", "MEM", "WB")
+
+
+def stages_in(drawn, cycle):
+    """Returns the words in the stages in a cycle of a drawing, by their addresses; in a stalled one also those that are held."""
+    moved = cycle
+    while moved >= 0 and isinstance(drawn["cycles"][moved], int):
+        moved -= 1
+    found = set()
+    for address, begins, cells in drawn["rows"]:
+        for at in {moved, cycle}:
+            sign = cells[at - begins:at - begins + 1] if begins <= at else ""
+            if sign.strip() and (sign not in "ABCDE" or at == cycle):
+                found.add((f"{address:04x}", STAGES[0 if sign == "w" else "01234abcdeABCDE".index(sign) % 5]))
+    return found
+
+
+def try_reasons(bench):
+    """What is said of a branch in ALU is what the run does; a word that is none of the program is said to be none."""
+    drawn = json.loads(printed(SORT, "draw", "--cycles", "400", "--as", "json"))
+    kinds, wrong, seen = {word[0]: word[7] for word in drawn["listing"]}, [], set()
+    go(bench, 0)
+    bench.ask("Promise.resolve(state.loaded).then(() => 0)")
+    told = dict(bench.ask("""[...Array(300).keys()].flatMap(k => state.range.rowsAt(k).filter(row => signAt(row, k) === '2')
+      .map(row => [row.fetch, whyAt(state.range, row, k)]))"""))
+    for number, (address, _, cells) in enumerate(drawn["rows"][:-3]):
+        why, goes = told.get(drawn["first"] + number), drawn["rows"][number + 3][0]
+        if why is None or "2" not in cells or kinds.get(address, 0) < 3:
+            continue
+        holds = goes != address + 3
+        seen.add(holds)
+        if "makes" in why or ("goes to" in why) != holds or holds and f"goes to {goes:04x}" not in why or not holds and "does not hold" not in why:
+            wrong.append((address, goes, why))
+    tell("of each branch in ALU it says whether it holds, and where it goes", seen == {True, False} and not wrong, (seen, wrong[:3]))
+    bench.ask("document.getElementById('run').click()")
+    time.sleep(0.3)
+    settled(bench)
+    bench.settle()
+    rows = bench.ask("[...document.querySelectorAll('#stages tr')].slice(1).map(row => [...row.cells].map(it => it.textContent))")
+    tell("what is fetched after the last word is no word of the program", [it[4] for it in rows if not it[2]] == 3 * ["no word of the program"], rows)
+
+
+# A routine far from its call: the editor shows one of them at a time.
+FAR = "        addi r0,#3,r1\nloop:   call far,r31\n        addi r1,#-1,r1\n        bne  r1,r0,loop\n        halt\n" + 90 * "; between\n" \
+    + "far:    addi r2,#1,r2\n        addi r2,#2,r2\n        addi r2,#3,r2\n        jr   r31\n"
+
+
+def try_follow(bench):
+    """The editor follows the run: in each cycle the line of the newest word is in view, and marked."""
+    type_source(bench, FAR)
+    settled(bench)
+    time.sleep(1)  # (the source stays where it is for a moment while one types)
+    drawn = json.loads(printed(FAR, "draw", "--cycles", "100", "--as", "json"))
+    lines, lost, seen = {f"{word[0]:04x}": word[4] for word in drawn["listing"]}, [], set()
+    go(bench, 0)
+    bench.ask("document.getElementById('view').focus()")
+    for cycle in range(1, 30):
+        if cycle % 10:
+            bench.key("ArrowRight")
+        else:
+            click_column(bench, 1)
+        waits = {f"{address:04x}" for address, begins, cells in drawn["rows"] if cells[cycle - begins:cycle - begins + 1] == "w" and begins <= cycle}
+        order = sorted(stages_in(drawn, cycle), key=lambda it: (STAGES.index(it[1]), it[0] not in waits))
+        newest = [lines[word] for word, _ in order if lines.get(word)]
+        if not newest:
+            continue
+        seen.add(newest[0] > 90)
+        if not bench.ask(f"""(it => {{ const box = it && it.getBoundingClientRect(), around = document.getElementById('source').getBoundingClientRect();
+          return it && it.classList.contains('on') && box.top >= around.top - 1 && box.bottom <= around.bottom + 1; }})(document.querySelector('#gutter [data-line="{newest[0]}"]'))"""):
+            lost.append((cycle, newest))
+    tell("the editor follows the run, by keys and by clicks, also in stalled cycles", seen == {True, False} and not lost and bench.cycle() == 29, (seen, lost, bench.cycle()))
+
+
+def try_costs(bench):
+    """The cycles at the margin, and what they were spent on, against `profile`."""
+    click(bench, "#costs")
+    wait_for(bench, "state.costs.size > 0")
+    bench.settle()
+    profiled = json.loads(printed(SORT, "profile", "--as", "json"))
+    wanted = {}
+    for row in profiled["rows"]:
+        if row["line"]:
+            wanted[row["line"]] = wanted.get(row["line"], 0) + row["cycles"]
+    shown = dict(bench.ask("[...document.querySelectorAll('#gutter [data-line]')].map(it => [it.dataset.line, it.querySelector('.cost').textContent])"))
+    wanted = {line: str(wanted.get(int(line)) or "") for line in shown}
+    tell("the margin has the cycles of profile", len(shown) > 5 and shown == wanted, (shown, wanted))
+    text = printed(SORT, "profile").decode().split("cycles by what they were spent on\n")[1].splitlines()
+    wanted = [[name, cycles, part] for cycles, part, name in (it.split(maxsplit=2) for it in text[:6])]
+    shown = bench.ask("[...document.querySelectorAll('#spent tr')].slice(1).map(row => [...row.cells].map(it => it.textContent))")
+    tell("what they were spent on is said in the words of profile", shown == wanted, (shown, wanted))
+    click(bench, "#costs")
 
 
 # What of some panels is not wholly in view: an element of each, or the end of what it holds.
@@ -355,7 +587,7 @@ OUT_OF_VIEW = """(ids => ids.filter(id => {
 }))(['registers', 'registers-high', 'saved', 'counts', 'words', 'console'])"""
 
 
-def try_in_view(url):
+def try_in_view(url, _folder):
     """At 1500 x 1000 all registers, MD, the saved fetches, 32 data words, the console and all counts are in view; a bar gives a panel
     another size, which it has again when the page is opened again; with costs the marks of the stages are whole."""
     with opened(url, 1500, 1000) as bench:
@@ -457,8 +689,9 @@ def try_card(bench):
     word = listing[address]
     tell("the card has the instruction and its word", word[2] in card and f"{word[1]:08x}" in card, card)
     ways = [operands[4] % 4, operands[4] >> 2]
-    wanted = [(f"r{word[5 + j]} = {operands[1 + j] & 0xffffffff:08x}", ["", "register file", "bypass in RF", "bypass in ALU"][way]) for j, way in enumerate(ways) if way]
-    tell("its operands have their values and where they came from", wanted and all(value in card and way in card for value, way in wanted), (wanted, card))
+    wanted = [rf"r{word[5 + j]} = {three_ways(operands[1 + j])[0]}\s+{three_ways(operands[1 + j])[1]}, from the {['', 'register file', 'bypass in RF', 'bypass in ALU'][way]}"
+              for j, way in enumerate(ways) if way]
+    tell("its operands have their values and where they came from", wanted and all(re.search(it, card) for it in wanted), (wanted, card))
     fields = [f"{word[1] >> 30}", f"{word[1] >> 22 & 31}", f"{word[1] >> 17 & 31}"]
     tell("and its fields", all(re.search(rf"(?m)\b{it}\b", card) for it in [*fields, "31-30", "29-27", "26-22", "21-17"]), card)
     bench.call("Input.dispatchMouseEvent", type="mouseMoved", x=2, y=2)
@@ -489,6 +722,15 @@ def try_help(bench):
       return found;
     })""")
     tell("it opens", len(told) >= 12 and all(is_open and length > 80 for is_open, length in told), told)
+    click(bench, "#counted .about")
+    told = bench.ask("document.getElementById('helping').open && document.getElementById('helping').innerText")
+    tell("a click opens it", told and "ends the run" in told, told)
+    press_enter(bench, "#helping button")
+    tell("Enter closes it", not bench.ask("document.getElementById('helping').open"))
+    press_enter(bench, "#picture ~ .about")
+    told = bench.ask("document.getElementById('helping').open && document.getElementById('helping').innerText")
+    tell("Enter opens it, and it explains each mark of the picture", told and all(it in told for it in ("dashed", "dotted", "struck through", "red bar", "req", "int", "arrows")), told)
+    bench.ask("document.getElementById('helping').close()")
     head = bench.ask("document.querySelector('header').innerText")
     tell("the header says what its cycles are for", "download the cycles" in head, head)
 
@@ -516,6 +758,9 @@ def try_modules(bench):
     bench.key("ArrowRight")
     shown = bench.ask("[document.getElementById('source').value.includes('emit:'), document.activeElement.id]")
     tell("an arrow key goes to the next tab", shown == [True, "tab-1"], shown)
+    click(bench, "#tab-0")
+    tell("a click goes to a tab", not bench.ask("document.getElementById('source').value.includes('emit:')"))
+    click(bench, "#tab-1")
     go(bench, 0)
     bench.ask("document.getElementById('line').value = 4")
     bench.ask("document.getElementById('view').focus()")
@@ -540,7 +785,7 @@ def try_plans(bench):
         settled(bench)
         address = bench.ask("[...state.range.listing.values()].find(it => it.isNoOp).address")
         said = bench.ask(f"whyNoOp(state.range, {address})")
-        tell(f"{name}: who has found no instruction is told, and no more than that", said.endswith("the list scheduler found no instruction for it"), said)
+        tell(f"{name}: who has found no instruction is told, and no more than that", said.endswith("the list scheduler found none"), said)
         bench.ask("document.getElementById('shortest').click()")
         tell("the shortest plans come", wait_for(bench, "state.plans !== null"))
         said = bench.ask(f"whyNoOp(state.range, {address})")
@@ -573,12 +818,16 @@ def try_experiment(bench):
     words = bench.ask("state.range.addresses.filter(it => it >= 258 && it < 279).map(it => state.range.wordAt(it, state.cycle - state.range.from)[1])")
     numbers = [int(it) for it in re.search(r"table:  \.word (.*)", SORT)[1].split(",")]
     tell("the run goes on with the value, which is sorted in", words != sorted(numbers) and 13 in words and words == sorted(words), (words, values))
-    bench.ask("document.querySelector('#experiment button').click()")
+    tell("it says where it goes on", "from its line" in told and "experiment.here" in told, told)
+    click(bench, "#experiment button")
     settled(bench)
     back = bench.ask("[document.getElementById('source').value, document.getElementById('experiment').hidden, state.cycle]")
     tell("one goes back to the program, at its cycle", back == [SORT, True, 250], back[1:])
-    bench.ask("document.querySelector('#registers tr:nth-child(3) td').dispatchEvent(new MouseEvent('dblclick', { bubbles: true }))")
-    tell("a double click on a register asks for its value", bench.ask("document.getElementById('target').value") == "r1")
+    for selector, target in (("#words .word:nth-child(2)", "word 0101"), ("#registers tr:nth-child(3) td", "r1")):
+        click(bench, selector, 2)
+        tell(f"a double click asks for the value of {target}", bench.ask("document.getElementById('trying').open && document.getElementById('target').value") == target)
+        if target != "r1":
+            click(bench, "#no-attempt")
     bench.ask("document.getElementById('value').value = 'x'; document.getElementById('attempt').click()")
     tell("what is no number is refused", "number of 32 bits" in bench.ask("document.getElementById('attempted').textContent"))
     bench.ask("document.getElementById('no-attempt').click()")
@@ -588,11 +837,11 @@ def try_sides(bench):
     """The kept run beside another one, cycle by cycle, with the first cycle in which the stages differ."""
     type_source(bench, SORT)
     settled(bench)
-    bench.ask("document.getElementById('keep').click()")
+    click(bench, "#keep")
     other = SORT.replace("keep:   addi r3,#1,r3", "keep:   nop\n        addi r3,#1,r3")
     type_source(bench, other)
     settled(bench)
-    bench.ask("document.getElementById('side').click()")
+    click(bench, "#side")
     wait_for(bench, "document.querySelector('#side-view table') !== null", 60)
     drawn = [json.loads(printed(it, "draw", "--cycles", "400", "--as", "json")) for it in (SORT, other)]
     wanted = next(k for k in range(400) if held_in(drawn[0], k) != held_in(drawn[1], k))
@@ -604,7 +853,10 @@ def try_sides(bench):
     bench.key("PageDown")
     wait_for(bench, f"Number(document.getElementById('side-cycle').value) === {wanted + 16}")
     tell("Page Down goes on", bench.ask("Number(document.getElementById('side-cycle').value)") == wanted + 16)
-    bench.ask("document.getElementById('side-close').click()")
+    click(bench, "#side-back")
+    wait_for(bench, f"Number(document.getElementById('side-cycle').value) === {wanted}")
+    tell("its button goes back", bench.ask("Number(document.getElementById('side-cycle').value)") == wanted)
+    click(bench, "#side-close")
 
 
 def held_in(drawn, k):
@@ -654,7 +906,7 @@ def try_bad_input(bench):
     tell("the page has no fault", not bench.faults, bench.faults)
 
 
-def try_lost_server():
+def try_lost_server(_url, _folder):
     """Where the server has gone the page says so, keeps the text, and works again when it is back at the same address."""
     with serving(f"{TOP}/examples/countdown.s") as (process, url):
         with opened(url, 1280, 720) as bench:
@@ -662,7 +914,7 @@ def try_lost_server():
             process.send_signal(signal.SIGINT)
             process.wait(10 * PATIENCE)
             type_source(bench, SORT)
-            told = wait_for(bench, "document.body.textContent.includes('the server does not answer')")
+            told = wait_for(bench, "document.body.innerText.includes('the server does not answer')")
             tell("a lost server is told", told and bench.ask("document.getElementById('source').value") == SORT)
             go_on = bench.ask("document.getElementById('back').click(), document.getElementById('cycle').value")
             tell("what is there can still be walked", int(go_on) >= 0 and not bench.faults, (go_on, bench.faults))
@@ -797,6 +1049,8 @@ def try_c(bench):
     settled(bench)
     sent = bench.ask("document.getElementById('console').textContent")
     tell("its console has the sum", sent == "15\n", sent)
+    told = bench.ask("document.getElementById('verdict').textContent")
+    tell("the verdict is about its translation", "what its translation means" in told, told)
     bench.ask("document.getElementById('costs').checked || document.getElementById('costs').click()")
     wait_for(bench, "state.costs.size > 0")
     costs = dict(bench.ask("[...state.costs]"))
@@ -815,29 +1069,69 @@ def try_c(bench):
     tell("its translation can be taken as the text", begins[0] == "assembly" and begins[1].startswith("; translated from assembly"), begins)
 
 
+# What some examples in C send, with the input that they have.
+SENT = {"queens.c": "92 ways", "calc.c": "b=a / 7 = 142.8571429"}
+
+
 def try_examples(bench):
-    """Each example runs, those in C as well, with the input that it has."""
+    """Each program of the menu in assembly language ends as `run` says, and some in C, with the input that they have; no module is a program."""
     names = bench.ask("[...document.querySelectorAll('#examples option')].map(it => it.value).filter(it => it)")
     tell("the menu has examples in both languages", "countdown.s" in names and "queens.c" in names, names)
-    for name in ("echo.s", "queens.c", "calc.c"):
+    tell("modules are there as programs alone", EXAMPLE in names and not {"letters.s", "emit.s"} & set(names), names)
+    for name in [*(it for it in names if it.endswith(".s") and "+" not in it), *SENT]:
         bench.ask("document.getElementById('found').textContent = ''")
         choose(bench, "examples", name)
         ran = wait_for(bench, f"state.isSettled && !state.isStale || {TAKES_LONG}", 120)
         if bench.ask(TAKES_LONG) and not HAS_TIMES:
             raise TooSlow
         end = bench.ask("document.getElementById('end').textContent")
-        tell(f"{name} runs to its end", ran and end.startswith("the run halts in cycle "), end)
-        tell(f"{name} is what its answers are named by", bench.ask("state.name") == name)
+        tell(f"{name} is what its answers are named by", bench.ask("[state.name, document.title]") == [name, name + " - Zanderanvil"])
+        if name.endswith(".s"):
+            with open(f"{TOP}/examples/{name}", encoding="utf-8") as it:
+                report = printed(it.read(), "run", *given_to(bench))
+            state, cycles = re.match(rb"(halted|out of budget)\ncycles (\d+)", report).groups()
+            wanted = f"halts in cycle {int(cycles) - 1}" if state == b"halted" else f"has not halted after its budget of {int(cycles)} cycles"
+            tell(f"{name} ends as run says", ran and end == f"the run {wanted}", (end, wanted))
+            if name == "numbers.s":
+                shown = bench.ask("[...state.range.listing.values()].map(it => it.text)")
+                tell("a call of a word with copies names its label", "call print+1,r31" in shown and "jspci" not in "".join(shown), shown)
+        else:
+            tell(f"{name} runs to its end", ran and end.startswith("the run halts in cycle "), end)
+            click(bench, "#run")
+            sends = f"document.getElementById('console').textContent.includes('{SENT[name]}')"
+            tell(f"{name} sends what it has to", wait_for(bench, sends), bench.ask("document.getElementById('console').textContent"))
 
 
-def try_link(bench, url):
+def given_to(bench):
+    """Returns the arguments for the input that the page has, in a file of the Chromium's folder."""
+    text = bench.ask("document.getElementById('input').value")
+    if not text:
+        return []
+    with open(f"{bench.folder.name}/input", "w", encoding="utf-8") as it:
+        it.write(text)
+    return ["--input", f"{bench.folder.name}/input"]
+
+
+def try_link(bench):
+    """The address has the text, what its run is given, the cycle and the breakpoints."""
+    if bench.ask("!isC()"):
+        put(bench, "interrupts", "260")
+        put(bench, "budget", 900_000)
+        put(bench, "input", "abc")
+        settled(bench)
+        bench.ask("toggleBreakpoint(9)")
+    go(bench, 77)
     time.sleep(0.6)
-    kept = bench.ask("location.hash")
-    source = bench.ask("document.getElementById('source').value")
+    fields = "[...['source', 'language', 'interrupts', 'budget', 'input', 'cycle'].map(it => document.getElementById(it).value), [...state.breakpoints].join()]"
+    kept, url, held = bench.ask("location.hash"), address_of(bench), bench.ask(fields)
     bench.call("Page.navigate", url="about:blank")
     bench.open(url + kept)
     settled(bench)
-    tell("the address carries the exercise", source and bench.ask("document.getElementById('source').value") == source, kept[:60])
+    tell("the address carries the exercise", held[0] and bench.ask(fields)[0] == held[0], kept[:60])
+    tell("and what its run is given, its cycle and its breakpoints", bench.ask(fields)[1:] == held[1:], (bench.ask(fields)[1:], held[1:]))
+    if bench.ask("!isC()"):
+        bench.ask("toggleBreakpoint(9)")
+        put(bench, "input", "")
 
 
 def try_names(bench):
@@ -896,21 +1190,13 @@ def try_parts(bench, parts):
         print(f"    {part.__name__} takes {time.monotonic() - began:.1f} s", flush=True)
 
 
-def try_page(bench, url):
+def try_page(bench, names):
     """What a reader does, one thing after the other."""
-    def try_work_at(bench):
-        try_work(bench, url)
-
-    def try_address(bench):
-        try_link(bench, url)
-
     tell("FILE is the source", "counts down from 3" in bench.ask("document.getElementById('source').value"))
-    try_parts(bench, (try_faults, try_cycles_and_end, try_search, try_stale, try_killed, try_breakpoint, try_keys, try_card, try_help,
-                      try_experiment, try_sides, try_schedulers, try_modules, try_plans, try_download, try_speed, try_work_at, try_kept, try_names,
-                      try_address, try_long, try_bad_input, try_many_lines))
+    try_parts(bench, [it for it in PARTS if it.__name__ in names])
     if bench.ask("given.missing === null"):
         try:
-            try_parts(bench, (try_c, try_examples, try_markup, try_address))
+            try_parts(bench, [it for it in PARTS_C if it.__name__ in names])
         except TooSlow:
             print("skipped: the rest of what is in C: this machine has too much other work to translate a text within the server's time")
     else:
@@ -926,19 +1212,26 @@ def keep_library(folder):
         tell("the library for C is compiled", ran.returncode == 0, ran.stderr[-300:])
 
 
-def try_all(folder):
-    """Tries the page, and its look on the widths, of which a sample has one."""
-    with serving(f"{TOP}/examples/countdown.s") as (_, url):
-        with opened(url, 1500, 900) as bench:
-            try_page(bench, url)
-        try_in_view(url)
-        try_lost_server()
-        try_low_screen(url)
-        try_server_back()
-        for width, height in ((390, 844),) if IS_SAMPLE else ((1500, 900), (800, 1000), (390, 844)):
-            for scheme in ("light", "dark"):
-                with opened(url, width, height, scheme == "dark") as bench:
-                    try_look(bench, width, os.path.join(folder, f"serve-{width}-{scheme}.png"))
+def try_looks(url, folder):
+    """The look on the widths, of which a sample has one."""
+    for width, height in ((390, 844),) if IS_SAMPLE else ((1500, 900), (800, 1000), (390, 844)):
+        for scheme in ("light", "dark"):
+            with opened(url, width, height, scheme == "dark") as bench:
+                try_look(bench, width, os.path.join(folder, f"serve-{width}-{scheme}.png"))
+
+
+def try_all(folder, names):
+    """Tries the parts with these names."""
+    with serving(f"{TOP}/examples/countdown.s") as (process, url):
+        if any(it.__name__ in names for it in (*PARTS, *PARTS_C)):
+            with opened(url, 1500, 900) as bench:
+                bench.server = process.pid
+                try_page(bench, names)
+        for part in PARTS_ALONE:
+            if part.__name__ in names:
+                began = time.monotonic()
+                part(url, folder)
+                print(f"    {part.__name__} takes {time.monotonic() - began:.1f} s", flush=True)
 
 
 def try_killed(bench):
@@ -971,7 +1264,7 @@ def try_schedulers(bench):
     bench.ask("document.getElementById('compare').click()")
     offered = "[...document.querySelectorAll('#compared button')].length"
     tell("three schedulers are offered beside copies", wait_for(bench, f"{offered} === 3", 60), bench.ask(offered))
-    bench.ask("document.querySelector('#compared button').click()")
+    press_enter(bench, "#compared button")
     wait_for(bench, "document.querySelector('#side-view table') !== null && document.getElementById('diverged').textContent.includes('last cycle')", 60)
     drawn = [json.loads(printed(SORT, "draw", "--cycles", "400", "--scheduler", it, "--as", "json")) for it in ("padded", "copies")]
     wanted = next(k for k in range(400) if held_in(drawn[0], k) != held_in(drawn[1], k))
@@ -983,24 +1276,40 @@ def try_schedulers(bench):
     bench.ask("document.getElementById('side-close').click()")
 
 
-def try_low_screen(url):
-    """At 1280 x 720 all five stages are in view, whatever their reasons, and so are lines of the console."""
-    hidden = """(() => {
-      const around = document.getElementById('staged').getBoundingClientRect();
-      return [...document.querySelectorAll('#stages tr')].filter(row => row.getBoundingClientRect().bottom > around.bottom + 1).length;
-    })()"""
-    with opened(url, 1280, 720) as bench:
-        for source, cycles in ((SORT, (8, 100, 250)), (SORT.replace("keep", "a_long_label"), (8, 250))):
-            type_source(bench, source)
-            settled(bench)
-            for cycle in cycles:
-                go(bench, cycle)
-                tell(f"at 1280 x 720 all stages of cycle {cycle} are in view", bench.ask(hidden) == 0, bench.ask(hidden))
-        tall = bench.ask("document.getElementById('console').parentElement.clientHeight")
-        tell("and two lines of the console", tall >= 34, tall)
+# What is not wholly in view: rows of the stages, lines of the verdict, counts, and lines of the console, two of which there have to be.
+HIDDEN = """(() => {
+  const around = document.getElementById('staged').getBoundingClientRect(), verdict = document.getElementById('verdict'), counts = document.getElementById('counts').parentElement;
+  return [...[...document.querySelectorAll('#stages tr')].filter(row => row.getBoundingClientRect().bottom > around.bottom + 1).map(row => row.textContent),
+    ...(verdict.scrollHeight > verdict.clientHeight ? ['the verdict'] : []), ...(counts.scrollWidth > counts.clientWidth ? ['counts'] : []),
+    ...(document.getElementById('console').parentElement.clientHeight < 34 ? ['the console'] : [])];
+})()"""
 
 
-def try_server_back():
+def try_low_screen(url, _folder):
+    """On both screens all five stages are in view, whatever their reasons, and so are the verdict, the width of the counts, and lines of the console."""
+    with open(f"{TOP}/examples/sort.s", encoding="utf-8") as it:
+        example = it.read()
+    for width, height in ((1280, 720), (1500, 1000)):
+        with opened(url, width, height) as bench:
+            for source, requests, what, cycles in ((SORT, "", "of a sort", [0, 1, 4, 8, 100, 250]), (SORT.replace("keep", "a_long_label"), "", "beside a long label", [8, 250]),
+                                                   (example, "", "of sort.s", [32, 33, 34, 63, 250, 253]), (example, "250", "of an interrupt", [250, 251])):
+                put(bench, "interrupts", requests)
+                type_source(bench, source)
+                settled(bench)
+                go(bench, 0)
+                bench.ask("Promise.resolve(state.loaded).then(() => 0)")
+                hidden = bench.ask(f"{cycles}.map(k => (go(k), [k, ...{HIDDEN}])).filter(it => it.length > 1)")
+                tell(f"at {width} x {height} all stages {what} are in view, and the panels beside them", hidden == [], hidden)
+            put(bench, "interrupts", "")
+            put(bench, "budget", 10_000_000)
+            type_source(bench, LONG)
+            wait_for(bench, "/10000000 cycles/.test(document.getElementById('end').textContent)", 60)
+            go(bench, 9_999_999)
+            hidden = bench.ask("(it => it.scrollWidth - it.clientWidth)(document.getElementById('counts').parentElement)")
+            tell(f"at {width} x {height} counts of seven digits are in view", hidden <= 0, hidden)
+
+
+def try_server_back(_url, _folder):
     """A server that was started anew has another token: the page says so, and at the new address the exercise is there."""
     with socket.create_server(("127.0.0.1", 0)) as it:
         port = str(it.getsockname()[1])
@@ -1011,7 +1320,7 @@ def try_server_back():
             process.wait(10 * PATIENCE)
             with serving("--port", port, f"{TOP}/examples/countdown.s") as (_, again):
                 type_source(bench, SORT)
-                tell("a server that was started anew is told", wait_for(bench, "document.body.textContent.includes('this page is of an earlier server')"))
+                tell("a server that was started anew is told", wait_for(bench, "document.body.innerText.includes('this page is of an earlier server')"))
                 time.sleep(0.6)
                 kept = bench.ask("location.hash")
                 bench.call("Page.navigate", url="about:blank")
@@ -1035,7 +1344,28 @@ def try_many_lines(bench):
     tell("and the one before runs", settled(bench) and "the run halts" in bench.ask("document.getElementById('end').textContent"))
 
 
-WORKED, MOST_PAGE = 16, 500_000  # milliseconds of a step without waiting for a processor; bytes of the page
+# Milliseconds of a step, and of an edit of 200 lines to its new results, by what they take of processors; bytes of the page.
+WORKED, EDITED, MOST_PAGE = 16, 300, 500_000
+# 200 lines, of which each run executes most; an edit changes how many steps its sort has.
+LINES_200 = SORT.replace("        halt\n", "".join(f"        addi r{8 + n % 16},#{n},r{8 + n % 8}\n" for n in range(200 - SORT.count("\n"))) + "        halt\n")
+# An edit, and the milliseconds until all its results are there, by the page's clock.
+EDITING = """(async () => {
+  const source = document.getElementById('source'), at = source.value.indexOf('addi r0,#') + 10;
+  source.focus();
+  source.setSelectionRange(at, at + 1);
+  const began = performance.now();
+  document.execCommand('insertText', false, 'DIGIT');
+  while (!state.isSettled || state.isStale || state.began !== null) await new Promise(done => setTimeout(done, 4));
+  document.body.getBoundingClientRect();
+  return performance.now() - began;
+})()"""
+
+
+def taken_by(process):
+    """Returns the seconds of processors that a process has taken, and those that it started and that have ended."""
+    with open(f"/proc/{process}/stat", encoding="ascii") as it:
+        fields = it.read().rsplit(")", 1)[1].split()
+    return sum(int(it) for it in fields[11:15]) / os.sysconf("SC_CLK_TCK")
 
 
 def processor_time(bench):
@@ -1047,13 +1377,26 @@ def processor_time(bench):
                 with open(f"/proc/{name}/cmdline", "rb") as it:
                     words = it.read()
                 if b"--type=renderer" in words and bench.folder.name.encode() in words:
-                    with open(f"/proc/{name}/stat", encoding="ascii") as it:
-                        fields = it.read().rsplit(")", 1)[1].split()
-                    found += int(fields[11]) + int(fields[12])
-    return found / os.sysconf("SC_CLK_TCK")
+                    found += taken_by(name)
+    return found
 
 
-def try_work(bench, url):
+def try_edit(bench):
+    """An edit of 200 lines to its new results, by what page, server and programs take of processors; the page's own clock beside it."""
+    type_source(bench, LINES_200)
+    settled(bench)
+    ends, took, before = set(), [], processor_time(bench) + taken_by(bench.server)
+    for digit in 2 * "123456789":
+        took.append(bench.ask(EDITING.replace("DIGIT", digit)))
+        ends.add(bench.ask("document.getElementById('end').textContent"))
+    worked = 1000 * (processor_time(bench) + taken_by(bench.server) - before) / len(took)
+    tell("each edit has results of its own", len(ends) == 9 and LINES_200.count("\n") == 200, ends)
+    tell(f"an edit of 200 lines to new results takes {EDITED} ms of processors at most", 0 < worked <= EDITED, worked)
+    tell(f"by the page's clock at most {EDITED} ms, at the best", min(took) <= EDITED or not HAS_TIMES, took)
+    print(f"    an edit takes {worked:.0f} ms of processors; by the page's clock {min(took):.0f} to {max(took):.0f} ms; load {os.getloadavg()[0]:.1f}")
+
+
+def try_work(bench):
     """A step at 10,000 cycles, by what it takes of a processor; the size of the page."""
     type_source(bench, SORT.replace("addi r0,#20,r1", "addi r0,#20,r7\nagain:  addi r0,#20,r1").replace("        halt", "        addi r7,#-1,r7\n        bne  r7,r0,again\n        halt"))
     settled(bench)
@@ -1064,20 +1407,35 @@ def try_work(bench, url):
     took = 1000 * (processor_time(bench) - before) / 200
     tell(f"a step at 10,000 cycles takes {WORKED} ms of a processor at most", bench.cycle() == 10_200 and 0 < took <= WORKED, (bench.cycle(), took))
     print(f"    a step at 10,000 cycles takes {took:.1f} ms of a processor")
-    with urllib.request.urlopen(url) as it:
-        size = len(it.read())
+    with urllib.request.urlopen(address_of(bench)) as it:
+        text = it.read()
+    size = len(text)
+    other = re.findall(rb"""(?:src|href)=["'](?!data:|#)[^"']*|url\([^)]*\)|@import[^;]*|\bimport\s*[({"'][^;]*""", text.split(b'<script type="application/json"')[0])
+    asked = bench.ask("performance.getEntriesByType('resource').map(it => it.name).filter(it => !it.startsWith(location.origin + '/api/'))")
+    tell("it takes nothing from elsewhere", not other and not asked, (other, asked))
     tell(f"the page has fewer than {MOST_PAGE} bytes", 0 < size < MOST_PAGE, size)
 
 
+# What is tried on one page, from assembly language and from C, and what is tried by itself.
+PARTS = (try_faults, try_cycles_and_end, try_values, try_search, try_stale, try_killed, try_breakpoint, try_stalled, try_reasons, try_follow, try_costs,
+         try_keys, try_card, try_help, try_experiment, try_sides, try_schedulers, try_modules, try_plans, try_download, try_speed, try_work, try_edit,
+         try_kept, try_names, try_link, try_long, try_bad_input, try_many_lines)
+PARTS_C = (try_c, try_examples, try_markup, try_link)
+PARTS_ALONE = (try_in_view, try_lost_server, try_low_screen, try_server_back, try_looks)
+
+
 def main():
-    if len(sys.argv) > 2:
-        common.wrong_arguments(f"unexpected argument {sys.argv[2]}")
-    if sys.argv[1:] and not os.path.isdir(sys.argv[1]):
-        common.wrong_arguments(f"{sys.argv[1]}: no such folder")
+    folder, names = sys.argv[1:2], sys.argv[2:]
+    known = [it.__name__ for it in (*PARTS, *PARTS_C, *PARTS_ALONE)]
+    for it in names:
+        if it not in known:
+            common.wrong_arguments(f"unknown part {it}: expected one of {', '.join(known)}")
+    if folder and not os.path.isdir(folder[0]):
+        common.wrong_arguments(f"{folder[0]}: no such folder")
     need_chromium()
-    with tempfile.TemporaryDirectory() as folder:
-        keep_library(f"{folder}/library")
-        try_all(sys.argv[1] if sys.argv[1:] else folder)
+    with tempfile.TemporaryDirectory() as at:
+        keep_library(f"{at}/library")
+        try_all(folder[0] if folder else at, names or known)
     return common.finish("workbench", "properties of the page")
 
 

@@ -3,7 +3,8 @@
 #
 # usage: checks/tools.sh [--print]      --print installs nothing
 packages='bash-completion binutils build-essential chromium csmith fish gcc-mips-linux-gnu gtkwave libcsmith-dev mypy pyflakes3
-    python3-distributed python3-jsonschema python3-pip python3-venv qemu-user shellcheck valgrind zsh'
+    python3-distributed python3-ipykernel python3-jsonschema python3-nbclient python3-nbformat python3-pip python3-venv python3-yaml
+    qemu-user shellcheck valgrind zsh'
 case $#,${1-} in
     0,) ;;
     1,--print) ;;

@@ -26,6 +26,7 @@ REASONS = f"{TOP}/checks/cc/torture.txt"
 SECONDS = 120
 # What a test asks of the compiler, for every machine or for this one.
 OPTIONS = re.compile(r'dg-(?:additional-)?options\s+\{?\s*"([^"]*)"\s*\}?\s*(\{[^}]*\{?[^}]*\}?[^}]*\})?')
+FLAGS = re.compile(r'^(?:lappend|set) additional_flags "([^"]*)"', re.M)
 EXTRA = {"": [], "ieee": ["-fno-inline"]}
 DEFINED = re.compile(r"^\s*\.(?:globl|global|weak|comm)\s+([\w.$]+)", re.M)
 library = {}
@@ -35,7 +36,12 @@ def options_of(path):
     """Returns the options that a test asks for."""
     with open(path, encoding="latin-1") as file:
         text = file.read()
-    return [word for words, target in OPTIONS.findall(text) if "target" not in target for word in words.split() if not word.startswith("-Wl")]
+    beside = f"{path[:-2]}.x"
+    flags = []
+    if os.path.exists(beside):
+        with open(beside, encoding="latin-1") as file:
+            flags = [word for words in FLAGS.findall(file.read()) for word in words.split()]
+    return flags + [word for words, target in OPTIONS.findall(text) if "target" not in target for word in words.split() if not word.startswith("-Wl")]
 
 
 def run(words, folder):

@@ -57,17 +57,46 @@ static complex_double special_quotient(double a, double b, double c, double d, d
     return __builtin_complex(real, imaginary);
 }
 
-/* The divisor is brought near to 1 first, so that its square is in range. */
-complex_double __divdc3(double a, double b, double c, double d) {
-    double size = fmax(fabs(c), fabs(d)), near_c = c, near_d = d;
-    int power = 0;
-    if (size > 0 && isfinite(size)) {
-        power = -ilogb(size);
-        near_c = scalbn(c, power);
-        near_d = scalbn(d, power);
+/* part * 2^power: products and sums of such numbers stay in range. */
+struct scaled {
+    double part;
+    int power;
+};
+
+static struct scaled scaled(double x) {
+    struct scaled it;
+    it.part = frexp(x, &it.power);
+    return it;
+}
+
+static struct scaled times(struct scaled x, struct scaled y) {
+    x.part *= y.part;
+    x.power += y.power;
+    return x;
+}
+
+static struct scaled plus(struct scaled x, struct scaled y) {
+    if (x.part == 0 || (y.part != 0 && x.power < y.power)) {
+        struct scaled less = x;
+        x = y;
+        y = less;
     }
-    double square = near_c * near_c + near_d * near_d;
-    double real = scalbn((a * near_c + b * near_d) / square, power), imaginary = scalbn((b * near_c - a * near_d) / square, power);
+    x.part += scalbn(y.part, y.power - x.power);
+    return x;
+}
+
+static double over(struct scaled x, struct scaled y) {
+    return scalbn(x.part / y.part, x.power - y.power);
+}
+
+complex_double __divdc3(double a, double b, double c, double d) {
+    double real = NAN, imaginary = NAN;
+    if (isfinite(a) && isfinite(b) && isfinite(c) && isfinite(d)) {
+        struct scaled p = scaled(a), q = scaled(b), r = scaled(c), s = scaled(d), minus_p = scaled(-a);
+        struct scaled square = plus(times(r, r), times(s, s));
+        real = over(plus(times(p, r), times(q, s)), square);
+        imaginary = over(plus(times(q, r), times(minus_p, s)), square);
+    }
     return isnan(real) && isnan(imaginary) ? special_quotient(a, b, c, d, real, imaginary) : __builtin_complex(real, imaginary);
 }
 

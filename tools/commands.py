@@ -28,6 +28,7 @@ PAGES = {"mx": "COMMANDS", "mx_run": "COMMANDS", "mx_lab": "LAB", "mx_cc": "C", 
 BUDGET = Option("--budget", "N", "0 to 100,000,000 cycles (1,000,000)")
 # The laboratory runs for a cycle at least.
 SCHEDULER = Option("--scheduler", "NAME", "padded, list, copies or best: whose plans run (copies)")
+PLANS = Option("--plans", "FILE", "a plan file, whose plans run in place of a scheduler's (none)")
 LAB_BUDGET = Option("--budget", "N", "1 to 100,000,000 cycles (1,000,000)")
 INTERRUPTS = Option("--interrupts", "FILE", "the cycles of requests, one a line, each above the one before (none)")
 INPUT = Option("--input", "FILE", "the bytes that a source with .input reads (none)")
@@ -67,7 +68,7 @@ COMMANDS = {
         Option("--as", "FORM", "text, svg, html, json, kanata or vcd (text)"),
         Option("--from", "N", "0 to 100,000,000: the first cycle that is drawn (0)"),
         Option("--cycles", "N", "1 to 100,000 cycles (64)"),
-        SCHEDULER, LAB_BUDGET, INTERRUPTS, INPUT, OUTPUT)),
+        SCHEDULER, PLANS, LAB_BUDGET, INTERRUPTS, INPUT, OUTPUT)),
     "check": Command("mx_lab", "SOURCE ..", "shows every faulty line of a source, or of several modules, and what is wrong with it", (
         Option("--all", "", "shows more than the first twenty"),
         Option("--as", "FORM", "text or json (text)"),
@@ -77,9 +78,12 @@ COMMANDS = {
     "profile": Command("mx_lab", "SOURCE", "measures what each part of a source costs in a run", (
         Option("--by", "PART", "line, label, function, or c for lines of C (line)"),
         Option("--sort", "COLUMN", "line, count, cycles, caused, cpi, stalls, noops, squashed or killed (line)"),
-        Option("--as", "FORM", "text, json or callgrind (text)"), SCHEDULER, LAB_BUDGET, INTERRUPTS, INPUT, OUTPUT)),
+        Option("--as", "FORM", "text, json or callgrind (text)"), SCHEDULER, PLANS, LAB_BUDGET, INTERRUPTS, INPUT,
+        OUTPUT)),
     "compare": Command("mx_lab", "SOURCE ..", "compares what four schedulers make of sources", (
-        Option("--as", "FORM", "text, json or csv (text)"), LAB_BUDGET, INTERRUPTS, INPUT, OUTPUT)),
+        Option("--as", "FORM", "text, json or csv (text)"),
+        Option("--plans", "NAME=FILE", "a plan file of the one source, with a column of its own; may come several times (none)"),
+        LAB_BUDGET, INTERRUPTS, INPUT, OUTPUT)),
     "blocks": Command("mx_lab", "SOURCE", "shows blocks, their dependences and the lengths of their plans", (
         Option("--as", "FORM", "text, json or dot (text)"), OUTPUT)),
     "disassemble": Command("mx_lab", "FILE", "lists the words of a source or an image in assembly language", (
@@ -88,18 +92,21 @@ COMMANDS = {
         Option("--line", "N", "1 to 64 words of a line (16)"),
         Option("--brings", "N", "1 to 64 words, at most those of a line, that a miss makes valid (2)"),
         Option("--penalty", "N", "0 to 1,000 cycles of a miss (2)"),
-        Option("--as", "FORM", "text, json or svg (text)"), LAB_BUDGET, INPUT, OUTPUT)),
+        Option("--as", "FORM", "text, json or svg (text)"), PLANS, LAB_BUDGET, INPUT, OUTPUT)),
     "interrupts": Command("mx_lab", "SOURCE", "measures what an interrupt costs in each cycle of a run", (
         Option("--from", "N", "0 to 100,000,000: the first cycle in which a request comes (0)"),
         Option("--to", "N", "0 to 100,000,000: the last one (that of the undisturbed run)"),
         Option("--step", "N", "1 to 100,000,000 cycles between the requests of two runs (1)"),
         Option("--pairs", "", "runs with a request in each two of the cycles"),
         Option("--rows", "", "prints a row for each run as well"),
-        Option("--as", "FORM", "text, json or csv (text)"), LAB_BUDGET, INPUT, OUTPUT)),
+        Option("--as", "FORM", "text, json or csv (text)"), PLANS, LAB_BUDGET, INPUT, OUTPUT)),
     "trace": Command("mx_lab", "SOURCE", "prints each turn of a run, for programs that replay it", (
-        Option("--as", "FORM", "jsonl (jsonl)"), SCHEDULER, LAB_BUDGET, INTERRUPTS, INPUT, OUTPUT)),
+        Option("--as", "FORM", "jsonl (jsonl)"), SCHEDULER, PLANS, LAB_BUDGET, INTERRUPTS, INPUT, OUTPUT)),
     "plans": Command("mx_lab", "SOURCE FILE", "runs a source by the plans of a scheduler of one's own", (
         Option("--print", "", "prints the list scheduler's own file, in place of FILE"), LAB_BUDGET, INTERRUPTS, INPUT, OUTPUT)),
+    "certify": Command("mx_lab", "SOURCE", "prints what shows that the image of a source means it", (OUTPUT,)),
+    "verify": Command("mx_lab", "SOURCE IMAGE CERTIFICATE", "checks by a certificate that an image means a source", (OUTPUT,),
+                      "Ends with 0 where the image is verified, 9 where it is rejected."),
     "serve": Command("serve", "[FILE]", "starts a workbench in the browser", (
         Option("--port", "N", "0 to 65,535 (a free one)"),
         Option("--host", "H", "the address to listen at (127.0.0.1)")),

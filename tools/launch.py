@@ -53,6 +53,17 @@ class Told(Exception):
     """What is wrong with the arguments."""
 
 
+def is_file(value):
+    """Tells whether a file follows an option."""
+    return value in ("FILE", "NAME=FILE")
+
+
+def name_before(value, word):
+    """Returns what is before the file in the word that follows an option: a name and its sign, or nothing."""
+    name, sign, _ = word.partition("=")
+    return name + sign if value == "NAME=FILE" and sign else ""
+
+
 def read_arguments(arguments):
     """Returns the places of the files that a command reads, and that of the one that it writes, None if there is none. Arguments that
     the table of commands does not have are left to the program, which refuses them."""
@@ -72,15 +83,17 @@ def read_arguments(arguments):
             before = word[:3] if value.startswith("=") else option
             writes.append(Place(number, before, word[len(before):]))
         elif sign and option in options:
-            (writes if option == "--output" else reads if options[option] == "FILE" else []).append(Place(number, f"{option}=", value))
+            before = f"{option}={name_before(options[option], value)}"
+            (writes if option == "--output" else reads if is_file(options[option]) else []).append(Place(number, before, f"{option}={value}"[len(before):]))
         elif word in OUTPUT or word in options:
             first = number
             if word in OUTPUT or options[word]:
                 number += 1
             if number == len(arguments) and word in OUTPUT and command.program == "mx_run":
                 raise Told(f"missing value for '{word}': expected a file")
-            if number < len(arguments) and (word in OUTPUT or options[word] == "FILE"):
-                (writes if word in OUTPUT else reads).append(Place(number, "", arguments[number], first))
+            if number < len(arguments) and (word in OUTPUT or is_file(options[word])):
+                before = name_before(options.get(word), arguments[number])
+                (writes if word in OUTPUT else reads).append(Place(number, before, arguments[number][len(before):], first))
         else:
             return [], None
         number += 1

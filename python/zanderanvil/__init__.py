@@ -7,19 +7,20 @@
     print(run.console, run.cycles)
 
 `Laboratory` has the laboratory's commands, by its program. `sweep` runs many runs side by side, and `survey` many studies of
-the laboratory, by any executor of concurrent.futures. `evaluate` compares schedulers over many sources.
+the laboratory, by any executor of concurrent.futures. `evaluate` compares schedulers over many sources. `models` has caches and branch
+schemes over a trace.
 """
 import importlib.metadata
 import os
 
-from .evaluation import Difference, Evaluation, evaluate
+from .evaluation import Difference, Evaluation, Spread, evaluate, spread
 from .laboratory import Block, Dependence, Drawing, Laboratory, Plan, Planned, Scheduler
 from .library import Explained, Meaning, Refusal, Run, Zanderanvil
 from .sweep import Case, Row, Study, survey, sweep
 
 __all__ = [
     "Block", "Case", "Dependence", "Difference", "Drawing", "Evaluation", "Explained", "Laboratory", "Meaning", "Plan", "Planned", "Refusal",
-    "Row", "Run", "Scheduler", "Study", "Zanderanvil", "evaluate", "survey", "sweep",
+    "Row", "Run", "Scheduler", "Spread", "Study", "Zanderanvil", "evaluate", "spread", "survey", "sweep",
 ]
 
 

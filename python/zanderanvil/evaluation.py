@@ -17,6 +17,8 @@ FIGURES = ("words", "noops", "cycles", "fetches", "misses", "squashes")
 STUDENT = (12.706, 4.303, 3.182, 2.776, 2.571, 2.447, 2.365, 2.306, 2.262, 2.228, 2.201, 2.179, 2.160, 2.145, 2.131, 2.120, 2.110, 2.101, 2.093,
            2.086, 2.080, 2.074, 2.069, 2.064, 2.060, 2.056, 2.052, 2.048, 2.045, 2.042)
 BEYOND = ((40, 2.021), (60, 2.000), (120, 1.980), (math.inf, 1.960))
+# A fetch takes a cycle, and one that misses so many more (docs/MACHINE.md).
+STALLS = 2
 # The picture: widths and heights in pixels.
 LEFT, WIDE, ROW_HIGH, EDGE = 220, 420, 26, 30
 
@@ -47,6 +49,8 @@ def _records_of(job: Tuple[str, Optional[float], Mapping[str, Named], str, Sourc
                 known = known or {row["plans"]: row for row in laboratory.compare(case.source, **_given(case))}
                 row = known[scheduler]
                 record.update({it: row[it] for it in FIGURES if it in row}, halted=row["halted"], rejected=0)
+                if row["halted"]:
+                    record["fetches"] = row["cycles"] - STALLS * row["misses"]
             else:
                 planned = laboratory.plans(case.source, scheduler, **_given(case))
                 record.update({it: planned.run.counts[it] for it in FIGURES}, halted=planned.run.halted, rejected=len(planned.rejected))
@@ -59,9 +63,41 @@ def _records_of(job: Tuple[str, Optional[float], Mapping[str, Named], str, Sourc
 
 
 @dataclass(frozen=True)
+class Spread:
+    """What some numbers are: how many, their mean with its 95% interval, their standard deviation, the least and the greatest. The interval
+    and the deviation of fewer than two numbers are not numbers."""
+
+    count: int
+    mean: float
+    low: float
+    high: float
+    deviation: float
+    least: float
+    most: float
+
+    @property
+    def is_shown(self) -> bool:
+        """Whether the interval leaves out 0."""
+        return self.count > 1 and (self.low > 0 or self.high < 0)
+
+
+def spread(values: Iterable[float]) -> Spread:
+    """Returns the mean of numbers with its 95% interval, by Student's distribution, and how much they differ."""
+    listed = list(values)
+    count = len(listed)
+    if not count:
+        return Spread(0, *[math.nan] * 6)
+    mean = sum(listed) / count
+    deviation = math.sqrt(sum((it - mean) ** 2 for it in listed) / (count - 1)) if count > 1 else math.nan
+    half = deviation / math.sqrt(count) * _quantile(count - 1) if count > 1 else math.nan
+    return Spread(count, mean, mean - half, mean + half, deviation, min(listed), max(listed))
+
+
+@dataclass(frozen=True)
 class Difference:
     """By how much one scheduler's figure differs from another's over the sources that halt under both, in percent of the second one's:
-    the mean with its 95% interval, and how many sources have less, the same, or more. Of fewer than two sources nothing can be said."""
+    the mean with its 95% interval, how many sources have less, the same, or more, and the standard deviation, the least and the greatest of
+    the differences. Of fewer than two sources nothing can be said."""
 
     first: str
     second: str
@@ -73,6 +109,9 @@ class Difference:
     less: int
     same: int
     more: int
+    deviation: float = math.nan
+    least: float = math.nan
+    most: float = math.nan
 
     @property
     def is_shown(self) -> bool:
@@ -108,12 +147,10 @@ class Evaluation:
         """Compares two schedulers source by source."""
         one, other = self.figures(first, figure), self.figures(second, figure)
         pairs = [(one[it], other[it]) for it in one if it in other and other[it]]
-        values = [100 * (a - b) / b for a, b in pairs]
-        count = len(values)
-        mean = sum(values) / count if count else math.nan
-        spread = math.sqrt(sum((it - mean) ** 2 for it in values) / (count - 1) / count) * _quantile(count - 1) if count > 1 else math.nan
+        it = spread(100 * (a - b) / b for a, b in pairs)
         less, more = sum(a < b for a, b in pairs), sum(a > b for a, b in pairs)
-        return Difference(first, second, figure, count, mean, mean - spread, mean + spread, less, count - less - more, more)
+        return Difference(first, second, figure, it.count, it.mean, it.low, it.high, less, it.count - less - more, more, it.deviation, it.least,
+                          it.most)
 
     def differences(self, second: str, figure: str = "cycles") -> List[Difference]:
         """Compares every other scheduler with one, in the order of the records."""

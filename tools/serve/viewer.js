@@ -164,17 +164,18 @@ const tagOf = sign => {
 const place = address => address < 0 ? '' : hex(address, 4);
 
 // What is said of a slot with a no-op: who found no instruction for it.
-const EMPTY = { padded: 'a padded plan has no instruction for it', list: 'the list scheduler found no instruction for it',
-  copies: 'the list scheduler found no instruction for it', best: 'the plan of its block has no instruction for it' };
+const EMPTY = { padded: 'padded plans have none', list: 'the list scheduler found none', copies: 'the list scheduler found none',
+  best: 'the plan of its block has none',
+  plans: 'the plans of the file have none' };
 
 // Why a no-op stands at an address: the words before it tell.
 const whyNoOp = (range, address) => {
   const last = range.listing.get(address - 1), other = range.listing.get(address - 2);
   const transfer = [last, other].find(word => word && word.kind >= 3);
-  if (transfer) return 'a no-op in a slot of ' + place(transfer.address) + ': ' + EMPTY[range.data.scheduler] + range.shown.more(range, address);
+  if (transfer) return 'no-op in a slot of ' + place(transfer.address) + ': ' + EMPTY[range.data.scheduler] + range.shown.more(range, address);
   if (last && last.kind === 1)
-    return 'a no-op after the load at ' + place(last.address) + ': ' + EMPTY[range.data.scheduler] + range.shown.more(range, address);
-  return 'a no-op';
+    return 'no-op after the load at ' + place(last.address) + ': ' + EMPTY[range.data.scheduler] + range.shown.more(range, address);
+  return 'no-op';
 };
 const whySquashed = (range, row) => {
   const branch = [range.rows[row.k - 1], range.rows[row.k - 2]].find(other => other && range.listing.has(other.address) && range.listing.get(other.address).kind === 4);
@@ -187,22 +188,32 @@ const operandsAt = (range, row, k) => {
   if (!word) return [];
   return [ways % 4, ways >> 2].map((way, j) => ({ way, register: word.reads[j], value: range.field(k, j ? 'b' : 'a') })).filter(it => it.way > 0);
 };
+// What the word in ALU does there: where a transfer goes, what the others make.
+const madeBy = (range, word, k) => {
+  const result = range.field(k, 'result'), type = word.word >>> 30, code = word.word >>> 27 & 7, goes = address => 'goes to ' + place(address & 0xffff);
+  if (type === 0 && code < 6) return result ? goes(word.address + (word.word << 16 >> 16)) : 'does not hold';
+  if (type === 3 && code === 1) return goes(range.field(k, 'a') + (word.word << 15 >> 15)) + (word.word >>> 17 & 31 ? ', makes ' + hex(result) : '');
+  return type === 3 && code > 1 ? '' : 'makes ' + hex(result);
+};
+// In which of its two cycles a fetch waits that is not in the cache.
+const waitOf = (range, k) => (k + 1 < range.count ? range.isStalled(k + 1) : k - lastMoving(range, k) < 2) ? 1 : 2;
 const whyAt = (range, row, k) => {
   const sign = signAt(row, k), cell = cellOf(sign), word = range.listing.get(row.address), reasons = [];
   if (sign === 'w') {
-    reasons.push('not in the cache: two cycles more');
+    reasons.push(`not in the cache, stalled cycle ${waitOf(range, k)} of 2`);
     const fetched = heldRow(range, 0, lastMoving(range, k));
     if (fetched) reasons.push(place(fetched.address) + ' before it waits to enter RF');
   }
   if (cell.look === 'squashed') reasons.push(whySquashed(range, row));
-  if (cell.look === 'killed') reasons.push('killed by the interrupt that this cycle takes');
-  if (word && word.isNoOp && cell.look !== 'squashed') reasons.push(whyNoOp(range, row.address));
+  if (cell.look === 'killed') reasons.push('killed by the interrupt');
+  if (!word && row.address >= 0) reasons.push('no word of the program');
+  if (word && word.isNoOp && STAGES.includes(cell.look)) reasons.push(whyNoOp(range, row.address));
   if (sign === '2' || sign === 'C')
     for (const it of operandsAt(range, row, k)) reasons.push('r' + it.register + ' = ' + hex(it.value) + ' (' + WAYS[it.way] + ')');
-  if (sign === '2' && !(word && word.isNoOp)) reasons.push('makes ' + hex(range.field(k, 'result')));
+  if (sign === '2' && word && !word.isNoOp) reasons.push(madeBy(range, word, k));
   if (sign === '3' && word && word.kind === 2)
     reasons.push(range.field(k, 'byte') >= 0 ? 'sends ' + hex(range.field(k, 'byte'), 2) : 'stores ' + hex(range.field(k, 'word')) + ' at ' + place(range.field(k, 'address')));
-  return reasons.join('; ');
+  return reasons.filter(it => it).join('; ');
 };
 
 // What a stage holds in a stalled cycle: what it held in the last cycle that was not, since nothing moves.
@@ -219,7 +230,7 @@ const isKilled = (row, k) => cellOf(signAt(row, k)).look === 'killed';
 const heldIn = (range, stage, n, at) => {
   const moved = lastMoving(range, at), row = heldRow(range, n, moved), word = row && range.listing.get(row.address);
   const wasKilled = moved >= 0 && range.rowsAt(moved).some(it => isKilled(it, moved) && cellOf(signAt(it, moved)).stage === n);
-  if (!row) return { cells: [stage, '', '', '', wasKilled ? 'empty: the interrupt killed what was here' : 'empty; nothing moves in a stalled cycle'] };
+  if (!row) return { cells: [stage, '', '', '', wasKilled ? 'empty: the interrupt killed what was here' : 'empty'] };
   const held = cellOf(signAt(row, moved)).look === 'squashed' ? 'squashed; held by the stall' : 'held by the stall';
   return { row, cells: [stage, place(row.address), word ? word.text : '', word ? word.origin : '', held] };
 };
@@ -228,12 +239,23 @@ const heldIn = (range, stage, n, at) => {
 
 // In a stalled cycle a word stays in the stage that it was in.
 const heldCell = (range, row, j) => {
-  if (!range.isStalled(row.begins + j)) return null;
-  let k = j;
-  while (k >= 0 && range.isStalled(row.begins + k)) k--;
-  const cell = k >= 0 ? cellOf(row.cells[k] || ' ') : null;
-  if (!cell || cell.look === 'waits' || cell.look === 'killed' || !/[0-9a-eA-E]/.test(row.cells.slice(j))) return null;
+  const moved = lastMoving(range, row.begins + j) - row.begins, cell = moved >= 0 && moved < j ? cellOf(row.cells[moved] || ' ') : null;
+  if (!cell || cell.look === 'waits' || cell.look === 'killed') return null;
   return { ...cell, look: cell.look === 'squashed' ? 'held squashed' : 'held' };
+};
+// The cells of a row by their columns, with those in stalled cycles, also behind the last one.
+const cellsOf = (range, row) => {
+  const found = [], isStalled = k => k < range.count && range.isStalled(k);
+  for (let j = 0; j < row.cells.length || isStalled(row.begins + j); j++) {
+    const cell = cellOf(row.cells[j] || ' ') || heldCell(range, row, j);
+    if (cell) found.push([j, cell]);
+  }
+  return found;
+};
+// The rows that are in a stage in a cycle, the oldest first: also those that a stalled cycle holds there.
+const rowsIn = (range, k) => {
+  const moved = lastMoving(range, k), held = moved < k && moved >= 0 ? range.rowsAt(moved).filter(row => !isKilled(row, moved)) : [];
+  return [...held, ...range.rowsAt(k)];
 };
 
 // An arrow of the picture, as its line and its tip.

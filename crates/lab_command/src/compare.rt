@@ -2,13 +2,15 @@
 ghost use Rattle.std.specs.Prelude.{◌≤◌, length};
 ghost use Rattle.mx_io.specs.declared.limits.TheConstants.{MAX_FILE_BYTES};
 
+use crate::own::{NamedFile, OwnFigures, OwnPlans, columns_of, measure_own, named_files, read_own};
 use cmd_answer::{Failure, Reply, Status};
 use cmd_source::{Program, read_program};
 use lab_line::{Asked, Form, file_by, named};
 use lab_measures::{Comparison, Conditions, compare};
 use lab_runs::{Stimulus, or_memory, printed, read_stimulus, unlinked};
 use lab_tables::{
-    Compared, comparison_json, comparison_text, comparisons_csv, comparisons_json, comparisons_text,
+    Column, Compared, comparison_csv, comparison_json, comparison_text, comparisons_csv,
+    comparisons_json, comparisons_text,
 };
 use lab_watch::Watcher;
 use mx_io::{Memory, Shelf};
@@ -117,26 +119,63 @@ fn compare_each<'w, W: Watcher>(
     Ok(compared)
 }
 
-// Comparisons in the form that the words ask for.
-fn text_of(asked: &Asked, compared: &[Compared]) -> Result<Vec<u8>, Memory> {
+// The comparison of one source in the form that the words ask for, with columns of plans from files.
+fn text_of_one(asked: &Asked, one: &Compared, columns: &[Column]) -> Result<Vec<u8>, Memory> {
     let alloc = asked.alloc;
-    let one: Option<&Comparison> = match compared {
-        [one] => Some(&one.comparison),
-        _ => None,
-    };
-    match (asked.form(), one) {
-        (Form::Json, Some(one)) => comparison_json(alloc, asked.word("SOURCE"), one),
-        (Form::Json, None) => comparisons_json(alloc, compared),
-        (Form::Csv, _) => comparisons_csv(alloc, compared),
-        (_, Some(one)) => or_memory(comparison_text(alloc, one)),
-        (_, None) => or_memory(comparisons_text(alloc, compared)),
+    match asked.form() {
+        Form::Json => comparison_json(alloc, one, columns),
+        Form::Csv => comparison_csv(alloc, one, columns),
+        _ => or_memory(comparison_text(alloc, &one.comparison, columns)),
     }
 }
 
-// The reply that compares sources under what is given to the run of each.
+// The same with what plans from files come to.
+fn text_with(asked: &Asked, one: &Compared, own: &[OwnFigures]) -> Result<Vec<u8>, Memory> {
+    match columns_of(asked.alloc, own) {
+        Ok(columns) => text_of_one(asked, one, columns.as_slice()),
+        Err(_) => Err(Memory),
+    }
+}
+
+// Comparisons of several sources in the form that the words ask for.
+fn text_of_all(asked: &Asked, compared: &[Compared]) -> Result<Vec<u8>, Memory> {
+    let alloc = asked.alloc;
+    match asked.form() {
+        Form::Json => comparisons_json(alloc, compared),
+        Form::Csv => comparisons_csv(alloc, compared),
+        _ => or_memory(comparisons_text(alloc, compared)),
+    }
+}
+
+// Comparisons in the form that the words ask for, with what plans from files come to.
+fn text_of(asked: &Asked, compared: &[Compared], own: &[OwnFigures]) -> Result<Vec<u8>, Memory> {
+    match compared {
+        [one] => text_with(asked, one, own),
+        _ => text_of_all(asked, compared),
+    }
+}
+
+// What plans from files come to, where there is one source.
+fn own_figures<'w, W: Watcher>(
+    alloc: Global,
+    programs: &[Program],
+    plans: &[OwnPlans<'w>],
+    conditions: &Conditions,
+    watcher: W,
+) -> Result<Vec<OwnFigures<'w>>, Failure>
+    requires { length conditions.now.input.now ≤ MAX_FILE_BYTES }
+{
+    match programs {
+        [one] => measure_own(alloc, &one.source, plans, conditions, watcher),
+        _ => Ok(Vec::new(alloc)),
+    }
+}
+
+// The reply that compares sources, and plans from files, under what is given to the run of each.
 fn compared_reply<W: Watcher>(
     asked: &Asked,
     programs: &[Program],
+    plans: &[OwnPlans],
     stimulus: &Stimulus,
     watcher: W,
 ) -> Result<Reply, Failure> {
@@ -146,18 +185,48 @@ fn compared_reply<W: Watcher>(
         budget: asked.number("budget"),
     };
     let compared = compare_each(asked, programs, &conditions, watcher)?;
-    printed(Status::Done, text_of(asked, compared.as_slice()))
+    let own = own_figures(asked.alloc, programs, plans, &conditions, watcher)?;
+    printed(
+        Status::Done,
+        text_of(asked, compared.as_slice(), own.as_slice()),
+    )
 }
 
-// The reply that compares sources.
-fn sources_reply<S: Shelf, W: Watcher>(
+// The reply that compares sources, and plans from files.
+fn plans_reply<S: Shelf, W: Watcher>(
     asked: &Asked,
     shelf: &mut S,
     programs: &[Program],
+    plans: &[OwnPlans],
     watcher: W,
 ) -> Result<Reply, Failure> {
     let stimulus = read_stimulus(asked, shelf)?;
-    compared_reply(asked, programs, &stimulus, watcher)
+    compared_reply(asked, programs, plans, &stimulus, watcher)
+}
+
+// The plans of files, where there is one source.
+fn own_plans<'w, S: Shelf>(
+    alloc: Global,
+    shelf: &mut S,
+    programs: &[Program],
+    files: &[NamedFile<'w>],
+) -> Result<Vec<OwnPlans<'w>>, Failure> {
+    match programs {
+        [one] => read_own(alloc, shelf, &one.source, files),
+        _ => Ok(Vec::new(alloc)),
+    }
+}
+
+// The reply that compares sources, and the plans of files.
+fn files_reply<S: Shelf, W: Watcher>(
+    asked: &Asked,
+    shelf: &mut S,
+    programs: &[Program],
+    files: &[NamedFile],
+    watcher: W,
+) -> Result<Reply, Failure> {
+    let plans = own_plans(asked.alloc, shelf, programs, files)?;
+    plans_reply(asked, shelf, programs, plans.as_slice(), watcher)
 }
 
 /// The reply to `compare SOURCE ..`.
@@ -167,6 +236,7 @@ pub fn compare_reply<S: Shelf, W: Watcher>(
     watcher: W,
 ) -> Result<Reply, Failure> {
     let names = asked.matches.get_strs("SOURCE").unwrap_or(&[]);
+    let files = named_files(asked, names.len())?;
     let programs = read_sources(asked.alloc, shelf, names)?;
-    sources_reply(asked, shelf, programs.as_slice(), watcher)
+    files_reply(asked, shelf, programs.as_slice(), files.as_slice(), watcher)
 }

@@ -2,12 +2,12 @@
 ghost use Rattle.std.specs.Prelude.{◌≤◌, vec_len};
 ghost use Rattle.mx_io.specs.declared.limits.TheConstants.{MAX_SOURCE_BYTES};
 
+use crate::images::image_in;
 use cmd_answer::{Failure, FileKind, Reply, Status, read_file};
 use cmd_source::linked_text;
 use lab_disassemble::{Listing, image_listing, listing_json, listing_text, source_listing};
 use lab_line::{Asked, Form};
-use lab_runs::{or_memory, printed, refused};
-use mx_image::{ImageError, read_file as read_image_file};
+use lab_runs::{or_memory, printed};
 use mx_io::{Memory, Shelf};
 use std::alloc::{AllocError, Global};
 
@@ -22,20 +22,10 @@ fn listed(listing: Result<Listing, AllocError>) -> Result<Listing, Failure> {
     }
 }
 
-// What is wrong with an image file.
-fn faulty(alloc: Global, error: &ImageError) -> Failure {
-    match *error {
-        ImageError::Memory => Failure::Memory,
-        _ => refused(alloc, Status::BadImage, format!(in alloc; "image: {error}")),
-    }
-}
-
 // The listing of an image file, or the reply to what is wrong with it.
 fn list_image(alloc: Global, bytes: &[u8]) -> Result<Listing, Failure> {
-    match read_image_file(alloc, bytes) {
-        Ok(file) => listed(image_listing(alloc, &file)),
-        Err(error) => Err(faulty(alloc, &error)),
-    }
+    let file = image_in(alloc, bytes)?;
+    listed(image_listing(alloc, &file))
 }
 
 // The listing of a source, or the reply to what is wrong with it.

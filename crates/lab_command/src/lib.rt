@@ -2,9 +2,12 @@
 #![tactic(auto)]
 
 mod blocks;
+mod certificates;
 mod check;
 mod compare;
 mod disassemble;
+mod images;
+mod own;
 mod plans;
 mod refusal;
 mod top;

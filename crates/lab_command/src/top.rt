@@ -1,5 +1,6 @@
 //! The top call.
 use crate::blocks::blocks_reply;
+use crate::certificates::{certify_reply, verify_reply};
 use crate::check::check_reply;
 use crate::compare::compare_reply;
 use crate::disassemble::disassemble_reply;
@@ -26,20 +27,23 @@ fn status_of(kind: ErrorKind) -> Status {
     }
 }
 
-// The reply of a command. Another one is added here, or beside those that tell of a run (`lab_runs`), and in the table of commands
-// (`lab_line`).
+// The reply of a command, and in `notes` what standard error gets beside it. Another one is added here, or beside those that tell
+// of a run (`lab_runs`), and in the table of commands (`lab_line`).
 fn answered_by<S: Shelf, W: Watcher>(
     asked: &Asked,
     shelf: &mut S,
     watcher: W,
+    notes: &mut Vec<u8>,
 ) -> Result<Reply, Failure> {
     match asked.command {
         Command::Blocks => blocks_reply(asked, shelf),
+        Command::Certify => certify_reply(asked, shelf),
         Command::Check => check_reply(asked, shelf),
         Command::Compare => compare_reply(asked, shelf, watcher),
         Command::Disassemble => disassemble_reply(asked, shelf),
         Command::Plans => plans_reply(asked, shelf, watcher),
-        Command::OfRun(command) => run_reply(asked, command, shelf, watcher),
+        Command::Verify => verify_reply(asked, shelf),
+        Command::OfRun(command) => run_reply(asked, command, shelf, watcher, notes),
     }
 }
 
@@ -170,13 +174,14 @@ fn reply_of<S: Shelf, T: Watcher>(
     matches: &ArgMatches,
     shelf: &mut S,
     watcher: T,
+    notes: &mut Vec<u8>,
 ) -> Result<Reply, Memory> {
     let asked = Asked {
         alloc,
         command,
         matches,
     };
-    replied(answered_by(&asked, shelf, watcher))
+    replied(answered_by(&asked, shelf, watcher, notes))
 }
 
 // The answer of a command, where it has these words.
@@ -187,8 +192,9 @@ fn command_answer<'a, S: Shelf, T: Watcher, C: Causes>(
     shelf: &mut S,
     watcher: T,
     causes: C,
+    notes: &mut Vec<u8>,
 ) -> Result<Answer<'a>, Memory> {
-    let reply = reply_of(alloc, command, matches, shelf, watcher)?;
+    let reply = reply_of(alloc, command, matches, shelf, watcher, notes)?;
     answer_of(alloc, command, matches, reply, shelf, causes)
 }
 
@@ -211,9 +217,12 @@ fn found_answer<'a, S: Shelf, T: Watcher, C: Causes>(
     shelf: &mut S,
     watcher: T,
     causes: C,
+    notes: &mut Vec<u8>,
 ) -> Result<Answer<'a>, Memory> {
     match found_in(matches) {
-        Some((command, found)) => command_answer(alloc, command, found, shelf, watcher, causes),
+        Some((command, found)) => command_answer(
+            alloc, command, found, shelf, watcher, causes, notes,
+        ),
         None => error_answer(Status::Usage, usage_text(alloc, causes.caller(), words)),
     }
 }
@@ -225,9 +234,10 @@ fn answer_to<'a, S: Shelf, T: Watcher, C: Causes>(
     shelf: &mut S,
     watcher: T,
     causes: C,
+    notes: &mut Vec<u8>,
 ) -> Result<Answer<'a>, Memory> {
     match parse_words(alloc, words) {
-        Ok(matches) => found_answer(alloc, words, &matches, shelf, watcher, causes),
+        Ok(matches) => found_answer(alloc, words, &matches, shelf, watcher, causes, notes),
         Err(error) => words_answer(alloc, words, &error, causes),
     }
 }
@@ -256,10 +266,22 @@ fn end_of<S: Shelf, W: Sink>(alloc: Global, answer: Answer, shelf: &mut S, out: 
     named_end(alloc, put_out(alloc, answer, shelf, out), to)
 }
 
+// How a command ended, with notes for standard error, where it gets nothing else.
+fn noted(ended: Ended, notes: Vec<u8>) -> Ended {
+    if ended.errors.is_empty() {
+        Ended {
+            status: ended.status,
+            errors: notes,
+        }
+    } else {
+        ended
+    }
+}
+
 /// Runs the command that the words, those after the program's name, ask for. It reads files from the shelf, tells the
 /// watcher how far a run has come, and puts all that it prints into the sink, or writes it to the file that `-o` names.
-/// It answers how it ended and what goes to standard error: where that is anything, nothing else was put out. Who is asked
-/// why a file cannot be read are the causes.
+/// It answers how it ended and what goes to standard error: beside an output that is a line for each plan of a file that is
+/// rejected, and else why nothing was put out. Who is asked why a file cannot be read are the causes.
 pub fn lab<S: Shelf, W: Sink, T: Watcher, C: Causes>(
     alloc: Global,
     words: &[String],
@@ -268,10 +290,11 @@ pub fn lab<S: Shelf, W: Sink, T: Watcher, C: Causes>(
     watcher: T,
     causes: C,
 ) -> Ended {
-    let answer = answer_to(alloc, words, shelf, watcher, causes);
+    let mut notes = Vec::new(alloc);
+    let answer = answer_to(alloc, words, shelf, watcher, causes, &mut notes);
     watcher.done();
     match answer {
-        Ok(answer) => end_of(alloc, answer, shelf, out),
+        Ok(answer) => noted(end_of(alloc, answer, shelf, out), notes),
         Err(_) => failed(
             alloc,
             Status::Memory,

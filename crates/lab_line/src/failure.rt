@@ -68,6 +68,28 @@ static LINE_FAULTS: [(&str, &str); 7] = [
     ("NoBlock", "the source has no block for this plan"),
 ];
 
+/// What the faults of the lines of a certificate say, and what they mean.
+static CERTIFICATE_FAULTS: [(&str, &str); 9] = [
+    ("BadHeader", "expected 'zanderanvil certificate 1'"),
+    (
+        "BadHash",
+        "expected 'source' and the 64 digits of a hash, 0 to 9 and a to f",
+    ),
+    ("BadLine", "expected 'block'"),
+    (
+        "BadAddress",
+        "expected an address: a number from 0 to 65,535",
+    ),
+    (
+        "BadCopies",
+        "expected a number of copies: 0, 1, 2, 1s or 2s",
+    ),
+    ("BadItem", "expected a number from 0 to 63, '-' or '/'"),
+    ("TooLong", "a plan has at most 131 items"),
+    ("TwoPlaces", "a plan has one '/'"),
+    ("NoPlan", "expected the items of a plan"),
+];
+
 // Bytes as a text, without the end of its line; none where they are not UTF-8.
 fn text_of(said: &[u8]) -> &str {
     str::from_utf8(said).unwrap_or("").trim_end()
@@ -99,14 +121,19 @@ fn named_part<'a>(said: &'a str, sign: &str) -> (&'a str, &'a str) {
     }
 }
 
-// The name of the file that a read fault of this kind speaks of; empty where it is one of several sources.
+// The name of the file that a read fault of this kind speaks of; empty where it is one of several sources or a plan file, which is
+// named before the fault.
 fn name_read<'a>(matches: &ArgMatches<'a>, kind: &str) -> &'a str {
-    if kind.starts_with("interrupts") {
+    if kind.starts_with("image") {
+        word_given(matches, "IMAGE")
+    } else if kind.starts_with("certificate") {
+        word_given(matches, "CERTIFICATE")
+    } else if kind.starts_with("interrupts") {
         word_given(matches, "interrupts")
     } else if kind.starts_with("input") {
         word_given(matches, "input")
     } else if kind.starts_with("plans") {
-        word_given(matches, "FILE")
+        ""
     } else {
         source_named(matches)
     }
@@ -153,9 +180,9 @@ fn push_unread<C: Causes>(text: &mut Writer, unread: Unread, causes: C) {
     }
 }
 
-// What the fault of a line of an interrupt or a plan file means; nothing where it is none of these.
-fn meaning_of(fault: &str) -> &'static str {
-    for (name, meaning) in &LINE_FAULTS {
+// What the fault of a line means by a table; nothing where it is none of its faults.
+fn meaning_of(table: &[(&'static str, &'static str)], fault: &str) -> &'static str {
+    for (name, meaning) in table {
         if *name == fault {
             return *meaning;
         }
@@ -173,7 +200,7 @@ fn push_code(text: &mut Writer, code: &str, meaning: &str) {
 
 // Appends what is wrong with a line: the code of its fault and what that means.
 fn push_fault(text: &mut Writer, fault: &str) {
-    let meaning = meaning_of(fault);
+    let meaning = meaning_of(&LINE_FAULTS, fault);
     if fault.starts_with("displacement") {
         push_code(text, "L1", fault);
         text.push_str(": branch range is -32768 to 32767 words");
@@ -212,6 +239,14 @@ fn push_source(text: &mut Writer, name: &str, said: &str) {
     }
 }
 
+// The name of the image file.
+fn image_named<'a>(matches: &ArgMatches<'a>) -> &'a str {
+    match matches.get_str("IMAGE") {
+        Some(name) => name,
+        None => word_given(matches, "FILE"),
+    }
+}
+
 // Appends what is said of a file that is no image file.
 fn push_image(text: &mut Writer, name: &str, said: &str) {
     let (_, why) = named_part(said, "image: ");
@@ -221,10 +256,19 @@ fn push_image(text: &mut Writer, name: &str, said: &str) {
     text.push_str(why);
 }
 
-// Appends what is said of a line of an interrupt or a plan file.
+// Appends what is said of a line of a certificate, `N: FAULT`.
+fn push_certificate(text: &mut Writer, matches: &ArgMatches, said: &str) {
+    let (number, fault) = named_part(said, ": ");
+    text.push_parts(&[word_given(matches, "CERTIFICATE"), ":", number, ": error"]);
+    push_code(text, fault, meaning_of(&CERTIFICATE_FAULTS, fault));
+}
+
+// Appends what is said of a line of a certificate, or of an interrupt or a plan file: the latter is named before it.
 fn push_event(text: &mut Writer, matches: &ArgMatches, said: &str) {
-    if let Some(rest) = said.strip_prefix("plans line ") {
-        push_line(text, word_given(matches, "FILE"), rest);
+    if let Some(rest) = said.strip_prefix("certificate line ") {
+        push_certificate(text, matches, rest);
+    } else if let Some((name, rest)) = said.rsplit_once(": plans line ") {
+        push_line(text, name, rest);
     } else if let Some(rest) = said.strip_prefix("interrupts line ") {
         push_line(text, word_given(matches, "interrupts"), rest);
     } else {
@@ -232,7 +276,7 @@ fn push_event(text: &mut Writer, matches: &ArgMatches, said: &str) {
     }
 }
 
-// Appends what a read fault says: it names the source, where that is one of several.
+// Appends what a read fault says: it names the source, where that is one of several, and a plan file.
 fn push_read_fault<C: Causes>(text: &mut Writer, matches: &ArgMatches, said: &str, causes: C) {
     let (before, kind) = named_part(said, "read fault: ");
     let name = name_read(matches, kind);
@@ -255,7 +299,7 @@ pub fn error_text<C: Causes>(
     let said = text_of(said);
     match status {
         Status::Usage => push_error(&mut text, said),
-        Status::BadImage => push_image(&mut text, word_given(matches, "FILE"), said),
+        Status::BadImage => push_image(&mut text, image_named(matches), said),
         Status::BadEvents => push_event(&mut text, matches, said),
         Status::ReadFault => push_read_fault(&mut text, matches, said, causes),
         _ => push_source(&mut text, source_named(matches), said),

@@ -5,6 +5,7 @@ ghost use Rattle.std.specs.Str.{bytes_eq};
 
 use crate::table::Command;
 use clap::ArgMatches;
+use clap::parser::ValueSource;
 use std::alloc::Global;
 
 /// The name of standard input, as a word and as a file.
@@ -113,6 +114,19 @@ impl<'a, 'w> Asked<'a, 'w> {
     /// The word of an option or a name; empty where there is none.
     pub fn word(&self, name: &str) -> &'w str {
         word_given(self.matches, name)
+    }
+
+    /// The word of an option, if it is given.
+    pub fn word_if_any(&self, name: &str) -> Option<&'w str> {
+        self.matches.get_str(name)
+    }
+
+    /// Whether an option is among the words, and has not its default alone.
+    pub fn is_given(&self, name: &str) -> bool {
+        matches!(
+            self.matches.value_source(name),
+            Some(ValueSource::CommandLine)
+        )
     }
 
     /// The form of what is printed.

@@ -17,10 +17,12 @@ const MOST_PENALTY: i64 = 1000;
 #[derive(Clone, Copy)]
 pub enum Command {
     Blocks,
+    Certify,
     Check,
     Compare,
     Disassemble,
     Plans,
+    Verify,
     /// One that tells of the run of a source.
     OfRun(RunCommand),
 }
@@ -47,6 +49,8 @@ pub(crate) enum Names {
     File,
     /// A source and a plan file, or the flag that asks for one.
     Plans,
+    /// A source, an image file and a certificate.
+    Certified,
 }
 
 /// What stands behind the name of an option.
@@ -54,6 +58,8 @@ pub(crate) enum Names {
 pub(crate) enum Takes {
     Nothing,
     File,
+    /// A name and a file. It may come several times.
+    NamedFile,
     /// A number, and the one that is taken where it is left out, if there is one.
     Number {
         default: Option<&'static str>,
@@ -138,7 +144,13 @@ const SCHEDULER: OptionRow = OptionRow {
     help: "the scheduler whose plans are run, as compare names it",
 };
 
-const DRAW: [OptionRow; 7] = [
+const PLAN_FILE: OptionRow = OptionRow {
+    name: "plans",
+    takes: Takes::File,
+    help: "a plan file, whose plans are run in place of a scheduler's",
+};
+
+const DRAW: [OptionRow; 8] = [
     OptionRow {
         name: "as",
         takes: Takes::Word {
@@ -163,6 +175,7 @@ const DRAW: [OptionRow; 7] = [
         help: "how many cycles are drawn",
     },
     SCHEDULER,
+    PLAN_FILE,
     BUDGET,
     INTERRUPTS,
     INPUT,
@@ -201,7 +214,7 @@ const EXPLAIN: [OptionRow; 4] = [
     INPUT,
 ];
 
-const PROFILE: [OptionRow; 7] = [
+const PROFILE: [OptionRow; 8] = [
     OptionRow {
         name: "by",
         takes: Takes::Word {
@@ -232,16 +245,22 @@ const PROFILE: [OptionRow; 7] = [
         help: "the form of the profile",
     },
     SCHEDULER,
+    PLAN_FILE,
     BUDGET,
     INTERRUPTS,
     INPUT,
 ];
 
-const COMPARE: [OptionRow; 4] = [
+const COMPARE: [OptionRow; 5] = [
     OptionRow {
         name: "as",
         takes: TEXT_JSON_OR_CSV,
         help: "the form of the comparison",
+    },
+    OptionRow {
+        name: "plans",
+        takes: Takes::NamedFile,
+        help: "a column for the plans of a file, by a name; may come several times",
     },
     BUDGET,
     INTERRUPTS,
@@ -264,7 +283,7 @@ const DISASSEMBLE: [OptionRow; 1] = [OptionRow {
     help: "the form of the listing",
 }];
 
-const CACHES: [OptionRow; 6] = [
+const CACHES: [OptionRow; 7] = [
     OptionRow {
         name: "as",
         takes: Takes::Word {
@@ -301,11 +320,12 @@ const CACHES: [OptionRow; 6] = [
         },
         help: "the cycles that a miss costs",
     },
+    PLAN_FILE,
     BUDGET,
     INPUT,
 ];
 
-const SWEEP: [OptionRow; 8] = [
+const SWEEP: [OptionRow; 9] = [
     OptionRow {
         name: "from",
         takes: FIRST_CYCLE,
@@ -344,11 +364,12 @@ const SWEEP: [OptionRow; 8] = [
         takes: TEXT_JSON_OR_CSV,
         help: "the form of the output",
     },
+    PLAN_FILE,
     BUDGET,
     INPUT,
 ];
 
-const TRACE: [OptionRow; 5] = [
+const TRACE: [OptionRow; 6] = [
     OptionRow {
         name: "as",
         takes: Takes::Word {
@@ -359,6 +380,7 @@ const TRACE: [OptionRow; 5] = [
         help: "the form of the trace: a JSON text a line",
     },
     SCHEDULER,
+    PLAN_FILE,
     BUDGET,
     INTERRUPTS,
     INPUT,
@@ -366,9 +388,11 @@ const TRACE: [OptionRow; 5] = [
 
 const PLANS: [OptionRow; 3] = [BUDGET, INTERRUPTS, INPUT];
 
+const NONE: [OptionRow; 0] = [];
+
 /// The commands, in the order in which help tells them. Another one is added here and where it is answered: in `answers.rt` of
 /// `lab_runs`, or in `top.rt` of `lab_command`.
-pub(crate) static COMMANDS: [CommandRow; 11] = [
+pub(crate) static COMMANDS: [CommandRow; 13] = [
     CommandRow {
         name: "draw",
         command: Command::OfRun(RunCommand::Draw),
@@ -445,6 +469,20 @@ pub(crate) static COMMANDS: [CommandRow; 11] = [
         about: "runs a source by plans from a file",
         names: Names::Plans,
         options: &PLANS,
+    },
+    CommandRow {
+        name: "certify",
+        command: Command::Certify,
+        about: "prints what shows that the image of a source means it",
+        names: Names::Source,
+        options: &NONE,
+    },
+    CommandRow {
+        name: "verify",
+        command: Command::Verify,
+        about: "checks by a certificate that an image means a source",
+        names: Names::Certified,
+        options: &NONE,
     },
 ];
 

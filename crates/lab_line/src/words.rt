@@ -25,7 +25,7 @@ fn first_arg<'a>(alloc: Global, names: Names) -> Arg<'a> {
         Names::Sources => name_arg(alloc, "SOURCE", SOURCE)
             .num_args(1..)
             .action(ArgAction::Append),
-        Names::Source | Names::Plans => name_arg(alloc, "SOURCE", SOURCE),
+        Names::Source | Names::Plans | Names::Certified => name_arg(alloc, "SOURCE", SOURCE),
     }
 }
 
@@ -62,6 +62,9 @@ fn option_arg<'a>(alloc: Global, row: &OptionRow) -> Arg<'a> {
         Takes::File => bare_option(alloc, row)
             .value_name("FILE")
             .action(ArgAction::Set),
+        Takes::NamedFile => bare_option(alloc, row)
+            .value_name("NAME=FILE")
+            .action(ArgAction::Append),
         Takes::Number {
             default: Some(default),
             least,
@@ -122,6 +125,9 @@ fn named_command<'a>(alloc: Global, row: &CommandRow) -> Result<Command<'a>, All
         .arg(first_arg(alloc, row.names))?;
     match row.names {
         Names::Plans => with_arg(with_arg(bare, plans_arg(alloc))?, print_flag(alloc)),
+        Names::Certified => bare
+            .arg(name_arg(alloc, "IMAGE", "the image file"))?
+            .arg(name_arg(alloc, "CERTIFICATE", "the certificate")),
         Names::Source | Names::Sources | Names::File => Ok(bare),
     }
 }

@@ -129,7 +129,7 @@ fn is_among(words: &[&str], text: &str) -> bool {
 fn takes_value(row: &OptionRow, value: &str) -> bool {
     match row.takes {
         Takes::Nothing => false,
-        Takes::File => true,
+        Takes::File | Takes::NamedFile => true,
         Takes::Number { least, most, .. } => is_number(value, least, most),
         Takes::Word { words, .. } => is_among(words, value),
     }
@@ -223,6 +223,7 @@ fn most_arguments(command: &CommandRow) -> usize {
     match command.names {
         Names::Source | Names::File => 1,
         Names::Plans => 2,
+        Names::Certified => 3,
         Names::Sources => usize::MAX,
     }
 }
@@ -233,18 +234,20 @@ fn missing(command: &CommandRow, arguments: usize, is_printed: bool) -> Option<&
         (Names::File, 0) => Some("FILE"),
         (_, 0) => Some("SOURCE"),
         (Names::Plans, 1) if !is_printed => Some("FILE"),
+        (Names::Certified, 1) => Some("IMAGE"),
+        (Names::Certified, 2) => Some("CERTIFICATE"),
         _ => None,
     }
 }
 
-// The first option that comes again.
-fn repeated<'a>(words: &'a [String]) -> Option<Wrong<'a>> {
+// The first option that comes again, and may not.
+fn repeated<'a>(command: &CommandRow, words: &'a [String]) -> Option<Wrong<'a>> {
     let mut rest = words;
     for _ in 0..words.len() {
         let [first, others @ ..] = rest else {
             return None;
         };
-        if is_repeated(first.as_str(), others) {
+        if is_repeated(command, first.as_str(), others) {
             return Some(Wrong::Twice(first.as_str()));
         }
         rest = others;
@@ -252,11 +255,22 @@ fn repeated<'a>(words: &'a [String]) -> Option<Wrong<'a>> {
     None
 }
 
-// A word is an option that comes again among others.
-fn is_repeated(word: &str, others: &[String]) -> bool {
+// An option of a command may come several times.
+fn may_repeat(command: &CommandRow, name: &str) -> bool {
+    match row_of(command, name) {
+        Some(row) => matches!(row.takes, Takes::NamedFile),
+        None => false,
+    }
+}
+
+// A word is an option that comes again among others, and may not.
+fn is_repeated(command: &CommandRow, word: &str, others: &[String]) -> bool {
     let Some(given) = option_in(word) else {
         return false;
     };
+    if may_repeat(command, given.name) {
+        return false;
+    }
     for other in others {
         match option_in(other.as_str()) {
             Some(again) if again.name == given.name => return true,
@@ -282,7 +296,7 @@ fn wrong_after<'a>(command: &'a CommandRow, words: &'a [String]) -> Option<Wrong
         }
     }
     match walk.ends() {
-        None => repeated(words),
+        None => repeated(command, words),
         wrong => wrong,
     }
 }
@@ -362,6 +376,7 @@ fn push_expected(text: &mut Writer, row: &OptionRow) {
     match row.takes {
         Takes::Nothing => text.push_str("no value"),
         Takes::File => text.push_str("a file"),
+        Takes::NamedFile => text.push_str("NAME=FILE"),
         Takes::Number { least, most, .. } => {
             push_grouped(text, u64::try_from(least).unwrap_or(0));
             text.push_str(" to ");

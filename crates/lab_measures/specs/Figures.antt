@@ -33,9 +33,8 @@ pub record AreFigures (Proposes : Block → Plan → Type 0) (filling : Filling)
     (requests bytes : List ℕ) (budget : ℕ) (f : Figures) : Type 0 where
   pub sites : List Site
   pub proposals : List Plan
-  pub rejected : ℕ
   pub layout : IsLayout Valid source board sites
-  pub kept : AreKept Proposes rejected sites proposals
+  pub kept : AreKept Proposes f.rejected sites proposals
   pub words : f.words ≡ length (linked_code filling source board sites)
   pub noops : f.noops ≡ noops_in (linked_code filling source board sites)
   pub copies : f.copies ≡ copies_in (origins_of filling sites)

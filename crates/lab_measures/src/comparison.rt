@@ -1,37 +1,16 @@
 //! The four schedulers.
 ghost use Rattle.std.specs.Prelude.{◌≤◌, IfOk, IfErr, length};
-ghost use Rattle.mx_blocks.specs.declared.block.Block.{Block};
-ghost use Rattle.mx_blocks.specs.declared.block.Plan.{Plan};
-ghost use Rattle.mx_validate.specs.Padded.{IsPadded};
 ghost use Rattle.lab_measures.specs.Terms.{MAX_FILE_BYTES, IsRefusal, board};
 ghost use Rattle.lab_measures.specs.Comparisons.{IsComparison, IsRefused};
 
-use crate::{Figures, figures_of};
+use crate::{Figures, PaddedProposer, figures_of};
 use lab_watch::Watcher;
 use mx_best::BestProposer;
-use mx_blocks::{Block, Plan};
 use mx_board::Requests;
 use mx_link::LinkError;
 use mx_reorg::ListProposer;
 use mx_source::Source;
-use mx_validate::{Proposer, padded};
 use std::alloc::Global;
-
-/// Proposes the padded plan.
-#[derive(Clone, Copy)]
-struct PaddedProposer;
-
-impl Proposer for PaddedProposer {
-    ghost use Rattle.mx_validate.specs.Padded.{IsPadded};
-
-    ghost proposes = { λ block plan. IsPadded block plan };
-
-    fn propose(&mut self, block: &Block) -> Plan
-        ensures { IsPadded block.now result }
-    {
-        padded(block)
-    }
-}
 
 /// What a source and its run come to by four schedulers.
 #[derive(Clone, Copy)]

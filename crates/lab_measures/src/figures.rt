@@ -11,6 +11,8 @@ pub struct Figures {
     pub noops: u32,
     /// How many of them are copies.
     pub copies: u32,
+    /// How many proposed plans are not valid, so that their blocks are padded.
+    pub rejected: u32,
     /// The slots behind branches, calls and jumps, two each.
     pub transfers: TransferSlots,
     /// The places directly behind loads, one each.

@@ -1,41 +1,23 @@
 //! The figures of one scheduler.
-ghost use Rattle.std.specs.Prelude.{◌≡◌, ◌≤◌, ◌+◌, ◌*◌, IfOk, IfErr, cond, length};
-ghost use Rattle.lab_measures.specs.Terms.{MAX_FILE_BYTES, IsRefusal, from_target, from_nowhere, IsLinked, board};
+ghost use Rattle.std.specs.Prelude.{◌≡◌, ◌≤◌, IfOk, IfErr, cond, length};
+ghost use Rattle.lab_measures.specs.Terms.{MAX_FILE_BYTES, IsRefusal, from_target, from_nowhere, board};
 ghost use Rattle.lab_measures.specs.Figures.{AreFigures, linked_run};
 
 use crate::machine::{cycles_in, has_halted};
-use crate::{Conditions, Figures};
+use crate::{Conditions, Figures, linked_with};
 use lab_terms::{given_to, slots_of};
 use lab_watch::{Watcher, watched_pipe};
 use mx_icache::LineCache;
 use mx_io::Memory;
-use mx_isa::BOARD;
-use mx_link::{LinkError, Linked, link, link_plain};
+use mx_link::{LinkError, Linked};
 use mx_report::drive;
 use mx_source::Source;
 use mx_validate::Proposer;
 use std::alloc::Global;
 
-/// Links a source at the board's place by what a scheduler proposes, its slots filled from their targets or not.
-fn linked_by<P: Proposer>(
-    alloc: Global,
-    source: &Source,
-    proposer: &mut P,
-    copies: bool,
-) -> Result<Linked, LinkError>
-    ensures linked { IfOk result (IsLinked P.proposes (cond copies from_target from_nowhere) source.now board) }
-    ensures refused { IfErr result (IsRefusal P.proposes source.now board) }
-{
-    let _statements = source.statements();
-    if copies {
-        link(alloc, source, BOARD, proposer)
-    } else {
-        link_plain(alloc, source, BOARD, proposer)
-    }
-}
-
-/// The figures of a linked source.
-fn measured<W: Watcher>(
+/// The figures of a linked source, run under the shipped handler with these conditions. A watcher is told how far the run has
+/// come.
+pub fn figures_of_linked<W: Watcher>(
     alloc: Global,
     source: &Source,
     linked: &Linked,
@@ -46,6 +28,7 @@ fn measured<W: Watcher>(
     ensures words { IfOk result (λ f. f.words ≡ length linked.now.image.code.items) }
     ensures noops { IfOk result (λ f. f.noops ≡ linked.now.noops) }
     ensures copies { IfOk result (λ f. f.copies ≡ linked.now.copies) }
+    ensures rejected { IfOk result (λ f. f.rejected ≡ linked.now.rejected) }
     ensures cycles { IfOk result (λ f. f.cycles ≡ (linked_run source.now linked.now
         conditions.now.requests.now conditions.now.input.now conditions.now.budget).counts.cycles) }
     ensures halted { IfOk result (λ f. f.halted ≡ (linked_run source.now linked.now
@@ -69,6 +52,7 @@ fn measured<W: Watcher>(
         words: linked.image.code.len(),
         noops: linked.noops,
         copies: linked.copies,
+        rejected: linked.rejected,
         transfers,
         loads,
         cycles: cycles_in(&driven),
@@ -97,6 +81,6 @@ pub fn figures_of<P: Proposer, W: Watcher>(
         conditions.now.requests.now conditions.now.input.now conditions.now.budget) }
     ensures refused { IfErr result (IsRefusal P.proposes source.now board) }
 {
-    let linked = linked_by(alloc, source, proposer, copies)?;
-    Ok(measured(alloc, source, &linked, conditions, watcher)?)
+    let linked = linked_with(alloc, source, proposer, copies)?;
+    Ok(figures_of_linked(alloc, source, &linked, conditions, watcher)?)
 }

@@ -50,7 +50,7 @@ pub fn panels() -> &'static str {
 </header>
 <main>
 <section aria-labelledby="picture"><h2 id="picture">Fetches by their cycles</h2>
-<p class="help">dashed: waits for the cache; struck: squashed; red: killed by an interrupt; arrows: which way the operands of the word in ALU came, short ones from the file</p>
+<p class="help">dashed: waits for the cache; dotted: held by a stalled cycle; struck: squashed; red: killed by an interrupt; req: a request arrives; int: an interrupt is taken; arrows: which way the operands of the word in ALU came, short ones from the file</p>
 <div id="view" class="view" tabindex="0" role="region" aria-label="fetches by their cycles"><div id="sizer" class="sizer">
 <div id="heads"></div><div id="now"></div><div id="rows"></div><svg id="ways" aria-hidden="true"></svg></div></div>
 </section>

@@ -64,6 +64,8 @@ pre { margin: 0; white-space: pre-wrap; overflow-wrap: anywhere; }
 .cell.killed { background: var(--killed); }
 .cell.waits { border: 1px dashed var(--soft); line-height: 16px; }
 .cell.on { outline: 2px solid var(--text); }
+.cell.held { border: 1px dotted var(--soft); color: var(--soft); line-height: 16px; }
+.cell.held.on { outline-style: dotted; }
 #now { position: absolute; top: 38px; width: 38px; background: var(--now); }
 #ways { position: absolute; left: 0; top: 0; z-index: 1; width: 1px; height: 1px; overflow: visible; pointer-events: none; }
 #ways path { fill: none; stroke: var(--arrow); stroke-width: 2; }

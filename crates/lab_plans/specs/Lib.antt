@@ -1,4 +1,6 @@
 pub mod Terms
 pub mod Verdicts
+pub mod Linking
+pub mod Figures
 pub mod Planned
 pub mod Runs

@@ -1,7 +1,11 @@
-//! The run of a source by the plans of a file: which of them are rejected, and the report.
+//! A source by the plans of a file: which of them are rejected, the report of its run, and its figures.
 #![tactic(auto)]
 
+mod figures;
+mod linking;
 mod planned;
 mod verdicts;
 
+pub use figures::{PlannedFigures, figures_by_plans};
+pub use linking::{LinkedTold, link_told};
 pub use planned::planned_reply;

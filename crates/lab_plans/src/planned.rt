@@ -1,39 +1,26 @@
 //! The run of a source by plans.
-ghost use Rattle.std.specs.Prelude.{◌≡◌, ◌≤◌, ◌++◌, None, OnOk, IfOk, IfErr, List, ℕ, length};
+ghost use Rattle.std.specs.Prelude.{◌≡◌, ◌≤◌, ◌++◌, None, IfOk, IfErr, List, ℕ, length};
 ghost use Rattle.mx_io.specs.declared.limits.TheConstants.{MAX_FILE_BYTES};
 ghost use Rattle.cmd_answer.specs.Answer.{prints};
 ghost use Rattle.cmd_answer.specs.Replies.{reply_answer};
 ghost use Rattle.cmd_answer.specs.declared.Status.{Status as HowItEnds};
-ghost use Rattle.lab_plans.specs.Terms.{IsSource, IsRefusal, IsLinked, from_target, HaveRegisters, board, marks_of_lines, IsProposed};
+ghost use Rattle.lab_plans.specs.Terms.{IsRefusal, board, marks_of_lines, IsProposed};
 ghost use Rattle.lab_plans.specs.Planned.{IsRunByPlans};
 ghost use Rattle.lab_plans.specs.Runs.{run_answer};
 
-use crate::verdicts::told;
+use crate::linking::link_told;
 use cmd_answer::Reply;
 use cmd_options::Limits;
 use cmd_simulate::simulate_on;
 use lab_terms::given_to;
 use lab_watch::{Watcher, watched_pipe};
-use mx_blocks::blocks;
 use mx_board::Requests;
 use mx_icache::LineCache;
 use mx_io::Memory;
-use mx_isa::BOARD;
 use mx_link::{LinkError, Linked};
-use mx_plans::{PlanLine, link_planned};
+use mx_plans::PlanLine;
 use mx_source::Source;
 use std::alloc::{AllocError, Global};
-
-/// Links a source at the board's place by the plans that the lines of a file say.
-fn linked_by(alloc: Global, source: &Source, plans: &[PlanLine]) -> Result<Linked, LinkError>
-    ensures linked { IfOk result (IsLinked (IsProposed source.now (marks_of_lines plans.now)) from_target source.now board) }
-    ensures registers { OnOk result (HaveRegisters source.now.statements) }
-    ensures source { IsSource source.now }
-    ensures refused { IfErr result (IsRefusal (IsProposed source.now (marks_of_lines plans.now)) source.now board) }
-{
-    let _statements = source.statements();
-    link_planned(alloc, source, BOARD, plans)
-}
 
 /// A reply that prints, with these lines before what it prints.
 fn behind(mut lines: Vec<u8>, reply: Reply) -> Result<Reply, AllocError>
@@ -98,14 +85,8 @@ pub fn planned_reply<W: Watcher>(
     ensures planned { IfOk result (λ r. IsRunByPlans source.now (marks_of_lines plans.now) requests.now input.now budget (reply_answer r)) }
     ensures refused { IfErr result (IsRefusal (IsProposed source.now (marks_of_lines plans.now)) source.now board) }
 {
-    let linked = linked_by(alloc, source, plans)?;
-    let blocks = blocks(alloc, source)?;
-    let lines = told(
-        alloc,
-        source,
-        blocks.as_slice(),
-        linked.proposals.as_slice(),
-    )?;
-    let run = run_reply(alloc, source, &linked, requests, input, budget, watcher)?;
-    Ok(behind(lines, run)?)
+    let planned = link_told(alloc, source, plans)?;
+    let linked = &planned.linked;
+    let run = run_reply(alloc, source, linked, requests, input, budget, watcher)?;
+    Ok(behind(planned.rejections, run)?)
 }

@@ -13,12 +13,12 @@ use Rattle.lab_watch.specs.declared.watched.Watched.{Watched}
 use Rattle.lab_watch.specs.Within.{within}
 use Rattle.lab_runs.specs.declared.runs.GivenRun.{GivenRun}
 use Rattle.lab_runs.specs.declared.schedulers.Scheduler.{Scheduler}
-use Rattle.lab_runs.specs.Schedulers.{IsLinkedBy}
+use Rattle.lab_runs.specs.Planners.{IsLinkedAs, IsInPlaceOf}
 
--- a run of a source that is linked by a scheduler, and names it
+-- a run of a source that is linked by this scheduler, or by the plans of a file, as it says
 pub record IsGiven (scheduler : Scheduler) (run : GivenRun) : Type 0 where
-  pub linked : IsLinkedBy scheduler run.program
-  pub named : run.scheduler ≡ scheduler
+  pub linked : IsLinkedAs run.by run.program
+  pub by : IsInPlaceOf scheduler run.by
 
 -- an input has no more bytes than a file may have
 abbrev pub IsOfFile : Option (List ℕ) → Type 0

@@ -83,7 +83,7 @@ fn named_picture(
         text: program.text.as_slice(),
         lines: program.source.lines(),
         linked: &program.linked,
-        scheduler: run.scheduler.name(),
+        scheduler: run.by.name(),
         names,
         from: span.from,
         budget: span.budget,

@@ -6,6 +6,8 @@ mod caches;
 mod draw;
 mod explain;
 mod interrupts;
+mod plan_files;
+mod planners;
 mod profile;
 mod replies;
 mod runs;
@@ -14,5 +16,6 @@ mod stimulus;
 mod trace;
 
 pub use answers::run_reply;
+pub use plan_files::plans_of;
 pub use replies::{answered, or_memory, printed, refused, unlinked};
 pub use stimulus::{Stimulus, read_stimulus};

@@ -1,10 +1,11 @@
 //! Sources with what their runs are given.
 ghost use Rattle.std.specs.Prelude.{◌≡◌, IfOk};
 ghost use Rattle.std.specs.Option.{option_copied};
-ghost use Rattle.lab_runs.specs.Schedulers.{IsLinkedBy};
+ghost use Rattle.lab_runs.specs.Planners.{IsPlanned};
 ghost use Rattle.lab_runs.specs.Runs.{input_of, IsOfFile, IsGiven, IsLoaded};
 
-use crate::schedulers::{Scheduler, program_by};
+use crate::planners::{PlannedProgram, Planner, planned};
+use crate::schedulers::Scheduler;
 use crate::stimulus::{Stimulus, read_stimulus};
 use cmd_answer::Failure;
 use cmd_source::{Program, read_program};
@@ -19,8 +20,8 @@ use std::alloc::Global;
 #[derive(Drop)]
 pub struct GivenRun {
     pub program: Program,
-    /// The scheduler by whose plans it is linked.
-    pub scheduler: Scheduler,
+    /// By whose plans it is linked.
+    pub by: Planner,
     pub stimulus: Stimulus,
     pub budget: u32,
 }
@@ -56,23 +57,24 @@ impl GivenRun {
 fn run_with<S: Shelf>(
     asked: &Asked,
     shelf: &mut S,
-    program: Program,
+    planned: PlannedProgram,
     scheduler: Scheduler,
 ) -> Result<GivenRun, Failure>
-    requires { IsLinkedBy scheduler program }
+    requires { IsPlanned scheduler planned }
     ensures { IfOk result (IsGiven scheduler) }
 {
+    let PlannedProgram { program, by } = planned;
     let stimulus = read_stimulus(asked, shelf)?;
     Ok(GivenRun {
         program,
-        scheduler,
+        by,
         stimulus,
         budget: asked.number("budget"),
     })
 }
 
-/// The source that the words name, linked by a scheduler, and what they give its run; or the reply to the first of these
-/// that is wrong.
+/// The source that the words name, linked by the plan file that they name, or by a scheduler where they name none, and what they
+/// give its run; or the reply to the first of these that is wrong.
 pub fn read_run<S: Shelf>(
     asked: &Asked,
     shelf: &mut S,
@@ -81,6 +83,6 @@ pub fn read_run<S: Shelf>(
     ensures { IfOk result (IsGiven scheduler) }
 {
     let read = read_program(asked.alloc, shelf, asked.file("SOURCE"))?;
-    let program = program_by(asked.alloc, read, scheduler)?;
-    run_with(asked, shelf, program, scheduler)
+    let made = planned(asked, shelf, read, scheduler)?;
+    run_with(asked, shelf, made, scheduler)
 }

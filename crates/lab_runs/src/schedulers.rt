@@ -1,38 +1,17 @@
 //! The schedulers whose plans a source is linked by.
-ghost use Rattle.std.specs.Prelude.{◌≡◌, false, cond, IfOk, IfErr};
-ghost use Rattle.mx_blocks.specs.declared.block.Block.{Block};
-ghost use Rattle.mx_blocks.specs.declared.block.Plan.{Plan};
-ghost use Rattle.mx_validate.specs.Padded.{IsPadded};
-ghost use Rattle.lab_runs.specs.Schedulers.{board, proposes, fills, from_target, from_nowhere, IsLinked, IsRefusal, IsLinkedSource, IsLinkedBy, is_chosen};
+ghost use Rattle.std.specs.Prelude.{◌≡◌, false, IfOk, IfErr};
+ghost use Rattle.lab_runs.specs.Schedulers.{board, proposes, fills, IsLinked, IsRefusal, IsLinkedSource, IsLinkedBy, is_chosen};
 
 use crate::replies::unlinked;
 use cmd_answer::Failure;
 use cmd_source::Program;
 use lab_line::{Asked, RunCommand, WordRow, meant_by};
+use lab_measures::{PaddedProposer, linked_with};
 use mx_best::BestProposer;
-use mx_blocks::{Block, Plan};
-use mx_isa::BOARD;
-use mx_link::{LinkError, Linked, link, link_plain};
+use mx_link::{LinkError, Linked};
 use mx_reorg::ListProposer;
 use mx_source::Source;
-use mx_validate::{Proposer, padded};
 use std::alloc::Global;
-
-/// Proposes the padded plan.
-#[derive(Clone, Copy)]
-struct PaddedProposer;
-
-impl Proposer for PaddedProposer {
-    ghost use Rattle.mx_validate.specs.Padded.{IsPadded};
-
-    ghost proposes = { λ block plan. IsPadded block plan };
-
-    fn propose(&mut self, block: &Block) -> Plan
-        ensures { IsPadded block.now result }
-    {
-        padded(block)
-    }
-}
 
 /// A scheduler, as `compare` names it.
 #[derive(Clone, Copy)]
@@ -84,24 +63,6 @@ impl Scheduler {
             Scheduler::Copies => "copies",
             Scheduler::Best => "best",
         }
-    }
-}
-
-// A source, linked at the board's place by what a proposer proposes, its slots filled from their targets or not.
-fn linked_with<P: Proposer>(
-    alloc: Global,
-    source: &Source,
-    proposer: &mut P,
-    copies: bool,
-) -> Result<Linked, LinkError>
-    ensures linked { IfOk result (IsLinked P.proposes (cond copies from_target from_nowhere) source.now board) }
-    ensures refused { IfErr result (IsRefusal P.proposes source.now board) }
-{
-    let _statements = source.statements();
-    if copies {
-        link(alloc, source, BOARD, proposer)
-    } else {
-        link_plain(alloc, source, BOARD, proposer)
     }
 }
 

@@ -7,7 +7,7 @@ mod several;
 mod table;
 
 pub use document::{comparison_json, comparisons_json};
-pub use fields::comparisons_csv;
+pub use fields::{comparison_csv, comparisons_csv};
 pub use long::comparisons_text;
-pub use several::Compared;
+pub use several::{Column, Compared};
 pub use table::comparison_text;

@@ -1,4 +1,4 @@
-//! Four schedulers side by side, and runs with an interrupt request in each cycle in turn, as text, JSON and CSV.
+//! Four schedulers and one's own side by side, and runs with an interrupt request in each cycle in turn, as text, JSON and CSV.
 #![tactic(auto)]
 
 mod compare;
@@ -6,6 +6,7 @@ mod interrupts;
 mod rows;
 
 pub use compare::{
-    Compared, comparison_json, comparison_text, comparisons_csv, comparisons_json, comparisons_text,
+    Column, Compared, comparison_csv, comparison_json, comparison_text, comparisons_csv,
+    comparisons_json, comparisons_text,
 };
 pub use interrupts::{Places, places_of, sweep_csv, sweep_json, sweep_text};

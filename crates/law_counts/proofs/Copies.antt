@@ -1,23 +1,25 @@
 -- The two words behind a transfer, by the statements that they are of (`slots_taken`, `slots_left`): both slots together weigh what
 -- the block's own two items weigh, and the words of the target that are copied to them, unless the branch does not go.
-use Rattle.std.proofs.Common.{◌≡◌, ◌≢◌, ℕ, zero, suc, ◌+◌, ◌<◌, ◌≤◌, Bool, true, false, cond, eqb, ltb, ◌&&◌, List, [], ◌∷◌, length, All, Option, Some, None, slice_index_or, refl, sym, ap, ◌∙◌, arith, ⊎_elim}
+use Rattle.std.proofs.Common.{◌≡◌, ◌≢◌, ℕ, zero, suc, ◌+◌, ◌<◌, ◌≤◌, Bool, true, false, cond, eqb, ltb, ◌&&◌, List, [], ◌∷◌, length, All, Option, Some, None, slice_index_or, refl, sym, ap, ◌∙◌, subst, arith, ⊎_elim}
 use Rattle.std.proofs.lemmas.Bool.{cases_eq, cond-true, cond-false, false≢true}
 use Rattle.std.proofs.lemmas.Bool.Decides.{nat_tests}
 use Rattle.mx_blocks.specs.declared.block.Item.{Item}
 use Rattle.mx_blocks.specs.declared.block.Item.TheVariants.{Op, Nop}
 use Rattle.mx_validate.specs.Padded.{items_of}
 use Rattle.mx_squash.specs.declared.copying.Copied.{Copied}
-use Rattle.mx_squash.specs.Copies.{Site, site_of, is_target, copied, count, room, slot, is_nop, may_stay, may_copy, copyable, item_at, most, is_too_far, is_fed}
+use Rattle.mx_squash.specs.Copies.{Site, site_of, is_target, no_copies, copied_words, room, slot, is_nop, may_stay, may_copy, item_at}
+use Rattle.mx_squash.specs.Chosen.{copy_fault, IsCopied}
 use Rattle.mx_layout.proofs.Links.{site_found}
 use Rattle.mx_link.proofs.Sizes.{length-origins_from}
 use Rattle.mx_link.proofs.Slots.{copyable_small, at_most_two}
+use Rattle.mx_link.proofs.Chosen.{fault_small}
 use Rattle.mx_link.specs.declared.linked.Origin.TheVariants.{Pad}
 use Rattle.mx_link.specs.Origins.{own, over, copied_to, goal_of, origins_from, origins_at}
 use Rattle.mx_link.specs.Parts.{origin_at}
 use Rattle.law_link.proofs.Layouts.{Goal, goal_is, Standing, standing, setting}
 use Rattle.law_link.proofs.Setting.{Known}
 use Rattle.law_link.proofs.Sited.{not_copied}
-use Rattle.law_link.proofs.Slots.{nop_is, counted, RoomForBoth, RoomForOne, room_cases, from_zero, from_second, from_first, from_both, linked_site, Slotted, slot_f, slot_g, min_left, min_right, CopiesOf, copies_of, stays_not}
+use Rattle.law_link.proofs.Slots.{nop_is, RoomForBoth, RoomForOne, room_cases, from_zero, from_second, from_first, from_both, linked_site, Slotted, slot_f, slot_g, CopiesOf, words_copied, stays_not}
 use Rattle.mx_link.specs.Gathered.{is_of}
 use Rattle.law_counts.proofs.Tally.{one, span}
 use Rattle.law_counts.proofs.Marks.{Marked, marked_at}
@@ -121,8 +123,10 @@ module _ (counting : Counting) where
           left = λ may. ap (λ b. cond b 0 (first_slot + second_slot)) sq ∙ omega arith;
         }
 
-    -- copies from a target
-    module _ (gs : Site) (found : site_of (is_target s.block.end) all ≡ Some gs) (is_c : c ≡ copied s (Some gs)) where
+    -- copies from a target, of so many words that no rule forbids it
+    module _
+        (gs : Site) (found : site_of (is_target s.block.end) all ≡ Some gs) (n : ℕ) (allowed : copy_fault n s (Some gs) ≡ None)
+        (is_c : c ≡ copied_words n s.block s.plan gs.plan) where
       goal_facts : Goal known s gs
       goal_facts = goal_is known s gs found
 
@@ -132,11 +136,8 @@ module _ (counting : Counting) where
       mark : MarkedSite gs
       mark = (site_found MarkedSite (is_target s.block.end) all gs marks found).0
 
-      abbrev n : ℕ
-      n = count s gs
-
-      told : CopiesOf s gs c
-      told = copies_of s gs c is_c
+      told : CopiesOf n s gs c
+      told = words_copied n s gs c is_c
 
       abbrev head : ℕ → ℕ
       head k = one (is_of q (own goal (item_at gs.plan k)))
@@ -171,9 +172,9 @@ module _ (counting : Counting) where
 
       some_copied : 1 ≤ n → Slotting
       some_copied some =
-          let k = counted (is_too_far s gs) (is_fed s gs) (most s gs) some in
-          let few : n ≤ room s.block s.plan = min_left (room s.block s.plan) (copyable gs.plan) n k.all_of in
-          let less : n ≤ copyable gs.plan = min_right (room s.block s.plan) (copyable gs.plan) n k.all_of in
+          let small = fault_small n s gs allowed in
+          let few = small.0 in
+          let less = small.1 in
           let within = copyable_small gs.plan in
           let nop_f : is_nop (slot s.plan 1) ≡ true → f ≡ Nop = λ e. nop_is f (sym (ap is_nop (slot_f known here)) ∙ e) in
           let nop_g : is_nop (slot s.plan 2) ≡ true → g ≡ Nop = λ e. nop_is g (sym (ap is_nop (slot_g known here)) ∙ e) in
@@ -216,12 +217,12 @@ module _ (counting : Counting) where
           (λ (z : n ≢ 0). some_copied (omega arith))
           (cases_eq n 0)
 
-    bare_slots : c ≡ copied s None → Slotting
+    bare_slots : c ≡ no_copies → Slotting
     bare_slots is_c = all_own (ap (λ (d : Copied). d.count) is_c) (ap (λ (d : Copied). d.squash) is_c) (ap (λ (d : Copied). d.from) is_c)
 
-    by_goal : (o : Option Site) → site_of (is_target s.block.end) all ≡ o → c ≡ copied s o → Slotting
-    by_goal None e is_c = bare_slots is_c
-    by_goal (Some gs) e is_c = from_goal gs e is_c
+    by_goal : (o : Option Site) → site_of (is_target s.block.end) all ≡ o → IsCopied s o c → Slotting
+    by_goal None e w = bare_slots w.2
+    by_goal (Some gs) e w = from_goal gs e w.0 w.1 w.2
 
     pub slotting : Slotting
     slotting = ⊎_elim bare_slots (λ e. by_goal (site_of (is_target s.block.end) all) refl e.1) (fills s)
@@ -230,5 +231,5 @@ module _ (counting : Counting) where
     pub no_copies_there : site_of (is_target s.block.end) all ≡ None → c.count ≡ 0
     no_copies_there none = ⊎_elim
         (λ e. ap (λ (d : Copied). d.count) e)
-        (λ e. ap (λ (d : Copied). d.count) (e.1 ∙ ap (copied s) none))
+        (λ e. ap (λ (d : Copied). d.count) (subst (λ o. IsCopied s o c) none e.1).2)
         (fills s)

@@ -1,5 +1,5 @@
-//! Laws over the definitions: a source that is laid out with valid plans and branches in reach, with its slots
-//! filled from their targets or not at all, at any place and with any input.
+//! Laws over the definitions: a source that is laid out with valid plans and branches in reach, with any copies in its
+//! slots that no rule forbids, at any place and with any input.
 ghost use Rattle.law_counts.specs.Laws.{LinkedCodeCounts, LinkedBlocksCount};
 
 /// Where linked code has halted after j steps and the meaning is not stuck within j + 64 statements, the meaning halts in

@@ -1,6 +1,6 @@
 -- The steps at which linked code comes to a leader's address are the visits of the meaning (`lands`, `visited`), one after the words of
 -- the plans before it. So as many of the one as of the other come before (`visits_before`).
-use Rattle.std.proofs.Common.{◌≡◌, ℕ, ◌+◌, ◌<◌, ◌≤◌, Bool, true, false, eqb, not, ◌&&◌, Some, length, refl, ap, ◌∙◌, arith, ⊎_elim, inr}
+use Rattle.std.proofs.Common.{◌≡◌, ℕ, ◌+◌, ◌<◌, ◌≤◌, Bool, true, false, eqb, not, ◌&&◌, Some, length, refl, ap, ◌∙◌, arith, ⊎_elim}
 use Rattle.std.proofs.lemmas.Bool.{cases_lt, and_parts, eqb-true}
 use Rattle.std.proofs.lemmas.Bool.Decides.{nat_tests}
 use Rattle.mx_source.specs.Meaning.{Mark, Going, Halted, Stuck}
@@ -11,6 +11,7 @@ use Rattle.mx_turn.specs.OneTurn.{as_fetch}
 use Rattle.mx_isa.specs.Board.{board}
 use Rattle.law_link.specs.Runs.{IsLaid, Linking, IsLinking, linked_run}
 use Rattle.law_link.specs.Laws.{IsSafe, IsBlockStart, StartsBlock, planned_words}
+use Rattle.law_link.proofs.Lawful.{from_nowhere_lawful}
 use Rattle.law_link.proofs.Shown.{blocks_start, later, fetches}
 use Rattle.law_debug.specs.Visits.{count_below, comes_to, is_visit, IsVisit}
 use Rattle.law_debug.specs.Laws.{Debugged, meant_in}
@@ -44,7 +45,7 @@ module _ (d : Debugged) (known : AtLeader d) where
   plain = record { filling = from_nowhere; source = d.source; place = board; sites = d.sites; bytes = d.bytes }
 
   pub is_plain : IsLinking plain
-  is_plain = record { laid = laid; filled = inr refl }
+  is_plain = record { laid = laid; filled = from_nowhere_lawful }
 
   -- where it stops
   abbrev pub stop_address : ℕ

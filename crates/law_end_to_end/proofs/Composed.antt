@@ -1,11 +1,11 @@
 -- The machine with interrupts does what the machine with delay slots does, and that does what the source means.
-use Rattle.std.proofs.Common.{◌≡◌, ℕ, ◌+◌, ◌*◌, ◌≤◌, ◌⊎◌, true, List, length, Option, refl, sym, ap, ◌∙◌, subst, arith, ⊎_elim, inl}
+use Rattle.std.proofs.Common.{◌≡◌, ℕ, ◌+◌, ◌*◌, ◌≤◌, ◌⊎◌, true, List, length, Option, refl, sym, ap, ◌∙◌, subst, arith, ⊎_elim}
 use Rattle.mx_isa.specs.Words.{Words}
 use Rattle.mx_delay.specs.Delay.{Delay}
 use Rattle.mx_source.specs.SourceValue.{SourceValue}
 use Rattle.mx_source.specs.Meaning.{Run, State, given, meaning, HaltsIn}
 use Rattle.mx_squash.specs.Copies.{Site}
-use Rattle.mx_link.specs.Origins.{from_target}
+use Rattle.mx_link.specs.Origins.{Filling, from_target}
 use Rattle.mx_link.specs.Linked.{linked_code, linked_data}
 use Rattle.mx_delay.specs.Prefixes.{IsPrefix}
 use Rattle.mx_turn.specs.Handler.{shipped}
@@ -17,27 +17,30 @@ use Rattle.law_interrupts.specs.Laws.{EndsAs, RunsAs}
 use Rattle.law_interrupts.proofs.Runs.{passed_few, length_bits}
 use Rattle.law_interrupts.proofs.Ends.{runs_as, gets_on}
 use Rattle.mx_isa.specs.Board.{board}
-use Rattle.law_link.specs.Runs.{IsLaid, Linking, IsLinking, code_in, data_in, linked_run}
+use Rattle.law_link.specs.Runs.{IsFilling, IsLaid, Linking, IsLinking, code_in, data_in, linked_run}
 use Rattle.law_link.specs.Matches.{Matches}
+use Rattle.law_link.proofs.Lawful.{from_target_lawful}
 use Rattle.law_link.proofs.Shown.{is_clean, halts_only, sends}
 use Rattle.law_link.proofs.Shown.{halts as halts_soon}
-use Rattle.law_end_to_end.specs.EndToEnd.{source_run, IsUnstuck, EndsAsMeant}
-use Rattle.law_end_to_end.specs.Laws.{MeansItsSource}
+use Rattle.law_end_to_end.specs.EndToEnd.{filled_run, IsUnstuck, EndsAsMeant}
+use Rattle.law_end_to_end.specs.Laws.{FilledMeansItsSource, MeansItsSource}
 use Rattle.mx_delay.proofs.Steps.{prefix_then, delay_sends, delay_halted}
 use Rattle.law_end_to_end.proofs.Meanings.{meaning_sends, unstuck_before, halts_unstuck, sent_by_halt}
 
-module _ (source : SourceValue) (sites : List Site) (bytes : List ℕ) (laid : IsLaid source board sites) where
+module _
+    (filling : Filling) (source : SourceValue) (sites : List Site) (bytes : List ℕ) (lawful : IsFilling filling)
+    (laid : IsLaid source board sites) where
   abbrev l : Linking
-  l = record { filling = from_target; source = source; place = board; sites = sites; bytes = bytes }
+  l = record { filling = filling; source = source; place = board; sites = sites; bytes = bytes }
 
   is_linking : IsLinking l
-  is_linking = record { laid = laid; filled = inl refl }
+  is_linking = record { laid = laid; filled = lawful }
 
   abbrev input : Option (List ℕ)
   input = given source.input bytes
 
   abbrev code_words : List ℕ
-  code_words = linked_code from_target source board sites
+  code_words = linked_code filling source board sites
 
   abbrev data_words : List ℕ
   data_words = linked_data source board sites
@@ -54,7 +57,7 @@ module _ (source : SourceValue) (sites : List Site) (bytes : List ℕ) (laid : I
 
   module _ (requests : List ℕ) (budget : ℕ) where
     abbrev run : MachineRun
-    run = source_run source sites requests bytes budget
+    run = filled_run filling source sites requests bytes budget
 
     passed : run.passed ≤ budget
     passed =
@@ -128,9 +131,14 @@ module _ (source : SourceValue) (sites : List Site) (bytes : List ℕ) (laid : I
         subst (λ z. IsPrefix (M m).console z) (sym y.console) (sent_by_halt source board bytes x.0 m y.halts))
         (advances u (3 * (m + 64)) (omega (arith, room)))
 
-    pub means : MeansItsSource source sites requests bytes budget
+    pub means : FilledMeansItsSource filling source sites requests bytes budget
     means = record { sent = sent_of; halts = halts_of; ends = ends_of; sends = sends_of }
+
+pub filled_run_means :
+    (filling : Filling) (source : SourceValue) (sites : List Site) (requests bytes : List ℕ) (budget : ℕ) → IsFilling filling
+    → IsLaid source board sites → FilledMeansItsSource filling source sites requests bytes budget
+filled_run_means filling source sites requests bytes budget lawful laid = means filling source sites bytes lawful laid requests budget
 
 pub run_means : (source : SourceValue) (sites : List Site) (requests bytes : List ℕ) (budget : ℕ) → IsLaid source board sites
     → MeansItsSource source sites requests bytes budget
-run_means source sites requests bytes budget laid = means source sites bytes laid requests budget
+run_means source sites requests bytes budget laid = filled_run_means from_target source sites requests bytes budget from_target_lawful laid

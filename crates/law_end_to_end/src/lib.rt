@@ -3,4 +3,4 @@
 
 mod laws;
 
-pub use laws::run_means_its_source;
+pub use laws::{filled_run_means_its_source, run_means_its_source};

@@ -17,7 +17,8 @@ use Rattle.mx_blocks.specs.Leaders.{IsBlockOf, is_leader}
 use Rattle.mx_blocks.specs.Leaders.{inst_of as statement_inst}
 use Rattle.mx_validate.specs.Validity.{Valid}
 use Rattle.mx_squash.specs.declared.copying.Copied.{Copied}
-use Rattle.mx_squash.specs.Copies.{Site, site_of, is_target, is_branch_end, reaches, no_copies, copied, count}
+use Rattle.mx_squash.specs.Copies.{Site, site_of, is_target, is_branch_end, reaches, no_copies}
+use Rattle.mx_squash.specs.Chosen.{copy_fault, copies_of, IsCopied}
 use Rattle.mx_layout.specs.Layout.{link_of, plan_size, blocks_in}
 use Rattle.mx_layout.specs.Layout.{end_of as end_at}
 use Rattle.mx_layout.specs.Overlong.{branch_target}
@@ -28,7 +29,8 @@ use Rattle.mx_link.specs.Origins.{goal_of}
 use Rattle.mx_link.specs.Words.{code_of}
 use Rattle.mx_link.proofs.Places.{sites_below}
 use Rattle.mx_link.proofs.Bodies.{copy_goes_on}
-use Rattle.mx_link.proofs.Slots.{copied_op, copied_none, count_cases, count_small, copyable_small}
+use Rattle.mx_link.proofs.Slots.{words_op, copied_none, copyable_small}
+use Rattle.mx_link.proofs.Chosen.{fault_cases, fault_small}
 use Rattle.mx_link.proofs.Linkable.{Goes}
 use Rattle.law_link.proofs.Going.{Stands}
 use Rattle.law_link.proofs.Imaged.{piece, piece_spelled, code_stands}
@@ -118,12 +120,13 @@ module _ (known : Known) where
     copies = λ p k t e x. absurd (copied_none s.plan.place p k e);
   }
 
-  goes_copied : (s g : Site) → Facts s → Goal s g → Goes source link s (copied s (Some g))
-  goes_copied s g f goal = record {
+  -- so many words are copied, and no rule forbids it
+  goes_copied : (n : ℕ) (s g : Site) → Facts s → Goal s g → copy_fault n s (Some g) ≡ None → Goes source link s (copies_of n s (Some g))
+  goes_copied n s g f goal allowed = record {
     short = link_low;
     call = λ target e.
         let l : link target ≡ g.start = ap link (sym (ap goal_of e)) ∙ goal.found in
-        let n = count_small s g in
+        let few = (fault_small n s g allowed).1 in
         let m = copyable_small g.plan in
         let of : Facts g = goal.of in
         let t = of.valid.tail in
@@ -133,24 +136,25 @@ module _ (known : Known) where
     branch = λ target e.
         let l : link target ≡ g.start = ap link (sym (ap goal_of e)) ∙ goal.found in
         ⊎_elim
-        (λ (z : count s g ≡ 0). ap (reaches (s.start + s.plan.place)) (let q : link target + count s g ≡ link target = omega arith in q)
+        (λ (z : n ≡ 0). ap (reaches (s.start + s.plan.place)) (let q : link target + n ≡ link target = omega arith in q)
         ∙ f.reaching target (ap branch_target e))
-        (λ moves. ap (λ n. reaches (s.start + s.plan.place) (n + count s g)) l ∙ moves.near (ap is_branch_end e))
-        (count_cases s g);
+        (λ moves. ap (λ m. reaches (s.start + s.plan.place) (m + n)) l ∙ moves.near (ap is_branch_end e))
+        (fault_cases n s g allowed);
     copies = λ p k t e x.
-        let op = copied_op s g s.plan.place p k e in
+        let op = words_op n s g s.plan.place p k (fault_small n s g allowed).1 e in
         let of : Facts g = goal.of in
-        copy_goes_on source g.block g.plan of.block of.valid op.0 k t op.1 (ap (λ n. slice_get source.statements (n + k)) goal.first ∙ x);
+        copy_goes_on source g.block g.plan of.block of.valid op.0 k t op.1 (ap (λ m. slice_get source.statements (m + k)) goal.first ∙ x);
   }
 
-  goes_any : (s : Site) → Facts s → (o : Option Site) → site_of (is_target s.block.end) all ≡ o → Goes source link s (copied s o)
-  goes_any s f None e = goes_plain s f
-  goes_any s f (Some g) e = goes_copied s g f (goal_is s g e)
+  goes_any :
+      (s : Site) → Facts s → (o : Option Site) (c : Copied) → site_of (is_target s.block.end) all ≡ o → IsCopied s o c → Goes source link s c
+  goes_any s f None c e w = subst (λ (d : Copied). Goes source link s d) (sym w.2) (goes_plain s f)
+  goes_any s f (Some g) c e w = subst (λ (d : Copied). Goes source link s d) (sym w.2) (goes_copied w.0 s g f (goal_is s g e) w.1)
 
   pub goes : (s : Site) → Facts s → Goes source link s (filling all s)
   goes s f = ⊎_elim
       (λ e. subst (λ (c : Copied). Goes source link s c) (sym e) (goes_plain s f))
-      (λ e. subst (λ (c : Copied). Goes source link s c) (sym e.1) (goes_any s f (site_of (is_target s.block.end) all) refl))
+      (λ e. goes_any s f (site_of (is_target s.block.end) all) (filling all s) refl e.1)
       (fills s)
 
   abbrev pub words : List ℕ

@@ -1,4 +1,5 @@
 pub mod Setting
+pub mod Lawful
 pub mod Going
 pub mod Ends
 pub mod Matching

@@ -1,7 +1,7 @@
 -- The setting of the laws on words, blocks and runs, over variables: what stands where, and which statement has which address.
 -- `StepSetting` is what a step of linked code depends on. `Setting` adds the program, the address of each of its statements, which
 -- of them are leaders, and of the block that begins at a leader how many words its plan has and how many others may copy.
-use Rattle.std.proofs.Common.{◌≡◌, ◌⊎◌, ℕ, ◌+◌, ◌^◌, ◌<◌, ◌≤◌, Bool, false, List, length, Option, None, arith}
+use Rattle.std.proofs.Common.{◌≡◌, ◌⊎◌, ℕ, ◌+◌, ◌^◌, ◌<◌, ◌≤◌, Bool, false, List, length, Option, arith}
 use Rattle.mx_isa.specs.declared.place.Place.{Place}
 use Rattle.mx_isa.specs.declared.inst.Inst.{Inst}
 use Rattle.mx_delay.specs.Delay.{Code}
@@ -13,7 +13,8 @@ use Rattle.mx_blocks.specs.declared.block.Plan.{Plan}
 use Rattle.mx_validate.specs.Padded.{insts_of}
 use Rattle.mx_validate.specs.Validity.{Valid}
 use Rattle.mx_squash.specs.declared.copying.Copied.{Copied}
-use Rattle.mx_squash.specs.Copies.{Site, site_of, is_target, copied}
+use Rattle.mx_squash.specs.Copies.{Site, site_of, is_target, no_copies}
+use Rattle.mx_squash.specs.Chosen.{IsCopied}
 use Rattle.mx_link.proofs.Linkable.{Goes}
 use Rattle.law_order.specs.Laws.{IsPlanned}
 use Rattle.law_order.specs.Parts.{Parts}
@@ -22,8 +23,8 @@ use Rattle.law_link.specs.Runs.{Linking, IsLaid}
 -- what fills the slots of a site
 abbrev pub FillsSo : Linking → Bool → Site → Type 0
 FillsSo l bare s =
-    (l.filling l.sites s ≡ copied s None)
-    ⊎ ((bare ≡ false) × (l.filling l.sites s ≡ copied s (site_of (is_target s.block.end) l.sites)))
+    (l.filling l.sites s ≡ no_copies)
+    ⊎ ((bare ≡ false) × IsCopied s (site_of (is_target s.block.end) l.sites) (l.filling l.sites s))
 
 pub record StepSetting : Type 0 where
   pub code : Code
@@ -57,7 +58,7 @@ pub record LinkedSite : Type 0 where
   pub valid : Valid site.block site.plan
   pub goes : Goes source link site copied
 
--- linked code with what is known of it: nothing is copied, or the first words of the target are, unless all is bare
+-- linked code with what is known of it: nothing is copied, or first words of the target are, unless all is bare
 pub record Known : Type 0 where
   pub linking : Linking
   pub laid : IsLaid linking.source linking.place linking.sites

@@ -22,7 +22,7 @@ use Rattle.mx_link.specs.Origins.{Filling, from_nowhere}
 use Rattle.mx_link.specs.Words.{value_word}
 use Rattle.mx_delay.proofs.Watched.{watched_at}
 use Rattle.mx_delay.specs.Prefixes.{IsPrefix}
-use Rattle.law_link.specs.Runs.{IsFilling, Linking, IsLinking, code_in, inside, data_in, linked_run, RunsClean}
+use Rattle.law_link.specs.Runs.{Linking, IsLinking, code_in, inside, data_in, linked_run, RunsClean}
 use Rattle.law_link.specs.Laws.{meant, IsSafe, LinkedCodeIsClean, Shows, HaltsSoon, LinkedCodeHalts, HaltedBefore, LinkedCodeHaltsOnly, LinkedCodeSends, block_words, planned_words, IsBlockStart, StartsBlock, LinkedBlocksStart, LaterBlocksStartLater, ComesFrom, FetchesStartBlocks}
 use Rattle.law_link.proofs.Saying.{Prefix, is_going}
 use Rattle.law_link.proofs.Matching.{core_of}
@@ -32,7 +32,7 @@ use Rattle.law_link.proofs.Layouts.{setting}
 use Rattle.law_link.proofs.Placing.{placed}
 use Rattle.law_link.proofs.Whole.{Placed, Begun, D, from, M_stays, runs_clean, halts_soon as soon_halted, halted_back, sent_soon, sum_of_plans}
 use Rattle.law_link.proofs.Starts.{FetchesLeader, block_starts, sum_grows, some_words, block_at_fetch}
-use Rattle.law_link.proofs.Setting.{FillsSo, Known, Setting}
+use Rattle.law_link.proofs.Setting.{Known, Setting}
 
 -- the first block stands at the beginning
 first_link : (source : SourceValue) (j at : ℕ) (sites : List Site) → BlocksFrom source 0 j (blocks_in sites) → link_of at sites 0 ≡ at
@@ -94,15 +94,9 @@ data_linked link place words = same_words _ _ (λ a. by_test (leb place.user_dat
 is_prefix : (xs ys : List ℕ) → Prefix xs ys → IsPrefix xs ys
 is_prefix xs ys h = record { rest = h.0; whole = h.1 }
 
-abbrev filled_from : (l : Linking) → IsFilling l.filling → (bare : Bool) × ((s : Site) → FillsSo l bare s)
-filled_from l h = ⊎_elim
-    (λ e. (false, λ s. inr (refl, ap (λ (f : Filling). f l.sites s) e)))
-    (λ e. (true, λ s. inl (ap (λ (f : Filling). f l.sites s) e)))
-    h
-
 -- linked code with what is known of it
 abbrev pub known_of : (l : Linking) → IsLinking l → Known
-known_of l h = let f = filled_from l h.filled in record { linking = l; laid = h.laid; bare = f.0; fills = f.1 }
+known_of l h = record { linking = l; laid = h.laid; bare = false; fills = λ s. inr (refl, h.filled l.sites s) }
 
 -- without copies
 abbrev bare_of : (l : Linking) → IsLinking l → l.filling ≡ from_nowhere → Known

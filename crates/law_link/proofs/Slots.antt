@@ -1,6 +1,6 @@
 -- The two words behind a transfer: items of its own plan, or the first words of its target, as its copies say (`filled_there`).
 -- What is copied is no load that the word behind it reads (`free`), and is a word of the target before its terminator (`is_head`).
-use Rattle.std.proofs.Common.{◌≡◌, ◌≢◌, ℕ, zero, suc, ◌+◌, ◌<◌, ◌≤◌, Bool, true, false, cond, eqb, ltb, not, ◌&&◌, ◌||◌, List, [], ◌∷◌, ◌++◌, ◌⊎◌, length, Option, Some, None, slice_index_or, take, min, refl, sym, ap, ◌∙◌, subst, arith, ⊎_elim, inl, inr}
+use Rattle.std.proofs.Common.{◌≡◌, ◌≢◌, ℕ, zero, suc, ◌+◌, ◌<◌, ◌≤◌, Bool, true, false, cond, eqb, ltb, not, ◌&&◌, List, [], ◌∷◌, ◌++◌, ◌⊎◌, length, Option, Some, None, slice_index_or, take, refl, sym, ap, ◌∙◌, subst, arith, ⊎_elim, inl, inr}
 use Rattle.std.specs.Prelude.{slice_get}
 use Rattle.std.proofs.lemmas.Bool.{cases_eq, and_parts, cond-true, cond-false, false≢true}
 use Rattle.std.proofs.lemmas.Bool.Decides.{nat_tests}
@@ -20,7 +20,8 @@ use Rattle.mx_blocks.specs.declared.block.End.TheVariants.{Branches, Calls}
 use Rattle.mx_blocks.specs.Leaders.{size, is_leader}
 use Rattle.mx_validate.specs.Padded.{insts_of, items_of, body_count}
 use Rattle.mx_squash.specs.declared.copying.Copied.{Copied}
-use Rattle.mx_squash.specs.Copies.{Site, site_of, is_target, no_copies, copied, count, room, room_for, slot, is_nop, may_stay, may_copy, copyable, is_op, item_at, filled, is_branch_end, most, is_too_far, is_fed, is_hazard, feeds_any, always_goes, terminator}
+use Rattle.mx_squash.specs.Copies.{Site, site_of, is_target, no_copies, copied_words, room, room_for, slot, is_nop, may_stay, may_copy, is_op, item_at, filled, is_branch_end, is_fed, is_hazard, feeds_any, always_goes, terminator}
+use Rattle.mx_squash.specs.Chosen.{copy_fault, IsCopied}
 use Rattle.mx_squash.specs.Copies.{item_inst as block_item}
 use Rattle.mx_link.specs.Origins.{own, over, copied_to, goal_of, origins_at}
 use Rattle.mx_link.specs.Words.{linked_statement, inst_at, insts_from}
@@ -30,6 +31,7 @@ use Rattle.law_order.proofs.Order.{SameViews, laid_out_views}
 use Rattle.law_order.proofs.Split.{body_within, has_parts}
 use Rattle.law_order.proofs.Words.{item_inst, words}
 use Rattle.law_link.proofs.Going.{IsPlain, idle_plain, Stands, stands_left}
+use Rattle.law_link.proofs.Lawful.{no_load}
 use Rattle.law_link.proofs.Saying.{all_plain}
 use Rattle.law_link.proofs.Planned.{plain_body}
 use Rattle.law_link.proofs.OneBlock.{Head, Slots as TheSlots, Filled, Own, InSecond, InFirst, InBoth}
@@ -38,6 +40,7 @@ use Rattle.law_link.proofs.Layouts.{place_in, Goal, goal_is, goes, Standing, sta
 use Rattle.mx_layout.proofs.Links.{site_found}
 use Rattle.law_link.proofs.Setting.{Known, LinkedSite, PlannedBlock}
 use Rattle.mx_link.proofs.Slots.{copyable_first, copyable_second, at_most_two}
+use Rattle.mx_link.proofs.Chosen.{fault_small}
 
 get_left : (xs ys : List Item) (k : ℕ) (x : Item) → k < length xs → slice_get (xs ++ ys) k ≡ Some x → slice_get xs k ≡ Some x
 get_left [] ys k x l e = absurd (omega arith)
@@ -68,12 +71,6 @@ item_stands code inside b list (y ∷ items) (suc k) x h e =
     let r = item_stands code inside (b + 1) list items k x h.2 e in
     let on : b + 1 + k ≡ b + suc k = omega arith in
     record { at = ap code (sym on) ∙ r.at; within = ap inside (sym on) ∙ r.within }
-
-pub min_left : (a b m : ℕ) → m ≡ min a b → m ≤ a
-min_left a b m e = omega arith
-
-pub min_right : (a b m : ℕ) → m ≡ min a b → m ≤ b
-min_right a b m e = omega arith
 
 pub nop_is : (x : Item) → is_nop (Some x) ≡ true → x ≡ Nop
 nop_is Nop e = refl
@@ -213,15 +210,6 @@ copyable_there plan k e =
     by_item None f t l = absurd (false≢true (sym (ap is_op f) ∙ t))
     by_item (Some x) f t l = record { before = l; item = x; there = f; op = sym (ap is_op f) ∙ t; is_at = get_or_from_slice_get (items_of plan) k x Nop f }
 
-pub record Counted (fed : Bool) (n m : ℕ) : Type 0 where
-  pub not_fed : fed ≡ false
-  pub all_of : n ≡ m
-
-pub counted : (far fed : Bool) (m : ℕ) → 1 ≤ cond (far || fed) 0 m → Counted fed (cond (far || fed) 0 m) m
-counted true fed m h = absurd (omega arith)
-counted false true m h = absurd (omega arith)
-counted false false m h = record { not_fed = refl; all_of = refl }
-
 pub record RoomForBoth (r : ℕ) (a b : Bool) : Type 0 where
   pub first : a ≡ true
   pub second : b ≡ true
@@ -278,14 +266,14 @@ pub record Slotted (known : Known) : Type 0 where
   pub below_f : AreBelow (body_count site.block) (f ∷ [])
   pub below_g : AreBelow (body_count site.block) (g ∷ [])
 
--- what the copies of a site say of its slots where they come from a target
-pub record CopiesOf (s gs : Site) (c : Copied) : Type 0 where
-  pub count_is : c.count ≡ count s gs
-  pub from_is : c.from ≡ filled (room s.block s.plan) (count s gs) (item_at gs.plan 0) (item_at gs.plan 1)
-  pub squash_is : c.squash ≡ (ltb 0 (count s gs) && may_stay s.block)
+-- what the copies of a site say of its slots where they are so many words of a target
+pub record CopiesOf (n : ℕ) (s gs : Site) (c : Copied) : Type 0 where
+  pub count_is : c.count ≡ n
+  pub from_is : c.from ≡ filled (room s.block s.plan) n (item_at gs.plan 0) (item_at gs.plan 1)
+  pub squash_is : c.squash ≡ (ltb 0 n && may_stay s.block)
 
-pub copies_of : (s gs : Site) (c : Copied) → c ≡ copied s (Some gs) → CopiesOf s gs c
-copies_of s gs c e = record {
+pub words_copied : (n : ℕ) (s gs : Site) (c : Copied) → c ≡ copied_words n s.block s.plan gs.plan → CopiesOf n s gs c
+words_copied n s gs c e = record {
   count_is = ap (λ (d : Copied). d.count) e;
   from_is = ap (λ (d : Copied). d.from) e;
   squash_is = ap (λ (d : Copied). d.squash) e;
@@ -363,8 +351,10 @@ module _ (known : Known) (here : Slotted known) where
   pub slot_g : slot s.plan 2 ≡ Some g
   slot_g = (λ k. slice_get (items_are k) (parts.place k + 2)) ∙ get_front parts.front (Op (body_count s.block)) f g 1
 
-  -- copies from a target
-  module _ (gs : Site) (found : site_of (is_target s.block.end) all ≡ Some gs) (is_c : c ≡ copied s (Some gs)) (copying : bare ≡ false) where
+  -- copies from a target, of so many words that no rule forbids it
+  module _
+      (gs : Site) (found : site_of (is_target s.block.end) all ≡ Some gs) (n : ℕ) (allowed : copy_fault n s (Some gs) ≡ None)
+      (is_c : c ≡ copied_words n s.block s.plan gs.plan) (copying : bare ≡ false) where
     goal_facts : Goal known s gs
     goal_facts = goal_is known s gs found
 
@@ -383,11 +373,8 @@ module _ (known : Known) (here : Slotted known) where
     copied_in : (q k : ℕ) (w : Copyable gs.plan k) (item : Item) → slot_word q w.item item ≡ item_inst (insts_of_site gs gst) w.item
     copied_in q k w item = copy_word known s gs gst goal_facts.first c (s.start + (s.plan.place + q)) w.item item (headed k w).below w.op
 
-    abbrev n : ℕ
-    n = count s gs
-
-    told : CopiesOf s gs c
-    told = copies_of s gs c is_c
+    told : CopiesOf n s gs c
+    told = words_copied n s gs c is_c
 
     -- where words are copied, the branch squashes unless it always goes
     set : 1 ≤ n → sure ≡ false → c.squash ≡ true
@@ -445,9 +432,9 @@ module _ (known : Known) (here : Slotted known) where
 
     some_copied : 1 ≤ n → FilledHere
     some_copied some =
-        let k = counted (is_too_far s gs) (is_fed s gs) (most s gs) some in
-        let few : n ≤ room s.block s.plan = min_left (room s.block s.plan) (copyable gs.plan) n k.all_of in
-        let less : n ≤ copyable gs.plan = min_right (room s.block s.plan) (copyable gs.plan) n k.all_of in
+        let small = fault_small n s gs allowed in
+        let few = small.0 in
+        let less = small.1 in
         let first = copyable_there gs.plan 0 (copyable_first gs.plan (omega arith)) in
         let nop_g : is_nop (slot s.plan 2) ≡ true → g ≡ Nop = λ e. nop_is g (sym (ap is_nop slot_g) ∙ e) in
         let nop_f : is_nop (slot s.plan 1) ≡ true → f ≡ Nop = λ e. nop_is f (sym (ap is_nop slot_f) ∙ e) in
@@ -479,7 +466,7 @@ module _ (known : Known) (here : Slotted known) where
         let y_copy = y_is first.item (ap (λ l. slice_index_or l 1 Nop) e ∙ first.is_at) ∙ copied_in 2 0 first g in
         InSecond (told.count_is ∙ one) (ap not r.surely) (nop_g r.second) x_own
         (subst (λ i. HeadOf known goal 0 i) (sym y_copy) (headed 0 first).head)
-        ((λ k. reads (y_copy k) (loads_to (x_own k))) ∙ free first r.one k.not_fed f refl below_f)
+        ((λ k. reads (y_copy k) (loads_to (x_own k))) ∙ free first r.one (no_load n s gs some allowed) f refl below_f)
         goal_leads)
         (room_cases s.block.end (may_stay s.block) (is_nop (slot s.plan 1)) (is_nop (slot s.plan 2)) (stays_not s) (omega arith))
 
@@ -490,13 +477,16 @@ module _ (known : Known) (here : Slotted known) where
         (λ (z : n ≢ 0). some_copied (omega arith))
         (cases_eq n 0)
 
-  by_goal : (o : Option Site) → site_of (is_target s.block.end) all ≡ o → c ≡ copied s o → bare ≡ false → FilledHere
-  by_goal None e is_c copying = all_own (ap (λ (d : Copied). d.count) is_c) (ap (λ (d : Copied). d.squash) is_c) (ap (λ (d : Copied). d.from) is_c)
-  by_goal (Some gs) e is_c copying = from_goal gs e is_c copying
+  bare_slots : c ≡ no_copies → FilledHere
+  bare_slots e = all_own (ap (λ (d : Copied). d.count) e) (ap (λ (d : Copied). d.squash) e) (ap (λ (d : Copied). d.from) e)
+
+  by_goal : (o : Option Site) → site_of (is_target s.block.end) all ≡ o → IsCopied s o c → bare ≡ false → FilledHere
+  by_goal None e w copying = bare_slots w.2
+  by_goal (Some gs) e w copying = from_goal gs e w.0 w.1 w.2 copying
 
   pub filled_there : FilledHere
   filled_there = ⊎_elim
-      (λ e. all_own (ap (λ (d : Copied). d.count) e) (ap (λ (d : Copied). d.squash) e) (ap (λ (d : Copied). d.from) e))
+      bare_slots
       (λ e. by_goal (site_of (is_target s.block.end) all) refl e.1 e.0)
       (fills s)
 
@@ -509,7 +499,7 @@ module _ (known : Known) (here : Slotted known) where
   own_slots none =
       let e : c.from ≡ Nop ∷ Nop ∷ [] = ⊎_elim
       (λ e. ap (λ (d : Copied). d.from) e)
-      (λ e. ap (λ (d : Copied). d.from) (e.1 ∙ ap (copied s) none))
+      (λ e. ap (λ (d : Copied). d.from) (subst (λ o. IsCopied s o c) none e.1).2)
       (fills s) in
       record {
         first = x_is Nop (ap (λ l. slice_index_or l 0 Nop) e) ∙ own_item 1 f below_f;

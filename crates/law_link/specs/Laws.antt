@@ -1,15 +1,19 @@
 -- Linked code on the machine with delay slots does what its source means.
-use Rattle.std.specs.Prelude.{◌≡◌, ℕ, ◌+◌, ◌*◌, ◌<◌, ◌≤◌, zero, suc, true, false, cond, eqb, length, Option, Some, None}
+use Rattle.std.specs.Prelude.{◌≡◌, ℕ, ◌+◌, ◌*◌, ◌<◌, ◌≤◌, zero, suc, true, false, cond, eqb, List, length, Option, Some, None}
 use Rattle.mx_delay.specs.Delay.{queued}
 use Rattle.mx_source.specs.Meaning.{Going, Run, meaning, is_stuck, HaltsIn}
 use Rattle.mx_blocks.specs.Leaders.{is_leader}
 use Rattle.mx_squash.specs.Copies.{Site, site_of}
 use Rattle.mx_layout.specs.Layout.{plan_size}
-use Rattle.mx_link.specs.Origins.{from_nowhere}
+use Rattle.mx_link.specs.Origins.{from_nowhere, as_wanted}
 use Rattle.mx_link.specs.Linked.{link_map}
 use Rattle.mx_delay.specs.Prefixes.{IsPrefix}
-use Rattle.law_link.specs.Runs.{Linking, IsLinking, linked_run, RunsClean}
+use Rattle.law_link.specs.Runs.{IsFilling, Linking, IsLinking, linked_run, RunsClean}
 use Rattle.law_link.specs.Matches.{Matches, block_ahead}
+
+-- copies by wanted counts are lawful, whatever is wanted
+abbrev pub AsWantedIsLawful : Type 0
+AsWantedIsLawful = (counts : List ℕ) → IsFilling (as_wanted counts)
 
 -- what the source means, after so many statements
 abbrev pub meant : Linking → ℕ → Run

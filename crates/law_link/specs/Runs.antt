@@ -1,5 +1,5 @@
 -- Linked code on the machine with delay slots.
-use Rattle.std.specs.Prelude.{◌≡◌, ℕ, ◌+◌, ◌*◌, ◌≤◌, Bool, List, length, All, ◌⊎◌, None}
+use Rattle.std.specs.Prelude.{◌≡◌, ℕ, ◌+◌, ◌*◌, ◌≤◌, Bool, List, length, All, None}
 use Rattle.mx_isa.specs.declared.Place.{Place}
 use Rattle.mx_isa.specs.Words.{Words}
 use Rattle.mx_code.specs.Codes.{HasRegisters}
@@ -11,10 +11,11 @@ use Rattle.mx_source.specs.SourceValue.{SourceValue, IsSource}
 use Rattle.mx_source.specs.Meaning.{given}
 use Rattle.mx_blocks.specs.Leaders.{inst_of}
 use Rattle.mx_validate.specs.Validity.{Valid}
-use Rattle.mx_squash.specs.Copies.{Site}
+use Rattle.mx_squash.specs.Copies.{Site, site_of, is_target}
+use Rattle.mx_squash.specs.Chosen.{IsCopied}
 use Rattle.mx_layout.specs.Layout.{IsLayout, blocks_in}
 use Rattle.mx_layout.specs.Overlong.{overlong}
-use Rattle.mx_link.specs.Origins.{Filling, from_target, from_nowhere}
+use Rattle.mx_link.specs.Origins.{Filling}
 use Rattle.mx_link.specs.Linked.{linked_code, linked_data}
 
 -- a source, laid out at a place that has room for it, with branches that reach their targets
@@ -26,9 +27,9 @@ pub record IsLaid (source : SourceValue) (place : Place) (sites : List Site) : T
   pub layout : IsLayout Valid source place sites
   pub reach : overlong source place (blocks_in sites) ≡ None
 
--- slots that hold no-ops are filled from the target, or not at all
+-- each site's slots hold the first words of its target, so many that no rule forbids it; that may be none
 abbrev pub IsFilling : Filling → Type 0
-IsFilling filling = (filling ≡ from_target) ⊎ (filling ≡ from_nowhere)
+IsFilling filling = (sites : List Site) (s : Site) → IsCopied s (site_of (is_target s.block.end) sites) (filling sites s)
 
 -- a linked program: its source, place and layout, how its slots are filled, and the bytes of its input
 pub record Linking : Type 0 where

@@ -1,6 +1,6 @@
-//! Laws over the definitions: a source that is laid out with valid plans and branches in reach, with its slots
-//! filled from their targets or not at all, at any place and with any input.
-ghost use Rattle.law_link.specs.Laws.{LinkedCodeIsClean, LinkedCodeHalts, LinkedCodeHaltsOnly, LinkedCodeSends, LinkedBlocksStart, LaterBlocksStartLater, FetchesStartBlocks};
+//! Laws over the definitions: a source that is laid out with valid plans and branches in reach, with any copies in its
+//! slots that no rule forbids, at any place and with any input.
+ghost use Rattle.law_link.specs.Laws.{AsWantedIsLawful, LinkedCodeIsClean, LinkedCodeHalts, LinkedCodeHaltsOnly, LinkedCodeSends, LinkedBlocksStart, LaterBlocksStartLater, FetchesStartBlocks};
 ghost use Rattle.law_link.specs.Results.{ResultsAreLinked};
 
 use mx_validate::Proposer;
@@ -9,6 +9,12 @@ use mx_validate::Proposer;
 /// of a layout, its links are the link map, and each word spells the instruction that stands there. So each law below holds of it.
 pub fn results_are_linked<P: Proposer>()
     ensures { ResultsAreLinked P.proposes }
+{}
+
+/// Whatever counts are wanted of a linker, its copies are lawful: where a rule forbids so many, there are none. So each law below
+/// holds of its code.
+pub fn as_wanted_is_lawful()
+    ensures { AsWantedIsLawful }
 {}
 
 /// Where the meaning is not stuck within j + 64 statements, the first j steps of linked code are clean, and

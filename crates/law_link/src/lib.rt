@@ -4,6 +4,7 @@
 mod laws;
 
 pub use laws::{
-    fetches_start_blocks, later_blocks_start_later, linked_blocks_start, linked_code_halts,
-    linked_code_halts_only, linked_code_is_clean, linked_code_sends, results_are_linked,
+    as_wanted_is_lawful, fetches_start_blocks, later_blocks_start_later, linked_blocks_start,
+    linked_code_halts, linked_code_halts_only, linked_code_is_clean, linked_code_sends,
+    results_are_linked,
 };

@@ -1,5 +1,5 @@
 -- The profile of a source's run counts each statement as often as the meaning is at it.
-use Rattle.std.proofs.Common.{◌≡◌, ℕ, zero, suc, ◌+◌, ◌<◌, ◌≤◌, ◌^◌, Bool, true, false, cond, List, [], ◌∷◌, length, Option, refl, sym, ap, ◌∙◌, arith, inl}
+use Rattle.std.proofs.Common.{◌≡◌, ℕ, zero, suc, ◌+◌, ◌<◌, ◌≤◌, ◌^◌, Bool, true, false, cond, List, [], ◌∷◌, length, Option, refl, sym, ap, ◌∙◌, arith}
 use Rattle.std.specs.Prelude.{slice_index}
 use Rattle.mx_source.specs.SourceValue.{SourceValue}
 use Rattle.mx_source.specs.Meaning.{given}
@@ -20,6 +20,7 @@ use Rattle.mx_isa.specs.Board.{board}
 use Rattle.law_link.specs.Runs.{IsLaid, Linking, IsLinking, linked_run}
 use Rattle.law_link.specs.Matches.{block_ahead}
 use Rattle.law_link.specs.Laws.{meant}
+use Rattle.law_link.proofs.Lawful.{from_target_lawful}
 use Rattle.law_link.proofs.Shown.{is_clean}
 use Rattle.law_counts.specs.Counts.{executed, goes_on_with, visits}
 use Rattle.law_counts.specs.Laws.{CountsAsMeant}
@@ -59,7 +60,7 @@ module _ (source : SourceValue) (sites : List Site) (requests bytes : List ℕ) 
   l = linking_of source sites bytes
 
   is_linking : IsLinking l
-  is_linking = record { laid = laid; filled = inl refl }
+  is_linking = record { laid = laid; filled = from_target_lawful }
 
   abbrev code_words : List ℕ
   code_words = linked_code from_target source board sites

@@ -1,5 +1,5 @@
 -- Two sources that were linked into one image.
-use Rattle.std.proofs.Common.{◌≡◌, ℕ, ◌+◌, ◌≤◌, List, length, None, refl, sym, subst, arith, inl}
+use Rattle.std.proofs.Common.{◌≡◌, ℕ, ◌+◌, ◌≤◌, List, length, None, refl, sym, subst, arith}
 use Rattle.std.proofs.lemmas.List.{length-map}
 use Rattle.mx_isa.specs.declared.Place.{Place}
 use Rattle.mx_source.specs.SourceValue.{SourceValue}
@@ -9,6 +9,7 @@ use Rattle.mx_squash.specs.Copies.{Site}
 use Rattle.mx_link.specs.Words.{value_word}
 use Rattle.mx_link.specs.Linked.{link_map}
 use Rattle.law_link.specs.Runs.{Linking, IsLaid}
+use Rattle.law_link.proofs.Lawful.{from_target_lawful}
 use Rattle.mx_tasks.specs.Sharing.{shared}
 use Rattle.mx_tasks.specs.Places.{lower, upper}
 use Rattle.mx_tasks.specs.declared.sharing.Shared.{Shared}
@@ -36,8 +37,8 @@ module _ (first second : SourceValue) (lower_sites upper_sites : List Site) wher
 
   pub are_shared : AreLaid first second lower_sites upper_sites → AreShared one two
   are_shared l = record {
-    first_links = record { laid = l.first_laid; filled = inl refl };
-    second_links = record { laid = l.second_laid; filled = inl refl };
+    first_links = record { laid = l.first_laid; filled = from_target_lawful };
+    second_links = record { laid = l.second_laid; filled = from_target_lawful };
     first_place = refl;
     second_place = refl;
     first_input = l.first_input;

@@ -1,3 +1,4 @@
 pub mod Turning
 pub mod Leaving
 pub mod Windows
+pub mod Counting

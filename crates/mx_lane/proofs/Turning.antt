@@ -16,10 +16,10 @@ use Rattle.mx_turn.specs.declared.latches.Latches.{Latches}
 use Rattle.mx_turn.specs.Counted.{Counted, after_turn}
 use Rattle.mx_turn.specs.Stages.{live, squash}
 use Rattle.mx_turn.specs.System.{pops, restores}
-use Rattle.mx_turn.specs.Cycle.{MachineState, shifted, committed, commit_byte, showing, is_taken, decision, decided, led, waited, latched, acted, cycled, answer}
+use Rattle.mx_turn.specs.Cycle.{MachineState, shifted, committed, commit_byte, showing, is_taken, decision, decided, decided_by, led, waited, latched, acted, cycled, answer}
 use Rattle.mx_turn.proofs.Steps.{acted_is, ended_on, squashes_on, not_taken, cycled_acted}
 use Rattle.mx_lane.specs.declared.lane.Lane.{Lane}
-use Rattle.mx_lane.specs.Lanes.{lane_of, plain, turn_cycles, turn_counts, quietly, later_bytes, InTurn}
+use Rattle.mx_lane.specs.Lanes.{lane_of, plain, back, turn_cycles, turn_counts, quietly, later_bytes, InTurn}
 
 no_request : (on held : Bool) → (on && (false && held)) ≡ false
 no_request true held = refl
@@ -33,21 +33,36 @@ and_false : (b : Bool) → (b && false) ≡ false
 and_false true = refl
 and_false false = refl
 
-module _ (code : Code) (input : Option (List ℕ)) where
-  -- where the word in ALU goes back to no saved fetch
-  decided_plain : (m : MachineState) → (pops (live code m.alu) && not m.psw.current.user) ≡ false → decided code m ≡ plain (decision code m) m
-  decided_plain m stays =
-      let i : Inst = live code m.alu in
-      let d : Decision = decision code m in
-      let kept : (restores i && (pops i && not m.psw.current.user)) ≡ false = ap (λ b. restores i && b) stays ∙ and_false (restores i) in
-      λ k. record m {
-        next = led (stays k) m.chain d m.next;
-        fetch = squash d.cancels m.fetch;
-        rf = squash d.cancels m.rf;
-        chain = cond (stays k) (pop m.chain) m.chain;
-        psw = cond (kept k) (psw_restored m.psw) m.psw;
-      }
+and_true : (b : Bool) → (b && true) ≡ b
+and_true true = refl
+and_true false = refl
 
+-- where the word in ALU goes back to no saved fetch
+pub decided_plain : (i : Inst) (d : Decision) (m : MachineState) → (pops i && not m.psw.current.user) ≡ false → decided_by i d m ≡ plain d m
+decided_plain i d m stays =
+    let kept : (restores i && (pops i && not m.psw.current.user)) ≡ false = ap (λ b. restores i && b) stays ∙ and_false (restores i) in
+    λ k. record m {
+      next = led (stays k) m.chain d m.next;
+      fetch = squash d.cancels m.fetch;
+      rf = squash d.cancels m.rf;
+      chain = cond (stays k) (pop m.chain) m.chain;
+      psw = cond (kept k) (psw_restored m.psw) m.psw;
+    }
+
+-- where it does
+pub decided_back : (i : Inst) (d : Decision) (m : MachineState) → (pops i && not m.psw.current.user) ≡ true
+    → decided_by i d m ≡ back (restores i) d m
+decided_back i d m goes =
+    let kept : (restores i && (pops i && not m.psw.current.user)) ≡ restores i = ap (λ b. restores i && b) goes ∙ and_true (restores i) in
+    λ k. record m {
+      next = led (goes k) m.chain d m.next;
+      fetch = squash d.cancels m.fetch;
+      rf = squash d.cancels m.rf;
+      chain = cond (goes k) (pop m.chain) m.chain;
+      psw = cond (kept k) (psw_restored m.psw) m.psw;
+    }
+
+module _ (code : Code) (input : Option (List ℕ)) where
   -- cycles in two parts
   pub quietly_more : (d n : ℕ) (m : MachineState) → quietly code input (d + n) m ≡ quietly code input n (quietly code input d m)
   quietly_more d zero m = let none : d + zero ≡ d = omega arith in ap (λ k. quietly code input k m) none
@@ -71,7 +86,7 @@ module _ (code : Code) (input : Option (List ℕ)) where
   -- the lane in the turn that the machine m is before
   module _ (m : MachineState) (l : Lane) (b : Contents) (past : List ℕ) (before : Words)
       (state : committed code input (shifted m) ≡ lane_of l b past before m.shown m.counts) (on : m.halted ≡ false)
-      (stays : (pops (live code l.alu) && not l.psw.current.user) ≡ false) (is_missed : l.missed ≡ not (resident m.past m.next.address)) where
+      (is_missed : l.missed ≡ not (resident m.past m.next.address)) where
     abbrev c : MachineState
     c = lane_of l b past before m.shown m.counts
 
@@ -79,7 +94,7 @@ module _ (code : Code) (input : Option (List ℕ)) where
     lead = decision code c
 
     abbrev pub following : MachineState
-    following = plain lead c
+    following = decided code c
 
     abbrev pub counted : Counted
     counted = after_turn l.missed lead.cancels false m.counts
@@ -106,7 +121,6 @@ module _ (code : Code) (input : Option (List ℕ)) where
         sym (cycled_acted resident code input m false on (eq-eqb m.stall 0 (ap (λ (x : MachineState). x.stall) state)))
         ∙ ap (acted resident code input) same
         ∙ sym acts
-        ∙ (λ k. let x : MachineState = decided_plain r stays k in let n : MachineState = record x { counts = counted } in waited resident n)
 
     pub whole : (r : Bool) → resident past following.next.address ≡ r → quietly code input (turn_cycles r) m ≡ turned 0 (turn_counts r counted)
     whole true e = once ∙ (λ k. turned (cond (e k) 0 2) counted)
@@ -124,12 +138,12 @@ module _ (code : Code) (input : Option (List ℕ)) where
 
 -- a turn by its steps: where the word in ALU leads, the stages, the commit, the counts and the next fetch
 module _ {C : Type 0} (holds : C → List ℕ → Type 0) (code : Code) (m : MachineState) (l l1 l2 l3 : Lane)
-    (b b' : Contents) (cache cache' : C) (d : Decision) (n : ℕ)
+    (b b' : Contents) (cache cache' : C) (i : Inst) (d : Decision) (n : ℕ)
     (h : InTurn holds code m l b cache)
-    (stays : (pops (live code l.alu) && not l.psw.current.user) ≡ false)
-    (leads : d ≡ lead code b.input m l b h.past h.before h.state h.on stays h.missed)
+    (does : i ≡ live code l.alu)
+    (leads : d ≡ lead code b.input m l b h.past h.before h.state h.on h.missed)
     (moves : (past : List ℕ) (before : Words) (shown : Latches) (counts : Counted)
-    → lane_of l1 b (l1.next.address ∷ past) before shown counts ≡ shifted (plain d (lane_of l b past before shown counts)))
+    → lane_of l1 b (l1.next.address ∷ past) before shown counts ≡ shifted (decided_by i d (lane_of l b past before shown counts)))
     (commits : (past : List ℕ) (before : Words) (shown : Latches) (counts : Counted)
     → lane_of l2 b' past (slice_index l1.registers.file) shown counts ≡ committed code b.input (lane_of l1 b past before shown counts))
     (takes : n ≡ turn_cycles (resident h.past l2.next.address)) where
@@ -139,37 +153,40 @@ module _ {C : Type 0} (holds : C → List ℕ → Type 0) (code : Code) (m : Mac
   same_next : l2.next.address ≡ l1.next.address
   same_next = ap (λ (x : MachineState). x.next.address) (commits h.past h.before m.shown m.counts)
 
-  next_is : l2.next.address ≡ (following code b.input m l b h.past h.before h.state h.on stays h.missed).next.address
-  next_is = same_next ∙ ap (λ (x : MachineState). x.next.address) (moves h.past h.before m.shown m.counts) ∙ ap (λ e. (plain e from).next.address) leads
+  next_is : l2.next.address ≡ (following code b.input m l b h.past h.before h.state h.on h.missed).next.address
+  next_is =
+      same_next
+      ∙ ap (λ (x : MachineState). x.next.address) (moves h.past h.before m.shown m.counts)
+      ∙ (λ k. (decided_by (does k) (leads k) from).next.address)
 
   abbrev r : Bool
   r = resident h.past l2.next.address
 
   abbrev counts_are : Counted
-  counts_are = turn_counts r (counted code b.input m l b h.past h.before h.state h.on stays h.missed)
+  counts_are = turn_counts r (counted code b.input m l b h.past h.before h.state h.on h.missed)
 
   abbrev shown_is : Latches
-  shown_is = shows code b.input m l b h.past h.before h.state h.on stays h.missed
+  shown_is = shows code b.input m l b h.past h.before h.state h.on h.missed
 
   abbrev after : MachineState
-  after = turned code b.input m l b h.past h.before h.state h.on stays h.missed 0 counts_are
+  after = turned code b.input m l b h.past h.before h.state h.on h.missed 0 counts_are
 
-  same_resident : resident h.past (following code b.input m l b h.past h.before h.state h.on stays h.missed).next.address ≡ r
+  same_resident : resident h.past (following code b.input m l b h.past h.before h.state h.on h.missed).next.address ≡ r
   same_resident = ap (resident h.past) (sym next_is)
 
   goes_to : quietly code b.input n m ≡ after
-  goes_to = (λ k. quietly code b.input (takes k) m) ∙ whole code b.input m l b h.past h.before h.state h.on stays h.missed r same_resident
+  goes_to = (λ k. quietly code b.input (takes k) m) ∙ whole code b.input m l b h.past h.before h.state h.on h.missed r same_resident
 
   reaches : lane_of l1 b (l1.next.address ∷ h.past) h.before shown_is counts_are ≡ shifted after
   reaches =
       moves h.past h.before shown_is counts_are
-      ∙ ap (λ e. shifted (plain e (lane_of l b h.past h.before shown_is counts_are))) leads
+      ∙ (λ k. shifted (decided_by (does k) (leads k) (lane_of l b h.past h.before shown_is counts_are)))
 
   pub sends : (byte : Option ℕ) → ((past : List ℕ) (before : Words) (shown : Latches) (counts : Counted)
       → byte ≡ commit_byte code b.input (lane_of l1 b past before shown counts)) → later_bytes code b.input n m ≡ option_to_list byte
   sends byte is =
       (λ k. later_bytes code b.input (takes k) m)
-      ∙ bytes code b.input m l b h.past h.before h.state h.on stays h.missed r same_resident
+      ∙ bytes code b.input m l b h.past h.before h.state h.on h.missed r same_resident
       ∙ ap (λ x. option_to_list (commit_byte code b.input x)) (sym reaches)
       ∙ ap option_to_list (sym (is (l1.next.address ∷ h.past) h.before shown_is counts_are))
 

@@ -4,13 +4,22 @@ use Rattle.std.specs.Prelude.{nat_lt}
 use Rattle.std.proofs.lemmas.Bool.Decides.{nat_tests}
 use Rattle.mx_icache.specs.Residency.{resident}
 use Rattle.mx_lane.specs.declared.queue.Window.{Window}
-use Rattle.mx_lane.specs.Lanes.{IsKnown}
+use Rattle.mx_lane.specs.declared.queue.Queue.{Queue}
+use Rattle.mx_lane.specs.Lanes.{IsKnown, AreKnown}
 
 -- of an empty window nothing is to be known
 pub known_empty : {C : Type 0} (holds : C → List ℕ → Type 0) (w : Window) (cache : C) → w.words ≡ 0 → IsKnown holds w cache
 known_empty holds w cache none = record {
   here = λ past h j lt. absurd (omega (arith, none, lt));
   kept = λ past h j lt. absurd (omega (arith, none, lt));
+}
+
+-- nor of two
+pub none_known : {C : Type 0} (holds : C → List ℕ → Type 0) (q : Queue) (cache : C) → q.window.words ≡ 0 → q.other.words ≡ 0 → AreKnown holds q cache
+none_known holds q cache window other = record {
+  window = known_empty holds q.window cache window;
+  other = known_empty holds q.other cache other;
+  missed = λ e. window;
 }
 
 module _ {C : Type 0} (holds : C → List ℕ → Type 0) (w : Window) (cache : C) (known : IsKnown holds w cache) (a : ℕ) (low : w.low ≤ a)

@@ -1,5 +1,5 @@
 -- What a lane keeps of the definition's state, once the word in MEM has committed.
-use Rattle.std.specs.Prelude.{◌≡◌, ◌<◌, ◌+◌, ℕ, zero, suc, Bool, true, false, not, cond, List, [], ◌∷◌, ◌++◌, Option, Some, option_to_list, slice_index}
+use Rattle.std.specs.Prelude.{◌≡◌, ◌<◌, ◌≤◌, ◌+◌, ◌-◌, ◌^◌, ℕ, zero, suc, Bool, true, false, not, cond, List, [], ◌∷◌, ◌++◌, Option, Some, option_to_list, slice_index}
 use Rattle.mx_isa.specs.Words.{Words, reg, write}
 use Rattle.mx_isa.specs.Views.{dest}
 use Rattle.mx_isa.specs.declared.inst.Inst.{Inst}
@@ -12,7 +12,9 @@ use Rattle.mx_turn.specs.declared.latches.Latches.{Latches}
 use Rattle.mx_turn.specs.Counted.{Counted, after_stall}
 use Rattle.mx_turn.specs.Stages.{address_of, fetch_of, live, squash}
 use Rattle.mx_turn.specs.System.{slot_of, seen}
-use Rattle.mx_turn.specs.Cycle.{MachineState, shifted, committed, cycled, answer}
+use Rattle.mx_pcchain.specs.Chain.{fetch_from, pop}
+use Rattle.mx_pcchain.specs.Modes.{psw_restored}
+use Rattle.mx_turn.specs.Cycle.{MachineState, shifted, committed, decided_by, cycled, answer}
 use Rattle.mx_lane.specs.declared.lane.Lane.{Lane}
 use Rattle.mx_lane.specs.declared.queue.Queue.{Queue}
 use Rattle.mx_lane.specs.declared.queue.Window.{Window}
@@ -48,12 +50,41 @@ pub record IsKnown {C : Type 0} (holds : C → List ℕ → Type 0) (w : Window)
   pub here : (past : List ℕ) → holds cache past → (j : ℕ) → j < w.words → resident past (w.low + j) ≡ true
   pub kept : (past : List ℕ) → holds cache past → (j : ℕ) → j < w.words → holds cache ((w.low + j) ∷ past)
 
+-- both windows of a queue are known, and where its fetch missed, the next one is looked up
+pub record AreKnown {C : Type 0} (holds : C → List ℕ → Type 0) (q : Queue) (cache : C) : Type 0 where
+  pub window : IsKnown holds q.window cache
+  pub other : IsKnown holds q.other cache
+  pub missed : q.missed ≡ true → q.window.words ≡ 0
+
+-- after so many turns whose fetches are resident and that cancel nothing
+abbrev pub after_turns : ℕ → Counted → Counted
+after_turns n c = record c { cycles = c.cycles + n; fetches = c.fetches + n }
+
+-- a queue whose turns are counted up to where so many cycles are left
+abbrev pub caught_up : ℕ → Queue → Queue
+caught_up left q = record q { counts = after_turns (q.mark - left) q.counts }
+
+-- there is room for the turns that are counted later
+pub record IsCounting (left : ℕ) (q : Queue) : Type 0 where
+  pub within : left ≤ q.mark
+  pub room : q.counts.cycles + q.mark ≤ 2 ^ 63
+
 -- what a decision does that goes back to no saved fetch
 abbrev pub plain : Decision → MachineState → MachineState
 plain d m = record m {
   next = fetch_of (next_of d.target m.next.address);
   fetch = squash d.cancels m.fetch;
   rf = squash d.cancels m.rf;
+}
+
+-- what a decision does that goes back to a saved fetch, and to the other mode or not
+abbrev pub back : Bool → Decision → MachineState → MachineState
+back restores d m = record m {
+  next = fetch_from m.chain.pc1;
+  fetch = squash d.cancels m.fetch;
+  rf = squash d.cancels m.rf;
+  chain = pop m.chain;
+  psw = cond restores (psw_restored m.psw) m.psw;
 }
 
 -- where the word in ALU leads
@@ -65,6 +96,13 @@ abbrev pub MovesBy : Decision → Queue → Queue → Type 0
 MovesBy d q after =
     (l : Lane) (b : Contents) (past : List ℕ) (before : Words) (shown : Latches) (counts : Counted)
     → lane_of (joined after l) b (after.next.address ∷ past) before shown counts ≡ shifted (plain d (lane_of (joined q l) b past before shown counts))
+
+-- by the decision of an instruction in ALU the stages of a queue move on, and a lane takes a saved fetch and the other mode
+abbrev pub DecidesBy : Inst → Decision → Queue → Lane → Queue → Lane → Type 0
+DecidesBy i d q l after left =
+    (b : Contents) (past : List ℕ) (before : Words) (shown : Latches) (counts : Counted)
+    → lane_of (joined after left) b (after.next.address ∷ past) before shown counts
+    ≡ shifted (decided_by i d (lane_of (joined q l) b past before shown counts))
 
 -- the cycles of a turn without those of its fetch, and with those of the next one's
 abbrev pub turn_cycles : Bool → ℕ

@@ -32,10 +32,12 @@ pub struct Lane {
 
 impl Lane {
     // What changes in each turn, apart.
-    fn queue(&self) -> Queue
+    fn queue(&self, most: u64) -> Queue
         ensures joined { joined result self.now ≡ self.now }
         ensures counts { result.counts ≡ self.now.counts }
+        ensures mark { result.mark ≡ most }
         ensures empty { result.window.words ≡ 0 }
+        ensures other { result.other.words ≡ 0 }
     {
         Queue {
             next: Coming::of(self.next.fetched()),
@@ -46,6 +48,8 @@ impl Lane {
             counts: self.counts,
             missed: self.missed,
             window: Window::empty(),
+            other: Window::empty(),
+            mark: most,
         }
     }
 
@@ -62,10 +66,10 @@ impl Lane {
         self.missed = queue.missed;
     }
 
-    /// Turns without a request, of at most so many cycles, up to one whose word in ALU is a halt or goes back to a saved fetch.
-    /// Answers how many cycles they are.
+    /// Turns without a request, of at most so many cycles, up to one whose word in ALU is a halt. Answers
+    /// how many cycles they are.
     #[inline(never)]
-    #[tactic(auto, using(crate::proofs::Windows::known_empty))]
+    #[tactic(auto, using(crate::proofs::Windows::none_known))]
     pub fn run<C: FetchCache>(
         &mut self,
         most: u64,
@@ -83,7 +87,7 @@ impl Lane {
         ensures console { IfOk result (λ n. (m : State) → InTurn C.holds (code_in code.now) m self.old board.old cache.old
             → console.new.items ≡ console.old.items ++ later_bytes (code_in code.now) board.old.input n m) }
     {
-        let mut queue = self.queue();
+        let mut queue = self.queue(most);
         let done = queue.go(most, self, code, board, cache, console)?;
         self.take(queue);
         Ok(done)

@@ -1,27 +1,33 @@
 //! Turns without a request, with what changes in each of them apart from the registers.
-ghost use Rattle.std.specs.Prelude.{◌≡◌, ◌<◌, ◌≤◌, ◌+◌, ◌^◌, ◌++◌, ◌∷◌, ◌&&◌, not, false, true, ℕ, List, IfOk, OnOk, IfSome, IfNone, slice_index};
+ghost use Rattle.std.specs.Prelude.{◌≡◌, ◌<◌, ◌≤◌, ◌+◌, ◌-◌, ◌^◌, ◌++◌, ◌∷◌, ◌&&◌, not, false, true, ℕ, List, IfOk, OnOk, IfSome, IfNone, slice_index};
 ghost use Rattle.mx_isa.specs.Words.{Words, reg};
 ghost use Rattle.mx_isa.specs.Views.{dest, is_halt};
 ghost use Rattle.mx_delay.specs.Delay.{Code, next_of};
 ghost use Rattle.mx_icache.specs.Residency.{resident};
+ghost use Rattle.mx_board.specs.Contents.{Contents};
 ghost use Rattle.mx_turn.specs.declared.latches.Latches.{Latches as Shown};
 ghost use Rattle.mx_turn.specs.Counted.{Counted, after_turn};
 ghost use Rattle.mx_turn.specs.Decoded.{ShiftFits, code_in};
 ghost use Rattle.mx_turn.specs.Stages.{fetch_of, live, squash};
 ghost use Rattle.mx_turn.specs.System.{pops};
-ghost use Rattle.mx_turn.specs.Cycle.{MachineState as State, committed, commit_byte};
-ghost use Rattle.mx_lane.specs.Lanes.{lane_of, joined, lead_of, MovesBy, turn_cycles, turn_counts, quietly, later_bytes, InTurn, IsKnown};
+ghost use Rattle.mx_turn.specs.Cycle.{MachineState as State, shifted, committed, commit_byte};
+ghost use Rattle.mx_lane.specs.Lanes.{lane_of, joined, lead_of, back, MovesBy, DecidesBy, turn_cycles, turn_counts, quietly, later_bytes, InTurn, IsKnown, AreKnown, IsCounting, after_turns, caught_up};
 
 use crate::Lane;
 use mx_board::Board;
 use mx_icache::FetchCache;
 use mx_isa::Inst;
 use mx_text::push_byte;
-use mx_turn::{Coming, Counts, Decoded, Held, decide, read, squash};
+use mx_turn::{
+    Coming, Counts, Decided, Decoded, Held, decide, led, popped, read, restored, squash,
+};
 use std::alloc::AllocError;
 
 /// The cycles of the longest turn, with the stalled ones of its fetch.
 const LONGEST_TURN: u64 = 3;
+
+/// The words of a line of the cache. A window begins with one, if these are resident.
+const LINE_WORDS: u32 = 16;
 
 /// So many words from an address on, which are resident.
 #[derive(Clone, Copy)]
@@ -43,6 +49,10 @@ pub struct Queue {
     pub counts: Counts,
     pub missed: bool,
     pub window: Window,
+    /// The words that were known before those of the window.
+    pub other: Window,
+    /// How many cycles were left when the turns were last counted. Since then each turn took one cycle.
+    pub mark: u64,
 }
 
 /// Where a word leads that goes back to no saved fetch: to an address, if not to the next word, and whether it cancels the two
@@ -68,6 +78,7 @@ impl Window {
         requires known { IsKnown C.holds self.now _cache.now }
         ensures resident { result ≡ true → (past : List ℕ) → C.holds _cache.now past → resident past address ≡ true }
         ensures keeps { result ≡ true → (past : List ℕ) → C.holds _cache.now past → C.holds _cache.now (address ∷ past) }
+        ensures some { result ≡ true → 0 < self.now.words }
     {
         if address < self.low {
             return false;
@@ -121,6 +132,8 @@ impl Queue {
         ensures counts { self.new.counts ≡ self.old.counts }
         ensures missed { self.new.missed ≡ self.old.missed }
         ensures window { self.new.window ≡ self.old.window }
+        ensures other { self.new.other ≡ self.old.other }
+        ensures mark { self.new.mark ≡ self.old.mark }
     {
         self.wb = self.mem;
         self.mem = self.alu;
@@ -133,12 +146,13 @@ impl Queue {
     // done, where it goes back to a saved fetch; nor of a halt.
     #[inline(always)]
     fn follow(&mut self, inst: &Inst, lane: &Lane) -> Option<bool>
-        ensures state { IfSome result (λ c. MovesBy (lead_of inst.now self.old lane.now) self.old self.new) }
+        ensures state { IfSome result (λ c. DecidesBy inst.now (lead_of inst.now self.old lane.now) self.old lane.now self.new lane.now) }
         ensures cancels { IfSome result (λ c. c ≡ (lead_of inst.now self.old lane.now).cancels) }
-        ensures stays { IfSome result (λ c. (pops inst.now && not lane.now.psw.current.user) ≡ false) }
         ensures counts { self.new.counts ≡ self.old.counts }
         ensures missed { self.new.missed ≡ self.old.missed }
         ensures window { self.new.window ≡ self.old.window }
+        ensures other { self.new.other ≡ self.old.other }
+        ensures mark { self.new.mark ≡ self.old.mark }
         ensures nothing { IfNone result (self.new ≡ self.old) }
         ensures on { IfSome result (λ c. is_halt inst.now ≡ false) }
     {
@@ -152,20 +166,94 @@ impl Queue {
         Some(lead.cancels)
     }
 
-    // The same of any word in ALU. Most are no transfers.
-    #[inline(always)]
-    fn step(&mut self, inst: &Inst, lane: &Lane) -> Option<bool>
-        ensures state { IfSome result (λ c. MovesBy (lead_of inst.now self.old lane.now) self.old self.new) }
-        ensures cancels { IfSome result (λ c. c ≡ (lead_of inst.now self.old lane.now).cancels) }
-        ensures stays { IfSome result (λ c. (pops inst.now && not lane.now.psw.current.user) ≡ false) }
+    // The stages move on to the saved fetch.
+    fn go_back(&mut self, decided: &Decided, lane: &mut Lane)
+        requires code_address { IfSome decided.now.target (λ a. a < 2 ^ 31) }
+        ensures state { (b : Contents) (past : List ℕ) (before : Words) (shown : Shown) (counts : Counted)
+            → lane_of (joined self.new lane.new) b (self.new.next.address ∷ past) before shown counts
+            ≡ shifted (back decided.now.restores (record { target = decided.now.target; cancels = decided.now.cancels })
+            (lane_of (joined self.old lane.old) b past before shown counts)) }
         ensures counts { self.new.counts ≡ self.old.counts }
         ensures missed { self.new.missed ≡ self.old.missed }
         ensures window { self.new.window ≡ self.old.window }
+        ensures other { self.new.other ≡ self.old.other }
+        ensures mark { self.new.mark ≡ self.old.mark }
+    {
+        self.wb = self.mem;
+        self.mem = self.alu;
+        self.alu = squashed(decided.cancels, self.rf);
+        self.rf = squashed(decided.cancels, self.next.held());
+        self.next = Coming::of(led(
+            true,
+            &lane.registers.chain,
+            decided.target,
+            self.next.fetched(),
+        ));
+        lane.registers.chain = popped(true, lane.registers.chain);
+        lane.psw = restored(decided.restores, lane.psw);
+    }
+
+    // The same where the word goes back to a saved fetch; none, and nothing is done, where it does not.
+    #[inline(never)]
+    fn come_back(&mut self, inst: Inst, lane: &mut Lane) -> Option<bool>
+        ensures state { IfSome result (λ c. DecidesBy inst (lead_of inst self.old lane.old) self.old lane.old self.new lane.new) }
+        ensures cancels { IfSome result (λ c. c ≡ (lead_of inst self.old lane.old).cancels) }
+        ensures counts { self.new.counts ≡ self.old.counts }
+        ensures missed { self.new.missed ≡ self.old.missed }
+        ensures window { self.new.window ≡ self.old.window }
+        ensures other { self.new.other ≡ self.old.other }
+        ensures mark { self.new.mark ≡ self.old.mark }
         ensures nothing { IfNone result (self.new ≡ self.old) }
+        ensures kept { IfNone result (lane.new ≡ lane.old) }
+        ensures on { IfSome result (λ c. is_halt inst ≡ false) }
+    {
+        if is_halt(&inst) {
+            return None;
+        }
+        let decided = decide(&inst, self.alu.address(), &lane.registers);
+        if !goes_back(decided.pops, lane.psw.current.user) {
+            return None;
+        }
+        self.go_back(&decided, lane);
+        Some(decided.cancels)
+    }
+
+    // The same of each transfer.
+    #[inline(always)]
+    fn transfers(&mut self, inst: &Inst, lane: &mut Lane) -> Option<bool>
+        ensures state { IfSome result (λ c. DecidesBy inst.now (lead_of inst.now self.old lane.old) self.old lane.old self.new lane.new) }
+        ensures cancels { IfSome result (λ c. c ≡ (lead_of inst.now self.old lane.old).cancels) }
+        ensures counts { self.new.counts ≡ self.old.counts }
+        ensures missed { self.new.missed ≡ self.old.missed }
+        ensures window { self.new.window ≡ self.old.window }
+        ensures other { self.new.other ≡ self.old.other }
+        ensures mark { self.new.mark ≡ self.old.mark }
+        ensures nothing { IfNone result (self.new ≡ self.old) }
+        ensures kept { IfNone result (lane.new ≡ lane.old) }
+        ensures on { IfSome result (λ c. is_halt inst.now ≡ false) }
+    {
+        if is_return(inst, lane.psw.current.user) {
+            return self.come_back(*inst, lane);
+        }
+        self.follow(inst, lane)
+    }
+
+    // The same of any word in ALU. Most are no transfers.
+    #[inline(always)]
+    fn step(&mut self, inst: &Inst, lane: &mut Lane) -> Option<bool>
+        ensures state { IfSome result (λ c. DecidesBy inst.now (lead_of inst.now self.old lane.old) self.old lane.old self.new lane.new) }
+        ensures cancels { IfSome result (λ c. c ≡ (lead_of inst.now self.old lane.old).cancels) }
+        ensures counts { self.new.counts ≡ self.old.counts }
+        ensures missed { self.new.missed ≡ self.old.missed }
+        ensures window { self.new.window ≡ self.old.window }
+        ensures other { self.new.other ≡ self.old.other }
+        ensures mark { self.new.mark ≡ self.old.mark }
+        ensures nothing { IfNone result (self.new ≡ self.old) }
+        ensures kept { IfNone result (lane.new ≡ lane.old) }
         ensures on { IfSome result (λ c. is_halt inst.now ≡ false) }
     {
         let Some(lead) = self.plain_lead(inst, lane) else {
-            return self.follow(inst, lane);
+            return self.transfers(inst, lane);
         };
         self.move_on(&lead);
         Some(lead.cancels)
@@ -190,105 +278,264 @@ impl Queue {
             .byte
     }
 
-    // The cache is asked for the next fetch. Answers how many cycles that takes.
+    // The cache fetches the next word. Answers how many cycles that takes. Nothing is known of the cache then.
     #[inline(never)]
     fn ask<C: FetchCache>(&mut self, cache: &mut C) -> u64
         requires room { self.old.counts.cycles + 2 ≤ 2 ^ 63 }
+        requires mark { 2 ≤ self.old.mark }
         ensures cycles { (past : List ℕ) → C.holds cache.old past → result ≡ turn_cycles (resident past self.old.next.address) }
         ensures few { result ≤ 3 }
         ensures some { 0 < result }
         ensures risen { self.new.counts.cycles + 1 ≡ self.old.counts.cycles + result }
+        ensures mark { self.new.mark + result ≡ self.old.mark + 1 }
         ensures counts { (past : List ℕ) → C.holds cache.old past
             → self.new.counts ≡ turn_counts (resident past self.old.next.address) self.old.counts }
         ensures missed { (past : List ℕ) → C.holds cache.old past → self.new.missed ≡ not (resident past self.old.next.address) }
         ensures cache { (past : List ℕ) → C.holds cache.old past → C.holds cache.new (self.old.next.address ∷ past) }
-        ensures known { IsKnown C.holds self.new.window cache.new }
-        ensures rest { self.new ≡ record self.old { counts = self.new.counts; missed = self.new.missed; window = self.new.window } }
+        ensures known { AreKnown C.holds self.new cache.new }
+        ensures rest { self.new ≡ record self.old {
+          counts = self.new.counts;
+          missed = self.new.missed;
+          window = self.new.window;
+          other = self.new.other;
+          mark = self.new.mark;
+        } }
     {
-        let address = self.next.address();
-        let hit = cache.fetch(address);
-        self.window = Window {
-            low: address,
-            words: cache.reach(address),
-        };
+        let hit = cache.fetch(self.next.address());
         self.missed = !hit;
+        self.window = Window::empty();
+        self.other = Window::empty();
         if hit {
             return 1;
         }
         self.counts.stalled();
         self.counts.stalled();
+        self.mark -= 2;
         LONGEST_TURN
+    }
+
+    // The same of a word that may be in the cache.
+    #[inline(never)]
+    fn look_up<C: FetchCache>(&mut self, cache: &mut C) -> u64
+        requires known { AreKnown C.holds self.old cache.old }
+        requires missed { self.old.missed ≡ false }
+        requires room { self.old.counts.cycles + 2 ≤ 2 ^ 63 }
+        requires mark { 2 ≤ self.old.mark }
+        ensures cycles { (past : List ℕ) → C.holds cache.old past → result ≡ turn_cycles (resident past self.old.next.address) }
+        ensures few { result ≤ 3 }
+        ensures some { 0 < result }
+        ensures risen { self.new.counts.cycles + 1 ≡ self.old.counts.cycles + result }
+        ensures mark { self.new.mark + result ≡ self.old.mark + 1 }
+        ensures counts { (past : List ℕ) → C.holds cache.old past
+            → self.new.counts ≡ turn_counts (resident past self.old.next.address) self.old.counts }
+        ensures missed { (past : List ℕ) → C.holds cache.old past → self.new.missed ≡ not (resident past self.old.next.address) }
+        ensures cache { (past : List ℕ) → C.holds cache.old past → C.holds cache.new (self.old.next.address ∷ past) }
+        ensures known { AreKnown C.holds self.new cache.new }
+        ensures rest { self.new ≡ record self.old {
+          counts = self.new.counts;
+          missed = self.new.missed;
+          window = self.new.window;
+          other = self.new.other;
+          mark = self.new.mark;
+        } }
+    {
+        let address = self.next.address();
+        let found = window_of(address, cache);
+        if !found.has(address, cache) {
+            return self.ask(cache);
+        }
+        self.other = self.window;
+        self.window = found;
+        1
+    }
+
+    // The same of a word that may be in the other window, as in a loop over two lines.
+    #[inline(always)]
+    fn seek<C: FetchCache>(&mut self, cache: &mut C) -> u64
+        requires known { AreKnown C.holds self.old cache.old }
+        requires missed { self.old.missed ≡ false }
+        requires room { self.old.counts.cycles + 2 ≤ 2 ^ 63 }
+        requires mark { 2 ≤ self.old.mark }
+        ensures cycles { (past : List ℕ) → C.holds cache.old past → result ≡ turn_cycles (resident past self.old.next.address) }
+        ensures few { result ≤ 3 }
+        ensures some { 0 < result }
+        ensures risen { self.new.counts.cycles + 1 ≡ self.old.counts.cycles + result }
+        ensures mark { self.new.mark + result ≡ self.old.mark + 1 }
+        ensures counts { (past : List ℕ) → C.holds cache.old past
+            → self.new.counts ≡ turn_counts (resident past self.old.next.address) self.old.counts }
+        ensures missed { (past : List ℕ) → C.holds cache.old past → self.new.missed ≡ not (resident past self.old.next.address) }
+        ensures cache { (past : List ℕ) → C.holds cache.old past → C.holds cache.new (self.old.next.address ∷ past) }
+        ensures known { AreKnown C.holds self.new cache.new }
+        ensures rest { self.new ≡ record self.old {
+          counts = self.new.counts;
+          missed = self.new.missed;
+          window = self.new.window;
+          other = self.new.other;
+          mark = self.new.mark;
+        } }
+    {
+        if !self.other.has(self.next.address(), cache) {
+            return self.look_up(cache);
+        }
+        let window = self.window;
+        self.window = self.other;
+        self.other = window;
+        1
+    }
+
+    // The turns are counted.
+    #[inline(always)]
+    fn settle(&mut self, left: u64)
+        requires counting { IsCounting left self.old }
+        ensures { self.new ≡ record self.old { counts = after_turns (self.old.mark - left) self.old.counts; mark = left } }
+    {
+        let turns = self.mark - left;
+        self.counts = Counts {
+            cycles: self.counts.cycles + turns,
+            fetches: self.counts.fetches + turns,
+            ..self.counts
+        };
+        self.mark = left;
     }
 
     // A turn is counted whose fetch missed, or whose word cancels two. Few do: a call of its own keeps the way of the others short.
     #[inline(never)]
-    fn count_apart(&mut self, cancels: bool)
-        requires { self.old.counts.cycles < 2 ^ 63 }
-        ensures { self.new ≡ record self.old { counts = after_turn self.old.missed cancels false self.old.counts; missed = false } }
+    fn count_apart(&mut self, left: u64, cancels: bool)
+        requires counting { IsCounting left self.old }
+        requires left { 1 ≤ left }
+        ensures { self.new ≡ record self.old {
+          counts = after_turn self.old.missed cancels false (caught_up left self.old).counts;
+          missed = false;
+          mark = left - 1;
+        } }
     {
+        self.settle(left);
         self.counts.turned(self.missed, cancels, false);
         self.missed = false;
+        self.mark = left - 1;
     }
 
-    // The turn is counted; of its fetch nothing is to be remembered then.
+    // The turn is counted, or will be with those behind it. Its fetch was a hit.
     #[inline(always)]
-    fn count_turn(&mut self, cancels: bool)
-        requires { self.old.counts.cycles < 2 ^ 63 }
-        ensures { self.new ≡ record self.old { counts = after_turn self.old.missed cancels false self.old.counts; missed = false } }
+    #[tactic(auto, using(crate::proofs::Counting::one_more))]
+    fn count_later(&mut self, left: u64, cancels: bool)
+        requires counting { IsCounting left self.old }
+        requires left { 1 ≤ left }
+        requires missed { self.old.missed ≡ false }
+        ensures counts { (caught_up (left - 1) self.new).counts ≡ after_turn self.old.missed cancels false (caught_up left self.old).counts }
+        ensures missed { self.new.missed ≡ false }
+        ensures within { left - 1 ≤ self.new.mark }
+        ensures total { self.new.counts.cycles + self.new.mark ≡ self.old.counts.cycles + self.old.mark }
+        ensures rest { self.new ≡ record self.old { counts = self.new.counts; missed = self.new.missed; mark = self.new.mark } }
     {
-        if self.missed || cancels {
-            self.count_apart(cancels);
-        } else {
-            self.counts.turned(false, false, false);
+        if cancels {
+            self.count_apart(left, cancels);
         }
+    }
+
+    // The same, whether its fetch was a hit or not.
+    #[inline(always)]
+    fn count_turn(&mut self, left: u64, cancels: bool)
+        requires counting { IsCounting left self.old }
+        requires left { 1 ≤ left }
+        ensures counts { (caught_up (left - 1) self.new).counts ≡ after_turn self.old.missed cancels false (caught_up left self.old).counts }
+        ensures missed { self.new.missed ≡ false }
+        ensures within { left - 1 ≤ self.new.mark }
+        ensures total { self.new.counts.cycles + self.new.mark ≡ self.old.counts.cycles + self.old.mark }
+        ensures rest { self.new ≡ record self.old { counts = self.new.counts; missed = self.new.missed; mark = self.new.mark } }
+    {
+        if self.missed {
+            self.count_apart(left, cancels);
+        } else {
+            self.count_later(left, cancels);
+        }
+    }
+
+    // The turn is counted, with the stalled cycles of a fetch that is not in the window. Answers how many cycles these are.
+    #[inline(never)]
+    fn count_anew<C: FetchCache>(&mut self, left: u64, cancels: bool, cache: &mut C) -> u64
+        requires counting { IsCounting left self.old }
+        requires left { 3 ≤ left }
+        requires known { AreKnown C.holds self.old cache.old }
+        ensures cycles { (past : List ℕ) → C.holds cache.old past → result ≡ turn_cycles (resident past self.old.next.address) }
+        ensures few { result ≤ 3 }
+        ensures some { 0 < result }
+        ensures within { left - result ≤ self.new.mark }
+        ensures total { self.new.counts.cycles + self.new.mark ≡ self.old.counts.cycles + self.old.mark }
+        ensures counts { (past : List ℕ) → C.holds cache.old past → (caught_up (left - result) self.new).counts
+            ≡ turn_counts (resident past self.old.next.address) (after_turn self.old.missed cancels false (caught_up left self.old).counts) }
+        ensures missed { (past : List ℕ) → C.holds cache.old past → self.new.missed ≡ not (resident past self.old.next.address) }
+        ensures cache { (past : List ℕ) → C.holds cache.old past → C.holds cache.new (self.old.next.address ∷ past) }
+        ensures known { AreKnown C.holds self.new cache.new }
+        ensures rest { self.new ≡ record self.old {
+          counts = self.new.counts;
+          missed = self.new.missed;
+          window = self.new.window;
+          other = self.new.other;
+          mark = self.new.mark;
+        } }
+    {
+        self.count_turn(left, cancels);
+        self.seek(cache)
     }
 
     // The turn is counted, with the stalled cycles of the next fetch. Answers how many cycles these are.
     #[inline(always)]
-    fn count<C: FetchCache>(&mut self, cancels: bool, cache: &mut C) -> u64
-        requires room { self.old.counts.cycles + 3 ≤ 2 ^ 63 }
-        requires known { IsKnown C.holds self.old.window cache.old }
+    fn count<C: FetchCache>(&mut self, left: u64, cancels: bool, cache: &mut C) -> u64
+        requires counting { IsCounting left self.old }
+        requires left { 3 ≤ left }
+        requires known { AreKnown C.holds self.old cache.old }
         ensures cycles { (past : List ℕ) → C.holds cache.old past → result ≡ turn_cycles (resident past self.old.next.address) }
         ensures few { result ≤ 3 }
         ensures some { 0 < result }
-        ensures risen { self.new.counts.cycles ≡ self.old.counts.cycles + result }
-        ensures counts { (past : List ℕ) → C.holds cache.old past
-            → self.new.counts ≡ turn_counts (resident past self.old.next.address) (after_turn self.old.missed cancels false self.old.counts) }
+        ensures within { left - result ≤ self.new.mark }
+        ensures total { self.new.counts.cycles + self.new.mark ≡ self.old.counts.cycles + self.old.mark }
+        ensures counts { (past : List ℕ) → C.holds cache.old past → (caught_up (left - result) self.new).counts
+            ≡ turn_counts (resident past self.old.next.address) (after_turn self.old.missed cancels false (caught_up left self.old).counts) }
         ensures missed { (past : List ℕ) → C.holds cache.old past → self.new.missed ≡ not (resident past self.old.next.address) }
         ensures cache { (past : List ℕ) → C.holds cache.old past → C.holds cache.new (self.old.next.address ∷ past) }
-        ensures known { IsKnown C.holds self.new.window cache.new }
-        ensures rest { self.new ≡ record self.old { counts = self.new.counts; missed = self.new.missed; window = self.new.window } }
+        ensures known { AreKnown C.holds self.new cache.new }
+        ensures rest { self.new ≡ record self.old {
+          counts = self.new.counts;
+          missed = self.new.missed;
+          window = self.new.window;
+          other = self.new.other;
+          mark = self.new.mark;
+        } }
     {
-        self.count_turn(cancels);
-        if self.window.has(self.next.address(), cache) {
-            return 1;
+        if !self.window.has(self.next.address(), cache) {
+            return self.count_anew(left, cancels, cache);
         }
-        self.ask(cache)
+        self.count_later(left, cancels);
+        1
     }
 
     // One turn of a word, with the stalled cycles of the next fetch. Answers how many cycles they are; 0, and nothing is done,
-    // where the word is a halt or goes back to a saved fetch.
+    // where the word is a halt.
     #[inline(always)]
     fn turn_of<C: FetchCache>(
         &mut self,
+        left: u64,
         inst: &Inst,
         lane: &mut Lane,
         board: &mut Board,
         cache: &mut C,
         console: &mut Vec<u8>,
     ) -> Result<u64, AllocError>
-        requires room { self.old.counts.cycles + 3 ≤ 2 ^ 63 }
+        requires counting { IsCounting left self.old }
+        requires left { 3 ≤ left }
         requires fits { ShiftFits inst.now }
-        requires known { IsKnown C.holds self.old.window cache.old }
+        requires known { AreKnown C.holds self.old cache.old }
         ensures few { IfOk result (λ n. n ≤ 3) }
-        ensures risen { IfOk result (λ n. self.new.counts.cycles ≡ self.old.counts.cycles + n) }
+        ensures within { IfOk result (λ n. left - n ≤ self.new.mark) }
+        ensures total { OnOk result (self.new.counts.cycles + self.new.mark ≡ self.old.counts.cycles + self.old.mark) }
         ensures input { board.new.input ≡ board.old.input }
-        ensures known { OnOk result (IsKnown C.holds self.new.window cache.new) }
+        ensures known { OnOk result (AreKnown C.holds self.new cache.new) }
         ensures next { IfOk result (λ n. (code : Code) (m : State) → inst.now ≡ live code self.old.alu
-            → InTurn C.holds code m (joined self.old lane.old) board.old cache.old
-            → InTurn C.holds code (quietly code board.old.input n m) (joined self.new lane.new) board.new cache.new) }
+            → InTurn C.holds code m (joined (caught_up left self.old) lane.old) board.old cache.old
+            → InTurn C.holds code (quietly code board.old.input n m) (joined (caught_up (left - n) self.new) lane.new) board.new cache.new) }
         ensures console { IfOk result (λ n. (code : Code) (m : State) → inst.now ≡ live code self.old.alu
-            → InTurn C.holds code m (joined self.old lane.old) board.old cache.old
+            → InTurn C.holds code m (joined (caught_up left self.old) lane.old) board.old cache.old
             → console.new.items ≡ console.old.items ++ later_bytes code board.old.input n m) }
     {
         let Some(cancels) = self.step(inst, lane) else {
@@ -296,38 +543,149 @@ impl Queue {
         };
         let byte = self.commit(inst, lane, board);
         push_byte(console, byte)?;
-        Ok(self.count(cancels, cache))
+        Ok(self.count(left, cancels, cache))
+    }
+
+    // The same of words that are rare: a call of its own keeps the way of the others short.
+    #[inline(never)]
+    fn turn_apart<C: FetchCache>(
+        &mut self,
+        left: u64,
+        inst: &Inst,
+        lane: &mut Lane,
+        board: &mut Board,
+        cache: &mut C,
+        console: &mut Vec<u8>,
+    ) -> Result<u64, AllocError>
+        requires counting { IsCounting left self.old }
+        requires left { 3 ≤ left }
+        requires fits { ShiftFits inst.now }
+        requires known { AreKnown C.holds self.old cache.old }
+        ensures few { IfOk result (λ n. n ≤ 3) }
+        ensures within { IfOk result (λ n. left - n ≤ self.new.mark) }
+        ensures total { OnOk result (self.new.counts.cycles + self.new.mark ≡ self.old.counts.cycles + self.old.mark) }
+        ensures input { board.new.input ≡ board.old.input }
+        ensures known { OnOk result (AreKnown C.holds self.new cache.new) }
+        ensures next { IfOk result (λ n. (code : Code) (m : State) → inst.now ≡ live code self.old.alu
+            → InTurn C.holds code m (joined (caught_up left self.old) lane.old) board.old cache.old
+            → InTurn C.holds code (quietly code board.old.input n m) (joined (caught_up (left - n) self.new) lane.new) board.new cache.new) }
+        ensures console { IfOk result (λ n. (code : Code) (m : State) → inst.now ≡ live code self.old.alu
+            → InTurn C.holds code m (joined (caught_up left self.old) lane.old) board.old cache.old
+            → console.new.items ≡ console.old.items ++ later_bytes code board.old.input n m) }
+    {
+        self.turn_of(left, inst, lane, board, cache, console)
+    }
+
+    // The same, with a way of its own for each kind of word that is frequent: the compiler then tests the kind once, also
+    // since it is a copy that it tests.
+    #[inline(always)]
+    fn turn_by_kind<C: FetchCache>(
+        &mut self,
+        left: u64,
+        inst: &Inst,
+        lane: &mut Lane,
+        board: &mut Board,
+        cache: &mut C,
+        console: &mut Vec<u8>,
+    ) -> Result<u64, AllocError>
+        requires counting { IsCounting left self.old }
+        requires left { 3 ≤ left }
+        requires fits { ShiftFits inst.now }
+        requires known { AreKnown C.holds self.old cache.old }
+        ensures few { IfOk result (λ n. n ≤ 3) }
+        ensures within { IfOk result (λ n. left - n ≤ self.new.mark) }
+        ensures total { OnOk result (self.new.counts.cycles + self.new.mark ≡ self.old.counts.cycles + self.old.mark) }
+        ensures input { board.new.input ≡ board.old.input }
+        ensures known { OnOk result (AreKnown C.holds self.new cache.new) }
+        ensures next { IfOk result (λ n. (code : Code) (m : State) → inst.now ≡ live code self.old.alu
+            → InTurn C.holds code m (joined (caught_up left self.old) lane.old) board.old cache.old
+            → InTurn C.holds code (quietly code board.old.input n m) (joined (caught_up (left - n) self.new) lane.new) board.new cache.new) }
+        ensures console { IfOk result (λ n. (code : Code) (m : State) → inst.now ≡ live code self.old.alu
+            → InTurn C.holds code m (joined (caught_up left self.old) lane.old) board.old cache.old
+            → console.new.items ≡ console.old.items ++ later_bytes code board.old.input n m) }
+    {
+        let copy = *inst;
+        match inst {
+            Inst::Load { .. } => self.turn_of(left, &copy, lane, board, cache, console),
+            Inst::Store { .. } => self.turn_of(left, &copy, lane, board, cache, console),
+            Inst::Branch { .. } => self.turn_of(left, &copy, lane, board, cache, console),
+            Inst::Compute { .. } => self.turn_of(left, &copy, lane, board, cache, console),
+            Inst::Addi { .. } => self.turn_of(left, &copy, lane, board, cache, console),
+            Inst::Jspci { .. } => self.turn_of(left, &copy, lane, board, cache, console),
+            Inst::MoveFrom { .. } => self.turn_of(left, &copy, lane, board, cache, console),
+            Inst::MoveTo { .. } => self.turn_of(left, &copy, lane, board, cache, console),
+            _ => self.turn_apart(left, inst, lane, board, cache, console),
+        }
     }
 
     // The same of the word in ALU. A squashed one, or one beyond the code, does nothing.
     #[inline(always)]
     fn turn<C: FetchCache>(
         &mut self,
+        left: u64,
         lane: &mut Lane,
         code: &Decoded,
         board: &mut Board,
         cache: &mut C,
         console: &mut Vec<u8>,
     ) -> Result<u64, AllocError>
-        requires room { self.old.counts.cycles + 3 ≤ 2 ^ 63 }
-        requires known { IsKnown C.holds self.old.window cache.old }
+        requires counting { IsCounting left self.old }
+        requires left { 3 ≤ left }
+        requires known { AreKnown C.holds self.old cache.old }
         ensures few { IfOk result (λ n. n ≤ 3) }
-        ensures risen { IfOk result (λ n. self.new.counts.cycles ≡ self.old.counts.cycles + n) }
+        ensures within { IfOk result (λ n. left - n ≤ self.new.mark) }
+        ensures total { OnOk result (self.new.counts.cycles + self.new.mark ≡ self.old.counts.cycles + self.old.mark) }
         ensures input { board.new.input ≡ board.old.input }
-        ensures known { OnOk result (IsKnown C.holds self.new.window cache.new) }
-        ensures next { IfOk result (λ n. (m : State) → InTurn C.holds (code_in code.now) m (joined self.old lane.old) board.old cache.old
-            → InTurn C.holds (code_in code.now) (quietly (code_in code.now) board.old.input n m) (joined self.new lane.new) board.new cache.new) }
-        ensures console { IfOk result (λ n. (m : State) → InTurn C.holds (code_in code.now) m (joined self.old lane.old) board.old cache.old
+        ensures known { OnOk result (AreKnown C.holds self.new cache.new) }
+        ensures next { IfOk result (λ n. (m : State) → InTurn C.holds (code_in code.now) m (joined (caught_up left self.old) lane.old) board.old cache.old
+            → InTurn C.holds (code_in code.now) (quietly (code_in code.now) board.old.input n m)
+            (joined (caught_up (left - n) self.new) lane.new) board.new cache.new) }
+        ensures console { IfOk result (λ n. (m : State) → InTurn C.holds (code_in code.now) m (joined (caught_up left self.old) lane.old) board.old cache.old
             → console.new.items ≡ console.old.items ++ later_bytes (code_in code.now) board.old.input n m) }
     {
         match code.get(self.alu) {
-            Some(inst) => self.turn_of(inst, lane, board, cache, console),
-            None => self.turn_of(&Inst::default(), lane, board, cache, console),
+            Some(inst) => self.turn_by_kind(left, inst, lane, board, cache, console),
+            None => self.turn_apart(left, &Inst::default(), lane, board, cache, console),
         }
     }
 
-    /// Turns without a request, of at most so many cycles, up to one whose word in ALU is a halt or goes back to a saved fetch.
-    /// Answers how many cycles they are.
+    // Turns without a request, while there is room for the longest. Answers how many cycles are left.
+    #[inline(always)]
+    fn turns<C: FetchCache>(
+        &mut self,
+        most: u64,
+        lane: &mut Lane,
+        code: &Decoded,
+        board: &mut Board,
+        cache: &mut C,
+        console: &mut Vec<u8>,
+    ) -> Result<u64, AllocError>
+        requires counting { IsCounting most self.old }
+        requires known { AreKnown C.holds self.old cache.old }
+        ensures most { IfOk result (λ left. left ≤ most) }
+        ensures within { IfOk result (λ left. left ≤ self.new.mark) }
+        ensures total { OnOk result (self.new.counts.cycles + self.new.mark ≡ self.old.counts.cycles + self.old.mark) }
+        ensures input { OnOk result (board.new.input ≡ board.old.input) }
+        ensures next { IfOk result (λ left. (m : State) → InTurn C.holds (code_in code.now) m (joined (caught_up most self.old) lane.old) board.old cache.old
+            → InTurn C.holds (code_in code.now) (quietly (code_in code.now) board.old.input (most - left) m)
+            (joined (caught_up left self.new) lane.new) board.new cache.new) }
+        ensures console { IfOk result (λ left. (m : State)
+            → InTurn C.holds (code_in code.now) m (joined (caught_up most self.old) lane.old) board.old cache.old
+            → console.new.items ≡ console.old.items ++ later_bytes (code_in code.now) board.old.input (most - left) m) }
+    {
+        let mut left: u64 = most;
+        while left >= LONGEST_TURN {
+            let cycles = self.turn(left, lane, code, board, cache, console)?;
+            if cycles == 0 {
+                return Ok(left);
+            }
+            left -= cycles;
+        }
+        Ok(left)
+    }
+
+    /// Turns without a request, of at most so many cycles, up to one whose word in ALU is a halt. Answers
+    /// how many cycles they are.
     #[inline(always)]
     pub fn go<C: FetchCache>(
         &mut self,
@@ -339,7 +697,8 @@ impl Queue {
         console: &mut Vec<u8>,
     ) -> Result<u64, AllocError>
         requires room { self.old.counts.cycles + most ≤ 2 ^ 63 }
-        requires known { IsKnown C.holds self.old.window cache.old }
+        requires known { AreKnown C.holds self.old cache.old }
+        requires mark { self.old.mark ≡ most }
         ensures most { IfOk result (λ n. n ≤ most) }
         ensures risen { IfOk result (λ n. self.new.counts.cycles ≡ self.old.counts.cycles + n) }
         ensures input { OnOk result (board.new.input ≡ board.old.input) }
@@ -348,16 +707,35 @@ impl Queue {
         ensures console { IfOk result (λ n. (m : State) → InTurn C.holds (code_in code.now) m (joined self.old lane.old) board.old cache.old
             → console.new.items ≡ console.old.items ++ later_bytes (code_in code.now) board.old.input n m) }
     {
-        let mut left: u64 = most;
-        while left >= LONGEST_TURN {
-            let cycles = self.turn(lane, code, board, cache, console)?;
-            if cycles == 0 {
-                return Ok(most - left);
-            }
-            left -= cycles;
-        }
+        let left = self.turns(most, lane, code, board, cache, console)?;
+        self.settle(left);
         Ok(most - left)
     }
+}
+
+// So many words as are known to be resident, from an address on.
+#[inline(always)]
+fn window_from<C: FetchCache>(address: u32, cache: &C) -> Window
+    requires { address < 2 ^ 31 }
+    ensures { IsKnown C.holds result cache.now }
+{
+    Window {
+        low: address,
+        words: cache.reach(address),
+    }
+}
+
+// The resident words of a line, or those from an address on.
+#[inline(always)]
+fn window_of<C: FetchCache>(address: u32, cache: &C) -> Window
+    requires { address < 2 ^ 31 }
+    ensures { IsKnown C.holds result cache.now }
+{
+    let line = window_from(address / LINE_WORDS * LINE_WORDS, cache);
+    if line.has(address, cache) {
+        return line;
+    }
+    window_from(address, cache)
 }
 
 // A stage, squashed where a branch cancels it.
@@ -393,6 +771,11 @@ fn goes_back(pops: bool, user: bool) -> bool
     ensures { result ≡ (pops && not user) }
 {
     pops && !user
+}
+
+// Whether a word goes back from the system, or may do so.
+fn is_return(inst: &Inst, user: bool) -> bool {
+    matches!(inst, Inst::Jpc | Inst::Jpcrs) && !user
 }
 
 // Whether a word is a halt.

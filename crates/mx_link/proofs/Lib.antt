@@ -3,6 +3,9 @@ pub mod Places
 pub mod Bodies
 pub mod Fits
 pub mod Slots
+pub mod Chosen
+pub mod Laid
+pub mod Wanted
 pub mod Linkable
 pub mod Sizes
 pub mod Relinked

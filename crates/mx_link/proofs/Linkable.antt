@@ -23,7 +23,8 @@ use Rattle.mx_validate.specs.Padded.{items_of}
 use Rattle.mx_validate.specs.Validity.{Valid}
 use Rattle.mx_validate.proofs.Listed.{once_below}
 use Rattle.mx_squash.specs.declared.Copied.{Copied}
-use Rattle.mx_squash.specs.Copies.{Site, site_of, is_target, is_branch_end, reaches, no_copies, copied, count}
+use Rattle.mx_squash.specs.Copies.{Site, site_of, is_target, is_branch_end, reaches, no_copies}
+use Rattle.mx_squash.specs.Chosen.{copy_fault, copies_of}
 use Rattle.mx_isa.specs.declared.Place.{Place}
 use Rattle.mx_layout.specs.declared.Layout.{Layout}
 use Rattle.mx_layout.specs.Layout.{IsLayout, link_of, plan_size, blocks_in}
@@ -33,7 +34,6 @@ use Rattle.mx_layout.proofs.Reach.{layout_reaches}
 use Rattle.mx_layout.proofs.Sizes.{end_short, covered}
 use Rattle.mx_layout.proofs.Links.{site_blocks, first_link, site_found, link_within}
 use Rattle.mx_link.specs.declared.code.Slots.{Slots}
-use Rattle.mx_link.specs.declared.code.Slots.TheVariants.{FromTarget, Kept}
 use Rattle.mx_link.specs.Origins.{goal_of, own, over, copied_to}
 use Rattle.mx_link.specs.Words.{linked_statement, inst_at}
 use Rattle.mx_link.specs.Parts.{filling_of, sites_of, link_in, Reach, IsLaidOut, HasWords, origin_at}
@@ -41,7 +41,8 @@ use Rattle.mx_link.proofs.Places.{at_place, site_below, sites_below}
 use Rattle.mx_link.proofs.Bodies.{is_last_of, last_stands, copy_goes_on}
 use Rattle.mx_link.proofs.Fits.{inst_fits}
 use Rattle.mx_link.proofs.Relinked.{same_at}
-use Rattle.mx_link.proofs.Slots.{copied_op, copied_none, count_cases, count_small, copyable_small}
+use Rattle.mx_link.proofs.Slots.{words_op, copied_none, copyable_small}
+use Rattle.mx_link.proofs.Chosen.{fault_cases, fault_small, slots_allowed}
 
 -- where a site's transfer goes behind its copies, and what is copied
 pub record Goes (source : SourceValue) (link : ℕ → ℕ) (s : Site) (c : Copied) : Type 0 where
@@ -200,35 +201,35 @@ goal_first (Branches target) b h = equal_from_test b.first target h
 goal_first (Calls target) b h = equal_from_test b.first target h
 goal_first _ b h = absurd (false≢true h)
 
-copied_goes_on :
-    (source : SourceValue) (place : Place) (all : List Site) (s g : Site) → IsGoal source place all s g → (p k : ℕ) (t : Statement)
-    → copied_to (copied s (Some g)) s.plan.place p ≡ Op k → slice_get source.statements (goal_of s.block.end + k) ≡ Some t
-    → is_last (inst_of t) ≡ false
-copied_goes_on source place all s g goal p k t e f =
-    let op = copied_op s g s.plan.place p k e in
+words_go_on :
+    (source : SourceValue) (place : Place) (all : List Site) (n : ℕ) (s g : Site) → IsGoal source place all s g → copy_fault n s (Some g) ≡ None
+    → (p k : ℕ) (t : Statement) → copied_to (copies_of n s (Some g)) s.plan.place p ≡ Op k
+    → slice_get source.statements (goal_of s.block.end + k) ≡ Some t → is_last (inst_of t) ≡ false
+words_go_on source place all n s g goal allowed p k t e f =
+    let op = words_op n s g s.plan.place p k (fault_small n s g allowed).1 e in
     let first = goal_first s.block.end g.block goal.is in
     copy_goes_on source g.block g.plan goal.block goal.valid op.0 k t op.1 (ap (λ n. slice_get source.statements (n + k)) first ∙ f)
 
--- the words of the target are copied
+-- so many words of the target are copied
 goes_copied :
-    (source : SourceValue) (place : Place) (all : List Site) (k : ℕ) (s g : Site) → Laid source place all → slice_get all k ≡ Some s
-    → IsGoal source place all s g → Goes source (link_of place.code all) s (copied s (Some g))
-goes_copied source place all k s g h e goal = ⊎_elim
-    (λ none. goes_plain source place all k s (copied s (Some g)) h e none (copied_goes_on source place all s g goal))
+    (source : SourceValue) (place : Place) (all : List Site) (n k : ℕ) (s g : Site) → Laid source place all → slice_get all k ≡ Some s
+    → IsGoal source place all s g → copy_fault n s (Some g) ≡ None → Goes source (link_of place.code all) s (copies_of n s (Some g))
+goes_copied source place all n k s g h e goal allowed = ⊎_elim
+    (λ none. goes_plain source place all k s (copies_of n s (Some g)) h e none (words_go_on source place all n s g goal allowed))
     (λ moves. record {
       short = link_short source place all h;
       call = λ target f.
           let link = links_there target (ap goal_of f) in
-          let small = count_small s g in
+          let small = moves.front in
           let low = copyable_small g.plan in
           let tail = goal.valid.tail in
           let below = goal.below in
           omega arith;
       branch = λ target f.
-          ap (λ n. reaches (s.start + s.plan.place) (n + count s g)) (links_there target (ap goal_of f)) ∙ moves.near (ap is_branch_end f);
-      copies = copied_goes_on source place all s g goal;
+          ap (λ at. reaches (s.start + s.plan.place) (at + n)) (links_there target (ap goal_of f)) ∙ moves.near (ap is_branch_end f);
+      copies = words_go_on source place all n s g goal allowed;
     })
-    (count_cases s g)
+    (fault_cases n s g allowed)
   where
     links_there : (target : ℕ) → goal_of s.block.end ≡ target → link_of place.code all target ≡ g.start
     links_there target f =
@@ -243,12 +244,16 @@ none_goes_on source s p k t e f = absurd (copied_none s.plan.place p k e)
 goes :
     (source : SourceValue) (place : Place) (all : List Site) (slots : Slots) (k : ℕ) (s : Site) → Laid source place all → slice_get all k ≡ Some s
     → Goes source (link_of place.code all) s (filling_of slots all s)
-goes source place all Kept k s h e = goes_plain source place all k s no_copies h e refl (none_goes_on source s)
-goes source place all FromTarget k s h e = by_goal (site_of (is_target s.block.end) all) refl
+goes source place all slots k s h e =
+    let allowed = slots_allowed slots all s in
+    subst (λ (c : Copied). Goes source (link_of place.code all) s c) (sym allowed.2)
+    (by_goal allowed.0 (site_of (is_target s.block.end) all) refl allowed.1)
   where
-    by_goal : (o : Option Site) → site_of (is_target s.block.end) all ≡ o → Goes source (link_of place.code all) s (copied s o)
-    by_goal None f = goes_plain source place all k s no_copies h e refl (none_goes_on source s)
-    by_goal (Some g) f = goes_copied source place all k s g h e (goal_is source place all s g h f)
+    by_goal :
+        (n : ℕ) (o : Option Site) → site_of (is_target s.block.end) all ≡ o → copy_fault n s o ≡ None
+        → Goes source (link_of place.code all) s (copies_of n s o)
+    by_goal n None f allowed = goes_plain source place all k s no_copies h e refl (none_goes_on source s)
+    by_goal n (Some g) f allowed = goes_copied source place all n k s g h e (goal_is source place all s g h f) allowed
 
 -- each instruction of a laid out source has a word
 pub all_fit :

@@ -1,6 +1,6 @@
 -- Each statement of a source stands in its linked code as it is, so that its registers are those of its word.
 use Rattle.std.proofs.Common.{◌≡◌, ◌↔◌, ℕ, suc, ◌+◌, ◌-◌, ◌<◌, ◌≤◌, Bool, true, false, cond, eqb, List, [], ◌∷◌, length, Option, Some, None, refl, sym, ap, ◌∙◌, subst, inl, inr, ⊎_elim, arith}
-use Rattle.std.specs.Prelude.{slice_get, slice_index_or, ◌||◌, ◌⊎◌, min}
+use Rattle.std.specs.Prelude.{slice_get, slice_index_or, ◌⊎◌}
 use Rattle.std.proofs.lemmas.Bool.{cases_lt, false≢true}
 use Rattle.std.proofs.lemmas.Bool.Decides.{nat_tests}
 use Rattle.std.proofs.lemmas.Option.{same_Some, slice_get-get_or}
@@ -18,16 +18,17 @@ use Rattle.mx_validate.specs.Padded.{items_of}
 use Rattle.mx_validate.specs.Validity.{Valid}
 use Rattle.mx_validate.proofs.Listed.{counted_stands, once_all}
 use Rattle.mx_squash.specs.declared.Copied.{Copied}
-use Rattle.mx_squash.specs.Copies.{Site, site_of, is_target, is_nop, slot, room, room_for, may_stay, count, is_too_far, is_fed, copyable, filled, item_at, copied}
+use Rattle.mx_squash.specs.Copies.{Site, site_of, is_target, is_nop, slot, room, room_for, may_stay, filled, item_at}
+use Rattle.mx_squash.specs.Chosen.{copy_fault, copies_of}
 use Rattle.mx_layout.specs.Layout.{IsLayout, blocks_in}
 use Rattle.mx_isa.specs.declared.Place.{Place}
 use Rattle.mx_link.specs.declared.code.Slots.{Slots}
-use Rattle.mx_link.specs.declared.code.Slots.TheVariants.{FromTarget, Kept}
 use Rattle.mx_link.specs.Origins.{goal_of, own, over, copied_to}
 use Rattle.mx_link.specs.Words.{linked_inst, linked_statement, inst_at}
 use Rattle.mx_link.specs.Parts.{filling_of, EachInst, HaveRegisters}
 use Rattle.mx_link.proofs.Places.{at_place}
 use Rattle.mx_link.proofs.Slots.{copied_none, nop_op}
+use Rattle.mx_link.proofs.Chosen.{fault_small, slots_allowed}
 
 -- one more site
 pub next_site :
@@ -94,22 +95,15 @@ room_second (Branches target) stays first second h = grind (arith, nat_tests)
 room_second (Calls target) stays first second h = grind (arith, nat_tests)
 room_second _ stays first second h = absurd (omega arith)
 
-count_room : (s g : Site) → count s g ≤ room s.block s.plan
-count_room s g = at_most (is_too_far s g || is_fed s g) (room s.block s.plan) (copyable g.plan)
-  where
-    at_most : (b : Bool) (m n : ℕ) → cond b 0 (min m n) ≤ m
-    at_most true m n = omega arith
-    at_most false m n = omega arith
-
 no_op_there : (s : Site) (p k n : ℕ) → p ≡ s.plan.place + n → is_nop (slot s.plan n) ≡ true → StandsAt (items_of s.plan) p k → ⊥
 no_op_there s p k n at e stands = false≢true (sym (ap is_nop (ap (slice_get (items_of s.plan)) (sym at) ∙ stands)) ∙ e)
 
 -- no copy stands over an instruction
-pub kept_free : (s g : Site) (p k j : ℕ) → StandsAt (items_of s.plan) p k → copied_to (copied s (Some g)) s.plan.place p ≡ Op j → ⊥
-kept_free s g p k j stands e =
+pub kept_free :
+    (n : ℕ) (s g : Site) (p k j : ℕ) → n ≤ room s.block s.plan → StandsAt (items_of s.plan) p k → copied_to (copies_of n s (Some g)) s.plan.place p ≡ Op j
+    → ⊥
+kept_free n s g p k j small stands e =
     let free = room s.block s.plan in
-    let n = count s g in
-    let small = count_room s g in
     ⊎_elim
     (λ h.
     let some = first_filled free n (item_at g.plan 0) (item_at g.plan 1) j h.1 in
@@ -118,17 +112,21 @@ kept_free s g p k j stands e =
     (λ h.
     let one = second_filled free n (item_at g.plan 0) (item_at g.plan 1) j h.1 in
     no_op_there s p k 2 h.0 (room_second s.block.end (may_stay s.block) (is_nop (slot s.plan 1)) (is_nop (slot s.plan 2)) (omega arith)) stands)
-    (slot_places (copied s (Some g)) s.plan.place p j e)
+    (slot_places (copies_of n s (Some g)) s.plan.place p j e)
 
-copied_free : (s : Site) (o : Option Site) (p k j : ℕ) → StandsAt (items_of s.plan) p k → copied_to (copied s o) s.plan.place p ≡ Op j → ⊥
-copied_free s None p k j stands e = copied_none s.plan.place p j e
-copied_free s (Some g) p k j stands e = kept_free s g p k j stands e
+copies_free :
+    (n : ℕ) (s : Site) (o : Option Site) (p k j : ℕ) → copy_fault n s o ≡ None → StandsAt (items_of s.plan) p k
+    → copied_to (copies_of n s o) s.plan.place p ≡ Op j → ⊥
+copies_free n s None p k j allowed stands e = copied_none s.plan.place p j e
+copies_free n s (Some g) p k j allowed stands e = kept_free n s g p k j (fault_small n s g allowed).0 stands e
 
 filling_free :
     (slots : Slots) (all : List Site) (s : Site) (p k j : ℕ) → StandsAt (items_of s.plan) p k → copied_to (filling_of slots all s) s.plan.place p ≡ Op j
     → ⊥
-filling_free Kept all s p k j stands e = copied_none s.plan.place p j e
-filling_free FromTarget all s p k j stands e = copied_free s (site_of (is_target s.block.end) all) p k j stands e
+filling_free slots all s p k j stands e =
+    let allowed = slots_allowed slots all s in
+    copies_free allowed.0 s (site_of (is_target s.block.end) all) p k j allowed.1 stands
+    (sym (ap (λ (c : Copied). copied_to c s.plan.place p) allowed.2) ∙ e)
 
 -- an instruction stands as it is
 pub kept :

@@ -8,6 +8,7 @@ use Rattle.mx_blocks.specs.declared.Item.{Item}
 use Rattle.mx_blocks.specs.declared.Item.TheVariants.{Op, Nop}
 use Rattle.mx_squash.specs.declared.Copied.{Copied}
 use Rattle.mx_squash.specs.Copies.{Site, may_copy, copyable, is_op, item_at, is_too_far, is_fed, is_branch_end, most, room, count, filled, reaches, no_copies, copied}
+use Rattle.mx_squash.specs.Chosen.{copies_of}
 use Rattle.mx_link.specs.Origins.{copied_to}
 use Rattle.mx_link.proofs.Bodies.{MayCopy, may_copy_op, both}
 
@@ -125,15 +126,17 @@ count_small s g = at_most (is_too_far s g || is_fed s g) (room s.block s.plan) (
     at_most true m n = omega arith
     at_most false m n = omega arith
 
--- a copied word may be copied from its target
-pub copied_op : (s g : Site) (place p k : ℕ) → copied_to (copied s (Some g)) place p ≡ Op k → (q : ℕ) × MayCopy g.plan q k
-copied_op s g place p k e =
-    let n = count s g in
-    let small = count_small s g in
-    ⊎_elim
+-- of so many copied words each may be copied from its target
+pub words_op :
+    (n : ℕ) (s g : Site) (place p k : ℕ) → n ≤ copyable g.plan → copied_to (copies_of n s (Some g)) place p ≡ Op k → (q : ℕ) × MayCopy g.plan q k
+words_op n s g place p k small e = ⊎_elim
     (λ h. (0, may_copy_op g.plan 0 k (copyable_first g.plan (let one = h.0 in omega arith)) h.1))
     (λ h. (1, may_copy_op g.plan 1 k (copyable_second g.plan (let two = h.0 in omega arith)) h.1))
-    (filled_cases (room s.block s.plan) n (item_at g.plan 0) (item_at g.plan 1) k (slot_cases (copied s (Some g)) place p k e)).which
+    (filled_cases (room s.block s.plan) n (item_at g.plan 0) (item_at g.plan 1) k (slot_cases (copies_of n s (Some g)) place p k e)).which
+
+-- a copied word may be copied from its target
+pub copied_op : (s g : Site) (place p k : ℕ) → copied_to (copied s (Some g)) place p ≡ Op k → (q : ℕ) × MayCopy g.plan q k
+copied_op s g place p k e = words_op (count s g) s g place p k (count_small s g) e
 
 -- nothing is copied where there is no target
 pub copied_none : (place p k : ℕ) → copied_to no_copies place p ≡ Op k → ⊥

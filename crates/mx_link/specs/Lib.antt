@@ -3,4 +3,5 @@ pub mod Origins
 pub mod Words
 pub mod Linked
 pub mod Parts
+pub mod Laid
 pub mod Gathered

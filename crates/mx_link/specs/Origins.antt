@@ -8,6 +8,7 @@ use Rattle.mx_blocks.specs.declared.End.TheVariants.{Branches, Calls}
 use Rattle.mx_validate.specs.Padded.{items_of}
 use Rattle.mx_squash.specs.declared.Copied.{Copied}
 use Rattle.mx_squash.specs.Copies.{Site, site_of, is_target, copied, no_copies}
+use Rattle.mx_squash.specs.Chosen.{copies_wanted}
 use Rattle.mx_link.specs.declared.linked.Origin.{Origin}
 use Rattle.mx_link.specs.declared.linked.Origin.TheVariants.{Own, Copy, Pad}
 
@@ -22,6 +23,10 @@ from_target sites s = copied s (site_of (is_target s.block.end) sites)
 -- nothing
 abbrev pub from_nowhere : Filling
 from_nowhere sites s = no_copies
+
+-- so many of its first words as are wanted for the block that begins at each statement, where no rule forbids so many; none past the end of the list
+abbrev pub as_wanted : List ℕ → Filling
+as_wanted counts sites s = copies_wanted (slice_index_or counts s.block.first 0) s (site_of (is_target s.block.end) sites)
 
 -- the statement to which a block goes by its label
 abbrev pub goal_of : End → ℕ

@@ -1,7 +1,7 @@
 //! The code of a source that is laid out.
-ghost use Rattle.std.specs.Prelude.{◌≡◌, ◌<◌, ◌≤◌, ◌+◌, ◌++◌, ◌∷◌, [], ℕ, length, Some, All, IfOk, OnOk, slice_get, slice_index};
+ghost use Rattle.std.specs.Prelude.{◌≡◌, ◌<◌, ◌≤◌, ◌+◌, ◌++◌, ◌∷◌, [], ℕ, length, Some, All, IfOk, OnOk, slice_get, slice_index, slice_index_or};
 ghost use Rattle.mx_link.specs.Terms.{LAST_ADDRESS, MAX_STATEMENTS, InstFits, word_of_row, HasRegisters, StatementFits, items_of, Site, AreOfOneSource};
-ghost use Rattle.mx_link.specs.Origins.{goal_of, origins_at, origins_of};
+ghost use Rattle.mx_link.specs.Origins.{goal_of, origins_at, origins_of, as_wanted};
 ghost use Rattle.mx_link.specs.Words.{code_of};
 ghost use Rattle.mx_link.specs.Parts.{filling_of, site, sites_of, link_in, IsLaidOut, EachInst, HasWords, HaveRegisters, site_words};
 
@@ -13,16 +13,18 @@ use mx_code::encode;
 use mx_isa::Inst;
 use mx_layout::Layout;
 use mx_source::{Source, Statement};
-use mx_squash::{Copied, copies};
+use mx_squash::{Copied, copies, copies_asked};
 use std::alloc::{AllocError, Global};
 
 /// What goes into slots that hold no-ops.
 #[derive(Clone, Copy)]
-pub(crate) enum Slots {
+pub(crate) enum Slots<'a> {
     /// The first words of the target.
     FromTarget,
     /// They are kept as they are.
     Kept,
+    /// So many of the first words of the target as are wanted for the block that begins at each statement.
+    Wanted(&'a [u8]),
 }
 
 /// Code words, and where each comes from.
@@ -85,7 +87,7 @@ fn copied_at(layout: &Layout, k: usize, slots: Slots) -> Copied
     requires blocks { AreOfOneSource layout.now.blocks.items }
     requires few { length layout.now.blocks.items ≤ MAX_STATEMENTS }
     ensures { (s : Site) → slice_get (sites_of layout.now) k ≡ Some s
-        → result ≡ filling_of slots (sites_of layout.now) s }
+        → result ≡ filling_of slots.entry (sites_of layout.now) s }
 {
     match slots {
         Slots::FromTarget => copies(
@@ -95,6 +97,41 @@ fn copied_at(layout: &Layout, k: usize, slots: Slots) -> Copied
             k as u32,
         ),
         Slots::Kept => no_copies(),
+        Slots::Wanted(counts) => wanted_at(layout, k, counts),
+    }
+}
+
+/// As many words as are wanted for block `k`, or none where a rule forbids so many.
+fn wanted_at(layout: &Layout, k: usize, counts: &[u8]) -> Copied
+    requires within { k < length layout.now.blocks.items }
+    requires plans { length layout.now.plans.items ≡ length layout.now.blocks.items }
+    requires starts { length layout.now.starts.items ≡ length layout.now.blocks.items }
+    requires blocks { AreOfOneSource layout.now.blocks.items }
+    requires few { length layout.now.blocks.items ≤ MAX_STATEMENTS }
+    ensures { (s : Site) → slice_get (sites_of layout.now) k ≡ Some s
+        → result ≡ as_wanted counts.now (sites_of layout.now) s }
+{
+    let count = wanted_for(counts, layout.blocks[k].first);
+    let asked = copies_asked(
+        layout.blocks.as_slice(),
+        layout.plans.as_slice(),
+        layout.starts.as_slice(),
+        k as u32,
+        count,
+    );
+    match asked {
+        Ok(copied) => copied,
+        Err(_) => no_copies(),
+    }
+}
+
+/// How many words are wanted for the block that begins at a statement.
+fn wanted_for(counts: &[u8], first: u32) -> u8
+    ensures { result ≡ slice_index_or counts.now first 0 }
+{
+    match counts.get(first as usize) {
+        Some(count) => *count,
+        None => 0,
     }
 }
 
@@ -107,9 +144,9 @@ pub(crate) fn code_of(
 ) -> Result<Code, AllocError>
     requires { IsLaidOut source.now layout.now }
     ensures words { IfOk result (λ code. code.words.items
-        ≡ code_of (filling_of slots) (link_in layout.now) source.now.statements (sites_of layout.now)) }
+        ≡ code_of (filling_of slots.entry) (link_in layout.now) source.now.statements (sites_of layout.now)) }
     ensures origin { IfOk result (λ code. code.origin.items
-        ≡ origins_of (filling_of slots) (sites_of layout.now)) }
+        ≡ origins_of (filling_of slots.entry) (sites_of layout.now)) }
     ensures registers { OnOk result (HaveRegisters source.now.statements) }
 {
     let statements = source.statements();

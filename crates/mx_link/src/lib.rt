@@ -2,11 +2,13 @@
 #![tactic(auto)]
 
 mod code;
+mod imaging;
 mod inst;
 mod linked;
 mod linking;
 mod origin;
 
+pub use imaging::{image_wanted, laid_out};
 pub use linked::{Linked, Origin};
-pub use linking::{link, link_plain};
+pub use linking::{link, link_plain, link_wanted};
 pub use mx_layout::LinkError;

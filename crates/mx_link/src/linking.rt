@@ -4,7 +4,7 @@ ghost use Rattle.mx_isa.specs.declared.board.TheConstants.{LAST_ADDRESS, MAX_COD
 ghost use Rattle.mx_source.specs.Statements.{ValueFits};
 ghost use Rattle.mx_source.specs.SourceValue.{IsSource};
 ghost use Rattle.mx_layout.specs.Overlong.{IsRefusal};
-ghost use Rattle.mx_link.specs.Origins.{from_target, from_nowhere, origins_of, copies_in};
+ghost use Rattle.mx_link.specs.Origins.{from_target, from_nowhere, as_wanted, origins_of, copies_in};
 ghost use Rattle.mx_link.specs.Words.{code_of, words_of, value_word};
 ghost use Rattle.mx_code.specs.NoOps.{noops_in};
 ghost use Rattle.mx_link.specs.Parts.{filling_of, sites_of, link_in, IsLaidOut, HaveRegisters};
@@ -60,6 +60,27 @@ pub fn link_plain<P: Proposer>(
     link_with(alloc, source, place, proposer, Slots::Kept)
 }
 
+/// Links a source at a place as `link` does, but with so many copies as are wanted for the block that begins at each
+/// statement, and none where a rule forbids so many (`copies_asked`). A list that is too short wants none.
+///
+/// # Errors
+///
+/// Those of `link`.
+pub fn link_wanted<P: Proposer>(
+    alloc: Global,
+    source: &Source,
+    place: Place,
+    proposer: &mut P,
+    wanted: &[u8],
+) -> Result<Linked, LinkError>
+    requires { place.code + 3 * length source.now.statements ≤ LAST_ADDRESS }
+    ensures linked { IfOk result (IsLinked P.proposes (as_wanted wanted.now) source.now place) }
+    ensures registers { OnOk result (HaveRegisters source.now.statements) }
+    ensures refused { IfErr result (IsRefusal P.proposes source.now place) }
+{
+    link_with(alloc, source, place, proposer, Slots::Wanted(wanted))
+}
+
 /// Links a source at a place, with these words in slots that hold no-ops.
 fn link_with<P: Proposer>(
     alloc: Global,
@@ -69,7 +90,7 @@ fn link_with<P: Proposer>(
     slots: Slots,
 ) -> Result<Linked, LinkError>
     requires { place.code + 3 * length source.now.statements ≤ LAST_ADDRESS }
-    ensures linked { IfOk result (IsLinked P.proposes (filling_of slots) source.now place) }
+    ensures linked { IfOk result (IsLinked P.proposes (filling_of slots.entry) source.now place) }
     ensures registers { OnOk result (HaveRegisters source.now.statements) }
     ensures refused { IfErr result (IsRefusal P.proposes source.now place) }
 {
@@ -88,12 +109,12 @@ fn linked(
     ensures source { IsSource source.now }
     ensures registers { OnOk result (HaveRegisters source.now.statements) }
     ensures code { IfOk result (λ l. l.image.code.items
-        ≡ code_of (filling_of slots) (link_in layout) source.now.statements (sites_of layout)) }
+        ≡ code_of (filling_of slots.entry) (link_in layout) source.now.statements (sites_of layout)) }
     ensures user_data { IfOk result (λ l. l.image.user_data.items
         ≡ words_of (link_in layout) source.now.user_data) }
     ensures links { IfOk result (λ l. l.links ≡ layout.links) }
     ensures origin { IfOk result (λ l. l.origin.items
-        ≡ origins_of (filling_of slots) (sites_of layout)) }
+        ≡ origins_of (filling_of slots.entry) (sites_of layout)) }
     ensures proposals { IfOk result (λ l. l.proposals ≡ layout.proposals) }
     ensures noops { IfOk result (λ l. l.noops ≡ noops_in l.image.code.items) }
     ensures copies { IfOk result (λ l. l.copies ≡ copies_in l.origin.items) }
@@ -139,7 +160,11 @@ fn value_word(links: &[u32], value: Value) -> u32
 }
 
 /// The words of values.
-fn words_of(alloc: Global, links: &[u32], values: &[Value]) -> Result<Vec<u32>, AllocError>
+pub(crate) fn words_of(
+    alloc: Global,
+    links: &[u32],
+    values: &[Value],
+) -> Result<Vec<u32>, AllocError>
     requires { All (ValueFits (λ i. i < length links.now)) values.now }
     ensures { IfOk result (λ words. words.items ≡ words_of (slice_index links.now) values.now) }
 {

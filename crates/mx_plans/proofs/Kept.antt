@@ -12,7 +12,9 @@ use Rattle.mx_layout.specs.declared.LinkError.TheVariants.{Displacement, Memory}
 use Rattle.mx_layout.specs.Overlong.{Overlong, IsOverlong, IsRefusal}
 use Rattle.mx_link.specs.declared.linked.Linked.{Linked}
 use Rattle.mx_link.specs.Origins.{Filling}
+use Rattle.mx_layout.specs.declared.Layout.{Layout}
 use Rattle.mx_link.specs.Linked.{IsLinked}
+use Rattle.mx_link.specs.Parts.{sites_of}
 
 module _ (P Q : Block → Plan → Type 0) (follows : (block : Block) (plan : Plan) → P block plan → Q block plan) where
   kept_follows : (n : ℕ) (sites : List Site) (proposals : List Plan) → AreKept P n sites proposals → AreKept Q n sites proposals
@@ -61,7 +63,12 @@ module _ (P Q : Block → Plan → Type 0) (follows : (block : Block) (plan : Pl
   if_linked filling source place (Ok l) h = linked_follows filling source place l h
   if_linked filling source place (Err e) h = tt
 
-  pub if_refused : (source : SourceValue) (place : Place) (r : Result Linked LinkError) → IfErr r (IsRefusal P source place)
+  pub if_refused : {A : Type 0} (source : SourceValue) (place : Place) (r : Result A LinkError) → IfErr r (IsRefusal P source place)
       → IfErr r (IsRefusal Q source place)
   if_refused source place (Ok l) h = tt
   if_refused source place (Err e) h = refusal_follows source place e h
+
+  pub if_kept : (r : Result Layout LinkError) → IfOk r (λ l. AreKept P l.rejected (sites_of l) l.proposals.items)
+      → IfOk r (λ l. AreKept Q l.rejected (sites_of l) l.proposals.items)
+  if_kept (Ok l) h = kept_follows l.rejected (sites_of l) l.proposals.items h
+  if_kept (Err e) h = tt

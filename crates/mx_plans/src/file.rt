@@ -102,6 +102,15 @@ fn line_marks(line: &[u8]) -> Result<ArrayVec<Mark, 131>, PlanFault>
     }
 }
 
+/// The words of one line, or its first fault.
+pub fn read_marks(line: &[u8]) -> Result<PlanLine, PlanFault>
+    ensures read { IfOk result (λ l. line_marks line.now ≡ Ok l.marks.items) }
+    ensures fault { IfErr result (λ fault. line_marks line.now ≡ Err fault) }
+{
+    let marks = line_marks(line)?;
+    Ok(PlanLine { marks })
+}
+
 /// What a line says, with a block for it or not, or its first fault.
 fn line_said(is_there: bool, line: &[u8]) -> Result<PlanLine, PlanFault>
     ensures read { IfOk result (λ l. line_said is_there line.now ≡ Ok l.marks.items) }

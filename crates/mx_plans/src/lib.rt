@@ -10,9 +10,10 @@ mod printing;
 mod proposer;
 mod rule;
 
-pub use file::{PlanError, PlanLine, read_plans};
+pub use file::{PlanError, PlanFault, PlanLine, read_marks, read_plans};
 pub use laws::{greedy_plan_is_printed, rules_are_of_valid_plans};
-pub use linking::link_planned;
+pub use linking::{lay_planned, link_planned};
 pub use mark::Mark;
-pub use printing::print_plans;
+pub use pieces::first_piece;
+pub use printing::{print_plans, push_plan};
 pub use rule::{Rule, first_broken_rule};

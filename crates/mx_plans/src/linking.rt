@@ -1,9 +1,11 @@
 //! Linking by the plans of a file.
 ghost use Rattle.std.specs.Prelude.{◌≡◌, ◌≤◌, ◌+◌, ◌*◌, IfOk, IfErr, OnOk, length, map};
 ghost use Rattle.mx_blocks.specs.declared.Block.{Block};
+ghost use Rattle.mx_layout.specs.Kept.{AreKept};
 ghost use Rattle.mx_layout.specs.Overlong.{IsRefusal};
 ghost use Rattle.mx_link.specs.Origins.{from_target};
-ghost use Rattle.mx_link.specs.Parts.{HaveRegisters};
+ghost use Rattle.mx_link.specs.Parts.{HaveRegisters, sites_of};
+ghost use Rattle.mx_link.specs.Laid.{IsLaidAt};
 ghost use Rattle.mx_link.specs.Linked.{IsLinked};
 ghost use Rattle.mx_plans.specs.Files.{marks_of_lines};
 ghost use Rattle.mx_plans.specs.Says.{Proposes, IsProposed, number_below, line_at};
@@ -12,7 +14,8 @@ use crate::file::PlanLine;
 use crate::proposer::{FileProposer, Lines};
 use mx_blocks::{Block, blocks};
 use mx_isa::Place;
-use mx_link::{LinkError, Linked, link};
+use mx_layout::Layout;
+use mx_link::{LinkError, Linked, laid_out, link};
 use mx_source::Source;
 use std::alloc::{AllocError, Global};
 use std::marker::{Brand, PhantomData};
@@ -69,4 +72,47 @@ pub fn link_planned(
     let blocks = blocks(alloc, source)?;
     let firsts = firsts_of(alloc, blocks.as_slice())?;
     link_by::<Brand>(alloc, source, place, firsts.as_slice(), lines)
+}
+
+/// Lays out a source at a place by the plans that are proposed.
+fn lay_by<L: Lines>(
+    alloc: Global,
+    source: &Source,
+    place: Place,
+    firsts: &[u32],
+    lines: &[PlanLine],
+) -> Result<Layout, LinkError>
+    requires room { place.code + 3 * length source.now.statements ≤ 65535 }
+    requires tells { (block : Block) → line_at (marks_of_lines lines.now) (number_below firsts.now block.first) ≡ L.marks block }
+    ensures laid { IfOk result (IsLaidAt source.now place) }
+    ensures kept { IfOk result (λ l. AreKept (λ block plan. Proposes (L.marks block) block plan) l.rejected (sites_of l) l.proposals.items) }
+    ensures refused { IfErr result (IsRefusal (λ block plan. Proposes (L.marks block) block plan) source.now place) }
+{
+    let mut proposer: FileProposer<L> = FileProposer {
+        firsts,
+        lines,
+        of: PhantomData,
+    };
+    laid_out(alloc, source, place, &mut proposer)
+}
+
+/// Lays out a source at a place as `link_planned` does.
+///
+/// # Errors
+///
+/// Those of `link`.
+pub fn lay_planned(
+    alloc: Global,
+    source: &Source,
+    place: Place,
+    lines: &[PlanLine],
+) -> Result<Layout, LinkError>
+    requires { place.code + 3 * length source.now.statements ≤ 65535 }
+    ensures laid { IfOk result (IsLaidAt source.now place) }
+    ensures kept { IfOk result (λ l. AreKept (IsProposed source.now (marks_of_lines lines.now)) l.rejected (sites_of l) l.proposals.items) }
+    ensures refused { IfErr result (IsRefusal (IsProposed source.now (marks_of_lines lines.now)) source.now place) }
+{
+    let blocks = blocks(alloc, source)?;
+    let firsts = firsts_of(alloc, blocks.as_slice())?;
+    lay_by::<Brand>(alloc, source, place, firsts.as_slice(), lines)
 }

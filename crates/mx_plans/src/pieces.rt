@@ -12,7 +12,7 @@ fn gap(line: &[u8]) -> Option<usize>
 }
 
 /// The bytes before the first gap, and those behind it, if there is one.
-pub(crate) fn first_piece(line: &[u8]) -> (&[u8], Option<&[u8]>)
+pub fn first_piece(line: &[u8]) -> (&[u8], Option<&[u8]>)
     ensures last { IfNone result.1 (pieces_in line.now ≡ result.0.now ∷ []) }
     ensures more { IfSome result.1 (λ rest. pieces_in line.now ≡ result.0.now ∷ pieces_in rest.now) }
     ensures shorter { IfSome result.1 (λ rest. length rest.now < length line.now) }

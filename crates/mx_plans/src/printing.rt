@@ -62,7 +62,7 @@ fn has_terminator(end: End) -> bool
 }
 
 /// Appends the words of a plan of the block.
-fn push_plan(
+pub fn push_plan(
     alloc: Global,
     text: &mut Vec<u8>,
     block: &Block,

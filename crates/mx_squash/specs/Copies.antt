@@ -126,14 +126,18 @@ item_at plan k = slice_index_or plan.items.items k Nop
 abbrev pub no_copies : Copied
 no_copies = record { from = Nop ∷ Nop ∷ []; count = 0; squash = false }
 
+-- so many words of a target's plan, copied into the slots of a block's; a branch that may not go then squashes
+abbrev pub copied_words : ℕ → Block → Plan → Plan → Copied
+copied_words n block plan goal_plan = record {
+  from = filled (room block plan) n (item_at goal_plan 0) (item_at goal_plan 1);
+  count = n;
+  squash = ltb 0 n && may_stay block;
+}
+
 -- the copies of a transfer to this target; a target past the last statement has no words
 abbrev pub copied : Site → Option Site → Copied
 copied site None = no_copies
-copied site (Some goal) = record {
-  from = filled (room site.block site.plan) (count site goal) (item_at goal.plan 0) (item_at goal.plan 1);
-  count = count site goal;
-  squash = ltb 0 (count site goal) && may_stay site.block;
-}
+copied site (Some goal) = copied_words (count site goal) site.block site.plan goal.plan
 
 -- the copies of the block at a site among all
 abbrev pub copies_at : List Site → Option Site → Copied

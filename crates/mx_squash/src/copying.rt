@@ -2,7 +2,7 @@
 ghost use Rattle.std.specs.Prelude.{◌≡◌, ◌<◌, ◌≤◌, ◌^◌, length, slice_get, Some, if◌then◌else◌};
 ghost use Rattle.std.specs.Option.{option_copied};
 ghost use Rattle.mx_squash.specs.Ordered.{AreOfOneSource};
-ghost use Rattle.mx_squash.specs.Copies.{copies_at, sites, site_of, is_target, copied, copyable, may_copy, item_at, may_stay, always_goes, terminator, room_for, room, is_nop, slot, reaches, item_inst, is_hazard, filled, is_branch_end};
+ghost use Rattle.mx_squash.specs.Copies.{copies_at, sites, site_of, is_target, copied, copied_words, no_copies, copyable, may_copy, item_at, may_stay, always_goes, terminator, room_for, room, is_nop, slot, reaches, item_inst, is_hazard, filled, is_branch_end};
 
 use crate::search::target_of;
 use mx_blocks::{Block, End, Item, Plan};
@@ -67,11 +67,7 @@ fn copies_of(
             &plans[goal],
             starts[goal],
         ),
-        None => Copied {
-            from: [Item::Nop, Item::Nop],
-            count: 0,
-            squash: false,
-        },
+        None => no_copies(),
     }
 }
 
@@ -93,11 +89,33 @@ fn copies_between(
     let to = u64::from(goal_start) + u64::from(most);
     let too_far = is_branch(block.end) && !reaches(from, to);
     let fed = free == 1 && is_hazard(block, plan, goal, goal_plan);
-    let count = unless(too_far || fed, most);
+    copied_words(block, plan, goal_plan, unless(too_far || fed, most))
+}
+
+/// The copies of so many words of a target's plan into the slots of a block's.
+pub(crate) fn copied_words(block: &Block, plan: &Plan, goal_plan: &Plan, count: u8) -> Copied
+    ensures { result ≡ copied_words count block.now plan.now goal_plan.now }
+{
     Copied {
-        from: filled(free, count, item_at(goal_plan, 0), item_at(goal_plan, 1)),
+        from: filled(
+            room(block, plan),
+            count,
+            item_at(goal_plan, 0),
+            item_at(goal_plan, 1),
+        ),
         count,
         squash: count > 0 && may_stay(block),
+    }
+}
+
+/// No word is copied.
+pub(crate) fn no_copies() -> Copied
+    ensures { result ≡ no_copies }
+{
+    Copied {
+        from: [Item::Nop, Item::Nop],
+        count: 0,
+        squash: false,
     }
 }
 
@@ -109,14 +127,14 @@ fn unless(test: bool, n: u8) -> u8
 }
 
 /// How many words fit into the slots of a block's plan.
-fn room(block: &Block, plan: &Plan) -> u8
+pub(crate) fn room(block: &Block, plan: &Plan) -> u8
     ensures { result ≡ room block.now plan.now }
 {
     room_for(block.end, may_stay(block), is_nop(plan, 1), is_nop(plan, 2))
 }
 
 /// Whether slot 1 is a load of a register that the target's first word reads.
-fn is_hazard(block: &Block, plan: &Plan, goal: &Block, goal_plan: &Plan) -> bool
+pub(crate) fn is_hazard(block: &Block, plan: &Plan, goal: &Block, goal_plan: &Plan) -> bool
     ensures { result ≡ is_hazard block.now plan.now goal.now goal_plan.now }
 {
     match (
@@ -139,7 +157,7 @@ fn slot_inst<'a>(block: &'a Block, plan: &Plan, place: usize) -> Option<&'a Inst
 }
 
 /// How many words may be copied from the front of a plan.
-fn copyable(plan: &Plan) -> u8
+pub(crate) fn copyable(plan: &Plan) -> u8
     ensures { result ≡ copyable plan.now }
 {
     if !may_copy(plan, 0) {
@@ -178,7 +196,7 @@ fn item_at(plan: &Plan, k: usize) -> Item
     }
 }
 
-fn is_branch(end: End) -> bool
+pub(crate) fn is_branch(end: End) -> bool
     ensures { result ≡ is_branch_end end }
 {
     matches!(end, End::Branches { .. })

@@ -38,25 +38,30 @@ impl Ended {
         Ok(text)
     }
 
-    /// What was said: what was printed, or what went to standard error.
-    pub fn said(&self) -> &[u8] {
-        if self.errors.is_empty() {
-            self.output.written()
-        } else {
-            self.errors.as_slice()
-        }
+    /// What was said: what was printed, and what went to standard error behind it.
+    pub fn said(&self, alloc: Global) -> Result<Vec<u8>> {
+        let mut said = Vec::new(alloc);
+        said.extend_from_slice(self.output.written())?;
+        said.extend_from_slice(self.errors.as_slice())?;
+        Ok(said)
     }
+}
+
+// The stored files that the words of a line name, also behind a `=`.
+fn named_shelf(rt: &HostRuntime, line: &str) -> Result<MemoryShelf> {
+    let names = line.replace(rt.alloc(), "=", " ")?;
+    stored_shelf(rt, &names)
 }
 
 /// Runs the command that the words of a line ask for, over the stored files that they name.
 pub fn run(rt: &HostRuntime, line: &str) -> Result<Ended> {
-    let mut shelf = stored_shelf(rt, line)?;
+    let mut shelf = named_shelf(rt, line)?;
     run_over(rt.alloc(), line, &mut shelf)
 }
 
 /// The same, where a file of this name holds these bytes.
 pub fn run_with(rt: &HostRuntime, line: &str, name: &str, bytes: &[u8]) -> Result<Ended> {
-    let mut shelf = stored_shelf(rt, line)?;
+    let mut shelf = named_shelf(rt, line)?;
     shelf.add(name, bytes)?;
     run_over(rt.alloc(), line, &mut shelf)
 }

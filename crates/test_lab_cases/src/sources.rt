@@ -27,7 +27,8 @@ fn on_one_line(alloc: Global, text: &str) -> Result<String> {
 // How a command ended and all that was said, on one line.
 fn told_on_one_line(alloc: Global, ended: &Ended) -> Result<String> {
     let status = ended.told(alloc)?;
-    let said = on_one_line(alloc, str::from_utf8(ended.said())?)?;
+    let said = ended.said(alloc)?;
+    let said = on_one_line(alloc, str::from_utf8(said.as_slice())?)?;
     Ok(format!(in alloc; "{status} {said}")?)
 }
 

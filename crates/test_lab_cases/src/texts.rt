@@ -14,7 +14,8 @@ pub fn whole(rt: &HostRuntime, line: &str) -> Result<String> {
 // How a command ends, and what differs.
 fn outcome(rt: &HostRuntime, name: &str, words: &str) -> Result<(String, &'static str)> {
     let ended = run(rt, words)?;
-    let note = note_on(rt, name, ended.said())?;
+    let said = ended.said(rt.alloc())?;
+    let note = note_on(rt, name, said.as_slice())?;
     Ok((ended.told(rt.alloc())?, note))
 }
 

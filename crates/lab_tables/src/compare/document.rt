@@ -1,15 +1,16 @@
 //! Comparisons as JSON.
 use super::schedulers::{SCHEDULERS, figures_at};
-use super::several::{Compared, Sums, sums_of};
+use super::several::{Column, Compared, Sums, sums_of};
 use lab_json::{Document, Value};
 use lab_measures::{Comparison, Figures};
 use lab_terms::{Slots, TransferSlots};
 use mx_io::Memory;
 use std::alloc::Global;
 
-// How many words there are, and how many of them are the no-op or copies.
-fn words_of(figures: &Figures) -> [(&'static str, u64); 3] {
+// How many plans are rejected, how many words there are, and how many of them are the no-op or copies.
+fn words_of(figures: &Figures) -> [(&'static str, u64); 4] {
     [
+        ("rejected", u64::from(figures.rejected)),
         ("words", figures.words as u64),
         ("noops", u64::from(figures.noops)),
         ("copies", u64::from(figures.copies)),
@@ -44,7 +45,7 @@ fn run_of(figures: &Figures) -> [(&'static str, u64); 3] {
     ]
 }
 
-// Writes the figures of a scheduler.
+// Writes the figures of plans.
 fn write_figures(document: &mut Document, plans: &str, figures: &Figures) {
     document.begin_object();
     document.push_member("plans", Value::Text(plans));
@@ -56,12 +57,15 @@ fn write_figures(document: &mut Document, plans: &str, figures: &Figures) {
     document.end_object();
 }
 
-// Writes the four schedulers.
-fn write_schedulers(document: &mut Document, comparison: &Comparison) {
+// Writes the four schedulers, and the plans from files.
+fn write_schedulers(document: &mut Document, comparison: &Comparison, columns: &[Column]) {
     document.push_key("schedulers");
     document.begin_list();
     for at in 0..SCHEDULERS.len() {
         write_figures(document, SCHEDULERS[at], figures_at(comparison, at));
+    }
+    for column in columns {
+        write_figures(document, column.name, &column.figures);
     }
     document.end_list();
 }
@@ -73,7 +77,7 @@ fn write_sources(document: &mut Document, compared: &[Compared]) {
     for one in compared {
         document.begin_object();
         document.push_member("source", Value::Text(one.source));
-        write_schedulers(document, &one.comparison);
+        write_schedulers(document, &one.comparison, &[]);
         document.end_object();
     }
     document.end_list();
@@ -87,7 +91,7 @@ fn write_sums(document: &mut Document, all: &Sums) {
         ("sources", all.sources as u64),
         ("halted", all.halted as u64),
     ]);
-    write_schedulers(document, &all.figures);
+    write_schedulers(document, &all.figures, &[]);
     document.end_object();
 }
 
@@ -99,15 +103,15 @@ fn document_of(alloc: Global) -> Document {
     document
 }
 
-/// A comparison as JSON, with the name of its source.
+/// A comparison as JSON, with the name of its source, and plans from files.
 pub fn comparison_json(
     alloc: Global,
-    source: &str,
-    comparison: &Comparison,
+    one: &Compared,
+    columns: &[Column],
 ) -> Result<Vec<u8>, Memory> {
     let mut document = document_of(alloc);
-    document.push_member("source", Value::Text(source));
-    write_schedulers(&mut document, comparison);
+    document.push_member("source", Value::Text(one.source));
+    write_schedulers(&mut document, &one.comparison, columns);
     document.end_object();
     document.into_bytes()
 }

@@ -1,6 +1,6 @@
 //! Comparisons as CSV.
 use super::schedulers::{SCHEDULERS, figures_at};
-use super::several::Compared;
+use super::several::{Column, Compared};
 use super::table::{Cell, column_of};
 use crate::rows::Rows;
 use lab_measures::Figures;
@@ -8,7 +8,7 @@ use mx_io::Memory;
 use std::alloc::Global;
 
 /// The names of the columns.
-static COLUMNS: [&str; 15] = [
+static COLUMNS: [&str; 16] = [
     "source",
     "plans",
     "words",
@@ -24,6 +24,7 @@ static COLUMNS: [&str; 15] = [
     "cycles",
     "misses",
     "squashes",
+    "rejected",
 ];
 
 // The number of a cell, if there is one.
@@ -34,22 +35,38 @@ fn number_in(cell: Cell) -> Option<i128> {
     }
 }
 
-// Appends the numbers of a scheduler. The cycles of a run that has not halted are left empty.
-fn push_figures(rows: &mut Rows, figures: &Figures) {
+// Appends the row of plans of a source. The cycles of a run that has not halted are left empty.
+fn push_figures(rows: &mut Rows, source: &str, plans: &str, figures: &Figures) {
+    rows.push_name(source);
+    rows.push_name(plans);
     let column = column_of(figures, figures);
     for cell in column.iter() {
         rows.push_numbers(&[number_in(*cell)]);
     }
+    rows.end();
 }
 
 // Appends a row for each scheduler of a source.
 fn push_source(rows: &mut Rows, one: &Compared) {
     for at in 0..SCHEDULERS.len() {
-        rows.push_name(one.source);
-        rows.push_name(SCHEDULERS[at]);
-        push_figures(rows, figures_at(&one.comparison, at));
-        rows.end();
+        let figures = figures_at(&one.comparison, at);
+        push_figures(rows, one.source, SCHEDULERS[at], figures);
     }
+}
+
+/// A comparison as CSV: a row of names, and a row for each scheduler and for the plans of each file.
+pub fn comparison_csv(
+    alloc: Global,
+    one: &Compared,
+    columns: &[Column],
+) -> Result<Vec<u8>, Memory> {
+    let mut rows = Rows::new(alloc);
+    rows.push_names(&COLUMNS);
+    push_source(&mut rows, one);
+    for column in columns {
+        push_figures(&mut rows, one.source, column.name, &column.figures);
+    }
+    rows.into_bytes()
 }
 
 /// Comparisons as CSV: a row of names, and a row for each source and scheduler.

@@ -1,4 +1,4 @@
-//! Several sources, and what they come to together.
+//! Several sources, and what they come to together; plans from files beside the four schedulers.
 use lab_measures::{Comparison, Figures};
 use lab_terms::{Slots, TransferSlots};
 
@@ -7,6 +7,14 @@ use lab_terms::{Slots, TransferSlots};
 pub struct Compared<'a> {
     pub source: &'a str,
     pub comparison: Comparison,
+}
+
+/// The figures of plans from a file, by the name that they were given, and a line for each of them that is rejected.
+#[derive(Clone, Copy)]
+pub struct Column<'n, 'r> {
+    pub name: &'n str,
+    pub figures: Figures,
+    pub rejections: &'r [u8],
 }
 
 /// What several sources come to together.
@@ -24,6 +32,7 @@ const NOTHING: Figures = Figures {
     words: 0,
     noops: 0,
     copies: 0,
+    rejected: 0,
     transfers: TransferSlots {
         before: 0,
         target_squashed: 0,
@@ -66,6 +75,7 @@ fn figures_with(sum: &Figures, other: &Figures, runs: bool) -> Figures {
         words: sum.words.saturating_add(other.words),
         noops: sum.noops.saturating_add(other.noops),
         copies: sum.copies.saturating_add(other.copies),
+        rejected: sum.rejected.saturating_add(other.rejected),
         transfers: slots_with(sum.transfers, other.transfers),
         loads: Slots {
             filled: sum.loads.filled.saturating_add(other.loads.filled),

@@ -1,14 +1,17 @@
 //! A comparison as a table.
+use super::schedulers::{SCHEDULERS, figures_at};
+use super::several::Column;
 use lab_measures::{Comparison, Figures};
 use lab_writer::{Ratio, Writer};
 use std::alloc::{AllocError, Global};
 
-/// The head of the table. A column has a number, and its part in per cent.
-const HEAD: &str =
-    "                                padded             list           copies             best\n";
+/// How wide the column of names is, and each other one: a number, and its part in per cent.
+const NAMES: usize = 21;
+
+const COLUMN: usize = 17;
 
 /// What the rows are named by, in a column of its own.
-static ROWS: [&str; 13] = [
+static ROWS: [&str; 14] = [
     "words                ",
     "  no-ops             ",
     "  copies             ",
@@ -22,6 +25,7 @@ static ROWS: [&str; 13] = [
     "cycles               ",
     "  misses             ",
     "  squashes           ",
+    "rejected plans       ",
 ];
 
 /// A number and the whole that it is a part of, 0 where it has none; nothing where there is no number.
@@ -36,8 +40,8 @@ pub(crate) fn cycles_of(figures: &Figures, padded: &Figures) -> Cell {
     }
 }
 
-/// The cells of a scheduler, beside the padded plans.
-pub(crate) fn column_of(figures: &Figures, padded: &Figures) -> [Cell; 13] {
+/// The cells of plans, beside the padded ones.
+pub(crate) fn column_of(figures: &Figures, padded: &Figures) -> [Cell; 14] {
     let (words, slots, loads) = (figures.words as u64, figures.transfers, figures.loads);
     let all = slots.all() as u64;
     [
@@ -54,6 +58,7 @@ pub(crate) fn column_of(figures: &Figures, padded: &Figures) -> [Cell; 13] {
         cycles_of(figures, padded),
         Some((figures.misses, 0)),
         Some((figures.squashes, 0)),
+        Some((figures.rejected as u64, 0)),
     ]
 }
 
@@ -74,7 +79,7 @@ pub(crate) fn push_cells(table: &mut Writer, cells: &[Cell]) {
     }
 }
 
-// The cell of a scheduler in a row.
+// The cell of plans in a row.
 fn cell_at(figures: &Figures, padded: &Figures, row: usize) -> Cell {
     match column_of(figures, padded).get(row) {
         Some(cell) => *cell,
@@ -82,26 +87,72 @@ fn cell_at(figures: &Figures, padded: &Figures, row: usize) -> Cell {
     }
 }
 
-// The cells of a row.
-fn cells_at(comparison: &Comparison, row: usize) -> [Cell; 4] {
+// Appends the cells of a row.
+fn push_row(table: &mut Writer, comparison: &Comparison, columns: &[Column], row: usize) {
     let padded = &comparison.padded;
-    [
-        cell_at(padded, padded, row),
-        cell_at(&comparison.list, padded, row),
-        cell_at(&comparison.copies, padded, row),
-        cell_at(&comparison.best, padded, row),
-    ]
+    for at in 0..SCHEDULERS.len() {
+        push_cells(table, &[cell_at(figures_at(comparison, at), padded, row)]);
+    }
+    for column in columns {
+        push_cells(table, &[cell_at(&column.figures, padded, row)]);
+    }
+    table.end_line();
+}
+
+// Appends a name at the right of a column.
+fn push_name(table: &mut Writer, name: &str) {
+    table.push_blanks(COLUMN.saturating_sub(name.len()));
+    table.push_str(name);
+}
+
+// Appends the head of the table.
+fn push_head(table: &mut Writer, columns: &[Column]) {
+    table.push_blanks(NAMES);
+    for name in &SCHEDULERS {
+        push_name(table, *name);
+    }
+    for column in columns {
+        push_name(table, column.name);
+    }
+    table.end_line();
+}
+
+// How many rows there are: that of the rejected plans only beside plans from files.
+fn rows_of(columns: &[Column]) -> usize {
+    if columns.is_empty() {
+        ROWS.len() - 1
+    } else {
+        ROWS.len()
+    }
+}
+
+// Appends a line for each rejected plan of a file, behind its name.
+fn push_rejections(table: &mut Writer, column: &Column) {
+    let [lines @ .., b'\n'] = column.rejections else {
+        return;
+    };
+    for line in lines.split(|byte| *byte == b'\n') {
+        table.push_parts(&[column.name, ": "]);
+        table.push_bytes(line);
+        table.push('\n');
+    }
 }
 
 /// A comparison as a table: code words, no-ops, what stands in the slots, and the run. A run that does not halt within the
-/// budget has no cycles.
-pub fn comparison_text(alloc: Global, comparison: &Comparison) -> Result<Vec<u8>, AllocError> {
+/// budget has no cycles. Plans from files have columns behind those of the schedulers, and those that are rejected a line each.
+pub fn comparison_text(
+    alloc: Global,
+    comparison: &Comparison,
+    columns: &[Column],
+) -> Result<Vec<u8>, AllocError> {
     let mut table = Writer::new(alloc);
-    table.push_str(HEAD);
-    for (row, name) in ROWS.iter().enumerate() {
+    push_head(&mut table, columns);
+    for (row, name) in ROWS.iter().enumerate().take(rows_of(columns)) {
         table.push_str(*name);
-        push_cells(&mut table, &cells_at(comparison, row));
-        table.end_line();
+        push_row(&mut table, comparison, columns, row);
+    }
+    for column in columns {
+        push_rejections(&mut table, column);
     }
     table.into_bytes()
 }

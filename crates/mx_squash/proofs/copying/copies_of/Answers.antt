@@ -26,5 +26,6 @@ returns-in-Some c =
 
 pub returns-in-None : goal.returns-in-None
 returns-in-None c =
-    ap (copied (site c.args.block.now c.args.plan.now c.args.start))
+    c.no_copies.ensures
+    ∙ ap (copied (site c.args.block.now c.args.plan.now c.args.start))
     (sym (site_none (is_target c.args.block.now.end) c.args.blocks.now c.args.plans.now c.args.starts.now c.in-None.ensures.found))

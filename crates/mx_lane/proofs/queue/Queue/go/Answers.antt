@@ -1,44 +1,28 @@
-use Rattle.std.proofs.Common.{◌≡◌, ◌+◌, ◌-◌, ◌++◌, arith, append_assoc, sym, ap, ◌∙◌, subst}
+use Rattle.std.proofs.Common.{◌+◌, ◌-◌, arith, sym, subst}
 use Rattle.mx_turn.specs.Decoded.{code_in}
 use Rattle.mx_turn.specs.Cycle.{MachineState}
-use Rattle.mx_lane.specs.Lanes.{joined, quietly, later_bytes, InTurn}
-use Rattle.mx_lane.proofs.Turning.{quietly_more, bytes_more}
+use Rattle.mx_lane.specs.declared.queue.Queue.{Queue}
+use Rattle.mx_lane.specs.Lanes.{joined, quietly, InTurn, caught_up}
+use Rattle.mx_lane.proofs.Counting.{at_first}
 use Rattle.mx_lane.proofs.queue.Queue.go.Goals as goal
+use Rattle.mx_lane.proofs.queue.Queue.go.Goals.{After-settle}
+use Rattle.mx_lane.proofs.queue.Queue.go.Given as given
 
-pub loop-left-preserved : goal.loop-left-preserved
-loop-left-preserved g c = record {
-  within =
-      let few = c.in_ok-cycles.ensures.few in
-      let room = c.loop-left-test.true in
-      let before = c.loop-left.invariant.within in
-      omega (arith, few, room, before);
-  risen =
-      let few = c.in_ok-cycles.ensures.few in
-      let room = c.loop-left-test.true in
-      let now = c.in_ok-cycles.ensures.risen in
-      let before = c.loop-left.invariant.risen in
-      omega (arith, few, room, now, before);
-  input = c.in_ok-cycles.ensures.input ∙ c.loop-left.invariant.input;
-  known = c.in_ok-cycles.ensures.known;
-  turns = λ m h.
-      let code = code_in c.args.code.now in
-      let input = c.args.board.now.input in
-      let most = c.args.most in
-      let left = c.loop-left.left in
-      let n = c.in_ok-cycles.cycles in
-      let before = c.loop-left.invariant.turns m h in
-      let x : MachineState = quietly code input (most - left) m in
-      let same = c.loop-left.invariant.input in
-      let few = c.in_ok-cycles.ensures.few in
-      let room = c.loop-left-test.true in
-      let within = c.loop-left.invariant.within in
-      let more : (most - left) + n ≡ most - (left - n) = omega (arith, few, room, within) in (
-        subst (λ (y : MachineState). InTurn g.C.FetchCache.holds code y (joined c.turn.new.self c.turn.new.lane) c.turn.new.board c.turn.new.cache)
-            ((λ k. quietly code (same k) n x) ∙ sym (quietly_more code input (most - left) n m) ∙ ap (λ k. quietly code input k m) more)
-            (c.in_ok-cycles.ensures.next x before.0),
-        c.in_ok-cycles.ensures.console x before.0
-            ∙ (λ k. before.1 k ++ later_bytes code (same k) n x)
-            ∙ append_assoc c.args.console.now.items (later_bytes code input (most - left) m) (later_bytes code input n x)
-            ∙ ap (λ l. c.args.console.now.items ++ l) (sym (bytes_more code input (most - left) n m) ∙ ap (λ k. later_bytes code input k m) more),
-      );
-}
+-- at first every turn is counted
+begins : (g : given.Over) (c : After-settle g) (m : MachineState)
+    → InTurn g.C.FetchCache.holds (code_in c.args.code.now) m (joined c.args.self.now c.args.lane.now) c.args.board.now c.args.cache.now
+    → InTurn g.C.FetchCache.holds (code_in c.args.code.now) m (joined (caught_up c.args.most c.args.self.now) c.args.lane.now) c.args.board.now
+    c.args.cache.now
+begins g c m h =
+    subst (λ (q : Queue). InTurn g.C.FetchCache.holds (code_in c.args.code.now) m (joined q c.args.lane.now) c.args.board.now c.args.cache.now)
+    (sym (at_first c.args.self.now c.args.most c.requires.mark)) h
+
+pub returns-clause-next : goal.returns-clause-next
+returns-clause-next g c = λ m h.
+    subst (λ (q : Queue). InTurn g.C.FetchCache.holds (code_in c.args.code.now)
+    (quietly (code_in c.args.code.now) c.args.board.now.input (c.args.most - c.in_ok-left.left) m) (joined q c.turns.new.lane) c.turns.new.board
+    c.turns.new.cache)
+    (sym c.settle.ensures) (c.in_ok-left.ensures.next m (begins g c m h))
+
+pub returns-clause-console : goal.returns-clause-console
+returns-clause-console g c = λ m h. c.in_ok-left.ensures.console m (begins g c m h)

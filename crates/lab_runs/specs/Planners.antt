@@ -1,0 +1,33 @@
+-- Sources that are linked by a scheduler, or by the plans of a file.
+use Rattle.std.specs.Prelude.{◌≡◌}
+use Rattle.mx_layout.specs.Layout.{blocks_in}
+use Rattle.mx_plans.specs.Files.{marks_of_lines}
+use Rattle.mx_plans.specs.Says.{IsProposed}
+use Rattle.cmd_source.specs.declared.sources.Program.{Program}
+use Rattle.lab_plans.specs.Verdicts.{AreTold}
+use Rattle.lab_runs.specs.declared.planners.FilePlans.{FilePlans}
+use Rattle.lab_runs.specs.declared.planners.Planner.{Planner}
+use Rattle.lab_runs.specs.declared.planners.Planner.TheVariants.{Scheduler, File}
+use Rattle.lab_runs.specs.declared.planners.PlannedProgram.{PlannedProgram}
+use Rattle.lab_runs.specs.declared.schedulers.Scheduler.{Scheduler as Chosen}
+use Rattle.lab_runs.specs.Schedulers.{board, from_target, IsLinked, IsLinkedBy}
+
+-- the source is linked by what the lines of a file say, with copies, and there is a line for each plan that is not valid
+pub record IsLinkedByFile (plans : FilePlans) (p : Program) : Type 0 where
+  pub is : IsLinked (IsProposed p.source (marks_of_lines plans.lines.items)) from_target p.source board p.linked
+  pub told : AreTold p.source (blocks_in is.sites) p.linked.proposals.items plans.rejections.items
+
+-- the source is linked so
+abbrev pub IsLinkedAs : Planner → Program → Type 0
+IsLinkedAs (Scheduler s) p = IsLinkedBy s p
+IsLinkedAs (File plans) p = IsLinkedByFile plans p
+
+-- a scheduler is the one that was chosen; plans of a file are in its place
+abbrev pub IsInPlaceOf : Chosen → Planner → Type 0
+IsInPlaceOf chosen (Scheduler s) = s ≡ chosen
+IsInPlaceOf chosen (File plans) = Unit {0}
+
+-- a source that is linked as it says
+pub record IsPlanned (chosen : Chosen) (p : PlannedProgram) : Type 0 where
+  pub linked : IsLinkedAs p.by p.program
+  pub by : IsInPlaceOf chosen p.by
