@@ -252,7 +252,7 @@ class Grader:
         files["plans"] = self.submission
         status, output, errors = self.laboratory.answer(*words, files=files)
         rejected = []
-        while output.startswith(b"plan "):
+        while output.startswith((b"plan ", b"copies of plan ")):
             verdict, _, output = output.partition(b"\n")
             rejected.append(verdict.decode("ascii"))
         limits = exercise.records("limits")
@@ -280,10 +280,11 @@ class Grader:
         """Loses the points of valid plans where one is rejected, with the line of its block and the rule."""
         if not rejected:
             return Part("valid plans", of, of)
-        found = re.match(r"plan (\d+) \(line (\d+)\) rejected by (.*)", rejected[0])
+        found = re.match(r"(copies of )?plan (\d+) \(line (\d+)\) rejected by (.*)", rejected[0])
         if found is None:
             return lost("valid plans", of, rejected[0])
-        return lost("valid plans", of, f"the plan of the block in line {found[2]} is rejected by {found[3]}", int(found[1]))
+        what = "the copies of the block in line {} are" if found[1] else "the plan of the block in line {} is"
+        return lost("valid plans", of, f"{what.format(found[3])} rejected by {found[4]}", int(found[2]))
 
     # A submission that is a file of answers
 

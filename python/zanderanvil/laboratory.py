@@ -57,6 +57,7 @@ class Block:
 
 
 # The items of a plan in their order: the number of an instruction of the block, None for a no-op, "/" for the transfer or halt.
+# "+0", "+1" or "+2" among them chooses how many words of the target the slots copy; without other items the list scheduler plans.
 Plan = Sequence[Union[int, str, None]]
 # A scheduler gives a plan for a block, or None, which leaves the block to the list scheduler.
 Scheduler = Callable[[Block], Optional[Plan]]
@@ -64,7 +65,7 @@ Scheduler = Callable[[Block], Optional[Plan]]
 
 @dataclass
 class Planned:
-    """A run by a scheduler's plans, and a line for each plan that was rejected."""
+    """A run by a scheduler's plans, and a line for each plan that was rejected, and for copies that were."""
 
     run: Run
     rejected: list[str]
@@ -315,7 +316,7 @@ class Laboratory:
         files["plans"] = "".join(f"{line}\n" for line in lines).encode("ascii", "replace")
         status, output, errors = self.answer(*words, files=files)
         rejected = []
-        while output.startswith(b"plan "):
+        while output.startswith((b"plan ", b"copies of plan ")):
             line, _, output = output.partition(b"\n")
             rejected.append(line.decode("ascii"))
         if status not in (DONE, OUT_OF_BUDGET):
