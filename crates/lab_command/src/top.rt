@@ -43,6 +43,8 @@ fn answered_by<S: Shelf, W: Watcher>(
         Command::Disassemble => disassemble_reply(asked, shelf),
         Command::Plans => plans_reply(asked, shelf, watcher),
         Command::Verify => verify_reply(asked, shelf),
+        // (their replies follow)
+        Command::Build | Command::Debug => Err(Failure::Memory),
         Command::OfRun(command) => run_reply(asked, command, shelf, watcher, notes),
     }
 }
