@@ -12,7 +12,7 @@ mod rule;
 
 pub use file::{PlanError, PlanFault, PlanLine, read_marks, read_plans};
 pub use laws::{greedy_plan_is_printed, rules_are_of_valid_plans};
-pub use linking::{lay_planned, link_planned};
+pub use linking::{lay_planned, link_planned, link_planned_plain};
 pub use mark::Mark;
 pub use pieces::first_piece;
 pub use printing::{print_plans, push_plan};

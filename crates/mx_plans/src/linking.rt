@@ -3,7 +3,7 @@ ghost use Rattle.std.specs.Prelude.{◌≡◌, ◌≤◌, ◌+◌, ◌*◌, IfOk
 ghost use Rattle.mx_blocks.specs.declared.Block.{Block};
 ghost use Rattle.mx_layout.specs.Kept.{AreKept};
 ghost use Rattle.mx_layout.specs.Overlong.{IsRefusal};
-ghost use Rattle.mx_link.specs.Origins.{from_target};
+ghost use Rattle.mx_link.specs.Origins.{from_nowhere, from_target};
 ghost use Rattle.mx_link.specs.Parts.{HaveRegisters, sites_of};
 ghost use Rattle.mx_link.specs.Laid.{IsLaidAt};
 ghost use Rattle.mx_link.specs.Linked.{IsLinked};
@@ -15,7 +15,7 @@ use crate::proposer::{FileProposer, Lines};
 use mx_blocks::{Block, blocks};
 use mx_isa::Place;
 use mx_layout::Layout;
-use mx_link::{LinkError, Linked, laid_out, link};
+use mx_link::{LinkError, Linked, laid_out, link, link_plain};
 use mx_source::Source;
 use std::alloc::{AllocError, Global};
 use std::marker::{Brand, PhantomData};
@@ -72,6 +72,49 @@ pub fn link_planned(
     let blocks = blocks(alloc, source)?;
     let firsts = firsts_of(alloc, blocks.as_slice())?;
     link_by::<Brand>(alloc, source, place, firsts.as_slice(), lines)
+}
+
+/// Links a source at a place without copies by the plans that are proposed.
+fn link_plain_by<L: Lines>(
+    alloc: Global,
+    source: &Source,
+    place: Place,
+    firsts: &[u32],
+    lines: &[PlanLine],
+) -> Result<Linked, LinkError>
+    requires room { place.code + 3 * length source.now.statements ≤ 65535 }
+    requires tells { (block : Block) → line_at (marks_of_lines lines.now) (number_below firsts.now block.first) ≡ L.marks block }
+    ensures linked { IfOk result (IsLinked (λ block plan. Proposes (L.marks block) block plan) from_nowhere source.now place) }
+    ensures registers { OnOk result (HaveRegisters source.now.statements) }
+    ensures refused { IfErr result (IsRefusal (λ block plan. Proposes (L.marks block) block plan) source.now place) }
+{
+    let mut proposer: FileProposer<L> = FileProposer {
+        firsts,
+        lines,
+        of: PhantomData,
+    };
+    link_plain(alloc, source, place, &mut proposer)
+}
+
+/// Links a source at a place as `link_planned` does, but without copies.
+///
+/// # Errors
+///
+/// Those of `link`.
+pub fn link_planned_plain(
+    alloc: Global,
+    source: &Source,
+    place: Place,
+    lines: &[PlanLine],
+) -> Result<Linked, LinkError>
+    requires { place.code + 3 * length source.now.statements ≤ 65535 }
+    ensures linked { IfOk result (IsLinked (IsProposed source.now (marks_of_lines lines.now)) from_nowhere source.now place) }
+    ensures registers { OnOk result (HaveRegisters source.now.statements) }
+    ensures refused { IfErr result (IsRefusal (IsProposed source.now (marks_of_lines lines.now)) source.now place) }
+{
+    let blocks = blocks(alloc, source)?;
+    let firsts = firsts_of(alloc, blocks.as_slice())?;
+    link_plain_by::<Brand>(alloc, source, place, firsts.as_slice(), lines)
 }
 
 /// Lays out a source at a place by the plans that are proposed.
