@@ -140,6 +140,8 @@ CASES = (
     Case("blocks", "blocks.py", "a program that prints nothing", "MX_LAB=/bin/true checks/blocks.py", ("FAILED: source 1",)),
     Case("blocks", "blocks.py", "a lower bound that is one more", """
         fake "$MX_LAB" 's/"bound": 7,/"bound": 8,/'; MX_SAMPLE=1 MX_LAB=$fake checks/blocks.py""", ("FAILED: source",)),
+    Case("blocks", "blocks.py", "a block that ran twice in place of once", """
+        fake "$MX_LAB" 's/"ran": 1$/"ran": 2/'; MX_SAMPLE=1 MX_LAB=$fake checks/blocks.py""", ("FAILED: how often the blocks of source",)),
     Case("certificates", "certificates.py", "a checker without the rule Delay", """
         plant examples/check_certificate.py 's/lambda: not any(feeds.*/lambda: True),/'; checks/certificates.py""",
          ("FAILED: a load directly before its reader",)),
