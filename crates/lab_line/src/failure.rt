@@ -232,10 +232,18 @@ fn push_error(text: &mut Writer, said: &str) {
     text.push_str(said);
 }
 
+// Appends that a source has no such label of an instruction.
+fn push_label(text: &mut Writer, name: &str, label: &str) {
+    push_error(text, "no instruction of '");
+    text.push_parts(&[name, "' has the label '", label, "'"]);
+}
+
 // Appends what is said of a source.
 fn push_source(text: &mut Writer, name: &str, said: &str) {
     if let Some(line) = said.strip_prefix("line ") {
         push_line(text, name, line);
+    } else if let Some(label) = said.strip_prefix("no code label ") {
+        push_label(text, name, label);
     } else if let Some((before, line)) = said.rsplit_once(": line ") {
         push_line(text, before, line);
     } else {
