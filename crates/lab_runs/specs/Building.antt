@@ -4,7 +4,7 @@ use Rattle.mx_source.specs.SourceValue.{SourceValue}
 use Rattle.mx_link.specs.declared.linked.Linked.{Linked}
 use Rattle.mx_image.specs.Contents.{Contents}
 use Rattle.mx_image.specs.Files.{file_bytes}
-use Rattle.mx_plans.specs.declared.Mark.{Mark}
+use Rattle.mx_plans.specs.Files.{LineSaid}
 use Rattle.lab_plans.specs.declared.linking.LinkedTold.{LinkedTold}
 use Rattle.lab_plans.specs.Linking.{IsLinkedTold}
 use Rattle.lab_runs.specs.declared.building.Built.{Built}
@@ -19,7 +19,8 @@ contents_linked source linked = record {
 }
 
 -- the bytes are the image file of the source, linked by what the lines say, and there is a line for each plan that is not valid
-pub record IsBuilt (source : SourceValue) (plans : List (List Mark)) (b : Built) : Type 0 where
+-- and for copies that a rule forbids
+pub record IsBuilt (source : SourceValue) (plans : List LineSaid) (b : Built) : Type 0 where
   pub told : LinkedTold
   pub linked : IsLinkedTold source plans told
   pub bytes : b.bytes.items ≡ file_bytes (contents_linked source told.linked)

@@ -3,7 +3,7 @@ ghost use Rattle.std.specs.Prelude.{◌≡◌, IfOk, IfErr, length};
 ghost use Rattle.mx_isa.specs.Board.{board};
 ghost use Rattle.mx_layout.specs.Overlong.{IsRefusal};
 ghost use Rattle.mx_image.specs.Contents.{contents_of, LinksFit};
-ghost use Rattle.mx_plans.specs.Files.{marks_of_lines};
+ghost use Rattle.mx_plans.specs.Files.{lines_said, marks_of};
 ghost use Rattle.mx_plans.specs.Says.{IsProposed};
 ghost use Rattle.lab_runs.specs.Building.{contents_linked, IsBuilt};
 
@@ -44,8 +44,8 @@ fn image_file(source: &Source, linked: Linked) -> ImageFile
 
 // The image file of a source that is linked by the plans that the lines of a file say.
 fn built(alloc: Global, source: &Source, lines: &[PlanLine]) -> Result<Built, LinkError>
-    ensures built { IfOk result (IsBuilt source.now (marks_of_lines lines.now)) }
-    ensures refused { IfErr result (IsRefusal (IsProposed source.now (marks_of_lines lines.now)) source.now board) }
+    ensures built { IfOk result (IsBuilt source.now (lines_said lines.now)) }
+    ensures refused { IfErr result (IsRefusal (IsProposed source.now (marks_of (lines_said lines.now))) source.now board) }
 {
     let told = link_told(alloc, source, lines)?;
     let file = image_file(source, told.linked);
