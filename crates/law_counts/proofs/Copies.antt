@@ -11,7 +11,7 @@ use Rattle.mx_squash.specs.Copies.{Site, site_of, is_target, no_copies, copied_w
 use Rattle.mx_squash.specs.Chosen.{copy_fault, IsCopied}
 use Rattle.mx_layout.proofs.Links.{site_found}
 use Rattle.mx_link.proofs.Sizes.{length-origins_from}
-use Rattle.mx_link.proofs.Slots.{copyable_small, at_most_two}
+use Rattle.mx_link.proofs.SlotWords.{copyable_small, at_most_two}
 use Rattle.mx_link.proofs.Chosen.{fault_small}
 use Rattle.mx_link.specs.declared.linked.Origin.TheVariants.{Pad}
 use Rattle.mx_link.specs.Origins.{own, over, copied_to, goal_of, origins_from, origins_at}

@@ -1,4 +1,4 @@
--- Lawful copies: no load feeds them (`no_load`), and three fillings make no others.
+-- Lawful copies: no load feeds them (`no_load`), and four fillings make no others.
 use Rattle.std.proofs.Common.{◌≡◌, ℕ, ◌≤◌, Bool, true, false, cond, eqb, ltb, List, Option, Some, None, refl, sym, ◌∙◌, arith}
 use Rattle.std.specs.Prelude.{slice_index_or}
 use Rattle.std.proofs.lemmas.Bool.{cond-false}
@@ -6,8 +6,8 @@ use Rattle.std.proofs.lemmas.Bool.Decides.{nat_tests}
 use Rattle.mx_squash.specs.declared.choosing.CopyRule.TheVariants.{Room, Front, Reach, Load}
 use Rattle.mx_squash.specs.Copies.{Site, site_of, is_target, room, copyable, is_fed, count, no_copies, copied}
 use Rattle.mx_squash.specs.Chosen.{is_far, target_fault, copy_fault, IsCopied}
-use Rattle.mx_link.specs.Origins.{from_target, from_nowhere, as_wanted}
-use Rattle.mx_link.proofs.Chosen.{count_allowed, wanted_allowed}
+use Rattle.mx_link.specs.Origins.{from_target, from_nowhere, as_wanted, as_chosen}
+use Rattle.mx_link.proofs.Chosen.{count_allowed, wanted_allowed, chosen_allowed}
 use Rattle.law_link.specs.Runs.{IsFilling}
 
 -- the word that is copied behind a load does not read its register
@@ -39,3 +39,7 @@ from_nowhere_lawful sites s = nothing_lawful s (site_of (is_target s.block.end) 
 
 pub as_wanted_lawful : (counts : List ℕ) → IsFilling (as_wanted counts)
 as_wanted_lawful counts sites s = wanted_allowed (slice_index_or counts s.block.first 0) s (site_of (is_target s.block.end) sites)
+
+pub as_chosen_lawful : (choices : List (Option ℕ)) → IsFilling (as_chosen choices)
+as_chosen_lawful choices sites s =
+    chosen_allowed (slice_index_or choices s.block.first None) s (site_of (is_target s.block.end) sites)

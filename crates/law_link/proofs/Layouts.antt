@@ -29,7 +29,7 @@ use Rattle.mx_link.specs.Origins.{goal_of}
 use Rattle.mx_link.specs.Words.{code_of}
 use Rattle.mx_link.proofs.Places.{sites_below}
 use Rattle.mx_link.proofs.Bodies.{copy_goes_on}
-use Rattle.mx_link.proofs.Slots.{words_op, copied_none, copyable_small}
+use Rattle.mx_link.proofs.SlotWords.{words_op, copied_none, copyable_small}
 use Rattle.mx_link.proofs.Chosen.{fault_cases, fault_small}
 use Rattle.mx_link.proofs.Linkable.{Goes}
 use Rattle.law_link.proofs.Going.{Stands}

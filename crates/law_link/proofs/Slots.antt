@@ -39,7 +39,7 @@ use Rattle.law_link.proofs.Sited.{insts, laid, body, there, inst_there, linked_a
 use Rattle.law_link.proofs.Layouts.{place_in, Goal, goal_is, goes, Standing, standing, setting}
 use Rattle.mx_layout.proofs.Links.{site_found}
 use Rattle.law_link.proofs.Setting.{Known, LinkedSite, PlannedBlock}
-use Rattle.mx_link.proofs.Slots.{copyable_first, copyable_second, at_most_two}
+use Rattle.mx_link.proofs.SlotWords.{copyable_first, copyable_second, at_most_two}
 use Rattle.mx_link.proofs.Chosen.{fault_small}
 
 get_left : (xs ys : List Item) (k : ℕ) (x : Item) → k < length xs → slice_get (xs ++ ys) k ≡ Some x → slice_get xs k ≡ Some x

@@ -5,7 +5,7 @@ use Rattle.mx_source.specs.Meaning.{Going, Run, meaning, is_stuck, HaltsIn}
 use Rattle.mx_blocks.specs.Leaders.{is_leader}
 use Rattle.mx_squash.specs.Copies.{Site, site_of}
 use Rattle.mx_layout.specs.Layout.{plan_size}
-use Rattle.mx_link.specs.Origins.{from_nowhere, as_wanted}
+use Rattle.mx_link.specs.Origins.{from_nowhere, as_wanted, as_chosen}
 use Rattle.mx_link.specs.Linked.{link_map}
 use Rattle.mx_delay.specs.Prefixes.{IsPrefix}
 use Rattle.law_link.specs.Runs.{IsFilling, Linking, IsLinking, linked_run, RunsClean}
@@ -14,6 +14,10 @@ use Rattle.law_link.specs.Matches.{Matches, block_ahead}
 -- copies by wanted counts are lawful, whatever is wanted
 abbrev pub AsWantedIsLawful : Type 0
 AsWantedIsLawful = (counts : List ℕ) → IsFilling (as_wanted counts)
+
+-- so are chosen copies, whatever is chosen
+abbrev pub AsChosenIsLawful : Type 0
+AsChosenIsLawful = (choices : List (Option ℕ)) → IsFilling (as_chosen choices)
 
 -- what the source means, after so many statements
 abbrev pub meant : Linking → ℕ → Run

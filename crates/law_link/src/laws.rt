@@ -1,6 +1,6 @@
 //! Laws over the definitions: a source that is laid out with valid plans and branches in reach, with any copies in its
 //! slots that no rule forbids, at any place and with any input.
-ghost use Rattle.law_link.specs.Laws.{AsWantedIsLawful, LinkedCodeIsClean, LinkedCodeHalts, LinkedCodeHaltsOnly, LinkedCodeSends, LinkedBlocksStart, LaterBlocksStartLater, FetchesStartBlocks};
+ghost use Rattle.law_link.specs.Laws.{AsWantedIsLawful, AsChosenIsLawful, LinkedCodeIsClean, LinkedCodeHalts, LinkedCodeHaltsOnly, LinkedCodeSends, LinkedBlocksStart, LaterBlocksStartLater, FetchesStartBlocks};
 ghost use Rattle.law_link.specs.Results.{ResultsAreLinked};
 
 use mx_validate::Proposer;
@@ -15,6 +15,11 @@ pub fn results_are_linked<P: Proposer>()
 /// holds of its code.
 pub fn as_wanted_is_lawful()
     ensures { AsWantedIsLawful }
+{}
+
+/// So are they whatever is chosen.
+pub fn as_chosen_is_lawful()
+    ensures { AsChosenIsLawful }
 {}
 
 /// Where the meaning is not stuck within j + 64 statements, the first j steps of linked code are clean, and

@@ -11,7 +11,8 @@ use Rattle.mx_squash.specs.declared.CopyRule.TheVariants.{Room, Front, Reach, Lo
 use Rattle.mx_squash.specs.Copies.{Site, site_of, is_target, copyable, is_too_far, is_fed, is_branch_end, most, room, count, reaches, no_copies, copied}
 use Rattle.mx_squash.specs.Chosen.{is_far, copy_fault, copies_of, copies_wanted, copies_asked, unless_forbidden, IsCopied}
 use Rattle.mx_link.specs.declared.code.Slots.{Slots}
-use Rattle.mx_link.specs.declared.code.Slots.TheVariants.{FromTarget, Kept, Wanted}
+use Rattle.mx_link.specs.declared.code.Slots.TheVariants.{FromTarget, Kept, Wanted, Chosen}
+use Rattle.mx_link.specs.Origins.{copies_chosen}
 use Rattle.mx_link.specs.Parts.{filling_of}
 
 -- so many words fit into the slots and may be copied, and the transfer reaches what is after them
@@ -99,6 +100,10 @@ wanted_allowed n s o = by_fault (copy_fault n s o) refl
     by_fault None e = (n, e, ap (λ (x : Option CopyRule). copies_of (cond (is_none x) n 0) s o) e)
     by_fault (Some rule) e = (0, none_forbidden s o, ap (λ (x : Option CopyRule). copies_of (cond (is_none x) n 0) s o) e)
 
+pub chosen_allowed : (choice : Option ℕ) (s : Site) (o : Option Site) → IsCopied s o (copies_chosen choice s o)
+chosen_allowed None s o = copied_allowed s o
+chosen_allowed (Some n) s o = wanted_allowed n s o
+
 -- each way of filling slots copies what no rule forbids
 pub slots_allowed :
     (slots : Slots) (all : List Site) (s : Site) → IsCopied s (site_of (is_target s.block.end) all) (filling_of slots all s)
@@ -107,6 +112,7 @@ slots_allowed Kept all s =
     let o = site_of (is_target s.block.end) all in
     (0, none_forbidden s o, sym (none_copied s o))
 slots_allowed (Wanted counts) all s = wanted_allowed (slice_index_or counts.now s.block.first 0) s (site_of (is_target s.block.end) all)
+slots_allowed (Chosen choices) all s = chosen_allowed (slice_index_or choices.now s.block.first None) s (site_of (is_target s.block.end) all)
 
 -- what was asked for is what is wanted, and nothing where it was refused
 pub asked_wanted : (n : ℕ) (s : Site) (o : Option Site) (c : Copied) → Ok c ≡ copies_asked n s o → c ≡ copies_wanted n s o

@@ -2,7 +2,7 @@ pub mod Pushes
 pub mod Places
 pub mod Bodies
 pub mod Fits
-pub mod Slots
+pub mod SlotWords
 pub mod Chosen
 pub mod Laid
 pub mod Wanted

@@ -41,7 +41,7 @@ use Rattle.mx_link.proofs.Places.{at_place, site_below, sites_below}
 use Rattle.mx_link.proofs.Bodies.{is_last_of, last_stands, copy_goes_on}
 use Rattle.mx_link.proofs.Fits.{inst_fits}
 use Rattle.mx_link.proofs.Relinked.{same_at}
-use Rattle.mx_link.proofs.Slots.{words_op, copied_none, copyable_small}
+use Rattle.mx_link.proofs.SlotWords.{words_op, copied_none, copyable_small}
 use Rattle.mx_link.proofs.Chosen.{fault_cases, fault_small, slots_allowed}
 
 -- where a site's transfer goes behind its copies, and what is copied

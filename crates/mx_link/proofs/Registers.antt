@@ -27,7 +27,7 @@ use Rattle.mx_link.specs.Origins.{goal_of, own, over, copied_to}
 use Rattle.mx_link.specs.Words.{linked_inst, linked_statement, inst_at}
 use Rattle.mx_link.specs.Parts.{filling_of, EachInst, HaveRegisters}
 use Rattle.mx_link.proofs.Places.{at_place}
-use Rattle.mx_link.proofs.Slots.{copied_none, nop_op}
+use Rattle.mx_link.proofs.SlotWords.{copied_none, nop_op}
 use Rattle.mx_link.proofs.Chosen.{fault_small, slots_allowed}
 
 -- one more site

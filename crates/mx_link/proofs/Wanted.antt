@@ -34,10 +34,10 @@ asked_at l blocks plans starts e f g k r n h =
     (subst (λ (y : List Plan). Asked k r n (sites blocks y l.starts.items)) f
     (subst (λ (z : List ℕ). Asked k r n (sites blocks plans z)) g h))
 
--- so many words are wanted for the block of a site as for that of its number
-pub wanted_there :
+-- for the block of a site the same is listed as for that of its number
+pub listed_there : {A : Type 0}
     (l : Layout) → length l.plans.items ≡ length l.blocks.items → length l.starts.items ≡ length l.blocks.items
-    → (k : ℕ) (s : Site) (b : Block) (counts : List ℕ) → slice_get (sites_of l) k ≡ Some s → slice_get l.blocks.items k ≡ Some b
-    → slice_index_or counts b.first 0 ≡ slice_index_or counts s.block.first 0
-wanted_there l plans starts k s b counts e f =
-    ap (λ (x : Block). slice_index_or counts x.first 0) (sym (block_at l plans starts k s b e f))
+    → (k : ℕ) (s : Site) (b : Block) (xs : List A) (other : A) → slice_get (sites_of l) k ≡ Some s → slice_get l.blocks.items k ≡ Some b
+    → slice_index_or xs b.first other ≡ slice_index_or xs s.block.first other
+listed_there l plans starts k s b xs other e f =
+    ap (λ (x : Block). slice_index_or xs x.first other) (sym (block_at l plans starts k s b e f))

@@ -1,5 +1,5 @@
 -- Which statement each word of linked code comes from.
-use Rattle.std.specs.Prelude.{ℕ, suc, ◌+◌, Bool, true, false, cond, eqb, List, [], ◌∷◌, length, slice_index_or}
+use Rattle.std.specs.Prelude.{ℕ, suc, ◌+◌, Bool, true, false, cond, eqb, List, [], ◌∷◌, length, Option, Some, None, slice_index_or}
 use Rattle.std.specs.List.{filter, flat_map}
 use Rattle.mx_blocks.specs.declared.Item.{Item}
 use Rattle.mx_blocks.specs.declared.Item.TheVariants.{Op, Nop}
@@ -27,6 +27,15 @@ from_nowhere sites s = no_copies
 -- so many of its first words as are wanted for the block that begins at each statement, where no rule forbids so many; none past the end of the list
 abbrev pub as_wanted : List ℕ → Filling
 as_wanted counts sites s = copies_wanted (slice_index_or counts s.block.first 0) s (site_of (is_target s.block.end) sites)
+
+-- as many words as were chosen, where no rule forbids so many; without a choice as many as can be copied
+abbrev pub copies_chosen : Option ℕ → Site → Option Site → Copied
+copies_chosen None s goal = copied s goal
+copies_chosen (Some n) s goal = copies_wanted n s goal
+
+-- as is chosen for the block that begins at each statement; past the end of the list there is no choice
+abbrev pub as_chosen : List (Option ℕ) → Filling
+as_chosen choices sites s = copies_chosen (slice_index_or choices s.block.first None) s (site_of (is_target s.block.end) sites)
 
 -- the statement to which a block goes by its label
 abbrev pub goal_of : End → ℕ

@@ -19,15 +19,16 @@ use Rattle.mx_layout.specs.declared.Layout.{Layout}
 use Rattle.mx_layout.specs.Layout.{IsLayout, link_of, end_of}
 use Rattle.mx_layout.specs.Overlong.{branch_target}
 use Rattle.mx_link.specs.declared.code.Slots.{Slots}
-use Rattle.mx_link.specs.declared.code.Slots.TheVariants.{FromTarget, Kept, Wanted}
+use Rattle.mx_link.specs.declared.code.Slots.TheVariants.{FromTarget, Kept, Wanted, Chosen}
 use Rattle.mx_link.specs.declared.linked.Origin.{Origin}
-use Rattle.mx_link.specs.Origins.{Filling, from_target, from_nowhere, as_wanted, goal_of, own, over, copied_to, origins_at}
+use Rattle.mx_link.specs.Origins.{Filling, from_target, from_nowhere, as_wanted, as_chosen, goal_of, own, over, copied_to, origins_at}
 use Rattle.mx_link.specs.Words.{insts_from, inst_at}
 
 abbrev pub filling_of : Slots → Filling
 filling_of FromTarget = from_target
 filling_of Kept = from_nowhere
 filling_of (Wanted counts) = as_wanted counts.now
+filling_of (Chosen choices) = as_chosen choices.now
 
 abbrev pub site : Block → Plan → ℕ → Site
 site block plan start = record { block = block; plan = plan; start = start }

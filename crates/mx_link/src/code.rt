@@ -1,7 +1,9 @@
 //! The code of a source that is laid out.
-ghost use Rattle.std.specs.Prelude.{◌≡◌, ◌<◌, ◌≤◌, ◌+◌, ◌++◌, ◌∷◌, [], ℕ, length, Some, All, IfOk, OnOk, slice_get, slice_index, slice_index_or};
+ghost use Rattle.std.specs.Prelude.{◌≡◌, ◌<◌, ◌≤◌, ◌+◌, ◌++◌, ◌∷◌, [], ℕ, length, Some, None, All, IfOk, OnOk, slice_get, slice_index, slice_index_or};
 ghost use Rattle.mx_link.specs.Terms.{LAST_ADDRESS, MAX_STATEMENTS, InstFits, word_of_row, HasRegisters, StatementFits, items_of, Site, AreOfOneSource};
-ghost use Rattle.mx_link.specs.Origins.{goal_of, origins_at, origins_of, as_wanted};
+ghost use Rattle.mx_squash.specs.Copies.{site_of, is_target};
+ghost use Rattle.mx_squash.specs.Chosen.{copies_wanted};
+ghost use Rattle.mx_link.specs.Origins.{goal_of, origins_at, origins_of, from_target, as_wanted, as_chosen};
 ghost use Rattle.mx_link.specs.Words.{code_of};
 ghost use Rattle.mx_link.specs.Parts.{filling_of, site, sites_of, link_in, IsLaidOut, EachInst, HasWords, HaveRegisters, site_words};
 
@@ -18,13 +20,17 @@ use std::alloc::{AllocError, Global};
 
 /// What goes into slots that hold no-ops.
 #[derive(Clone, Copy)]
-pub(crate) enum Slots<'a> {
-    /// The first words of the target.
+pub enum Slots<'a> {
+    /// As many of the first words of the target as can be copied.
     FromTarget,
-    /// They are kept as they are.
+    /// The no-ops stay.
     Kept,
-    /// So many of the first words of the target as are wanted for the block that begins at each statement.
+    /// As many of the first words of the target as are wanted for the block that begins at each statement, and none where a rule
+    /// forbids so many (`copies_asked`). A list that is too short wants none.
     Wanted(&'a [u8]),
+    /// As many of them as are chosen for the block that begins at each statement, and none where a rule forbids so many. Where
+    /// nothing is chosen, or the list is too short, as many as can be copied.
+    Chosen(&'a [Option<u8>]),
 }
 
 /// Code words, and where each comes from.
@@ -90,15 +96,29 @@ fn copied_at(layout: &Layout, k: usize, slots: Slots) -> Copied
         → result ≡ filling_of slots.entry (sites_of layout.now) s }
 {
     match slots {
-        Slots::FromTarget => copies(
-            layout.blocks.as_slice(),
-            layout.plans.as_slice(),
-            layout.starts.as_slice(),
-            k as u32,
-        ),
+        Slots::FromTarget => most_at(layout, k),
         Slots::Kept => no_copies(),
         Slots::Wanted(counts) => wanted_at(layout, k, counts),
+        Slots::Chosen(choices) => chosen_at(layout, k, choices),
     }
+}
+
+/// As many words for block `k` as can be copied.
+fn most_at(layout: &Layout, k: usize) -> Copied
+    requires within { k < length layout.now.blocks.items }
+    requires plans { length layout.now.plans.items ≡ length layout.now.blocks.items }
+    requires starts { length layout.now.starts.items ≡ length layout.now.blocks.items }
+    requires blocks { AreOfOneSource layout.now.blocks.items }
+    requires few { length layout.now.blocks.items ≤ MAX_STATEMENTS }
+    ensures { (s : Site) → slice_get (sites_of layout.now) k ≡ Some s
+        → result ≡ from_target (sites_of layout.now) s }
+{
+    copies(
+        layout.blocks.as_slice(),
+        layout.plans.as_slice(),
+        layout.starts.as_slice(),
+        k as u32,
+    )
 }
 
 /// As many words as are wanted for block `k`, or none where a rule forbids so many.
@@ -112,6 +132,35 @@ fn wanted_at(layout: &Layout, k: usize, counts: &[u8]) -> Copied
         → result ≡ as_wanted counts.now (sites_of layout.now) s }
 {
     let count = wanted_for(counts, layout.blocks[k].first);
+    so_many_at(layout, k, count)
+}
+
+/// As many words as are chosen for block `k`, or none where a rule forbids so many; without a choice as many as can be copied.
+fn chosen_at(layout: &Layout, k: usize, choices: &[Option<u8>]) -> Copied
+    requires within { k < length layout.now.blocks.items }
+    requires plans { length layout.now.plans.items ≡ length layout.now.blocks.items }
+    requires starts { length layout.now.starts.items ≡ length layout.now.blocks.items }
+    requires blocks { AreOfOneSource layout.now.blocks.items }
+    requires few { length layout.now.blocks.items ≤ MAX_STATEMENTS }
+    ensures { (s : Site) → slice_get (sites_of layout.now) k ≡ Some s
+        → result ≡ as_chosen choices.now (sites_of layout.now) s }
+{
+    match chosen_for(choices, layout.blocks[k].first) {
+        Some(count) => so_many_at(layout, k, count),
+        None => most_at(layout, k),
+    }
+}
+
+/// So many words for block `k`, or none where a rule forbids so many.
+fn so_many_at(layout: &Layout, k: usize, count: u8) -> Copied
+    requires within { k < length layout.now.blocks.items }
+    requires plans { length layout.now.plans.items ≡ length layout.now.blocks.items }
+    requires starts { length layout.now.starts.items ≡ length layout.now.blocks.items }
+    requires blocks { AreOfOneSource layout.now.blocks.items }
+    requires few { length layout.now.blocks.items ≤ MAX_STATEMENTS }
+    ensures { let all = sites_of layout.now in (s : Site) → slice_get all k ≡ Some s
+        → result ≡ copies_wanted count s (site_of (is_target s.block.end) all) }
+{
     let asked = copies_asked(
         layout.blocks.as_slice(),
         layout.plans.as_slice(),
@@ -132,6 +181,16 @@ fn wanted_for(counts: &[u8], first: u32) -> u8
     match counts.get(first as usize) {
         Some(count) => *count,
         None => 0,
+    }
+}
+
+/// What is chosen for the block that begins at a statement.
+fn chosen_for(choices: &[Option<u8>], first: u32) -> Option<u8>
+    ensures { result ≡ slice_index_or choices.now first None }
+{
+    match choices.get(first as usize) {
+        Some(choice) => *choice,
+        None => None,
     }
 }
 

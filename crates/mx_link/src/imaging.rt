@@ -1,4 +1,4 @@
-//! A source that is laid out, and its image with the copies that are wanted.
+//! A source that is laid out, its program, and its image with the copies that are wanted.
 ghost use Rattle.std.specs.Prelude.{◌≡◌, ◌≤◌, ◌+◌, ◌*◌, IfOk, IfErr, OnOk, length};
 ghost use Rattle.mx_isa.specs.declared.board.TheConstants.{LAST_ADDRESS};
 ghost use Rattle.mx_source.specs.SourceValue.{IsSource};
@@ -6,11 +6,12 @@ ghost use Rattle.mx_layout.specs.Kept.{AreKept};
 ghost use Rattle.mx_layout.specs.Overlong.{IsRefusal};
 ghost use Rattle.mx_link.specs.Origins.{as_wanted};
 ghost use Rattle.mx_link.specs.Linked.{linked_code, linked_data};
-ghost use Rattle.mx_link.specs.Parts.{sites_of, HaveRegisters};
-ghost use Rattle.mx_link.specs.Laid.{IsLaidAt};
+ghost use Rattle.mx_link.specs.Parts.{filling_of, sites_of, HaveRegisters};
+ghost use Rattle.mx_link.specs.Laid.{IsLaidAt, IsLinkedFrom};
 
+use crate::Linked;
 use crate::code::{Code, Slots, code_of};
-use crate::linking::words_of;
+use crate::linking::{linked, words_of};
 use mx_code::Image;
 use mx_isa::Place;
 use mx_layout::{Layout, LinkError, lay_out};
@@ -38,8 +39,25 @@ pub fn laid_out<P: Proposer>(
     Ok(layout)
 }
 
-/// The image of a source that is laid out at a place, with so many copies as are wanted for the block that begins at each
-/// statement: the words that `link_wanted` gives.
+/// The linked program of a source that is laid out at a place, with these words in slots that hold no-ops.
+pub fn link_laid(
+    alloc: Global,
+    source: &Source,
+    place: Place,
+    layout: Layout,
+    slots: Slots,
+) -> Result<Linked, AllocError>
+    requires { IsLaidAt source.now place layout }
+    ensures source { IsSource source.now }
+    ensures registers { OnOk result (HaveRegisters source.now.statements) }
+    ensures linked { IfOk result (IsLinkedFrom (filling_of slots.entry) source.now place layout) }
+{
+    let program = linked(alloc, source, layout, slots)?;
+    Ok(program)
+}
+
+/// The image of a source that is laid out at a place, with as many copies as are wanted for the block that begins at each
+/// statement: the words that `link_laid` gives with `Slots::Wanted`.
 pub fn image_wanted(
     alloc: Global,
     source: &Source,

@@ -8,7 +8,8 @@ mod linked;
 mod linking;
 mod origin;
 
-pub use imaging::{image_wanted, laid_out};
+pub use code::Slots;
+pub use imaging::{image_wanted, laid_out, link_laid};
 pub use linked::{Linked, Origin};
-pub use linking::{link, link_plain, link_wanted};
+pub use linking::{link, link_plain};
 pub use mx_layout::LinkError;

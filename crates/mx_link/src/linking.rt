@@ -4,7 +4,7 @@ ghost use Rattle.mx_isa.specs.declared.board.TheConstants.{LAST_ADDRESS, MAX_COD
 ghost use Rattle.mx_source.specs.Statements.{ValueFits};
 ghost use Rattle.mx_source.specs.SourceValue.{IsSource};
 ghost use Rattle.mx_layout.specs.Overlong.{IsRefusal};
-ghost use Rattle.mx_link.specs.Origins.{from_target, from_nowhere, as_wanted, origins_of, copies_in};
+ghost use Rattle.mx_link.specs.Origins.{from_target, from_nowhere, origins_of, copies_in};
 ghost use Rattle.mx_link.specs.Words.{code_of, words_of, value_word};
 ghost use Rattle.mx_code.specs.NoOps.{noops_in};
 ghost use Rattle.mx_link.specs.Parts.{filling_of, sites_of, link_in, IsLaidOut, HaveRegisters};
@@ -60,27 +60,6 @@ pub fn link_plain<P: Proposer>(
     link_with(alloc, source, place, proposer, Slots::Kept)
 }
 
-/// Links a source at a place as `link` does, but with so many copies as are wanted for the block that begins at each
-/// statement, and none where a rule forbids so many (`copies_asked`). A list that is too short wants none.
-///
-/// # Errors
-///
-/// Those of `link`.
-pub fn link_wanted<P: Proposer>(
-    alloc: Global,
-    source: &Source,
-    place: Place,
-    proposer: &mut P,
-    wanted: &[u8],
-) -> Result<Linked, LinkError>
-    requires { place.code + 3 * length source.now.statements ≤ LAST_ADDRESS }
-    ensures linked { IfOk result (IsLinked P.proposes (as_wanted wanted.now) source.now place) }
-    ensures registers { OnOk result (HaveRegisters source.now.statements) }
-    ensures refused { IfErr result (IsRefusal P.proposes source.now place) }
-{
-    link_with(alloc, source, place, proposer, Slots::Wanted(wanted))
-}
-
 /// Links a source at a place, with these words in slots that hold no-ops.
 fn link_with<P: Proposer>(
     alloc: Global,
@@ -99,7 +78,7 @@ fn link_with<P: Proposer>(
 }
 
 /// The linked program of a source that is laid out.
-fn linked(
+pub(crate) fn linked(
     alloc: Global,
     source: &Source,
     layout: Layout,

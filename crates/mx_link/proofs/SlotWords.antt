@@ -1,13 +1,13 @@
 -- What is copied into slots.
-use Rattle.std.proofs.Common.{◌≡◌, ℕ, ◌+◌, ◌<◌, ◌≤◌, Bool, true, false, cond, eqb, ltb, not, [], ◌∷◌, Some, refl, sym, ap, ◌∙◌, inl, inr, ⊎_elim, arith}
-use Rattle.std.specs.Prelude.{slice_get, slice_index_or, ◌&&◌, ◌||◌, ◌⊎◌, min}
+use Rattle.std.proofs.Common.{◌≡◌, ℕ, ◌+◌, ◌<◌, ◌≤◌, Bool, true, false, cond, eqb, ltb, [], ◌∷◌, Some, refl, sym, ap, ◌∙◌, inl, inr, ⊎_elim, arith}
+use Rattle.std.specs.Prelude.{slice_get, slice_index_or, ◌⊎◌}
 use Rattle.std.proofs.lemmas.Bool.{cases_lt, cases_eq}
 use Rattle.std.proofs.lemmas.Bool.Decides.{nat_tests}
 use Rattle.mx_blocks.specs.declared.Plan.{Plan}
 use Rattle.mx_blocks.specs.declared.Item.{Item}
 use Rattle.mx_blocks.specs.declared.Item.TheVariants.{Op, Nop}
 use Rattle.mx_squash.specs.declared.Copied.{Copied}
-use Rattle.mx_squash.specs.Copies.{Site, may_copy, copyable, is_op, item_at, is_too_far, is_fed, is_branch_end, most, room, count, filled, reaches, no_copies, copied}
+use Rattle.mx_squash.specs.Copies.{Site, may_copy, copyable, is_op, item_at, room, filled, no_copies, copied}
 use Rattle.mx_squash.specs.Chosen.{copies_of}
 use Rattle.mx_link.specs.Origins.{copied_to}
 use Rattle.mx_link.proofs.Bodies.{MayCopy, may_copy_op, both}
@@ -99,33 +99,6 @@ copyable_small plan = ⊎_elim
     (cases_lt (copyable plan) 2))
     (cases_lt (copyable plan) 1)
 
--- either nothing is copied, or the transfer reaches its target moved on by the copies
-pub record Moves (s g : Site) : Type 0 where
-  pub near : is_branch_end s.block.end ≡ true → reaches (s.start + s.plan.place) (g.start + count s g) ≡ true
-
-pub count_cases : (s g : Site) → (count s g ≡ 0) ⊎ Moves s g
-count_cases s g = by_tests (is_too_far s g) (is_fed s g) refl refl
-  where
-    near_enough : (b r : Bool) → (b && not r) ≡ false → b ≡ true → r ≡ true
-    near_enough b r f t = grind arith
-
-    by_tests : (a b : Bool) → is_too_far s g ≡ a → is_fed s g ≡ b → (count s g ≡ 0) ⊎ Moves s g
-    by_tests true b f h = inl (ap (λ t. cond (t || is_fed s g) 0 (most s g)) f)
-    by_tests false true f h = inl (ap (λ t. cond (t || is_fed s g) 0 (most s g)) f ∙ ap (λ t. cond t 0 (most s g)) h)
-    by_tests false false f h =
-        let all : count s g ≡ most s g = ap (λ t. cond (t || is_fed s g) 0 (most s g)) f ∙ ap (λ t. cond t 0 (most s g)) h in
-        inr (record {
-          near = λ b. ap (λ n. reaches (s.start + s.plan.place) (g.start + n)) all
-              ∙ near_enough (is_branch_end s.block.end) (reaches (s.start + s.plan.place) (g.start + most s g)) f b;
-        })
-
-pub count_small : (s g : Site) → count s g ≤ copyable g.plan
-count_small s g = at_most (is_too_far s g || is_fed s g) (room s.block s.plan) (copyable g.plan)
-  where
-    at_most : (b : Bool) (m n : ℕ) → cond b 0 (min m n) ≤ n
-    at_most true m n = omega arith
-    at_most false m n = omega arith
-
 -- of so many copied words each may be copied from its target
 pub words_op :
     (n : ℕ) (s g : Site) (place p k : ℕ) → n ≤ copyable g.plan → copied_to (copies_of n s (Some g)) place p ≡ Op k → (q : ℕ) × MayCopy g.plan q k
@@ -133,10 +106,6 @@ words_op n s g place p k small e = ⊎_elim
     (λ h. (0, may_copy_op g.plan 0 k (copyable_first g.plan (let one = h.0 in omega arith)) h.1))
     (λ h. (1, may_copy_op g.plan 1 k (copyable_second g.plan (let two = h.0 in omega arith)) h.1))
     (filled_cases (room s.block s.plan) n (item_at g.plan 0) (item_at g.plan 1) k (slot_cases (copies_of n s (Some g)) place p k e)).which
-
--- a copied word may be copied from its target
-pub copied_op : (s g : Site) (place p k : ℕ) → copied_to (copied s (Some g)) place p ≡ Op k → (q : ℕ) × MayCopy g.plan q k
-copied_op s g place p k e = words_op (count s g) s g place p k (count_small s g) e
 
 -- nothing is copied where there is no target
 pub copied_none : (place p k : ℕ) → copied_to no_copies place p ≡ Op k → ⊥
