@@ -6,7 +6,6 @@ use Rattle.mx_source.specs.declared.Label.{Label}
 use Rattle.mx_source.specs.declared.Label.TheVariants.{Code, Data}
 use Rattle.mx_source.specs.SourceValue.{SourceValue}
 use Rattle.mx_lines.specs.Operands.{label_named}
-use Rattle.mx_layout.specs.Overlong.{Overlong, IsOverlong}
 use Rattle.mx_link.specs.declared.linked.Linked.{Linked}
 use Rattle.mx_link.specs.Origins.{from_nowhere}
 use Rattle.mx_link.specs.Linked.{IsLinked, link_map}
@@ -18,7 +17,7 @@ use Rattle.cmd_answer.specs.Protocol.{Performed}
 use Rattle.cmd_options.specs.Options.{Files}
 use Rattle.cmd_options.specs.declared.SessionLimits.{SessionLimits}
 use Rattle.cmd_debug.specs.Sessions.{session_protocol}
-use Rattle.cmd_source.specs.Refusals.{overlong_line}
+use Rattle.lab_runs.specs.Refusals.{IsTooFar}
 
 -- the statement of a source of so many at which a label stands, if it is a code label and one stands there
 abbrev pub statement_at : ℕ → Label → Option ℕ
@@ -31,11 +30,6 @@ statement_named source name = option_and_then (statement_at (length source.state
 
 abbrev pub no_label_line : List ℕ → List ℕ
 no_label_line name = text_line (codes "no code label " ++ name)
-
--- the source is refused by its first branch that does not reach its target
-abbrev pub IsTooFar : SourceValue → List (List Mark) → Answer → Type 0
-IsTooFar source plans answer = (found : Overlong) × IsOverlong (IsProposed source plans) source board found
-    × (answer ≡ prints Refused (overlong_line found.line found.from found.to))
 
 -- the session of the source, linked without copies by what the lines say, is stopped at the link of a statement
 pub record IsSession (source : SourceValue) (plans : List (List Mark)) (index : ℕ) (files : Files) (limits : SessionLimits)

@@ -1,5 +1,5 @@
 //! The reply of `debug` with a plan file.
-ghost use Rattle.std.specs.Prelude.{◌≡◌, ◌<◌, ◌^◌, IfOk, IfSome, length, slice_index};
+ghost use Rattle.std.specs.Prelude.{◌≡◌, ◌<◌, IfOk, IfSome, length, slice_index};
 ghost use Rattle.mx_isa.specs.Board.{board};
 ghost use Rattle.mx_link.specs.Origins.{from_nowhere};
 ghost use Rattle.mx_link.specs.Linked.{IsLinked};
@@ -8,19 +8,20 @@ ghost use Rattle.mx_plans.specs.Says.{IsProposed};
 ghost use Rattle.cmd_answer.specs.Answer.{prints};
 ghost use Rattle.cmd_answer.specs.Replies.{reply_answer, IfAnswered, OnAnswer};
 ghost use Rattle.cmd_options.specs.Options.{seen_files, IsAsked};
-ghost use Rattle.lab_runs.specs.Sessions.{statement_at, statement_named, no_label_line, IsTooFar, IsStopped};
+ghost use Rattle.lab_runs.specs.Refusals.{IsTooFar};
+ghost use Rattle.lab_runs.specs.Sessions.{statement_at, statement_named, no_label_line, IsStopped};
 
 use crate::plan_files::plans_of;
 use crate::replies::unlinked;
 use cmd_answer::{Failure, Reply, Status, line_reply};
 use cmd_debug::debug_image;
 use cmd_options::{RunFiles, SessionLimits};
-use cmd_source::{overlong_reply, read_source};
+use cmd_source::read_source;
 use lab_line::Asked;
 use lab_plans::link_told;
 use mx_io::{Memory, Shelf};
 use mx_isa::BOARD;
-use mx_link::{LinkError, Linked};
+use mx_link::Linked;
 use mx_plans::{PlanLine, link_planned_plain};
 use mx_source::{Label, Source};
 use std::alloc::Global;
@@ -80,10 +81,7 @@ fn plain_linked(alloc: Global, source: &Source, lines: &[PlanLine]) -> Result<Li
     let _statements = source.statements();
     match link_planned_plain(alloc, source, BOARD, lines) {
         Ok(linked) => Ok(linked),
-        Err(LinkError::Displacement { line, from, to }) => {
-            Err(Failure::Answered(overlong_reply(alloc, line, from, to)?))
-        }
-        Err(LinkError::Memory) => Err(Failure::Memory),
+        Err(error) => Err(unlinked(alloc, &error)),
     }
 }
 
