@@ -90,6 +90,7 @@ CHECKS = (
     Check("plans", ("planned.sh",), ("mx_run", "mx_lab")),
     Check("blocks", ("blocks.py",), ("mx_lab",)),
     Check("certificates", ("certificates.py",), ("mx_run", "mx_lab"), 15),
+    Check("mutated files", ("mutated.py",), ("mx_run", "mx_lab"), 10),
     Check("profiles", ("profiles.py",), ("mx_run", "mx_lab")),
     Check("JSON", ("lab_json.py",), ("mx_lab",)),
     Check("drawing", ("draw.sh",), ("mx_lab",), is_alone=True),

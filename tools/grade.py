@@ -19,7 +19,8 @@ from zanderanvil.library import DONE, OUT_OF_BUDGET, Refusal, Run, read_run  # n
 LOST, WRONG = 1, 2
 KINDS = ("source", "plans", "answers")
 FIGURES = ("cycles", "fetches", "misses", "squashes", "words", "noops")
-BUDGET = 100_000
+BUDGET, MOST_BUDGET = 100_000, 100_000_000
+MOST_POINTS, MOST_FIGURE = 1_000_000, 1_000_000_000
 # How long a command may take, in seconds: the first one may build its program.
 PATIENCE = 900
 MOST_SUBMISSION = 4_194_304
@@ -85,6 +86,13 @@ class Exercise:
             raise Fault(f"{self.path}: '{name}' is {'left out' if name not in record else 'of the wrong kind'}: expected {kind.__name__}")
         return found
 
+    def number(self, record: Record, name: str, most: int, default: Any = None) -> int:
+        """Returns a member of a record that has to be a number from 0 on."""
+        found = int(self.value(record, name, int, default))
+        if not 0 <= found <= most:
+            raise Fault(f"{self.path}: '{name}' is {shown(str(found).encode())}: expected 0 to {most:,}")
+        return found
+
     def file(self, record: Record, name: str) -> Optional[bytes]:
         """Returns what the file holds that a member names, if there is one."""
         return read_bytes(os.path.join(self.folder, self.value(record, name, str))) if name in record else None
@@ -96,7 +104,7 @@ class Exercise:
             cycles = [int(line) for line in (requests or b"").split()]
         except ValueError:
             raise Fault(f"{self.path}: an interrupt file has a cycle in each line") from None
-        return {"budget": self.value(run, "budget", int, BUDGET), "input": self.file(run, "input"), "interrupts": cycles}
+        return {"budget": self.number(run, "budget", MOST_BUDGET, BUDGET), "input": self.file(run, "input"), "interrupts": cycles}
 
 
 def shown(text: bytes) -> str:
@@ -128,21 +136,21 @@ class Grader:
         fault = self.fault_in(self.submission)
         runs, parts, ended = exercise.records("runs"), [], []
         for number, run in enumerate(runs, 1):
-            name, of = exercise.value(run, "name", str, f"run {number}"), exercise.value(run, "points", int)
+            name, of = exercise.value(run, "name", str, f"run {number}"), exercise.number(run, "points", MOST_POINTS)
             if fault:
                 parts.append(lost(name, of, *fault))
             else:
                 ended.append(self.run(self.submission, exercise.given(run)))
                 parts.append(self.judge_console(name, of, run, ended[-1]))
         for limit in exercise.records("limits"):
-            number = exercise.value(limit, "run", int, 1)
+            number = exercise.number(limit, "run", MOST_FIGURE, 1)
             if not 1 <= number <= len(runs):
                 raise Fault(f"{exercise.path}: there is no run {number}")
             name = self.name_of(limit)
             if fault:
-                parts.append(lost(name, exercise.value(limit, "points", int), "the source is refused"))
+                parts.append(lost(name, exercise.number(limit, "points", MOST_POINTS), "the source is refused"))
             elif parts[number - 1].points < parts[number - 1].of:
-                parts.append(lost(name, exercise.value(limit, "points", int), f"'{parts[number - 1].name}' is not right, so this is not measured"))
+                parts.append(lost(name, exercise.number(limit, "points", MOST_POINTS), f"'{parts[number - 1].name}' is not right, so this is not measured"))
             else:
                 parts.append(self.judge_limit(limit, ended[number - 1], runs[number - 1]))
         return parts
@@ -209,14 +217,14 @@ class Grader:
         return f"line {row['line']} takes {row['cycles']:,} of them" + (f" ({', '.join(parts)})" if parts else "")
 
     def name_of(self, limit: Record) -> str:
-        figure, most = self.exercise.value(limit, "figure", str), self.exercise.value(limit, "most", int)
+        figure, most = self.exercise.value(limit, "figure", str), self.exercise.number(limit, "most", MOST_FIGURE)
         if figure not in FIGURES:
-            raise Fault(f"{self.exercise.path}: unknown figure '{figure}': expected {', '.join(FIGURES)}")
+            raise Fault(f"{self.exercise.path}: unknown figure {shown(figure.encode(errors='replace'))}: expected {', '.join(FIGURES)}")
         return f"at most {most:,} {figure if figure != 'noops' else 'no-ops'}"
 
     def judge_limit(self, limit: Record, ended: Run, run: Record) -> Part:
         """Compares a figure of a run with the most that is allowed."""
-        figure, most, of = limit["figure"], limit["most"], self.exercise.value(limit, "points", int)
+        figure, most, of = limit["figure"], limit["most"], self.exercise.number(limit, "points", MOST_POINTS)
         name, seen = self.name_of(limit), ended.counts[figure]
         if seen <= most:
             return Part(name, of, of)
@@ -246,13 +254,13 @@ class Grader:
         source = exercise.file(exercise.said, "source")
         if source is None:
             raise Fault(f"{exercise.path}: 'source' is left out")
-        of = exercise.value(exercise.said, "points", int)
+        of = exercise.number(exercise.said, "points", MOST_POINTS)
         words, files = self.laboratory._lent("plans", source, ())
         words.insert(2, "plans")
         files["plans"] = self.submission
         status, output, errors = self.laboratory.answer(*words, files=files)
         rejected = []
-        while output.startswith(b"plan "):
+        while output.startswith((b"plan ", b"copies of plan ")):
             verdict, _, output = output.partition(b"\n")
             rejected.append(verdict.decode("ascii"))
         limits = exercise.records("limits")
@@ -261,11 +269,11 @@ class Grader:
             found = re.search(r"plans:(\d+): (.*)", said[0] if said else "")
             why, line = (found[2], int(found[1])) if found else (said[0] if said else f"status {status}", None)
             return [lost("valid plans", of, why, line)] + [
-                lost(self.name_of(it), exercise.value(it, "points", int), "the plans cannot be read") for it in limits]
+                lost(self.name_of(it), exercise.number(it, "points", MOST_POINTS), "the plans cannot be read") for it in limits]
         parts = [self.judge_plan(of, rejected)]
         ended = read_run(status, output)
         for it in limits:
-            part = Part(self.name_of(it), exercise.value(it, "points", int), 0)
+            part = Part(self.name_of(it), exercise.number(it, "points", MOST_POINTS), 0)
             seen = ended.counts[it["figure"]]
             if rejected:
                 parts.append(part._replace(why="a rejected plan is not measured"))
@@ -277,13 +285,14 @@ class Grader:
 
     @staticmethod
     def judge_plan(of: int, rejected: List[str]) -> Part:
-        """Loses the points of valid plans where one is rejected, with the line of its block and the rule."""
+        """Loses the points of valid plans where a plan or its copies are rejected, with the line of its block and the rule."""
         if not rejected:
             return Part("valid plans", of, of)
-        found = re.match(r"plan (\d+) \(line (\d+)\) rejected by (.*)", rejected[0])
+        found = re.match(r"(copies of )?plan (\d+) \(line (\d+)\) rejected by (.*)", rejected[0])
         if found is None:
             return lost("valid plans", of, rejected[0])
-        return lost("valid plans", of, f"the plan of the block in line {found[2]} is rejected by {found[3]}", int(found[1]))
+        what = "the copies of the plan" if found[1] else "the plan"
+        return lost("valid plans", of, f"{what} of the block in line {found[3]} {'are' if found[1] else 'is'} rejected by {found[4]}", int(found[2]))
 
     # A submission that is a file of answers
 
@@ -297,7 +306,7 @@ class Grader:
                 given[name.strip().lower()] = (number, value)
         parts = []
         for question in exercise.records("questions"):
-            name, of = exercise.value(question, "name", str), exercise.value(question, "points", int)
+            name, of = exercise.value(question, "name", str), exercise.number(question, "points", MOST_POINTS)
             if name not in given:
                 parts.append(lost(name, of, f"there is no line '{name} = ..'"))
                 continue
@@ -334,6 +343,11 @@ def as_json(name: str, parts: List[Part]) -> str:
     return json.dumps({"exercise": name, "points": sum(it.points for it in parts), "of": sum(it.of for it in parts), "parts": rows})
 
 
+def first_line(said: str) -> str:
+    """Returns what is wrong in one line, without the beginning that each message of ./mx has."""
+    return (said.splitlines() or [""])[0].replace("zanderanvil: error: ", "", 1)
+
+
 def main(words: List[str]) -> int:
     form = as_text
     if words[:1] == ["--as"] and words[1:2] in (["text"], ["json"]):
@@ -346,7 +360,7 @@ def main(words: List[str]) -> int:
         exercise = Exercise(folder)
         parts = Grader(exercise, read_bytes(submission)).grade()
     except (Fault, Refusal, TimeoutError) as error:
-        print(f"zanderanvil: error: {error}", file=sys.stderr)
+        print(f"zanderanvil: error: {first_line(str(error))}", file=sys.stderr)
         return WRONG
     print(form(os.path.basename(os.path.abspath(folder)), parts))
     return LOST if any(it.points < it.of for it in parts) else 0
