@@ -36,7 +36,7 @@ fn answered_by<S: Shelf, W: Watcher>(
     notes: &mut Vec<u8>,
 ) -> Result<Reply, Failure> {
     match asked.command {
-        Command::Blocks => blocks_reply(asked, shelf),
+        Command::Blocks => blocks_reply(asked, shelf, watcher),
         Command::Build => build_reply(asked, shelf, notes),
         Command::Certify => certify_reply(asked, shelf),
         Command::Check => check_reply(asked, shelf),

@@ -2,6 +2,7 @@
 #![tactic(auto)]
 
 mod answers;
+mod blocks_ran;
 mod building;
 mod caches;
 mod debugging;
@@ -18,6 +19,7 @@ mod stimulus;
 mod trace;
 
 pub use answers::run_reply;
+pub use blocks_ran::{RanBlocks, ran_blocks};
 pub use building::build_reply;
 pub use debugging::debug_reply;
 pub use plan_files::plans_of;

@@ -33,6 +33,9 @@ returns-clause-figures g c =
         noops = f.noops ∙ k.noops;
         copies = f.copies ∙ k.copies;
         cycles = f.cycles ∙ ap (λ (r : MachineRun). r.counts.cycles) runs;
+        fetches = f.fetches ∙ ap (λ (r : MachineRun). r.counts.fetches) runs;
+        misses = f.misses ∙ ap (λ (r : MachineRun). r.counts.misses) runs;
+        squashes = f.squashes ∙ ap (λ (r : MachineRun). r.counts.squashes) runs;
         halted = f.halted ∙ ap (λ (r : MachineRun). r.halted) runs;
       };
       told = t.told;
