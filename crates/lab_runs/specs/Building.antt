@@ -4,7 +4,7 @@ use Rattle.mx_source.specs.SourceValue.{SourceValue}
 use Rattle.mx_link.specs.declared.linked.Linked.{Linked}
 use Rattle.mx_image.specs.Contents.{Contents}
 use Rattle.mx_image.specs.Files.{file_bytes}
-use Rattle.mx_plans.specs.declared.Mark.{Mark}
+use Rattle.mx_plans.specs.Files.{LineSaid}
 use Rattle.cmd_answer.specs.Answer.{Answer, writes}
 use Rattle.lab_plans.specs.declared.linking.LinkedTold.{LinkedTold}
 use Rattle.lab_plans.specs.Linking.{IsLinkedTold}
@@ -18,9 +18,9 @@ contents_linked source linked = record {
   links = linked.links.items;
 }
 
--- the answer writes the image file of the source, linked by what the lines say, and a line is added for each plan that is not valid
-pub record IsBuilt (source : SourceValue) (plans : List (List Mark)) (name before after : List ℕ) (answer : Answer) : Type 0 where
+-- the answer writes the image file of the source, linked by what the lines say, and what is told of them is added
+pub record IsBuilt (source : SourceValue) (lines : List LineSaid) (name before after : List ℕ) (answer : Answer) : Type 0 where
   pub told : LinkedTold
-  pub linked : IsLinkedTold source plans told
+  pub linked : IsLinkedTold source lines told
   pub writes : answer ≡ writes name (file_bytes (contents_linked source told.linked))
   pub noted : after ≡ before ++ told.rejections.items

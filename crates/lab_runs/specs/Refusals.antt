@@ -5,7 +5,7 @@ use Rattle.mx_source.specs.SourceValue.{SourceValue}
 use Rattle.mx_layout.specs.Overlong.{Overlong, IsOverlong}
 use Rattle.mx_layout.specs.declared.error.LinkError.{LinkError}
 use Rattle.mx_layout.specs.declared.error.LinkError.TheVariants.{Displacement, Memory}
-use Rattle.mx_plans.specs.declared.Mark.{Mark}
+use Rattle.mx_plans.specs.Files.{LineSaid, marks_of}
 use Rattle.mx_plans.specs.Says.{IsProposed}
 use Rattle.cmd_answer.specs.declared.Status.TheVariants.{Refused}
 use Rattle.cmd_answer.specs.declared.Failure.{Failure}
@@ -20,6 +20,6 @@ Tells (Displacement line from to) f = OfFailure f (λ answer. answer ≡ prints 
 Tells Memory f = f ≡ failure.Memory
 
 -- the answer names the first branch of the source that does not reach its target
-abbrev pub IsTooFar : SourceValue → List (List Mark) → Answer → Type 0
-IsTooFar source plans answer = (found : Overlong) × IsOverlong (IsProposed source plans) source board found
+abbrev pub IsTooFar : SourceValue → List LineSaid → Answer → Type 0
+IsTooFar source lines answer = (found : Overlong) × IsOverlong (IsProposed source (marks_of lines)) source board found
     × (answer ≡ prints Refused (overlong_line found.line found.from found.to))

@@ -87,11 +87,7 @@ fn blocks_of<W: Watcher>(alloc: Global, run: &GivenRun, watcher: W) -> Result<Ra
 }
 
 // A source that is linked as `run` has it, with what the words give its run, or the reply to the first of these that is wrong.
-fn given_run<S: Shelf>(
-    asked: &Asked,
-    shelf: &mut S,
-    program: Program,
-) -> Result<GivenRun, Failure>
+fn given_run<S: Shelf>(asked: &Asked, shelf: &mut S, program: Program) -> Result<GivenRun, Failure>
     requires { IsLinkedSource program }
     ensures { IfOk result (λ run. IsLinkedSource run.program) }
 {

@@ -2,7 +2,7 @@
 ghost use Rattle.std.specs.Prelude.{◌≡◌, ◌++◌, OnOk, IfOk, IfErr, length};
 ghost use Rattle.mx_image.specs.Contents.{contents_of, LinksFit};
 ghost use Rattle.mx_image.specs.Files.{file_bytes};
-ghost use Rattle.mx_plans.specs.Files.{marks_of_lines};
+ghost use Rattle.mx_plans.specs.Files.{lines_said};
 ghost use Rattle.cmd_answer.specs.Answer.{writes};
 ghost use Rattle.cmd_answer.specs.Replies.{reply_answer, IfAnswered};
 ghost use Rattle.lab_runs.specs.Refusals.{IsTooFar};
@@ -66,8 +66,8 @@ fn built_reply(
     name: &str,
     notes: &mut Vec<u8>,
 ) -> Result<Reply, Failure>
-    ensures built { IfOk result (λ r. IsBuilt source.now (marks_of_lines lines.now) name.now notes.old.items notes.new.items (reply_answer r)) }
-    ensures refused { IfAnswered result (IsTooFar source.now (marks_of_lines lines.now)) }
+    ensures built { IfOk result (λ r. IsBuilt source.now (lines_said lines.now) name.now notes.old.items notes.new.items (reply_answer r)) }
+    ensures refused { IfAnswered result (IsTooFar source.now (lines_said lines.now)) }
 {
     match link_told(alloc, source, lines) {
         Ok(told) => written(alloc, source, told, name, notes),

@@ -3,7 +3,7 @@ ghost use Rattle.std.specs.Prelude.{◌≡◌, ◌<◌, IfOk, IfSome, length, sl
 ghost use Rattle.mx_isa.specs.Board.{board};
 ghost use Rattle.mx_link.specs.Origins.{from_nowhere};
 ghost use Rattle.mx_link.specs.Linked.{IsLinked};
-ghost use Rattle.mx_plans.specs.Files.{marks_of_lines};
+ghost use Rattle.mx_plans.specs.Files.{lines_said, marks_of};
 ghost use Rattle.mx_plans.specs.Says.{IsProposed};
 ghost use Rattle.cmd_answer.specs.Answer.{prints};
 ghost use Rattle.cmd_answer.specs.Replies.{reply_answer, IfAnswered, OnAnswer};
@@ -75,8 +75,8 @@ fn no_label_reply(alloc: Global, name: &str) -> Result<Reply, Memory>
 // A source, linked without copies by the plans that the lines of a file say, or the reply to its first branch that does not
 // reach its target. Copies would run before the block that they are of.
 fn plain_linked(alloc: Global, source: &Source, lines: &[PlanLine]) -> Result<Linked, Failure>
-    ensures linked { IfOk result (IsLinked (IsProposed source.now (marks_of_lines lines.now)) from_nowhere source.now board) }
-    ensures refused { IfAnswered result (IsTooFar source.now (marks_of_lines lines.now)) }
+    ensures linked { IfOk result (IsLinked (IsProposed source.now (marks_of (lines_said lines.now))) from_nowhere source.now board) }
+    ensures refused { IfAnswered result (IsTooFar source.now (lines_said lines.now)) }
 {
     let _statements = source.statements();
     match link_planned_plain(alloc, source, BOARD, lines) {
@@ -106,7 +106,7 @@ fn stopped_reply<S: Shelf>(
 ) -> Result<Reply, Failure>
     requires asked { IsAsked limits.now }
     requires within { index < length source.now.statements }
-    ensures stopped { OnAnswer result (IsStopped source.now (marks_of_lines lines.now) index (seen_files files.now) limits.now
+    ensures stopped { OnAnswer result (IsStopped source.now (lines_said lines.now) index (seen_files files.now) limits.now
         (S.told shelf.old) (S.counts shelf.old) (S.counts shelf.new)) }
     ensures told_stays { S.told shelf.new ≡ S.told shelf.old }
     ensures writes_stay { S.write_faults shelf.new ≡ S.write_faults shelf.old }

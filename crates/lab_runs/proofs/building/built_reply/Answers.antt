@@ -1,9 +1,9 @@
 use Rattle.std.proofs.Common.{List, length, subst, sym}
 use Rattle.mx_isa.specs.Board.{board}
-use Rattle.mx_link.specs.Origins.{from_target}
 use Rattle.mx_link.specs.Linked.{linked_code}
 use Rattle.mx_image.specs.Contents.{LinksFit}
-use Rattle.mx_plans.specs.Files.{marks_of_lines}
+use Rattle.mx_plans.specs.Files.{lines_said}
+use Rattle.mx_plans.specs.Copies.{as_planned}
 use Rattle.lab_runs.proofs.Links.{links_fit}
 use Rattle.lab_runs.proofs.Refused.{too_far}
 use Rattle.lab_runs.proofs.building.built_reply.Goals as goal
@@ -14,5 +14,5 @@ written-requires c =
     let linked = c.in-Ok.told.linked in
     let k = c.in-Ok.ensures.told.is in
     subst (λ (code : List ℕ). LinksFit (length code) linked.links.items) (sym k.code)
-    (subst (λ (links : List ℕ). LinksFit (length (linked_code from_target source board k.sites)) links) (sym k.links)
-    (links_fit from_target source k.sites c.in-Ok.ensures.source))
+    (subst (λ (links : List ℕ). LinksFit (length (linked_code (as_planned (lines_said c.args.lines.now)) source board k.sites)) links) (sym k.links)
+    (links_fit (as_planned (lines_said c.args.lines.now)) source k.sites c.in-Ok.ensures.source))

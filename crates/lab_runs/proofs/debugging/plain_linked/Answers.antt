@@ -1,3 +1,3 @@
-use Rattle.mx_plans.specs.Files.{marks_of_lines}
+use Rattle.mx_plans.specs.Files.{lines_said}
 use Rattle.lab_runs.proofs.Refused.{too_far}
 use Rattle.lab_runs.proofs.debugging.plain_linked.Goals as goal
