@@ -1,7 +1,7 @@
 -- The links of a linked source are addresses of its code, or the one after it.
 use Rattle.std.proofs.Common.{◌≡◌, ℕ, zero, suc, ◌+◌, ◌≤◌, List, [], ◌∷◌, length, refl, sym, ap, ◌∙◌, subst, length-append, arith}
 use Rattle.std.proofs.lemmas.List.{length-map}
-use Rattle.std.specs.Prelude.{All}
+use Rattle.std.specs.Prelude.{◌<◌, All, slice_index, slice_index_or}
 use Rattle.std.specs.List.{flat_map}
 use Rattle.mx_isa.specs.Board.{board}
 use Rattle.mx_isa.specs.declared.Inst.{Inst}
@@ -15,6 +15,7 @@ use Rattle.mx_link.specs.Origins.{Filling, origins_at}
 use Rattle.mx_link.specs.Words.{insts_from, insts_of}
 use Rattle.mx_link.specs.Linked.{map_from, link_map, links_of, linked_code}
 use Rattle.mx_link.proofs.Sizes.{length-origins_from, length-insts_from}
+use Rattle.law_link.proofs.Results.{link_at}
 use Rattle.mx_image.specs.Contents.{IsLink, LinksFit}
 
 -- the words of these sites, which stand from an address on, end where the sites do
@@ -60,3 +61,11 @@ links_fit filling source sites is = record {
   within = links_all (IsLink (length (linked_code filling source board sites))) (link_map board sites) (in_code filling source sites)
       0 (suc (length source.statements));
 }
+
+-- the link that stands at an index is that of its statement
+pub link_there : (source : SourceValue) (sites : List Site) (links : List ℕ) (i : ℕ) → links ≡ links_of source board sites
+    → i < length source.statements → slice_index links i ≡ link_map board sites i
+link_there source sites links i same less =
+    ap (λ (l : List ℕ). slice_index_or l i 0) same
+    ∙ link_at (link_map board sites) 0 (suc (length source.statements)) i 0 (omega (arith, less))
+    ∙ ap (link_map board sites) (let e : 0 + i ≡ i = omega arith in e)

@@ -16,3 +16,7 @@ written-requires c =
     subst (λ (code : List ℕ). LinksFit (length code) linked.links.items) (sym k.code)
     (subst (λ (links : List ℕ). LinksFit (length (linked_code (as_planned (lines_said c.args.lines.now)) source board k.sites)) links) (sym k.links)
     (links_fit (as_planned (lines_said c.args.lines.now)) source k.sites c.in-Ok.ensures.source))
+
+pub returns-in-Err-clause-refused : goal.returns-in-Err-clause-refused
+returns-in-Err-clause-refused c =
+    too_far c.args.source.now (lines_said c.args.lines.now) c.in-Err.error c.unlinked-in-Err.result c.in-Err.ensures.refused c.unlinked-in-Err.ensures
