@@ -266,7 +266,7 @@ def prepare_library(runner):
         return (os.path.abspath(named), "") if os.path.isdir(named) else (None, f"{LIBRARY.upper()}: {named} is no folder")
     if os.environ.get("MX_RLIBS"):
         words = [sys.executable, "-B", f"{TOP}/checks/library.py", folder]
-    elif runner.run([sys.executable, "-E", "-s", "-B", f"{TOP}/tools/state.py", "proved", "embed_library"], 5, HOME=home)[0] == 0:
+    elif runner.run([sys.executable, "-E", "-s", "-B", f"{TOP}/build/state.py", "proved", "embed_library"], 5, HOME=home)[0] == 0:
         words = [f"{TOP}/mx", "library", folder]
     else:
         return None, "skipped: the library is not proved here (./mx library DIR proves it)"
@@ -291,7 +291,7 @@ def prepare(name, runner):
         return path[0], ""
     out = f"{runner.folder}/programs/{name}"
     for _ in range(2):
-        status, said, _ = runner.run([sys.executable, "-B", f"{TOP}/tools/unproved.py", name, out], 30, HOME=os.environ.get("HOME", "/"))
+        status, said, _ = runner.run([sys.executable, "-B", f"{TOP}/build/unproved.py", name, out], 30, HOME=os.environ.get("HOME", "/"))
         if status == 0 and os.access(out, os.X_OK):
             return out, ""
     return None, said or f"status {status}"

@@ -13,7 +13,7 @@ import re
 import sys
 
 TOP = os.path.dirname(os.path.dirname(os.path.abspath(__file__)))
-sys.path.insert(0, f"{TOP}/tools")
+sys.path.insert(0, f"{TOP}/build")
 import common  # noqa: E402
 from crates import read_crates  # noqa: E402
 

@@ -31,7 +31,7 @@ if [ -n "$1" ]; then
         exit 2
     fi
     library=$(cd -- "$1" && pwd) || exit 1
-elif python3 -E -s -B "$top/tools/state.py" proved embed_library; then
+elif python3 -E -s -B "$top/build/state.py" proved embed_library; then
     "$top/mx" library "$folder/lib" || exit 1
     library=$folder/lib
 else

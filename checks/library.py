@@ -15,7 +15,7 @@ import tempfile
 import common
 from common import TOP
 
-sys.path.insert(0, f"{TOP}/tools")
+sys.path.insert(0, f"{TOP}/build")
 import libraries  # noqa: E402
 from crates import crates_below, kit_folder, read_crates, read_lines  # noqa: E402
 
@@ -47,7 +47,7 @@ def main():
             if ran.returncode:
                 print(ran.stdout + ran.stderr)
                 return 1
-        return subprocess.run([f"{TOP}/tools/library.sh", archive, kit, sys.argv[1]], check=False).returncode
+        return subprocess.run([f"{TOP}/build/library.sh", archive, kit, sys.argv[1]], check=False).returncode
 
 
 if __name__ == "__main__":

@@ -15,7 +15,7 @@ TOP = os.path.dirname(os.path.dirname(os.path.abspath(__file__)))
 # Names of files that a document shows as an example, or that a command makes.
 MADE = {"_.s", ".vscode/tasks.json", "ok.s", "a.s", "b.s", "s.s", "block.s", "faulty.s", "x.s", "sorts.s", "second.c", "missing.c", "NAME.c", "OUT.s", "main.rs", "x.md", "f.s", "p.s", "run.sh"}
 KINDS = r"\.(?:md|py|sh|s|c|h|json|svg|png|rt|antt|txt|cff|edit|plans|html|mxi)$"
-ROOTS = ("docs/", "checks/", "tools/", "crates/", "examples/", "bench/", "lib/", "include/", "python/", "editors/")
+ROOTS = ("docs/", "build/", "checks/", "tools/", "crates/", "examples/", "bench/", "lib/", "include/", "python/", "editors/")
 
 
 def all_files():

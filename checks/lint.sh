@@ -30,7 +30,7 @@ find_files() {
 
 if command -v shellcheck >/dev/null 2>&1; then
     # a script without a suffix is known by its first line
-    { find_files -name '*.sh'; grep -lE '^#!/bin/(ba)?sh' mx .ci/run tools/* 2>/dev/null; } | sed 's,^\./,,' | sort -u >"$folder/scripts"
+    { find_files -name '*.sh'; grep -lE '^#!/bin/(ba)?sh' mx .ci/run build/* tools/* 2>/dev/null; } | sed 's,^\./,,' | sort -u >"$folder/scripts"
     # notes on style differ from version to version
     lint shellcheck "$folder/scripts" shellcheck -S warning -x -P .
 else

@@ -176,7 +176,7 @@ CASES = (
         printf '#!/bin/sh\n"%s" "$@"\nstatus=$?\n[ "$status" -ne 6 ] || echo partial\nexit "$status"\n' "$MX_RUN" >"$work/fake"
         chmod +x "$work/fake"; MX_RUN=$work/fake checks/memory.sh meaning""", ("FAILED: meaning loop.s: request [0-9]+: status 6",)),
     Case("package", "package.py", "a package that does not say that it is unproved", """
-        plant tools/package.py 's/are NOT proved: they/are proved: they/'; checks/package.py""", ("FAILED: its description says that it is unproved",)),
+        plant build/package.py 's/are NOT proved: they/are proved: they/'; checks/package.py""", ("FAILED: its description says that it is unproved",)),
     Case("package", "package.py", "an installed program that prints nothing", "MX_RUN=/bin/true checks/package.py", ("FAILED: unpacked: run hello.s",)),
     Case("drawing", "cells.py", "a stage in the wrong place", """
         "$MX_LAB" draw examples/countdown.s --as text >text && "$MX_LAB" draw examples/countdown.s --as kanata >kanata
@@ -210,7 +210,7 @@ CASES = (
          "plant tools/install.py \"s/quoted(' '.join(COMMANDS) + ' lab/quoted(' '.join(list(COMMANDS)[1:]) + ' lab/\"; checks/shells.sh",
          ("FAILED: bash: the command run",)),
     Case("proved", "proved.py", "a program whose checksum is not compared",
-         "plant tools/state.py 's/ and record\\[\"output\"\\] == sum_of(output))/)/'; checks/proved.py", ("FAILED",)),
+         "plant build/state.py 's/ and record\\[\"output\"\\] == sum_of(output))/)/'; checks/proved.py", ("FAILED",)),
     Case("processes", "processes.py", "a run that outlives ./mx",
          """plant mx 's/^        setpriv --pdeathsig TERM "\$@"$/        "$@"/; s/has setpriv; then setpriv --pdeathsig TERM/has setpriv; then/'
          MX_TIMES=yes checks/processes.py""", ("FAILED",)),

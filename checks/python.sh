@@ -44,7 +44,7 @@ fi
 echo "ok: pip installs the module, with its types and version $version"
 compared=$((compared + 1))
 
-if [ -z "$library" ] && python3 -E -s -B "$top/tools/state.py" proved embed_library; then
+if [ -z "$library" ] && python3 -E -s -B "$top/build/state.py" proved embed_library; then
     "$top/mx" library "$folder/lib" || exit 1
     library=$folder/lib/libzanderanvil.so
 fi

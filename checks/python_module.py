@@ -158,7 +158,7 @@ def versions(tally, folder):
                "the header has it", header)
     words = re.search(r'\.version\("([^"]*)"\)', read(f"{TOP}/crates/lab_line/src/words.rt")).group(1)
     tally.need(words == version, "the laboratory has it", words)
-    tally.need(f"libzanderanvil.so.{major}" in read(f"{TOP}/tools/library.sh"), "the soname has its first number")
+    tally.need(f"libzanderanvil.so.{major}" in read(f"{TOP}/build/library.sh"), "the soname has its first number")
     header = " ".join(read(f"{TOP}/include/zanderanvil.h").replace("*", " ").split())
     bounds = ("`length` is at most PTRDIFF_MAX", "a room is at most PTRDIFF_MAX")
     tally.need(all(it in header for it in bounds), "the header bounds the lengths and rooms that a call may have")

@@ -3,7 +3,7 @@
 
 usage: checks/style.py [--list | --words] [FILE ..]
 
-It reads every Markdown document, the texts of ./mx and of tools/*.py that are printed, the strings of the crates that print
+It reads every Markdown document, the texts of ./mx and of build/*.py and tools/*.py that are printed, the strings of the crates that print
 (cmd_, lab_, cc_, mx_run, mx_serve), and tools/serve/page.html. It prints each finding as FILE:LINE: RULE: TEXT. Then it prints
 how many sentences it read of each kind. It ends with 1 if there is a finding, or if it read no sentence of some kind.
 With --list it prints the sentences that it reads, with --words the words of each document. With FILE it reads only these files."""
@@ -214,7 +214,7 @@ def sources():
     return [
         ("documents", files_like(r".*\.md"), of_markdown),
         ("help", ["mx"], of_shell),
-        ("scripts", files_like(r"tools/(serve/)?\w+\.py"), of_python),
+        ("scripts", files_like(r"(build|tools|tools/serve)/\w+\.py"), of_python),
         ("messages", rattle, of_rattle),
         ("page", ["tools/serve/page.html"], of_page),
     ]

@@ -18,10 +18,12 @@ import secrets
 import sys
 
 import commands
-import state
 from processes import end_by_signals
 
 TOP = os.path.dirname(os.path.dirname(os.path.abspath(__file__)))
+sys.path.append(f"{TOP}/build")
+import state  # noqa: E402
+
 PROGRAMS = ("mx_run", "mx_lab")
 # The tools that bin/zanderanvil calls.
 TOOLS = ("commands.py", "errors.py", "hint.py", "launch.py", "processes.py")

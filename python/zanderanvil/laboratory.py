@@ -60,6 +60,7 @@ class Block:
 
 
 # The items of a plan in their order: the number of an instruction of the block, None for a no-op, "/" for the transfer or halt.
+# "+0", "+1" or "+2" among them chooses how many words of the target the slots copy; without other items the list scheduler plans.
 Plan = Sequence[Union[int, str, None]]
 # A scheduler gives a plan for a block, or None, which leaves the block to the list scheduler.
 Scheduler = Callable[[Block], Optional[Plan]]
@@ -69,7 +70,7 @@ PlanFile = Union[bytes, str, "os.PathLike[str]"]
 
 @dataclass
 class Planned:
-    """A run by a scheduler's plans, and a line for each plan that was rejected."""
+    """A run by a scheduler's plans, and a line for each plan that was rejected, and for copies that were."""
 
     run: Run
     rejected: list[str]
@@ -339,7 +340,7 @@ class Laboratory:
         files["plans"] = "".join(f"{line}\n" for line in lines).encode("ascii", "replace")
         status, output, errors = self.answer(*words, files=files)
         rejected = []
-        while output.startswith(b"plan "):
+        while output.startswith((b"plan ", b"copies of plan ")):
             line, _, output = output.partition(b"\n")
             rejected.append(line.decode("ascii"))
         if status not in (DONE, OUT_OF_BUDGET):

@@ -55,16 +55,20 @@ impl Causes for Unknown {
 }
 
 /// What the faults of the lines of an interrupt or a plan file say, and what they mean.
-static LINE_FAULTS: [(&str, &str); 7] = [
+static LINE_FAULTS: [(&str, &str); 8] = [
     ("BadLine", "expected a cycle: a decimal number"),
     ("TooMany", "a file has at most 65,536 cycles"),
     (
         "NotAscending",
         "expected a cycle after the one of the line before",
     ),
-    ("BadWord", "expected a number from 0 to 63, '-' or '/'"),
-    ("TooLong", "a plan has at most 131 words"),
+    (
+        "BadWord",
+        "expected a number from 0 to 63, '-', '/', '+0', '+1' or '+2'",
+    ),
+    ("TooLong", "a plan has at most 131 items"),
     ("TwoPlaces", "a plan has one '/'"),
+    ("TwoCounts", "a plan has one '+0', '+1' or '+2'"),
     ("NoBlock", "the source has no block for this plan"),
 ];
 

@@ -6,3 +6,4 @@ pub mod Laid
 pub mod Ready
 pub mod Asked
 pub mod Picked
+pub mod Sites

@@ -121,7 +121,7 @@ abbrev pub marks_of : List LineSaid → List (List Mark)
 marks_of lines = map (λ (said : LineSaid). said.marks) lines
 
 abbrev pub marks_of_lines : List PlanLine → List (List Mark)
-marks_of_lines lines = marks_of (lines_said lines)
+marks_of_lines lines = map (λ (l : PlanLine). l.marks.items) lines
 
 -- a file is refused by its first faulty line alone; memory may be wanting
 abbrev pub IsRefused : Said → PlanError → Type 0

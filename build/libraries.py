@@ -1,4 +1,4 @@
-"""The two ways in which tools/prove.py proves a crate over those below it, and what it keeps of it."""
+"""The two ways in which build/prove.py proves a crate over those below it, and what it keeps of it."""
 import contextlib
 import os
 import shutil

@@ -3,7 +3,7 @@
 first crate needs come first, and among them those on which the longest chain of others waits, by the seconds that each took when it
 was last proved here (.mx/seconds.json), or by its lines.
 
-usage: tools/prove.py [--for-check] CRATE .. LOG
+usage: build/prove.py [--for-check] CRATE .. LOG
 
 A crate is proved by the toolchain's rattle, and what others read of it is kept in its out/statements: statements without proofs,
 which load in a third of the time. With --for-check the libraries are those that rt check and rt test take, and hold proofs. Only
@@ -24,8 +24,9 @@ import time
 
 from crates import TOP, crates_below, is_program, read_crates
 from libraries import Rooms, Statements
-from processes import Commands, end_by_signals, locked, print_failure
 from state import files_of, replace
+sys.path.append(f"{TOP}/tools")
+from processes import Commands, end_by_signals, locked, print_failure  # noqa: E402
 
 # On four processors; bench/README.md has the figures.
 ABOUT = "From nothing the toolchain takes some half an hour, and with the laboratory three quarters; what is done is kept"

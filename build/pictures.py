@@ -1,7 +1,7 @@
 #!/usr/bin/env python3
 """Makes the pictures of README and of docs/SERVE.md anew: docs/countdown.svg, docs/sort.svg and docs/serve.png.
 
-usage: tools/pictures.py
+usage: build/pictures.py
 
 The workbench is opened with examples/sort.s in Chromium, at a cycle late in the sort. Look at the pictures afterwards. It
 needs the program chromium, and the programs as ./mx leaves them, or those that MX_SERVE, MX_RUN, MX_LAB and MX_CC name.

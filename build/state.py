@@ -1,7 +1,7 @@
 #!/usr/bin/env python3
 """What a program was built from and what came of it, as checksums, and whether both are still the same.
 
-usage: tools/state.py proved|unproved CRATE [SEEN]      status 0 where the program is what its record says, else 1
+usage: build/state.py proved|unproved CRATE [SEEN]      status 0 where the program is what its record says, else 1
 
 A record has four checksums: of the sources (the crate and all crates below it: names and contents of their files, their lines of
 crates.txt, HANDLES), of the toolchain, of the flags, and of the output. It is written once a build is done and the first three are

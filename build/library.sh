@@ -3,8 +3,8 @@
 # libzanderanvil.so (a link to it) and zanderanvil.h, in a folder whose earlier files are replaced once all new ones are there. Both
 # libraries are that crate, and the functions by which the toolchain calls malloc and free.
 #
-# usage: tools/library.sh ARCHIVE KIT FOLDER      (./mx library and checks/library.py run it)
-[ $# -eq 3 ] || { echo 'usage: tools/library.sh ARCHIVE KIT FOLDER' >&2; exit 2; }
+# usage: build/library.sh ARCHIVE KIT FOLDER      (./mx library and checks/library.py run it)
+[ $# -eq 3 ] || { echo 'usage: build/library.sh ARCHIVE KIT FOLDER' >&2; exit 2; }
 top=$(CDPATH='' cd -- "$(dirname -- "$0")/.." && pwd -P) || exit 10
 archive=$1
 kit=$2

@@ -1,7 +1,7 @@
 #!/usr/bin/env python3
 """Makes a Debian package of the proved toolchain and laboratory in a folder, so that a second machine needs no toolchain.
 
-usage: tools/package.py VERSION COMMIT [--unproved] DIR
+usage: build/package.py VERSION COMMIT [--unproved] DIR
 
 The package holds what tools/install.py puts below a folder, here /usr, and besides a manual page for each command, the documents and
 the examples. With --unproved it has the programs that are built without proofs, or those that MX_RUN and MX_LAB name; its version then
@@ -15,9 +15,10 @@ import subprocess
 import sys
 import tempfile
 
-import install
+TOP = os.path.dirname(os.path.dirname(os.path.abspath(__file__)))
+sys.path.append(f"{TOP}/tools")
+import install  # noqa: E402
 
-TOP = install.TOP
 DOCUMENTS = "usr/share/doc/zanderanvil"
 ARCHITECTURE = "amd64"
 MAINTAINER = "Zanderanvil maintainers <maintainers@users.noreply.zanderanvil.example>"

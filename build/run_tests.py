@@ -1,10 +1,10 @@
 #!/usr/bin/env python3
 """Runs all tests, stored cases and checks without proofs and without wrong bodies, for those who change code: the gate stays .ci/run.
 
-usage: tools/run_tests.py [CRATE ..]      without names: each program that has stored output, each crate with tests, and then
+usage: build/run_tests.py [CRATE ..]      without names: each program that has stored output, each crate with tests, and then
                                           the checks (checks/all.sh)
 
-A program is built without its proof (tools/unproved.py), and run as the gate runs it: in a folder with the files of its folder
+A program is built without its proof (build/unproved.py), and run as the gate runs it: in a folder with the files of its folder
 data/, the arguments of its file args and the bytes of stdin. Its output and its status have to be the stored ones. The programs of
 ./mx are kept for it.
 """
@@ -19,7 +19,8 @@ import time
 import state
 import unproved
 from crates import TOP, read_crates
-from processes import Commands, end_by_signals
+sys.path.append(f"{TOP}/tools")
+from processes import Commands, end_by_signals  # noqa: E402
 
 LIMIT = 120
 # The programs of ./mx, which keeps them.
