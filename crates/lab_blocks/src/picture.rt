@@ -64,11 +64,7 @@ fn push_block(text: &mut Writer, block: u64, facts: &Facts) {
 
 /// The blocks of a source as a graph in the DOT language: a box for each block with its dependences, and dashed edges where a block
 /// goes on. The graph has a label where the run has not halted.
-pub fn blocks_dot(
-    alloc: Global,
-    blocks: &[Facts],
-    halted: bool,
-) -> Result<Vec<u8>, AllocError> {
+pub fn blocks_dot(alloc: Global, blocks: &[Facts], halted: bool) -> Result<Vec<u8>, AllocError> {
     let mut text = Writer::new(alloc);
     text.push_str("digraph blocks {\n  node [shape=box, fontname=monospace];\n");
     let mut number = 0u64;

@@ -133,11 +133,7 @@ fn push_unhalted(text: &mut Writer) {
 }
 
 /// The blocks of a source as a text, with a line for each instruction; a line behind them tells of a run that has not halted.
-pub fn blocks_text(
-    alloc: Global,
-    blocks: &[Facts],
-    halted: bool,
-) -> Result<Vec<u8>, AllocError> {
+pub fn blocks_text(alloc: Global, blocks: &[Facts], halted: bool) -> Result<Vec<u8>, AllocError> {
     let mut text = Writer::new(alloc);
     let mut number = 0usize;
     for facts in blocks {
