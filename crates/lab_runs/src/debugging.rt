@@ -1,26 +1,27 @@
 //! The reply of `debug` with a plan file.
-ghost use Rattle.std.specs.Prelude.{◌≡◌, ◌<◌, ◌^◌, IfOk, IfSome, length, slice_index};
+ghost use Rattle.std.specs.Prelude.{◌≡◌, ◌<◌, IfOk, IfSome, length, slice_index};
 ghost use Rattle.mx_isa.specs.Board.{board};
 ghost use Rattle.mx_link.specs.Origins.{from_nowhere};
 ghost use Rattle.mx_link.specs.Linked.{IsLinked};
-ghost use Rattle.mx_plans.specs.Files.{marks_of_lines};
+ghost use Rattle.mx_plans.specs.Files.{lines_said, marks_of};
 ghost use Rattle.mx_plans.specs.Says.{IsProposed};
 ghost use Rattle.cmd_answer.specs.Answer.{prints};
 ghost use Rattle.cmd_answer.specs.Replies.{reply_answer, IfAnswered, OnAnswer};
 ghost use Rattle.cmd_options.specs.Options.{seen_files, IsAsked};
-ghost use Rattle.lab_runs.specs.Sessions.{statement_at, statement_named, no_label_line, IsTooFar, IsStopped};
+ghost use Rattle.lab_runs.specs.Refusals.{IsTooFar};
+ghost use Rattle.lab_runs.specs.Sessions.{statement_at, statement_named, no_label_line, IsStopped};
 
 use crate::plan_files::plans_of;
 use crate::replies::unlinked;
 use cmd_answer::{Failure, Reply, Status, line_reply};
 use cmd_debug::debug_image;
 use cmd_options::{RunFiles, SessionLimits};
-use cmd_source::{overlong_reply, read_source};
+use cmd_source::read_source;
 use lab_line::Asked;
 use lab_plans::link_told;
 use mx_io::{Memory, Shelf};
 use mx_isa::BOARD;
-use mx_link::{LinkError, Linked};
+use mx_link::Linked;
 use mx_plans::{PlanLine, link_planned_plain};
 use mx_source::{Label, Source};
 use std::alloc::Global;
@@ -74,16 +75,13 @@ fn no_label_reply(alloc: Global, name: &str) -> Result<Reply, Memory>
 // A source, linked without copies by the plans that the lines of a file say, or the reply to its first branch that does not
 // reach its target. Copies would run before the block that they are of.
 fn plain_linked(alloc: Global, source: &Source, lines: &[PlanLine]) -> Result<Linked, Failure>
-    ensures linked { IfOk result (IsLinked (IsProposed source.now (marks_of_lines lines.now)) from_nowhere source.now board) }
-    ensures refused { IfAnswered result (IsTooFar source.now (marks_of_lines lines.now)) }
+    ensures linked { IfOk result (IsLinked (IsProposed source.now (marks_of (lines_said lines.now))) from_nowhere source.now board) }
+    ensures refused { IfAnswered result (IsTooFar source.now (lines_said lines.now)) }
 {
     let _statements = source.statements();
     match link_planned_plain(alloc, source, BOARD, lines) {
         Ok(linked) => Ok(linked),
-        Err(LinkError::Displacement { line, from, to }) => {
-            Err(Failure::Answered(overlong_reply(alloc, line, from, to)?))
-        }
-        Err(LinkError::Memory) => Err(Failure::Memory),
+        Err(error) => Err(unlinked(alloc, &error)),
     }
 }
 
@@ -108,7 +106,7 @@ fn stopped_reply<S: Shelf>(
 ) -> Result<Reply, Failure>
     requires asked { IsAsked limits.now }
     requires within { index < length source.now.statements }
-    ensures stopped { OnAnswer result (IsStopped source.now (marks_of_lines lines.now) index (seen_files files.now) limits.now
+    ensures stopped { OnAnswer result (IsStopped source.now (lines_said lines.now) index (seen_files files.now) limits.now
         (S.told shelf.old) (S.counts shelf.old) (S.counts shelf.new)) }
     ensures told_stays { S.told shelf.new ≡ S.told shelf.old }
     ensures writes_stay { S.write_faults shelf.new ≡ S.write_faults shelf.old }

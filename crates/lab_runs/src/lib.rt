@@ -20,7 +20,7 @@ mod trace;
 
 pub use answers::run_reply;
 pub use blocks_ran::{RanBlocks, ran_blocks};
-pub use building::{Built, build_reply};
+pub use building::build_reply;
 pub use debugging::debug_reply;
 pub use plan_files::plans_of;
 pub use replies::{answered, or_memory, printed, refused, unlinked};
