@@ -15,7 +15,8 @@ loop-k-preserved c =
     let within : c.loop-k.k < length l.blocks.items = grind (arith, nat_tests) in
     let low : c.loop-k.k < length c.args.lines.now = grind (arith, nat_tests) in
     let there = site_there l.blocks.items l.plans.items l.starts.items c.requires.plans c.requires.starts c.loop-k.k within in
-    verdict_pushed all c.args.lines.now c.loop-k.k there.site (slice_index_or c.args.lines.now c.loop-k.k c.index-lines-k.result) c.loop-k.verdicts.items _ c.verdict_on.result there.is
+    verdict_pushed all c.args.lines.now c.loop-k.k there.site (slice_index_or c.args.lines.now c.loop-k.k c.index-lines-k.result)
+    c.loop-k.verdicts.items _ c.verdict_on.result there.is
     (slice_get-get_or c.args.lines.now c.loop-k.k c.index-lines-k.result low)
     c.in_ok-push.ensures.items (c.verdict_on.ensures there.site there.is) c.loop-k.invariant
 
