@@ -1,6 +1,7 @@
 //! The reply of `debug` with a plan file.
-ghost use Rattle.std.specs.Prelude.{◌≡◌, ◌<◌, IfOk, IfSome, length, slice_index};
+ghost use Rattle.std.specs.Prelude.{◌≡◌, ◌<◌, IfOk, IfErr, IfSome, length, slice_index};
 ghost use Rattle.mx_isa.specs.Board.{board};
+ghost use Rattle.mx_layout.specs.Overlong.{IsRefusal};
 ghost use Rattle.mx_link.specs.Origins.{from_nowhere};
 ghost use Rattle.mx_link.specs.Linked.{IsLinked};
 ghost use Rattle.mx_plans.specs.Files.{lines_said, marks_of};
@@ -21,7 +22,7 @@ use lab_line::Asked;
 use lab_plans::link_told;
 use mx_io::{Memory, Shelf};
 use mx_isa::BOARD;
-use mx_link::Linked;
+use mx_link::{LinkError, Linked};
 use mx_plans::{PlanLine, link_planned_plain};
 use mx_source::{Label, Source};
 use std::alloc::Global;
@@ -72,14 +73,22 @@ fn no_label_reply(alloc: Global, name: &str) -> Result<Reply, Memory>
     Ok(reply)
 }
 
-// A source, linked without copies by the plans that the lines of a file say, or the reply to its first branch that does not
-// reach its target. Copies would run before the block that they are of.
+// Links a source at the board's place without copies by the plans that the lines of a file say. Copies would run before the block
+// that they are of.
+fn linked_plain(alloc: Global, source: &Source, lines: &[PlanLine]) -> Result<Linked, LinkError>
+    ensures linked { IfOk result (IsLinked (IsProposed source.now (marks_of (lines_said lines.now))) from_nowhere source.now board) }
+    ensures refused { IfErr result (IsRefusal (IsProposed source.now (marks_of (lines_said lines.now))) source.now board) }
+{
+    let _statements = source.statements();
+    link_planned_plain(alloc, source, BOARD, lines)
+}
+
+// The same, or the reply to the first branch that does not reach its target.
 fn plain_linked(alloc: Global, source: &Source, lines: &[PlanLine]) -> Result<Linked, Failure>
     ensures linked { IfOk result (IsLinked (IsProposed source.now (marks_of (lines_said lines.now))) from_nowhere source.now board) }
     ensures refused { IfAnswered result (IsTooFar source.now (lines_said lines.now)) }
 {
-    let _statements = source.statements();
-    match link_planned_plain(alloc, source, BOARD, lines) {
+    match linked_plain(alloc, source, lines) {
         Ok(linked) => Ok(linked),
         Err(error) => Err(unlinked(alloc, &error)),
     }

@@ -1,12 +1,23 @@
-use Rattle.std.proofs.Common.{List, length, subst, sym}
+use Rattle.std.proofs.Common.{◌≡◌, ◌++◌, ℕ, List, length, Result, Ok, Err, IfOk, OnOk, subst, sym}
 use Rattle.mx_isa.specs.Board.{board}
 use Rattle.mx_link.specs.Linked.{linked_code}
 use Rattle.mx_image.specs.Contents.{LinksFit}
 use Rattle.mx_plans.specs.Files.{lines_said}
 use Rattle.mx_plans.specs.Copies.{as_planned}
+use Rattle.mx_image.specs.Files.{file_bytes}
+use Rattle.cmd_answer.specs.declared.Reply.{Reply}
+use Rattle.cmd_answer.specs.declared.Failure.{Failure}
+use Rattle.cmd_answer.specs.Answer.{writes}
+use Rattle.cmd_answer.specs.Replies.{reply_answer}
+use Rattle.lab_runs.specs.Building.{contents_linked, IsBuilt}
 use Rattle.lab_runs.proofs.Links.{links_fit}
 use Rattle.lab_runs.proofs.TooFar.{too_far}
 use Rattle.lab_runs.proofs.building.built_reply.Goals as goal
+
+-- what is known of a reply, and what holds where there is one
+both : (r : Result Reply Failure) (P Q : Reply → Type 0) (B : Type 0) → IfOk r P → OnOk r B → ((reply : Reply) → P reply → B → Q reply) → IfOk r Q
+both (Ok reply) P Q B says holds also = also reply says holds
+both (Err failure) P Q B says holds also = tt
 
 pub written-requires : goal.written-requires
 written-requires c =
@@ -17,6 +28,18 @@ written-requires c =
     (subst (λ (links : List ℕ). LinksFit (length (linked_code (as_planned (lines_said c.args.lines.now)) source board k.sites)) links) (sym k.links)
     (links_fit (as_planned (lines_said c.args.lines.now)) source k.sites c.in-Ok.ensures.source))
 
+pub returns-in-Ok-clause-built : goal.returns-in-Ok-clause-built
+returns-in-Ok-clause-built c =
+    let source = c.args.source.now in
+    let lines = lines_said c.args.lines.now in
+    let name = c.args.name.now in
+    let before = c.args.notes.now.items in
+    let after = c.written.new.notes.items in
+    let told = c.in-Ok.told in
+    both c.written.result (λ r. reply_answer r ≡ writes name (file_bytes (contents_linked source told.linked)))
+    (λ r. IsBuilt source lines name before after (reply_answer r)) (after ≡ before ++ told.rejections.items) c.written.ensures.reply c.written.ensures.noted
+    (λ r says noted. record { told = told; linked = c.in-Ok.ensures.told; writes = says; noted = noted })
+
 pub returns-in-Err-clause-refused : goal.returns-in-Err-clause-refused
 returns-in-Err-clause-refused c =
-    too_far c.args.source.now (lines_said c.args.lines.now) c.in-Err.error c.unlinked-in-Err.result c.in-Err.ensures.refused c.unlinked-in-Err.ensures
+    too_far c.args.source.now (lines_said c.args.lines.now) c.in-Err.error c.unlinked.result c.in-Err.ensures.refused c.unlinked.ensures

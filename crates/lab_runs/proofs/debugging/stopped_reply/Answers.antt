@@ -15,8 +15,8 @@ use Rattle.lab_runs.specs.Sessions.{IsStopped}
 use Rattle.lab_runs.proofs.Links.{in_code, links_count, link_there}
 use Rattle.lab_runs.proofs.debugging.stopped_reply.Goals as goal
 
-pub link_at-requires : goal.link_at-requires
-link_at-requires g c =
+pub link_at-address-requires : goal.link_at-address-requires
+link_at-address-requires g c =
     let source = c.args.source.now in
     let k = c.in_ok-linked.ensures.linked in
     let count = ap length k.links ∙ links_count (link_map board k.sites) 0 (suc (length source.statements)) in
